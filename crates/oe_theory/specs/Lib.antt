@@ -1,0 +1,9 @@
+pub mod Machine
+pub mod World
+pub mod Next
+pub mod Laws
+pub mod Erase
+pub mod Undo
+pub mod Store
+pub mod Theorems
+pub mod StoreTheorems

@@ -1,0 +1,168 @@
+-- The undo records of a world's transactions, and what putting them back leaves.
+use Rattle.std.specs.Prelude.{◌≡◌, ℕ, suc, zero, ◌+◌, ◌-◌, cond, Option, None, Some, List, [], ◌∷◌, length, take, drop, ◌⊎◌}
+use Rattle.oe_theory.specs.Machine.{Machine, Act, Fail, Go, Ready}
+use Rattle.oe_theory.specs.World.{set, State, Open, Commit, World, tx_of, overlay, version, newest, latest, tables}
+use Rattle.oe_theory.specs.Next.{record_on, filled, Step, Advance, Back, Rollback, Purge, Rewind, Answer, More, Committed, Gone_back, Rolled_back, Aborted, Purged, Rewound}
+use Rattle.oe_theory.specs.Laws.{Alone}
+
+module _ (M : Machine) where
+  open M use {Map, Key, Row, Change, Record, Place, Reply, Refusal, is_key, record_key, restore, put_back, size_of, act, whole, terminal_limit}
+
+  -- the records that are stored: of each open transaction and of each commit, the newest first in each
+  pub record Undo : Type 0 where
+    pub active : ℕ → List Record
+    -- by falling moment
+    pub history : List (List Record)
+
+  -- the records of changes that were made on r, each by the row before it
+  abbrev pub records_of : Map → List Change → List Record
+  records_of r [] = []
+  records_of r (c ∷ cs) = record_on M c (overlay M cs r) ∷ records_of r cs
+
+  -- the lengths of records
+  abbrev pub lengths_of : List Record → List ℕ
+  lengths_of [] = []
+  lengths_of (b ∷ bs) = size_of b ∷ lengths_of bs
+
+  -- a transaction's records put back, the newest first
+  abbrev pub unwind : List Record → Map → Map
+  unwind [] r = r
+  unwind (b ∷ bs) r = unwind bs (put_back b r)
+
+  -- those of the open transactions of these terminals, in any order
+  abbrev pub unwind_open : (ℕ → List Record) → List ℕ → Map → Map
+  unwind_open active [] r = r
+  unwind_open active (t ∷ ts) r = unwind_open (set t [] active) ts (unwind (active t) r)
+
+  -- those of commits
+  abbrev pub unwind_commits : List (List Record) → Map → Map
+  unwind_commits [] r = r
+  unwind_commits (bs ∷ ss) r = unwind_commits ss (unwind bs r)
+
+  -- the same for one key, by its own records alone
+  abbrev pub restored : Key → List Record → Option Row → Option Row
+  restored k [] v = v
+  restored k (b ∷ bs) v = restored k bs (cond (is_key k (record_key b)) (restore b v) v)
+
+  -- one key's row, by the records of open transactions
+  abbrev pub restored_open : Key → (ℕ → List Record) → List ℕ → Option Row → Option Row
+  restored_open k active [] v = v
+  restored_open k active (t ∷ ts) v = restored_open k (set t [] active) ts (restored k (active t) v)
+
+  -- and by those of commits
+  abbrev pub restored_commits : Key → List (List Record) → Option Row → Option Row
+  restored_commits k [] v = v
+  restored_commits k (bs ∷ ss) v = restored_commits k ss (restored k bs v)
+
+  -- the terminal is listed
+  abbrev pub IsAmong : ℕ → List ℕ → Type 0
+  IsAmong t [] = ⊥
+  IsAmong t (u ∷ us) = (t ≡ u) ⊎ IsAmong t us
+
+  -- every open transaction is of a terminal listed
+  abbrev pub AreAll : World M → List ℕ → Type 0
+  AreAll w ts = (t : ℕ) (o : Open M) → w.active t ≡ Some o → IsAmong t ts
+
+  -- these are the records of a commit on the version r: of the changes with which its program alone comes from r to its end
+  pub record IsOfCommit (r : Map) (c : Commit M) (bs : List Record) : Type 0 where
+    pub last : State M
+    pub alone : Alone M c.tx r last
+    pub ready : act c.tx last.place (overlay M last.changes r) ≡ Ready c.reply
+    pub effect : whole c.tx r ≡ Some (overlay M last.changes r, c.reply)
+    pub records : bs ≡ records_of r last.changes
+    pub lengths : c.lengths ≡ lengths_of bs
+
+  -- these are the records of each commit, on the version before it
+  abbrev pub AreOfCommits : Map → List (Commit M) → List (List Record) → Type 0
+  AreOfCommits b [] [] = Unit {0}
+  AreOfCommits b (c ∷ cs) (s ∷ ss) = IsOfCommit (version M b cs) c s × AreOfCommits b cs ss
+  AreOfCommits b [] (s ∷ ss) = ⊥
+  AreOfCommits b (c ∷ cs) [] = ⊥
+
+  -- these are the records of an open transaction, where r is the newest version
+  pub record IsOfOpen (r : Map) (o : Open M) (bs : List Record) : Type 0 where
+    pub records : bs ≡ records_of r o.now.changes
+    pub lengths : o.lengths ≡ lengths_of bs
+    pub mark_lengths : o.mark_lengths ≡ lengths_of (records_of r o.mark.changes)
+
+  -- the store has the records of the world's transactions, and the world their lengths
+  pub record Keeps (w : World M) (u : Undo) : Type 0 where
+    pub commits : AreOfCommits w.base w.history u.history
+    pub opens : (t : ℕ) (o : Open M) → w.active t ≡ Some o → IsOfOpen (latest M w) o (u.active t)
+    pub others : (t : ℕ) → w.active t ≡ None → u.active t ≡ []
+
+  -- how many extents the records of all segments fill
+  abbrev pub used_open : (ℕ → List Record) → ℕ → ℕ
+  used_open active zero = 0
+  used_open active (suc n) = used_open active n + (filled M (lengths_of (active n))).0
+
+  -- the same of commits
+  abbrev pub used_commits : List (List Record) → ℕ
+  used_commits [] = 0
+  used_commits (bs ∷ ss) = (filled M (lengths_of bs)).0 + used_commits ss
+
+  -- and of all together
+  abbrev pub used_of : Undo → ℕ
+  used_of u = used_commits u.history + used_open u.active terminal_limit
+
+  -- an empty store
+  abbrev pub no_records : Undo
+  no_records = record { active = λ _. []; history = [] }
+
+  -- what a step does to the store
+  abbrev pub with_record : Act Change Place Reply Refusal → Map → List Record → List Record
+  with_record (Go (Some c) p) r bs = record_on M c r ∷ bs
+  with_record (Go None p) r bs = bs
+  with_record (Fail e) r bs = bs
+  with_record (Ready y) r bs = bs
+
+  -- the records of a terminal after a row that went on
+  abbrev pub pushed : World M → ℕ → Option (Open M) → List Record → List Record
+  pushed w t None bs = bs
+  pushed w t (Some o) bs = with_record (act (tx_of M t o) o.now.place (tables M w)) (tables M w) bs
+
+  -- the records at the mark
+  abbrev pub cut : Option (Open M) → List Record → List Record
+  cut None bs = bs
+  cut (Some o) bs = drop (length bs - length o.mark.changes) bs
+
+  -- the store with a terminal's records replaced
+  abbrev pub put_records : ℕ → List Record → Undo → Undo
+  put_records t bs u = record { active = set t bs u.active; history = u.history }
+
+  -- a row that goes on pushes its record, a commit seals them, a rollback drops them; the other steps leave all but what they cut off
+  abbrev pub undo_after : World M → Undo → Answer M → Step M → Undo
+  undo_after w u More (Advance t) = put_records t (pushed w t (w.active t) (u.active t)) u
+  undo_after w u (Committed m y) (Advance t) = record { active = set t [] u.active; history = u.active t ∷ u.history }
+  undo_after w u (Aborted e) (Advance t) = put_records t [] u
+  undo_after w u Gone_back (Back t) = put_records t (cut (w.active t) (u.active t)) u
+  undo_after w u Rolled_back (Rollback t) = put_records t [] u
+  undo_after w u (Purged m) (Purge k) = record { active = u.active; history = take (newest M w - m) u.history }
+  undo_after w u (Rewound m) (Rewind k) = record { active = u.active; history = drop (newest M w - m) u.history }
+  undo_after w u a i = u
+
+  -- what a step does to the tables, in place
+  abbrev pub with_change : Act Change Place Reply Refusal → Map → Map
+  with_change (Go (Some c) p) r = M.put c r
+  with_change (Go None p) r = r
+  with_change (Fail e) r = r
+  with_change (Ready y) r = r
+
+  -- the tables after a terminal's row that went on
+  abbrev pub changed : World M → ℕ → Option (Open M) → Map
+  changed w t None = tables M w
+  changed w t (Some o) = with_change (act (tx_of M t o) o.now.place (tables M w)) (tables M w)
+
+  -- a terminal's records since its mark
+  abbrev pub since_mark : Option (Open M) → List Record → List Record
+  since_mark None bs = []
+  since_mark (Some o) bs = take (length bs - length o.mark.changes) bs
+
+  -- a row that goes on makes its change; what is undone is undone from records; the other steps leave the tables
+  abbrev pub tables_after : World M → Undo → Answer M → Step M → Map
+  tables_after w u More (Advance t) = changed w t (w.active t)
+  tables_after w u (Aborted e) (Advance t) = unwind (u.active t) (tables M w)
+  tables_after w u Gone_back (Back t) = unwind (since_mark (w.active t) (u.active t)) (tables M w)
+  tables_after w u Rolled_back (Rollback t) = unwind (u.active t) (tables M w)
+  tables_after w u (Rewound m) (Rewind k) = unwind_commits (take (newest M w - m) u.history) (tables M w)
+  tables_after w u a i = tables M w
