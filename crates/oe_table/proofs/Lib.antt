@@ -1,0 +1,4 @@
+-- The laws of tables for the crates above, and what this crate's own proofs rest on.
+pub mod TableFacts
+mod WalkFacts
+mod SweepFacts

@@ -1,0 +1,55 @@
+-- A table is seen as the list of its places, in the keys' order: each has a row, or is blanked.
+use Rattle.std.specs.Prelude.{◌≡◌, Bool, true, cond, List, [], ◌∷◌, Option, None, Some}
+use Rattle.std.specs.declared.cmp.Ordering.{Ordering}
+use Rattle.std.specs.BTreeMap.{is_at}
+use Rattle.std.specs.Map.{lookup}
+use Rattle.std.specs.FinMap.{FinMap, empty, insert, remove}
+
+-- the finite map with `row` at `key`, or without it
+abbrev pub put : {K R : Type 0} {cmp : K → K → Ordering} → FinMap cmp R → K → Option R → FinMap cmp R
+put m key None = remove m key
+put m key (Some row) = insert m key row
+
+-- the rows with their keys, in the keys' order
+abbrev pub live : {K R : Type 0} → List (K × Option R) → List (K × R)
+live [] = []
+live ((key, None) ∷ t) = live t
+live ((key, Some row) ∷ t) = (key, row) ∷ live t
+
+-- what a sweep says of a place: it keeps a row, and a blanked place where `Answers` says so
+abbrev pub Judges : {R : Type 0} → (Bool → Type 0) → Option R → Bool → Type 0
+Judges Answers None kept = Answers kept
+Judges Answers (Some row) kept = kept ≡ true
+
+-- what a sweep leaves of a place, where `Answers b` says that the test may answer b: of a blanked one nothing, unless the test keeps it
+abbrev pub Sweeps : {R : Type 0} → (Bool → Type 0) → Option (Option R) → Option (Option R) → Type 0
+Sweeps Answers None new = new ≡ None
+Sweeps Answers (Some None) new = (keeps : Bool) × Answers keeps × (new ≡ cond keeps (Some None) None)
+Sweeps Answers (Some (Some row)) new = new ≡ Some (Some row)
+
+module _ {K R : Type 0} (cmp : K → K → Ordering) where
+  -- what stands at a key: nothing, a blanked place, or a row
+  abbrev pub place : List (K × Option R) → K → Option (Option R)
+  place t key = lookup (is_at (cmp key)) t
+
+  -- the key has a place
+  abbrev pub HasPlace : List (K × Option R) → K → Type 0
+  HasPlace t key = (p : Option R) × (place t key ≡ Some p)
+
+  -- the key was blanked
+  abbrev pub IsBlanked : List (K × Option R) → K → Type 0
+  IsBlanked t key = place t key ≡ Some None
+
+  -- the place at `key` is now `p`, and each other key's is as before
+  abbrev pub SetsPlace : List (K × Option R) → List (K × Option R) → K → Option R → Type 0
+  SetsPlace old new key p = (other : K) → place new other ≡ cond (is_at (cmp key) other) (Some p) (place old other)
+
+  -- the rows, as a finite map
+  abbrev pub rows_of : List (K × Option R) → FinMap cmp R
+  rows_of [] = empty
+  rows_of (e ∷ t) = put (rows_of t) e.0 e.1
+
+  -- the key's place has `row` in place of another row
+  pub record RewritesRow (old new : List (K × Option R)) (key : K) (row : R) : Type 0 where
+    pub places : SetsPlace old new key (Some row)
+    pub rows : rows_of new ≡ insert (rows_of old) key row

@@ -1,0 +1,8 @@
+//! Tables whose blanked keys keep their places, so that to put a row back never takes memory.
+#![tactic(auto)]
+
+pub mod keys;
+pub mod tables;
+#[cfg(test)]
+mod tests;
+pub mod walks;
