@@ -1,0 +1,122 @@
+//! Orders, their lines, and the orders not yet delivered.
+ghost use Rattle.std.specs.Prelude.{◌≡◌, ◌↔◌, IsTrue};
+
+use crate::numbers::{
+    Carrier, CustomerNumber, ItemNumber, LineAmount, LineCount, LineQuantity, WarehouseNumber,
+};
+use crate::stamps::Stamp;
+use crate::texts::Text;
+
+/// A NEW-ORDER row without its key: it has no other column (clause 1.3.1).
+#[derive(Clone, Copy, Debug, PartialEq, Eq)]
+pub struct NewOrder;
+
+/// An ORDER row without its key (clause 1.3.1). The carrier is null until the order is delivered.
+#[derive(Clone, Copy, Debug, PartialEq, Eq)]
+pub struct Order {
+    pub customer: CustomerNumber,
+    pub entry: Stamp,
+    pub carrier: Option<Carrier>,
+    pub line_count: LineCount,
+    pub all_local: bool,
+}
+
+/// An ORDER-LINE row without its key (clause 1.3.1). The delivery date is null until the order is delivered.
+#[derive(Drop, Clone, Debug, PartialEq, Eq)]
+pub struct OrderLine {
+    pub item: ItemNumber,
+    pub supply: WarehouseNumber,
+    pub delivery: Option<Stamp>,
+    pub quantity: LineQuantity,
+    pub amount: LineAmount,
+    pub dist_info: Text<24, 24>,
+}
+
+impl NewOrder {
+    /// Whether two such rows are equal, which all are.
+    pub fn is_same(&self, other: &NewOrder) -> bool
+        ensures { IsTrue result ↔ (self.now ≡ other.now) }
+    {
+        self == other
+    }
+}
+
+impl Order {
+    ghost use Rattle.oe_rows.specs.Order.{IsOrder};
+
+    /// O_C_ID, O_CARRIER_ID and O_OL_CNT.
+    pub fn figures(&self) -> (u32, Option<u32>, u32)
+        ensures ranges { IsOrder self.now }
+        ensures value { result ≡ (self.now.customer, self.now.carrier, self.now.line_count) }
+    {
+        let _entry = self.entry.seconds();
+        (
+            self.customer.get(),
+            self.carrier.map(|carrier| carrier.get()),
+            self.line_count.get(),
+        )
+    }
+
+    /// A copy.
+    pub fn copied(&self) -> Self
+        ensures { result ≡ self.now }
+    {
+        *self
+    }
+
+    /// Whether two orders are equal.
+    pub fn is_same(&self, other: &Order) -> bool
+        ensures { IsTrue result ↔ (self.now ≡ other.now) }
+    {
+        self.customer == other.customer
+            && self.entry == other.entry
+            && self.carrier == other.carrier
+            && self.line_count == other.line_count
+            && self.all_local == other.all_local
+    }
+}
+
+impl OrderLine {
+    ghost use Rattle.oe_rows.specs.Order.{IsOrderLine};
+
+    /// OL_I_ID, OL_SUPPLY_W_ID, OL_DELIVERY_D in seconds, OL_QUANTITY and OL_AMOUNT in cents.
+    pub fn figures(&self) -> (u32, u32, Option<u64>, u32, u64)
+        ensures ranges { IsOrderLine self.now }
+        ensures value { result ≡ (self.now.item, self.now.supply, self.now.delivery, self.now.quantity, self.now.amount) }
+    {
+        let _info = self.dist_info.as_str();
+        (
+            self.item.get(),
+            self.supply.get(),
+            self.delivery.map(|stamp| stamp.seconds()),
+            self.quantity.get(),
+            self.amount.cents(),
+        )
+    }
+
+    /// A copy, which takes no memory.
+    pub fn copied(&self) -> Self
+        ensures { result ≡ self.now }
+    {
+        OrderLine {
+            item: self.item,
+            supply: self.supply,
+            delivery: self.delivery,
+            quantity: self.quantity,
+            amount: self.amount,
+            dist_info: self.dist_info.copied(),
+        }
+    }
+
+    /// Whether two lines are equal.
+    pub fn is_same(&self, other: &OrderLine) -> bool
+        ensures { IsTrue result ↔ (self.now ≡ other.now) }
+    {
+        self.item == other.item
+            && self.supply == other.supply
+            && self.delivery == other.delivery
+            && self.quantity == other.quantity
+            && self.amount == other.amount
+            && self.dist_info == other.dist_info
+    }
+}

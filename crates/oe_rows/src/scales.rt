@@ -1,0 +1,10 @@
+//! How large a database is.
+use crate::numbers::{CustomerNumber, ItemNumber, WarehouseNumber};
+
+/// The number of warehouses, of customers in each district, and of items.
+#[derive(Clone, Copy, Debug, PartialEq, Eq)]
+pub struct Scale {
+    pub warehouses: WarehouseNumber,
+    pub customers: CustomerNumber,
+    pub items: ItemNumber,
+}
