@@ -1,0 +1,87 @@
+-- Names that are held by terminals, and the modes in which they are held.
+use Rattle.std.specs.Prelude.{◌≡◌, ◌≢◌, ℕ, ◌<◌, ◌==◌, ◌&&◌, Bool, true, false, Option, None, Some, List, [], ◌∷◌, map, slice_index_or, if◌then◌else◌}
+use Rattle.std.specs.Map.{lookup}
+use Rattle.std.specs.HashMap.{HashMap}
+use Rattle.oe_rows.specs.declared.locks.Name.{Name}
+use Rattle.oe_rows.specs.declared.locks.Name.TheVariants.{Warehouse, District, Customer, Order, Queue, Stock}
+use Rattle.oe_rows.specs.declared.locks.Mode.{Mode}
+use Rattle.oe_rows.specs.declared.locks.Mode.TheVariants.{Shared, Exclusive}
+use Rattle.oe_rows.specs.declared.refusals.Refusal.{Refusal}
+use Rattle.oe_rows.specs.declared.refusals.Refusal.TheVariants.{Busy, NoMemory}
+
+-- the two are one name: of one kind, with the same columns
+abbrev pub is_name : Name → Name → Bool
+is_name (Warehouse a) (Warehouse b) = a.warehouse == b.warehouse
+is_name (District a) (District b) = (a.warehouse == b.warehouse) && (a.district == b.district)
+is_name (Customer a) (Customer b) = (a.warehouse == b.warehouse) && ((a.district == b.district) && (a.customer == b.customer))
+is_name (Order a) (Order b) = (a.warehouse == b.warehouse) && ((a.district == b.district) && (a.order == b.order))
+is_name (Queue a) (Queue b) = (a.warehouse == b.warehouse) && (a.district == b.district)
+is_name (Stock a) (Stock b) = (a.warehouse == b.warehouse) && (a.item == b.item)
+is_name _ _ = false
+
+-- two modes of one name may be held by two terminals
+abbrev pub go_together : Mode → Option Mode → Bool
+go_together m None = true
+go_together Shared (Some Shared) = true
+go_together Shared (Some Exclusive) = false
+go_together Exclusive (Some n) = false
+
+-- the greater of the mode that is asked for and the mode held
+abbrev pub risen : Mode → Option Mode → Mode
+risen Exclusive old = Exclusive
+risen Shared None = Shared
+risen Shared (Some m) = m
+
+-- one mode is below another, where none is below Shared, and Shared below Exclusive
+abbrev pub IsBelow : Option Mode → Option Mode → Type 0
+IsBelow None (Some m) = Unit {0}
+IsBelow (Some Shared) (Some Exclusive) = Unit {0}
+IsBelow _ _ = ⊥
+
+-- the names that each terminal holds, with their modes, by the terminal's number; 0 is no terminal's
+abbrev pub Holdings : Type 0
+Holdings = List (List (Name × Mode))
+
+-- the mode in which a terminal holds a name
+unfoldable pub held : Holdings → ℕ → Name → Option Mode
+held locks t q = lookup (is_name q) (slice_index_or locks t [])
+
+-- the holdings that stand in the maps of the terminals from 1 on
+unfoldable pub by_terminal : {S : Type 0} → List (HashMap Name Mode S) → Holdings
+by_terminal maps = [] ∷ map (λ m. m.entries) maps
+
+-- the terminal holds no name
+abbrev pub HoldsNothing : Holdings → ℕ → Type 0
+HoldsNothing locks t = (q : Name) → held locks t q ≡ None
+
+-- no terminal holds a name
+abbrev pub IsIdle : Holdings → Type 0
+IsIdle locks = (t : ℕ) → HoldsNothing locks t
+
+-- no other terminal holds the name in a mode that conflicts
+abbrev pub IsFreeFor : Holdings → ℕ → Name → Mode → Type 0
+IsFreeFor locks t n m = (u : ℕ) → u ≢ t → go_together m (held locks u n) ≡ true
+
+-- the least other terminal that holds the name in a mode that conflicts
+pub record IsInTheWay (locks : Holdings) (t : ℕ) (n : Name) (m : Mode) (u : ℕ) : Type 0 where
+  pub other : u ≢ t
+  pub conflicts : go_together m (held locks u n) ≡ false
+  pub least : (v : ℕ) → v < u → v ≢ t → go_together m (held locks v n) ≡ true
+
+-- the terminal has taken the name in the greater of the mode asked for and the mode held, and holds every other name as before
+abbrev pub Takes : Holdings → Holdings → ℕ → Name → Mode → Type 0
+Takes old new t n m = (q : Name) → held new t q ≡ (if is_name q n then Some (risen m (held old t q)) else held old t q)
+
+-- the terminal now holds the name in that mode or not at all, and every other name as before
+abbrev pub GivesBack : Holdings → Holdings → ℕ → Name → Option Mode → Type 0
+GivesBack old new t n m = (q : Name) → held new t q ≡ (if is_name q n then m else held old t q)
+
+-- every other terminal holds what it held
+abbrev pub OthersKeep : Holdings → Holdings → ℕ → Type 0
+OthersKeep old new t = (u : ℕ) → u ≢ t → (q : Name) → held new u q ≡ held old u q
+
+-- why a name is refused: another terminal is in the way, or memory is wanted for a name that is free and is not yet held
+abbrev pub IsCause : Holdings → ℕ → Name → Mode → Refusal → Type 0
+IsCause locks t n m (Busy name u) = (name ≡ n) × IsInTheWay locks t n m u
+IsCause locks t n m NoMemory = IsFreeFor locks t n m × (held locks t n ≡ None)
+IsCause locks t n m _ = ⊥
