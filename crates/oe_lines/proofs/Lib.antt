@@ -1,0 +1,4 @@
+pub mod DigitFacts
+pub mod GrammarFacts
+pub mod StampFacts
+pub mod WordFacts

@@ -1,0 +1,99 @@
+-- A stamp's text is read, and no other.
+use Rattle.std.proofs.Common.{◌≡◌, refl, sym, ◌∙◌, ap, ℕ, ◌+◌, ◌-◌, ◌*◌, ◌/◌, ◌%◌, ◌<◌, List, [], ◌∷◌, ◌++◌, IfSome, Bool, true, false, ◌&&◌, cond, Option, Some, None, nat_lt, arith, lt-ltb, ltb-true}
+use Rattle.std.specs.List.{All}
+use Rattle.std.specs.Str.{IsUtf8, bytes_eq}
+use Rattle.std.proofs.lemmas.List.Elements.{All-nil, All-cons}
+use Rattle.std.proofs.lemmas.Slice.Eq.{bytes_eq-Decides}
+use Rattle.std.proofs.lemmas.Str.{IsUtf8-from_ascii}
+use Rattle.std.proofs.lemmas.Str.Ascii.{IsAscii-from_all}
+use Rattle.oe_rows.specs.Stamp.{two_digits, date_text, time_text, SaysStamp}
+use Rattle.oe_rows.proofs.StampFacts.{clock_small, year_small, month_small, day_small, says_alone}
+use Rattle.oe_texts.specs.Stamp.{stamp_text}
+use Rattle.oe_texts.proofs.StampFacts.{stamp_text_says}
+use Rattle.oe_lines.specs.Words.{counted, stamp_of}
+
+pair : (n : ℕ) → n < 100 → (48 + n / 10 - 48) * 10 + (48 + n % 10 - 48) ≡ n
+pair n h = omega arith
+
+counted_says : (s : List ℕ) (n : ℕ) → SaysStamp s n → counted s ≡ n
+unfolding counted
+counted_says s n r =
+    let clock = clock_small r.hour r.minute r.second r.counted.is_time in
+    let years = year_small r.year r.month r.day r.counted.is_date in
+    let months = month_small r.year r.month r.day r.counted.is_date in
+    let days = day_small r.year r.month r.day r.counted.is_date in
+    let year : (48 + r.year / 100 / 10 - 48) * 10 + (48 + r.year / 100 % 10 - 48) ≡ r.year / 100 = pair (r.year / 100) (omega arith) in
+    let of_century = pair (r.year % 100) (omega arith) in
+    let whole : r.year / 100 * 100 + r.year % 100 ≡ r.year = omega arith in
+    rw (r.spelled, year, of_century, whole, pair r.month months, pair r.day days, pair r.hour clock.0, pair r.minute clock.1, pair r.second clock.2, ← r.counted.count)
+
+picked : (p q : Bool) (m n : ℕ) → cond (p && q) (Some m) None ≡ Some n → (p ≡ true) × (q ≡ true) × (m ≡ n)
+picked true true m n e = (refl, refl, cc)
+picked true false m n e = cc
+picked false q m n e = cc
+
+pub stamp_of-says : (s : List ℕ) (n : ℕ) → SaysStamp s n → stamp_of s ≡ Some n
+unfolding stamp_of
+stamp_of-says s n r =
+    let one : stamp_text n ≡ s = says_alone (stamp_text n) s n (stamp_text_says n r.counted.before_2101) r in
+    rw (counted_says s n r, lt-ltb n 6_342_969_600 r.counted.before_2101, (bytes_eq-Decides (stamp_text n) s).1 one) refl
+
+pub stamp_found : (s : List ℕ) (n : ℕ) → stamp_of s ≡ Some n → (s ≡ stamp_text n) × (n < 6_342_969_600)
+unfolding stamp_of
+stamp_found s n e =
+    let p = picked (nat_lt (counted s) 6_342_969_600) (bytes_eq (stamp_text (counted s)) s) (counted s) n e in
+    (sym ((bytes_eq-Decides (stamp_text (counted s)) s).0 p.1) ∙ ap stamp_text p.2, ltb-true n 6_342_969_600 (rw (← p.2) p.0))
+
+pub stamp_only : (n : ℕ) → n < 6_342_969_600 → stamp_of (stamp_text n) ≡ Some n
+stamp_only n h = stamp_of-says (stamp_text n) n (stamp_text_says n h)
+
+-- bytes below 128
+record IsLow (bs : List ℕ) : Type 0 where
+  pub all : All (λ b. b < 128) bs
+
+low_text : (bs : List ℕ) → IsLow bs → IsUtf8 bs
+low_text bs h = IsUtf8-from_ascii bs (IsAscii-from_all bs h.all)
+
+low : (b : ℕ) (bs : List ℕ) → b < 128 → IsLow bs → IsLow (b ∷ bs)
+low b bs h rest = record { all = All-cons (λ c. c < 128) b bs h rest.all }
+
+low_pair : (n : ℕ) (bs : List ℕ) → n < 100 → IsLow bs → IsLow (two_digits n ++ bs)
+low_pair n bs h rest = low (48 + n / 10) ((48 + n % 10) ∷ bs) (omega arith) (low (48 + n % 10) bs (omega arith) rest)
+
+low_stamp : (y m d h i e : ℕ) → y < 10000 → m < 100 → d < 100 → h < 100 → i < 100 → e < 100 → IsLow (date_text y m d ++ 84 ∷ time_text h i e)
+low_stamp y m d h i e p q r s t u =
+    low_pair (y / 100) _ (omega arith)
+    (low_pair (y % 100) _ (omega arith)
+    (low 45 _ (omega arith)
+    (low_pair m _ q
+    (low 45 _ (omega arith)
+    (low_pair d _ r
+    (low 84 _ (omega arith)
+    (low_pair h _ s
+    (low 58 _ (omega arith)
+    (low_pair i _ t
+    (low 58 _ (omega arith)
+    (low_pair e [] u (record { all = All-nil (λ b. b < 128) }))))))))))))
+
+-- what says a stamp is text
+pub SaysStamp-text : (s : List ℕ) (n : ℕ) → SaysStamp s n → IsUtf8 s
+SaysStamp-text s n r =
+    let clock = clock_small r.hour r.minute r.second r.counted.is_time in
+    let years = year_small r.year r.month r.day r.counted.is_date in
+    let months = month_small r.year r.month r.day r.counted.is_date in
+    let days = day_small r.year r.month r.day r.counted.is_date in
+    rw r.spelled (low_text _ (low_stamp r.year r.month r.day r.hour r.minute r.second years months days clock.0 clock.1 clock.2))
+
+none_is : (o : Option ℕ) → ((n : ℕ) → o ≡ Some n → ⊥) → o ≡ None
+none_is None h = refl
+none_is (Some n) h = absurd (h n refl)
+
+pub stamp_of-none : (s : List ℕ) → ((n : ℕ) → SaysStamp s n → ⊥) → stamp_of s ≡ None
+stamp_of-none s h =
+    none_is (stamp_of s)
+    (λ n e. let f = stamp_found s n e in h n (rw f.0 (stamp_text_says n f.1)))
+
+-- what a reading gives that finds each stamp and nothing else
+pub stamp_of-read : (s : List ℕ) (o : Option ℕ) → IfSome o (SaysStamp s) → ((n : ℕ) → SaysStamp s n → o ≡ Some n) → o ≡ stamp_of s
+stamp_of-read s None some reads = sym (stamp_of-none s (λ n r. cc (reads n r)))
+stamp_of-read s (Some n) some reads = sym (stamp_of-says s n some)

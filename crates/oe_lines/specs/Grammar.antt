@@ -1,0 +1,106 @@
+-- The grammar of a script's lines: each command has one spelling.
+use Rattle.std.specs.Prelude.{◌≡◌, ℕ, ◌<◌, ◌≤◌, List, [], ◌∷◌, codes, decimal}
+use Rattle.std.specs.Int.{IsInRange}
+use Rattle.std.specs.List.{join_with_byte}
+use Rattle.oe_rows.specs.Credit.{money_text}
+use Rattle.oe_rows.specs.Key.{table_name, IsDistrictKey}
+use Rattle.oe_rows.specs.declared.requests.CustomerChoice.{CustomerChoice}
+use Rattle.oe_rows.specs.declared.requests.CustomerChoice.TheVariants as choice
+use Rattle.oe_rows.specs.declared.requests.PaymentRequest.{PaymentRequest}
+use Rattle.oe_rows.specs.declared.requests.Request.{Request}
+use Rattle.oe_rows.specs.declared.requests.Request.TheVariants as request
+use Rattle.oe_steps.specs.Condition.{condition_number}
+use Rattle.oe_steps.specs.declared.audits.Condition.{Condition}
+use Rattle.oe_steps.specs.declared.audits.Condition.TheVariants as condition
+use Rattle.oe_texts.specs.Stamp.{stamp_text}
+use Rattle.oe_lines.specs.declared.commands.Command.{Command}
+use Rattle.oe_lines.specs.declared.commands.Command.TheVariants as command
+use Rattle.oe_lines.specs.declared.commands.MomentChoice.{MomentChoice}
+use Rattle.oe_lines.specs.declared.commands.MomentChoice.TheVariants as moment
+use Rattle.oe_lines.specs.declared.commands.Scale.{Scale}
+
+abbrev pub customer_word : CustomerChoice → List ℕ
+customer_word (choice.Number n) = decimal n
+customer_word (choice.LastName name) = name
+
+abbrev pub moment_word : MomentChoice → List ℕ
+moment_word moment.Now = codes "now"
+moment_word (moment.At m) = decimal m
+
+-- the words of a request; requests of other kinds have none yet
+abbrev pub request_words : Request → List (List ℕ)
+request_words (request.Payment p) =
+    codes "payment" ∷ decimal p.district.warehouse ∷ decimal p.district.district
+    ∷ decimal p.customer_district.warehouse ∷ decimal p.customer_district.district
+    ∷ customer_word p.customer ∷ money_text p.amount ∷ stamp_text p.stamp ∷ []
+request_words (request.NewOrder r) = []
+request_words (request.Delivery r) = []
+request_words (request.Deliveries r) = []
+request_words (request.Rename r) = []
+
+-- the words of a command
+abbrev pub words_of : Command → List (List ℕ)
+words_of (command.Open s extents) =
+    codes "open" ∷ decimal s.warehouses ∷ decimal s.customers ∷ decimal s.items ∷ decimal extents ∷ []
+words_of (command.Begin terminal r) = codes "begin" ∷ decimal terminal ∷ request_words r
+words_of (command.Next terminal) = codes "next" ∷ decimal terminal ∷ []
+words_of (command.Run terminal) = codes "run" ∷ decimal terminal ∷ []
+words_of (command.Save terminal) = codes "save" ∷ decimal terminal ∷ []
+words_of (command.Back terminal) = codes "back" ∷ decimal terminal ∷ []
+words_of (command.Rollback terminal) = codes "rollback" ∷ decimal terminal ∷ []
+words_of (command.Dump table) = codes "dump" ∷ table_name table ∷ []
+words_of (command.Audit c m) = codes "audit" ∷ decimal (condition_number c) ∷ moment_word m ∷ []
+
+-- a customer by number; one by name has no form yet
+abbrev pub IsCustomer : CustomerChoice → Type 0
+IsCustomer (choice.Number n) = IsInRange 1 3_000 n
+IsCustomer (choice.LastName name) = ⊥
+
+-- a payment of 1.00 to 5000.00 (clause 2.5.1.3)
+pub record IsPayment (p : PaymentRequest) : Type 0 where
+  pub district : IsDistrictKey p.district
+  pub customer_district : IsDistrictKey p.customer_district
+  pub customer : IsCustomer p.customer
+  pub amount : IsInRange 100 500_000 p.amount
+  pub stamp : p.stamp < 6_342_969_600
+
+-- a payment; other requests have no form yet
+abbrev pub IsRequest : Request → Type 0
+IsRequest (request.Payment p) = IsPayment p
+IsRequest (request.NewOrder r) = ⊥
+IsRequest (request.Delivery r) = ⊥
+IsRequest (request.Deliveries r) = ⊥
+IsRequest (request.Rename r) = ⊥
+
+pub record IsScale (s : Scale) : Type 0 where
+  pub warehouses : IsInRange 1 16 s.warehouses
+  pub customers : IsInRange 1 3_000 s.customers
+  pub items : IsInRange 1 100_000 s.items
+
+-- the first two conditions; the others have no form yet
+abbrev pub IsAudited : Condition → Type 0
+IsAudited condition.First = Unit {0}
+IsAudited condition.Second = Unit {0}
+IsAudited condition.Third = ⊥
+IsAudited condition.Fourth = ⊥
+
+abbrev pub IsMoment : MomentChoice → Type 0
+IsMoment moment.Now = Unit {0}
+IsMoment (moment.At m) = m ≤ 999_999_999_999
+
+-- a command that has a form, with its numbers in their ranges
+abbrev pub HasForm : Command → Type 0
+HasForm (command.Open s extents) = IsScale s × IsInRange 2 4_096 extents
+HasForm (command.Begin terminal r) = IsInRange 1 64 terminal × IsRequest r
+HasForm (command.Next terminal) = IsInRange 1 64 terminal
+HasForm (command.Run terminal) = IsInRange 1 64 terminal
+HasForm (command.Save terminal) = IsInRange 1 64 terminal
+HasForm (command.Back terminal) = IsInRange 1 64 terminal
+HasForm (command.Rollback terminal) = IsInRange 1 64 terminal
+HasForm (command.Dump table) = Unit {0}
+HasForm (command.Audit c m) = IsAudited c × IsMoment m
+
+-- The line, without its end, is the command's words parted by one space.
+pub record Says (line : List ℕ) (c : Command) : Type 0 where
+  pub form : HasForm c
+  pub spelled : line ≡ join_with_byte 32 (words_of c)

@@ -1,0 +1,48 @@
+//! What a line of a script asks for.
+
+use oe_rows::{Moment, Number, Request, Table, Terminal};
+use oe_steps::Condition;
+
+/// How many extents the undo ring has.
+pub type ExtentCount = Number<2, 4_096>;
+
+/// The sizes of a population.
+#[derive(Clone, Copy, Debug, PartialEq, Eq)]
+pub struct Scale {
+    /// How many warehouses there are.
+    pub warehouses: Number<1, 16>,
+    /// How many customers each district has.
+    pub customers: Number<1, 3_000>,
+    /// How many items there are.
+    pub items: Number<1, 100_000>,
+}
+
+/// The newest moment, or one by its number.
+#[derive(Clone, Copy, Debug, PartialEq, Eq)]
+pub enum MomentChoice {
+    Now,
+    At(Moment),
+}
+
+/// What a line asks for.
+#[derive(Drop, Debug, PartialEq, Eq)]
+pub enum Command {
+    /// Opens a population of that scale, with so many extents.
+    Open(Scale, ExtentCount),
+    /// The terminal begins a transaction.
+    Begin(Terminal, Request),
+    /// The terminal's transaction advances by one step.
+    Next(Terminal),
+    /// The terminal's transaction advances until it is answered something else than that a step is left.
+    Run(Terminal),
+    /// The terminal's transaction moves its mark here.
+    Save(Terminal),
+    /// The terminal's transaction goes back to its mark.
+    Back(Terminal),
+    /// The terminal's transaction is rolled back.
+    Rollback(Terminal),
+    /// Shows a table's rows.
+    Dump(Table),
+    /// Audits a consistency condition.
+    Audit(Condition, MomentChoice),
+}

@@ -1,0 +1,13 @@
+//! The grammar of a script's lines. Nothing here takes memory. Clauses of the standard are those of TPC Benchmark C
+//! 5.11.
+#![tactic(auto)]
+
+pub mod commands;
+pub mod reading;
+mod words;
+
+pub use commands::{Command, ExtentCount, MomentChoice, Scale};
+pub use reading::command;
+
+#[cfg(test)]
+mod tests;

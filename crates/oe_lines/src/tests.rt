@@ -1,0 +1,264 @@
+//! Lines at the ends of their ranges, just past them, and hostile ones.
+use super::*;
+use oe_rows::{
+    CustomerChoice, DistrictKey, Moment, Number, PaymentRequest, Request, Stamp, Table, Terminal,
+};
+use oe_steps::Condition;
+use std::process::Abort;
+use std::test::Fail;
+
+fn number<const LOW: u32, const HIGH: u32>(n: u32) -> Result<Number<LOW, HIGH>, Fail> {
+    Ok(Number::new(n).ok_or("a number out of its range")?)
+}
+
+fn assert_said(rt: &impl Abort, line: &str, want: Command) {
+    assert_eq!(rt; command(line.as_bytes()), Some(want), "{line}");
+}
+
+fn assert_none(rt: &impl Abort, lines: &[&str]) {
+    for line in lines {
+        assert_eq!(rt; command(line.as_bytes()), None, "{line}");
+    }
+}
+
+fn opening(w: u32, c: u32, i: u32, extents: u32) -> Result<Command, Fail> {
+    let scale = Scale {
+        warehouses: number(w)?,
+        customers: number(c)?,
+        items: number(i)?,
+    };
+    Ok(Command::Open(scale, number(extents)?))
+}
+
+#[test]
+fn openings(rt: HostRuntime) -> Result<(), Fail> {
+    assert_said(&rt, "open 1 1 1 2", opening(1, 1, 1, 2)?);
+    assert_said(
+        &rt,
+        "open 16 3000 100000 4096",
+        opening(16, 3_000, 100_000, 4_096)?,
+    );
+    assert_said(&rt, "open 1 10 20 64", opening(1, 10, 20, 64)?);
+    assert_none(
+        &rt,
+        &[
+            "open 0 10 20 64",
+            "open 17 10 20 64",
+            "open 1 0 20 64",
+            "open 1 3001 20 64",
+            "open 1 10 0 64",
+            "open 1 10 100001 64",
+            "open 1 10 20 1",
+            "open 1 10 20 4097",
+            "open 1 10 20",
+            "open 1 10 20 64 ",
+            "open 1 10 20 64 1",
+            "open",
+        ],
+    );
+    Ok(())
+}
+
+fn payment(
+    terminal: u32,
+    at: (u32, u32),
+    home: (u32, u32),
+    customer: u32,
+    cents: u32,
+    stamp: &str,
+) -> Result<Command, Fail> {
+    let request = PaymentRequest {
+        district: DistrictKey {
+            warehouse: number(at.0)?,
+            district: number(at.1)?,
+        },
+        customer_district: DistrictKey {
+            warehouse: number(home.0)?,
+            district: number(home.1)?,
+        },
+        customer: CustomerChoice::Number(number(customer)?),
+        amount: number(cents)?,
+        stamp: Stamp::read(stamp).ok_or("no stamp")?,
+    };
+    Ok(Command::Begin(number(terminal)?, Request::Payment(request)))
+}
+
+#[test]
+fn payments(rt: HostRuntime) -> Result<(), Fail> {
+    let first = payment(1, (1, 1), (1, 1), 1, 100, "1900-01-01T00:00:00")?;
+    assert_said(
+        &rt,
+        "begin 1 payment 1 1 1 1 1 1.00 1900-01-01T00:00:00",
+        first,
+    );
+    let last = payment(64, (16, 10), (15, 9), 3_000, 500_000, "2100-12-31T23:59:59")?;
+    assert_said(
+        &rt,
+        "begin 64 payment 16 10 15 9 3000 5000.00 2100-12-31T23:59:59",
+        last,
+    );
+    assert_none(
+        &rt,
+        &[
+            "begin 0 payment 1 1 1 1 1 1.00 2001-01-01T00:00:00",
+            "begin 65 payment 1 1 1 1 1 1.00 2001-01-01T00:00:00",
+            "begin 1 payment 0 1 1 1 1 1.00 2001-01-01T00:00:00",
+            "begin 1 payment 17 1 1 1 1 1.00 2001-01-01T00:00:00",
+            "begin 1 payment 1 0 1 1 1 1.00 2001-01-01T00:00:00",
+            "begin 1 payment 1 11 1 1 1 1.00 2001-01-01T00:00:00",
+            "begin 1 payment 1 1 17 1 1 1.00 2001-01-01T00:00:00",
+            "begin 1 payment 1 1 1 11 1 1.00 2001-01-01T00:00:00",
+            "begin 1 payment 1 1 1 1 0 1.00 2001-01-01T00:00:00",
+            "begin 1 payment 1 1 1 1 3001 1.00 2001-01-01T00:00:00",
+            "begin 1 payment 1 1 1 1 BARBARBAR 1.00 2001-01-01T00:00:00",
+            "begin 1 payment 1 1 1 1 1 2001-01-01T00:00:00",
+            "begin 1 payment 1 1 1 1 1 1.00",
+            "begin 1 delivery 1 1 3 2001-01-01T00:00:00",
+            "begin 1",
+        ],
+    );
+    Ok(())
+}
+
+#[test]
+fn amounts_and_stamps(rt: HostRuntime) -> Result<(), Fail> {
+    assert_none(
+        &rt,
+        &[
+            "begin 1 payment 1 1 1 1 1 0.99 2001-01-01T00:00:00",
+            "begin 1 payment 1 1 1 1 1 5000.01 2001-01-01T00:00:00",
+            "begin 1 payment 1 1 1 1 1 1.0 2001-01-01T00:00:00",
+            "begin 1 payment 1 1 1 1 1 1.000 2001-01-01T00:00:00",
+            "begin 1 payment 1 1 1 1 1 1 2001-01-01T00:00:00",
+            "begin 1 payment 1 1 1 1 1 01.00 2001-01-01T00:00:00",
+            "begin 1 payment 1 1 1 1 1 +1.00 2001-01-01T00:00:00",
+            "begin 1 payment 1 1 1 1 1 -1.00 2001-01-01T00:00:00",
+            "begin 1 payment 1 1 1 1 1 1,000.00 2001-01-01T00:00:00",
+            "begin 1 payment 1 1 1 1 1 1. 2001-01-01T00:00:00",
+            "begin 1 payment 1 1 1 1 1 .10 2001-01-01T00:00:00",
+            "begin 1 payment 1 1 1 1 1 1.00 2001-02-29T00:00:00",
+            "begin 1 payment 1 1 1 1 1 1.00 1899-12-31T23:59:59",
+            "begin 1 payment 1 1 1 1 1 1.00 2101-01-01T00:00:00",
+            "begin 1 payment 1 1 1 1 1 1.00 2001-01-01 00:00:00",
+            "begin 1 payment 1 1 1 1 1 1.00 2001-01-01T00:00:60",
+            "begin 1 payment 1 1 1 1 1 1.00 2001-01-01T00:00",
+            "begin 1 payment 1 1 1 1 1 1.00 2001-01-01T00:00:00 ",
+            "begin 1 payment 1 1 1 1 1 1.00 2001-01-01T00:00:0\u{e9}",
+        ],
+    );
+    assert_said(
+        &rt,
+        "begin 2 payment 1 2 3 4 5 10.05 2000-02-29T12:34:56",
+        payment(2, (1, 2), (3, 4), 5, 1_005, "2000-02-29T12:34:56")?,
+    );
+    Ok(())
+}
+
+#[test]
+fn terminals(rt: HostRuntime) -> Result<(), Fail> {
+    for n in [1, 64] {
+        let terminal: Terminal = number(n)?;
+        let said = [
+            ("next", Command::Next(terminal)),
+            ("run", Command::Run(terminal)),
+            ("save", Command::Save(terminal)),
+            ("back", Command::Back(terminal)),
+            ("rollback", Command::Rollback(terminal)),
+        ];
+        for (verb, want) in said {
+            let line = format!(in rt.alloc(); "{verb} {n}")?;
+            assert_said(&rt, line.as_str(), want);
+        }
+    }
+    assert_none(
+        &rt,
+        &[
+            "next 0",
+            "next 65",
+            "run 65",
+            "save 0",
+            "back 65",
+            "rollback 65",
+            "next 01",
+            "next  1",
+            "next 1 ",
+            " next 1",
+            "next 1\r",
+            "next\t1",
+            "next",
+            "next ",
+            "Next 1",
+            "nex 1",
+            "next +1",
+            "next 18446744073709551617",
+            "commit 1",
+            "",
+            " ",
+        ],
+    );
+    Ok(())
+}
+
+#[test]
+fn tables_and_audits(rt: HostRuntime) -> Result<(), Fail> {
+    for table in [
+        Table::Warehouse,
+        Table::District,
+        Table::Customer,
+        Table::History,
+        Table::NewOrder,
+        Table::Order,
+        Table::OrderLine,
+        Table::Item,
+        Table::Stock,
+    ] {
+        let line = format!(in rt.alloc(); "dump {}", table.name())?;
+        assert_said(&rt, line.as_str(), Command::Dump(table));
+    }
+    let newest = Moment::new(999_999_999_999).ok_or("no moment")?;
+    let population = Moment::new(0).ok_or("no moment")?;
+    assert_said(
+        &rt,
+        "audit 1 now",
+        Command::Audit(Condition::First, MomentChoice::Now),
+    );
+    assert_said(
+        &rt,
+        "audit 2 0",
+        Command::Audit(Condition::Second, MomentChoice::At(population)),
+    );
+    assert_said(
+        &rt,
+        "audit 2 999999999999",
+        Command::Audit(Condition::Second, MomentChoice::At(newest)),
+    );
+    assert_none(
+        &rt,
+        &[
+            "dump  item",
+            "dump items",
+            "dump item ",
+            "dump",
+            "dump new-order",
+            "dump order line",
+            "audit 0 now",
+            "audit 3 now",
+            "audit 4 now",
+            "audit 01 now",
+            "audit 1",
+            "audit 1 Now",
+            "audit 1 00",
+            "audit 1 1000000000000",
+            "audit 1 -1",
+            "audit now 1",
+        ],
+    );
+    Ok(())
+}
+
+#[test]
+fn a_long_line(rt: HostRuntime) {
+    assert_eq!(rt; command(&[b'x'; 1_025]), None);
+    assert_eq!(rt; command(&[b' '; 1_025]), None);
+    assert_eq!(rt; command(&[255, 254, 0, 10]), None);
+}

@@ -1,0 +1,10 @@
+-- The numbers of the consistency conditions (clauses 3.3.2.1 to 3.3.2.4).
+use Rattle.std.specs.Prelude.{ℕ}
+use Rattle.oe_steps.specs.declared.audits.Condition.{Condition}
+use Rattle.oe_steps.specs.declared.audits.Condition.TheVariants as condition
+
+abbrev pub condition_number : Condition → ℕ
+condition_number condition.First = 1
+condition_number condition.Second = 2
+condition_number condition.Third = 3
+condition_number condition.Fourth = 4

@@ -1,0 +1,44 @@
+//! Answers.
+ghost use Rattle.std.specs.Prelude.{◌≡◌};
+
+use crate::audits::Verdict;
+use oe_rows::{Moment, QueryReply, Refusal, Reply};
+
+/// What a step is answered.
+#[derive(Drop, Debug, PartialEq, Eq)]
+pub enum Answer {
+    Begun,
+    /// The transaction is open, and has a step left.
+    More,
+    /// The transaction committed and made that moment.
+    Committed(Moment, Reply),
+    Saved,
+    Back,
+    RolledBack,
+    Replied(QueryReply),
+    Purged(Moment),
+    Rewound(Moment),
+    Audited(Verdict),
+    Refused(Refusal),
+}
+
+impl Answer {
+    /// A copy, which takes no memory.
+    pub fn copied(&self) -> Self
+        ensures { result ≡ self.now }
+    {
+        match self {
+            Answer::Begun => Answer::Begun,
+            Answer::More => Answer::More,
+            Answer::Committed(moment, reply) => Answer::Committed(*moment, reply.copied()),
+            Answer::Saved => Answer::Saved,
+            Answer::Back => Answer::Back,
+            Answer::RolledBack => Answer::RolledBack,
+            Answer::Replied(reply) => Answer::Replied(reply.copied()),
+            Answer::Purged(moment) => Answer::Purged(*moment),
+            Answer::Rewound(moment) => Answer::Rewound(*moment),
+            Answer::Audited(verdict) => Answer::Audited(*verdict),
+            Answer::Refused(refusal) => Answer::Refused(*refusal),
+        }
+    }
+}

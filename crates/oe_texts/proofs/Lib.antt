@@ -1,0 +1,2 @@
+pub mod ColumnFacts
+pub mod StampFacts

@@ -1,0 +1,88 @@
+//! Answers.
+ghost use Rattle.std.specs.Prelude.{◌≡◌, ◌≤◌, ◌+◌, ◌++◌, codes};
+ghost use Rattle.arrayvec.specs.ArrayVec.{array_vec_len};
+ghost use Rattle.oe_texts.specs.Answer.{verdict_text, answer_text, answer_line, audit_line};
+
+use crate::columns::{number, small_then};
+use crate::keys::columns;
+use crate::pending::{LONGEST, Pending, SIZE, text};
+use crate::refusals::error;
+use crate::replies::{query, reply};
+use oe_steps::{Answer, Condition, Verdict};
+
+/// `holds`, or `fails at <key columns>`.
+fn verdict(out: &mut Pending, verdict: &Verdict)
+    requires { array_vec_len out.old + 52 ≤ SIZE }
+    ensures items { out.new.items ≡ out.old.items ++ verdict_text verdict.now }
+    ensures len { array_vec_len out.new ≤ array_vec_len out.old + 52 }
+{
+    match verdict {
+        Verdict::Holds => text(out, b"holds"),
+        Verdict::Fails(key) => {
+            text(out, b"fails at ");
+            columns(out, key, b' ');
+        }
+    }
+}
+
+fn answer_without_end(out: &mut Pending, answer: &Answer)
+    requires { array_vec_len out.old + 1239 ≤ SIZE }
+    ensures items { out.new.items ≡ out.old.items ++ answer_text answer.now }
+    ensures len { array_vec_len out.new ≤ array_vec_len out.old + 1239 }
+{
+    match answer {
+        Answer::Begun => text(out, b"begun"),
+        Answer::More => text(out, b"more"),
+        Answer::Committed(moment, given) => {
+            text(out, b"commit ");
+            number(out, moment.get());
+            out.push(b' ');
+            reply(out, given);
+        }
+        Answer::Saved => text(out, b"saved"),
+        Answer::Back => text(out, b"back"),
+        Answer::RolledBack => text(out, b"rolled back"),
+        Answer::Replied(given) => query(out, given),
+        Answer::Purged(moment) => {
+            text(out, b"purged ");
+            number(out, moment.get());
+        }
+        Answer::Rewound(moment) => {
+            text(out, b"rewound ");
+            number(out, moment.get());
+        }
+        Answer::Audited(found) => verdict(out, found),
+        Answer::Refused(refusal) => error(out, refusal),
+    }
+}
+
+/// Appends the line of an answer. That of an audit also names the condition: `audited` writes it.
+pub fn answer(out: &mut Pending, answer: &Answer)
+    requires { array_vec_len out.old + LONGEST ≤ SIZE }
+    ensures items { out.new.items ≡ out.old.items ++ answer_line answer.now }
+    ensures len { array_vec_len out.new ≤ array_vec_len out.old + LONGEST }
+{
+    answer_without_end(out, answer);
+    out.push(b'\n');
+}
+
+/// Appends the line of an audit: `condition N holds`, or `condition N fails at <key columns>`.
+pub fn audited(out: &mut Pending, condition: Condition, found: &Verdict)
+    requires { array_vec_len out.old + LONGEST ≤ SIZE }
+    ensures items { out.new.items ≡ out.old.items ++ audit_line condition found.now }
+    ensures len { array_vec_len out.new ≤ array_vec_len out.old + LONGEST }
+{
+    text(out, b"condition ");
+    small_then(out, u32::from(condition.number()), b' ');
+    verdict(out, found);
+    out.push(b'\n');
+}
+
+/// Appends the line `opened`.
+pub fn opened(out: &mut Pending)
+    requires { array_vec_len out.old + LONGEST ≤ SIZE }
+    ensures items { out.new.items ≡ out.old.items ++ codes "opened\n" }
+    ensures len { array_vec_len out.new ≤ array_vec_len out.old + LONGEST }
+{
+    text(out, b"opened\n");
+}

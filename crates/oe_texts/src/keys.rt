@@ -1,0 +1,175 @@
+//! Keys, as their columns parted by one byte, and the names of locks.
+ghost use Rattle.std.specs.Prelude.{◌≡◌, ◌≤◌, ◌+◌, ◌++◌};
+ghost use Rattle.std.specs.List.{join_with_byte};
+ghost use Rattle.arrayvec.specs.ArrayVec.{array_vec_len};
+ghost use Rattle.oe_rows.specs.Key.{table_of, table_name, key_text};
+ghost use Rattle.oe_rows.specs.Lock.{name_text};
+ghost use Rattle.oe_texts.specs.Column.{tabbed};
+ghost use Rattle.oe_texts.specs.Key.{key_texts};
+
+use crate::columns::{small, small_then};
+use crate::pending::{Pending, SIZE, text};
+use oe_rows::{
+    CustomerKey, DistrictKey, HistoryKey, ItemKey, Key, Name, NewOrderKey, OrderKey, OrderLineKey,
+    StockKey,
+};
+
+/// D_W_ID, D_ID.
+fn district(out: &mut Pending, key: DistrictKey, between: u8)
+    requires { array_vec_len out.old + 21 ≤ SIZE }
+    ensures items { out.new.items ≡ out.old.items ++ join_with_byte between (key_texts (Key.District key)) }
+    ensures len { array_vec_len out.new ≤ array_vec_len out.old + 21 }
+{
+    small_then(out, key.warehouse.get(), between);
+    small(out, key.district.get());
+}
+
+/// C_W_ID, C_D_ID, C_ID.
+fn customer(out: &mut Pending, key: CustomerKey, between: u8)
+    requires { array_vec_len out.old + 32 ≤ SIZE }
+    ensures items { out.new.items ≡ out.old.items ++ join_with_byte between (key_texts (Key.Customer key)) }
+    ensures len { array_vec_len out.new ≤ array_vec_len out.old + 32 }
+{
+    small_then(out, key.warehouse.get(), between);
+    small_then(out, key.district.get(), between);
+    small(out, key.customer.get());
+}
+
+/// The terminal, the transaction's number, the row's place.
+fn history(out: &mut Pending, key: HistoryKey, between: u8)
+    requires { array_vec_len out.old + 32 ≤ SIZE }
+    ensures items { out.new.items ≡ out.old.items ++ join_with_byte between (key_texts (Key.History key)) }
+    ensures len { array_vec_len out.new ≤ array_vec_len out.old + 32 }
+{
+    small_then(out, key.terminal.get(), between);
+    small_then(out, key.number.get(), between);
+    small(out, key.place.get());
+}
+
+/// NO_W_ID, NO_D_ID, NO_O_ID.
+fn new_order(out: &mut Pending, key: NewOrderKey, between: u8)
+    requires { array_vec_len out.old + 32 ≤ SIZE }
+    ensures items { out.new.items ≡ out.old.items ++ join_with_byte between (key_texts (Key.NewOrder key)) }
+    ensures len { array_vec_len out.new ≤ array_vec_len out.old + 32 }
+{
+    small_then(out, key.warehouse.get(), between);
+    small_then(out, key.district.get(), between);
+    small(out, key.order.get());
+}
+
+/// O_W_ID, O_D_ID, O_ID.
+fn order(out: &mut Pending, key: OrderKey, between: u8)
+    requires { array_vec_len out.old + 32 ≤ SIZE }
+    ensures items { out.new.items ≡ out.old.items ++ join_with_byte between (key_texts (Key.Order key)) }
+    ensures len { array_vec_len out.new ≤ array_vec_len out.old + 32 }
+{
+    small_then(out, key.warehouse.get(), between);
+    small_then(out, key.district.get(), between);
+    small(out, key.order.get());
+}
+
+/// OL_W_ID, OL_D_ID, OL_O_ID, OL_NUMBER.
+fn order_line(out: &mut Pending, key: OrderLineKey, between: u8)
+    requires { array_vec_len out.old + 43 ≤ SIZE }
+    ensures items { out.new.items ≡ out.old.items ++ join_with_byte between (key_texts (Key.OrderLine key)) }
+    ensures len { array_vec_len out.new ≤ array_vec_len out.old + 43 }
+{
+    small_then(out, key.warehouse.get(), between);
+    small_then(out, key.district.get(), between);
+    small_then(out, key.order.get(), between);
+    small(out, key.number.get());
+}
+
+/// S_W_ID, S_I_ID.
+fn stock(out: &mut Pending, key: StockKey, between: u8)
+    requires { array_vec_len out.old + 21 ≤ SIZE }
+    ensures items { out.new.items ≡ out.old.items ++ join_with_byte between (key_texts (Key.Stock key)) }
+    ensures len { array_vec_len out.new ≤ array_vec_len out.old + 21 }
+{
+    small_then(out, key.warehouse.get(), between);
+    small(out, key.item.get());
+}
+
+/// A key's columns, parted by that byte.
+pub(crate) fn columns(out: &mut Pending, key: &Key, between: u8)
+    requires { array_vec_len out.old + 43 ≤ SIZE }
+    ensures items { out.new.items ≡ out.old.items ++ join_with_byte between (key_texts key.now) }
+    ensures len { array_vec_len out.new ≤ array_vec_len out.old + 43 }
+{
+    match *key {
+        Key::Warehouse(key) => small(out, key.warehouse.get()),
+        Key::District(key) => district(out, key, between),
+        Key::Customer(key) => customer(out, key, between),
+        Key::History(key) => history(out, key, between),
+        Key::NewOrder(key) => new_order(out, key, between),
+        Key::Order(key) => order(out, key, between),
+        Key::OrderLine(key) => order_line(out, key, between),
+        Key::Item(key) => small(out, key.item.get()),
+        Key::Stock(key) => stock(out, key, between),
+    }
+}
+
+/// A key's columns, with a tab byte after each.
+pub(crate) fn tabbed(out: &mut Pending, key: &Key)
+    requires { array_vec_len out.old + 44 ≤ SIZE }
+    ensures items { out.new.items ≡ out.old.items ++ tabbed (key_texts key.now) }
+    ensures len { array_vec_len out.new ≤ array_vec_len out.old + 44 }
+{
+    columns(out, key, b'\t');
+    out.push(b'\t');
+}
+
+/// The name of a key's table, which has at most 9 letters.
+fn table(out: &mut Pending, key: &Key)
+    requires { array_vec_len out.old + 9 ≤ SIZE }
+    ensures items { out.new.items ≡ out.old.items ++ table_name (table_of key.now) }
+    ensures len { array_vec_len out.new ≤ array_vec_len out.old + 9 }
+{
+    text(out, key.table().name().as_bytes());
+}
+
+/// A row by its table and its key.
+pub(crate) fn row(out: &mut Pending, key: &Key)
+    requires { array_vec_len out.old + 53 ≤ SIZE }
+    ensures items { out.new.items ≡ out.old.items ++ key_text key.now }
+    ensures len { array_vec_len out.new ≤ array_vec_len out.old + 53 }
+{
+    table(out, key);
+    out.push(b' ');
+    columns(out, key, b' ');
+}
+
+/// The name of a lock.
+pub(crate) fn name(out: &mut Pending, name: &Name)
+    requires { array_vec_len out.old + 43 ≤ SIZE }
+    ensures items { out.new.items ≡ out.old.items ++ name_text name.now }
+    ensures len { array_vec_len out.new ≤ array_vec_len out.old + 43 }
+{
+    match *name {
+        Name::Warehouse(key) => {
+            text(out, b"Warehouse(");
+            small(out, key.warehouse.get());
+        }
+        Name::District(key) => {
+            text(out, b"District(");
+            district(out, key, b',');
+        }
+        Name::Customer(key) => {
+            text(out, b"Customer(");
+            customer(out, key, b',');
+        }
+        Name::Order(key) => {
+            text(out, b"Order(");
+            order(out, key, b',');
+        }
+        Name::Queue(key) => {
+            text(out, b"Queue(");
+            district(out, key, b',');
+        }
+        Name::Stock(key) => {
+            text(out, b"Stock(");
+            stock(out, key, b',');
+        }
+    }
+    out.push(b')');
+}

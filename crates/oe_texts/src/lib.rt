@@ -1,0 +1,23 @@
+//! The texts of answers and of dumped rows, appended to a buffer of fixed size. Nothing here takes memory. Clauses of
+//! the standard are those of TPC Benchmark C 5.11.
+#![tactic(auto)]
+
+pub mod answers;
+mod columns;
+pub mod dumps;
+mod keys;
+pub mod laws;
+pub mod pending;
+mod refusals;
+mod replies;
+
+pub use answers::{answer, audited, opened};
+pub use dumps::{
+    customer_row, district_row, history_row, item_row, new_order_row, order_line_row, order_row,
+    rows, stock_row, warehouse_row,
+};
+pub use laws::stamps_are_read;
+pub use pending::{LONGEST, Pending, SIZE, has_room};
+
+#[cfg(test)]
+mod tests;

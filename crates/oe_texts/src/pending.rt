@@ -1,0 +1,30 @@
+//! The buffer that texts are appended to.
+ghost use Rattle.std.specs.Prelude.{◌≡◌, ◌≤◌, ◌+◌, ◌++◌, ◌↔◌, length, IsTrue};
+ghost use Rattle.arrayvec.specs.ArrayVec.{array_vec_len};
+
+use arrayvec::ArrayVec;
+
+/// How many bytes a buffer holds.
+pub const SIZE: usize = 8192;
+
+/// No line is longer, its end included.
+pub const LONGEST: usize = 1280;
+
+/// Bytes that wait to be written.
+pub type Pending = ArrayVec<u8, SIZE>;
+
+/// Whether the longest line still fits.
+pub fn has_room(out: &Pending) -> bool
+    ensures { IsTrue result ↔ (array_vec_len out.now + LONGEST ≤ SIZE) }
+{
+    out.len() + LONGEST <= SIZE
+}
+
+/// Appends these bytes.
+pub(crate) fn text(out: &mut Pending, bytes: &[u8])
+    requires { array_vec_len out.old + length bytes.now ≤ SIZE }
+    ensures items { out.new.items ≡ out.old.items ++ bytes.now }
+    ensures len { array_vec_len out.new ≡ array_vec_len out.old + length bytes.now }
+{
+    out.try_extend_from_slice(bytes).unwrap();
+}
