@@ -1,0 +1,188 @@
+-- The machine's laws, put together.
+use Rattle.std.proofs.Common.{◌≡◌, ℕ, suc, ◌<◌, ◌≤◌, arith, refl, ap, Bool, true, false, cond, List, [], ◌∷◌, map, Option, Some, None, inl}
+use Rattle.std.specs.Prelude.{IsSome, is_some, nat_le}
+use Rattle.std.specs.FinMap.{FinMap, get}
+use Rattle.oe_theory.specs.Machine.{Go, Tx}
+use Rattle.oe_theory.specs.World.{bump, overlay}
+use Rattle.oe_theory.specs.Laws.{Laws, Holds, with_asked, Alike, IsGood}
+use Rattle.oe_rows.specs.Key.{item_cmp}
+use Rattle.oe_rows.specs.declared.keys.DistrictKey.{DistrictKey}
+use Rattle.oe_rows.specs.declared.keys.HistoryKey.{HistoryKey}
+use Rattle.oe_rows.specs.declared.histories.History.{History}
+use Rattle.oe_rows.specs.declared.items.Item.{Item}
+use Rattle.oe_rows.specs.declared.locks.Name.{Name}
+use Rattle.oe_rows.specs.declared.locks.Name.TheVariants as name
+use Rattle.oe_rows.specs.declared.requests.Request.{Request}
+use Rattle.oe_rows.specs.declared.requests.Request.TheVariants as request
+use Rattle.oe_rows.specs.declared.requests.RequestLine.{RequestLine}
+use Rattle.oe_rows.specs.declared.replies.Reply.{Reply}
+use Rattle.oe_rows.proofs.KeyFacts.{warehouse_total, exact_warehouse, district_total, exact_district, customer_total, exact_customer, order_total, exact_order, stock_total, exact_stock}
+use Rattle.oe_model.specs.Keys.{order_in, new_order_in}
+use Rattle.oe_model.specs.Rows.{Rows}
+use Rattle.oe_model.specs.Changes.{Change}
+use Rattle.oe_model.specs.Meets.{Meets}
+use Rattle.oe_model.specs.Locks.{is_name}
+use Rattle.oe_model.specs.Places.{Place, InPayment, InNewOrder, InDelivery, NoProgram}
+use Rattle.oe_model.specs.Payment.{history_key}
+use Rattle.oe_model.specs.NewOrder.{stock_of, item_at}
+use Rattle.oe_model.specs.Requests.{IsDistrict, MayRefuse, warehouses_of, warehouse_no}
+use Rattle.oe_model.specs.Conditions.{Good, IsPopulation, IsStocked}
+use Rattle.oe_model.specs.System.{system, start_of, ask, act, taken, effect_of}
+use Rattle.oe_model.proofs.MapFacts.{is_self, is_same}
+use Rattle.oe_model.proofs.EntryFacts.{EachOf}
+use Rattle.oe_model.proofs.RowFacts.{key_true, key_refl, at_changed, record_key_of, before, at_put_back, redoes, same_rows}
+use Rattle.oe_model.proofs.ChangeFacts.{accepted_meets}
+use Rattle.oe_model.proofs.PresenceFacts.{present_some}
+use Rattle.oe_model.proofs.StepFacts.{EndsSo}
+use Rattle.oe_model.proofs.LawFacts.{IsAskedNow, HeldThen, IsLawful, accepts_alike, rejection_same, query_rejection_same, all_there}
+use Rattle.oe_model.proofs.PaymentFacts.{payment_ends}
+use Rattle.oe_model.proofs.PaymentLaws.{payment_ask_same, payment_act_same, payment_lawful}
+use Rattle.oe_model.proofs.PaymentGood.{payment_good}
+use Rattle.oe_model.proofs.NewOrderFacts.{HasStock, new_order_ends}
+use Rattle.oe_model.proofs.NewOrderLaws.{new_order_ask_same, new_order_act_same, new_order_lawful}
+use Rattle.oe_model.proofs.NewOrderGood.{is_fresh, new_order_good}
+use Rattle.oe_model.proofs.QueueFacts.{oldest_least}
+use Rattle.oe_model.proofs.DeliveryFacts.{delivery_ends}
+use Rattle.oe_model.proofs.DeliveryLaws.{delivery_ask_same, delivery_act_same, delivery_lawful}
+use Rattle.oe_model.proofs.DeliveryGood.{delivery_good}
+use Rattle.oe_model.proofs.KeptFacts.{ends_kept, accepted_stocked}
+
+pub name_refl : (a : Name) → is_name a a ≡ true
+name_refl (name.Warehouse a) = is_self warehouse_total exact_warehouse a
+name_refl (name.District a) = is_self district_total exact_district a
+name_refl (name.Customer a) = is_self customer_total exact_customer a
+name_refl (name.Order a) = is_self order_total exact_order a
+name_refl (name.Queue a) = is_self district_total exact_district a
+name_refl (name.Stock a) = is_self stock_total exact_stock a
+
+pub name_true : (a b : Name) → is_name a b ≡ true → a ≡ b
+name_true (name.Warehouse a) (name.Warehouse b) e = ap name.Warehouse (is_same warehouse_total exact_warehouse a b e)
+name_true (name.District a) (name.District b) e = ap name.District (is_same district_total exact_district a b e)
+name_true (name.Customer a) (name.Customer b) e = ap name.Customer (is_same customer_total exact_customer a b e)
+name_true (name.Order a) (name.Order b) e = ap name.Order (is_same order_total exact_order a b e)
+name_true (name.Queue a) (name.Queue b) e = ap name.Queue (is_same district_total exact_district a b e)
+name_true (name.Stock a) (name.Stock b) e = ap name.Stock (is_same stock_total exact_stock a b e)
+name_true _ _ e = cc
+
+-- an item that is found is there
+item_there : (n : ℕ) (items : FinMap item_cmp Item) (x : Item) → item_at n items ≡ Some x → IsSome (get items (record { item = n }))
+item_there n items x e = by_test (nat_le n 100000) e
+  where
+    by_test : (b : Bool) → cond b (get items (record { item = n })) None ≡ Some x → IsSome (get items (record { item = n }))
+    by_test true e = ap is_some e
+    by_test false e = let no : ⊥ = cc in absurd no
+
+have_stock : (f : ℕ → ℕ) (r : Rows) → Good f r → (ls : List RequestLine) → EachOf (λ w. IsSome (get r.warehouses (warehouse_no w))) (map (λ l. l.supply) ls) → EachOf (HasStock r) ls
+have_stock f r g [] h = tt
+have_stock f r g (l ∷ ls) h = ((λ item e. g.stocked (stock_of l) h.0 (item_there l.item r.items item e)), have_stock f r g ls h.1)
+
+-- the district of a request is there
+district_there : (f : ℕ → ℕ) (r : Rows) → Good f r → (h : DistrictKey) → IsSome (get r.warehouses (warehouse_no h.warehouse)) → IsDistrict h → IsSome (get r.districts h)
+district_there f r g h w d = g.meets.ten_districts h w d.1.0 d.1.1
+
+-- each program, run alone from what it finds, ends with its whole effect
+ends_by : (t k : ℕ) (q : Request) (f : ℕ → ℕ) (r : Rows)
+    → (let x : Tx Request = record { terminal = t; number = k; request = q } in IsGood system f x r → EndsSo (MayRefuse q) x (start_of q) r (effect_of t k q r))
+ends_by t k (request.Payment q) f r g =
+    let there = all_there (warehouses_of (request.Payment q)) r g.known in
+    let number : k ≡ suc (f t) = g.number in
+    payment_ends (record { terminal = t; number = k; request = request.Payment q }) q r
+    (g.good.unused (history_key t k) g.terminal.0 (let less : f t < k = omega arith in less)) there.0 (district_there f r g.good q.district there.0 g.valid.district)
+ends_by t k (request.NewOrder q) f r g =
+    let there = all_there (warehouses_of (request.NewOrder q)) r g.known in
+    new_order_ends (record { terminal = t; number = k; request = request.NewOrder q }) q r
+    (λ d e. is_fresh f r g.good q.district d e) there.0 (district_there f r g.good q.district there.0 g.valid.district) (have_stock f r g.good q.lines there.1)
+ends_by t k (request.Delivery q) f r g =
+    delivery_ends (record { terminal = t; number = k; request = request.Delivery q }) q r
+    (λ o e.
+    let new = (oldest_least q.district r.new_orders o e).0 in
+    let row = present_some (get r.new_orders (new_order_in q.district o)) new in
+    (new, g.good.meets.new_orders (new_order_in q.district o) row.0 row.1))
+    (λ o order e. g.good.meets.orders (order_in q.district o) order e)
+    (λ j y e. (g.good.meets.order_lines j y e).1)
+ends_by t k (request.Deliveries q) f r g = absurd g.valid
+ends_by t k (request.Rename q) f r g = absurd g.valid
+
+pub ends : (f : ℕ → ℕ) (x : Tx Request) (r : Rows) → IsGood system f x r → EndsSo (MayRefuse x.request) x (start_of x.request) r (effect_of x.terminal x.number x.request r)
+ends f x r g = ends_by x.terminal x.number x.request f r g
+
+-- each whole effect keeps what holds between transactions
+good_by : (f : ℕ → ℕ) (t k : ℕ) (q : Request) (r after : Rows) (y : Reply) → Good f r → k ≡ suc (f t) → Meets after → IsStocked after → effect_of t k q r ≡ Some (after, y) → Good (bump t f) after
+good_by f t k (request.Payment q) r after y g n m s e = payment_good f t k q r after y g n m s e
+good_by f t k (request.NewOrder q) r after y g n m s e = new_order_good f t q r after y g m s e
+good_by f t k (request.Delivery q) r after y g n m s e = delivery_good f t q r after y g m s e
+good_by f t k (request.Deliveries q) r after y g n m s e = let no : ⊥ = cc in absurd no
+good_by f t k (request.Rename q) r after y g n m s e = let no : ⊥ = cc in absurd no
+
+pub stays : (f : ℕ → ℕ) (x : Tx Request) (r after : Rows) (y : Reply) → IsGood system f x r → effect_of x.terminal x.number x.request r ≡ Some (after, y) → Good (bump x.terminal f) after
+stays f x r after y g e =
+    good_by f x.terminal x.number x.request r after y g.good g.number
+    (ends_kept Meets accepted_meets (MayRefuse x.request) x (start_of x.request) r (effect_of x.terminal x.number x.request r) after y (ends f x r g) e g.good.meets)
+    (ends_kept IsStocked accepted_stocked (MayRefuse x.request) x (start_of x.request) r (effect_of x.terminal x.number x.request r) after y (ends f x r g) e g.good.stocked)
+    e
+
+starts_by : (x : Tx Request) (q : Request) → taken x (start_of q) ≡ []
+starts_by x (request.Payment q) = refl
+starts_by x (request.NewOrder q) = refl
+starts_by x (request.Delivery q) = refl
+starts_by x (request.Deliveries q) = refl
+starts_by x (request.Rename q) = refl
+
+ask_same : (x : Tx Request) (p : Place) (r s : Rows) → Alike system (Holds system (taken x p)) x r s → ask x p r ≡ ask x p s
+ask_same x (InPayment q p) r s h = payment_ask_same x q p r s h
+ask_same x (InNewOrder q p) r s h = new_order_ask_same x q p r s h
+ask_same x (InDelivery q p) r s h = delivery_ask_same x q p r s
+ask_same x NoProgram r s h = refl
+
+act_same : (x : Tx Request) (p : Place) (r s : Rows) → IsAskedNow x p r → Alike system (HeldThen x p r) x r s → act x p r ≡ act x p s
+act_same x (InPayment q p) r s k h = payment_act_same x q p r s k h
+act_same x (InNewOrder q p) r s k h = new_order_act_same x q p r s k h
+act_same x (InDelivery q p) r s k h = delivery_act_same x q p r s k h
+act_same x NoProgram r s k h = refl
+
+lawful : (x : Tx Request) (p : Place) (r : Rows) → (c : Option Change) (z : Place) → IsAskedNow x p r → act x p r ≡ Go c z → IsLawful x p r c z
+lawful x (InPayment q p) r c z k e = payment_lawful x q p r c z k e
+lawful x (InNewOrder q p) r c z k e = new_order_lawful x q p r c z k e
+lawful x (InDelivery q p) r c z k e = delivery_lawful x q p r c z k e
+lawful x NoProgram r c z k e = absurd k
+
+pub laws : Laws system
+laws = record {
+  key_true = key_true;
+  key_refl = key_refl;
+  at_put = at_changed;
+  same_map = same_rows;
+  record_key_of = record_key_of;
+  restores = before;
+  at_put_back = at_put_back;
+  redoes = redoes;
+  name_true = name_true;
+  name_refl = name_refl;
+  start_takes = λ x. starts_by x x.request;
+  ask_same = ask_same;
+  act_same = act_same;
+  next_takes = λ x p r c q k e. (lawful x p r c q k e).takes;
+  may_write = λ x p r c q k e. (lawful x p r (Some c) q k e).writes c refl;
+  keeps_part = λ x r s c q h k e f own. inl ((lawful x s.place (overlay system s.changes r) (Some c) q k e).keeps c refl f own);
+  accepts_same = λ x p r s c q k h e a.
+      accepts_alike (with_asked system (ask x p r) (taken x p)) x r s h c ((lawful x p r (Some c) q k e).writes c refl) ((lawful x p r (Some c) q k e).knows c refl) a;
+  rejection_same = rejection_same;
+  query_rejection_same = query_rejection_same;
+  ends = ends;
+  stays_good = stays;
+}
+
+pub population_is_good : (r : Rows) → IsPopulation r → Good (λ _. 0) r
+population_is_good r p = record {
+  meets = p.meets;
+  condition_1 = p.condition_1;
+  condition_2 = p.condition_2;
+  condition_3 = p.condition_3;
+  condition_4 = p.condition_4;
+  stocked = p.stocked;
+  unused = λ k real less. by_row k real (get r.histories k) refl;
+}
+  where
+    by_row : (k : HistoryKey) → 1 ≤ k.terminal → (v : Option History) → get r.histories k ≡ v → v ≡ None
+    by_row k real None e = refl
+    by_row k real (Some x) e = let zero : k.terminal ≡ 0 = p.histories k x e in absurd (let no : ⊥ = omega arith in no)

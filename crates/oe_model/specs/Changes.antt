@@ -1,0 +1,164 @@
+-- Changes of one row, their undo records, and what both make of the tables.
+use Rattle.std.specs.Prelude.{Option, None, Some, option_map, option_and_then}
+use Rattle.std.specs.FinMap.{get, insert, remove}
+use Rattle.oe_rows.specs.declared.keys.WarehouseKey.{WarehouseKey}
+use Rattle.oe_rows.specs.declared.keys.DistrictKey.{DistrictKey}
+use Rattle.oe_rows.specs.declared.keys.CustomerKey.{CustomerKey}
+use Rattle.oe_rows.specs.declared.keys.HistoryKey.{HistoryKey}
+use Rattle.oe_rows.specs.declared.keys.NewOrderKey.{NewOrderKey}
+use Rattle.oe_rows.specs.declared.keys.OrderKey.{OrderKey}
+use Rattle.oe_rows.specs.declared.keys.OrderLineKey.{OrderLineKey}
+use Rattle.oe_rows.specs.declared.keys.StockKey.{StockKey}
+use Rattle.oe_rows.specs.declared.warehouses.Warehouse.{Warehouse}
+use Rattle.oe_rows.specs.declared.districts.District.{District}
+use Rattle.oe_rows.specs.declared.customers.Customer.{Customer}
+use Rattle.oe_rows.specs.declared.histories.History.{History}
+use Rattle.oe_rows.specs.declared.orders.NewOrder.{NewOrder}
+use Rattle.oe_rows.specs.declared.orders.Order.{Order}
+use Rattle.oe_rows.specs.declared.orders.OrderLine.{OrderLine}
+use Rattle.oe_rows.specs.declared.items.Stock.{Stock}
+use Rattle.oe_rows.specs.declared.keys.Key.{Key}
+use Rattle.oe_rows.specs.declared.keys.Key.TheVariants as key
+use Rattle.oe_rows.specs.declared.rows.Row.{Row}
+use Rattle.oe_rows.specs.declared.rows.Row.TheVariants as row
+use Rattle.oe_model.specs.Rows.{Rows, with_row, as_warehouse, as_district, as_customer, as_history, as_new_order, as_order, as_order_line, as_stock}
+
+-- a change of one row, of those that transactions make
+pub data Change : Type 0 where
+  InsertHistory : HistoryKey → History → Change
+  InsertNewOrder : NewOrderKey → NewOrder → Change
+  InsertOrder : OrderKey → Order → Change
+  InsertOrderLine : OrderLineKey → OrderLine → Change
+  UpdateWarehouse : WarehouseKey → Warehouse → Change
+  UpdateDistrict : DistrictKey → District → Change
+  UpdateCustomer : CustomerKey → Customer → Change
+  UpdateOrder : OrderKey → Order → Change
+  UpdateOrderLine : OrderLineKey → OrderLine → Change
+  UpdateStock : StockKey → Stock → Change
+  DeleteNewOrder : NewOrderKey → Change
+
+-- the key that it changes
+abbrev pub key_of : Change → Key
+key_of (InsertHistory k x) = key.History k
+key_of (InsertNewOrder k x) = key.NewOrder k
+key_of (InsertOrder k x) = key.Order k
+key_of (InsertOrderLine k x) = key.OrderLine k
+key_of (UpdateWarehouse k x) = key.Warehouse k
+key_of (UpdateDistrict k x) = key.District k
+key_of (UpdateCustomer k x) = key.Customer k
+key_of (UpdateOrder k x) = key.Order k
+key_of (UpdateOrderLine k x) = key.OrderLine k
+key_of (UpdateStock k x) = key.Stock k
+key_of (DeleteNewOrder k) = key.NewOrder k
+
+-- the row that it leaves there, if any
+abbrev pub row_of : Change → Option Row
+row_of (InsertHistory k x) = Some (row.History x)
+row_of (InsertNewOrder k x) = Some (row.NewOrder x)
+row_of (InsertOrder k x) = Some (row.Order x)
+row_of (InsertOrderLine k x) = Some (row.OrderLine x)
+row_of (UpdateWarehouse k x) = Some (row.Warehouse x)
+row_of (UpdateDistrict k x) = Some (row.District x)
+row_of (UpdateCustomer k x) = Some (row.Customer x)
+row_of (UpdateOrder k x) = Some (row.Order x)
+row_of (UpdateOrderLine k x) = Some (row.OrderLine x)
+row_of (UpdateStock k x) = Some (row.Stock x)
+row_of (DeleteNewOrder k) = None
+
+-- the tables after it
+abbrev pub changed : Change → Rows → Rows
+changed (InsertHistory k x) r = record r { histories = insert r.histories k x }
+changed (InsertNewOrder k x) r = record r { new_orders = insert r.new_orders k x }
+changed (InsertOrder k x) r = record r { orders = insert r.orders k x }
+changed (InsertOrderLine k x) r = record r { order_lines = insert r.order_lines k x }
+changed (UpdateWarehouse k x) r = record r { warehouses = insert r.warehouses k x }
+changed (UpdateDistrict k x) r = record r { districts = insert r.districts k x }
+changed (UpdateCustomer k x) r = record r { customers = insert r.customers k x }
+changed (UpdateOrder k x) r = record r { orders = insert r.orders k x }
+changed (UpdateOrderLine k x) r = record r { order_lines = insert r.order_lines k x }
+changed (UpdateStock k x) r = record r { stocks = insert r.stocks k x }
+changed (DeleteNewOrder k) r = record r { new_orders = remove r.new_orders k }
+
+-- an undo record: what was done, at which key, and the row before, if any
+pub data Record : Type 0 where
+  InsertedHistory : HistoryKey → Option History → Record
+  InsertedNewOrder : NewOrderKey → Option NewOrder → Record
+  InsertedOrder : OrderKey → Option Order → Record
+  InsertedOrderLine : OrderLineKey → Option OrderLine → Record
+  UpdatedWarehouse : WarehouseKey → Option Warehouse → Record
+  UpdatedDistrict : DistrictKey → Option District → Record
+  UpdatedCustomer : CustomerKey → Option Customer → Record
+  UpdatedOrder : OrderKey → Option Order → Record
+  UpdatedOrderLine : OrderLineKey → Option OrderLine → Record
+  UpdatedStock : StockKey → Option Stock → Record
+  DeletedNewOrder : NewOrderKey → Option NewOrder → Record
+
+-- the record of a change, by the row before
+abbrev pub record_of : Change → Option Row → Record
+record_of (InsertHistory k x) v = InsertedHistory k (option_and_then as_history v)
+record_of (InsertNewOrder k x) v = InsertedNewOrder k (option_and_then as_new_order v)
+record_of (InsertOrder k x) v = InsertedOrder k (option_and_then as_order v)
+record_of (InsertOrderLine k x) v = InsertedOrderLine k (option_and_then as_order_line v)
+record_of (UpdateWarehouse k x) v = UpdatedWarehouse k (option_and_then as_warehouse v)
+record_of (UpdateDistrict k x) v = UpdatedDistrict k (option_and_then as_district v)
+record_of (UpdateCustomer k x) v = UpdatedCustomer k (option_and_then as_customer v)
+record_of (UpdateOrder k x) v = UpdatedOrder k (option_and_then as_order v)
+record_of (UpdateOrderLine k x) v = UpdatedOrderLine k (option_and_then as_order_line v)
+record_of (UpdateStock k x) v = UpdatedStock k (option_and_then as_stock v)
+record_of (DeleteNewOrder k) v = DeletedNewOrder k (option_and_then as_new_order v)
+
+-- its key
+abbrev pub record_key : Record → Key
+record_key (InsertedHistory k v) = key.History k
+record_key (InsertedNewOrder k v) = key.NewOrder k
+record_key (InsertedOrder k v) = key.Order k
+record_key (InsertedOrderLine k v) = key.OrderLine k
+record_key (UpdatedWarehouse k v) = key.Warehouse k
+record_key (UpdatedDistrict k v) = key.District k
+record_key (UpdatedCustomer k v) = key.Customer k
+record_key (UpdatedOrder k v) = key.Order k
+record_key (UpdatedOrderLine k v) = key.OrderLine k
+record_key (UpdatedStock k v) = key.Stock k
+record_key (DeletedNewOrder k v) = key.NewOrder k
+
+-- the row before, as one of any table
+abbrev pub row_before : Record → Option Row
+row_before (InsertedHistory k v) = option_map row.History v
+row_before (InsertedNewOrder k v) = option_map row.NewOrder v
+row_before (InsertedOrder k v) = option_map row.Order v
+row_before (InsertedOrderLine k v) = option_map row.OrderLine v
+row_before (UpdatedWarehouse k v) = option_map row.Warehouse v
+row_before (UpdatedDistrict k v) = option_map row.District v
+row_before (UpdatedCustomer k v) = option_map row.Customer v
+row_before (UpdatedOrder k v) = option_map row.Order v
+row_before (UpdatedOrderLine k v) = option_map row.OrderLine v
+row_before (UpdatedStock k v) = option_map row.Stock v
+row_before (DeletedNewOrder k v) = option_map row.NewOrder v
+
+-- the tables with the row before put back
+abbrev pub put_back : Record → Rows → Rows
+put_back (InsertedHistory k v) r = record r { histories = with_row k v r.histories }
+put_back (InsertedNewOrder k v) r = record r { new_orders = with_row k v r.new_orders }
+put_back (InsertedOrder k v) r = record r { orders = with_row k v r.orders }
+put_back (InsertedOrderLine k v) r = record r { order_lines = with_row k v r.order_lines }
+put_back (UpdatedWarehouse k v) r = record r { warehouses = with_row k v r.warehouses }
+put_back (UpdatedDistrict k v) r = record r { districts = with_row k v r.districts }
+put_back (UpdatedCustomer k v) r = record r { customers = with_row k v r.customers }
+put_back (UpdatedOrder k v) r = record r { orders = with_row k v r.orders }
+put_back (UpdatedOrderLine k v) r = record r { order_lines = with_row k v r.order_lines }
+put_back (UpdatedStock k v) r = record r { stocks = with_row k v r.stocks }
+put_back (DeletedNewOrder k v) r = record r { new_orders = with_row k v r.new_orders }
+
+-- the change that the record is of, found again where the row that it left still stands
+abbrev pub redo : Record → Rows → Option Change
+redo (InsertedHistory k v) r = option_map (InsertHistory k) (get r.histories k)
+redo (InsertedNewOrder k v) r = option_map (InsertNewOrder k) (get r.new_orders k)
+redo (InsertedOrder k v) r = option_map (InsertOrder k) (get r.orders k)
+redo (InsertedOrderLine k v) r = option_map (InsertOrderLine k) (get r.order_lines k)
+redo (UpdatedWarehouse k v) r = option_map (UpdateWarehouse k) (get r.warehouses k)
+redo (UpdatedDistrict k v) r = option_map (UpdateDistrict k) (get r.districts k)
+redo (UpdatedCustomer k v) r = option_map (UpdateCustomer k) (get r.customers k)
+redo (UpdatedOrder k v) r = option_map (UpdateOrder k) (get r.orders k)
+redo (UpdatedOrderLine k v) r = option_map (UpdateOrderLine k) (get r.order_lines k)
+redo (UpdatedStock k v) r = option_map (UpdateStock k) (get r.stocks k)
+redo (DeletedNewOrder k v) r = Some (DeleteNewOrder k)

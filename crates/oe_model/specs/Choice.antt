@@ -1,0 +1,34 @@
+-- Which customer is meant, by number or by last name (clauses 2.5.2.2 and 2.6.2.2).
+use Rattle.std.specs.Prelude.{ℕ, ◌+◌, ◌/◌, ◌==◌, Bool, cond, ◌&&◌, List, length, count_by, find, Option, None, Some, option_map}
+use Rattle.std.specs.List.{filter_map}
+use Rattle.std.specs.Ordering.{eq_by_cmp, nat_cmp, ordering_then, is_lt}
+use Rattle.std.specs.Cmp.Lexicographic.{slice_cmp}
+use Rattle.std.specs.FinMap.{FinMap, get, entries}
+use Rattle.oe_rows.specs.Key.{district_cmp, customer_cmp}
+use Rattle.oe_rows.specs.declared.keys.DistrictKey.{DistrictKey}
+use Rattle.oe_rows.specs.declared.keys.CustomerKey.{CustomerKey}
+use Rattle.oe_rows.specs.declared.customers.Customer.{Customer}
+use Rattle.oe_rows.specs.declared.requests.CustomerChoice.{CustomerChoice}
+use Rattle.oe_rows.specs.declared.requests.CustomerChoice.TheVariants.{Number, LastName}
+use Rattle.oe_model.specs.Keys.{district_of_customer, customer_in}
+
+-- C_FIRST and C_ID of a customer of the district with this C_LAST
+abbrev pub named : DistrictKey → List ℕ → CustomerKey → Customer → Option (List ℕ × ℕ)
+named h last k x = cond (eq_by_cmp district_cmp (district_of_customer k) h && eq_by_cmp (slice_cmp nat_cmp) x.name.last last) (Some (x.name.first, k.customer)) None
+
+-- of each of them
+abbrev pub namesakes : DistrictKey → List ℕ → FinMap customer_cmp Customer → List (List ℕ × ℕ)
+namesakes h last customers = filter_map (λ e. named h last e.0 e.1) (entries customers)
+
+-- the order of C_FIRST, and where that ties of C_ID
+abbrev pub comes_before : List ℕ × ℕ → List ℕ × ℕ → Bool
+comes_before a b = is_lt (ordering_then (slice_cmp nat_cmp a.0 b.0) (nat_cmp a.1 b.1))
+
+-- the C_ID at position n / 2, rounded up, of n: that with as many before it, and 1
+abbrev pub middle : List (List ℕ × ℕ) → Option ℕ
+middle xs = option_map (λ x. x.1) (find (λ x. count_by (λ y. comes_before y x) xs + 1 == (length xs + 1) / 2) xs)
+
+-- the C_ID of the customer that is meant, where there is one
+abbrev pub chosen : DistrictKey → CustomerChoice → FinMap customer_cmp Customer → Option ℕ
+chosen h (Number c) customers = option_map (λ x. c) (get customers (customer_in h c))
+chosen h (LastName last) customers = middle (namesakes h last customers)

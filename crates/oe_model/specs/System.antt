@@ -1,0 +1,153 @@
+-- The server's machine: tables, locks, programs and whole effects, as the theory of transactions takes them.
+use Rattle.std.specs.Prelude.{ℕ, Bool, true, false, List, [], Option, None}
+use Rattle.oe_theory.specs.Machine.{Machine, Ask, Stop, Fail, Tx, Hold}
+use Rattle.oe_rows.specs.declared.keys.Key.{Key}
+use Rattle.oe_rows.specs.declared.rows.Row.{Row}
+use Rattle.oe_rows.specs.declared.locks.Name.{Name}
+use Rattle.oe_rows.specs.declared.requests.CustomerChoice.{CustomerChoice}
+use Rattle.oe_rows.specs.declared.requests.CustomerChoice.TheVariants.{Number, LastName}
+use Rattle.oe_rows.specs.declared.requests.Request.{Request}
+use Rattle.oe_rows.specs.declared.requests.Request.TheVariants as request
+use Rattle.oe_rows.specs.declared.requests.Query.{Query}
+use Rattle.oe_rows.specs.declared.replies.Reply.{Reply}
+use Rattle.oe_rows.specs.declared.replies.QueryReply.{QueryReply}
+use Rattle.oe_rows.specs.declared.refusals.Refusal.{Refusal}
+use Rattle.oe_rows.specs.declared.refusals.Refusal.TheVariants.{NoCustomer, Overflow, NotOpen}
+use Rattle.oe_model.specs.Rows.{Rows, is_key, row_at}
+use Rattle.oe_model.specs.Changes.{Change, key_of, row_of, changed, Record, record_of, record_key, row_before, put_back, redo}
+use Rattle.oe_model.specs.Meets.{Accepts}
+use Rattle.oe_model.specs.Locks.{is_name, governs, Facet, Part, facet_key, part, governs_part}
+use Rattle.oe_model.specs.Places.{Place, InPayment, InNewOrder, InDelivery, NoProgram, PaymentWarehouse, PaymentEnd, NewOrderWarehouse, NewOrderCustomer, NewOrderStock, DeliveryQueue, DeliveryNothing, DeliveryEnd}
+use Rattle.oe_model.specs.Effects.{Doing}
+use Rattle.oe_model.specs.Payment.{payment_effect, payment_ask, payment_act, payment_taken}
+use Rattle.oe_model.specs.NewOrder.{new_order_effect, new_order_ask, new_order_act, new_order_taken}
+use Rattle.oe_model.specs.Delivery.{delivery_effect, delivery_ask, delivery_act, delivery_taken}
+use Rattle.oe_model.specs.Requests.{IsRequest, MayRefuse, rejection, query_rejection, number_rejection}
+use Rattle.oe_model.specs.Conditions.{Good}
+use Rattle.oe_model.specs.Queries.{answer_of}
+use Rattle.oe_model.specs.Audits.{Condition, Verdict, verdict}
+
+-- where the program of a request begins
+abbrev pub start_of : Request → Place
+start_of (request.Payment q) = InPayment q PaymentWarehouse
+start_of (request.NewOrder q) = InNewOrder q NewOrderWarehouse
+start_of (request.Delivery q) = InDelivery q DeliveryQueue
+start_of (request.Deliveries q) = NoProgram
+start_of (request.Rename q) = NoProgram
+
+abbrev pub ask : Tx Request → Place → Rows → Ask Name Refusal
+ask x (InPayment q p) r = payment_ask q p r
+ask x (InNewOrder q p) r = new_order_ask q p r
+ask x (InDelivery q p) r = delivery_ask q p r
+ask x NoProgram r = Stop NotOpen
+
+abbrev pub act : Tx Request → Place → Rows → Doing
+act x (InPayment q p) r = payment_act x.terminal x.number q p r
+act x (InNewOrder q p) r = new_order_act q p r
+act x (InDelivery q p) r = delivery_act q p r
+act x NoProgram r = Fail NotOpen
+
+abbrev pub taken : Tx Request → Place → List (Hold Name)
+taken x (InPayment q p) = payment_taken q p
+taken x (InNewOrder q p) = new_order_taken q p
+taken x (InDelivery q p) = delivery_taken q p
+taken x NoProgram = []
+
+-- the whole effect of a request, for transaction k of terminal t
+abbrev pub effect_of : ℕ → ℕ → Request → Rows → Option (Rows × Reply)
+effect_of t k (request.Payment q) r = payment_effect t k q r
+effect_of t k (request.NewOrder q) r = new_order_effect q r
+effect_of t k (request.Delivery q) r = delivery_effect q r
+effect_of t k (request.Deliveries q) r = None
+effect_of t k (request.Rename q) r = None
+
+-- no program of today moves its mark
+abbrev pub marks : Place → Bool
+marks p = false
+
+-- The rows that make a change may need memory: an insert for its place in a table, and each change for its undo record, since
+-- records do not lie in a ring of fixed size yet. These rows make none.
+abbrev pub may_allocate : Place → Bool
+may_allocate (InPayment q (PaymentEnd y)) = false
+may_allocate (InNewOrder q NewOrderWarehouse) = false
+may_allocate (InNewOrder q (NewOrderCustomer o w d)) = false
+may_allocate (InNewOrder q (NewOrderStock s before done [])) = false
+may_allocate (InDelivery q DeliveryNothing) = false
+may_allocate (InDelivery q (DeliveryEnd o c sum)) = false
+may_allocate NoProgram = false
+may_allocate _ = true
+
+-- a want of memory may stand in place of a column that leaves its range, and of a customer that is absent and given by number
+abbrev pub by_number : CustomerChoice → Bool
+by_number (Number c) = true
+by_number (LastName last) = false
+
+abbrev pub yields : Place → Refusal → Bool
+yields p (Overflow c) = true
+yields (InPayment q p) NoCustomer = by_number q.customer
+yields (InNewOrder q p) NoCustomer = true
+yields _ _ = false
+
+-- the lengths of undo records are left out here: each is 0
+unfoldable pub record_length : Record → ℕ
+record_length b = 0
+
+-- terminals are 1 to 64, and 0 is the population's in HISTORY; shut, so that no proof counts them
+unfoldable pub terminal_limit : ℕ
+terminal_limit = 65
+
+abbrev pub system : Machine
+system = record {
+  Map = Rows;
+  Key = Key;
+  Row = Row;
+  Change = Change;
+  is_key = is_key;
+  row_at = row_at;
+  key_of = key_of;
+  row_of = row_of;
+  put = changed;
+  Accepts = Accepts;
+  Record = Record;
+  record_of = record_of;
+  record_key = record_key;
+  restore = λ b now. row_before b;
+  put_back = put_back;
+  redo = redo;
+  size_of = record_length;
+  extent = 4096;
+  Facet = Facet;
+  Part = Part;
+  facet_key = facet_key;
+  part = part;
+  Name = Name;
+  is_name = is_name;
+  governs = governs;
+  governs_part = governs_part;
+  Request = Request;
+  Place = Place;
+  Reply = Reply;
+  Refusal = Refusal;
+  IsRequest = IsRequest;
+  MayRefuse = MayRefuse;
+  start = λ x. start_of x.request;
+  ask = ask;
+  act = act;
+  marks = marks;
+  taken = taken;
+  whole = λ x r. effect_of x.terminal x.number x.request r;
+  Good = Good;
+  rejection = rejection;
+  number_rejection = number_rejection;
+  may_allocate = λ x p. may_allocate p;
+  yields = λ x p e. yields p e;
+  Query = Query;
+  Found = QueryReply;
+  query_rejection = query_rejection;
+  find = answer_of;
+  Condition = Condition;
+  Verdict = Verdict;
+  verdict = verdict;
+  first_terminal = 1;
+  terminal_limit = terminal_limit;
+}
