@@ -1,0 +1,4 @@
+-- What the clauses of this crate cite.
+pub mod Changes
+pub mod Befores
+pub mod Laws

@@ -1,0 +1,3 @@
+pub mod SegmentFacts
+pub mod KeptFacts
+pub mod StandsFacts

@@ -1,0 +1,5 @@
+use Rattle.oe_undo.proofs.StandsFacts.{begun, opens, reserves, pushes, pops, seals, drops}
+use Rattle.oe_undo.proofs.laws.calls_are_steps.Goals as goal
+
+pub returns : goal.returns
+returns c = record { begun = begun; opens = opens; reserves = reserves; pushes = pushes; pops = pops; seals = seals; drops = drops }

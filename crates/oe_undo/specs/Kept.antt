@@ -1,0 +1,34 @@
+-- What an undo log keeps of itself.
+use Rattle.std.specs.Prelude.{◌≡◌, ℕ, suc, ◌+◌, ◌<◌, ◌≤◌, ⊤, List, [], ◌∷◌, length, get_or, None, Some, is_some}
+use Rattle.std.specs.List.{All, sum_by, count_by}
+use Rattle.oe_undo.specs.declared.undo.TerminalState.{TerminalState}
+use Rattle.oe_undo.specs.Segments.{Placed, Open, Committed, place_of}
+use Rattle.oe_undo.specs.Undo.{idle}
+
+-- records of a transaction have its places, by the number of older ones
+abbrev pub ArePlaced : ℕ → ℕ → List Placed → Type 0
+ArePlaced t n [] = ⊤
+ArePlaced t n (r ∷ rs) = (r.place ≡ place_of t n (length rs)) × ArePlaced t n rs
+
+-- an open segment of a terminal with this many commits
+pub record IsOf (t count : ℕ) (o : Open) : Type 0 where
+  pub terminal : o.terminal ≡ t
+  pub number : o.number ≡ suc count
+  pub below : count < 4_294_967_295
+  pub places : ArePlaced t (suc count) o.records
+
+-- the segment of a commit that its terminal has counted
+pub record IsCounted (terminals : List TerminalState) (c : Committed) : Type 0 where
+  pub number : c.number ≤ (get_or terminals c.terminal idle).count
+  pub places : ArePlaced c.terminal c.number c.records
+
+pub record IsKept (terminals : List TerminalState) (committed : List Committed) (len capacity newest open_count : ℕ) : Type 0 where
+  pub size : length terminals ≡ 65
+  pub nobody : (get_or terminals 0 idle).active ≡ None
+  pub counts : All (λ s. s.count < 4_294_967_296) terminals
+  pub active : (t : ℕ) (o : Open) → (get_or terminals t idle).active ≡ Some o → IsOf t (get_or terminals t idle).count o
+  pub commits : All (IsCounted terminals) committed
+  pub moments : newest ≡ sum_by (λ s. s.count) terminals
+  pub kept : len ≤ newest
+  pub opens : open_count ≡ count_by (λ s. is_some s.active) terminals
+  pub spare : len + open_count ≤ capacity

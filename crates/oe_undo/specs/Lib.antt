@@ -1,0 +1,6 @@
+-- What the clauses of this crate cite.
+pub mod Segments
+pub mod Undo
+pub mod Kept
+pub mod Stands
+pub mod Laws

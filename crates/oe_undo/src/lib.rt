@@ -1,0 +1,14 @@
+//! The undo log: the undo records of each terminal's open transaction and of each commit, with the commits' requests and
+//! replies, and the terminals' counts of commits.
+#![tactic(auto)]
+
+pub mod laws;
+pub mod records;
+pub mod segments;
+#[cfg(test)]
+mod tests;
+pub mod undo;
+
+pub use records::Records;
+pub use segments::{CommittedSegment, Place, Segment};
+pub use undo::Undo;
