@@ -1,0 +1,27 @@
+-- What a change makes of the tables, and why one is refused.
+use Rattle.std.specs.Prelude.{◌≡◌, true, Some, is_some, is_none, not}
+use Rattle.std.specs.List.{find}
+use Rattle.oe_rows.specs.declared.refusals.Refusal.{Refusal}
+use Rattle.oe_rows.specs.declared.refusals.Refusal.TheVariants.{Reference, NoMemory}
+use Rattle.oe_model.specs.Rows.{Rows, row_at}
+use Rattle.oe_model.specs.Changes.{Change, key_of, changed, Record, record_of}
+use Rattle.oe_model.specs.Meets.{Accepts, Cause, is_insert, referred}
+use Rattle.oe_store.specs.Stored.{Stored, rows, HasPlace, AddsPlace}
+
+-- the tables accept the change, and it is made; `b` is its undo record
+pub record Applies (c : Change) (old new : Stored) (b : Record) : Type 0 where
+  pub accepted : Accepts c (rows old)
+  pub changes : rows new ≡ changed c (rows old)
+  pub before : b ≡ record_of c (row_at (rows old) (key_of c))
+  -- each key that had a place has one, and the change's key
+  pub places : AddsPlace old new (key_of c)
+
+-- why a change is refused: the cause is there, or, for an insert that the tables accept, its key has no place and takes memory
+abbrev pub Refuses : Change → Stored → Refusal → Type 0
+Refuses c s NoMemory = (is_insert c ≡ true) × Accepts c (rows s) × (HasPlace s (key_of c) → ⊥)
+Refuses c s e = Cause c (rows s) e
+
+-- of several causes the first is named: the change's key comes before what its row refers to, and that in its order
+abbrev pub IsFirst : Change → Rows → Refusal → Type 0
+IsFirst c r (Reference k) = (is_some (row_at r (key_of c)) ≡ not (is_insert c)) × (find (λ j. is_none (row_at r j)) (referred c) ≡ Some k)
+IsFirst c r _ = Unit {0}

@@ -1,0 +1,4 @@
+-- What the clauses of this crate cite.
+pub mod Applies
+pub mod PutBack
+pub mod Laws

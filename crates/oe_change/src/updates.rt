@@ -1,0 +1,150 @@
+//! Updates and deletes, which take no memory: the key is there, columns that other rows are found by stay, and what the
+//! row refers to is there.
+ghost use Rattle.std.specs.Prelude.{◌≡◌, IfOk, IfErr, OnErr};
+ghost use Rattle.oe_model.specs.Changes.{UpdateWarehouse, UpdateDistrict, UpdateCustomer, UpdateOrder, UpdateOrderLine, UpdateStock, DeleteNewOrder};
+ghost use Rattle.oe_records.specs.Befores.{record_of_before};
+ghost use Rattle.oe_store.specs.Stored.{rows};
+ghost use Rattle.oe_change.specs.Applies.{Applies, Refuses, IsFirst};
+
+use crate::inserts::supply_key;
+use oe_records::Before;
+use oe_rows::{
+    Customer, CustomerKey, District, DistrictKey, Key, NewOrderKey, Order, OrderKey, OrderLine,
+    OrderLineKey, Refusal, Stock, StockKey, Warehouse, WarehouseKey,
+};
+use oe_store::Tables;
+
+/// Puts another WAREHOUSE row in the place of a key's.
+pub(crate) fn update_warehouse(
+    tables: &mut Tables,
+    key: &WarehouseKey,
+    row: Warehouse,
+) -> Result<Before, Refusal>
+    ensures applied { IfOk result (λ b. Applies (UpdateWarehouse key.now row) tables.old tables.new (record_of_before b)) }
+    ensures refused { IfErr result (λ e. Refuses (UpdateWarehouse key.now row) tables.old e) }
+    ensures first { IfErr result (λ e. IsFirst (UpdateWarehouse key.now row) (rows tables.old) e) }
+    ensures unchanged { OnErr result (tables.new ≡ tables.old) }
+{
+    if tables.warehouse(*key).is_none() {
+        return Err(Refusal::NoSuchRow(Key::Warehouse(*key)));
+    }
+    let before = tables.update_warehouse(*key, row);
+    Ok(Before::UpdatedWarehouse(*key, before))
+}
+
+/// Puts another DISTRICT row in the place of a key's.
+pub(crate) fn update_district(
+    tables: &mut Tables,
+    key: &DistrictKey,
+    row: District,
+) -> Result<Before, Refusal>
+    ensures applied { IfOk result (λ b. Applies (UpdateDistrict key.now row) tables.old tables.new (record_of_before b)) }
+    ensures refused { IfErr result (λ e. Refuses (UpdateDistrict key.now row) tables.old e) }
+    ensures first { IfErr result (λ e. IsFirst (UpdateDistrict key.now row) (rows tables.old) e) }
+    ensures unchanged { OnErr result (tables.new ≡ tables.old) }
+{
+    if tables.district(*key).is_none() {
+        return Err(Refusal::NoSuchRow(Key::District(*key)));
+    }
+    let before = tables.update_district(*key, row);
+    Ok(Before::UpdatedDistrict(*key, before))
+}
+
+/// Puts another CUSTOMER row with the same C_LAST and C_FIRST in the place of a key's.
+pub(crate) fn update_customer(
+    tables: &mut Tables,
+    key: &CustomerKey,
+    row: Customer,
+) -> Result<Before, Refusal>
+    ensures applied { IfOk result (λ b. Applies (UpdateCustomer key.now row) tables.old tables.new (record_of_before b)) }
+    ensures refused { IfErr result (λ e. Refuses (UpdateCustomer key.now row) tables.old e) }
+    ensures first { IfErr result (λ e. IsFirst (UpdateCustomer key.now row) (rows tables.old) e) }
+    ensures unchanged { OnErr result (tables.new ≡ tables.old) }
+{
+    let Some(old) = tables.customer(*key) else {
+        return Err(Refusal::NoSuchRow(Key::Customer(*key)));
+    };
+    if row.name.last != old.name.last {
+        return Err(Refusal::KeyColumn);
+    }
+    if row.name.first != old.name.first {
+        return Err(Refusal::KeyColumn);
+    }
+    let before = tables.update_customer(*key, row);
+    Ok(Before::UpdatedCustomer(*key, before))
+}
+
+/// Puts another ORDER row with the same O_C_ID in the place of a key's.
+pub(crate) fn update_order(
+    tables: &mut Tables,
+    key: &OrderKey,
+    row: Order,
+) -> Result<Before, Refusal>
+    ensures applied { IfOk result (λ b. Applies (UpdateOrder key.now row) tables.old tables.new (record_of_before b)) }
+    ensures refused { IfErr result (λ e. Refuses (UpdateOrder key.now row) tables.old e) }
+    ensures first { IfErr result (λ e. IsFirst (UpdateOrder key.now row) (rows tables.old) e) }
+    ensures unchanged { OnErr result (tables.new ≡ tables.old) }
+{
+    let Some(old) = tables.order(*key) else {
+        return Err(Refusal::NoSuchRow(Key::Order(*key)));
+    };
+    if row.customer != old.customer {
+        return Err(Refusal::KeyColumn);
+    }
+    let before = tables.update_order(*key, row);
+    Ok(Before::UpdatedOrder(*key, before))
+}
+
+/// Puts another ORDER-LINE row, whose stock is there, in the place of a key's.
+pub(crate) fn update_order_line(
+    tables: &mut Tables,
+    key: &OrderLineKey,
+    row: OrderLine,
+) -> Result<Before, Refusal>
+    ensures applied { IfOk result (λ b. Applies (UpdateOrderLine key.now row) tables.old tables.new (record_of_before b)) }
+    ensures refused { IfErr result (λ e. Refuses (UpdateOrderLine key.now row) tables.old e) }
+    ensures first { IfErr result (λ e. IsFirst (UpdateOrderLine key.now row) (rows tables.old) e) }
+    ensures unchanged { OnErr result (tables.new ≡ tables.old) }
+{
+    if tables.order_line(*key).is_none() {
+        return Err(Refusal::NoSuchRow(Key::OrderLine(*key)));
+    }
+    let supply = &supply_key(&row);
+    if tables.stock(*supply).is_none() {
+        return Err(Refusal::Reference(Key::Stock(*supply)));
+    }
+    let before = tables.update_order_line(*key, row);
+    Ok(Before::UpdatedOrderLine(*key, before))
+}
+
+/// Puts another STOCK row in the place of a key's.
+pub(crate) fn update_stock(
+    tables: &mut Tables,
+    key: &StockKey,
+    row: Stock,
+) -> Result<Before, Refusal>
+    ensures applied { IfOk result (λ b. Applies (UpdateStock key.now row) tables.old tables.new (record_of_before b)) }
+    ensures refused { IfErr result (λ e. Refuses (UpdateStock key.now row) tables.old e) }
+    ensures first { IfErr result (λ e. IsFirst (UpdateStock key.now row) (rows tables.old) e) }
+    ensures unchanged { OnErr result (tables.new ≡ tables.old) }
+{
+    if tables.stock(*key).is_none() {
+        return Err(Refusal::NoSuchRow(Key::Stock(*key)));
+    }
+    let before = tables.update_stock(*key, row);
+    Ok(Before::UpdatedStock(*key, before))
+}
+
+/// Takes a NEW-ORDER row away. Its key keeps its place.
+pub(crate) fn delete_new_order(tables: &mut Tables, key: &NewOrderKey) -> Result<Before, Refusal>
+    ensures applied { IfOk result (λ b. Applies (DeleteNewOrder key.now) tables.old tables.new (record_of_before b)) }
+    ensures refused { IfErr result (λ e. Refuses (DeleteNewOrder key.now) tables.old e) }
+    ensures first { IfErr result (λ e. IsFirst (DeleteNewOrder key.now) (rows tables.old) e) }
+    ensures unchanged { OnErr result (tables.new ≡ tables.old) }
+{
+    if tables.new_order(*key).is_none() {
+        return Err(Refusal::NoSuchRow(Key::NewOrder(*key)));
+    }
+    let _row = tables.delete_new_order(*key);
+    Ok(Before::DeletedNewOrder(*key))
+}

@@ -1,0 +1,9 @@
+-- The laws of the tables for the crates above, and what this crate's own proofs rest on.
+pub mod PlaceFacts
+pub mod SoundFacts
+mod FillFacts
+mod KeyTests
+mod HistoryTests
+mod PopulatedFacts
+mod GroupFacts
+mod DraftFacts

@@ -1,0 +1,5 @@
+-- What the clauses of this crate cite.
+pub mod Stored
+pub mod Draft
+pub mod Fill
+pub mod Group

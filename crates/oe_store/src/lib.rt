@@ -1,0 +1,19 @@
+//! The nine tables, which keep the schema, and their population by formula. Clauses of the standard are those of TPC
+//! Benchmark C 5.11.
+#![tactic(auto)]
+
+mod drafts;
+mod fills;
+mod formulas;
+pub mod inserts;
+mod numbers;
+pub mod population;
+pub mod tables;
+mod texts;
+pub mod undo;
+pub mod updates;
+pub mod walks;
+
+pub use oe_table::tables::NoMemory;
+pub use population::populate;
+pub use tables::Tables;

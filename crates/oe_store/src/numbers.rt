@@ -1,0 +1,27 @@
+//! Numbers and sums of money that are known to be in their ranges.
+ghost use Rattle.std.specs.Prelude.{◌≡◌, ◌≤◌};
+
+use oe_rows::{Amount, Number};
+
+/// That number, of a range that has it.
+pub(crate) fn number<const LOW: u32, const HIGH: u32>(value: u32) -> Number<LOW, HIGH>
+    requires low { LOW ≤ value }
+    requires high { value ≤ HIGH }
+    ensures { result ≡ value }
+{
+    match Number::new(value) {
+        Some(number) => number,
+        None => unreachable!(),
+    }
+}
+
+/// That many cents, of a range that has them.
+pub(crate) fn amount<const MOST: u64>(cents: u64) -> Amount<MOST>
+    requires { cents ≤ MOST }
+    ensures { result ≡ cents }
+{
+    match Amount::new(cents) {
+        Some(amount) => amount,
+        None => unreachable!(),
+    }
+}

@@ -1,0 +1,128 @@
+//! The nine tables (clause 1.2.1).
+ghost use Rattle.std.specs.Prelude.{◌≡◌};
+ghost use Rattle.std.specs.Option.{option_copied};
+ghost use Rattle.std.specs.FinMap.{get, empty};
+ghost use Rattle.oe_store.specs.Stored.{rows, HasPlace};
+ghost use Rattle.oe_model.specs.Meets.{Meets};
+
+use oe_rows::{
+    Customer, CustomerKey, District, DistrictKey, History, HistoryKey, Item, ItemKey, NewOrder,
+    NewOrderKey, Order, OrderKey, OrderLine, OrderLineKey, Stock, StockKey, Warehouse,
+    WarehouseKey,
+};
+use oe_table::tables::Table;
+use std::alloc::Global;
+use std::marker::Model;
+
+/// The nine tables, whose rows meet the schema (clauses 1.3 and 1.4): each reference finds its row, each warehouse has
+/// ten districts, and each column is in its range. A key that lost its row keeps its place, so that to put a row back
+/// takes no memory.
+///
+/// The indexes of customers by last name, of undelivered orders and of customers' last orders will stand beside the
+/// tables, kept by the same calls.
+#[derive(Drop)]
+pub struct Tables {
+    pub(crate) warehouses: Table<WarehouseKey, Warehouse>,
+    pub(crate) districts: Table<DistrictKey, District>,
+    pub(crate) customers: Table<CustomerKey, Customer>,
+    pub(crate) histories: Table<HistoryKey, History>,
+    pub(crate) new_orders: Table<NewOrderKey, NewOrder>,
+    pub(crate) orders: Table<OrderKey, Order>,
+    pub(crate) order_lines: Table<OrderLineKey, OrderLine>,
+    pub(crate) items: Table<ItemKey, Item>,
+    pub(crate) stocks: Table<StockKey, Stock>,
+}
+
+impl Model for Tables {
+    ghost use Rattle.oe_store.specs.Stored.{Stored, rows, IsSound};
+
+    ghost Value = { Stored };
+
+    ghost view = { λ t. record { warehouses = t.warehouses; districts = t.districts; customers = t.customers; histories = t.histories; new_orders = t.new_orders; orders = t.orders; order_lines = t.order_lines; items = t.items; stocks = t.stocks } };
+
+    ghost invariant = { λ t. IsSound (rows (record { warehouses = t.warehouses; districts = t.districts; customers = t.customers; histories = t.histories; new_orders = t.new_orders; orders = t.orders; order_lines = t.order_lines; items = t.items; stocks = t.stocks })) };
+}
+
+impl Tables {
+    ghost use Rattle.oe_store.specs.Stored.{no_rows};
+
+    /// Tables without a row.
+    pub fn new(alloc: Global) -> Self
+        ensures { rows result ≡ no_rows }
+    {
+        Tables {
+            warehouses: Table::new(alloc),
+            districts: Table::new(alloc),
+            customers: Table::new(alloc),
+            histories: Table::new(alloc),
+            new_orders: Table::new(alloc),
+            orders: Table::new(alloc),
+            order_lines: Table::new(alloc),
+            items: Table::new(alloc),
+            stocks: Table::new(alloc),
+        }
+    }
+
+    /// The WAREHOUSE row of a key, if it has one.
+    pub fn warehouse(&self, key: WarehouseKey) -> Option<&Warehouse>
+        ensures { option_copied result ≡ get (rows self.now).warehouses key }
+    {
+        self.warehouses.get(&key)
+    }
+
+    /// The DISTRICT row of a key, if it has one.
+    pub fn district(&self, key: DistrictKey) -> Option<&District>
+        ensures { option_copied result ≡ get (rows self.now).districts key }
+    {
+        self.districts.get(&key)
+    }
+
+    /// The CUSTOMER row of a key, if it has one.
+    pub fn customer(&self, key: CustomerKey) -> Option<&Customer>
+        ensures { option_copied result ≡ get (rows self.now).customers key }
+    {
+        self.customers.get(&key)
+    }
+
+    /// The HISTORY row of a key, if it has one.
+    pub fn history(&self, key: HistoryKey) -> Option<&History>
+        ensures { option_copied result ≡ get (rows self.now).histories key }
+    {
+        self.histories.get(&key)
+    }
+
+    /// The NEW-ORDER row of a key, if it has one.
+    pub fn new_order(&self, key: NewOrderKey) -> Option<&NewOrder>
+        ensures { option_copied result ≡ get (rows self.now).new_orders key }
+    {
+        self.new_orders.get(&key)
+    }
+
+    /// The ORDER row of a key, if it has one.
+    pub fn order(&self, key: OrderKey) -> Option<&Order>
+        ensures { option_copied result ≡ get (rows self.now).orders key }
+    {
+        self.orders.get(&key)
+    }
+
+    /// The ORDER-LINE row of a key, if it has one.
+    pub fn order_line(&self, key: OrderLineKey) -> Option<&OrderLine>
+        ensures { option_copied result ≡ get (rows self.now).order_lines key }
+    {
+        self.order_lines.get(&key)
+    }
+
+    /// The ITEM row of a key, if it has one.
+    pub fn item(&self, key: ItemKey) -> Option<&Item>
+        ensures { option_copied result ≡ get (rows self.now).items key }
+    {
+        self.items.get(&key)
+    }
+
+    /// The STOCK row of a key, if it has one.
+    pub fn stock(&self, key: StockKey) -> Option<&Stock>
+        ensures { option_copied result ≡ get (rows self.now).stocks key }
+    {
+        self.stocks.get(&key)
+    }
+}

@@ -1,0 +1,85 @@
+//! Updates and deletes of rows, which take no memory.
+ghost use Rattle.std.specs.Prelude.{◌≡◌, Some};
+ghost use Rattle.std.specs.FinMap.{get};
+ghost use Rattle.oe_model.specs.Changes.{changed, UpdateWarehouse, UpdateDistrict, UpdateCustomer, UpdateOrder, UpdateOrderLine, UpdateStock, DeleteNewOrder};
+ghost use Rattle.oe_model.specs.Meets.{Accepts};
+ghost use Rattle.oe_store.specs.Stored.{rows, SamePlaces};
+
+use crate::tables::Tables;
+use oe_rows::{
+    Customer, CustomerKey, District, DistrictKey, NewOrder, NewOrderKey, Order, OrderKey,
+    OrderLine, OrderLineKey, Stock, StockKey, Warehouse, WarehouseKey,
+};
+
+impl Tables {
+    /// Puts another WAREHOUSE row in the place of a key's, and answers the row before.
+    pub fn update_warehouse(&mut self, key: WarehouseKey, row: Warehouse) -> Warehouse
+        requires { Accepts (UpdateWarehouse key row) (rows self.old) }
+        ensures before { get (rows self.old).warehouses key ≡ Some result }
+        ensures rows { rows self.new ≡ changed (UpdateWarehouse key row) (rows self.old) }
+        ensures places { SamePlaces self.old self.new }
+    {
+        self.warehouses.swap(&key, row)
+    }
+
+    /// Puts another DISTRICT row in the place of a key's, and answers the row before.
+    pub fn update_district(&mut self, key: DistrictKey, row: District) -> District
+        requires { Accepts (UpdateDistrict key row) (rows self.old) }
+        ensures before { get (rows self.old).districts key ≡ Some result }
+        ensures rows { rows self.new ≡ changed (UpdateDistrict key row) (rows self.old) }
+        ensures places { SamePlaces self.old self.new }
+    {
+        self.districts.swap(&key, row)
+    }
+
+    /// Puts another CUSTOMER row in the place of a key's, and answers the row before.
+    pub fn update_customer(&mut self, key: CustomerKey, row: Customer) -> Customer
+        requires { Accepts (UpdateCustomer key row) (rows self.old) }
+        ensures before { get (rows self.old).customers key ≡ Some result }
+        ensures rows { rows self.new ≡ changed (UpdateCustomer key row) (rows self.old) }
+        ensures places { SamePlaces self.old self.new }
+    {
+        self.customers.swap(&key, row)
+    }
+
+    /// Puts another ORDER row in the place of a key's, and answers the row before.
+    pub fn update_order(&mut self, key: OrderKey, row: Order) -> Order
+        requires { Accepts (UpdateOrder key row) (rows self.old) }
+        ensures before { get (rows self.old).orders key ≡ Some result }
+        ensures rows { rows self.new ≡ changed (UpdateOrder key row) (rows self.old) }
+        ensures places { SamePlaces self.old self.new }
+    {
+        let _customer = row.customer.get();
+        self.orders.swap(&key, row)
+    }
+
+    /// Puts another ORDER-LINE row in the place of a key's, and answers the row before.
+    pub fn update_order_line(&mut self, key: OrderLineKey, row: OrderLine) -> OrderLine
+        requires { Accepts (UpdateOrderLine key row) (rows self.old) }
+        ensures before { get (rows self.old).order_lines key ≡ Some result }
+        ensures rows { rows self.new ≡ changed (UpdateOrderLine key row) (rows self.old) }
+        ensures places { SamePlaces self.old self.new }
+    {
+        self.order_lines.swap(&key, row)
+    }
+
+    /// Puts another STOCK row in the place of a key's, and answers the row before.
+    pub fn update_stock(&mut self, key: StockKey, row: Stock) -> Stock
+        requires { Accepts (UpdateStock key row) (rows self.old) }
+        ensures before { get (rows self.old).stocks key ≡ Some result }
+        ensures rows { rows self.new ≡ changed (UpdateStock key row) (rows self.old) }
+        ensures places { SamePlaces self.old self.new }
+    {
+        self.stocks.swap(&key, row)
+    }
+
+    /// Takes a NEW-ORDER row away, and answers it. Its key keeps its place.
+    pub fn delete_new_order(&mut self, key: NewOrderKey) -> NewOrder
+        requires { Accepts (DeleteNewOrder key) (rows self.old) }
+        ensures before { get (rows self.old).new_orders key ≡ Some result }
+        ensures rows { rows self.new ≡ changed (DeleteNewOrder key) (rows self.old) }
+        ensures places { SamePlaces self.old self.new }
+    {
+        self.new_orders.blank(&key)
+    }
+}

@@ -1,0 +1,202 @@
+//! Walks over the tables in the keys' order, which take no memory.
+ghost use Rattle.std.specs.Prelude.{◌≡◌, ◌≤◌};
+ghost use Rattle.std.specs.FinMap.{entries};
+ghost use Rattle.oe_model.specs.Keys.{warehouse_of_district, district_of_customer, district_of_new_order, district_of_order, order_of_line};
+ghost use Rattle.oe_rows.specs.Key.{warehouse_cmp, district_cmp, order_cmp};
+ghost use Rattle.oe_store.specs.Stored.{rows, entries_of};
+
+use crate::tables::Tables;
+use oe_rows::{
+    Customer, CustomerKey, District, DistrictKey, History, HistoryKey, Item, ItemKey, NewOrder,
+    NewOrderKey, Number, Order, OrderKey, OrderLine, OrderLineKey, Stock, StockKey, Warehouse,
+    WarehouseKey,
+};
+use oe_table::walks::Rows;
+
+/// The least number of a range.
+fn least<const LOW: u32, const HIGH: u32>() -> Number<LOW, HIGH>
+    requires { LOW ≤ HIGH }
+    ensures { result ≡ LOW }
+{
+    match Number::new(LOW) {
+        Some(number) => number,
+        None => unreachable!(),
+    }
+}
+
+/// The greatest number of a range.
+fn greatest<const LOW: u32, const HIGH: u32>() -> Number<LOW, HIGH>
+    requires { LOW ≤ HIGH }
+    ensures { result ≡ HIGH }
+{
+    match Number::new(HIGH) {
+        Some(number) => number,
+        None => unreachable!(),
+    }
+}
+
+impl Tables {
+    /// The WAREHOUSE rows with their keys, in the keys' order.
+    pub fn warehouses(&self) -> Rows<'_, WarehouseKey, Warehouse>
+        ensures { result ≡ entries (rows self.now).warehouses }
+    {
+        self.warehouses.iter()
+    }
+
+    /// The DISTRICT rows with their keys, in the keys' order.
+    pub fn districts(&self) -> Rows<'_, DistrictKey, District>
+        ensures { result ≡ entries (rows self.now).districts }
+    {
+        self.districts.iter()
+    }
+
+    /// The CUSTOMER rows with their keys, in the keys' order.
+    pub fn customers(&self) -> Rows<'_, CustomerKey, Customer>
+        ensures { result ≡ entries (rows self.now).customers }
+    {
+        self.customers.iter()
+    }
+
+    /// The HISTORY rows with their keys, in the keys' order.
+    pub fn histories(&self) -> Rows<'_, HistoryKey, History>
+        ensures { result ≡ entries (rows self.now).histories }
+    {
+        self.histories.iter()
+    }
+
+    /// The NEW-ORDER rows with their keys, in the keys' order.
+    pub fn new_orders(&self) -> Rows<'_, NewOrderKey, NewOrder>
+        ensures { result ≡ entries (rows self.now).new_orders }
+    {
+        self.new_orders.iter()
+    }
+
+    /// The ORDER rows with their keys, in the keys' order.
+    pub fn orders(&self) -> Rows<'_, OrderKey, Order>
+        ensures { result ≡ entries (rows self.now).orders }
+    {
+        self.orders.iter()
+    }
+
+    /// The ORDER-LINE rows with their keys, in the keys' order.
+    pub fn order_lines(&self) -> Rows<'_, OrderLineKey, OrderLine>
+        ensures { result ≡ entries (rows self.now).order_lines }
+    {
+        self.order_lines.iter()
+    }
+
+    /// The ITEM rows with their keys, in the keys' order.
+    pub fn items(&self) -> Rows<'_, ItemKey, Item>
+        ensures { result ≡ entries (rows self.now).items }
+    {
+        self.items.iter()
+    }
+
+    /// The STOCK rows with their keys, in the keys' order.
+    pub fn stocks(&self) -> Rows<'_, StockKey, Stock>
+        ensures { result ≡ entries (rows self.now).stocks }
+    {
+        self.stocks.iter()
+    }
+
+    /// The DISTRICT rows of a warehouse, in the keys' order.
+    pub fn districts_of(&self, warehouse: WarehouseKey) -> Rows<'_, DistrictKey, District>
+        ensures { result ≡ entries_of warehouse_cmp warehouse_of_district warehouse (rows self.now).districts }
+    {
+        let first = DistrictKey {
+            warehouse: warehouse.warehouse,
+            district: least(),
+        };
+        let last = DistrictKey {
+            district: greatest(),
+            ..first
+        };
+        self.districts.range_inclusive(first, last)
+    }
+
+    /// The CUSTOMER rows of a district, in the keys' order.
+    pub fn customers_of(&self, district: DistrictKey) -> Rows<'_, CustomerKey, Customer>
+        ensures { result ≡ entries_of district_cmp district_of_customer district (rows self.now).customers }
+    {
+        let first = CustomerKey {
+            warehouse: district.warehouse,
+            district: district.district,
+            customer: least(),
+        };
+        let last = CustomerKey {
+            customer: greatest(),
+            ..first
+        };
+        self.customers.range_inclusive(first, last)
+    }
+
+    /// The ORDER rows of a district, in the keys' order.
+    pub fn orders_of(&self, district: DistrictKey) -> Rows<'_, OrderKey, Order>
+        ensures { result ≡ entries_of district_cmp district_of_order district (rows self.now).orders }
+    {
+        let first = OrderKey {
+            warehouse: district.warehouse,
+            district: district.district,
+            order: least(),
+        };
+        let last = OrderKey {
+            order: greatest(),
+            ..first
+        };
+        self.orders.range_inclusive(first, last)
+    }
+
+    /// The NEW-ORDER rows of a district, in the keys' order.
+    pub fn new_orders_of(&self, district: DistrictKey) -> Rows<'_, NewOrderKey, NewOrder>
+        ensures { result ≡ entries_of district_cmp district_of_new_order district (rows self.now).new_orders }
+    {
+        let first = NewOrderKey {
+            warehouse: district.warehouse,
+            district: district.district,
+            order: least(),
+        };
+        let last = NewOrderKey {
+            order: greatest(),
+            ..first
+        };
+        self.new_orders.range_inclusive(first, last)
+    }
+
+    /// The ORDER-LINE rows of an order, in the keys' order.
+    pub fn order_lines_of(&self, order: OrderKey) -> Rows<'_, OrderLineKey, OrderLine>
+        ensures { result ≡ entries_of order_cmp order_of_line order (rows self.now).order_lines }
+    {
+        let first = OrderLineKey {
+            warehouse: order.warehouse,
+            district: order.district,
+            order: order.order,
+            number: least(),
+        };
+        let last = OrderLineKey {
+            number: greatest(),
+            ..first
+        };
+        self.order_lines.range_inclusive(first, last)
+    }
+
+    /// The ORDER-LINE rows of a district, in the keys' order.
+    pub fn order_lines_of_district(
+        &self,
+        district: DistrictKey,
+    ) -> Rows<'_, OrderLineKey, OrderLine>
+        ensures { result ≡ entries_of district_cmp (λ k. district_of_order (order_of_line k)) district (rows self.now).order_lines }
+    {
+        let first = OrderLineKey {
+            warehouse: district.warehouse,
+            district: district.district,
+            order: least(),
+            number: least(),
+        };
+        let last = OrderLineKey {
+            order: greatest(),
+            number: greatest(),
+            ..first
+        };
+        self.order_lines.range_inclusive(first, last)
+    }
+}
