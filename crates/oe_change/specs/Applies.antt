@@ -1,8 +1,8 @@
 -- What a change makes of the tables, and why one is refused.
 use Rattle.std.specs.Prelude.{◌≡◌, true, Some, is_some, is_none, not}
 use Rattle.std.specs.List.{find}
-use Rattle.oe_rows.specs.declared.refusals.Refusal.{Refusal}
-use Rattle.oe_rows.specs.declared.refusals.Refusal.TheVariants.{Reference, NoMemory}
+use Rattle.oe_requests.specs.declared.refusals.Refusal.{Refusal}
+use Rattle.oe_requests.specs.declared.refusals.Refusal.TheVariants.{Reference, NoMemory}
 use Rattle.oe_model.specs.Rows.{Rows, row_at}
 use Rattle.oe_model.specs.Changes.{Change, key_of, changed, Record, record_of}
 use Rattle.oe_model.specs.Meets.{Accepts, Cause, is_insert, referred}

@@ -12,7 +12,7 @@ use crate::updates::{
     update_stock, update_warehouse,
 };
 use oe_records::{Before, Change};
-use oe_rows::Refusal;
+use oe_requests::Refusal;
 use oe_store::Tables;
 
 /// Makes a change of one row and answers its undo record, or says why not.

@@ -6,11 +6,10 @@ ghost use Rattle.oe_records.specs.Befores.{record_of_before};
 ghost use Rattle.oe_store.specs.Stored.{rows};
 ghost use Rattle.oe_change.specs.Applies.{Applies, Refuses, IsFirst};
 
+use oe_keys::{HistoryKey, Key, NewOrderKey, OrderKey, OrderLineKey, StockKey};
 use oe_records::Before;
-use oe_rows::{
-    History, HistoryKey, Key, NewOrder, NewOrderKey, Order, OrderKey, OrderLine, OrderLineKey,
-    Refusal, StockKey,
-};
+use oe_requests::Refusal;
+use oe_rows::{History, NewOrder, Order, OrderLine};
 use oe_store::Tables;
 
 /// Inserts a HISTORY row, which refers to a customer and a district.

@@ -7,11 +7,12 @@ ghost use Rattle.oe_store.specs.Stored.{rows};
 ghost use Rattle.oe_change.specs.Applies.{Applies, Refuses, IsFirst};
 
 use crate::inserts::supply_key;
-use oe_records::Before;
-use oe_rows::{
-    Customer, CustomerKey, District, DistrictKey, Key, NewOrderKey, Order, OrderKey, OrderLine,
-    OrderLineKey, Refusal, Stock, StockKey, Warehouse, WarehouseKey,
+use oe_keys::{
+    CustomerKey, DistrictKey, Key, NewOrderKey, OrderKey, OrderLineKey, StockKey, WarehouseKey,
 };
+use oe_records::Before;
+use oe_requests::Refusal;
+use oe_rows::{Customer, District, Order, OrderLine, Stock, Warehouse};
 use oe_store::Tables;
 
 /// Puts another WAREHOUSE row in the place of a key's.

@@ -5,15 +5,15 @@ use Rattle.std.specs.List.{join_with_byte}
 use Rattle.std.specs.Str.{all_ascii_digits}
 use Rattle.std.proofs.lemmas.Fmt.{decimal_digit, digits_decimal}
 use Rattle.oe_rows.specs.Credit.{money_text}
-use Rattle.oe_rows.specs.Key.{table_name, IsDistrictKey}
-use Rattle.oe_rows.specs.declared.keys.DistrictKey.{DistrictKey}
-use Rattle.oe_rows.specs.declared.keys.Table.{Table}
-use Rattle.oe_rows.specs.declared.keys.Table.TheVariants as table
-use Rattle.oe_rows.specs.declared.requests.CustomerChoice.{CustomerChoice}
-use Rattle.oe_rows.specs.declared.requests.CustomerChoice.TheVariants as choice
-use Rattle.oe_rows.specs.declared.requests.PaymentRequest.{PaymentRequest}
-use Rattle.oe_rows.specs.declared.requests.Request.{Request}
-use Rattle.oe_rows.specs.declared.requests.Request.TheVariants as request
+use Rattle.oe_keys.specs.Key.{table_name, IsDistrictKey}
+use Rattle.oe_keys.specs.declared.keys.DistrictKey.{DistrictKey}
+use Rattle.oe_keys.specs.declared.keys.Table.{Table}
+use Rattle.oe_keys.specs.declared.keys.Table.TheVariants as table
+use Rattle.oe_requests.specs.declared.requests.CustomerChoice.{CustomerChoice}
+use Rattle.oe_requests.specs.declared.requests.CustomerChoice.TheVariants as choice
+use Rattle.oe_requests.specs.declared.requests.PaymentRequest.{PaymentRequest}
+use Rattle.oe_requests.specs.declared.requests.Request.{Request}
+use Rattle.oe_requests.specs.declared.requests.Request.TheVariants as request
 use Rattle.oe_steps.specs.Condition.{condition_number}
 use Rattle.oe_steps.specs.declared.audits.Condition.{Condition}
 use Rattle.oe_steps.specs.declared.audits.Condition.TheVariants as condition

@@ -6,8 +6,8 @@ use Rattle.std.proofs.lemmas.List.Elements.{All-nil, All-cons}
 use Rattle.std.proofs.lemmas.Slice.Eq.{bytes_eq-Decides}
 use Rattle.std.proofs.lemmas.Str.{IsUtf8-from_ascii}
 use Rattle.std.proofs.lemmas.Str.Ascii.{IsAscii-from_all}
-use Rattle.oe_rows.specs.Stamp.{two_digits, date_text, time_text, SaysStamp}
-use Rattle.oe_rows.proofs.StampFacts.{clock_small, year_small, month_small, day_small, says_alone}
+use Rattle.oe_values.specs.Stamp.{two_digits, date_text, time_text, SaysStamp}
+use Rattle.oe_values.proofs.StampFacts.{clock_small, year_small, month_small, day_small, says_alone}
 use Rattle.oe_texts.specs.Stamp.{stamp_text}
 use Rattle.oe_texts.proofs.StampFacts.{stamp_text_says}
 use Rattle.oe_lines.specs.Words.{counted, stamp_of}

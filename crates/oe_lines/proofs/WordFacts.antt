@@ -9,7 +9,7 @@ use Rattle.std.proofs.lemmas.Bool.Decides.{nat_tests}
 use Rattle.std.proofs.lemmas.Slice.Eq.{bytes_eq-Decides}
 use Rattle.std.proofs.lemmas.Fmt.{digits_decimal, digits_value-decimal, length-decimal-le}
 use Rattle.oe_rows.specs.Credit.{money_text}
-use Rattle.oe_rows.specs.Stamp.{two_digits}
+use Rattle.oe_values.specs.Stamp.{two_digits}
 use Rattle.oe_lines.proofs.DigitFacts.{own}
 use Rattle.oe_lines.specs.Words.{◌>>=◌, is_word, parted, decimal_of, within, number_of, digit_pair_of, cents_of, amount_of}
 

@@ -3,12 +3,12 @@ use Rattle.std.specs.Prelude.{◌≡◌, ℕ, ◌<◌, ◌≤◌, List, [], ◌�
 use Rattle.std.specs.Int.{IsInRange}
 use Rattle.std.specs.List.{join_with_byte}
 use Rattle.oe_rows.specs.Credit.{money_text}
-use Rattle.oe_rows.specs.Key.{table_name, IsDistrictKey}
-use Rattle.oe_rows.specs.declared.requests.CustomerChoice.{CustomerChoice}
-use Rattle.oe_rows.specs.declared.requests.CustomerChoice.TheVariants as choice
-use Rattle.oe_rows.specs.declared.requests.PaymentRequest.{PaymentRequest}
-use Rattle.oe_rows.specs.declared.requests.Request.{Request}
-use Rattle.oe_rows.specs.declared.requests.Request.TheVariants as request
+use Rattle.oe_keys.specs.Key.{table_name, IsDistrictKey}
+use Rattle.oe_requests.specs.declared.requests.CustomerChoice.{CustomerChoice}
+use Rattle.oe_requests.specs.declared.requests.CustomerChoice.TheVariants as choice
+use Rattle.oe_requests.specs.declared.requests.PaymentRequest.{PaymentRequest}
+use Rattle.oe_requests.specs.declared.requests.Request.{Request}
+use Rattle.oe_requests.specs.declared.requests.Request.TheVariants as request
 use Rattle.oe_steps.specs.Condition.{condition_number}
 use Rattle.oe_steps.specs.declared.audits.Condition.{Condition}
 use Rattle.oe_steps.specs.declared.audits.Condition.TheVariants as condition

@@ -1,12 +1,12 @@
 -- Reading a line from its front, as functions on lists.
 use Rattle.std.specs.Prelude.{ℕ, List, Option, Some, None, codes, if◌then◌else◌}
 use Rattle.std.specs.Option.{option_map}
-use Rattle.oe_rows.specs.declared.keys.DistrictKey.{DistrictKey}
-use Rattle.oe_rows.specs.declared.keys.Table.{Table}
-use Rattle.oe_rows.specs.declared.keys.Table.TheVariants as table
-use Rattle.oe_rows.specs.declared.requests.CustomerChoice.TheVariants as choice
-use Rattle.oe_rows.specs.declared.requests.PaymentRequest.{PaymentRequest}
-use Rattle.oe_rows.specs.declared.requests.Request.TheVariants as request
+use Rattle.oe_keys.specs.declared.keys.DistrictKey.{DistrictKey}
+use Rattle.oe_keys.specs.declared.keys.Table.{Table}
+use Rattle.oe_keys.specs.declared.keys.Table.TheVariants as table
+use Rattle.oe_requests.specs.declared.requests.CustomerChoice.TheVariants as choice
+use Rattle.oe_requests.specs.declared.requests.PaymentRequest.{PaymentRequest}
+use Rattle.oe_requests.specs.declared.requests.Request.TheVariants as request
 use Rattle.oe_steps.specs.declared.audits.Condition.{Condition}
 use Rattle.oe_steps.specs.declared.audits.Condition.TheVariants as condition
 use Rattle.oe_lines.specs.declared.commands.Command.{Command}

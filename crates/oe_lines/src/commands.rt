@@ -1,7 +1,9 @@
 //! What a line of a script asks for.
 
-use oe_rows::{Moment, Number, Request, Table, Terminal};
+use oe_keys::Table;
+use oe_requests::Request;
 use oe_steps::Condition;
+use oe_values::{Moment, Number, Terminal};
 
 /// How many extents the undo ring has.
 pub type ExtentCount = Number<2, 4_096>;

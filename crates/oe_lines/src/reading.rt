@@ -7,8 +7,10 @@ ghost use Rattle.oe_lines.specs.Reading.{command_of, verb_of, terminal_verb_of, 
 
 use crate::commands::{Command, MomentChoice, Scale};
 use crate::words::{amount, decimal, is_word, number, part, stamp};
-use oe_rows::{CustomerChoice, DistrictKey, Moment, PaymentRequest, Request, Table};
+use oe_keys::{DistrictKey, Table};
+use oe_requests::{CustomerChoice, PaymentRequest, Request};
 use oe_steps::Condition;
+use oe_values::Moment;
 
 /// What a line asks for, where it is one of the forms. The line stands without its end, which is byte 10.
 pub fn command(line: &[u8]) -> Option<Command>

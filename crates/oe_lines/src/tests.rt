@@ -1,9 +1,9 @@
 //! Lines at the ends of their ranges, just past them, and hostile ones.
 use super::*;
-use oe_rows::{
-    CustomerChoice, DistrictKey, Moment, Number, PaymentRequest, Request, Stamp, Table, Terminal,
-};
+use oe_keys::{DistrictKey, Table};
+use oe_requests::{CustomerChoice, PaymentRequest, Request};
 use oe_steps::Condition;
+use oe_values::{Moment, Number, Stamp, Terminal};
 use std::process::Abort;
 use std::test::Fail;
 

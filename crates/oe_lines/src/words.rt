@@ -6,7 +6,7 @@ ghost use Rattle.std.specs.Str.Parse.{digits_value};
 ghost use Rattle.oe_lines.specs.Words.{is_word, parted, decimal_of, within, number_of, digit_pair_of, cents_of, amount_of, stamp_of};
 
 use itoa::Buffer;
-use oe_rows::{Number, Stamp};
+use oe_values::{Number, Stamp};
 use std::str;
 
 /// Whether two texts are one.

@@ -6,10 +6,10 @@ use Rattle.std.proofs.Math.Seq.{map-set_same}
 use Rattle.std.specs.List.{All, AllByRecursion}
 use Rattle.std.specs.HashMap.{HashMap}
 use Rattle.std.specs.Map.{lookup}
-use Rattle.oe_rows.specs.declared.locks.Name.{Name}
-use Rattle.oe_rows.specs.declared.locks.Mode.{Mode}
-use Rattle.oe_rows.specs.declared.locks.Mode.TheVariants.{Shared, Exclusive}
-use Rattle.oe_rows.specs.contracts.locks.NamePartialEq.TheImpl.{ghosts}
+use Rattle.oe_keys.specs.declared.locks.Name.{Name}
+use Rattle.oe_keys.specs.declared.locks.Mode.{Mode}
+use Rattle.oe_keys.specs.declared.locks.Mode.TheVariants.{Shared, Exclusive}
+use Rattle.oe_keys.specs.contracts.locks.NamePartialEq.TheImpl.{ghosts}
 use Rattle.oe_locks.specs.Held.{is_name, held, by_terminal, risen, IsIdle, OthersKeep, IsBelow}
 use Rattle.oe_locks.proofs.NameFacts.{eq_is_name, lookup_is_name, name_true, name_sym}
 

@@ -3,9 +3,9 @@
 #![tactic(auto)]
 
 ghost use Rattle.std.specs.Prelude.{◌≡◌, ◌+◌, ◌<◌, MatchOption, OnOk, OnErr, IfOk, IfErr, IsSome, not, None, if◌then◌else◌};
-ghost use Rattle.oe_rows.specs.declared.locks.Name.{Name as LockName};
-ghost use Rattle.oe_rows.specs.declared.refusals.Refusal.TheVariants.{NoMemory};
-ghost use Rattle.oe_rows.specs.contracts.locks.NamePartialEq.TheImpl.{ghosts};
+ghost use Rattle.oe_keys.specs.declared.locks.Name.{Name as LockName};
+ghost use Rattle.oe_requests.specs.declared.refusals.Refusal.TheVariants.{NoMemory};
+ghost use Rattle.oe_keys.specs.contracts.locks.NamePartialEq.TheImpl.{ghosts};
 ghost use Rattle.indexmap.specs.IndexMap.{get};
 ghost use Rattle.oe_locks.specs.Held.{go_together, held, IsIdle, IsFreeFor, IsInTheWay, Takes, GivesBack, HoldsNothing, OthersKeep, IsCause, IsBelow};
 
@@ -14,7 +14,9 @@ mod modes;
 mod tests;
 
 use indexmap::IndexMap;
-use oe_rows::{Mode, Name, Refusal, Terminal};
+use oe_keys::{Mode, Name};
+use oe_requests::Refusal;
+use oe_values::Terminal;
 use std::alloc::{AllocError, Global};
 use std::marker::Model;
 

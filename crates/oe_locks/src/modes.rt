@@ -2,7 +2,7 @@
 ghost use Rattle.std.specs.Prelude.{◌≡◌};
 ghost use Rattle.oe_locks.specs.Held.{go_together, risen};
 
-use oe_rows::Mode;
+use oe_keys::Mode;
 
 /// Whether another terminal may hold a name so, beside one that holds it in the mode.
 pub fn go_together(mode: Mode, other: Option<Mode>) -> bool

@@ -1,8 +1,7 @@
 use crate::Locks;
-use oe_rows::{
-    DistrictKey, DistrictNumber, ItemNumber, Mode, Name, Refusal, StockKey, Terminal, WarehouseKey,
-    WarehouseNumber,
-};
+use oe_keys::{DistrictKey, Mode, Name, StockKey, WarehouseKey};
+use oe_requests::Refusal;
+use oe_values::{DistrictNumber, ItemNumber, Terminal, WarehouseNumber};
 use std::process::Abort;
 use std::test::Fail;
 

@@ -3,7 +3,7 @@ use Rattle.std.proofs.Common.{◌≡◌, ℕ, suc, ◌≤◌, refl, sym, ◌∙�
 use Rattle.std.specs.Prelude.{◌==◌}
 use Rattle.std.proofs.lemmas.Bool.{eqb-true, eq-eqb}
 use Rattle.oe_theory.specs.World.{bump}
-use Rattle.oe_rows.specs.declared.refusals.Column.{Column}
+use Rattle.oe_requests.specs.declared.refusals.Column.{Column}
 use Rattle.oe_model.specs.Effects.{◌>>=◌, first_out, in_range}
 use Rattle.oe_model.proofs.EntryFacts.{EachOf}
 

@@ -7,17 +7,17 @@ use Rattle.std.specs.Cmp.Lexicographic.{slice_cmp}
 use Rattle.oe_theory.specs.Machine.{Mode, Shared, Exclusive, Guard, Free, Under, Own, Ask, Take, Go, Tx, Hold}
 use Rattle.oe_theory.specs.World.{IsEnough}
 use Rattle.oe_theory.specs.Laws.{IsAsked, all_held, Holds, with_asked, MayRead, MayWrite, Alike, IsSameEver}
-use Rattle.oe_rows.specs.declared.keys.WarehouseKey.{WarehouseKey}
-use Rattle.oe_rows.specs.declared.keys.DistrictKey.{DistrictKey}
-use Rattle.oe_rows.specs.declared.keys.CustomerKey.{CustomerKey}
-use Rattle.oe_rows.specs.declared.keys.HistoryKey.{HistoryKey}
-use Rattle.oe_rows.specs.declared.keys.NewOrderKey.{NewOrderKey}
-use Rattle.oe_rows.specs.declared.keys.OrderKey.{OrderKey}
-use Rattle.oe_rows.specs.declared.keys.OrderLineKey.{OrderLineKey}
-use Rattle.oe_rows.specs.declared.keys.ItemKey.{ItemKey}
-use Rattle.oe_rows.specs.declared.keys.StockKey.{StockKey}
-use Rattle.oe_rows.specs.declared.keys.Key.{Key}
-use Rattle.oe_rows.specs.declared.keys.Key.TheVariants as key
+use Rattle.oe_keys.specs.declared.keys.WarehouseKey.{WarehouseKey}
+use Rattle.oe_keys.specs.declared.keys.DistrictKey.{DistrictKey}
+use Rattle.oe_keys.specs.declared.keys.CustomerKey.{CustomerKey}
+use Rattle.oe_keys.specs.declared.keys.HistoryKey.{HistoryKey}
+use Rattle.oe_keys.specs.declared.keys.NewOrderKey.{NewOrderKey}
+use Rattle.oe_keys.specs.declared.keys.OrderKey.{OrderKey}
+use Rattle.oe_keys.specs.declared.keys.OrderLineKey.{OrderLineKey}
+use Rattle.oe_keys.specs.declared.keys.ItemKey.{ItemKey}
+use Rattle.oe_keys.specs.declared.keys.StockKey.{StockKey}
+use Rattle.oe_keys.specs.declared.keys.Key.{Key}
+use Rattle.oe_keys.specs.declared.keys.Key.TheVariants as key
 use Rattle.oe_rows.specs.declared.warehouses.Warehouse.{Warehouse}
 use Rattle.oe_rows.specs.declared.districts.District.{District}
 use Rattle.oe_rows.specs.declared.customers.Customer.{Customer}
@@ -25,16 +25,16 @@ use Rattle.oe_rows.specs.declared.orders.Order.{Order}
 use Rattle.oe_rows.specs.declared.items.Stock.{Stock}
 use Rattle.oe_rows.specs.declared.rows.Row.{Row}
 use Rattle.oe_rows.specs.declared.rows.Row.TheVariants as row
-use Rattle.oe_rows.specs.declared.locks.Name.{Name}
-use Rattle.oe_rows.specs.declared.locks.Name.TheVariants as name
-use Rattle.oe_rows.specs.declared.requests.CustomerChoice.{CustomerChoice}
-use Rattle.oe_rows.specs.declared.requests.CustomerChoice.TheVariants.{Number, LastName}
-use Rattle.oe_rows.specs.declared.requests.Request.{Request}
-use Rattle.oe_rows.specs.declared.requests.Query.{Query}
-use Rattle.oe_rows.specs.declared.requests.Query.TheVariants.{Status, Level}
-use Rattle.oe_rows.specs.declared.refusals.Column.{Column}
-use Rattle.oe_rows.specs.declared.refusals.Refusal.{Refusal}
-use Rattle.oe_rows.specs.declared.refusals.Refusal.TheVariants.{NoSuchRow}
+use Rattle.oe_keys.specs.declared.locks.Name.{Name}
+use Rattle.oe_keys.specs.declared.locks.Name.TheVariants as name
+use Rattle.oe_requests.specs.declared.requests.CustomerChoice.{CustomerChoice}
+use Rattle.oe_requests.specs.declared.requests.CustomerChoice.TheVariants.{Number, LastName}
+use Rattle.oe_requests.specs.declared.requests.Request.{Request}
+use Rattle.oe_requests.specs.declared.requests.Query.{Query}
+use Rattle.oe_requests.specs.declared.requests.Query.TheVariants.{Status, Level}
+use Rattle.oe_requests.specs.declared.refusals.Column.{Column}
+use Rattle.oe_requests.specs.declared.refusals.Refusal.{Refusal}
+use Rattle.oe_requests.specs.declared.refusals.Refusal.TheVariants.{NoSuchRow}
 use Rattle.oe_model.specs.Keys.{customer_in, customer_of_order, order_of_new_order, order_of_line, supply_of_line}
 use Rattle.oe_model.specs.Rows.{Rows, row_at, as_customer}
 use Rattle.oe_model.specs.Changes.{Change, InsertHistory, InsertNewOrder, InsertOrder, InsertOrderLine, UpdateWarehouse, UpdateDistrict, UpdateCustomer, UpdateOrder, UpdateOrderLine, UpdateStock, DeleteNewOrder, key_of, row_of}

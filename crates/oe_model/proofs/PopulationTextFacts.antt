@@ -6,7 +6,7 @@ use Rattle.std.proofs.lemmas.Bool.{leb-true, and_parts}
 use Rattle.std.proofs.lemmas.List.{length-append}
 use Rattle.std.proofs.lemmas.List.Elements.{All-append}
 use Rattle.std.proofs.lemmas.List.FromFn.{length-map-range_with_len, get_or-map-range_with_len}
-use Rattle.oe_rows.specs.Text.{IsPrintable, IsText}
+use Rattle.oe_values.specs.Text.{IsPrintable, IsText}
 use Rattle.oe_model.specs.Population.{dec, letters, syllables, syllable, last_name, dist_text}
 
 abbrev is_printable : ℕ → Bool

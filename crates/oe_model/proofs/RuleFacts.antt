@@ -5,11 +5,11 @@ use Rattle.std.proofs.lemmas.Int.{ints}
 use Rattle.std.proofs.lemmas.Bool.{leb-true, leb-false, eqb-true, eq-eqb}
 use Rattle.std.proofs.lemmas.List.Sums.{sum_by-cons}
 use Rattle.oe_rows.specs.Credit.{credit_entry}
-use Rattle.oe_rows.specs.declared.keys.StockKey.{StockKey}
+use Rattle.oe_keys.specs.declared.keys.StockKey.{StockKey}
 use Rattle.oe_rows.specs.declared.customers.Credit.{Credit}
 use Rattle.oe_rows.specs.declared.customers.Credit.TheVariants.{Good, Bad}
 use Rattle.oe_rows.specs.declared.items.Stock.{Stock}
-use Rattle.oe_rows.specs.declared.requests.PaymentRequest.{PaymentRequest}
+use Rattle.oe_requests.specs.declared.requests.PaymentRequest.{PaymentRequest}
 use Rattle.oe_model.specs.Keys.{customer_in}
 use Rattle.oe_model.specs.Payment.{paid_data}
 use Rattle.oe_model.specs.NewOrder.{supplied, asked, begins_with, occurs_in}

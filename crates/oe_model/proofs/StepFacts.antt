@@ -3,12 +3,12 @@ use Rattle.std.proofs.Common.{◌≡◌, refl, sym, ◌∙◌, ap, subst, Option
 use Rattle.std.specs.Prelude.{option_map}
 use Rattle.oe_theory.specs.Machine.{Mode, Ask, Stop, Take, Tx}
 use Rattle.oe_theory.specs.Laws.{IsAsked, all_held, Ends, stops_here, fails_here}
-use Rattle.oe_rows.specs.declared.locks.Name.{Name}
-use Rattle.oe_rows.specs.declared.requests.Request.{Request}
-use Rattle.oe_rows.specs.declared.replies.Reply.{Reply}
-use Rattle.oe_rows.specs.declared.refusals.Column.{Column}
-use Rattle.oe_rows.specs.declared.refusals.Refusal.{Refusal}
-use Rattle.oe_rows.specs.declared.refusals.Refusal.TheVariants.{Overflow}
+use Rattle.oe_keys.specs.declared.locks.Name.{Name}
+use Rattle.oe_requests.specs.declared.requests.Request.{Request}
+use Rattle.oe_requests.specs.declared.replies.Reply.{Reply}
+use Rattle.oe_requests.specs.declared.refusals.Column.{Column}
+use Rattle.oe_requests.specs.declared.refusals.Refusal.{Refusal}
+use Rattle.oe_requests.specs.declared.refusals.Refusal.TheVariants.{Overflow}
 use Rattle.oe_model.specs.Rows.{Rows}
 use Rattle.oe_model.specs.Meets.{Accepts}
 use Rattle.oe_model.specs.Places.{Place}

@@ -1,10 +1,10 @@
 -- The words of whole effects and of programs' rows: what may be missing, and what may leave its range.
 use Rattle.std.specs.Prelude.{Bool, cond, List, [], ◌∷◌, Option, None, Some}
 use Rattle.oe_theory.specs.Machine.{Act, Fail}
-use Rattle.oe_rows.specs.declared.replies.Reply.{Reply}
-use Rattle.oe_rows.specs.declared.refusals.Column.{Column}
-use Rattle.oe_rows.specs.declared.refusals.Refusal.{Refusal}
-use Rattle.oe_rows.specs.declared.refusals.Refusal.TheVariants.{Overflow}
+use Rattle.oe_requests.specs.declared.replies.Reply.{Reply}
+use Rattle.oe_requests.specs.declared.refusals.Column.{Column}
+use Rattle.oe_requests.specs.declared.refusals.Refusal.{Refusal}
+use Rattle.oe_requests.specs.declared.refusals.Refusal.TheVariants.{Overflow}
 use Rattle.oe_model.specs.Changes.{Change}
 use Rattle.oe_model.specs.Places.{Place}
 

@@ -2,12 +2,12 @@
 use Rattle.std.specs.Prelude.{ℕ, List}
 use Rattle.oe_rows.specs.declared.customers.Credit.{Credit}
 use Rattle.oe_rows.specs.declared.orders.OrderLine.{OrderLine}
-use Rattle.oe_rows.specs.declared.requests.PaymentRequest.{PaymentRequest}
-use Rattle.oe_rows.specs.declared.requests.RequestLine.{RequestLine}
-use Rattle.oe_rows.specs.declared.requests.NewOrderRequest.{NewOrderRequest}
-use Rattle.oe_rows.specs.declared.requests.DeliveryRequest.{DeliveryRequest}
-use Rattle.oe_rows.specs.declared.replies.PaymentReply.{PaymentReply}
-use Rattle.oe_rows.specs.declared.replies.LineReply.{LineReply}
+use Rattle.oe_requests.specs.declared.requests.PaymentRequest.{PaymentRequest}
+use Rattle.oe_requests.specs.declared.requests.RequestLine.{RequestLine}
+use Rattle.oe_requests.specs.declared.requests.NewOrderRequest.{NewOrderRequest}
+use Rattle.oe_requests.specs.declared.requests.DeliveryRequest.{DeliveryRequest}
+use Rattle.oe_requests.specs.declared.replies.PaymentReply.{PaymentReply}
+use Rattle.oe_requests.specs.declared.replies.LineReply.{LineReply}
 
 pub data PaymentPlace : Type 0 where
   PaymentWarehouse : PaymentPlace

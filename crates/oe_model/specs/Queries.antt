@@ -4,26 +4,26 @@ use Rattle.std.specs.List.{list_any}
 use Rattle.std.specs.Ordering.{eq_by_cmp}
 use Rattle.std.specs.FinMap.{FinMap, get, entries}
 use Rattle.oe_theory.specs.Machine.{Outcome, Here, Missing}
-use Rattle.oe_rows.specs.Key.{district_cmp, customer_cmp, order_cmp, order_line_cmp}
-use Rattle.oe_rows.specs.declared.keys.DistrictKey.{DistrictKey}
-use Rattle.oe_rows.specs.declared.keys.CustomerKey.{CustomerKey}
-use Rattle.oe_rows.specs.declared.keys.OrderKey.{OrderKey}
-use Rattle.oe_rows.specs.declared.keys.OrderLineKey.{OrderLineKey}
-use Rattle.oe_rows.specs.declared.keys.StockKey.{StockKey}
-use Rattle.oe_rows.specs.declared.keys.Key.TheVariants as key
+use Rattle.oe_keys.specs.Key.{district_cmp, customer_cmp, order_cmp, order_line_cmp}
+use Rattle.oe_keys.specs.declared.keys.DistrictKey.{DistrictKey}
+use Rattle.oe_keys.specs.declared.keys.CustomerKey.{CustomerKey}
+use Rattle.oe_keys.specs.declared.keys.OrderKey.{OrderKey}
+use Rattle.oe_keys.specs.declared.keys.OrderLineKey.{OrderLineKey}
+use Rattle.oe_keys.specs.declared.keys.StockKey.{StockKey}
+use Rattle.oe_keys.specs.declared.keys.Key.TheVariants as key
 use Rattle.oe_rows.specs.declared.orders.Order.{Order}
 use Rattle.oe_rows.specs.declared.orders.OrderLine.{OrderLine}
 use Rattle.oe_rows.specs.declared.items.Stock.{Stock}
-use Rattle.oe_rows.specs.declared.requests.StatusQuery.{StatusQuery}
-use Rattle.oe_rows.specs.declared.requests.LevelQuery.{LevelQuery}
-use Rattle.oe_rows.specs.declared.requests.Query.{Query}
-use Rattle.oe_rows.specs.declared.requests.Query.TheVariants.{Status, Level}
-use Rattle.oe_rows.specs.declared.replies.StatusLine.{StatusLine}
-use Rattle.oe_rows.specs.declared.replies.OrderStatus.{OrderStatus}
-use Rattle.oe_rows.specs.declared.replies.QueryReply.{QueryReply}
-use Rattle.oe_rows.specs.declared.replies.QueryReply.TheVariants as told
-use Rattle.oe_rows.specs.declared.refusals.Refusal.{Refusal}
-use Rattle.oe_rows.specs.declared.refusals.Refusal.TheVariants.{NoSuchRow, NoCustomer}
+use Rattle.oe_requests.specs.declared.requests.StatusQuery.{StatusQuery}
+use Rattle.oe_requests.specs.declared.requests.LevelQuery.{LevelQuery}
+use Rattle.oe_requests.specs.declared.requests.Query.{Query}
+use Rattle.oe_requests.specs.declared.requests.Query.TheVariants.{Status, Level}
+use Rattle.oe_requests.specs.declared.replies.StatusLine.{StatusLine}
+use Rattle.oe_requests.specs.declared.replies.OrderStatus.{OrderStatus}
+use Rattle.oe_requests.specs.declared.replies.QueryReply.{QueryReply}
+use Rattle.oe_requests.specs.declared.replies.QueryReply.TheVariants as told
+use Rattle.oe_requests.specs.declared.refusals.Refusal.{Refusal}
+use Rattle.oe_requests.specs.declared.refusals.Refusal.TheVariants.{NoSuchRow, NoCustomer}
 use Rattle.oe_model.specs.Keys.{district_of_order, order_of_line, customer_in, customer_of_order}
 use Rattle.oe_model.specs.Rows.{Rows}
 use Rattle.oe_model.specs.Choice.{chosen}

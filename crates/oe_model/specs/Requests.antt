@@ -2,24 +2,24 @@
 use Rattle.std.specs.Prelude.{ℕ, ◌<◌, cond, is_some, nat_le, List, [], ◌∷◌, map, length, Option, None, Some}
 use Rattle.std.specs.List.{All}
 use Rattle.std.specs.Int.{IsInRange}
-use Rattle.oe_rows.specs.Text.{IsLastName}
-use Rattle.oe_rows.specs.declared.keys.WarehouseKey.{WarehouseKey}
-use Rattle.oe_rows.specs.declared.keys.DistrictKey.{DistrictKey}
-use Rattle.oe_rows.specs.declared.keys.Key.TheVariants as key
-use Rattle.oe_rows.specs.declared.requests.CustomerChoice.{CustomerChoice}
-use Rattle.oe_rows.specs.declared.requests.CustomerChoice.TheVariants.{Number, LastName}
-use Rattle.oe_rows.specs.declared.requests.PaymentRequest.{PaymentRequest}
-use Rattle.oe_rows.specs.declared.requests.RequestLine.{RequestLine}
-use Rattle.oe_rows.specs.declared.requests.NewOrderRequest.{NewOrderRequest}
-use Rattle.oe_rows.specs.declared.requests.DeliveryRequest.{DeliveryRequest}
-use Rattle.oe_rows.specs.declared.requests.Request.{Request}
-use Rattle.oe_rows.specs.declared.requests.Request.TheVariants as request
-use Rattle.oe_rows.specs.declared.requests.Query.{Query}
-use Rattle.oe_rows.specs.declared.requests.Query.TheVariants.{Status, Level}
-use Rattle.oe_rows.specs.declared.refusals.Column.{Column}
-use Rattle.oe_rows.specs.declared.refusals.Column.TheVariants as column
-use Rattle.oe_rows.specs.declared.refusals.Refusal.{Refusal}
-use Rattle.oe_rows.specs.declared.refusals.Refusal.TheVariants.{NoSuchRow, Overflow, InvalidItem, NoCustomer}
+use Rattle.oe_values.specs.Text.{IsLastName}
+use Rattle.oe_keys.specs.declared.keys.WarehouseKey.{WarehouseKey}
+use Rattle.oe_keys.specs.declared.keys.DistrictKey.{DistrictKey}
+use Rattle.oe_keys.specs.declared.keys.Key.TheVariants as key
+use Rattle.oe_requests.specs.declared.requests.CustomerChoice.{CustomerChoice}
+use Rattle.oe_requests.specs.declared.requests.CustomerChoice.TheVariants.{Number, LastName}
+use Rattle.oe_requests.specs.declared.requests.PaymentRequest.{PaymentRequest}
+use Rattle.oe_requests.specs.declared.requests.RequestLine.{RequestLine}
+use Rattle.oe_requests.specs.declared.requests.NewOrderRequest.{NewOrderRequest}
+use Rattle.oe_requests.specs.declared.requests.DeliveryRequest.{DeliveryRequest}
+use Rattle.oe_requests.specs.declared.requests.Request.{Request}
+use Rattle.oe_requests.specs.declared.requests.Request.TheVariants as request
+use Rattle.oe_requests.specs.declared.requests.Query.{Query}
+use Rattle.oe_requests.specs.declared.requests.Query.TheVariants.{Status, Level}
+use Rattle.oe_requests.specs.declared.refusals.Column.{Column}
+use Rattle.oe_requests.specs.declared.refusals.Column.TheVariants as column
+use Rattle.oe_requests.specs.declared.refusals.Refusal.{Refusal}
+use Rattle.oe_requests.specs.declared.refusals.Refusal.TheVariants.{NoSuchRow, Overflow, InvalidItem, NoCustomer}
 use Rattle.oe_model.specs.Rows.{Rows, row_at}
 
 abbrev pub IsDistrict : DistrictKey → Type 0

@@ -1,8 +1,8 @@
 -- The laws of rows, changes and undo records.
 use Rattle.std.specs.Prelude.{◌≡◌, true, cond, Option, ◌⊎◌}
-use Rattle.oe_rows.specs.declared.keys.Key.{Key}
+use Rattle.oe_keys.specs.declared.keys.Key.{Key}
 use Rattle.oe_rows.specs.declared.rows.Row.{Row}
-use Rattle.oe_rows.specs.declared.refusals.Refusal.{Refusal}
+use Rattle.oe_requests.specs.declared.refusals.Refusal.{Refusal}
 use Rattle.oe_model.specs.Rows.{Rows, is_key, row_at}
 use Rattle.oe_model.specs.Changes.{Change, key_of, row_of, changed, Record, record_of, record_key, row_before, put_back, redo}
 use Rattle.oe_model.specs.Meets.{Meets, Accepts, Cause}

@@ -1,18 +1,18 @@
 -- The server's machine: tables, locks, programs and whole effects, as the theory of transactions takes them.
 use Rattle.std.specs.Prelude.{ℕ, Bool, true, false, List, [], Option, None}
 use Rattle.oe_theory.specs.Machine.{Machine, Ask, Stop, Fail, Tx, Hold}
-use Rattle.oe_rows.specs.declared.keys.Key.{Key}
+use Rattle.oe_keys.specs.declared.keys.Key.{Key}
 use Rattle.oe_rows.specs.declared.rows.Row.{Row}
-use Rattle.oe_rows.specs.declared.locks.Name.{Name}
-use Rattle.oe_rows.specs.declared.requests.CustomerChoice.{CustomerChoice}
-use Rattle.oe_rows.specs.declared.requests.CustomerChoice.TheVariants.{Number, LastName}
-use Rattle.oe_rows.specs.declared.requests.Request.{Request}
-use Rattle.oe_rows.specs.declared.requests.Request.TheVariants as request
-use Rattle.oe_rows.specs.declared.requests.Query.{Query}
-use Rattle.oe_rows.specs.declared.replies.Reply.{Reply}
-use Rattle.oe_rows.specs.declared.replies.QueryReply.{QueryReply}
-use Rattle.oe_rows.specs.declared.refusals.Refusal.{Refusal}
-use Rattle.oe_rows.specs.declared.refusals.Refusal.TheVariants.{NoCustomer, Overflow, NotOpen}
+use Rattle.oe_keys.specs.declared.locks.Name.{Name}
+use Rattle.oe_requests.specs.declared.requests.CustomerChoice.{CustomerChoice}
+use Rattle.oe_requests.specs.declared.requests.CustomerChoice.TheVariants.{Number, LastName}
+use Rattle.oe_requests.specs.declared.requests.Request.{Request}
+use Rattle.oe_requests.specs.declared.requests.Request.TheVariants as request
+use Rattle.oe_requests.specs.declared.requests.Query.{Query}
+use Rattle.oe_requests.specs.declared.replies.Reply.{Reply}
+use Rattle.oe_requests.specs.declared.replies.QueryReply.{QueryReply}
+use Rattle.oe_requests.specs.declared.refusals.Refusal.{Refusal}
+use Rattle.oe_requests.specs.declared.refusals.Refusal.TheVariants.{NoCustomer, Overflow, NotOpen}
 use Rattle.oe_model.specs.Rows.{Rows, is_key, row_at}
 use Rattle.oe_model.specs.Changes.{Change, key_of, row_of, changed, Record, record_of, record_key, row_before, put_back, redo}
 use Rattle.oe_model.specs.Meets.{Accepts}

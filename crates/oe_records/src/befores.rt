@@ -2,13 +2,13 @@
 ghost use Rattle.std.specs.Prelude.{◌≡◌};
 ghost use Rattle.oe_model.specs.Changes.{record_key};
 
-use oe_rows::customers::Customer;
-use oe_rows::districts::District;
-use oe_rows::items::Stock;
-use oe_rows::keys::{
+use oe_keys::keys::{
     CustomerKey, DistrictKey, HistoryKey, Key, NewOrderKey, OrderKey, OrderLineKey, StockKey,
     WarehouseKey,
 };
+use oe_rows::customers::Customer;
+use oe_rows::districts::District;
+use oe_rows::items::Stock;
 use oe_rows::orders::{Order, OrderLine};
 use oe_rows::warehouses::Warehouse;
 

@@ -1,12 +1,12 @@
 //! Each call once, at a row that can and at one that can't be copied by assignment.
 use crate::{Before, Change};
-use oe_rows::keys::{HistoryKey, NewOrderKey, OrderLineKey};
-use oe_rows::numbers::{
+use oe_keys::keys::{HistoryKey, NewOrderKey, OrderLineKey};
+use oe_rows::orders::OrderLine;
+use oe_values::numbers::{
     DistrictNumber, HistoryPlace, HistoryTerminal, ItemNumber, LineAmount, LineNumber,
     LineQuantity, OrderNumber, TransactionNumber, WarehouseNumber,
 };
-use oe_rows::orders::OrderLine;
-use oe_rows::texts::Text;
+use oe_values::texts::Text;
 use std::test::Fail;
 
 fn new_order_key() -> Option<NewOrderKey> {

@@ -5,7 +5,7 @@ use Rattle.std.specs.List.{All, join_with_byte}
 use Rattle.std.proofs.lemmas.Fmt.{decimal_digit, decimal_by_steps}
 use Rattle.std.proofs.lemmas.List.Elements.{All-append, All-push, All-cons, All-nil, All-from_recursion}
 use Rattle.oe_rows.specs.Credit.{money_text}
-use Rattle.oe_rows.specs.Text.{IsPrintable}
+use Rattle.oe_values.specs.Text.{IsPrintable}
 
 -- the units, a point and two digits are an amount of money
 pub money_pieces : (old : List ℕ) (c : ℕ) → ((old ++ decimal (c / 100) ++ 46 ∷ []) ++ decimal (c % 100 / 10)) ++ decimal (c % 10) ≡ old ++ money_text c

@@ -2,7 +2,7 @@
 -- (clause 2.5.2.2).
 use Rattle.std.specs.Prelude.{ℕ, ◌+◌, ◌-◌, ◌*◌, ◌/◌, ◌%◌, List, [], ◌∷◌, ◌++◌, take, sum, decimal}
 use Rattle.std.specs.List.{join_with_byte}
-use Rattle.oe_rows.specs.Stamp.{two_digits}
+use Rattle.oe_values.specs.Stamp.{two_digits}
 use Rattle.oe_rows.specs.declared.credits.CreditIds.{CreditIds}
 
 -- the total of an order in cents, of its lines' amounts; rates are in ten-thousandths, and a half cent rounds up

@@ -1,7 +1,7 @@
 -- The ranges of the columns of customers (clause 1.3.1). C_CREDIT is `GC` or `BC` by its type.
 use Rattle.std.specs.Prelude.{◌≤◌, ◌<◌}
-use Rattle.oe_rows.specs.Number.{IsWithin}
-use Rattle.oe_rows.specs.Text.{IsText}
+use Rattle.oe_values.specs.Number.{IsWithin}
+use Rattle.oe_values.specs.Text.{IsText}
 use Rattle.oe_rows.specs.Warehouse.{IsAddress}
 use Rattle.oe_rows.specs.declared.customers.CustomerName.{CustomerName}
 use Rattle.oe_rows.specs.declared.customers.Account.{Account}

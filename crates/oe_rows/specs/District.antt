@@ -1,7 +1,7 @@
 -- The ranges of the columns of districts (clause 1.3.1).
 use Rattle.std.specs.Prelude.{◌≤◌}
 use Rattle.std.specs.Int.{IsInRange}
-use Rattle.oe_rows.specs.Text.{IsText}
+use Rattle.oe_values.specs.Text.{IsText}
 use Rattle.oe_rows.specs.Warehouse.{IsAddress}
 use Rattle.oe_rows.specs.declared.districts.District.{District}
 

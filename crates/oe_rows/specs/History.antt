@@ -1,7 +1,7 @@
 -- The ranges of the columns of histories (clause 1.3.1).
 use Rattle.std.specs.Prelude.{◌≤◌, ◌<◌}
-use Rattle.oe_rows.specs.Key.{IsCustomerKey, IsDistrictKey}
-use Rattle.oe_rows.specs.Text.{IsText}
+use Rattle.oe_keys.specs.Key.{IsCustomerKey, IsDistrictKey}
+use Rattle.oe_values.specs.Text.{IsText}
 use Rattle.oe_rows.specs.declared.histories.History.{History}
 
 pub record IsHistory (h : History) : Type 0 where

@@ -2,7 +2,7 @@
 use Rattle.std.specs.Prelude.{◌≡◌, ◌≤◌, length}
 use Rattle.std.specs.Int.{IsInRange}
 use Rattle.std.specs.List.{All}
-use Rattle.oe_rows.specs.Text.{IsText}
+use Rattle.oe_values.specs.Text.{IsText}
 use Rattle.oe_rows.specs.declared.items.Item.{Item}
 use Rattle.oe_rows.specs.declared.items.Stock.{Stock}
 

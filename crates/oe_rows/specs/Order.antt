@@ -1,7 +1,7 @@
 -- The ranges of the columns of orders and of their lines (clause 1.3.1). O_ALL_LOCAL is 0 or 1 by its type.
 use Rattle.std.specs.Prelude.{◌≤◌, ◌<◌, IfSome}
 use Rattle.std.specs.Int.{IsInRange}
-use Rattle.oe_rows.specs.Text.{IsText}
+use Rattle.oe_values.specs.Text.{IsText}
 use Rattle.oe_rows.specs.declared.orders.Order.{Order}
 use Rattle.oe_rows.specs.declared.orders.OrderLine.{OrderLine}
 

@@ -1,6 +1,6 @@
 -- The ranges of the columns of addresses and of warehouses (clause 1.3.1).
 use Rattle.std.specs.Prelude.{◌≤◌}
-use Rattle.oe_rows.specs.Text.{IsText}
+use Rattle.oe_values.specs.Text.{IsText}
 use Rattle.oe_rows.specs.declared.warehouses.Address.{Address}
 use Rattle.oe_rows.specs.declared.warehouses.Warehouse.{Warehouse}
 

@@ -3,13 +3,13 @@ ghost use Rattle.std.specs.Prelude.{◌≡◌, ◌+◌, ◌*◌, ◌≤◌, ◌�
 ghost use Rattle.std.specs.List.{All};
 ghost use Rattle.arrayvec.specs.ArrayString.{array_string_len};
 ghost use Rattle.oe_rows.specs.Credit.{order_total, money_text, credit_entry, bad_credit_data};
-ghost use Rattle.oe_rows.specs.Text.{IsPrintable};
+ghost use Rattle.oe_values.specs.Text.{IsPrintable};
 
-use crate::keys::{CustomerKey, DistrictKey};
-use crate::numbers::{Cents, LineAmount, PaymentAmount, Rate};
-use crate::texts::Text;
 use arrayvec::ArrayString;
 use itoa::Buffer;
+use oe_keys::keys::{CustomerKey, DistrictKey};
+use oe_values::numbers::{Cents, LineAmount, PaymentAmount, Rate};
+use oe_values::texts::Text;
 
 /// Whom a payment is by, and where it is made.
 #[derive(Clone, Copy, Debug, PartialEq, Eq)]

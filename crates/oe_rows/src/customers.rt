@@ -1,10 +1,10 @@
 //! Customers.
 ghost use Rattle.std.specs.Prelude.{◌≡◌, ◌↔◌, ◌∷◌, [], map, IsTrue};
 
-use crate::numbers::{Balance, Count, Rate, YearToDate};
-use crate::stamps::Stamp;
-use crate::texts::Text;
 use crate::warehouses::Address;
+use oe_values::numbers::{Balance, Count, Rate, YearToDate};
+use oe_values::stamps::Stamp;
+use oe_values::texts::Text;
 
 /// C_FIRST, C_MIDDLE and C_LAST (clause 1.3.1).
 #[derive(Drop, Clone, Debug, PartialEq, Eq)]

@@ -1,9 +1,9 @@
 //! Districts.
 ghost use Rattle.std.specs.Prelude.{◌≡◌, ◌↔◌, IsTrue};
 
-use crate::numbers::{OrderNumber, Rate, YearToDate};
-use crate::texts::Text;
 use crate::warehouses::Address;
+use oe_values::numbers::{OrderNumber, Rate, YearToDate};
+use oe_values::texts::Text;
 
 /// A DISTRICT row without its key (clause 1.3.1).
 #[derive(Drop, Clone, Debug, PartialEq, Eq)]

@@ -1,10 +1,10 @@
 //! Histories.
 ghost use Rattle.std.specs.Prelude.{◌≡◌, ◌↔◌, IsTrue};
 
-use crate::keys::{CustomerKey, DistrictKey};
-use crate::numbers::LineAmount;
-use crate::stamps::Stamp;
-use crate::texts::Text;
+use oe_keys::keys::{CustomerKey, DistrictKey};
+use oe_values::numbers::LineAmount;
+use oe_values::stamps::Stamp;
+use oe_values::texts::Text;
 
 /// A HISTORY row without its key (clause 1.3.1): the customer who paid, and the district where.
 #[derive(Drop, Clone, Debug, PartialEq, Eq)]

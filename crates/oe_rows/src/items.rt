@@ -1,10 +1,10 @@
 //! Items, and their stock.
 ghost use Rattle.std.specs.Prelude.{◌≡◌, ◌↔◌, ◌-◌, length, map, slice_get, Some, IsTrue};
 ghost use Rattle.std.specs.List.{All};
-ghost use Rattle.oe_rows.specs.Text.{IsText};
+ghost use Rattle.oe_values.specs.Text.{IsText};
 
-use crate::numbers::{Count, DistrictNumber, ImageNumber, Price, StockYtd};
-use crate::texts::Text;
+use oe_values::numbers::{Count, DistrictNumber, ImageNumber, Price, StockYtd};
+use oe_values::texts::Text;
 
 /// An ITEM row without its key (clause 1.3.1).
 #[derive(Drop, Clone, Debug, PartialEq, Eq)]

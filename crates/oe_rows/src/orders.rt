@@ -1,11 +1,11 @@
 //! Orders, their lines, and the orders not yet delivered.
 ghost use Rattle.std.specs.Prelude.{◌≡◌, ◌↔◌, IsTrue};
 
-use crate::numbers::{
+use oe_values::numbers::{
     Carrier, CustomerNumber, ItemNumber, LineAmount, LineCount, LineQuantity, WarehouseNumber,
 };
-use crate::stamps::Stamp;
-use crate::texts::Text;
+use oe_values::stamps::Stamp;
+use oe_values::texts::Text;
 
 /// A NEW-ORDER row without its key: it has no other column (clause 1.3.1).
 #[derive(Clone, Copy, Debug, PartialEq, Eq)]

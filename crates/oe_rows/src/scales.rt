@@ -1,5 +1,5 @@
 //! How large a database is.
-use crate::numbers::{CustomerNumber, ItemNumber, WarehouseNumber};
+use oe_values::numbers::{CustomerNumber, ItemNumber, WarehouseNumber};
 
 /// The number of warehouses, of customers in each district, and of items.
 #[derive(Clone, Copy, Debug, PartialEq, Eq)]

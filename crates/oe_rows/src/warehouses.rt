@@ -1,8 +1,8 @@
 //! Warehouses, and addresses.
 ghost use Rattle.std.specs.Prelude.{◌≡◌, ◌↔◌, ◌∷◌, [], map, IsTrue};
 
-use crate::numbers::{Rate, YearToDate};
-use crate::texts::Text;
+use oe_values::numbers::{Rate, YearToDate};
+use oe_values::texts::Text;
 
 /// An address: the columns _STREET_1, _STREET_2, _CITY, _STATE and _ZIP of three tables (clause 1.3.1).
 #[derive(Drop, Clone, Debug, PartialEq, Eq)]

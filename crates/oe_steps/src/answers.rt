@@ -2,7 +2,8 @@
 ghost use Rattle.std.specs.Prelude.{◌≡◌};
 
 use crate::audits::Verdict;
-use oe_rows::{Moment, QueryReply, Refusal, Reply};
+use oe_requests::{QueryReply, Refusal, Reply};
+use oe_values::Moment;
 
 /// What a step is answered.
 #[derive(Drop, Debug, PartialEq, Eq)]

@@ -2,7 +2,8 @@
 ghost use Rattle.std.specs.Prelude.{◌≡◌};
 
 use crate::audits::Condition;
-use oe_rows::{Moment, Query, Request, Terminal};
+use oe_requests::{Query, Request};
+use oe_values::{Moment, Terminal};
 
 /// One step of the server. The moments of reads, audits, purges and rewinds are numbers of commits.
 #[derive(Drop, Debug, PartialEq, Eq)]

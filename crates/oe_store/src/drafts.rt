@@ -1,12 +1,12 @@
 //! Texts of the population, as they are put together.
 ghost use Rattle.std.specs.Prelude.{◌≡◌, ◌≤◌, ◌<◌, ◌+◌, ◌^◌, ◌++◌, ◌∷◌, [], true, length};
 ghost use Rattle.std.specs.List.{list_all};
-ghost use Rattle.oe_rows.specs.Text.{IsPrintable};
+ghost use Rattle.oe_values.specs.Text.{IsPrintable};
 ghost use Rattle.oe_store.specs.Draft.{is_printable};
 ghost use Rattle.oe_model.specs.Population.{dec, letters, syllable, last_name, dist_text};
 
 use arrayvec::ArrayString;
-use oe_rows::Text;
+use oe_values::Text;
 use std::marker::Model;
 
 /// Printable ASCII bytes, at most `MOST`.
@@ -18,7 +18,7 @@ pub(crate) struct Draft<const MOST: usize> {
 impl<const MOST: usize> Model for Draft<MOST> {
     ghost use Rattle.std.specs.Prelude.{List, ℕ};
     ghost use Rattle.std.specs.List.{All};
-    ghost use Rattle.oe_rows.specs.Text.{IsPrintable};
+    ghost use Rattle.oe_values.specs.Text.{IsPrintable};
 
     ghost Value = { List ℕ };
 

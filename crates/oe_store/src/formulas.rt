@@ -4,10 +4,13 @@ ghost use Rattle.oe_model.specs.Population.{address_of, warehouse_of, district_o
 
 use crate::numbers::{amount, number};
 use crate::texts::{alphabet, dist_info, name_of, numbered, plain, zip};
+use oe_keys::{CustomerKey, HistoryKey, OrderLineKey, StockKey};
 use oe_rows::{
-    Account, Address, Balance, Credit, Customer, CustomerKey, CustomerName, CustomerNumber,
-    District, DistrictNumber, History, HistoryKey, Item, ItemNumber, LineCount, Order, OrderLine,
-    OrderLineKey, Scale, Stamp, Stock, StockKey, Warehouse, WarehouseNumber,
+    Account, Address, Credit, Customer, CustomerName, District, History, Item, Order, OrderLine,
+    Scale, Stock, Warehouse,
+};
+use oe_values::{
+    Balance, CustomerNumber, DistrictNumber, ItemNumber, LineCount, Stamp, WarehouseNumber,
 };
 
 /// The stamp of all rows: 2000-01-01T00:00:00.

@@ -1,7 +1,7 @@
 //! Numbers and sums of money that are known to be in their ranges.
 ghost use Rattle.std.specs.Prelude.{◌≡◌, ◌≤◌};
 
-use oe_rows::{Amount, Number};
+use oe_values::{Amount, Number};
 
 /// That number, of a range that has it.
 pub(crate) fn number<const LOW: u32, const HIGH: u32>(value: u32) -> Number<LOW, HIGH>

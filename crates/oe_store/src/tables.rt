@@ -5,11 +5,11 @@ ghost use Rattle.std.specs.FinMap.{get, empty};
 ghost use Rattle.oe_store.specs.Stored.{rows, HasPlace};
 ghost use Rattle.oe_model.specs.Meets.{Meets};
 
-use oe_rows::{
-    Customer, CustomerKey, District, DistrictKey, History, HistoryKey, Item, ItemKey, NewOrder,
-    NewOrderKey, Order, OrderKey, OrderLine, OrderLineKey, Stock, StockKey, Warehouse,
+use oe_keys::{
+    CustomerKey, DistrictKey, HistoryKey, ItemKey, NewOrderKey, OrderKey, OrderLineKey, StockKey,
     WarehouseKey,
 };
+use oe_rows::{Customer, District, History, Item, NewOrder, Order, OrderLine, Stock, Warehouse};
 use oe_table::tables::Table;
 use std::alloc::Global;
 use std::marker::Model;

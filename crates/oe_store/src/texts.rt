@@ -6,7 +6,7 @@ ghost use Rattle.oe_store.specs.Draft.{is_printable};
 ghost use Rattle.oe_model.specs.Population.{dec, letters, syllable, last_name, dist_text};
 
 use crate::drafts::Draft;
-use oe_rows::Text;
+use oe_values::Text;
 
 /// A text that is written out.
 pub(crate) fn plain<const LEAST: usize, const MOST: usize>(text: &str) -> Text<LEAST, MOST>

@@ -7,7 +7,7 @@ use Rattle.jiff_core.specs.Time.{IsTime}
 use Rattle.jiff_core.proofs.MarchLemmas.{day_count-early}
 use Rattle.jiff_core.proofs.CalendarLemmas.{days_from_civil-day_count, day_count-next_year, day_count-next_month, day_count-day, day_count-last_of_year}
 use Rattle.jiff_core.proofs.SignedLemmas.{signed_arith}
-use Rattle.oe_rows.specs.Stamp.{SaysStamp}
+use Rattle.oe_values.specs.Stamp.{SaysStamp}
 use Rattle.oe_texts.specs.Stamp.{year_and_day, month_and_day, day_text, stamp_text}
 
 -- a year from `first` to `last`, and the place in it of the day that lies `day` days after the first of them begins

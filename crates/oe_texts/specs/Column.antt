@@ -3,7 +3,7 @@ use Rattle.std.specs.Prelude.{ℕ, suc, ◌/◌, ◌%◌, List, [], ◌∷◌, �
 use Rattle.oe_rows.specs.declared.customers.Credit.{Credit}
 use Rattle.oe_rows.specs.declared.customers.Credit.TheVariants as credit
 use Rattle.oe_rows.specs.Credit.{money_text}
-use Rattle.oe_rows.specs.Stamp.{two_digits}
+use Rattle.oe_values.specs.Stamp.{two_digits}
 
 -- money that may be negative, with a minus sign where it is
 abbrev pub balance_text : ℤ → List ℕ

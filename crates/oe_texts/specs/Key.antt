@@ -1,7 +1,7 @@
 -- The texts of keys.
 use Rattle.std.specs.Prelude.{ℕ, List, map, decimal}
-use Rattle.oe_rows.specs.Key.{key_columns}
-use Rattle.oe_rows.specs.declared.keys.Key.{Key}
+use Rattle.oe_keys.specs.Key.{key_columns}
+use Rattle.oe_keys.specs.declared.keys.Key.{Key}
 
 -- the columns of a key, from the left
 abbrev pub key_texts : Key → List (List ℕ)

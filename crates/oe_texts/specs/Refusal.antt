@@ -1,10 +1,10 @@
 -- The texts of refusals.
 use Rattle.std.specs.Prelude.{ℕ, List, ◌++◌, decimal, codes}
-use Rattle.oe_rows.specs.Refusal.{refusal_number, column_name}
-use Rattle.oe_rows.specs.declared.refusals.Refusal.{Refusal}
-use Rattle.oe_rows.specs.declared.refusals.Refusal.TheVariants as refusal
-use Rattle.oe_rows.specs.Key.{key_text}
-use Rattle.oe_rows.specs.Lock.{name_text}
+use Rattle.oe_requests.specs.Refusal.{refusal_number, column_name}
+use Rattle.oe_requests.specs.declared.refusals.Refusal.{Refusal}
+use Rattle.oe_requests.specs.declared.refusals.Refusal.TheVariants as refusal
+use Rattle.oe_keys.specs.Key.{key_text}
+use Rattle.oe_keys.specs.Lock.{name_text}
 
 -- a refusal's name, and what it tells
 abbrev pub refusal_text : Refusal → List ℕ

@@ -1,20 +1,20 @@
 -- The texts of replies to requests and queries (clauses 2.4.3 to 2.8.3).
 use Rattle.std.specs.Prelude.{ℕ, ◌+◌, List, [], ◌∷◌, ◌++◌, Option, None, Some, decimal, codes}
 use Rattle.std.specs.List.{flat_map}
-use Rattle.oe_rows.specs.declared.replies.Brand.{Brand}
-use Rattle.oe_rows.specs.declared.replies.Brand.TheVariants as brand
-use Rattle.oe_rows.specs.declared.replies.LineReply.{LineReply}
-use Rattle.oe_rows.specs.declared.replies.PaymentReply.{PaymentReply}
-use Rattle.oe_rows.specs.declared.replies.NewOrderReply.{NewOrderReply}
-use Rattle.oe_rows.specs.declared.replies.DistrictDelivery.{DistrictDelivery}
-use Rattle.oe_rows.specs.declared.replies.DistrictDelivery.TheVariants as delivery
-use Rattle.oe_rows.specs.declared.replies.RenameReply.{RenameReply}
-use Rattle.oe_rows.specs.declared.replies.Reply.{Reply}
-use Rattle.oe_rows.specs.declared.replies.Reply.TheVariants as reply
-use Rattle.oe_rows.specs.declared.replies.StatusLine.{StatusLine}
-use Rattle.oe_rows.specs.declared.replies.OrderStatus.{OrderStatus}
-use Rattle.oe_rows.specs.declared.replies.QueryReply.{QueryReply}
-use Rattle.oe_rows.specs.declared.replies.QueryReply.TheVariants as query
+use Rattle.oe_requests.specs.declared.replies.Brand.{Brand}
+use Rattle.oe_requests.specs.declared.replies.Brand.TheVariants as brand
+use Rattle.oe_requests.specs.declared.replies.LineReply.{LineReply}
+use Rattle.oe_requests.specs.declared.replies.PaymentReply.{PaymentReply}
+use Rattle.oe_requests.specs.declared.replies.NewOrderReply.{NewOrderReply}
+use Rattle.oe_requests.specs.declared.replies.DistrictDelivery.{DistrictDelivery}
+use Rattle.oe_requests.specs.declared.replies.DistrictDelivery.TheVariants as delivery
+use Rattle.oe_requests.specs.declared.replies.RenameReply.{RenameReply}
+use Rattle.oe_requests.specs.declared.replies.Reply.{Reply}
+use Rattle.oe_requests.specs.declared.replies.Reply.TheVariants as reply
+use Rattle.oe_requests.specs.declared.replies.StatusLine.{StatusLine}
+use Rattle.oe_requests.specs.declared.replies.OrderStatus.{OrderStatus}
+use Rattle.oe_requests.specs.declared.replies.QueryReply.{QueryReply}
+use Rattle.oe_requests.specs.declared.replies.QueryReply.TheVariants as query
 use Rattle.oe_rows.specs.Credit.{money_text}
 use Rattle.oe_texts.specs.Column.{balance_text, credit_text, nullable}
 use Rattle.oe_texts.specs.Stamp.{stamp_text}

@@ -1,7 +1,7 @@
 -- The text of a stamp: whole years, and then whole months, are taken off its day.
 use Rattle.std.specs.Prelude.{ℕ, zero, suc, ◌+◌, ◌-◌, ◌/◌, ◌%◌, nat_lt, if◌then◌else◌, List, ◌∷◌, ◌++◌, ℤ, pos}
 use Rattle.jiff_core.specs.Calendar.{days_in_year, days_in_month}
-use Rattle.oe_rows.specs.Stamp.{date_text, time_text}
+use Rattle.oe_values.specs.Stamp.{date_text, time_text}
 
 -- the year of the day that lies `day` days after 1 January of `year`, and the day's place in it from 0;
 -- at most `more` years are taken off

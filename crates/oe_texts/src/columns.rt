@@ -1,14 +1,15 @@
 //! Columns: numbers, money, rates and stamps, also with the byte that ends them.
 ghost use Rattle.std.specs.Prelude.{◌≡◌, ◌≤◌, ◌<◌, ◌+◌, ◌++◌, ◌∷◌, [], length, decimal};
 ghost use Rattle.arrayvec.specs.ArrayVec.{array_vec_len};
-ghost use Rattle.oe_rows.specs.Stamp.{two_digits};
+ghost use Rattle.oe_values.specs.Stamp.{two_digits};
 ghost use Rattle.oe_rows.specs.Credit.{money_text};
 ghost use Rattle.oe_texts.specs.Column.{balance_text, rate_text, credit_text, flag_text, nullable};
 ghost use Rattle.oe_texts.specs.Stamp.{stamp_text};
 
 use crate::pending::{Pending, SIZE, text};
 use itoa::Buffer;
-use oe_rows::{Balance, Carrier, Credit, Rate, Stamp};
+use oe_rows::Credit;
+use oe_values::{Balance, Carrier, Rate, Stamp};
 
 /// A number.
 pub(crate) fn number(out: &mut Pending, n: u64)

@@ -6,7 +6,7 @@ ghost use Rattle.oe_texts.specs.Refusal.{refusal_text, error_text};
 use crate::columns::{number, small, small_then};
 use crate::keys::{name, row};
 use crate::pending::{Pending, SIZE, text};
-use oe_rows::Refusal;
+use oe_requests::Refusal;
 
 /// A refusal's name, and what it tells.
 fn told(out: &mut Pending, refusal: &Refusal)

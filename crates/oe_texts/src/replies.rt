@@ -9,7 +9,7 @@ use crate::columns::{
     small_then, stamp_then, text_then,
 };
 use crate::pending::{Pending, SIZE, text};
-use oe_rows::{
+use oe_requests::{
     Brand, DistrictDelivery, LineReply, NewOrderReply, OrderStatus, PaymentReply, QueryReply,
     RenameReply, Reply, StatusLine, StatusReply,
 };

@@ -1,14 +1,19 @@
 //! Texts at worked values.
 use super::*;
+use oe_keys::{
+    CustomerKey, DistrictKey, HistoryKey, ItemKey, Key, Name, NewOrderKey, OrderKey, OrderLineKey,
+    StockKey, WarehouseKey,
+};
+use oe_requests::{
+    Brand, Column, DeliveredOrder, DistrictDelivery, LineReply, NewOrderReply, OrderStatus,
+    PaymentReply, QueryReply, Refusal, RenameReply, Reply, StatusLine, StatusReply,
+};
 use oe_rows::{
-    Account, Address, Amount, Balance, Brand, Cents, Column, Credit, Customer, CustomerKey,
-    CustomerName, DeliveredOrder, District, DistrictDelivery, DistrictKey, FirstName, History,
-    HistoryKey, Item, ItemKey, Key, LastName, LineReply, Lines, Moment, Name, NewOrderKey,
-    NewOrderReply, Number, Order, OrderKey, OrderLine, OrderLineKey, OrderStatus, PaymentReply,
-    QueryReply, Refusal, RenameReply, Reply, Stamp, StatusLine, StatusReply, Stock, StockKey, Text,
-    Warehouse, WarehouseKey,
+    Account, Address, Credit, Customer, CustomerName, District, History, Item, Order, OrderLine,
+    Stock, Warehouse,
 };
 use oe_steps::{Answer, Condition, Verdict};
+use oe_values::{Amount, Balance, Cents, FirstName, LastName, Lines, Moment, Number, Stamp, Text};
 use std::process::Abort;
 use std::test::Fail;
 

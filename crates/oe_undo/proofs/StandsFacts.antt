@@ -5,8 +5,8 @@ use Rattle.std.specs.List.{sum_by, count_by}
 use Rattle.std.proofs.lemmas.Bool.{cases_eq, cases_lt, eq-eqb, ne_eqb, cond-true, cond-false}
 use Rattle.std.proofs.lemmas.List.{get_or-set_same, get_or-set_other, get_or_past, set_past, take_all, length-map}
 use Rattle.std.proofs.lemmas.List.Sums.{sum_by_more}
-use Rattle.oe_rows.specs.declared.requests.Request.{Request}
-use Rattle.oe_rows.specs.declared.replies.Reply.{Reply}
+use Rattle.oe_requests.specs.declared.requests.Request.{Request}
+use Rattle.oe_requests.specs.declared.replies.Reply.{Reply}
 use Rattle.oe_records.specs.declared.befores.Before.{Before}
 use Rattle.oe_records.specs.Befores.{record_of_before}
 use Rattle.oe_model.specs.Changes.{Record}

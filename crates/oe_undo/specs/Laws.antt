@@ -1,7 +1,7 @@
 -- What each call makes of the log, in the words of the theory of transactions.
 use Rattle.std.specs.Prelude.{◌≡◌, ℕ, suc, List, [], ◌∷◌, drop, None, Some}
-use Rattle.oe_rows.specs.declared.requests.Request.{Request}
-use Rattle.oe_rows.specs.declared.replies.Reply.{Reply}
+use Rattle.oe_requests.specs.declared.requests.Request.{Request}
+use Rattle.oe_requests.specs.declared.replies.Reply.{Reply}
 use Rattle.oe_records.specs.declared.befores.Before.{Before}
 use Rattle.oe_records.specs.Befores.{record_of_before}
 use Rattle.oe_model.specs.System.{system}

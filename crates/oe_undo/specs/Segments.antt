@@ -1,7 +1,7 @@
 -- Segments of records.
 use Rattle.std.specs.Prelude.{ℕ, suc, List, [], ◌∷◌, length, map, Option, None, Some}
-use Rattle.oe_rows.specs.declared.requests.Request.{Request}
-use Rattle.oe_rows.specs.declared.replies.Reply.{Reply}
+use Rattle.oe_requests.specs.declared.requests.Request.{Request}
+use Rattle.oe_requests.specs.declared.replies.Reply.{Reply}
 use Rattle.oe_records.specs.declared.befores.Before.{Before}
 use Rattle.oe_undo.specs.declared.segments.Place.{Place}
 

@@ -1,8 +1,8 @@
 -- The undo log as plain data, and what its calls do to it.
 use Rattle.std.specs.Prelude.{◌≢◌, ℕ, suc, ◌-◌, List, [], ◌∷◌, get_or, set, replicate, Option, None, Some, is_some}
 use Rattle.std.specs.List.{All, sum_by, count_by}
-use Rattle.oe_rows.specs.declared.requests.Request.{Request}
-use Rattle.oe_rows.specs.declared.replies.Reply.{Reply}
+use Rattle.oe_requests.specs.declared.requests.Request.{Request}
+use Rattle.oe_requests.specs.declared.replies.Reply.{Reply}
 use Rattle.oe_records.specs.declared.befores.Before.{Before}
 use Rattle.oe_undo.specs.declared.segments.Place.{Place}
 use Rattle.oe_undo.specs.declared.undo.TerminalState.{TerminalState}

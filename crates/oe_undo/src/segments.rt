@@ -4,10 +4,10 @@ ghost use Rattle.oe_undo.specs.Segments.{records_of, newest_of, popped};
 
 use crate::records::Records;
 use oe_records::Before;
-use oe_rows::numbers::{Terminal, TransactionNumber};
-use oe_rows::replies::Reply;
-use oe_rows::requests::Request;
+use oe_requests::replies::Reply;
+use oe_requests::requests::Request;
 use oe_table::tables::NoMemory;
+use oe_values::numbers::{Terminal, TransactionNumber};
 use std::alloc::Global;
 use std::marker::Model;
 

@@ -1,13 +1,13 @@
 //! What no clause says: that the calls succeed where there is memory, and go on after a growth was refused.
 use crate::{Place, Records, Segment, Undo};
+use oe_keys::keys::{DistrictKey, Key, NewOrderKey};
 use oe_records::Before;
-use oe_rows::keys::{DistrictKey, Key, NewOrderKey};
-use oe_rows::numbers::{Carrier, DistrictNumber, OrderNumber, Terminal, WarehouseNumber};
-use oe_rows::refusals::Refusal;
-use oe_rows::replies::{DistrictDelivery, Reply};
-use oe_rows::requests::{DeliveryRequest, Request};
-use oe_rows::stamps::Stamp;
+use oe_requests::refusals::Refusal;
+use oe_requests::replies::{DistrictDelivery, Reply};
+use oe_requests::requests::{DeliveryRequest, Request};
 use oe_table::tables::NoMemory;
+use oe_values::numbers::{Carrier, DistrictNumber, OrderNumber, Terminal, WarehouseNumber};
+use oe_values::stamps::Stamp;
 use std::alloc::Global;
 use std::process::Abort;
 use std::test::Fail;

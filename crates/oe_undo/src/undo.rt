@@ -7,11 +7,11 @@ ghost use Rattle.oe_undo.specs.Undo.{no_segments, idle_terminals, count_at, acti
 use crate::records::Records;
 use crate::segments::{CommittedSegment, OpenSegment, Place, Segment};
 use oe_records::Before;
-use oe_rows::numbers::{Moment, Terminal, TransactionNumber};
-use oe_rows::refusals::Refusal;
-use oe_rows::replies::Reply;
-use oe_rows::requests::Request;
+use oe_requests::refusals::Refusal;
+use oe_requests::replies::Reply;
+use oe_requests::requests::Request;
 use oe_table::tables::NoMemory;
+use oe_values::numbers::{Moment, Terminal, TransactionNumber};
 use std::alloc::Global;
 use std::collections::VecDeque;
 use std::marker::Model;

@@ -1,7 +1,7 @@
 use Rattle.std.proofs.Common.{◌≡◌, ◌<◌, Option, IsSome, length, subst, sym, arith}
 use Rattle.std.specs.Map.{lookup}
-use Rattle.oe_rows.specs.declared.locks.Mode.{Mode}
-use Rattle.oe_rows.specs.contracts.locks.NamePartialEq.TheImpl.{ghosts}
+use Rattle.oe_keys.specs.declared.locks.Mode.{Mode}
+use Rattle.oe_keys.specs.contracts.locks.NamePartialEq.TheImpl.{ghosts}
 use Rattle.oe_locks.specs.Held.{held}
 use Rattle.oe_locks.proofs.HeldFacts.{held-at, held-above, held-changed, held-set_other}
 use Rattle.oe_locks.proofs.Locks.give_back.Goals as goal

@@ -1,6 +1,6 @@
 use Rattle.std.proofs.Common.{◌<◌, length, ◌∙◌, ap, arith}
 use Rattle.std.specs.Map.{lookup}
-use Rattle.oe_rows.specs.contracts.locks.NamePartialEq.TheImpl.{ghosts}
+use Rattle.oe_keys.specs.contracts.locks.NamePartialEq.TheImpl.{ghosts}
 use Rattle.oe_locks.proofs.HeldFacts.{held-set_same, held-set_other}
 use Rattle.oe_locks.proofs.Locks.release_all.Goals as goal
 

@@ -1,6 +1,6 @@
 use Rattle.std.proofs.Common.{◌≡◌, arith}
 use Rattle.std.proofs.lemmas.List.Elements.{All-same}
-use Rattle.oe_rows.specs.Text.{IsPrintable}
+use Rattle.oe_values.specs.Text.{IsPrintable}
 use Rattle.oe_rows.specs.Credit.{credit_entry}
 use Rattle.oe_rows.proofs.CreditFacts.{entry_pieces, printable_entry}
 use Rattle.oe_rows.proofs.credits.spelled_entry.Goals as goal

@@ -1,4 +1,4 @@
-use Rattle.oe_rows.specs.Text.{IsText}
+use Rattle.oe_values.specs.Text.{IsText}
 use Rattle.oe_rows.proofs.ListFacts.{ten_items, ten_all}
 use Rattle.oe_rows.proofs.items.ten_texts.Goals as goal
 

@@ -1,4 +1,4 @@
-use Rattle.oe_rows.proofs.StampFacts.{says_alone}
+use Rattle.oe_values.proofs.StampFacts.{says_alone}
 use Rattle.oe_texts.specs.Stamp.{stamp_text}
 use Rattle.oe_texts.proofs.StampFacts.{stamp_text_says}
 use Rattle.oe_texts.proofs.laws.stamps_are_read.Goals as goal

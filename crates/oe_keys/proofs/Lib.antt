@@ -1,0 +1,2 @@
+pub mod KeyFacts
+pub mod NameFacts

@@ -1,0 +1,4 @@
+-- What the clauses of this crate cite.
+pub mod ExactKeys
+pub mod Key
+pub mod Lock

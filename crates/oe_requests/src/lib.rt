@@ -1,0 +1,21 @@
+//! Requests, queries and errands, their replies, and refusals. Copying any of them takes no memory. The tests here are those of
+//! the values, keys and rows below too. Clauses of the standard are those of TPC Benchmark C 5.11.
+#![tactic(auto)]
+
+pub mod refusals;
+pub mod replies;
+pub mod requests;
+
+pub use refusals::{Column, Refusal};
+pub use replies::{
+    Brand, DeliveredOrder, DistrictDeliveries, DistrictDelivery, LineReplies, LineReply,
+    NewOrderReply, OrderStatus, PaymentReply, QueryReply, RenameReply, Reply, StatusLine,
+    StatusLines, StatusReply,
+};
+pub use requests::{
+    CustomerChoice, DeliveriesRequest, DeliveryRequest, Errand, LevelQuery, NewOrderRequest,
+    PaymentRequest, Query, RenameRequest, Request, RequestLine, RequestLines, StatusQuery,
+};
+
+#[cfg(test)]
+mod tests;

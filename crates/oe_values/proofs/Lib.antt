@@ -1,0 +1,2 @@
+pub mod StampFacts
+pub mod TextFacts

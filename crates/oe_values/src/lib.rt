@@ -1,0 +1,18 @@
+//! Numbers, money, moments, stamps and texts in their ranges, and short lists. Copying any of them takes no memory. Clauses
+//! of the standard are those of TPC Benchmark C 5.11.
+#![tactic(auto)]
+
+pub mod lines;
+pub mod numbers;
+pub mod stamps;
+pub mod texts;
+
+pub use lines::Lines;
+pub use numbers::{
+    Amount, Balance, Carrier, Cents, Count, CustomerNumber, DistrictNumber, HistoryPlace,
+    HistoryTerminal, ImageNumber, ItemNumber, LineAmount, LineCount, LineNumber, LineQuantity,
+    LowStock, Moment, Number, OrderNumber, PaymentAmount, Price, Quantity, Rate, RequestedItem,
+    StockYtd, Terminal, TerminalCount, Threshold, TransactionNumber, WarehouseNumber, YearToDate,
+};
+pub use stamps::Stamp;
+pub use texts::{FirstName, LastName, Text};

@@ -1,0 +1,292 @@
+//! Texts of printable ASCII.
+ghost use Rattle.std.specs.Prelude.{◌≡◌, ◌↔◌, ◌≤◌, List, ℕ, length, IsTrue, IsSome, IfSome, nat_eq, take, ◌++◌};
+ghost use Rattle.std.specs.List.{All};
+ghost use Rattle.std.specs.Cmp.{partial_equiv_from_equiv};
+ghost use Rattle.std.specs.Cmp.Lexicographic.{pointwise, nat_list_eq_equiv};
+ghost use Rattle.oe_values.specs.Text.{IsText, IsPrintable, IsCapital, IsCapitalOrDigit, IsLastName, IsFirstName};
+
+use arrayvec::ArrayString;
+use std::alloc::AllocError;
+use std::marker::Model;
+use std::{fmt, str};
+
+/// A text of `LEAST` to `MOST` printable ASCII bytes, which lie in the value itself.
+#[derive(Drop)]
+pub struct Text<const LEAST: usize, const MOST: usize> {
+    held: ArrayString<MOST>,
+}
+
+impl<const LEAST: usize, const MOST: usize> Model for Text<LEAST, MOST> {
+    ghost Value = { List ℕ };
+
+    ghost view = { λ t. t.held.bytes };
+
+    ghost invariant = { λ t. IsText LEAST MOST t.held.bytes };
+}
+
+/// Whether every byte is printable ASCII.
+fn is_printable(bytes: &[u8]) -> bool
+    ensures { IsTrue result ↔ All IsPrintable bytes.now }
+{
+    bytes.iter().all(|&b| b >= 32 && b <= 126)
+}
+
+/// At most `most` bytes of the front of a printable text.
+fn front(text: &str, most: usize) -> &str
+    requires { All IsPrintable text.now }
+    ensures { result.now ≡ take most text.now }
+{
+    if text.len() <= most {
+        text
+    } else {
+        &text[..most]
+    }
+}
+
+impl<const LEAST: usize, const MOST: usize> Text<LEAST, MOST> {
+    /// The text, where its bytes are printable and its length fits.
+    pub fn read(text: &str) -> Option<Self>
+        ensures variant { IsSome result ↔ IsText LEAST MOST text.now }
+        ensures value { IfSome result (λ t. t ≡ text.now) }
+    {
+        if text.len() < LEAST || !is_printable(text.as_bytes()) {
+            return None;
+        }
+        match ArrayString::from(text) {
+            Ok(held) => Some(Text { held }),
+            Err(_) => None,
+        }
+    }
+
+    /// The text of these bytes, where they are printable and their number fits.
+    pub fn read_bytes(bytes: &[u8]) -> Option<Self>
+        ensures variant { IsSome result ↔ IsText LEAST MOST bytes.now }
+        ensures value { IfSome result (λ t. t ≡ bytes.now) }
+    {
+        if !is_printable(bytes) {
+            return None;
+        }
+        match str::from_utf8(bytes) {
+            Ok(text) => Text::read(text),
+            Err(_) => unreachable!(),
+        }
+    }
+
+    /// The text.
+    #[inline]
+    pub fn as_str(&self) -> &str
+        ensures value { result.now ≡ self.now }
+        ensures fits { IsText LEAST MOST self.now }
+    {
+        self.held.as_str()
+    }
+
+    /// This text before `rest`, of which what passes `MOST` bytes is discarded.
+    pub fn before<const REST: usize>(&self, rest: &Text<LEAST, REST>) -> Text<LEAST, REST>
+        requires { MOST ≤ REST }
+        ensures { result ≡ take REST (self.now ++ rest.now) }
+    {
+        let mut held = ArrayString::new();
+        held.push_str(self.as_str());
+        let room = held.remaining_capacity();
+        held.push_str(front(rest.as_str(), room));
+        Text { held }
+    }
+
+    /// A copy, which takes no memory.
+    pub fn copied(&self) -> Self
+        ensures { result ≡ self.now }
+    {
+        Text { held: self.held }
+    }
+}
+
+impl<const LEAST: usize, const MOST: usize> PartialEq for Text<LEAST, MOST> {
+    ghost eq = { λ s t. pointwise nat_eq s t };
+
+    ghost laws = { partial_equiv_from_equiv nat_list_eq_equiv };
+
+    fn eq(&self, other: &Self) -> bool {
+        self.as_str() == other.as_str()
+    }
+}
+
+impl<const LEAST: usize, const MOST: usize> Eq for Text<LEAST, MOST> {
+    ghost laws = { nat_list_eq_equiv };
+}
+
+impl<const LEAST: usize, const MOST: usize> fmt::Debug for Text<LEAST, MOST> {
+    fn fmt<W: fmt::Write>(&self, f: &mut fmt::Formatter<W>) -> fmt::Result {
+        fmt::Debug::fmt(&self.as_str(), f)
+    }
+}
+
+impl<const LEAST: usize, const MOST: usize> Clone for Text<LEAST, MOST> {
+    ghost is_infallible = { λ _. Unit {0} };
+
+    ghost is_clone = { λ s t. t ≡ s };
+
+    fn clone(&self) -> Result<Self, AllocError> {
+        Ok(self.copied())
+    }
+}
+
+impl<const LEAST: usize, const MOST: usize> Text<LEAST, MOST> {
+    /// The same text, of any length up to `MOST`.
+    pub fn of_any_length(&self) -> Text<0, MOST>
+        ensures { result ≡ self.now }
+    {
+        let held = self.held;
+        Text { held }
+    }
+}
+
+/// Whether every byte is a letter from A to Z.
+fn is_capitals(bytes: &[u8]) -> bool
+    ensures { IsTrue result ↔ All IsCapital bytes.now }
+{
+    bytes.iter().all(|&b| b >= b'A' && b <= b'Z')
+}
+
+/// Whether every byte is a letter from A to Z or a digit.
+fn is_capitals_or_digits(bytes: &[u8]) -> bool
+    ensures { IsTrue result ↔ All IsCapitalOrDigit bytes.now }
+{
+    bytes
+        .iter()
+        .all(|&b| (b >= b'A' && b <= b'Z') || (b >= b'0' && b <= b'9'))
+}
+
+/// A last name as a request gives it: 1 to 16 letters from A to Z (clause 4.3.2.3).
+#[derive(Drop, Clone, Debug)]
+pub struct LastName {
+    capitals: Text<1, 16>,
+}
+
+impl Model for LastName {
+    ghost Value = { List ℕ };
+
+    ghost view = { λ n. n.capitals };
+
+    ghost invariant = { λ n. IsLastName n.capitals };
+}
+
+impl LastName {
+    /// The name, where it is one.
+    pub fn read(text: &str) -> Option<Self>
+        ensures variant { IsSome result ↔ IsLastName text.now }
+        ensures value { IfSome result (λ n. n ≡ text.now) }
+    {
+        let name = Text::read(text)?;
+        if !is_capitals(name.as_str().as_bytes()) {
+            return None;
+        }
+        Some(LastName { capitals: name })
+    }
+
+    /// The name.
+    #[inline]
+    pub fn as_str(&self) -> &str
+        ensures value { result.now ≡ self.now }
+        ensures fits { IsLastName self.now }
+    {
+        self.capitals.as_str()
+    }
+
+    /// The name as C_LAST has it.
+    pub fn as_text(&self) -> Text<0, 16>
+        ensures { result ≡ self.now }
+    {
+        self.capitals.of_any_length()
+    }
+
+    /// A copy, which takes no memory.
+    pub fn copied(&self) -> Self
+        ensures { result ≡ self.now }
+    {
+        LastName {
+            capitals: self.capitals.copied(),
+        }
+    }
+}
+
+/// A first name as a request gives it: 1 to 16 letters from A to Z or digits.
+#[derive(Drop, Clone, Debug)]
+pub struct FirstName {
+    name: Text<1, 16>,
+}
+
+impl Model for FirstName {
+    ghost Value = { List ℕ };
+
+    ghost view = { λ n. n.name };
+
+    ghost invariant = { λ n. IsFirstName n.name };
+}
+
+impl FirstName {
+    /// The name, where it is one.
+    pub fn read(text: &str) -> Option<Self>
+        ensures variant { IsSome result ↔ IsFirstName text.now }
+        ensures value { IfSome result (λ n. n ≡ text.now) }
+    {
+        let name = Text::read(text)?;
+        if !is_capitals_or_digits(name.as_str().as_bytes()) {
+            return None;
+        }
+        Some(FirstName { name })
+    }
+
+    /// The name.
+    #[inline]
+    pub fn as_str(&self) -> &str
+        ensures value { result.now ≡ self.now }
+        ensures fits { IsFirstName self.now }
+    {
+        self.name.as_str()
+    }
+
+    /// The name as C_FIRST has it.
+    pub fn as_text(&self) -> Text<0, 16>
+        ensures { result ≡ self.now }
+    {
+        self.name.of_any_length()
+    }
+
+    /// A copy, which takes no memory.
+    pub fn copied(&self) -> Self
+        ensures { result ≡ self.now }
+    {
+        FirstName {
+            name: self.name.copied(),
+        }
+    }
+}
+
+impl PartialEq for LastName {
+    ghost eq = { λ s t. pointwise nat_eq s t };
+
+    ghost laws = { partial_equiv_from_equiv nat_list_eq_equiv };
+
+    fn eq(&self, other: &Self) -> bool {
+        self.capitals == other.capitals
+    }
+}
+
+impl Eq for LastName {
+    ghost laws = { nat_list_eq_equiv };
+}
+
+impl PartialEq for FirstName {
+    ghost eq = { λ s t. pointwise nat_eq s t };
+
+    ghost laws = { partial_equiv_from_equiv nat_list_eq_equiv };
+
+    fn eq(&self, other: &Self) -> bool {
+        self.name == other.name
+    }
+}
+
+impl Eq for FirstName {
+    ghost laws = { nat_list_eq_equiv };
+}
