@@ -97,8 +97,8 @@ impl Locks {
         !modes::go_together(mode, self.holds(name, terminal))
     }
 
-    // The least other terminal that holds the name in a mode that conflicts.
-    fn in_the_way(&self, name: &Name, terminal: Terminal, mode: Mode) -> Option<Terminal>
+    /// The least other terminal that holds the name in a mode that conflicts. Takes no memory.
+    pub fn in_the_way(&self, name: &Name, terminal: Terminal, mode: Mode) -> Option<Terminal>
         ensures { MatchOption result (IsFreeFor self.now terminal name.now mode) (IsInTheWay self.now terminal name.now mode) }
     {
         // The proof learns here how many places there are.

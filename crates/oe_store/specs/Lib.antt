@@ -3,3 +3,5 @@ pub mod Stored
 pub mod Draft
 pub mod Fill
 pub mod Group
+pub mod Dump
+pub mod Walk

@@ -3,17 +3,21 @@
 #![tactic(auto)]
 
 mod drafts;
+pub mod dumps;
 mod fills;
 mod formulas;
 pub mod inserts;
 mod numbers;
 pub mod population;
 pub mod tables;
+#[cfg(test)]
+mod tests;
 mod texts;
 pub mod undo;
 pub mod updates;
 pub mod walks;
 
+pub use dumps::{Dump, Entry};
 pub use oe_table::tables::NoMemory;
 pub use population::populate;
 pub use tables::Tables;

@@ -125,4 +125,11 @@ impl Tables {
     {
         self.stocks.get(&key)
     }
+
+    /// The rows meet the schema (clauses 1.3 and 1.4). It does nothing: it is for proofs above, which see the rows alone.
+    pub fn schema_holds(&self)
+        ensures { Meets (rows self.now) }
+    {
+        let _known = &self.warehouses;
+    }
 }

@@ -187,17 +187,17 @@ impl Tables {
     ) -> Rows<'_, OrderLineKey, OrderLine>
         ensures { result ≡ entries_of district_cmp (λ k. district_of_order (order_of_line k)) district (rows self.now).order_lines }
     {
-        let first = OrderLineKey {
+        let lowest = OrderLineKey {
             warehouse: district.warehouse,
             district: district.district,
             order: least(),
             number: least(),
         };
-        let last = OrderLineKey {
+        let highest = OrderLineKey {
             order: greatest(),
             number: greatest(),
-            ..first
+            ..lowest
         };
-        self.order_lines.range_inclusive(first, last)
+        self.order_lines.range_inclusive(lowest, highest)
     }
 }

@@ -1,0 +1,130 @@
+//! Dumps of tables: all rows of one, in the keys' order.
+ghost use Rattle.std.specs.Prelude.{◌≡◌};
+ghost use Rattle.std.specs.Iterator.{YieldsFirstBy, item_count};
+ghost use Rattle.oe_store.specs.Stored.{rows};
+ghost use Rattle.oe_store.specs.Dump.{dumped};
+ghost use Rattle.oe_store.specs.Walk.{entry_of};
+
+use crate::tables::Tables;
+use oe_keys::{
+    CustomerKey, DistrictKey, HistoryKey, ItemKey, NewOrderKey, OrderKey, OrderLineKey, StockKey,
+    Table, WarehouseKey,
+};
+use oe_rows::{Customer, District, History, Item, NewOrder, Order, OrderLine, Stock, Warehouse};
+use oe_table::walks::Rows;
+use std::marker::Model;
+
+/// A row of any table, with its key.
+#[derive(Clone, Copy)]
+pub enum Entry<'a> {
+    Warehouse(WarehouseKey, &'a Warehouse),
+    District(DistrictKey, &'a District),
+    Customer(CustomerKey, &'a Customer),
+    History(HistoryKey, &'a History),
+    NewOrder(NewOrderKey, &'a NewOrder),
+    Order(OrderKey, &'a Order),
+    OrderLine(OrderLineKey, &'a OrderLine),
+    Item(ItemKey, &'a Item),
+    Stock(StockKey, &'a Stock),
+}
+
+/// The walk over one table.
+#[derive(Drop)]
+pub(crate) enum Walk<'a> {
+    Warehouses(Rows<'a, WarehouseKey, Warehouse>),
+    Districts(Rows<'a, DistrictKey, District>),
+    Customers(Rows<'a, CustomerKey, Customer>),
+    Histories(Rows<'a, HistoryKey, History>),
+    NewOrders(Rows<'a, NewOrderKey, NewOrder>),
+    Orders(Rows<'a, OrderKey, Order>),
+    OrderLines(Rows<'a, OrderLineKey, OrderLine>),
+    Items(Rows<'a, ItemKey, Item>),
+    Stocks(Rows<'a, StockKey, Stock>),
+}
+
+/// The rows of one table with their keys, in the keys' order.
+#[derive(Drop)]
+pub struct Dump<'a> {
+    walk: Walk<'a>,
+}
+
+impl<'a> Model for Dump<'a> {
+    ghost use Rattle.std.specs.Prelude.{List};
+    ghost use Rattle.oe_keys.specs.declared.keys.Key.{Key};
+    ghost use Rattle.oe_rows.specs.declared.rows.Row.{Row};
+
+    ghost Value = { List (Key × Row) };
+
+    ghost use Rattle.oe_store.specs.Walk.{rest};
+
+    ghost view = { λ d. rest d.walk };
+}
+
+impl<'a> Iterator for Dump<'a> {
+    type Item = Entry<'a>;
+
+    ghost next_gives = { YieldsFirstBy entry_of (λ it. it) };
+
+    ghost remaining = { item_count (λ it. it) };
+
+    fn next(&mut self) -> Option<Entry<'a>> {
+        match &mut self.walk {
+            Walk::Warehouses(rows) => {
+                let (key, row) = rows.next()?;
+                Some(Entry::Warehouse(*key, row))
+            }
+            Walk::Districts(rows) => {
+                let (key, row) = rows.next()?;
+                Some(Entry::District(*key, row))
+            }
+            Walk::Customers(rows) => {
+                let (key, row) = rows.next()?;
+                Some(Entry::Customer(*key, row))
+            }
+            Walk::Histories(rows) => {
+                let (key, row) = rows.next()?;
+                Some(Entry::History(*key, row))
+            }
+            Walk::NewOrders(rows) => {
+                let (key, row) = rows.next()?;
+                Some(Entry::NewOrder(*key, row))
+            }
+            Walk::Orders(rows) => {
+                let (key, row) = rows.next()?;
+                Some(Entry::Order(*key, row))
+            }
+            Walk::OrderLines(rows) => {
+                let (key, row) = rows.next()?;
+                Some(Entry::OrderLine(*key, row))
+            }
+            Walk::Items(rows) => {
+                let (key, row) = rows.next()?;
+                Some(Entry::Item(*key, row))
+            }
+            Walk::Stocks(rows) => {
+                let (key, row) = rows.next()?;
+                Some(Entry::Stock(*key, row))
+            }
+        }
+    }
+}
+
+impl Tables {
+    /// The rows of a table with their keys, in the keys' order. It takes no memory.
+    pub fn dump(&self, table: Table) -> Dump<'_>
+        ensures { result ≡ dumped table (rows self.now) }
+    {
+        let walk = match table {
+            Table::Warehouse => Walk::Warehouses(self.warehouses()),
+            Table::District => Walk::Districts(self.districts()),
+            Table::Customer => Walk::Customers(self.customers()),
+            Table::History => Walk::Histories(self.histories()),
+            Table::NewOrder => Walk::NewOrders(self.new_orders()),
+            Table::Order => Walk::Orders(self.orders()),
+            Table::OrderLine => Walk::OrderLines(self.order_lines()),
+            Table::Item => Walk::Items(self.items()),
+            Table::Stock => Walk::Stocks(self.stocks()),
+        };
+        Dump { walk }
+    }
+}
