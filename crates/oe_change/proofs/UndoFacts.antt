@@ -9,6 +9,7 @@ use Rattle.oe_model.specs.Changes.{Change, InsertHistory, InsertNewOrder, Insert
 use Rattle.oe_model.specs.Meets.{Meets}
 use Rattle.oe_model.proofs.RowFacts.{key_true, key_refl, at_changed, at_put_back, record_key_of, before, same_rows, undone}
 use Rattle.oe_model.proofs.PresenceFacts.{mapped_absent}
+use Rattle.oe_model.proofs.ChangeFacts.{accepted_meets}
 use Rattle.oe_store.specs.Stored.{Stored, rows, HasPlace}
 use Rattle.oe_change.specs.Applies.{Applies}
 use Rattle.oe_change.specs.PutBack.{Stands, CanPutBack}
@@ -60,3 +61,19 @@ can_at_once c old new b schema a =
     (ap (λ (r : Rows). row_at r (key_of c)) a.changes ∙ left_at c (rows old))
     ((a.places (key_of c)).1 (inr refl))
     (subst Meets (sym (ap (put_back (record_of c (row_at (rows old) (key_of c)))) a.changes ∙ undone c (rows old))) schema))
+
+-- after a change the schema holds
+pub made_meets : (c : Change) (old new : Stored) (b : Record) → Meets (rows old) → Applies c old new b → Meets (rows new)
+made_meets c old new b schema a = subst Meets (sym a.changes) (accepted_meets c (rows old) a.accepted schema)
+
+-- a change that can be undone still can where the rows are the same and each place is kept
+pub still_can : (s t : Stored) (b : Record) → CanPutBack s b → rows t ≡ rows s → ((k : Key) → HasPlace s k → HasPlace t k) → CanPutBack t b
+still_can s t b can same kept = record {
+  stands = subst (Stands b) (sym same) can.stands;
+  place = kept (record_key b) can.place;
+  schema = subst (λ (r : Rows). Meets (put_back b r)) (sym same) can.schema;
+}
+
+-- the undo of a change brings the rows before it back
+pub gone_back : (c : Change) (old new : Stored) (b : Record) → Applies c old new b → put_back b (rows new) ≡ rows old
+gone_back c old new b a = subst (λ (d : Record). put_back d (rows new) ≡ rows old) (sym a.before) (ap (put_back (record_of c (row_at (rows old) (key_of c)))) a.changes ∙ undone c (rows old))
