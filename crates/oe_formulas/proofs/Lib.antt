@@ -1,0 +1,3 @@
+-- What this crate's proofs rest on.
+mod TextFacts
+mod LawFacts

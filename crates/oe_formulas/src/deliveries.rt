@@ -1,0 +1,55 @@
+//! The rows after the delivery of an order (clause 2.7.4.2).
+ghost use Rattle.std.specs.Prelude.{◌≡◌, ◌↔◌, ◌+ℤ◌, pos, IsTrue, IsSome, IfSome};
+ghost use Rattle.oe_formulas.specs.Checks.{checked};
+ghost use Rattle.oe_model.specs.Delivery.{carried, dated, delivered_to, delivered_out};
+ghost use Rattle.oe_model.specs.Payment.{is_balance};
+
+use oe_requests::Column;
+use oe_rows::{Customer, Order, OrderLine};
+use oe_values::{Balance, Carrier, Cents, Count, Stamp};
+
+/// The order after its delivery: O_CARRIER_ID is the carrier.
+pub fn order_after_delivery(row: &Order, carrier: Carrier) -> Order
+    ensures { result ≡ carried carrier row.now }
+{
+    let mut after = row.copied();
+    after.carrier = Some(carrier);
+    after
+}
+
+/// A line of the order after its delivery: OL_DELIVERY_D is the stamp.
+pub fn line_after_delivery(row: &OrderLine, stamp: Stamp) -> OrderLine
+    ensures { result ≡ dated stamp row.now }
+{
+    let mut after = row.copied();
+    after.delivery = Some(stamp);
+    after
+}
+
+/// C_BALANCE after it has risen by a sum, where it stays in its range.
+fn balance_after(balance: Balance, sum: Cents) -> Option<Balance>
+    ensures variant { IsTrue (is_balance (balance +ℤ pos sum)) ↔ IsSome result }
+    ensures value { IfSome result (λ b. b ≡ balance +ℤ pos sum) }
+{
+    if sum.cents() > 1_999_999_999_998 {
+        return None;
+    }
+    Balance::new(balance.cents() + sum.cents() as i64)
+}
+
+/// The customer after the delivery: C_BALANCE rises by the sum of the order's OL_AMOUNTs, C_DELIVERY_CNT by 1. Else the
+/// first of these columns that would leave its range.
+pub fn customer_after_delivery(row: &Customer, sum: Cents) -> Result<Customer, Column>
+    ensures { result ≡ checked delivered_out (delivered_to sum row.now) }
+{
+    let Some(balance) = balance_after(row.account.balance, sum) else {
+        return Err(Column::Balance);
+    };
+    let Some(delivery_count) = Count::new(row.account.delivery_count.get() + 1) else {
+        return Err(Column::DeliveryCount);
+    };
+    let mut after = row.copied();
+    after.account.balance = balance;
+    after.account.delivery_count = delivery_count;
+    Ok(after)
+}

@@ -1,0 +1,238 @@
+//! The rows after a new order (clause 2.4.2.2).
+ghost use Rattle.std.specs.Prelude.{◌≡◌, ◌==◌, ◌≤◌, ◌+◌, ◌-◌, ◌*◌, cond, nat_le, ◌↔◌, ℕ, length, map, codes, IsSome, IfSome};
+ghost use Rattle.std.specs.List.{list_all};
+ghost use Rattle.oe_rows.specs.Credit.{order_total};
+ghost use Rattle.oe_formulas.specs.Orders.{seen_by};
+ghost use Rattle.oe_formulas.specs.Checks.{checked};
+ghost use Rattle.oe_model.specs.NewOrder.{supplied, stock_of, stock_out, occurs_in, brand, fill, order_row, with_next, next_out, seen, ordered_reply};
+
+use oe_keys::StockKey;
+use oe_requests::{
+    Brand, Column, LineReplies, LineReply, NewOrderReply, NewOrderRequest, RequestLine,
+};
+use oe_rows::{Credit, Customer, District, Item, Order, OrderLine, Stock, Warehouse, total};
+use oe_values::{
+    Cents, Count, ItemNumber, LineAmount, LineCount, LineQuantity, OrderNumber, Quantity, Rate,
+    StockYtd, Text, WarehouseNumber,
+};
+
+/// The district after a new order: D_NEXT_O_ID rises by 1. Else D_NEXT_O_ID, which would leave its range.
+pub fn district_after_order(row: &District) -> Result<District, Column>
+    ensures { result ≡ checked next_out (with_next row.now) }
+{
+    let Some(next_order) = OrderNumber::new(row.next_order.get() + 1) else {
+        return Err(Column::NextOrder);
+    };
+    let mut after = row.copied();
+    after.next_order = next_order;
+    Ok(after)
+}
+
+/// Whether the warehouse supplies every line.
+fn is_local(lines: &[RequestLine], home: WarehouseNumber) -> bool
+    ensures { result ≡ list_all (λ l. l.supply == home) lines.now }
+{
+    lines.iter().all(|line| line.supply == home)
+}
+
+/// The ORDER row of a new order: no carrier yet, and O_ALL_LOCAL where its own warehouse supplies every line.
+pub fn order_row(request: &NewOrderRequest) -> Order
+    ensures { result ≡ order_row request.now }
+{
+    let lines = request.lines.as_slice();
+    let line_count = match LineCount::new(lines.len() as u32) {
+        Some(count) => count,
+        None => unreachable!(),
+    };
+    Order {
+        customer: request.customer,
+        entry: request.stamp,
+        carrier: None,
+        line_count,
+        all_local: is_local(lines, request.district.warehouse),
+    }
+}
+
+/// The key of the stock that a line asks for, where it has an item's number (clause 2.4.1.5).
+pub fn stock_key(line: RequestLine) -> Option<StockKey>
+    ensures variant { IsSome result ↔ (line.item ≤ 100_000) }
+    ensures value { IfSome result (λ k. k ≡ stock_of line) }
+{
+    let item = ItemNumber::new(line.item.get())?;
+    Some(StockKey {
+        warehouse: line.supply,
+        item,
+    })
+}
+
+/// S_QUANTITY after a line of that quantity: 10 or more are left, or 91 come in.
+fn quantity_after(row: &Stock, quantity: Quantity) -> Count
+    ensures { result ≡ cond (nat_le (quantity + 10) row.now.quantity) (row.now.quantity - quantity) (row.now.quantity + 91 - quantity) }
+{
+    let in_stock = row.quantity.get();
+    let asked = quantity.get();
+    let left = if in_stock >= asked + 10 {
+        in_stock - asked
+    } else {
+        in_stock + 91 - asked
+    };
+    match Count::new(left) {
+        Some(count) => count,
+        None => unreachable!(),
+    }
+}
+
+/// S_REMOTE_CNT after a line for a district of the home warehouse: it rises by 1 where the stock is another warehouse's.
+fn remote_count_after(home: WarehouseNumber, key: StockKey, row: &Stock) -> u32
+    ensures { result ≡ cond (key.warehouse == home) row.now.remote_count (row.now.remote_count + 1) }
+{
+    if key.warehouse == home {
+        row.remote_count.get()
+    } else {
+        row.remote_count.get() + 1
+    }
+}
+
+/// The stock of a key after a line of that quantity for a district of the home warehouse: S_QUANTITY by the stock rule,
+/// S_YTD rises by the quantity, S_ORDER_CNT by 1, and S_REMOTE_CNT by 1 where the stock is another warehouse's. Else the
+/// first of S_YTD, S_ORDER_CNT and S_REMOTE_CNT that would leave its range.
+pub fn stock_after_line(
+    home: WarehouseNumber,
+    key: StockKey,
+    row: &Stock,
+    quantity: Quantity,
+) -> Result<Stock, Column>
+    ensures { result ≡ checked stock_out (supplied home key row.now quantity) }
+{
+    let Some(ytd) = StockYtd::new(row.ytd.get() + quantity.get()) else {
+        return Err(Column::StockYtd);
+    };
+    let Some(order_count) = Count::new(row.order_count.get() + 1) else {
+        return Err(Column::OrderCount);
+    };
+    let Some(remote_count) = Count::new(remote_count_after(home, key, row)) else {
+        return Err(Column::RemoteCount);
+    };
+    let mut after = row.copied();
+    after.quantity = quantity_after(row, quantity);
+    after.ytd = ytd;
+    after.order_count = order_count;
+    after.remote_count = remote_count;
+    Ok(after)
+}
+
+/// Whether a text has `ORIGINAL` in it.
+fn is_original(text: &str) -> bool
+    ensures { result ≡ occurs_in (codes "ORIGINAL") text.now }
+{
+    text.contains("ORIGINAL")
+}
+
+/// Whether an item and its stock are both original.
+pub fn brand(item: &Item, stock: &Stock) -> Brand
+    ensures { result ≡ brand item.now stock.now }
+{
+    if is_original(item.data.as_str()) && is_original(stock.data.as_str()) {
+        Brand::Original
+    } else {
+        Brand::Generic
+    }
+}
+
+/// OL_AMOUNT: the quantity times I_PRICE.
+fn amount(line: RequestLine, item: &Item) -> LineAmount
+    ensures { result ≡ line.quantity * item.now.price }
+{
+    match LineAmount::new(u64::from(line.quantity.get()) * item.price.cents()) {
+        Some(amount) => amount,
+        None => unreachable!(),
+    }
+}
+
+/// The ORDER-LINE row of a line, of its item and stock: not delivered yet, with the stock's text for the district.
+pub fn order_line(
+    request: &NewOrderRequest,
+    line: RequestLine,
+    item: &Item,
+    stock: &Stock,
+) -> OrderLine
+    requires { line.item ≤ 100_000 }
+    ensures { (n : ℕ) → result ≡ (fill request.now n line item.now stock.now).row }
+{
+    OrderLine {
+        item: ItemNumber::new(line.item.get()).unwrap(),
+        supply: line.supply,
+        delivery: None,
+        quantity: LineQuantity::new(line.quantity.get()).unwrap(),
+        amount: amount(line, item),
+        dist_info: stock.district_info(request.district.district).copied(),
+    }
+}
+
+/// What a new order answers of a line, of its item and of its stock after the line.
+pub fn line_reply(line: RequestLine, item: &Item, stock: &Stock) -> LineReply
+    ensures { (q : NewOrderRequest) (n : ℕ) → result ≡ (fill q n line item.now stock.now).reply }
+{
+    LineReply {
+        brand: brand(item, stock),
+        quantity: stock.quantity,
+        amount: amount(line, item),
+    }
+}
+
+/// What a new order has read before its lines: O_ID, W_TAX, D_TAX, C_DISCOUNT, C_LAST and C_CREDIT.
+#[derive(Drop, Debug, PartialEq, Eq)]
+pub struct Seen {
+    pub order: OrderNumber,
+    pub warehouse_tax: Rate,
+    pub district_tax: Rate,
+    pub discount: Rate,
+    pub last: Text<0, 16>,
+    pub credit: Credit,
+}
+
+impl Seen {
+    /// What it reads in these rows, where the district's is the one before the order.
+    pub fn new(warehouse: &Warehouse, district: &District, customer: &Customer) -> Self
+        ensures { seen_by result ≡ seen warehouse.now district.now customer.now }
+    {
+        Seen {
+            order: district.next_order,
+            warehouse_tax: warehouse.tax,
+            district_tax: district.tax,
+            discount: customer.account.discount,
+            last: customer.name.last.copied(),
+            credit: customer.credit,
+        }
+    }
+
+    /// The total of an order of these lines.
+    fn total(&self, lines: &[LineReply]) -> Cents
+        requires { length lines.now ≤ 15 }
+        ensures { result ≡ order_total (map (λ l. l.amount) lines.now) self.now.discount self.now.warehouse_tax self.now.district_tax }
+    {
+        let mut amounts = [LineAmount::new(0).unwrap(); 15];
+        for (place, line) in lines.iter().enumerate() {
+            amounts[place] = line.amount;
+        }
+        total(
+            &amounts[..lines.len()],
+            self.discount,
+            self.warehouse_tax,
+            self.district_tax,
+        )
+    }
+
+    /// What a new order answers, of the replies to its lines.
+    pub fn reply(&self, lines: &LineReplies) -> NewOrderReply
+        ensures { result ≡ ordered_reply (seen_by self.now) lines.now }
+    {
+        NewOrderReply {
+            order: self.order,
+            last: self.last.copied(),
+            credit: self.credit,
+            total: self.total(lines.as_slice()),
+            lines: lines.copied(),
+        }
+    }
+}
