@@ -1,0 +1,6 @@
+-- What this crate's proofs rest on.
+mod GroupFacts
+mod SumFacts
+mod NumberFacts
+mod DistrictFacts
+mod PopulationFacts

@@ -1,0 +1,21 @@
+-- Tests of a row that read none of its columns but the key's, and what they go by.
+use Rattle.std.specs.Prelude.{ℕ, ◌+◌, ◌-◌, ◌==◌, Bool, true, Option, None, Some}
+use Rattle.oe_keys.specs.declared.keys.DistrictKey.{DistrictKey}
+use Rattle.oe_model.specs.Rows.{Rows}
+use Rattle.oe_model.specs.Conditions.{new_orders_of, lines_asked, lines_there}
+use Rattle.oe_model.specs.Audits.{greatest, least, none_or, new_order_numbers}
+
+-- where a district has a NEW-ORDER row, the greatest NO_O_ID less the least, and 1, is their number (clause 3.3.2.3)
+abbrev pub are_counted : Rows → DistrictKey → Bool
+are_counted r h =
+    none_or (greatest (new_order_numbers h r.new_orders)) (λ n.
+    none_or (least (new_order_numbers h r.new_orders)) (λ m. n - m + 1 == new_orders_of r h))
+
+-- the sum of a district's O_OL_CNT is the number of its ORDER-LINE rows (clause 3.3.2.4)
+unfoldable pub lines_agree : Rows → DistrictKey → Bool
+lines_agree r h = lines_asked r h == lines_there r h
+
+-- this number is one more than the one before it, where there is one
+abbrev pub follows : Option ℕ → ℕ → Bool
+follows None n = true
+follows (Some b) n = b == n - 1

@@ -1,0 +1,27 @@
+-- A condition and a verdict of the steps, as the model's.
+use Rattle.oe_steps.specs.declared.audits.Condition.{Condition}
+use Rattle.oe_steps.specs.declared.audits.Condition.TheVariants as condition
+use Rattle.oe_steps.specs.declared.audits.Verdict.{Verdict}
+use Rattle.oe_steps.specs.declared.audits.Verdict.TheVariants as told
+use Rattle.oe_model.specs.Audits as model
+use Rattle.oe_model.specs.Rows.{Rows}
+use Rattle.oe_model.specs.Conditions.{Condition_1, Condition_2, Condition_3, Condition_4}
+
+-- the condition that is audited
+abbrev pub condition_of : Condition → model.Condition
+condition_of condition.First = model.First
+condition_of condition.Second = model.Second
+condition_of condition.Third = model.Third
+condition_of condition.Fourth = model.Fourth
+
+-- what the audit found
+abbrev pub verdict_of : Verdict → model.Verdict
+verdict_of told.Holds = model.Holds
+verdict_of (told.Fails k) = model.Fails k
+
+-- conditions 1 to 4 hold (clauses 3.3.2.1 to 3.3.2.4)
+pub record AreMet (r : Rows) : Type 0 where
+  pub first : Condition_1 r
+  pub second : Condition_2 r
+  pub third : Condition_3 r
+  pub fourth : Condition_4 r

@@ -1,0 +1,83 @@
+//! The test of a population.
+ghost use Rattle.std.specs.Prelude.{◌≡◌, ◌↔◌, ◌==◌, IsTrue, is_some};
+ghost use Rattle.std.specs.FinMap.{get};
+ghost use Rattle.oe_model.specs.Conditions.{IsPopulation};
+ghost use Rattle.oe_model.specs.PopulationTest.{each_row, has_stocks};
+ghost use Rattle.oe_model.specs.Verdicts.{IsMet};
+ghost use Rattle.oe_store.specs.Stored.{rows};
+ghost use Rattle.oe_audit.specs.Verdict.{AreMet, condition_of};
+
+use crate::conditions::condition;
+use oe_keys::{StockKey, WarehouseKey};
+use oe_steps::{Condition, Verdict};
+use oe_store::Tables;
+
+/// Whether a condition holds.
+fn holds(number: Condition, tables: &Tables) -> bool
+    ensures { IsTrue result ↔ IsMet (condition_of number) (rows tables.now) }
+{
+    match condition(number, tables) {
+        Verdict::Holds => true,
+        Verdict::Fails(_) => false,
+    }
+}
+
+/// Whether conditions 1 to 4 hold (clause 3.3.2).
+fn are_met(tables: &Tables) -> bool
+    ensures { IsTrue result ↔ AreMet (rows tables.now) }
+{
+    holds(Condition::First, tables)
+        && holds(Condition::Second, tables)
+        && holds(Condition::Third, tables)
+        && holds(Condition::Fourth, tables)
+}
+
+/// Whether a key has a STOCK row.
+fn has_stock(tables: &Tables, key: StockKey) -> bool
+    ensures { result ≡ is_some (get (rows tables.now).stocks key) }
+{
+    tables.stock(key).is_some()
+}
+
+/// Whether a warehouse has a STOCK row for each ITEM row.
+fn is_stocked(tables: &Tables, key: WarehouseKey) -> bool
+    ensures { result ≡ each_row (λ i y. is_some (get (rows tables.now).stocks (record { warehouse = key.warehouse; item = i.item }))) (rows tables.now).items }
+{
+    tables.items().all(|(item, _)| {
+        let stock = StockKey {
+            warehouse: key.warehouse,
+            item: item.item,
+        };
+        has_stock(tables, stock)
+    })
+}
+
+/// Whether each warehouse has a STOCK row for each ITEM row.
+fn are_stocked(tables: &Tables) -> bool
+    ensures { result ≡ has_stocks (rows tables.now) }
+{
+    tables.warehouses().all(|(key, _)| is_stocked(tables, *key))
+}
+
+/// Whether each HISTORY row is of terminal 0, the population's.
+fn are_of_population(tables: &Tables) -> bool
+    ensures { result ≡ each_row (λ k x. k.terminal == 0) (rows tables.now).histories }
+{
+    tables.histories().all(|(key, _)| key.terminal.get() == 0)
+}
+
+/// Whether the tables are such as to begin from: conditions 1 to 4 hold (clause 3.3.2), by the second of which each
+/// district has an order; each warehouse has a STOCK row for each ITEM row; and each HISTORY row is of terminal 0. The
+/// schema holds by the tables' type. No memory is taken.
+pub fn is_population(tables: &Tables) -> bool
+    ensures { IsTrue result ↔ IsPopulation (rows tables.now) }
+{
+    tables.schema_holds();
+    if !are_met(tables) {
+        return false;
+    }
+    if !are_stocked(tables) {
+        return false;
+    }
+    are_of_population(tables)
+}
