@@ -1,0 +1,124 @@
+-- What a rollback leaves.
+use Rattle.std.proofs.Common.{◌≡◌, ◌≢◌, ℕ, suc, zero, ◌+◌, ◌-◌, ◌<◌, ◌≤◌, ◌==◌, Bool, true, false, cond, refl, sym, ap, ◌∙◌, subst, inl, inr, arith, List, [], ◌∷◌, length, take, drop}
+use Rattle.std.specs.Prelude.{Option, None, Some, is_some}
+use Rattle.std.proofs.lemmas.Bool.{cases_eq, cond-true, cond-false, eq-eqb, ne_eqb, true≢false}
+use Rattle.std.proofs.lemmas.List.{length-set, length-map, take_all, drop_all}
+use mathlib.Core.Path.{fun_ext}
+use Rattle.oe_keys.specs.declared.keys.Key.{Key}
+use Rattle.oe_records.specs.Befores.{record_of_before}
+use Rattle.oe_theory.specs.Machine as theory
+use Rattle.oe_keys.specs.declared.locks.Name.{Name}
+use Rattle.oe_theory.specs.World as world
+use Rattle.oe_theory.specs.Undo.{unwind, put_records}
+use Rattle.oe_model.specs.Rows.{Rows}
+use Rattle.oe_model.specs.Changes.{Record}
+use Rattle.oe_model.specs.System.{system}
+use Rattle.oe_store.specs.Stored.{rows, HasPlace}
+use Rattle.oe_store.specs.Stored as tables
+use Rattle.oe_undo.specs.Segments.{Placed}
+use Rattle.oe_undo.specs.Undo.{Stored, active_at, records_at, count_at, dropped}
+use Rattle.oe_undo.specs.Stands.{model_records, undo_of, counts_of}
+use Rattle.oe_undo.proofs.StandsFacts as stands
+use Rattle.oe_locks.specs.Held.{Holdings, OthersKeep, HoldsNothing}
+use Rattle.oe_engine.specs.View.{View, view_from}
+use Rattle.oe_engine.specs.Kept.{HavePlaces, AllHavePlaces, IsKept}
+use Rattle.oe_engine.specs.Calls.{CanUnwind, back_at, rolled_back}
+use Rattle.oe_engine.specs.Unwinds.{TakesBack}
+use Rattle.oe_engine.proofs.LockFacts.{held_of, released_is}
+use Rattle.oe_engine.proofs.LogFacts.{active_set, seen_same}
+use Rattle.oe_engine.proofs.KeptFacts.{more_places, all_more_places, places_set, released_idle}
+
+-- the engine's promise after records were put back
+pub taken_kept : (ts ts' : tables.Stored) (u u' : Stored) (ls : Holdings) (t n : ℕ) → TakesBack ts u t n ts' u' → IsKept ts u ls → IsKept ts' u' ls
+taken_kept ts ts' u u' ls t n h k =
+    let w = h.others in
+    let more : (j : Key) → HasPlace ts j → HasPlace ts' j = λ j p. (w.places j).1 p in
+    record {
+      size = w.size ∙ k.size;
+      active = λ x. subst (λ z. HavePlaces ts' (z.active x)) (sym w.undo) (places_set ts' t ((undo_of u').active t) (undo_of u).active w.own (λ y. more_places ts ts' more ((undo_of u).active y) (k.active y)) x);
+      history = subst (λ z. AllHavePlaces ts' z.history) (sym w.undo) (all_more_places ts ts' more (undo_of u).history k.history);
+      idle = λ x e. k.idle x (sym (w.is_open x) ∙ e);
+      counted = λ x e. subst (λ m. m < 4_294_967_295) (sym (ap (λ f. f x) w.counts)) (k.counted x (sym (w.is_open x) ∙ e));
+    }
+
+-- and after an empty segment was dropped, and its terminal's names were let go of
+pub dropped_kept : (ts : tables.Stored) (u : Stored) (ls ls' : Holdings) (t : ℕ) → t < length u.terminals → records_at u t ≡ []
+    → HoldsNothing ls' t → OthersKeep ls ls' t → IsKept ts u ls → IsKept ts (dropped u t) ls'
+dropped_kept ts u ls ls' t within empty own others k =
+    let s = stands.drops u t empty in
+    let open_is : (x : ℕ) → is_some (active_at (dropped u t) x) ≡ world.set t false (λ y. is_some (active_at u y)) x =
+    active_set u t (record { count = count_at u t; active = None }) within in
+    let counts : (x : ℕ) → count_at (dropped u t) x ≡ count_at u x = seen_same (λ z. z.count) u t (record { count = count_at u t; active = None }) refl in
+    record {
+      size = length-set u.terminals t _ ∙ k.size;
+      active = λ x. subst (λ z. HavePlaces ts (z.active x)) (sym s.undo) (k.active x);
+      history = subst (λ z. AllHavePlaces ts z.history) (sym s.undo) k.history;
+      idle = released_idle ls ls' t (λ x. is_some (active_at u x)) (λ x. is_some (active_at (dropped u t) x)) open_is own others k.idle;
+      counted = λ x e. elim (cases_eq x t) [
+        | inl same ↦ absurd (true≢false (sym e ∙ (open_is x ∙ cond-true (x == t) false (is_some (active_at u x)) (eq-eqb x t same))))
+        | inr ne ↦ subst (λ n. n < 4_294_967_295) (sym (counts x)) (k.counted x (sym (cond-false (x == t) false (is_some (active_at u x)) (ne_eqb x t ne)) ∙ sym (open_is x) ∙ e))
+      ];
+    }
+
+-- back at a mark
+pub back_is : (ts ts' : tables.Stored) (u u' : Stored) (ls : Holdings) (t mark n : ℕ) → n ≡ length ((undo_of u).active t) - mark → TakesBack ts u t n ts' u'
+    → view_from ts' u' ls ≡ back_at t mark (view_from ts u ls)
+unfolding view_from
+back_is ts ts' u u' ls t mark n is h =
+    let w = h.others in
+    let rows_is : rows ts' ≡ unwind system (take (length ((undo_of u).active t) - mark) ((undo_of u).active t)) (rows ts) =
+    h.rows ∙ ap (λ m. unwind system (take m ((undo_of u).active t)) (rows ts)) is in
+    let undo_is : undo_of u' ≡ put_records system t (drop (length ((undo_of u).active t) - mark) ((undo_of u).active t)) (undo_of u) =
+    w.undo ∙ ap (λ bs. put_records system t bs (undo_of u)) (h.records ∙ ap (λ m. drop m ((undo_of u).active t)) is) in
+    let opens : (λ (x : ℕ). is_some (active_at u' x)) ≡ (λ (x : ℕ). is_some (active_at u x)) = fun_ext w.is_open in
+    λ i. record { rows = rows_is i; undo = undo_is i; seals = w.seals i; counts = w.counts i; held = held_of ls; is_open = opens i; extents = w.extents i }
+
+no_model : (rs : List Placed) → model_records rs ≡ [] → rs ≡ []
+no_model [] e = refl
+no_model (r ∷ rs) e = cc
+
+-- where as many were put back as there were, none is left
+pub none_is_left : (ts ts' : tables.Stored) (u u' : Stored) (t n : ℕ) → n ≡ length (records_at u t) → TakesBack ts u t n ts' u' → records_at u' t ≡ []
+none_is_left ts ts' u u' t n is h =
+    let many = length-map (records_at u t) (λ r. record_of_before r.before) in
+    no_model (records_at u' t) (h.records ∙ drop_all n ((undo_of u).active t) (omega arith))
+
+-- all put back, dropped and let go of
+pub rolled_back_is : (ts ts' : tables.Stored) (u u' : Stored) (ls ls' : Holdings) (t n : ℕ) → n ≡ length (records_at u t) → t < length u.terminals
+    → TakesBack ts u t n ts' u' → HoldsNothing ls' t → OthersKeep ls ls' t → view_from ts' (dropped u' t) ls' ≡ rolled_back t (view_from ts u ls)
+unfolding view_from
+rolled_back_is ts ts' u u' ls ls' t n is within h own others =
+    let w = h.others in
+    let empty : records_at u' t ≡ [] = none_is_left ts ts' u u' t n is h in
+    let s = stands.drops u' t empty in
+    let many = length-map (records_at u t) (λ r. record_of_before r.before) in
+    let all : take n ((undo_of u).active t) ≡ (undo_of u).active t = take_all n ((undo_of u).active t) (omega arith) in
+    let rows_is : rows ts' ≡ unwind system ((undo_of u).active t) (rows ts) = h.rows ∙ ap (λ bs. unwind system bs (rows ts)) all in
+    let undo_is : undo_of (dropped u' t) ≡ put_records system t [] (undo_of u) =
+    s.undo ∙ w.undo ∙ ap (λ rs. put_records system t (model_records rs) (undo_of u)) empty in
+    let there : t < length u'.terminals = subst (λ m. t < m) (sym w.size) within in
+    let opens : (λ (x : ℕ). is_some (active_at (dropped u' t) x)) ≡ world.set t false (λ (x : ℕ). is_some (active_at u x)) =
+    fun_ext (active_set u' t (record { count = count_at u' t; active = None }) there) ∙ ap (world.set t false) (fun_ext w.is_open) in
+    let names : held_of ls' ≡ world.set t (λ _. None) (held_of ls) = released_is ls ls' t own others in
+    let seals_is = s.seals ∙ w.seals in
+    let counts_is = s.counts ∙ w.counts in
+    λ i. record { rows = rows_is i; undo = undo_is i; seals = seals_is i; counts = counts_is i; held = names i; is_open = opens i; extents = w.extents i }
+
+pub can_all : (u : Stored) (t n : ℕ) (r : Rows) → n ≡ length (records_at u t) → CanUnwind ((undo_of u).active t) r → CanUnwind (take n ((undo_of u).active t)) r
+can_all u t n r is can =
+    let many = length-map (records_at u t) (λ b. record_of_before b.before) in
+    let all : take n ((undo_of u).active t) ≡ (undo_of u).active t = take_all n ((undo_of u).active t) (omega arith) in
+    subst (λ bs. CanUnwind bs r) (sym all) can
+
+-- how many are to go to come back to a mark
+pub since_is : (u : Stored) (t k n mark m : ℕ) → t ≡ k → n ≡ length (records_at u t) → m ≡ mark → n - m ≡ length ((undo_of u).active k) - mark
+since_is u t k n mark m same is at =
+    let many = length-map (records_at u t) (λ b. record_of_before b.before) in
+    let there : length ((undo_of u).active t) ≡ length ((undo_of u).active k) = ap (λ z. length ((undo_of u).active z)) same in
+    omega arith
+
+pub within_mark : (u : Stored) (t k n mark m : ℕ) → t ≡ k → n ≡ length (records_at u t) → m ≡ mark → mark ≤ length ((undo_of u).active k) → m ≤ n
+within_mark u t k n mark m same is at below =
+    let many = length-map (records_at u t) (λ b. record_of_before b.before) in
+    let there : length ((undo_of u).active t) ≡ length ((undo_of u).active k) = ap (λ z. length ((undo_of u).active z)) same in
+    omega arith

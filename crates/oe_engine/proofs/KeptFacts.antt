@@ -1,0 +1,169 @@
+-- What an engine keeps of its tables, its undo log and its locks, each call keeps.
+use Rattle.std.proofs.Common.{◌≡◌, ◌≢◌, ℕ, suc, ◌+◌, ◌-◌, ◌<◌, ◌≤◌, ◌==◌, Bool, true, false, cond, refl, sym, ap, ◌∙◌, subst, inl, inr, arith, replicate, List, [], ◌∷◌, length, get_or, set}
+use Rattle.std.specs.Prelude.{Option, None, Some, is_some, Result, Ok, Err, OnOk, OnErr}
+use Rattle.std.proofs.lemmas.Bool.{cases_eq, cond-true, cond-false, eq-eqb, ne_eqb, true≢false}
+use Rattle.std.proofs.lemmas.List.{length-set, length-replicate}
+use Rattle.oe_keys.specs.declared.keys.Key.{Key}
+use Rattle.oe_requests.specs.declared.requests.Request.{Request}
+use Rattle.oe_requests.specs.declared.replies.Reply.{Reply}
+use Rattle.oe_records.specs.declared.befores.Before.{Before}
+use Rattle.oe_records.specs.Befores.{record_of_before}
+use Rattle.oe_theory.specs.World as world
+use Rattle.oe_model.specs.Rows.{row_at}
+use Rattle.oe_model.specs.Changes.{Change, Record, key_of, record_key}
+use Rattle.oe_model.proofs.RowFacts.{record_key_of}
+use Rattle.oe_store.specs.Stored.{HasPlace, rows}
+use Rattle.oe_store.specs.Stored as tables
+use Rattle.oe_change.specs.Applies.{Applies}
+use Rattle.oe_undo.specs.declared.segments.Place.{Place}
+use Rattle.oe_undo.specs.declared.undo.TerminalState.{TerminalState}
+use Rattle.oe_undo.specs.Undo.{Stored, idle, active_at, count_at, no_segments, idle_terminals, with_room, opened, pushed, sealed, dropped}
+use Rattle.oe_undo.specs.Undo as undo
+use Rattle.oe_undo.specs.Stands.{undo_of}
+use Rattle.oe_undo.proofs.StandsFacts as stands
+use Rattle.oe_undo.proofs.KeptFacts.{idle_at}
+use Rattle.oe_locks.specs.Held.{Holdings, OthersKeep, HoldsNothing, IsIdle}
+use Rattle.oe_engine.specs.Kept.{HavePlaces, AllHavePlaces, IsKept}
+use Rattle.oe_engine.proofs.LogFacts.{active_set, seen_same, changed_open, pushed_open, is_none, some_of}
+
+-- keys that had places have them in tables in which none was lost
+pub more_places : (ts ts' : tables.Stored) → ((k : Key) → HasPlace ts k → HasPlace ts' k) → (bs : List Record) → HavePlaces ts bs → HavePlaces ts' bs
+more_places ts ts' more [] h = tt
+more_places ts ts' more (b ∷ bs) h = (more (record_key b) h.0, more_places ts ts' more bs h.1)
+
+pub all_more_places : (ts ts' : tables.Stored) → ((k : Key) → HasPlace ts k → HasPlace ts' k) → (ss : List (List Record)) → AllHavePlaces ts ss → AllHavePlaces ts' ss
+all_more_places ts ts' more [] h = tt
+all_more_places ts ts' more (bs ∷ ss) h = (more_places ts ts' more bs h.0, all_more_places ts ts' more ss h.1)
+
+-- one terminal's records replaced
+pub places_set : (ts : tables.Stored) (t : ℕ) (bs : List Record) (f : ℕ → List Record) → HavePlaces ts bs → ((x : ℕ) → HavePlaces ts (f x))
+    → (x : ℕ) → HavePlaces ts (world.set t bs f x)
+places_set ts t bs f own others x = go (x == t)
+  where
+    go : (b : Bool) → HavePlaces ts (cond b bs (f x))
+    go true = own
+    go false = others x
+
+-- what is asked of terminals without an open transaction, where one is open no longer or was opened
+idle_set : (P : ℕ → Type 0) (f g : ℕ → Bool) (t : ℕ) (b : Bool) → ((x : ℕ) → g x ≡ world.set t b f x) → (b ≡ false → P t)
+    → ((x : ℕ) → x ≢ t → f x ≡ false → P x) → (x : ℕ) → g x ≡ false → P x
+idle_set P f g t b is own others x e =
+    elim (cases_eq x t) [
+      | inl same ↦ subst P (sym same) (own (sym (cond-true (x == t) b (f x) (eq-eqb x t same)) ∙ sym (is x) ∙ e))
+      | inr ne ↦ others x ne (sym (cond-false (x == t) b (f x) (ne_eqb x t ne)) ∙ sym (is x) ∙ e)
+    ]
+
+-- at the beginning
+pub first_kept : (ts : tables.Stored) (n : ℕ) (ls : Holdings) → IsIdle ls → IsKept ts (no_segments n) ls
+unfolding idle_terminals
+first_kept ts n ls quiet =
+    let b = stands.begun n in
+    record {
+      size = length-replicate 65 idle;
+      active = λ t. subst (λ u. HavePlaces ts (u.active t)) (sym b.0) tt;
+      history = subst (λ u. AllHavePlaces ts u.history) (sym b.0) tt;
+      idle = λ t e q. quiet t q;
+      counted = λ t e.
+          let none : is_some (get_or (replicate 65 idle) t idle).active ≡ false = ap (λ (z : TerminalState). is_some z.active) (idle_at 65 t) in
+          absurd (true≢false (sym e ∙ none));
+    }
+
+-- a segment was opened
+pub opened_kept : (ts : tables.Stored) (u : Stored) (ls : Holdings) (t room : ℕ) → t < length u.terminals → active_at u t ≡ None
+    → count_at u t < 4_294_967_295 → IsKept ts u ls → IsKept ts (opened u t room) ls
+opened_kept ts u ls t room within closed below k =
+    let s = stands.opens u t room closed in
+    let open_is : (x : ℕ) → is_some (active_at (opened u t room) x) ≡ world.set t true (λ y. is_some (active_at u y)) x =
+    active_set u t (record { count = count_at u t; active = Some (record { terminal = t; number = suc (count_at u t); records = []; room = room }) }) within in
+    let counts : (x : ℕ) → count_at (opened u t room) x ≡ count_at u x =
+    seen_same (λ z. z.count) u t (record { count = count_at u t; active = Some (record { terminal = t; number = suc (count_at u t); records = []; room = room }) }) refl in
+    record {
+      size = length-set u.terminals t _ ∙ k.size;
+      active = λ x. subst (λ z. HavePlaces ts (z.active x)) (sym s.undo) (k.active x);
+      history = subst (λ z. AllHavePlaces ts z.history) (sym s.undo) k.history;
+      idle = idle_set (HoldsNothing ls) (λ y. is_some (active_at u y)) (λ y. is_some (active_at (opened u t room) y)) t true open_is (λ e. absurd (true≢false e)) (λ x ne e. k.idle x e);
+      counted = λ x e. elim (cases_eq x t) [
+        | inl same ↦ subst (λ n. n < 4_294_967_295) (sym (counts x ∙ ap (count_at u) same)) below
+        | inr ne ↦ subst (λ n. n < 4_294_967_295) (sym (counts x)) (k.counted x (sym (cond-false (x == t) true (is_some (active_at u x)) (ne_eqb x t ne)) ∙ sym (open_is x) ∙ e))
+      ];
+    }
+
+-- room was made
+pub roomed_kept : (ts : tables.Stored) (u : Stored) (ls : Holdings) (t room : ℕ) → IsKept ts u ls → IsKept ts (with_room u t room) ls
+roomed_kept ts u ls t room k =
+    let s = stands.reserves u t room in
+    let open_is : (x : ℕ) → is_some (active_at (with_room u t room) x) ≡ is_some (active_at u x) = changed_open u t (λ o. record o { room = room }) in
+    let counts : (x : ℕ) → count_at (with_room u t room) x ≡ count_at u x =
+    seen_same (λ z. z.count) u t (record { count = count_at u t; active = undo.changed (λ o. record o { room = room }) (active_at u t) }) refl in
+    record {
+      size = length-set u.terminals t _ ∙ k.size;
+      active = λ x. subst (λ z. HavePlaces ts (z.active x)) (sym s.undo) (k.active x);
+      history = subst (λ z. AllHavePlaces ts z.history) (sym s.undo) k.history;
+      idle = λ x e. k.idle x (sym (open_is x) ∙ e);
+      counted = λ x e. subst (λ n. n < 4_294_967_295) (sym (counts x)) (k.counted x (sym (open_is x) ∙ e));
+    }
+
+-- a change was made and its record pushed
+pub made_kept : (ts ts' : tables.Stored) (u : Stored) (ls : Holdings) (t : ℕ) (p : Place) (c : Change) (b : Before) → is_some (active_at u t) ≡ true
+    → Applies c ts ts' (record_of_before b) → IsKept ts u ls → IsKept ts' (pushed u t p b) ls
+made_kept ts ts' u ls t p c b is a k =
+    let o = some_of (active_at u t) is in
+    let s = stands.pushes u t o.0 p b o.1 in
+    let open_is : (x : ℕ) → is_some (active_at (pushed u t p b) x) ≡ is_some (active_at u x) = pushed_open u t p b in
+    let counts : (x : ℕ) → count_at (pushed u t p b) x ≡ count_at u x =
+    seen_same (λ z. z.count) u t (record { count = count_at u t; active = undo.changed (λ o. record o { records = record { place = p; before = b } ∷ o.records; room = o.room - 1 }) (active_at u t) }) refl in
+    let more : (j : Key) → HasPlace ts j → HasPlace ts' j = λ j h. (a.places j).1 (inl h) in
+    let key : record_key (record_of_before b) ≡ key_of c = ap record_key a.before ∙ record_key_of c (row_at (rows ts) (key_of c)) in
+    let own : HavePlaces ts' (record_of_before b ∷ (undo_of u).active t) = ((a.places (record_key (record_of_before b))).1 (inr key), more_places ts ts' more _ (k.active t)) in
+    record {
+      size = length-set u.terminals t _ ∙ k.size;
+      active = λ x. subst (λ z. HavePlaces ts' (z.active x)) (sym s.undo) (places_set ts' t _ (undo_of u).active own (λ y. more_places ts ts' more _ (k.active y)) x);
+      history = subst (λ z. AllHavePlaces ts' z.history) (sym s.undo) (all_more_places ts ts' more _ k.history);
+      idle = λ x e. k.idle x (sym (open_is x) ∙ e);
+      counted = λ x e. subst (λ n. n < 4_294_967_295) (sym (counts x)) (k.counted x (sym (open_is x) ∙ e));
+    }
+
+-- the names of a terminal with an open transaction have changed
+pub locks_kept : (ts : tables.Stored) (u : Stored) (ls ls' : Holdings) (t : ℕ) → is_some (active_at u t) ≡ true → OthersKeep ls ls' t → IsKept ts u ls → IsKept ts u ls'
+locks_kept ts u ls ls' t is others k =
+    record {
+      size = k.size;
+      active = k.active;
+      history = k.history;
+      idle = λ x e q. elim (cases_eq x t) [
+        | inl same ↦ absurd (true≢false (sym is ∙ (ap (λ y. is_some (active_at u y)) (sym same) ∙ e)))
+        | inr ne ↦ others x ne q ∙ k.idle x e q
+      ];
+      counted = k.counted;
+    }
+
+pub released_idle : (ls ls' : Holdings) (t : ℕ) (f g : ℕ → Bool) → ((x : ℕ) → g x ≡ world.set t false f x) → HoldsNothing ls' t → OthersKeep ls ls' t
+    → ((x : ℕ) → f x ≡ false → HoldsNothing ls x) → (x : ℕ) → g x ≡ false → HoldsNothing ls' x
+released_idle ls ls' t f g is own others old =
+    idle_set (HoldsNothing ls') f g t false is (λ e. own) (λ x ne e q. others x ne q ∙ old x e q)
+
+-- a segment was sealed, and its terminal's names were let go of
+pub sealed_kept : (ts : tables.Stored) (u : Stored) (ls ls' : Holdings) (t : ℕ) (q : Request) (y : Reply) → t < length u.terminals → is_some (active_at u t) ≡ true
+    → HoldsNothing ls' t → OthersKeep ls ls' t → IsKept ts u ls → IsKept ts (sealed u t q y) ls'
+sealed_kept ts u ls ls' t q y within is own others k =
+    let o = some_of (active_at u t) is in
+    let s = stands.seals u t o.0 q y o.1 in
+    let open_is : (x : ℕ) → is_some (active_at (sealed u t q y) x) ≡ world.set t false (λ y. is_some (active_at u y)) x =
+    active_set u t (record { count = suc (count_at u t); active = None }) within in
+    record {
+      size = length-set u.terminals t _ ∙ k.size;
+      active = λ x. subst (λ z. HavePlaces ts (z.active x)) (sym s.undo) (places_set ts t [] (undo_of u).active tt k.active x);
+      history = subst (λ z. AllHavePlaces ts z.history) (sym s.undo) (k.active t, k.history);
+      idle = released_idle ls ls' t (λ x. is_some (active_at u x)) (λ x. is_some (active_at (sealed u t q y) x)) open_is own others k.idle;
+      counted = λ x e. elim (cases_eq x t) [
+        | inl same ↦ absurd (true≢false (sym e ∙ (open_is x ∙ cond-true (x == t) false (is_some (active_at u x)) (eq-eqb x t same))))
+        | inr ne ↦ subst (λ n. n < 4_294_967_295) (sym (ap (λ f. f x) s.counts ∙ cond-false (x == t) (suc (count_at u t)) (count_at u x) (ne_eqb x t ne)))
+            (k.counted x (sym (cond-false (x == t) false (is_some (active_at u x)) (ne_eqb x t ne)) ∙ sym (open_is x) ∙ e))
+      ];
+    }
+
+-- a name was asked for
+pub asked_kept : {T E : Type 0} (r : Result T E) (ts : tables.Stored) (u : Stored) (ls ls' : Holdings) (t : ℕ) → is_some (active_at u t) ≡ true
+    → OnOk r (OthersKeep ls ls' t) → OnErr r (ls' ≡ ls) → IsKept ts u ls → IsKept ts u ls'
+asked_kept (Ok v) ts u ls ls' t is others same k = locks_kept ts u ls ls' t is others k
+asked_kept (Err e) ts u ls ls' t is others same k = subst (IsKept ts u) (sym same) k

@@ -1,0 +1,7 @@
+pub mod EndFacts
+pub mod KeptFacts
+pub mod LockFacts
+pub mod LogFacts
+pub mod MakeFacts
+pub mod RowFacts
+pub mod UnwindFacts

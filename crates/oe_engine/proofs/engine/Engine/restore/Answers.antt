@@ -1,0 +1,29 @@
+use Rattle.std.proofs.Common.{◌≡◌, true, false, is_some, sym, ap, ◌∙◌, subst}
+use Rattle.std.proofs.lemmas.Bool.{true≢false}
+use Rattle.oe_undo.specs.Undo.{active_at}
+use Rattle.oe_locks.specs.Held.{IsBelow, held}
+use Rattle.oe_engine.specs.View.{view_of, view_from}
+use Rattle.oe_engine.proofs.KeptFacts.{locks_kept}
+use Rattle.oe_engine.proofs.RowFacts.{mode_put, put_nothing}
+use Rattle.oe_engine.proofs.engine.Engine.restore.Goals as goal
+
+pub invariant_of-self : goal.invariant_of-self
+unfolding view_of view_from
+invariant_of-self c =
+    let given = rw (← c.self.view_is) at c.requires.open in
+    let is : is_some (active_at c.self.inside.undo c.args.terminal) ≡ true = given in
+    locks_kept c.self.inside.tables c.self.inside.undo c.self.inside.locks c.give_back.new.self c.args.terminal is c.give_back.ensures.others c.self.invariant
+
+pub returns-then-is_below-clause-put : goal.returns-then-is_below-clause-put
+unfolding view_of
+returns-then-is_below-clause-put c =
+    rw (← c.self.view_is)
+    (mode_put c.self.inside.tables c.self.inside.undo c.self.inside.locks c.give_back.new.self c.args.terminal c.args.name c.args.mode c.give_back.ensures.own c.give_back.ensures.others)
+
+pub returns-else-is_below-clause-put : goal.returns-else-is_below-clause-put
+unfolding view_of
+returns-else-is_below-clause-put c =
+    let given = rw (← c.self.view_is) at c.requires.below in
+    rw (← c.self.view_is)
+    (put_nothing c.self.inside.tables c.self.inside.undo c.self.inside.locks c.args.terminal c.args.name c.args.mode given
+    (λ h. true≢false (sym (c.is_below.ensures.1 (subst (IsBelow c.args.mode) (sym c.holds.ensures) h)) ∙ c.if-is_below.false)))

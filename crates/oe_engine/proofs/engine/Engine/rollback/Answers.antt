@@ -1,0 +1,76 @@
+use Rattle.std.proofs.Common.{◌≡◌, ◌<◌, ◌≤◌, ℕ, true, is_some, [], sym, ap, ◌∙◌, subst, refl, take, length, arith}
+use Rattle.std.specs.Prelude.{IsSome}
+use Rattle.oe_store.specs.Stored.{rows}
+use Rattle.oe_undo.specs.Undo.{active_at, records_at}
+use Rattle.oe_undo.specs.Stands.{undo_of}
+use Rattle.oe_locks.specs.Held.{HoldsNothing, OthersKeep}
+use Rattle.oe_engine.specs.View.{view_of, view_from, IsOpen}
+use Rattle.oe_engine.specs.Kept.{IsKept}
+use Rattle.oe_engine.specs.Calls.{CanUnwind, rolled_back}
+use Rattle.oe_engine.proofs.EndFacts.{can_all, taken_kept, dropped_kept, none_is_left, rolled_back_is}
+use Rattle.oe_engine.proofs.engine.Engine.rollback.Goals as goal
+
+pub mark-count-requires : goal.mark-count-requires
+unfolding view_of view_from
+mark-count-requires c =
+    let o : IsOpen c.args.self.now c.args.tx = c.is_open.ensures.0 c.if-not-is_open.false in
+    let given = rw (← c.self.view_is) at o.terminal in
+    let is : IsSome (active_at c.self.inside.undo c.args.tx.terminal) = given in
+    subst (λ s. IsSome (active_at c.self.inside.undo s)) (sym (c.of-segment.ensures ∙ ap (λ x. x.terminal) c.tx.view_is)) is
+
+pub take_back-requires-clause-open : goal.take_back-requires-clause-open
+unfolding view_of view_from
+take_back-requires-clause-open c =
+    let o : IsOpen c.args.self.now c.args.tx = c.is_open.ensures.0 c.if-not-is_open.false in
+    let given = rw (← c.self.view_is) at o.terminal in
+    let is : IsSome (active_at c.self.inside.undo c.args.tx.terminal) = given in
+    subst (λ s. IsSome (active_at c.self.inside.undo s)) (sym (c.of-segment.ensures ∙ ap (λ x. x.terminal) c.tx.view_is)) is
+
+pub take_back-requires-clause-unwinds : goal.take_back-requires-clause-unwinds
+unfolding view_of view_from
+take_back-requires-clause-unwinds c =
+    let o : IsOpen c.args.self.now c.args.tx = c.is_open.ensures.0 c.if-not-is_open.false in
+    let there = c.requires.unwinds o in
+    let given = rw (← c.self.view_is) at there in
+    let can : CanUnwind ((undo_of c.self.inside.undo).active c.args.tx.terminal) (rows c.self.inside.tables) = given in
+    can_all c.self.inside.undo c.of-segment.result c.mark-count.result (rows c.self.inside.tables) c.mark-count.ensures
+    (subst (λ s. CanUnwind ((undo_of c.self.inside.undo).active s) (rows c.self.inside.tables)) (sym (c.of-segment.ensures ∙ ap (λ x. x.terminal) c.tx.view_is)) can)
+
+pub drop_segment-requires-clause-open : goal.drop_segment-requires-clause-open
+unfolding view_of view_from
+drop_segment-requires-clause-open c =
+    let o : IsOpen c.args.self.now c.args.tx = c.is_open.ensures.0 c.if-not-is_open.false in
+    let given = rw (← c.self.view_is) at o.terminal in
+    let is : IsSome (active_at c.self.inside.undo c.args.tx.terminal) = given in
+    c.take_back.ensures.others.is_open c.of-segment.result
+    ∙ subst (λ s. IsSome (active_at c.self.inside.undo s)) (sym (c.of-segment.ensures ∙ ap (λ x. x.terminal) c.tx.view_is)) is
+
+pub drop_segment-requires-clause-empty : goal.drop_segment-requires-clause-empty
+drop_segment-requires-clause-empty c =
+    none_is_left c.self.inside.tables c.take_back.new.tables c.self.inside.undo c.take_back.new.undo c.of-segment.result c.mark-count.result c.mark-count.ensures c.take_back.ensures
+
+pub invariant_of-self : goal.invariant_of-self
+invariant_of-self c =
+    let empty : records_at c.take_back.new.undo c.of-segment.result ≡ [] =
+    none_is_left c.self.inside.tables c.take_back.new.tables c.self.inside.undo c.take_back.new.undo c.of-segment.result c.mark-count.result c.mark-count.ensures c.take_back.ensures in
+    let own : HoldsNothing c.release_all.new.self c.of-segment.result = subst (HoldsNothing c.release_all.new.self) (sym c.of-segment.ensures) c.release_all.ensures.own in
+    let others : OthersKeep c.self.inside.locks c.release_all.new.self c.of-segment.result =
+    subst (OthersKeep c.self.inside.locks c.release_all.new.self) (sym c.of-segment.ensures) c.release_all.ensures.others in
+    let size : length c.take_back.new.undo.terminals ≡ 65 = c.take_back.ensures.others.size ∙ c.self.invariant.size in
+    let within : c.of-segment.result < length c.take_back.new.undo.terminals = omega (arith, c.get-number.ensures.value, c.get-number.ensures.high, c.of-segment.ensures) in
+    subst (λ u. IsKept c.take_back.new.tables u c.release_all.new.self) (sym c.drop_segment.ensures)
+    (dropped_kept c.take_back.new.tables c.take_back.new.undo c.self.inside.locks c.release_all.new.self c.of-segment.result within empty own others
+    (taken_kept c.self.inside.tables c.take_back.new.tables c.self.inside.undo c.take_back.new.undo c.self.inside.locks c.of-segment.result c.mark-count.result c.take_back.ensures c.self.invariant))
+
+pub returns-clause-rolled_back : goal.returns-clause-rolled_back
+unfolding view_of
+returns-clause-rolled_back c =
+    let own : HoldsNothing c.release_all.new.self c.of-segment.result = subst (HoldsNothing c.release_all.new.self) (sym c.of-segment.ensures) c.release_all.ensures.own in
+    let others : OthersKeep c.self.inside.locks c.release_all.new.self c.of-segment.result =
+    subst (OthersKeep c.self.inside.locks c.release_all.new.self) (sym c.of-segment.ensures) c.release_all.ensures.others in
+    let size : length c.self.inside.undo.terminals ≡ 65 = c.self.invariant.size in
+    let within : c.of-segment.result < length c.self.inside.undo.terminals = omega (arith, c.get-number.ensures.value, c.get-number.ensures.high, c.of-segment.ensures) in
+    rw (← c.self.view_is)
+    (ap (λ u. view_from c.take_back.new.tables u c.release_all.new.self) c.drop_segment.ensures
+    ∙ rolled_back_is c.self.inside.tables c.take_back.new.tables c.self.inside.undo c.take_back.new.undo c.self.inside.locks c.release_all.new.self c.of-segment.result c.mark-count.result c.mark-count.ensures within c.take_back.ensures own others
+    ∙ ap (λ t. rolled_back t (view_from c.self.inside.tables c.self.inside.undo c.self.inside.locks)) (c.of-segment.ensures ∙ ap (λ x. x.terminal) c.tx.view_is))

@@ -1,0 +1,55 @@
+use Rattle.std.proofs.Common.{◌≡◌, ◌<◌, ◌≤◌, ◌-◌, ℕ, true, is_some, sym, ap, ◌∙◌, subst, take, length}
+use Rattle.std.specs.Prelude.{IsSome}
+use Rattle.oe_store.specs.Stored.{rows}
+use Rattle.oe_undo.specs.Undo.{active_at}
+use Rattle.oe_undo.specs.Stands.{undo_of}
+use Rattle.oe_engine.specs.View.{view_of, view_from}
+use Rattle.oe_engine.specs.Calls.{CanUnwind, back_at}
+use Rattle.oe_engine.proofs.EndFacts.{taken_kept, back_is, since_is, within_mark}
+use Rattle.oe_engine.proofs.engine.Engine.rollback_to.Goals as goal
+
+pub mark-requires : goal.mark-requires
+unfolding view_of view_from
+mark-requires c =
+    let given = rw (← c.self.view_is) at c.requires.open.terminal in
+    let is : IsSome (active_at c.self.inside.undo c.args.tx.now.terminal) = given in
+    subst (λ s. IsSome (active_at c.self.inside.undo s)) (sym (c.of-segment.ensures ∙ ap (λ x. x.terminal) c.tx.view_is)) is
+
+pub overflow_sub-count : goal.overflow_sub-count
+unfolding view_of view_from
+overflow_sub-count c =
+    let given = rw (← c.self.view_is) at c.requires.mark in
+    let below : c.args.mark ≤ length ((undo_of c.self.inside.undo).active c.args.tx.now.terminal) = given in
+    within_mark c.self.inside.undo c.of-segment.result c.args.tx.now.terminal c.mark.result c.args.mark c.mark-2.inside.records (c.of-segment.ensures ∙ ap (λ x. x.terminal) c.tx.view_is) c.mark.ensures c.mark-2.view_is below
+
+pub take_back-requires-clause-open : goal.take_back-requires-clause-open
+unfolding view_of view_from
+take_back-requires-clause-open c =
+    let given = rw (← c.self.view_is) at c.requires.open.terminal in
+    let is : IsSome (active_at c.self.inside.undo c.args.tx.now.terminal) = given in
+    subst (λ s. IsSome (active_at c.self.inside.undo s)) (sym (c.of-segment.ensures ∙ ap (λ x. x.terminal) c.tx.view_is)) is
+
+pub take_back-requires-clause-unwinds : goal.take_back-requires-clause-unwinds
+unfolding view_of view_from
+take_back-requires-clause-unwinds c =
+    let same : c.of-segment.result ≡ c.args.tx.now.terminal = c.of-segment.ensures ∙ ap (λ x. x.terminal) c.tx.view_is in
+    let n = since_is c.self.inside.undo c.of-segment.result c.args.tx.now.terminal c.mark.result c.args.mark c.mark-2.inside.records same c.mark.ensures c.mark-2.view_is in
+    let given = rw (← c.self.view_is) at c.requires.unwinds in
+    let can : CanUnwind (take (length ((undo_of c.self.inside.undo).active c.args.tx.now.terminal) - c.args.mark) ((undo_of c.self.inside.undo).active c.args.tx.now.terminal)) (rows c.self.inside.tables) = given in
+    subst (λ s. CanUnwind (take (c.mark.result - c.mark-2.inside.records) ((undo_of c.self.inside.undo).active s)) (rows c.self.inside.tables)) (sym same)
+    (subst (λ k. CanUnwind (take k ((undo_of c.self.inside.undo).active c.args.tx.now.terminal)) (rows c.self.inside.tables)) (sym n) can)
+
+pub invariant_of-self : goal.invariant_of-self
+invariant_of-self c =
+    taken_kept c.self.inside.tables c.take_back.new.tables c.self.inside.undo c.take_back.new.undo c.self.inside.locks c.of-segment.result (c.mark.result - c.mark-2.inside.records) c.take_back.ensures c.self.invariant
+
+pub returns-clause-back : goal.returns-clause-back
+unfolding view_of
+returns-clause-back c =
+    let same : c.of-segment.result ≡ c.args.tx.now.terminal = c.of-segment.ensures ∙ ap (λ x. x.terminal) c.tx.view_is in
+    let n = since_is c.self.inside.undo c.of-segment.result c.args.tx.now.terminal c.mark.result c.args.mark c.mark-2.inside.records same c.mark.ensures c.mark-2.view_is in
+    let here : length ((undo_of c.self.inside.undo).active c.args.tx.now.terminal) ≡ length ((undo_of c.self.inside.undo).active c.of-segment.result) = ap (λ t. length ((undo_of c.self.inside.undo).active t)) (sym same) in
+    rw (← c.self.view_is)
+    (back_is c.self.inside.tables c.take_back.new.tables c.self.inside.undo c.take_back.new.undo c.self.inside.locks c.of-segment.result c.args.mark (c.mark.result - c.mark-2.inside.records)
+    (n ∙ ap (λ k. k - c.args.mark) here) c.take_back.ensures
+    ∙ ap (λ t. back_at t c.args.mark (view_from c.self.inside.tables c.self.inside.undo c.self.inside.locks)) same)

@@ -1,0 +1,31 @@
+use Rattle.std.proofs.Common.{◌≡◌, true, is_some}
+use Rattle.oe_undo.specs.Undo.{active_at}
+use Rattle.oe_engine.specs.View.{view_of, view_from}
+use Rattle.oe_engine.proofs.KeptFacts.{asked_kept}
+use Rattle.oe_engine.proofs.RowFacts.{on_ok, on_both, if_err, free_is, locked_is, lock_cause}
+use Rattle.oe_engine.proofs.engine.Engine.take.Goals as goal
+
+pub invariant_of-self : goal.invariant_of-self
+unfolding view_of view_from
+invariant_of-self c =
+    let given = rw (← c.self.view_is) at c.requires in
+    let is : is_some (active_at c.self.inside.undo c.args.terminal) ≡ true = given in
+    asked_kept c.acquire.result c.self.inside.tables c.self.inside.undo c.self.inside.locks c.acquire.new.self c.args.terminal is c.acquire.ensures.others c.acquire.ensures.err c.self.invariant
+
+pub returns-clause-free : goal.returns-clause-free
+unfolding view_of
+returns-clause-free c =
+    rw (← c.self.view_is)
+    (on_ok c.acquire.result (λ h. free_is c.self.inside.tables c.self.inside.undo c.self.inside.locks c.args.terminal c.args.lock.name c.args.lock.mode h) c.acquire.ensures.free)
+
+pub returns-clause-locked : goal.returns-clause-locked
+unfolding view_of
+returns-clause-locked c =
+    rw (← c.self.view_is)
+    (on_both c.acquire.result (λ own others. locked_is c.self.inside.tables c.self.inside.undo c.self.inside.locks c.acquire.new.self c.args.terminal c.args.lock.name c.args.lock.mode own others) c.acquire.ensures.own c.acquire.ensures.others)
+
+pub returns-clause-cause : goal.returns-clause-cause
+unfolding view_of
+returns-clause-cause c =
+    rw (← c.self.view_is)
+    (if_err c.acquire.result (λ e h. lock_cause c.self.inside.tables c.self.inside.undo c.self.inside.locks c.args.terminal c.args.lock.name c.args.lock.mode e c.self.invariant h) c.acquire.ensures.cause)

@@ -1,0 +1,166 @@
+-- What the engine's calls do to what it stands for, and why they are refused.
+use Rattle.std.specs.Prelude.{◌≡◌, ◌≢◌, ◌⊎◌, ℕ, suc, ◌-◌, ◌<◌, true, false, cond, List, [], ◌∷◌, Option, None, Some, IsSome, length, take, drop, is_some}
+use Rattle.oe_theory.specs.Machine.{Ask, Stop, Plain, Take, Guard, Free, Under, Own}
+use Rattle.oe_theory.specs.Machine as theory
+use Rattle.oe_theory.specs.World.{go_together, risen, set, bump, total}
+use Rattle.oe_theory.specs.Next.{held_after, record_on, IsNew}
+use Rattle.oe_theory.specs.Undo.{unwind, put_records}
+use Rattle.oe_theory.specs.Store.{with_change_of, with_record_of}
+use Rattle.oe_keys.specs.declared.locks.Name.{Name}
+use Rattle.oe_keys.specs.declared.locks.Mode.{Mode}
+use Rattle.oe_keys.specs.declared.keys.Key.{Key}
+use Rattle.oe_requests.specs.declared.requests.Request.{Request}
+use Rattle.oe_requests.specs.declared.replies.Reply.{Reply}
+use Rattle.oe_requests.specs.declared.refusals.Refusal.{Refusal}
+use Rattle.oe_requests.specs.declared.refusals.Refusal.TheVariants.{Busy, NotOpen, AlreadyOpen, NoMemory}
+use Rattle.oe_model.specs.Rows.{Rows}
+use Rattle.oe_model.specs.Changes.{Change, Record, changed, put_back}
+use Rattle.oe_model.specs.Meets.{Meets, Accepts, Cause}
+use Rattle.oe_model.specs.Locks.{mode_of, is_name}
+use Rattle.oe_model.specs.Requests.{number_rejection}
+use Rattle.oe_model.specs.System.{system}
+use Rattle.oe_change.specs.PutBack.{Stands}
+use Rattle.oe_engine.specs.View.{Stored, View, view_of, Handle, IsOpen}
+use Rattle.oe_engine.specs.declared.rows.Lock.{Lock}
+
+-- the lock that a row asks for, in the words of the theory
+abbrev pub ask_of : Option Lock → Ask Name Refusal
+ask_of None = Plain
+ask_of (Some l) = Take l.name (mode_of l.mode)
+
+-- the lock under which a row is changed, by what governs its key: its name alone
+abbrev pub ask_to_write : Guard Name → Ask Name Refusal
+ask_to_write (Under n) = Take n theory.Exclusive
+ask_to_write (Own t k) = Plain
+ask_to_write Free = Plain
+
+-- a terminal's transaction may read rows that this governs: it holds their name, or they lie under none
+abbrev pub MayRead : View → ℕ → Guard Name → Type 0
+MayRead v t (Under n) = IsSome (v.held t n)
+MayRead v t (Own u k) = Unit {0}
+MayRead v t Free = Unit {0}
+
+-- no other terminal holds the name in a mode that conflicts
+abbrev pub IsFree : View → ℕ → Ask Name Refusal → Type 0
+IsFree v t (Stop e) = ⊥
+IsFree v t Plain = Unit {0}
+IsFree v t (Take n m) = (u : ℕ) → u ≢ t → go_together m (v.held u n) ≡ true
+
+-- the least other terminal, with a transaction open, that holds the name in a mode that conflicts
+pub record IsInTheWay (v : View) (t : ℕ) (n : Name) (m : theory.Mode) (u : ℕ) : Type 0 where
+  pub other : u ≢ t
+  pub is_open : v.is_open u ≡ true
+  pub conflicts : go_together m (v.held u n) ≡ false
+  pub least : (w : ℕ) → w < u → w ≢ t → go_together m (v.held w n) ≡ true
+
+-- a lock is refused so
+abbrev pub IsBusy : View → ℕ → Lock → Refusal → Type 0
+IsBusy v t l (Busy n u) = (n ≡ l.name) × IsInTheWay v t n (mode_of l.mode) u
+IsBusy v t l e = ⊥
+
+-- a transaction begun
+abbrev pub begun : ℕ → View → View
+begun t v = record v { is_open = set t true v.is_open }
+
+-- why one can't begin; the first in this order is named: one is open already, its number is past the range, memory is wanted
+abbrev pub CantBegin : View → ℕ → Refusal → Type 0
+CantBegin v t AlreadyOpen = v.is_open t ≡ true
+CantBegin v t NoMemory = (v.is_open t ≡ false) × (number_rejection (suc (v.counts t)) ≡ None)
+CantBegin v t e = (v.is_open t ≡ false) × (number_rejection (suc (v.counts t)) ≡ Some e)
+
+-- a name taken in a mode, or risen to it
+abbrev pub locked : ℕ → Name → theory.Mode → View → View
+locked t n m v = record v { held = set t (held_after system (Take n m) (v.held t)) v.held }
+
+-- a change made and recorded
+abbrev pub made : ℕ → Change → View → View
+made t c v = record v { rows = changed c v.rows; undo = put_records system t (record_on system c v.rows ∷ v.undo.active t) v.undo }
+
+-- a name put into a mode, or let go of
+abbrev pub put_mode : ℕ → Name → Option theory.Mode → View → View
+put_mode t n m v = record v { held = set t (λ q. cond (is_name q n) m (v.held t q)) v.held }
+
+-- a row done: its lock taken, its change made and recorded
+abbrev pub row_done : ℕ → Ask Name Refusal → Option Change → View → View
+row_done t a c v = record v {
+  rows = with_change_of system c v.rows;
+  undo = put_records system t (with_record_of system c v.rows (v.undo.active t)) v.undo;
+  held = set t (held_after system a (v.held t)) v.held;
+}
+
+-- why a lock is refused: another is in the way, or memory is wanted for a name that is free and is not yet held
+abbrev pub LockRefused : View → ℕ → Name → theory.Mode → Refusal → Type 0
+LockRefused v t n m (Busy name u) = (name ≡ n) × IsInTheWay v t name m u
+LockRefused v t n m NoMemory = IsFree v t (Take n m) × (v.held t n ≡ None)
+LockRefused v t n m e = ⊥
+
+-- why a change is refused: memory is wanted for it or for its record, or the tables don't accept it
+abbrev pub ChangeRefused : Change → Rows → Refusal → Type 0
+ChangeRefused c r NoMemory = Unit {0}
+ChangeRefused c r e = Cause c r e
+
+-- why a lock with a change is refused
+abbrev pub PairRefused : View → ℕ → Name → theory.Mode → Change → Refusal → Type 0
+PairRefused v t n m c (Busy name u) = LockRefused v t n m (Busy name u)
+PairRefused v t n m c NoMemory = IsFree v t (Take n m)
+PairRefused v t n m c e = IsFree v t (Take n m) × Cause c v.rows e
+
+-- one mode is below another, where none is below Shared, and Shared below Exclusive
+abbrev pub IsBelow : Option theory.Mode → Option theory.Mode → Type 0
+IsBelow None (Some m) = Unit {0}
+IsBelow (Some theory.Shared) (Some theory.Exclusive) = Unit {0}
+IsBelow _ _ = ⊥
+
+-- a change has this cause to be refused, where there is one
+abbrev pub CauseOf : Option Change → Rows → Refusal → Type 0
+CauseOf None r e = ⊥
+CauseOf (Some c) r e = Cause c r e
+
+-- why a row is refused: its transaction isn't open here; another is in the way of its lock; memory is wanted for a lock that is
+-- new, for a change or for its record; or the tables don't accept the change
+abbrev pub RowRefused : Stored → Handle → Ask Name Refusal → Option Change → Refusal → Type 0
+RowRefused s x a c NotOpen = IsOpen s x → ⊥
+RowRefused s x a c (Busy n u) = IsOpen s x × ((m : theory.Mode) × (a ≡ Take n m) × IsInTheWay (view_of s) x.terminal n m u)
+RowRefused s x a c NoMemory = IsOpen s x × IsFree (view_of s) x.terminal a × (IsNew system ((view_of s).held x.terminal) a ⊎ IsSome c)
+RowRefused s x a c e = IsOpen s x × IsFree (view_of s) x.terminal a × CauseOf c (view_of s).rows e
+
+-- the tables accept the row's change, if it makes one
+abbrev pub AcceptsAll : Option Change → Rows → Type 0
+AcceptsAll None r = Unit {0}
+AcceptsAll (Some c) r = Accepts c r
+
+-- records can be put back one after another, the newest first: each finds the row that its change left, and the schema holds
+-- after each
+abbrev pub CanUnwind : List Record → Rows → Type 0
+CanUnwind [] r = Unit {0}
+CanUnwind (b ∷ bs) r = Stands b r × Meets (put_back b r) × CanUnwind bs (put_back b r)
+
+-- how many records a transaction has made since a mark
+abbrev pub count_since : View → ℕ → ℕ → ℕ
+count_since v t mark = length (v.undo.active t) - mark
+
+-- a transaction taken back to a mark: the records since then put back and dropped
+abbrev pub back_at : ℕ → ℕ → View → View
+back_at t mark v = record v {
+  rows = unwind system (take (count_since v t mark) (v.undo.active t)) v.rows;
+  undo = put_records system t (drop (count_since v t mark) (v.undo.active t)) v.undo;
+}
+
+-- a transaction gone: it is no longer open and holds nothing
+abbrev pub gone : ℕ → View → View
+gone t v = record v { held = set t (λ _. None) v.held; is_open = set t false v.is_open }
+
+-- a transaction committed: its records sealed at the newest moment
+abbrev pub committed : ℕ → Request → Reply → View → View
+committed t q y v = record (gone t v) {
+  undo = record { active = set t [] v.undo.active; history = v.undo.active t ∷ v.undo.history };
+  seals = record { tx = record { terminal = t; number = suc (v.counts t); request = q }; reply = y } ∷ v.seals;
+  counts = bump t v.counts;
+}
+
+-- a transaction rolled back: its records put back and dropped
+abbrev pub rolled_back : ℕ → View → View
+rolled_back t v = record (gone t v) {
+  rows = unwind system (v.undo.active t) v.rows;
+  undo = put_records system t [] v.undo;
+}

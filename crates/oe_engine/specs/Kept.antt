@@ -1,0 +1,30 @@
+-- What an engine keeps of its tables, its undo log and its locks together.
+use Rattle.std.specs.Prelude.{◌≡◌, ℕ, ◌<◌, true, false, List, [], ◌∷◌, length, is_some, None}
+use Rattle.oe_keys.specs.declared.locks.Name.{Name}
+use Rattle.oe_model.specs.Changes.{Record, record_key}
+use Rattle.oe_store.specs.Stored.{HasPlace}
+use Rattle.oe_store.specs.Stored as tables
+use Rattle.oe_undo.specs.Undo.{active_at, count_at}
+use Rattle.oe_undo.specs.Undo as undo
+use Rattle.oe_undo.specs.Stands.{undo_of}
+use Rattle.oe_locks.specs.Held.{Holdings, HoldsNothing}
+
+-- each record's key has a place, so that to put its row back takes no memory
+abbrev pub HavePlaces : tables.Stored → List Record → Type 0
+HavePlaces ts [] = Unit {0}
+HavePlaces ts (b ∷ bs) = HasPlace ts (record_key b) × HavePlaces ts bs
+
+-- the same of the records of commits
+abbrev pub AllHavePlaces : tables.Stored → List (List Record) → Type 0
+AllHavePlaces ts [] = Unit {0}
+AllHavePlaces ts (bs ∷ ss) = HavePlaces ts bs × AllHavePlaces ts ss
+
+pub record IsKept (ts : tables.Stored) (u : undo.Stored) (ls : Holdings) : Type 0 where
+  pub size : length u.terminals ≡ 65
+  -- the records of open transactions and of commits can be put back
+  pub active : (t : ℕ) → HavePlaces ts ((undo_of u).active t)
+  pub history : AllHavePlaces ts (undo_of u).history
+  -- a terminal without an open transaction holds no name
+  pub idle : (t : ℕ) → is_some (active_at u t) ≡ false → HoldsNothing ls t
+  -- the number of an open transaction is in its range
+  pub counted : (t : ℕ) → is_some (active_at u t) ≡ true → count_at u t < 4_294_967_295

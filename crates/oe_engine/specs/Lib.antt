@@ -1,0 +1,6 @@
+-- What the clauses of this crate cite.
+pub mod View
+pub mod Kept
+pub mod Calls
+pub mod Unwinds
+pub mod Programs

@@ -1,0 +1,71 @@
+-- A step of a program: one row of its step table, in the words of the theory of transactions.
+use Rattle.std.specs.Prelude.{◌≡◌, ◌⊎◌, ℕ, suc, Option, None, Some}
+use Rattle.oe_theory.specs.Machine.{Tx, Ask, Stop, Plain, Take, Act, Fail, Go, Ready}
+use Rattle.oe_theory.specs.Machine as theory
+use Rattle.oe_theory.specs.Next.{IsNew, GivesWay}
+use Rattle.oe_requests.specs.declared.requests.Request.{Request}
+use Rattle.oe_requests.specs.declared.replies.Reply.{Reply}
+use Rattle.oe_requests.specs.declared.refusals.Refusal.{Refusal}
+use Rattle.oe_requests.specs.declared.refusals.Refusal.TheVariants.{Busy, NotOpen, NoMemory}
+use Rattle.oe_model.specs.Changes.{Change}
+use Rattle.oe_model.specs.Meets.{Accepts, Cause}
+use Rattle.oe_model.specs.Places.{Place}
+use Rattle.oe_model.specs.System.{system, ask, act, yields}
+use Rattle.oe_engine.specs.View.{Stored, View, view_of, Handle, IsOpen}
+use Rattle.oe_engine.specs.Calls.{IsFree, IsInTheWay, row_done, AcceptsAll}
+use Rattle.oe_engine.specs.declared.rows.Progress.{Progress}
+use Rattle.oe_engine.specs.declared.rows.Progress.TheVariants as progress
+
+-- the transaction of a handle, which carries out this request
+abbrev pub tx_of : Stored → Handle → Request → Tx Request
+tx_of s x q = record { terminal = x.terminal; number = suc ((view_of s).counts x.terminal); request = q }
+
+-- what the row at this place asks for, and what it does
+abbrev pub ask_here : Stored → Handle → Request → Place → Ask (system.Name) Refusal
+ask_here s x q p = ask (tx_of s x q) p (view_of s).rows
+
+abbrev pub act_here : Stored → Handle → Request → Place → Act Change Place Reply Refusal
+act_here s x q p = act (tx_of s x q) p (view_of s).rows
+
+-- the row's lock is free
+abbrev pub IsFreeHere : Stored → Handle → Request → Place → Type 0
+IsFreeHere s x q p = IsFree (view_of s) x.terminal (ask_here s x q p)
+
+-- the row was done, and the program goes on at another place
+pub record GoesOn (s : Stored) (x : Handle) (q : Request) (p : Place) (s' : Stored) (p' : Place) : Type 0 where
+  pub is_open : IsOpen s x
+  pub free : IsFreeHere s x q p
+  pub change : Option Change
+  pub does : act_here s x q p ≡ Go change p'
+  pub accepted : AcceptsAll change (view_of s).rows
+  pub done : view_of s' ≡ row_done x.terminal (ask_here s x q p) change (view_of s)
+  pub name : s'.name ≡ s.name
+
+-- the program has come to its end with this reply
+pub record IsReady (s : Stored) (x : Handle) (q : Request) (p : Place) (y : Reply) : Type 0 where
+  pub is_open : IsOpen s x
+  pub free : IsFreeHere s x q p
+  pub does : act_here s x q p ≡ Ready y
+
+-- the row ends its transaction with this refusal: it stops before its lock, it fails, or the tables don't accept its change
+abbrev pub Ends : Stored → Handle → Request → Place → Refusal → Type 0
+Ends s x q p e =
+    (ask_here s x q p ≡ Stop e)
+    ⊎ (IsFreeHere s x q p × (act_here s x q p ≡ Fail e))
+    ⊎ (IsFreeHere s x q p × (c : Change) × (p' : Place) × (act_here s x q p ≡ Go (Some c) p') × Cause c (view_of s).rows e)
+
+-- why a row was refused
+abbrev pub IsRefused : Stored → Handle → Request → Place → Refusal → Type 0
+IsRefused s x q p NotOpen = IsOpen s x → ⊥
+IsRefused s x q p (Busy n u) = IsOpen s x × ((m : theory.Mode) × (ask_here s x q p ≡ Take n m) × IsInTheWay (view_of s) x.terminal n m u)
+IsRefused s x q p NoMemory =
+    IsOpen s x × IsFreeHere s x q p
+    × (IsNew system ((view_of s).held x.terminal) (ask_here s x q p) ⊎ ((c : Change) × (p' : Place) × (act_here s x q p ≡ Go (Some c) p')))
+    × GivesWay system (yields p) (act_here s x q p)
+IsRefused s x q p e = IsOpen s x × Ends s x q p e
+
+-- one step of a program that carries out this request, from a place and an engine to a place and an engine
+abbrev pub Progresses : Request → Handle → Stored → Place → Progress → Stored → Place → Type 0
+Progresses q x s p progress.More s' p' = GoesOn s x q p s' p'
+Progresses q x s p (progress.Ready y) s' p' = IsReady s x q p y × (s' ≡ s) × (p' ≡ p)
+Progresses q x s p (progress.Refused e) s' p' = IsRefused s x q p e × (view_of s' ≡ view_of s) × (s'.name ≡ s.name) × (p' ≡ p)

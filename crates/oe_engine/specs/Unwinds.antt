@@ -1,0 +1,37 @@
+-- Records of an open segment that are being put back.
+use Rattle.std.specs.Prelude.{◌≡◌, ℕ, ◌≤◌, List, length, take, drop, is_some, true}
+use Rattle.oe_theory.specs.Undo.{unwind, put_records}
+use Rattle.oe_model.specs.Rows.{Rows}
+use Rattle.oe_model.specs.Changes.{Record}
+use Rattle.oe_model.specs.System.{system}
+use Rattle.oe_store.specs.Stored.{rows, SamePlaces}
+use Rattle.oe_store.specs.Stored as tables
+use Rattle.oe_undo.specs.Undo.{active_at, count_at}
+use Rattle.oe_undo.specs.Undo as undo
+use Rattle.oe_undo.specs.Stands.{undo_of, seals_of, counts_of}
+use Rattle.oe_engine.specs.Kept.{HavePlaces}
+use Rattle.oe_engine.specs.Calls.{CanUnwind}
+
+-- what is left of the newest records of a list, of which so many are to go: the rows, and the records
+pub record Left (bs : List Record) (r : Rows) (count : ℕ) (now : List Record) (s : Rows) (left : ℕ) : Type 0 where
+  pub enough : left ≤ length now
+  pub rows : unwind system (take left now) s ≡ unwind system (take count bs) r
+  pub rest : drop left now ≡ drop count bs
+  pub unwinds : CanUnwind (take left now) s
+
+-- a log with other records of one terminal's open segment, and tables with the same places
+pub record Unwinding (ts : tables.Stored) (u : undo.Stored) (t : ℕ) (ts' : tables.Stored) (u' : undo.Stored) : Type 0 where
+  pub is_open : (x : ℕ) → is_some (active_at u' x) ≡ is_some (active_at u x)
+  pub undo : undo_of u' ≡ put_records system t ((undo_of u').active t) (undo_of u)
+  pub seals : seals_of u' ≡ seals_of u
+  pub counts : counts_of u' ≡ counts_of u
+  pub size : length u'.terminals ≡ length u.terminals
+  pub extents : u'.extents ≡ u.extents
+  pub places : SamePlaces ts ts'
+  pub own : HavePlaces ts' ((undo_of u').active t)
+
+-- so many records were put back, the newest first, and dropped
+pub record TakesBack (ts : tables.Stored) (u : undo.Stored) (t count : ℕ) (ts' : tables.Stored) (u' : undo.Stored) : Type 0 where
+  pub rows : rows ts' ≡ unwind system (take count ((undo_of u).active t)) (rows ts)
+  pub records : (undo_of u').active t ≡ drop count ((undo_of u).active t)
+  pub others : Unwinding ts u t ts' u'

@@ -1,0 +1,71 @@
+-- What an engine stands for, in the words of the theory of transactions.
+use Rattle.std.specs.Prelude.{◌≡◌, ℕ, Bool, true, false, List, [], Option, None, Some, is_some, option_map}
+use Rattle.oe_keys.specs.declared.locks.Name.{Name}
+use Rattle.oe_theory.specs.Machine as theory
+use Rattle.oe_theory.specs.Undo.{Undo, no_records}
+use Rattle.oe_theory.specs.Store.{Seal}
+use Rattle.oe_model.specs.Rows.{Rows}
+use Rattle.oe_model.specs.Locks.{mode_of}
+use Rattle.oe_model.specs.System.{system}
+use Rattle.oe_store.specs.Stored.{rows}
+use Rattle.oe_store.specs.Stored as tables
+use Rattle.oe_undo.specs.Undo.{active_at}
+use Rattle.oe_undo.specs.Undo as undo
+use Rattle.oe_undo.specs.Stands.{undo_of, seals_of, counts_of}
+use Rattle.oe_locks.specs.Held.{Holdings, held}
+
+-- the rows as they are, open work included; the undo records of open transactions and of commits; the commits, newest first; the
+-- terminals' counts of commits; what each terminal holds; and which have a transaction open
+pub record View : Type 0 where
+  pub rows : Rows
+  pub undo : Undo system
+  pub seals : List (Seal system)
+  pub counts : ℕ → ℕ
+  pub held : ℕ → Name → Option theory.Mode
+  pub is_open : ℕ → Bool
+  pub extents : ℕ
+
+-- what tables, an undo log and holdings of locks stand for together
+unfoldable pub view_from : tables.Stored → undo.Stored → Holdings → View
+view_from ts u ls = record {
+  rows = rows ts;
+  undo = undo_of u;
+  seals = seals_of u;
+  counts = counts_of u;
+  held = λ t n. option_map mode_of (held ls t n);
+  is_open = λ t. is_some (active_at u t);
+  extents = u.extents;
+}
+
+-- all that is stored
+pub record Stored : Type 0 where
+  pub tables : tables.Stored
+  pub undo : undo.Stored
+  pub locks : Holdings
+  pub name : ℕ
+
+-- what it stands for. Room for records, places of blanked keys and the order in which names are kept are not part of that
+unfoldable pub view_of : Stored → View
+view_of s = view_from s.tables s.undo s.locks
+
+-- a transaction of an engine, by its terminal
+pub record Handle : Type 0 where
+  pub engine : ℕ
+  pub terminal : ℕ
+
+-- the transaction is open in this engine
+pub record IsOpen (s : Stored) (x : Handle) : Type 0 where
+  pub engine : x.engine ≡ s.name
+  pub terminal : (view_of s).is_open x.terminal ≡ true
+
+-- an engine in which nothing has begun
+abbrev pub opened_view : Rows → ℕ → View
+opened_view r n = record {
+  rows = r;
+  undo = no_records system;
+  seals = [];
+  counts = λ _. 0;
+  held = λ _ _. None;
+  is_open = λ _. false;
+  extents = n;
+}

@@ -1,0 +1,153 @@
+//! Names and rows of a transaction, one at a time.
+ghost use Rattle.std.specs.Prelude.{◌≡◌, Option, None, Some, option_map, IfErr, OnOk, OnErr};
+ghost use Rattle.oe_theory.specs.Machine.{Take};
+ghost use Rattle.oe_model.specs.Changes.{key_of};
+ghost use Rattle.oe_model.specs.Locks.{mode_of, governs};
+ghost use Rattle.oe_model.specs.Meets.{Accepts};
+ghost use Rattle.oe_model.specs.Rows.{row_at};
+ghost use Rattle.oe_records.specs.Changes.{change_of};
+ghost use Rattle.oe_store.specs.Stored.{rows};
+ghost use Rattle.oe_engine.specs.View.{view_of, view_from, IsOpen};
+ghost use Rattle.oe_engine.specs.Calls.{ask_of, ask_to_write, IsFree, IsBelow, MayRead, locked, put_mode, row_done, RowRefused, CanUnwind};
+
+use crate::engine::{Engine, Tx};
+use crate::rows::Lock;
+use oe_keys::{Key, Mode, Name};
+use oe_locks::Locks;
+use oe_records::Change;
+use oe_requests::Refusal;
+use oe_rows::Row;
+use oe_store::Tables;
+use oe_undo::Undo;
+
+/// What an engine is made of, to be read.
+pub struct Parts<'a> {
+    pub tables: &'a Tables,
+    pub undo: &'a Undo,
+    pub locks: &'a Locks,
+}
+
+// A name alone.
+fn exclusive(name: Name) -> Option<Lock>
+    ensures { ask_of result ≡ Take name (mode_of Mode.Exclusive) }
+{
+    Some(Lock {
+        name,
+        mode: Mode::Exclusive,
+    })
+}
+
+// The lock under which a row of that key is changed: none for a HISTORY row, which is its own transaction's, and for an ITEM
+// row, which never changes.
+fn lock_to_write(key: Key) -> Option<Lock>
+    ensures { ask_of result ≡ ask_to_write (governs key) }
+{
+    match key {
+        Key::Warehouse(key) => exclusive(Name::Warehouse(key)),
+        Key::District(key) => exclusive(Name::District(key)),
+        Key::Customer(key) => exclusive(Name::Customer(key)),
+        Key::NewOrder(key) => exclusive(Name::Queue(key.order_key().district_key())),
+        Key::Order(key) => exclusive(Name::Order(key)),
+        Key::OrderLine(key) => exclusive(Name::Order(key.order_key())),
+        Key::Stock(key) => exclusive(Name::Stock(key)),
+        Key::History(_) | Key::Item(_) => None,
+    }
+}
+
+// A copy of the row of a key, if it has one.
+fn row_at(tables: &Tables, key: Key) -> Option<Row>
+    ensures { result ≡ row_at (rows tables.now) key }
+{
+    match key {
+        Key::Warehouse(key) => Some(Row::Warehouse(tables.warehouse(key)?.copied())),
+        Key::District(key) => Some(Row::District(tables.district(key)?.copied())),
+        Key::Customer(key) => Some(Row::Customer(tables.customer(key)?.copied())),
+        Key::History(key) => Some(Row::History(tables.history(key)?.copied())),
+        Key::NewOrder(key) => Some(Row::NewOrder(*tables.new_order(key)?)),
+        Key::Order(key) => Some(Row::Order(*tables.order(key)?)),
+        Key::OrderLine(key) => Some(Row::OrderLine(tables.order_line(key)?.copied())),
+        Key::Item(key) => Some(Row::Item(tables.item(key)?.copied())),
+        Key::Stock(key) => Some(Row::Stock(tables.stock(key)?.copied())),
+    }
+}
+
+impl Engine {
+    /// Takes a name for a transaction, or raises the mode in which it holds it. A mode is never lowered.
+    ///
+    /// `NotOpen`: the transaction is not one of this engine. `Busy`: the least terminal that holds the name in a mode that
+    /// conflicts. `NoMemory`: memory was refused for a name that was not held. After an error nothing has changed.
+    pub fn lock(&mut self, tx: &Tx, name: Name, mode: Mode) -> Result<(), Refusal>
+        ensures open { OnOk result (IsOpen self.old tx.now) }
+        ensures free { OnOk result (IsFree (view_of self.old) tx.now.terminal (Take name (mode_of mode))) }
+        ensures locked { OnOk result (view_of self.new ≡ locked tx.now.terminal name (mode_of mode) (view_of self.old)) }
+        ensures name { self.new.name ≡ self.old.name }
+        ensures cause { IfErr result (RowRefused self.old tx.now (Take name (mode_of mode)) None) }
+        ensures err { OnErr result (view_of self.new ≡ view_of self.old) }
+    {
+        self.row(tx, Some(Lock { name, mode }), None)
+    }
+
+    /// The mode in which a transaction holds a name; none where it does not hold it, or is not open in this engine.
+    #[tactic(auto, unfolding(crate::specs::View::view_of, crate::specs::View::view_from))]
+    pub fn held(&self, tx: &Tx, name: &Name) -> Option<Mode>
+        ensures open { IsOpen self.now tx.now → option_map mode_of result ≡ (view_of self.now).held tx.now.terminal name.now }
+        ensures foreign { (IsOpen self.now tx.now → ⊥) → result ≡ None }
+    {
+        if !self.is_open(tx) {
+            return None;
+        }
+        self.locks.holds(name, tx.terminal())
+    }
+
+    /// A copy of the row of a key, if it has one, for an open transaction that holds the row's name, if the row lies under one.
+    /// It takes no memory.
+    #[tactic(auto, unfolding(crate::specs::View::view_of, crate::specs::View::view_from))]
+    pub fn read(&self, tx: &Tx, key: Key) -> Option<Row>
+        requires open { IsOpen self.now tx.now }
+        requires held { MayRead (view_of self.now) tx.now.terminal (governs key) }
+        ensures { result ≡ row_at (view_of self.now).rows key }
+    {
+        row_at(&self.tables, key)
+    }
+
+    /// Lowers the mode in which an open transaction holds a name, or with `None` lets go of the name. It takes no memory.
+    pub fn give_back(&mut self, tx: &Tx, name: Name, mode: Option<Mode>)
+        requires open { IsOpen self.old tx.now }
+        requires below { IsBelow (option_map mode_of mode) ((view_of self.old).held tx.now.terminal name) }
+        ensures put { view_of self.new ≡ put_mode tx.now.terminal name (option_map mode_of mode) (view_of self.old) }
+        ensures name { self.new.name ≡ self.old.name }
+    {
+        self.restore(tx.terminal(), name, mode);
+    }
+
+    /// Makes a change for a transaction, with its undo record. Where the changed row lies under a name, that is taken for the
+    /// transaction alone, if it does not hold it so: an order's for its lines, a queue's for its NEW-ORDER rows, none for a
+    /// HISTORY row.
+    ///
+    /// The errors are those of `row`, and after one nothing has changed.
+    pub fn change(&mut self, tx: &Tx, change: Change) -> Result<(), Refusal>
+        ensures open { OnOk result (IsOpen self.old tx.now) }
+        ensures free { OnOk result (IsFree (view_of self.old) tx.now.terminal (ask_to_write (governs (key_of (change_of change))))) }
+        ensures accepted { OnOk result (Accepts (change_of change) (view_of self.old).rows) }
+        ensures done { OnOk result (view_of self.new ≡ row_done tx.now.terminal (ask_to_write (governs (key_of (change_of change)))) (Some (change_of change)) (view_of self.old)) }
+        ensures unwinds { OnOk result (CanUnwind ((view_of self.old).undo.active tx.now.terminal) (view_of self.old).rows → CanUnwind ((view_of self.new).undo.active tx.now.terminal) (view_of self.new).rows) }
+        ensures name { self.new.name ≡ self.old.name }
+        ensures cause { IfErr result (RowRefused self.old tx.now (ask_to_write (governs (key_of (change_of change)))) (Some (change_of change))) }
+        ensures err { OnErr result (view_of self.new ≡ view_of self.old) }
+    {
+        let lock = lock_to_write(change.key());
+        self.row(tx, lock, Some(change))
+    }
+
+    /// What the engine is made of.
+    #[tactic(auto, unfolding(crate::specs::View::view_of, crate::specs::View::view_from))]
+    pub fn parts(&self) -> Parts<'_>
+        ensures { view_from result.tables.now result.undo.now result.locks.now ≡ view_of self.now }
+    {
+        Parts {
+            tables: &self.tables,
+            undo: &self.undo,
+            locks: &self.locks,
+        }
+    }
+}

@@ -1,0 +1,418 @@
+//! The engine.
+ghost use Rattle.std.specs.Prelude.{◌≡◌, ◌≤◌, ◌-◌, ◌↔◌, ◌⊎◌, ℕ, IsTrue, suc, true, false, [], length, take, Option, None, Some, is_some, option_map, IfOk, IfErr, OnOk, OnErr, MatchResult};
+ghost use Rattle.oe_theory.specs.Machine.{Take};
+ghost use Rattle.oe_theory.specs.World.{total};
+ghost use Rattle.oe_theory.specs.Store.{Slot, count_slots};
+ghost use Rattle.oe_model.specs.Changes.{key_of};
+ghost use Rattle.oe_model.specs.Locks.{mode_of, governs};
+ghost use Rattle.oe_model.specs.Meets.{Accepts};
+ghost use Rattle.oe_model.specs.Requests.{number_rejection};
+ghost use Rattle.oe_model.specs.System.{system, terminal_limit};
+ghost use Rattle.oe_store.specs.Stored.{rows};
+ghost use Rattle.oe_records.specs.Changes.{change_of};
+ghost use Rattle.oe_locks.specs.Held as locks;
+ghost use Rattle.oe_engine.specs.View.{view_of, opened_view, IsOpen};
+ghost use Rattle.oe_engine.specs.Calls.{ask_of, IsFree, IsBusy, IsBelow, begun, CantBegin, locked, made, put_mode, LockRefused, ChangeRefused, PairRefused, row_done, RowRefused, AcceptsAll, CanUnwind, count_since, back_at, committed, rolled_back};
+
+use crate::rows::Lock;
+use crate::unwinding::take_back;
+use oe_change::apply;
+use oe_keys::{Mode, Name};
+use oe_locks::Locks;
+use oe_records::Change;
+use oe_requests::{Column, Refusal, Reply, Request};
+use oe_store::Tables;
+use oe_table::tables::NoMemory;
+use oe_undo::{Segment, Undo};
+use oe_values::{Moment, Terminal, TransactionNumber};
+use std::alloc::Global;
+use std::marker::Model;
+
+/// Tables, undo records and locks of all terminals' transactions.
+#[derive(Drop)]
+pub struct Engine {
+    pub(crate) tables: Tables,
+    pub(crate) undo: Undo,
+    pub(crate) locks: Locks,
+    name: u32,
+}
+
+impl Model for Engine {
+    ghost use Rattle.oe_engine.specs.View.{Stored};
+    ghost use Rattle.oe_engine.specs.Kept.{IsKept};
+
+    ghost Value = { Stored };
+
+    ghost view = { λ e. record { tables = e.tables; undo = e.undo; locks = e.locks; name = e.name } };
+
+    ghost invariant = { λ e. IsKept e.tables e.undo e.locks };
+}
+
+/// An open transaction of an engine. It can't be dropped: `commit` or `rollback` spends it.
+pub struct Tx {
+    engine: u32,
+    terminal: Terminal,
+}
+
+impl Model for Tx {
+    ghost use Rattle.oe_engine.specs.View.{Handle};
+
+    ghost Value = { Handle };
+
+    ghost view = { λ x. record { engine = x.engine; terminal = x.terminal } };
+}
+
+/// A mark in a transaction: how many records it had made.
+#[derive(Clone, Copy, Debug, PartialEq, Eq)]
+pub struct Mark {
+    records: usize,
+}
+
+impl Model for Mark {
+    ghost Value = { ℕ };
+
+    ghost view = { λ m. m.records };
+
+    ghost inverse = { λ n. record { records = n } };
+}
+
+impl Mark {
+    /// The beginning of a transaction.
+    pub fn start() -> Self
+        ensures { result ≡ 0 }
+    {
+        Mark { records: 0 }
+    }
+}
+
+impl Tx {
+    /// The terminal whose transaction this is.
+    pub fn terminal(&self) -> Terminal
+        ensures { result ≡ self.now.terminal }
+    {
+        self.terminal
+    }
+}
+
+// Whether one mode is below another, where none is below shared, and shared below exclusive.
+fn is_below(mode: Option<Mode>, held: Option<Mode>) -> bool
+    ensures { IsTrue result ↔ locks.IsBelow mode held }
+{
+    match (mode, held) {
+        (None, Some(_)) | (Some(Mode::Shared), Some(Mode::Exclusive)) => true,
+        _ => false,
+    }
+}
+
+impl Engine {
+    /// An engine on tables where nothing has begun or committed; its name tells its transactions from other engines'.
+    /// `NoMemory` where memory was refused.
+    pub fn open(alloc: Global, tables: Tables, extents: u16, name: u32) -> Result<Engine, NoMemory>
+        ensures view { IfOk result (λ e. view_of e ≡ opened_view (rows tables) extents) }
+        ensures name { IfOk result (λ e. e.name ≡ name) }
+    {
+        let Ok(undo) = Undo::new(alloc, extents) else {
+            return Err(NoMemory);
+        };
+        let Ok(locks) = Locks::new(alloc) else {
+            return Err(NoMemory);
+        };
+        Ok(Engine {
+            tables,
+            undo,
+            locks,
+            name,
+        })
+    }
+
+    /// The tables as they stand, open work included.
+    #[tactic(auto, unfolding(crate::specs::View::view_of, crate::specs::View::view_from))]
+    pub fn tables(&self) -> &Tables
+        ensures { rows result.now ≡ (view_of self.now).rows }
+    {
+        &self.tables
+    }
+
+    /// The newest moment: the number of all commits so far.
+    #[tactic(auto, unfolding(crate::specs::View::view_of, crate::specs::View::view_from))]
+    pub fn newest(&self) -> Moment
+        ensures { result ≡ total terminal_limit (view_of self.now).counts }
+    {
+        self.undo.newest()
+    }
+
+    /// The oldest moment that can be read.
+    #[tactic(auto, unfolding(crate::specs::View::view_of, crate::specs::View::view_from))]
+    pub fn horizon(&self) -> Moment
+        ensures { result ≡ total terminal_limit (view_of self.now).counts - length (view_of self.now).seals }
+    {
+        self.undo.horizon()
+    }
+
+    /// How many transactions are open.
+    #[tactic(auto, unfolding(crate::specs::View::view_of, crate::specs::View::view_from))]
+    pub fn open_count(&self) -> u32
+        ensures { (slots : ℕ → Option (Slot system)) → ((t : ℕ) → is_some (slots t) ≡ (view_of self.now).is_open t) → result ≡ count_slots system slots terminal_limit }
+    {
+        self.undo.open_count()
+    }
+
+    /// Begins a transaction of a terminal. It takes all memory that its commit will need.
+    ///
+    /// `AlreadyOpen`: the terminal has one open. `Overflow` of H_NUMBER: its number would be past 4,294,967,295. `NoMemory`:
+    /// memory was refused. The first of these is named, and nothing has changed then.
+    pub fn begin(&mut self, terminal: Terminal) -> Result<Tx, Refusal>
+        ensures handle { IfOk result (λ x. x ≡ record { engine = self.old.name; terminal = terminal }) }
+        ensures closed { OnOk result ((view_of self.old).is_open terminal ≡ false) }
+        ensures counted { OnOk result (number_rejection (suc ((view_of self.old).counts terminal)) ≡ None) }
+        ensures records { OnOk result ((view_of self.old).undo.active terminal ≡ []) }
+        ensures begun { OnOk result (view_of self.new ≡ begun terminal (view_of self.old)) }
+        ensures name { self.new.name ≡ self.old.name }
+        ensures idle { (view_of self.old).is_open terminal ≡ false → (view_of self.old).held terminal ≡ (λ _. None) }
+        ensures cause { IfErr result (CantBegin (view_of self.old) terminal) }
+        ensures err { OnErr result (self.new ≡ self.old) }
+    {
+        let _number = terminal.get();
+        if self.undo.is_open(terminal) {
+            return Err(Refusal::AlreadyOpen);
+        }
+        if self.undo.count(terminal) == u32::MAX {
+            return Err(Refusal::Overflow(Column::HistoryNumber));
+        }
+        let Ok(_) = self.undo.open_segment(terminal) else {
+            return Err(Refusal::NoMemory);
+        };
+        Ok(Tx {
+            engine: self.name,
+            terminal,
+        })
+    }
+
+    /// The number of an open transaction: 1 plus the commits of its terminal.
+    #[tactic(auto, unfolding(crate::specs::View::view_of, crate::specs::View::view_from))]
+    pub fn number(&self, tx: &Tx) -> TransactionNumber
+        requires { IsOpen self.now tx.now }
+        ensures { result ≡ suc ((view_of self.now).counts tx.now.terminal) }
+    {
+        self.undo.number(tx.terminal)
+    }
+
+    /// Whether a lock is free for an open transaction: `Busy` names the least terminal that is in its way. It takes no memory.
+    pub fn is_free(&self, tx: &Tx, lock: Lock) -> Result<(), Refusal>
+        requires { IsOpen self.now tx.now }
+        ensures free { OnOk result (IsFree (view_of self.now) tx.now.terminal (ask_of (Option.Some lock))) }
+        ensures busy { IfErr result (IsBusy (view_of self.now) tx.now.terminal lock) }
+    {
+        match self.locks.in_the_way(&lock.name, tx.terminal, lock.mode) {
+            Some(holder) => Err(Refusal::Busy(lock.name, holder)),
+            None => Ok(()),
+        }
+    }
+
+    /// Whether a transaction is open in this engine.
+    #[tactic(auto, unfolding(crate::specs::View::view_of, crate::specs::View::view_from))]
+    pub fn is_open(&self, tx: &Tx) -> bool
+        ensures { IsTrue result ↔ IsOpen self.now tx.now }
+    {
+        tx.engine == self.name && self.undo.is_open(tx.terminal)
+    }
+}
+
+impl Engine {
+    // Takes a lock, or raises the mode in which its name is held.
+    fn take(&mut self, terminal: Terminal, lock: Lock) -> Result<(), Refusal>
+        requires { (view_of self.old).is_open terminal ≡ true }
+        ensures free { OnOk result (IsFree (view_of self.old) terminal (Take lock.name (mode_of lock.mode))) }
+        ensures locked { OnOk result (view_of self.new ≡ locked terminal lock.name (mode_of lock.mode) (view_of self.old)) }
+        ensures name { self.new.name ≡ self.old.name }
+        ensures cause { IfErr result (LockRefused (view_of self.old) terminal lock.name (mode_of lock.mode)) }
+        ensures err { OnErr result (self.new ≡ self.old) }
+    {
+        self.locks.acquire(lock.name, terminal, lock.mode)
+    }
+
+    // Puts a name back into a mode in which it was held, or lets go of it.
+    pub(crate) fn restore(&mut self, terminal: Terminal, name: Name, mode: Option<Mode>)
+        requires open { (view_of self.old).is_open terminal ≡ true }
+        requires below { (option_map mode_of mode ≡ (view_of self.old).held terminal name) ⊎ IsBelow (option_map mode_of mode) ((view_of self.old).held terminal name) }
+        ensures put { view_of self.new ≡ put_mode terminal name (option_map mode_of mode) (view_of self.old) }
+        ensures name { self.new.name ≡ self.old.name }
+    {
+        if is_below(mode, self.locks.holds(&name, terminal)) {
+            self.locks.give_back(name, terminal, mode);
+        }
+    }
+
+    // Makes a change, with its undo record.
+    fn make(&mut self, terminal: Terminal, change: Change) -> Result<(), Refusal>
+        requires { (view_of self.old).is_open terminal ≡ true }
+        ensures accepted { OnOk result (Accepts (change_of change) (view_of self.old).rows) }
+        ensures made { OnOk result (view_of self.new ≡ made terminal (change_of change) (view_of self.old)) }
+        ensures unwinds { OnOk result (CanUnwind ((view_of self.old).undo.active terminal) (view_of self.old).rows → CanUnwind ((view_of self.new).undo.active terminal) (view_of self.new).rows) }
+        ensures name { self.new.name ≡ self.old.name }
+        ensures cause { IfErr result (ChangeRefused (change_of change) (view_of self.old).rows) }
+        ensures err { OnErr result (view_of self.new ≡ view_of self.old) }
+    {
+        let segment = Segment::of(terminal);
+        let Ok(_) = self.undo.reserve(segment, 1) else {
+            return Err(Refusal::NoMemory);
+        };
+        self.tables.schema_holds();
+        match apply(&mut self.tables, change) {
+            Ok(before) => {
+                self.undo.push(segment, before);
+                Ok(())
+            }
+            Err(refusal) => Err(refusal),
+        }
+    }
+
+    // Takes a lock and makes a change; where the change is refused, the name is held as it was.
+    fn take_and_make(
+        &mut self,
+        terminal: Terminal,
+        lock: Lock,
+        change: Change,
+    ) -> Result<(), Refusal>
+        requires { (view_of self.old).is_open terminal ≡ true }
+        ensures free { OnOk result (IsFree (view_of self.old) terminal (Take lock.name (mode_of lock.mode))) }
+        ensures accepted { OnOk result (Accepts (change_of change) (view_of self.old).rows) }
+        ensures done { OnOk result (view_of self.new ≡ made terminal (change_of change) (locked terminal lock.name (mode_of lock.mode) (view_of self.old))) }
+        ensures unwinds { OnOk result (CanUnwind ((view_of self.old).undo.active terminal) (view_of self.old).rows → CanUnwind ((view_of self.new).undo.active terminal) (view_of self.new).rows) }
+        ensures name { self.new.name ≡ self.old.name }
+        ensures cause { IfErr result (PairRefused (view_of self.old) terminal lock.name (mode_of lock.mode) (change_of change)) }
+        ensures err { OnErr result (view_of self.new ≡ view_of self.old) }
+    {
+        let before = self.locks.holds(&lock.name, terminal);
+        if let Err(refusal) = self.take(terminal, lock) {
+            return Err(refusal);
+        }
+        if let Err(refusal) = self.make(terminal, change) {
+            self.restore(terminal, lock.name, before);
+            return Err(refusal);
+        }
+        Ok(())
+    }
+
+    /// One row of a program: takes its lock, if it asks for one, or raises the mode in which the name is held, and makes its
+    /// change, if it makes one, with its undo record.
+    ///
+    /// `NotOpen`: the transaction is not one of this engine. `Busy`: the least terminal that holds the name in a mode that
+    /// conflicts. `NoMemory`: memory was refused for a name that was not held, for the change or for its record. 2 to 6: the
+    /// tables don't accept the change. After an error nothing has changed: a lock that was gained is given back, and a mode
+    /// that rose has fallen again.
+    pub fn row(
+        &mut self,
+        tx: &Tx,
+        lock: Option<Lock>,
+        change: Option<Change>,
+    ) -> Result<(), Refusal>
+        ensures open { OnOk result (IsOpen self.old tx.now) }
+        ensures free { OnOk result (IsFree (view_of self.old) tx.now.terminal (ask_of lock)) }
+        ensures accepted { OnOk result (AcceptsAll (option_map change_of change) (view_of self.old).rows) }
+        ensures done { OnOk result (view_of self.new ≡ row_done tx.now.terminal (ask_of lock) (option_map change_of change) (view_of self.old)) }
+        ensures unwinds { OnOk result (CanUnwind ((view_of self.old).undo.active tx.now.terminal) (view_of self.old).rows → CanUnwind ((view_of self.new).undo.active tx.now.terminal) (view_of self.new).rows) }
+        ensures name { self.new.name ≡ self.old.name }
+        ensures cause { IfErr result (RowRefused self.old tx.now (ask_of lock) (option_map change_of change)) }
+        ensures err { OnErr result (view_of self.new ≡ view_of self.old) }
+    {
+        if !self.is_open(tx) {
+            return Err(Refusal::NotOpen);
+        }
+        let terminal = tx.terminal;
+        match (lock, change) {
+            (None, None) => Ok(()),
+            (None, Some(change)) => self.make(terminal, change),
+            (Some(lock), None) => self.take(terminal, lock),
+            (Some(lock), Some(change)) => self.take_and_make(terminal, lock, change),
+        }
+    }
+
+    /// A mark where the transaction stands.
+    #[tactic(auto, unfolding(crate::specs::View::view_of, crate::specs::View::view_from))]
+    pub fn savepoint(&self, tx: &Tx) -> Mark
+        ensures { result ≡ length ((view_of self.now).undo.active tx.now.terminal) }
+    {
+        if !self.undo.is_open(tx.terminal) {
+            return Mark::start();
+        }
+        Mark {
+            records: self.undo.mark(Segment::of(tx.terminal)),
+        }
+    }
+
+    /// Takes a transaction back to a mark of its own: what it has changed since then is forgotten, its locks are kept. It takes
+    /// no memory and can't fail.
+    pub fn rollback_to(&mut self, tx: &Tx, mark: Mark)
+        requires open { IsOpen self.old tx.now }
+        requires mark { mark ≤ length ((view_of self.old).undo.active tx.now.terminal) }
+        requires unwinds { CanUnwind (take (count_since (view_of self.old) tx.now.terminal mark) ((view_of self.old).undo.active tx.now.terminal)) (view_of self.old).rows }
+        ensures back { view_of self.new ≡ back_at tx.now.terminal mark (view_of self.old) }
+        ensures name { self.new.name ≡ self.old.name }
+    {
+        let segment = Segment::of(tx.terminal);
+        let count = self.undo.mark(segment) - mark.records;
+        take_back(&mut self.tables, &mut self.undo, segment, count);
+    }
+
+    /// Commits a transaction with its request and reply, and answers the moment of the commit. It takes no memory. A
+    /// transaction that is not open in this engine is handed back, and nothing has changed.
+    pub fn commit(&mut self, tx: Tx, request: Request, reply: Reply) -> Result<Moment, Tx>
+        ensures open { OnOk result (IsOpen self.old tx) }
+        ensures moment { IfOk result (λ m. m ≡ suc (total terminal_limit (view_of self.old).counts)) }
+        ensures committed { OnOk result (view_of self.new ≡ committed tx.terminal request reply (view_of self.old)) }
+        ensures name { self.new.name ≡ self.old.name }
+        ensures foreign { OnErr result (IsOpen self.old tx → ⊥) }
+        ensures back { IfErr result (λ x. x ≡ tx) }
+        ensures err { OnErr result (self.new ≡ self.old) }
+    {
+        if !self.is_open(&tx) {
+            return Err(tx);
+        }
+        let Tx {
+            engine: _,
+            terminal,
+        } = tx;
+        let _number = terminal.get();
+        let segment = Segment::of(terminal);
+        let moment = self.undo.seal(segment, request, reply);
+        self.locks.release_all(segment.terminal());
+        Ok(moment)
+    }
+
+    /// Rolls a transaction back: all that it has changed is forgotten. It takes no memory. A transaction that is not open in this
+    /// engine is handed back, and nothing has changed.
+    pub fn rollback(&mut self, tx: Tx) -> Result<(), Tx>
+        requires unwinds { IsOpen self.old tx → CanUnwind ((view_of self.old).undo.active tx.terminal) (view_of self.old).rows }
+        ensures open { OnOk result (IsOpen self.old tx) }
+        ensures rolled_back { OnOk result (view_of self.new ≡ rolled_back tx.terminal (view_of self.old)) }
+        ensures name { self.new.name ≡ self.old.name }
+        ensures foreign { OnErr result (IsOpen self.old tx → ⊥) }
+        ensures back { IfErr result (λ x. x ≡ tx) }
+        ensures err { OnErr result (self.new ≡ self.old) }
+    {
+        if !self.is_open(&tx) {
+            return Err(tx);
+        }
+        let Tx {
+            engine: _,
+            terminal,
+        } = tx;
+        let _number = terminal.get();
+        let segment = Segment::of(terminal);
+        let count = self.undo.mark(segment);
+        take_back(&mut self.tables, &mut self.undo, segment, count);
+        self.undo.drop_segment(segment);
+        self.locks.release_all(terminal);
+        Ok(())
+    }
+
+    /// The tables, where no transaction is open.
+    #[tactic(auto, unfolding(crate::specs::View::view_of, crate::specs::View::view_from))]
+    pub fn close(self) -> Tables
+        requires { (t : ℕ) → (view_of self).is_open t ≡ false }
+        ensures { rows result ≡ (view_of self).rows }
+    {
+        self.tables
+    }
+}

@@ -1,0 +1,13 @@
+//! The engine: tables, undo records and locks together. A transaction's changes stand at its commit or are forgotten.
+#![tactic(auto)]
+
+pub mod access;
+pub mod engine;
+pub mod rows;
+#[cfg(test)]
+mod tests;
+mod unwinding;
+
+pub use access::Parts;
+pub use engine::{Engine, Mark, Tx};
+pub use rows::{Lock, Progress};
