@@ -1,0 +1,78 @@
+-- A row that was done, or refused, by the engine is a step of the program.
+use Rattle.std.proofs.Common.{◌≡◌, ℕ, suc, Option, None, Some, refl, sym, ap, ◌∙◌, subst, inl, inr}
+use Rattle.oe_theory.specs.Machine.{Ask, Go}
+use Rattle.oe_theory.specs.Next.{IsNew, GivesWay}
+use Rattle.oe_requests.specs.declared.requests.Request.{Request}
+use Rattle.oe_requests.specs.declared.refusals.Refusal.{Refusal}
+use Rattle.oe_requests.specs.declared.refusals.Refusal.TheVariants.{BadLine, NoSuchRow, RowExists, Overflow, Reference, KeyColumn, Busy, UndoFull, NoMemory, NotOpen, AlreadyOpen, InvalidItem, NoCustomer, TooOld, Future, NotQuiet, NotPinned}
+use Rattle.oe_keys.specs.declared.locks.Name.{Name}
+use Rattle.oe_model.specs.Changes.{Change}
+use Rattle.oe_requests.specs.declared.requests.PaymentRequest.{PaymentRequest}
+use Rattle.oe_requests.specs.declared.requests.Request.TheVariants as request
+use Rattle.oe_model.specs.Rows.{Rows}
+use Rattle.oe_model.specs.Places.{Place, PaymentPlace, InPayment}
+use Rattle.oe_model.specs.Payment.{payment_ask, payment_act}
+use Rattle.oe_model.specs.System.{system, yields}
+use Rattle.oe_engine.specs.View.{Stored, view_of, Handle, IsOpen}
+use Rattle.oe_engine.specs.Calls.{ask_of, IsFree, row_done, AcceptsAll, RowRefused}
+use Rattle.oe_engine.specs.declared.rows.Lock.{Lock}
+use Rattle.oe_engine.specs.Programs.{ask_here, act_here, GoesOn, IsRefused}
+
+-- what the row at a place does, read off the engine: t, k and r are the terminal, the number and the rows
+asks_here : (s : Stored) (x : Handle) (q : PaymentRequest) (p : PaymentPlace) (r : Rows) (a : Ask Name Refusal) → r ≡ (view_of s).rows
+    → payment_ask q p r ≡ a → ask_here s x (request.Payment q) (InPayment q p) ≡ a
+asks_here s x q p r a rows asks = subst (λ v. payment_ask q p v ≡ a) rows asks
+
+does_here : (s : Stored) (x : Handle) (q : PaymentRequest) (p : PaymentPlace) (t k : ℕ) (r : Rows) (c : Option Change) (p' : Place)
+    → t ≡ x.terminal → k ≡ suc ((view_of s).counts x.terminal) → r ≡ (view_of s).rows
+    → payment_act t k q p r ≡ Go c p' → act_here s x (request.Payment q) (InPayment q p) ≡ Go c p'
+does_here s x q p t k r c p' terminal number rows does =
+    subst (λ u. payment_act u (suc ((view_of s).counts x.terminal)) q p (view_of s).rows ≡ Go c p') terminal
+    (subst (λ n. payment_act t n q p (view_of s).rows ≡ Go c p') number
+    (subst (λ v. payment_act t k q p v ≡ Go c p') rows does))
+
+pub goes_on : (s s' : Stored) (x : Handle) (q : PaymentRequest) (p : PaymentPlace) (p' : Place) (l : Option Lock) (c : Change) (t k : ℕ) (r : Rows)
+    → t ≡ x.terminal → k ≡ suc ((view_of s).counts x.terminal) → r ≡ (view_of s).rows
+    → payment_ask q p r ≡ ask_of l → payment_act t k q p r ≡ Go (Some c) p'
+    → IsOpen s x → IsFree (view_of s) x.terminal (ask_of l) → AcceptsAll (Some c) (view_of s).rows
+    → view_of s' ≡ row_done x.terminal (ask_of l) (Some c) (view_of s) → s'.name ≡ s.name
+    → GoesOn s x (request.Payment q) (InPayment q p) s' p'
+goes_on s s' x q p p' l c t k r terminal number rows asks does o free accepted done same =
+    let here : ask_here s x (request.Payment q) (InPayment q p) ≡ ask_of l = asks_here s x q p r (ask_of l) rows asks in
+    record {
+      is_open = o;
+      free = subst (λ b. IsFree (view_of s) x.terminal b) (sym here) free;
+      change = Some c;
+      does = does_here s x q p t k r (Some c) p' terminal number rows does;
+      accepted = accepted;
+      done = done ∙ ap (λ b. row_done x.terminal b (Some c) (view_of s)) (sym here);
+      name = same;
+    }
+
+refused_by : (s : Stored) (x : Handle) (q : Request) (p p' : Place) (c : Change) → act_here s x q p ≡ Go (Some c) p'
+    → (e : Refusal) → RowRefused s x (ask_here s x q p) (Some c) e → IsRefused s x q p e
+refused_by s x q p p' c does NotOpen h = h
+refused_by s x q p p' c does (Busy n u) h = h
+refused_by s x q p p' c does NoMemory (o, f, n) = (o, f, inr (c, p', does), subst (λ d. GivesWay system (yields p) d) (sym does) tt)
+refused_by s x q p p' c does (BadLine n) (o, f, why) = (o, inr (inr (f, c, p', does, why)))
+refused_by s x q p p' c does (NoSuchRow k) (o, f, why) = (o, inr (inr (f, c, p', does, why)))
+refused_by s x q p p' c does (RowExists k) (o, f, why) = (o, inr (inr (f, c, p', does, why)))
+refused_by s x q p p' c does (Overflow k) (o, f, why) = (o, inr (inr (f, c, p', does, why)))
+refused_by s x q p p' c does (Reference k) (o, f, why) = (o, inr (inr (f, c, p', does, why)))
+refused_by s x q p p' c does KeyColumn (o, f, why) = (o, inr (inr (f, c, p', does, why)))
+refused_by s x q p p' c does UndoFull (o, f, why) = (o, inr (inr (f, c, p', does, why)))
+refused_by s x q p p' c does AlreadyOpen (o, f, why) = (o, inr (inr (f, c, p', does, why)))
+refused_by s x q p p' c does InvalidItem (o, f, why) = (o, inr (inr (f, c, p', does, why)))
+refused_by s x q p p' c does NoCustomer (o, f, why) = (o, inr (inr (f, c, p', does, why)))
+refused_by s x q p p' c does (TooOld m) (o, f, why) = (o, inr (inr (f, c, p', does, why)))
+refused_by s x q p p' c does (Future m) (o, f, why) = (o, inr (inr (f, c, p', does, why)))
+refused_by s x q p p' c does (NotQuiet n) (o, f, why) = (o, inr (inr (f, c, p', does, why)))
+refused_by s x q p p' c does (NotPinned n) (o, f, why) = (o, inr (inr (f, c, p', does, why)))
+
+pub is_refused : (s : Stored) (x : Handle) (q : PaymentRequest) (p : PaymentPlace) (p' : Place) (l : Option Lock) (c : Change) (t k : ℕ) (r : Rows)
+    → t ≡ x.terminal → k ≡ suc ((view_of s).counts x.terminal) → r ≡ (view_of s).rows
+    → payment_ask q p r ≡ ask_of l → payment_act t k q p r ≡ Go (Some c) p'
+    → (e : Refusal) → RowRefused s x (ask_of l) (Some c) e → IsRefused s x (request.Payment q) (InPayment q p) e
+is_refused s x q p p' l c t k r terminal number rows asks does e h =
+    refused_by s x (request.Payment q) (InPayment q p) p' c (does_here s x q p t k r (Some c) p' terminal number rows does) e
+    (subst (λ b. RowRefused s x b (Some c) e) (sym (asks_here s x q p r (ask_of l) rows asks)) h)
