@@ -1,0 +1,9 @@
+pub mod PlaceFacts
+pub mod Undone
+pub mod MoveFacts
+pub mod BeginFacts
+pub mod AdvanceFacts
+pub mod CloseFacts
+pub mod OpenFacts
+pub mod AuditFacts
+pub mod RunFacts

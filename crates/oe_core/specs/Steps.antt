@@ -1,0 +1,91 @@
+-- Steps and answers as those of the theory of transactions, and what a step may be answered.
+use Rattle.std.specs.Prelude.{◌≡◌, ◌≢◌, ℕ, suc, zero, ◌<◌, List, [], ◌∷◌}
+use Rattle.oe_theory.specs.World.{World, newest, tables}
+use Rattle.oe_theory.specs.Next as theory
+use Rattle.oe_theory.specs.Next.{Next, IsQuiet, count_open}
+use Rattle.oe_requests.specs.declared.requests.CustomerChoice.{CustomerChoice}
+use Rattle.oe_requests.specs.declared.requests.CustomerChoice.TheVariants as choice
+use Rattle.oe_requests.specs.declared.requests.Request.{Request}
+use Rattle.oe_requests.specs.declared.requests.Request.TheVariants as request
+use Rattle.oe_requests.specs.declared.refusals.Refusal.{Refusal}
+use Rattle.oe_requests.specs.declared.refusals.Refusal.TheVariants as refusal
+use Rattle.oe_steps.specs.declared.steps.Step.{Step}
+use Rattle.oe_steps.specs.declared.steps.Step.TheVariants as step
+use Rattle.oe_steps.specs.declared.answers.Answer.{Answer}
+use Rattle.oe_steps.specs.declared.answers.Answer.TheVariants as answer
+use Rattle.oe_audit.specs.Verdict.{condition_of, verdict_of}
+use Rattle.oe_model.specs.Audits as model
+use Rattle.oe_model.specs.Requests.{IsRequest}
+use Rattle.oe_model.specs.System.{system}
+
+abbrev pub step_in : Step → theory.Step system
+step_in (step.Begin t q) = theory.Begin t q
+step_in (step.Advance t) = theory.Advance t
+step_in (step.Save t) = theory.Save t
+step_in (step.Back t) = theory.Back t
+step_in (step.Rollback t) = theory.Rollback t
+step_in (step.Read m q) = theory.Read m q
+step_in (step.Purge m) = theory.Purge m
+step_in (step.Rewind m) = theory.Rewind m
+step_in (step.Audit c m) = theory.Audit m (condition_of c)
+
+-- a refusal of an Advance that is none of those that change nothing has rolled its transaction back
+abbrev pub other_refusal : Step → Refusal → theory.Answer system
+other_refusal (step.Advance t) e = theory.Aborted e
+other_refusal i e = theory.Rejected e
+
+abbrev pub refusal_in : Step → Refusal → theory.Answer system
+refusal_in i (refusal.Busy n u) = theory.Busy n u
+refusal_in i refusal.UndoFull = theory.Undo_full
+refusal_in i refusal.NoMemory = theory.No_memory
+refusal_in i refusal.NotOpen = theory.Not_open
+refusal_in i refusal.AlreadyOpen = theory.Already_open
+refusal_in i (refusal.TooOld m) = theory.Too_old m
+refusal_in i (refusal.Future m) = theory.Future m
+refusal_in i (refusal.NotQuiet n) = theory.Not_quiet n
+refusal_in i e = other_refusal i e
+
+-- the answer of a step
+abbrev pub answer_in : Step → Answer → theory.Answer system
+answer_in i answer.Begun = theory.Begun
+answer_in i answer.More = theory.More
+answer_in i (answer.Committed m y) = theory.Committed m y
+answer_in i answer.Saved = theory.Saved
+answer_in i answer.Back = theory.Gone_back
+answer_in i answer.RolledBack = theory.Rolled_back
+answer_in i (answer.Replied f) = theory.Replied f
+answer_in i (answer.Purged m) = theory.Purged m
+answer_in i (answer.Rewound m) = theory.Rewound m
+answer_in i (answer.Audited v) = theory.Audited (verdict_of v)
+answer_in i (answer.Refused e) = refusal_in i e
+
+-- Audits of today: of the newest moment alone, while no transaction is open. Others are refused: with the number of open
+-- transactions, or where none is open with the newest moment
+abbrev pub AuditsOf : World system → ℕ → model.Condition → theory.Answer system → Type 0
+AuditsOf w m c (theory.Not_quiet n) = (n ≢ 0) × (count_open system w.active system.terminal_limit ≡ n)
+AuditsOf w m c (theory.Too_old k) = IsQuiet system w × (m < newest system w) × (k ≡ newest system w)
+AuditsOf w m c (theory.Future k) = IsQuiet system w × (newest system w < m) × (k ≡ newest system w)
+AuditsOf w m c (theory.Audited v) = IsQuiet system w × (m ≡ newest system w) × (v ≡ model.verdict c (tables system w))
+AuditsOf w m c a = ⊥
+
+-- what a step may be answered, and the world that it leaves: that of the theory, but for audits
+abbrev pub Serves : World system → theory.Step system → theory.Answer system → World system → Type 0
+Serves w (theory.Audit m c) a w' = AuditsOf w m c a × (w' ≡ w)
+Serves w i a w' = Next system w i a w'
+
+-- the requests that have a program today: payments by customer number, in their ranges
+abbrev pub IsNumber : CustomerChoice → Type 0
+IsNumber (choice.Number c) = Unit {0}
+IsNumber (choice.LastName last) = ⊥
+
+abbrev pub HasProgram : Request → Type 0
+HasProgram (request.Payment q) = IsRequest (request.Payment q) × IsNumber q.customer
+HasProgram q = ⊥
+
+-- the steps of today
+abbrev pub IsStep : Step → Type 0
+IsStep (step.Begin t q) = HasProgram q
+IsStep (step.Read m q) = ⊥
+IsStep (step.Purge m) = ⊥
+IsStep (step.Rewind m) = ⊥
+IsStep i = Unit {0}

@@ -1,0 +1,35 @@
+//! Why a request is turned away before anything else is looked at (clause 2.1.1 has warehouses 1 to W).
+ghost use Rattle.std.specs.Prelude.{◌≡◌, [], ◌∷◌};
+ghost use Rattle.oe_model.specs.Requests.{first_absent};
+ghost use Rattle.oe_model.specs.Requests as model;
+ghost use Rattle.oe_store.specs.Stored.{rows};
+ghost use Rattle.oe_core.specs.Steps.{HasProgram};
+
+use oe_keys::{Key, WarehouseKey};
+use oe_requests::{Refusal, Request};
+use oe_store::Tables;
+use oe_values::WarehouseNumber;
+
+/// `NoSuchRow` of a warehouse that isn't there.
+fn absent(tables: &Tables, warehouse: WarehouseNumber) -> Option<Refusal>
+    ensures { result ≡ first_absent (warehouse ∷ []) (rows tables.now) }
+{
+    match tables.warehouse(WarehouseKey { warehouse }) {
+        Some(_) => None,
+        None => Some(Refusal::NoSuchRow(Key::Warehouse(WarehouseKey { warehouse }))),
+    }
+}
+
+/// `NoSuchRow` of the first warehouse, from the left, that the request names and that isn't there.
+pub fn rejection(tables: &Tables, request: &Request) -> Option<Refusal>
+    requires { HasProgram request.now }
+    ensures { result ≡ model.rejection request.now (rows tables.now) }
+{
+    match request {
+        Request::Payment(payment) => match absent(tables, payment.district.warehouse) {
+            Some(refusal) => Some(refusal),
+            None => absent(tables, payment.customer_district.warehouse),
+        },
+        _ => unreachable!(),
+    }
+}

@@ -1,0 +1,29 @@
+//! Runs of steps.
+ghost use Rattle.std.specs.Prelude.{◌≡◌, IfOk, OnErr};
+ghost use Rattle.std.specs.List.{All};
+ghost use Rattle.oe_core.specs.Steps.{IsStep};
+ghost use Rattle.oe_core.specs.Core.{world_of};
+ghost use Rattle.oe_core.specs.Run.{Served, Ran};
+
+use crate::cores::Core;
+use oe_steps::{Answer, Step};
+use oe_table::tables::NoMemory;
+
+/// Carries out the steps one after another, and gives their answers.
+///
+/// `NoMemory`: memory was refused for the answers; no step was carried out then.
+pub fn run(core: &mut Core, steps: &[Step]) -> Result<Vec<Answer>, NoMemory>
+    requires { All IsStep steps.now }
+    ensures served { IfOk result (λ ys. Served (world_of core.old) steps.now ys.items (world_of core.new)) }
+    ensures ran { IfOk result (λ ys. Ran (world_of core.old) steps.now ys.items (world_of core.new)) }
+    ensures err { OnErr result (core.new ≡ core.old) }
+{
+    core.is_reached();
+    let Ok(mut answers) = Vec::with_capacity(core.allocator(), steps.len()) else {
+        return Err(NoMemory);
+    };
+    for step in steps {
+        answers.push(core.step(step.copied())).unwrap();
+    }
+    Ok(answers)
+}
