@@ -1,0 +1,6 @@
+-- What the clauses of this crate cite.
+pub mod Ports
+pub mod Dump
+pub mod Script
+pub mod Outcome
+pub mod Session
