@@ -13,6 +13,8 @@ mod tasks;
 #[cfg(test)]
 mod tests;
 
+use clap::Error;
+use clap::error::ErrorKind;
 use script::run_script;
 use standard::{Printed, Standard};
 use std::process::ExitCode;
@@ -24,11 +26,18 @@ fn main(rt: HostRuntime) -> io::Result<ExitCode> {
     let words: Vec<String> = env::args(&rt)?.collect(alloc)?;
     match job(alloc, words.as_slice()) {
         Ok(Task::Script) => answer_script(&rt),
-        Err(error) => {
-            error.print(&rt)?;
-            Ok(ExitCode::from(if error.use_stderr() { 2 } else { 0 }))
-        }
+        Err(error) => tell(&rt, error),
     }
+}
+
+/// Says why a command line is refused, or gives the help that it asks for.
+fn tell<R: Print + Eprint>(rt: &R, error: Error) -> io::Result<ExitCode> {
+    if matches!(error.kind(), ErrorKind::OutOfMemory) {
+        eprintln!(rt; "fault: no memory")?;
+        return Ok(ExitCode::FAILURE);
+    }
+    error.print(rt)?;
+    Ok(ExitCode::from(if error.use_stderr() { 2 } else { 0 }))
 }
 
 /// Answers standard input on standard output.
