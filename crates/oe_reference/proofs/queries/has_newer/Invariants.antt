@@ -1,0 +1,14 @@
+use Rattle.std.proofs.Common.{◌≡◌, suc}
+use Rattle.std.specs.Prelude.{filter, nat_le}
+use Rattle.std.specs.List.{list_any}
+use Rattle.std.specs.Ordering.{eq_by_cmp}
+use Rattle.oe_keys.specs.Key.{customer_cmp}
+use Rattle.oe_model.specs.Keys.{customer_of_order}
+use Rattle.oe_model.specs.Queries.{orders_of}
+use Rattle.oe_store.specs.Stored.{rows}
+use Rattle.oe_reference.proofs.queries.has_newer.Given as goal
+
+abbrev pub invariant-loop-key : goal.invariant-loop-key
+invariant-loop-key l =
+    list_any (λ e. nat_le (suc l.number) e.0.order) (orders_of l.customer (rows l.tables).orders)
+    ≡ list_any (λ e. nat_le (suc l.number) e.0.order) (filter (λ e. eq_by_cmp customer_cmp (customer_of_order e.0 e.1) l.customer) l.key-iterator)
