@@ -5,8 +5,6 @@
 pub mod conditions;
 mod districts;
 pub mod populations;
-#[cfg(test)]
-mod tests;
 mod warehouses;
 
 pub use conditions::condition;

@@ -5,8 +5,6 @@ pub mod changes;
 mod inserts;
 pub mod laws;
 pub mod records;
-#[cfg(test)]
-mod tests;
 mod updates;
 
 pub use changes::apply;

@@ -1,10 +1,10 @@
 -- A row of a transaction, and its commit.
-use Rattle.std.proofs.Common.{◌≡◌, ◌≢◌, ℕ, suc, ◌<◌, inl, inr, Bool, true, false, List, [], ◌∷◌, Option, Some, None, length, slice_get, slice_set, sym, ap, ◌∙◌, subst, refl}
+use Rattle.std.proofs.Common.{◌≡◌, ℕ, suc, ◌<◌, inl, inr, true, false, Option, Some, None, length, slice_get, slice_set, sym, ap, ◌∙◌, subst, refl}
 use Rattle.std.specs.Prelude.{◌⊎◌}
 use Rattle.std.proofs.lemmas.List.{length-set}
-use Rattle.oe_theory.specs.Machine.{Mode, Ask, Stop, Plain, Take, Act, Fail, Go, Ready, Tx}
-use Rattle.oe_theory.specs.World.{set, total, bump, go_together, tables}
-use Rattle.oe_theory.specs.Next.{Advance, Answer, More, Committed, Aborted, Busy as Is_busy, No_memory, IsNew, GivesWay, held_after}
+use Rattle.oe_theory.specs.Machine.{Mode, Ask, Stop, Plain, Take, Fail, Go, Tx}
+use Rattle.oe_theory.specs.World.{total, go_together}
+use Rattle.oe_theory.specs.Next.{Advance, Answer, More, Committed, Aborted, IsNew, GivesWay, held_after}
 use Rattle.oe_theory.specs.Store.{Slot, Store, tx_in, world_of, opened_by, slot_after, dropped, IsGrantedIn, IsInTheWayIn, MayLackMemoryIn, TakesNoRoom}
 use Rattle.oe_theory.specs.StoreTheorems.{Leads}
 use Rattle.oe_theory.proofs.Sets.{set_same, set_other, set_idle}
@@ -19,7 +19,7 @@ use Rattle.oe_requests.specs.declared.refusals.Refusal.TheVariants.{BadLine, NoS
 use Rattle.oe_steps.specs.declared.steps.Step.TheVariants as step
 use Rattle.oe_model.specs.Rows.{Rows}
 use Rattle.oe_model.specs.Changes.{Change}
-use Rattle.oe_model.specs.Meets.{Accepts, Cause}
+use Rattle.oe_model.specs.Meets.{Accepts}
 use Rattle.oe_model.specs.Places as model
 use Rattle.oe_model.specs.Requests.{MayRefuse}
 use Rattle.oe_model.specs.System.{system, ask, act, yields, may_allocate, record_length, terminal_limit}
@@ -29,12 +29,12 @@ use Rattle.oe_engine.specs.View.{View, view_of, Handle, IsOpen}
 use Rattle.oe_engine.specs.View as engine
 use Rattle.oe_engine.specs.Calls.{IsFree, IsInTheWay, row_done, committed, rolled_back}
 use Rattle.oe_engine.specs.Programs.{tx_of, ask_here, act_here, IsFreeHere, GoesOn, IsReady, Ends, IsRefused}
-use Rattle.oe_core.specs.Core.{Stored, place_of, request_of, work_at, slot_of, open_at, store_with, store_of, Works, IsOrderly, Moves, keeps_open}
+use Rattle.oe_core.specs.Core.{Stored, place_of, request_of, work_at, slot_of, open_at, store_with, store_of, IsOrderly, Moves, keeps_open}
 use Rattle.oe_core.specs.Steps.{refusal_in}
 use Rattle.oe_core.specs.declared.slots.Work.{Work}
 use Rattle.oe_core.specs.declared.programs.Program.{Program}
 use Rattle.oe_core.specs.declared.programs.Program.TheVariants as program
-use Rattle.oe_core.proofs.PlaceFacts.{place_set, place_set_twice, get_place, length_two}
+use Rattle.oe_core.proofs.PlaceFacts.{place_set, get_place}
 use Rattle.oe_core.proofs.MoveFacts.{standing, closed, the_steps, within, same_parts, slots_set, works_set, has_work, work_here, gone_works}
 
 no_room : TakesNoRoom system
@@ -184,7 +184,7 @@ lacks s t p (Take k m) g n y = (g, n, y)
 pub went_on_here : (s : Stored) → IsOrderly s → (t : ℕ) → t < 65 → (w w' : Work) (e' : engine.Stored) → slice_get s.slots t ≡ Some (Some w)
     → GoesOn s.engine w.tx (request_of w.program) (place_of w.program) e' (place_of w'.program)
     → w'.tx ≡ w.tx → w'.request ≡ w.request → request_of w'.program ≡ request_of w.program → w'.mark_program ≡ w.mark_program → w'.mark ≡ w.mark
-    → Moves s (Advance t) More (record { engine = e'; slots = slice_set (slice_set s.slots t None) t (Some w') })
+    → Moves s (Advance t) More (record { engine = e'; slots = slice_set s.slots t (Some w') })
 went_on_here s o t h w w' e' e g x r p m k =
     let v = view_of s.engine in
     let at = get_place s.slots t (Some w) None e in
@@ -195,11 +195,11 @@ went_on_here s o t h w w' e' e g x r p m k =
     g.done
     ∙ (ap (λ (z : Ask Name Refusal). row_done w.tx.terminal z g.change v) (asked_here s o t w at)
     ∙ ap (λ (z : ℕ). row_done z a g.change v) own.terminal) in
-    let set_here = place_set_twice s.slots t None (Some w') None (within s o t h) in
+    let set_here = place_set s.slots t (Some w') None (within s o t h) in
     closed s _ (Advance t) More _
     (the_steps.goes_on (store_of s) t (slot_of v t w) g.change (place_of w'.program) (standing s o) (slot_here s o t w at) (granted_in s o t w at g.free)
     (sym (acted_here s o t w at) ∙ g.does) (the_steps.is_room no_room (store_of s) t g.change))
-    (ap (λ (z : View). store_with z (work_at (slice_set (slice_set s.slots t None) t (Some w')))) now
+    (ap (λ (z : View). store_with z (work_at (slice_set s.slots t (Some w')))) now
     ∙ same_parts _ _ _ _ _ _ _ _ _ _ _ _ refl refl
     (slots_set v v' (work_at s.slots) _ t (Some w') (Some (slot_after system (slot_of v t w) (length (v.undo.active t)) a (place_of w'.program))) set_here (λ u n. refl)
     (λ u n. set_other t _ v.held u n)
@@ -212,7 +212,7 @@ went_on_here s o t h w w' e' e g x r p m k =
       held = set_same t (held_after system a (v.held t)) v.held t refl i;
     })))
     refl refl refl)
-    (length_two s.slots t None (Some w') ∙ o.places)
+    (length-set s.slots t (Some w') ∙ o.places)
     (works_set s.engine e' (work_at s.slots) _ t (Some w') set_here g.name (λ u n. ap (λ (z : View). z.is_open u) now) o.works
     (record {
       is_open = record {
@@ -254,20 +254,20 @@ stays_open : (s : Stored) → IsOrderly s → (t : ℕ) → t < 65 → (w w' : W
     → view_of e' ≡ view_of s.engine → e'.name ≡ s.engine.name
     → w'.tx ≡ w.tx → w'.request ≡ w.request → request_of w'.program ≡ request_of w.program → place_of w'.program ≡ place_of w.program
     → w'.mark_program ≡ w.mark_program → w'.mark ≡ w.mark → Leads system (store_of s) (Advance t) a (store_of s)
-    → Moves s (Advance t) a (record { engine = e'; slots = slice_set (slice_set s.slots t None) t (Some w') })
+    → Moves s (Advance t) a (record { engine = e'; slots = slice_set s.slots t (Some w') })
 stays_open s o t h w w' e' a e b name x r p q m k l =
     let v = view_of s.engine in
     let at = get_place s.slots t (Some w) None e in
     let own = work_here s o t w at in
-    let set_here = place_set_twice s.slots t None (Some w') None (within s o t h) in
+    let set_here = place_set s.slots t (Some w') None (within s o t h) in
     closed s _ (Advance t) a _ l
-    (ap (λ (z : View). store_with z (work_at (slice_set (slice_set s.slots t None) t (Some w')))) b
+    (ap (λ (z : View). store_with z (work_at (slice_set s.slots t (Some w')))) b
     ∙ same_parts _ _ _ _ _ _ _ _ _ _ _ _ refl refl
     (slots_set v v (work_at s.slots) _ t (Some w') (Some (slot_of v t w)) set_here (λ u n. refl) (λ u n. refl)
     (λ i. Some (record { number = suc (v.counts t); request = r i; place = q i; mark_place = place_of (m i); mark_count = k i; held = v.held t }))
     ∙ set_idle t (Some (slot_of v t w)) (store_of s).slots (ap (open_at v t) at))
     refl refl refl)
-    (length_two s.slots t None (Some w') ∙ o.places)
+    (length-set s.slots t (Some w') ∙ o.places)
     (works_set s.engine e' (work_at s.slots) _ t (Some w') set_here name (λ u n. ap (λ (z : View). z.is_open u) b) o.works
     (record {
       is_open = record {
@@ -358,7 +358,7 @@ pub kept_here : (s : Stored) → IsOrderly s → (t : ℕ) → t < 65 → (w w' 
     → keeps_open x ≡ true → IsRefused s.engine w.tx (request_of w.program) (place_of w.program) x
     → view_of e' ≡ view_of s.engine → e'.name ≡ s.engine.name → w'.tx ≡ w.tx → w'.request ≡ w.request → request_of w'.program ≡ request_of w.program → place_of w'.program ≡ place_of w.program
     → w'.mark_program ≡ w.mark_program → w'.mark ≡ w.mark
-    → Moves s (Advance t) (refusal_in (step.Advance t) x) (record { engine = e'; slots = slice_set (slice_set s.slots t None) t (Some w') })
+    → Moves s (Advance t) (refusal_in (step.Advance t) x) (record { engine = e'; slots = slice_set s.slots t (Some w') })
 kept_here s o t h w w' e' x e g i b name tx r p q m k =
     stays_open s o t h w w' e' (refusal_in (step.Advance t) x) e b name tx r p q m k (kept_lead s o t w (get_place s.slots t (Some w) None e) x g i)
 

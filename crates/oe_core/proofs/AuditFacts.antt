@@ -1,16 +1,15 @@
 -- Audits of the newest moment.
-use Rattle.std.proofs.Common.{inl, inr, ◌≡◌, ◌≢◌, ℕ, zero, suc, ◌<◌, ◌≤◌, Bool, true, false, Option, Some, None, sym, ap, ◌∙◌, subst, refl, arith}
+use Rattle.std.proofs.Common.{inl, inr, ◌≡◌, ℕ, zero, suc, ◌<◌, ◌≤◌, true, false, Option, Some, None, sym, ap, ◌∙◌, subst, refl, arith}
 use Rattle.std.specs.Prelude.{is_some, ◌⊎◌}
 use Rattle.std.specs.Ordering.{is_lt, is_gt, nat_cmp}
 use Rattle.std.specs.Cmp.{nat_cmp_is}
 use Rattle.std.specs.declared.cmp.Ordering.TheVariants.{Less, Equal, Greater}
 use Rattle.oe_theory.specs.World.{newest, tables, total}
-use Rattle.oe_theory.specs.Next.{IsQuiet, Answer, Audited, Too_old, Future, Not_quiet}
+use Rattle.oe_theory.specs.Next.{IsQuiet, Audited, Too_old, Future, Not_quiet}
 use Rattle.oe_theory.specs.Store.{Slot, count_slots}
 use Rattle.oe_theory.proofs.StoreSteps.{tables_here, is_shut_in}
 use Rattle.oe_theory.proofs.StoreTheorems.{newest_here, open_count}
 use Rattle.oe_theory.proofs.StoreClosing.{store_is_orderly}
-use Rattle.oe_model.specs.Rows.{Rows}
 use Rattle.oe_model.specs.Audits as model
 use Rattle.oe_model.specs.System.{system, terminal_limit}
 use Rattle.oe_model.proofs.SystemLaws.{laws}

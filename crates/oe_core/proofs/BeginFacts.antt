@@ -1,5 +1,5 @@
 -- Why a transaction can't begin.
-use Rattle.std.proofs.Common.{◌≡◌, ℕ, suc, ◌<◌, ◌≤◌, cond, Bool, true, false, List, [], ◌∷◌, Option, Some, None, sym, ap, ◌∙◌, subst, refl}
+use Rattle.std.proofs.Common.{◌≡◌, ℕ, suc, ◌<◌, ◌≤◌, cond, Bool, true, false, List, [], ◌∷◌, Some, None, sym, ap, subst, refl}
 use Rattle.std.specs.Prelude.{is_some, nat_le}
 use Rattle.oe_theory.specs.Next.{Begin, Answer, Rejected, Already_open, No_memory}
 use Rattle.oe_requests.specs.declared.requests.Request.{Request}

@@ -15,7 +15,7 @@ use Rattle.oe_model.proofs.SystemLaws.{laws}
 use Rattle.oe_engine.specs.View.{View, view_of}
 use Rattle.oe_engine.specs.View as engine
 use Rattle.oe_engine.specs.Calls.{rolled_back}
-use Rattle.oe_core.specs.Core.{Stored, work_at, open_at, store_with, store_of, world_of, Works, IsOrderly, IsEndable, IsEnded}
+use Rattle.oe_core.specs.Core.{Stored, work_at, store_with, store_of, world_of, Works, IsOrderly, IsEndable, IsEnded}
 use Rattle.oe_core.specs.declared.slots.Work.{Work}
 use Rattle.oe_core.proofs.MoveFacts.{standing, same_parts, slots_set, works_set}
 use Rattle.oe_core.proofs.Undone.{unwinds_here}

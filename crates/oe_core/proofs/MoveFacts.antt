@@ -1,11 +1,11 @@
 -- What a core does to what it stores is a step of its world.
-use Rattle.std.proofs.Common.{◌≡◌, ◌≢◌, ℕ, zero, suc, ◌<◌, ◌≤◌, inl, inr, cond, Bool, true, false, List, [], ◌∷◌, Option, Some, None, length, take, drop, slice_get, slice_set, sym, ap, ◌∙◌, subst, refl, arith}
+use Rattle.std.proofs.Common.{◌≡◌, ◌≢◌, ℕ, suc, ◌<◌, ◌≤◌, inl, inr, true, false, List, Option, Some, None, length, slice_get, slice_set, sym, ap, ◌∙◌, subst, refl, arith}
 use Rattle.std.specs.Prelude.{◌⊎◌}
 use Rattle.std.proofs.lemmas.Bool.{cases_eq}
 use Rattle.std.proofs.lemmas.List.{length-set}
 use mathlib.Core.Path.{fun_ext}
-use Rattle.oe_theory.specs.World.{set, IsTerminal}
-use Rattle.oe_theory.specs.Next.{Step, Begin, Advance, Save, Back, Rollback, Answer, Begun, Saved, Gone_back, Rolled_back, Not_open, works_on}
+use Rattle.oe_theory.specs.World.{set}
+use Rattle.oe_theory.specs.Next.{Next, Step, Begin, Save, Back, Rollback, Answer, Begun, Saved, Gone_back, Rolled_back, Not_open, works_on}
 use Rattle.oe_theory.specs.Undo.{Undo}
 use Rattle.oe_theory.specs.Store.{Slot, Seal, Store, first_slot}
 use Rattle.oe_theory.specs.Theorems.{IsReached}
@@ -25,8 +25,8 @@ use Rattle.oe_engine.specs.Calls.{begun, back_at, rolled_back, CanUnwind}
 use Rattle.oe_core.specs.Core.{Stored, place_of, request_of, work_at, slot_of, open_at, store_with, store_of, world_of, IsSound, IsWork, Works, IsOrderly, Moves}
 use Rattle.oe_core.specs.Steps.{HasProgram}
 use Rattle.oe_core.specs.declared.slots.Work.{Work}
-use Rattle.oe_core.proofs.PlaceFacts.{place_set, place_set_twice, get_place, set_idle_place, length_two}
-use Rattle.oe_core.proofs.Undone.{unwinds_here, take_unwinds}
+use Rattle.oe_core.proofs.PlaceFacts.{place_set, get_place, set_idle_place}
+use Rattle.oe_core.proofs.Undone.{unwinds_here}
 
 pub standing : (s : Stored) → IsOrderly s → IsStanding system (store_of s)
 unfolding IsSound
@@ -42,6 +42,15 @@ unfolding IsSound world_of
 closed s s' i a t l e h g =
     let l' : Leads system (store_of s) i a (store_of s') = subst (λ (z : Store system). Leads system (store_of s) i a z) (sym e) l in
     record { next = l'.next; orderly = record { places = h; works = g; sound = l'.stands } }
+
+-- what is said of it
+pub carries : (s : Stored) (i : Step system) (a : Answer system) (s' : Stored) → Moves s i a s' → Next system (world_of s) i a (world_of s') × IsReached system (world_of s')
+carries s i a s' m = (m.next, reached_here s' m.orderly)
+
+-- it asks for its places in no other form
+pub with_slots : (s : Stored) (i : Step system) (a : Answer system) (e' : engine.Stored) (xs ys : List (Option Work)) → ys ≡ xs
+    → Moves s i a (record { engine = e'; slots = xs }) → Moves s i a (record { engine = e'; slots = ys })
+with_slots s i a e' xs ys q m = subst (λ (z : List (Option Work)). Moves s i a (record { engine = e'; slots = z })) (sym q) m
 
 -- a step that leaves what is stored
 pub stays : (s : Stored) → IsOrderly s → (i : Step system) (a : Answer system) → Leads system (store_of s) i a (store_of s) → Moves s i a s
@@ -141,20 +150,20 @@ pub unwinds : (s : Stored) → IsOrderly s → (t : ℕ) → CanUnwind ((view_of
 unwinds s o t = unwinds_here (store_of s) (standing s o) t
 
 pub saved : (s : Stored) → IsOrderly s → (t : ℕ) → t < 65 → (w w' : Work) → slice_get s.slots t ≡ Some (Some w)
-    → w'.tx ≡ w.tx → w'.request ≡ w.request → w'.program ≡ w.program → w'.mark_program ≡ w.program → w'.mark ≡ length ((view_of s.engine).undo.active w.tx.terminal)
-    → Moves s (Save t) Saved (record { engine = s.engine; slots = slice_set (slice_set s.slots t None) t (Some w') })
+    → w'.tx ≡ w.tx → w'.request ≡ w.request → w'.program ≡ w.program → w'.mark_program ≡ w.program → (IsOpen s.engine w.tx → w'.mark ≡ length ((view_of s.engine).undo.active w.tx.terminal))
+    → Moves s (Save t) Saved (record { engine = s.engine; slots = slice_set s.slots t (Some w') })
 saved s o t h w w' e x r p m k =
     let v = view_of s.engine in
     let at = get_place s.slots t (Some w) None e in
     let own = work_here s o t w at in
-    let mark : w'.mark ≡ length (v.undo.active t) = k ∙ ap (λ (z : ℕ). length (v.undo.active z)) own.terminal in
-    let set_here = place_set_twice s.slots t None (Some w') None (within s o t h) in
+    let mark : w'.mark ≡ length (v.undo.active t) = k own.is_open ∙ ap (λ (z : ℕ). length (v.undo.active z)) own.terminal in
+    let set_here = place_set s.slots t (Some w') None (within s o t h) in
     closed s _ (Save t) Saved _ (the_steps.saves (store_of s) t (slot_of v t w) (standing s o) (ap (open_at v t) at))
     (same_parts _ _ _ _ _ _ _ _ _ _ _ _ refl refl
     (slots_set v v (work_at s.slots) _ t (Some w') _ set_here (λ u n. refl) (λ u n. refl)
     (λ i. Some (record { number = suc (v.counts t); request = r i; place = place_of (p i); mark_place = place_of (m i); mark_count = mark i; held = v.held t })))
     refl refl refl)
-    (length_two s.slots t None (Some w') ∙ o.places)
+    (length-set s.slots t (Some w') ∙ o.places)
     (works_set s.engine s.engine (work_at s.slots) _ t (Some w') set_here refl (λ u n. refl) o.works
     (record {
       is_open = subst (λ (z : Handle). IsOpen s.engine z) (sym x) own.is_open;
@@ -166,20 +175,20 @@ saved s o t h w w' e x r p m k =
 pub gone_back_here : (s : Stored) → IsOrderly s → (t : ℕ) → t < 65 → (w w' : Work) (e' : engine.Stored) → slice_get s.slots t ≡ Some (Some w)
     → view_of e' ≡ back_at w.tx.terminal w.mark (view_of s.engine) → e'.name ≡ s.engine.name
     → w'.tx ≡ w.tx → w'.request ≡ w.request → w'.program ≡ w.mark_program → w'.mark_program ≡ w.mark_program → w'.mark ≡ w.mark
-    → Moves s (Back t) Gone_back (record { engine = e'; slots = slice_set (slice_set s.slots t None) t (Some w') })
+    → Moves s (Back t) Gone_back (record { engine = e'; slots = slice_set s.slots t (Some w') })
 gone_back_here s o t h w w' e' e b name x r p m k =
     let v = view_of s.engine in
     let at = get_place s.slots t (Some w) None e in
     let own = work_here s o t w at in
     let now : view_of e' ≡ back_at t w.mark v = b ∙ ap (λ (z : ℕ). back_at z w.mark v) own.terminal in
-    let set_here = place_set_twice s.slots t None (Some w') None (within s o t h) in
+    let set_here = place_set s.slots t (Some w') None (within s o t h) in
     closed s _ (Back t) Gone_back _ (the_steps.goes_back (store_of s) t (slot_of v t w) (standing s o) (ap (open_at v t) at))
-    (ap (λ (z : View). store_with z (work_at (slice_set (slice_set s.slots t None) t (Some w')))) now
+    (ap (λ (z : View). store_with z (work_at (slice_set s.slots t (Some w')))) now
     ∙ same_parts _ _ _ _ _ _ _ _ _ _ _ _ refl refl
     (slots_set v (back_at t w.mark v) (work_at s.slots) _ t (Some w') _ set_here (λ u n. refl) (λ u n. refl)
     (λ i. Some (record { number = suc (v.counts t); request = r i; place = place_of (p i); mark_place = place_of (m i); mark_count = k i; held = v.held t })))
     refl refl refl)
-    (length_two s.slots t None (Some w') ∙ o.places)
+    (length-set s.slots t (Some w') ∙ o.places)
     (works_set s.engine e' (work_at s.slots) _ t (Some w') set_here name (λ u n. ap (λ (z : View). z.is_open u) now) o.works
     (record {
       is_open = record {

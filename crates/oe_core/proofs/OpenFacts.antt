@@ -1,7 +1,6 @@
 -- A core that was just opened.
-use Rattle.std.proofs.Common.{◌≡◌, ℕ, zero, suc, false, List, Option, Some, None, length, replicate, sym, ap, ◌∙◌, subst, refl}
+use Rattle.std.proofs.Common.{◌≡◌, ℕ, zero, suc, List, Option, None, length, replicate, sym, ap, ◌∙◌, subst, refl}
 use mathlib.Core.Path.{fun_ext}
-use Rattle.oe_theory.specs.Undo.{no_records}
 use Rattle.oe_theory.specs.Store as theory
 use Rattle.oe_theory.specs.Store.{Slot, Store, opened_store}
 use Rattle.oe_theory.specs.Theorems.{opened}
@@ -13,7 +12,7 @@ use Rattle.oe_model.specs.System.{system}
 use Rattle.oe_model.proofs.SystemLaws.{laws, population_is_good}
 use Rattle.oe_engine.specs.View.{View, view_of, opened_view}
 use Rattle.oe_engine.specs.View as engine
-use Rattle.oe_core.specs.Core.{Stored, work_at, open_at, store_with, store_of, world_of, IsSound, Works, IsOrderly}
+use Rattle.oe_core.specs.Core.{work_at, store_with, store_of, world_of, IsSound, Works, IsOrderly}
 use Rattle.oe_core.specs.declared.slots.Work.{Work}
 use Rattle.oe_core.proofs.PlaceFacts.{all_same}
 

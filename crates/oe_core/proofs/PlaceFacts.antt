@@ -1,11 +1,11 @@
 -- Places of a list, as a function of their numbers.
-use Rattle.std.proofs.Common.{◌≡◌, ◌≢◌, ℕ, zero, suc, ◌<◌, inl, inr, List, [], ◌∷◌, Option, Some, None, length, slice_get, slice_set, get_or, replicate, sym, ap, ◌∙◌, refl, arith}
+use Rattle.std.proofs.Common.{◌≡◌, ◌≢◌, ℕ, zero, suc, ◌<◌, inl, inr, List, [], ◌∷◌, Option, Some, length, slice_get, slice_set, get_or, replicate, sym, ap, ◌∙◌, refl, arith}
 use Rattle.std.specs.Prelude.{◌⊎◌}
 use Rattle.std.proofs.lemmas.Bool.{cases_eq}
-use Rattle.std.proofs.lemmas.List.{length-set}
+use Rattle.std.proofs.lemmas.List.{set-set}
 use mathlib.Core.Path.{fun_ext}
 use Rattle.oe_theory.specs.World.{set}
-use Rattle.oe_theory.proofs.Sets.{set_same, set_other, set_twice}
+use Rattle.oe_theory.proofs.Sets.{set_same, set_other, some_inj}
 
 get_or_same : {X : Type 0} (xs : List X) (i : ℕ) (x d : X) → i < length xs → get_or (slice_set xs i x) i d ≡ x
 get_or_same [] i x d h = absurd (omega arith)
@@ -29,12 +29,6 @@ place_set xs t x d h = fun_ext (λ i. go i (cases_eq i t))
         ∙ (get_or_same xs t x d h ∙ sym (set_same t x (λ i. get_or xs i d) i e))
     go i (inr n) = get_or_other xs t i x d n ∙ sym (set_other t x (λ i. get_or xs i d) i n)
 
--- set twice, the later stays
-pub place_set_twice : {X : Type 0} (xs : List X) (t : ℕ) (x y d : X) → t < length xs → (λ (i : ℕ). get_or (slice_set (slice_set xs t x) t y) i d) ≡ set t y (λ i. get_or xs i d)
-place_set_twice xs t x y d h =
-    place_set (slice_set xs t x) t y d (omega (arith, h, length-set xs t x))
-    ∙ (ap (set t y) (place_set xs t x d h) ∙ set_twice t y x (λ i. get_or xs i d))
-
 pub get_place : {X : Type 0} (xs : List X) (t : ℕ) (x d : X) → slice_get xs t ≡ Some x → get_or xs t d ≡ x
 get_place [] t x d e = cc
 get_place (y ∷ ys) zero x d e = cc
@@ -50,6 +44,24 @@ slice_of [] t x d h e = absurd (omega arith)
 slice_of (y ∷ ys) zero x d h e = ap Some e
 slice_of (y ∷ ys) (suc t) x d h e = slice_of ys t x d (omega arith) e
 
+-- what stands behind a loan of a place
+pub at_place : {X : Type 0} (xs : List X) (i t : ℕ) (x y : X) → i ≡ t → t < length xs → x ≡ get_or xs i x → x ≡ y → slice_get xs t ≡ Some y
+at_place xs i t x y e h g f = slice_of xs t x x h (ap (λ (k : ℕ). get_or xs k x) (sym e) ∙ sym g) ∙ ap Some f
+
+-- what was put in is what is taken out
+pub taken_is : {X : Type 0} (xs : List (Option X)) (i t : ℕ) (x y : X) → i ≡ t → t < length xs → slice_get (slice_set xs i (Some x)) t ≡ Some (Some y) → y ≡ x
+taken_is xs i t x y e h g =
+    let it : Some (Some y) ≡ Some (Some x) = sym g ∙ (ap (λ (k : ℕ). slice_get (slice_set xs k (Some x)) t) e ∙ get_set_same xs t (Some x) h) in
+    some_inj _ _ (some_inj _ _ it)
+
+-- and nothing of it is left
+pub taken_out : {X : Type 0} (xs ys : List X) (i t : ℕ) (x y : X) → i ≡ t → ys ≡ slice_set (slice_set xs i x) t y → ys ≡ slice_set xs t y
+taken_out xs ys i t x y e g = g ∙ (ap (λ (k : ℕ). slice_set (slice_set xs k x) t y) e ∙ set-set xs t x y)
+
+-- taken out, changed and put in again
+pub put_back : {X : Type 0} (xs ys zs : List X) (t : ℕ) (x y : X) → ys ≡ slice_set xs t x → zs ≡ slice_set ys t y → zs ≡ slice_set xs t y
+put_back {X = X} xs ys zs t x y e g = g ∙ (ap (λ (ws : List X). slice_set ws t y) e ∙ set-set xs t x y)
+
 pub set_idle_place : {X : Type 0} (xs : List X) (t : ℕ) (x : X) → slice_get xs t ≡ Some x → slice_set xs t x ≡ xs
 set_idle_place [] t x e = refl
 set_idle_place (y ∷ ys) zero x e = ap (λ z. z ∷ ys) (cc)
@@ -59,6 +71,3 @@ pub all_same : {X : Type 0} (n t : ℕ) (x : X) → get_or (replicate n x) t x �
 all_same zero t x = refl
 all_same (suc n) zero x = refl
 all_same (suc n) (suc t) x = all_same n t x
-
-pub length_two : {X : Type 0} (xs : List X) (t : ℕ) (x y : X) → length (slice_set (slice_set xs t x) t y) ≡ length xs
-length_two xs t x y = length-set (slice_set xs t x) t y ∙ length-set xs t x

@@ -1,5 +1,5 @@
 -- What follows of a run of steps.
-use Rattle.std.proofs.Common.{◌≡◌, ◌≢◌, ℕ, zero, suc, ◌+◌, ◌<◌, ◌≤◌, Bool, true, false, cond, List, [], ◌∷◌, ◌++◌, take, length, get_or, sym, ap, ◌∙◌, subst, refl, arith}
+use Rattle.std.proofs.Common.{◌≡◌, ℕ, zero, suc, ◌<◌, ◌≤◌, cond, List, [], ◌∷◌, ◌++◌, take, length, get_or, sym, ap, ◌∙◌, subst, refl, arith}
 use Rattle.oe_theory.specs.World.{World, newest, tables, at}
 use Rattle.oe_theory.specs.Next as theory
 use Rattle.oe_theory.specs.Next.{Next, Runs, Begin, Advance, Save, Back, Rollback, Read, Purge, Rewind, Audit, Begun, More, Committed, Saved, Gone_back, Rolled_back, Replied, Audited, Purged, Rewound, Aborted, Rejected, Busy, Undo_full, Not_open, Already_open, Too_old, Future, Not_quiet, No_memory, audits}

@@ -1,5 +1,5 @@
 -- The records of an open transaction can be put back: each finds the row that its change left, and the schema holds after each.
-use Rattle.std.proofs.Common.{◌≡◌, ℕ, suc, zero, cond, Option, None, Some, List, [], ◌∷◌, take, refl, sym, ap, ◌∙◌, subst}
+use Rattle.std.proofs.Common.{◌≡◌, ℕ, suc, zero, cond, Option, None, Some, List, [], ◌∷◌, take, refl, sym, ap, subst}
 use Rattle.std.specs.Prelude.{IsSome, option_map}
 use Rattle.std.specs.FinMap.{get}
 use Rattle.oe_theory.specs.Machine.{Machine}

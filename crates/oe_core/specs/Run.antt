@@ -6,7 +6,6 @@ use Rattle.oe_theory.specs.Next.{IsQuiet, Begin, Advance, Begun, Committed, Runs
 use Rattle.oe_theory.specs.Erase.{is_rolled_back, without}
 use Rattle.oe_theory.specs.Theorems.{IsReached, Is_whole}
 use Rattle.oe_requests.specs.declared.requests.Request.{Request}
-use Rattle.oe_requests.specs.declared.replies.Reply.{Reply}
 use Rattle.oe_steps.specs.declared.steps.Step.{Step}
 use Rattle.oe_steps.specs.declared.answers.Answer.{Answer}
 use Rattle.oe_model.specs.Headline.{Conditions}

@@ -1,8 +1,9 @@
 -- Steps and answers as those of the theory of transactions, and what a step may be answered.
-use Rattle.std.specs.Prelude.{◌≡◌, ◌≢◌, ℕ, suc, zero, ◌<◌, List, [], ◌∷◌}
+use Rattle.std.specs.Prelude.{◌≡◌, ◌≢◌, ℕ, ◌<◌}
 use Rattle.oe_theory.specs.World.{World, newest, tables}
 use Rattle.oe_theory.specs.Next as theory
 use Rattle.oe_theory.specs.Next.{Next, IsQuiet, count_open}
+use Rattle.oe_theory.specs.Theorems.{IsReached}
 use Rattle.oe_requests.specs.declared.requests.CustomerChoice.{CustomerChoice}
 use Rattle.oe_requests.specs.declared.requests.CustomerChoice.TheVariants as choice
 use Rattle.oe_requests.specs.declared.requests.Request.{Request}
@@ -72,6 +73,10 @@ AuditsOf w m c a = ⊥
 abbrev pub Serves : World system → theory.Step system → theory.Answer system → World system → Type 0
 Serves w (theory.Audit m c) a w' = AuditsOf w m c a × (w' ≡ w)
 Serves w i a w' = Next system w i a w'
+
+-- a step that was answered so, and steps have led to the world that it leaves
+abbrev pub Carries : World system → Step → Answer → World system → Type 0
+Carries w i a w' = Serves w (step_in i) (answer_in i a) w' × IsReached system w'
 
 -- the requests that have a program today: payments by customer number, in their ranges
 abbrev pub IsNumber : CustomerChoice → Type 0

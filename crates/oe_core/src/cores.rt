@@ -1,20 +1,18 @@
 //! The core.
 ghost use Rattle.std.specs.Prelude.{◌≡◌, IfOk, suc};
 ghost use Rattle.oe_theory.specs.World.{latest, newest, tables, total};
-ghost use Rattle.oe_theory.specs.Next as theory;
 ghost use Rattle.oe_theory.specs.Theorems.{opened, IsReached};
 ghost use Rattle.oe_model.specs.Conditions.{IsPopulation};
 ghost use Rattle.oe_model.specs.System.{system, terminal_limit};
 ghost use Rattle.oe_store.specs.Stored.{rows};
 ghost use Rattle.oe_engine.specs.View.{view_of, IsOpen};
 ghost use Rattle.oe_engine.specs.Calls.{CanUnwind, committed, rolled_back};
-ghost use Rattle.oe_audit.specs.Verdict.{condition_of};
-ghost use Rattle.oe_core.specs.Steps.{step_in, answer_in, AuditsOf, Serves, IsStep, HasProgram};
+ghost use Rattle.oe_core.specs.Steps.{step_in, answer_in, Serves, Carries, IsStep, HasProgram};
 ghost use Rattle.oe_core.specs.Core.{world_of, keeps_open, IsEndable, IsEnded};
 
 use crate::programs::Program;
 use crate::rejections::rejection;
-use crate::slots::{Work, begun_work, empty_slots, put_work, take_work};
+use crate::slots::{Work, begun_work, empty_slots, open_work, place, put_work, take_work};
 use oe_engine::{Engine, Progress};
 use oe_requests::{Refusal, Reply, Request};
 use oe_steps::{Answer, Condition, Step};
@@ -88,9 +86,15 @@ impl Core {
         ensures serves { Serves (world_of self.old) (step_in step) (answer_in step result) (world_of self.new) }
         ensures reached { IsReached system (world_of self.new) }
     {
-        let answer = self.serve(step);
-        self.is_reached();
-        answer
+        match step {
+            Step::Begin(terminal, request) => self.begin(terminal, request),
+            Step::Advance(terminal) => self.advance(terminal),
+            Step::Save(terminal) => self.save(terminal),
+            Step::Back(terminal) => self.back(terminal),
+            Step::Rollback(terminal) => self.rollback(terminal),
+            Step::Audit(condition, moment) => self.audit(condition, moment),
+            Step::Read(_, _) | Step::Purge(_) | Step::Rewind(_) => unreachable!(),
+        }
     }
 
     /// Rolls back what is open, and gives the tables: the newest version.
@@ -118,7 +122,7 @@ impl Core {
     ///
     /// `NotQuiet`: so many are open. `TooOld`, `Future`: the moment is not the newest, which is named.
     fn audit(&self, condition: Condition, moment: Moment) -> Answer
-        ensures { AuditsOf (world_of self.now) moment (condition_of condition) (answer_in (Step.Audit condition moment) result) }
+        ensures { Carries (world_of self.now) (Step.Audit condition moment) result (world_of self.now) }
     {
         if let Some(open) = TerminalCount::new(self.engine.open_count()) {
             return Answer::Refused(Refusal::NotQuiet(open));
@@ -133,29 +137,13 @@ impl Core {
         Answer::Audited(oe_audit::condition(condition, self.engine.tables()))
     }
 
-    /// Carries out one step.
-    fn serve(&mut self, step: Step) -> Answer
-        requires { IsStep step }
-        ensures { Serves (world_of self.old) (step_in step) (answer_in step result) (world_of self.new) }
-    {
-        match step {
-            Step::Begin(terminal, request) => self.begin(terminal, request),
-            Step::Advance(terminal) => self.advance(terminal),
-            Step::Save(terminal) => self.save(terminal),
-            Step::Back(terminal) => self.back(terminal),
-            Step::Rollback(terminal) => self.rollback(terminal),
-            Step::Audit(condition, moment) => self.audit(condition, moment),
-            Step::Read(_, _) | Step::Purge(_) | Step::Rewind(_) => unreachable!(),
-        }
-    }
-
     /// Begins the terminal's transaction.
     ///
     /// `NoSuchRow`: the first warehouse of the request that isn't there. `AlreadyOpen`: the terminal has a transaction open.
     /// `Overflow` of H_NUMBER: it has had 4,294,967,295. `NoMemory`. The first of these is named, and nothing has changed.
     fn begin(&mut self, terminal: Terminal, request: Request) -> Answer
         requires { HasProgram request }
-        ensures { theory.Next system (world_of self.old) (theory.Begin terminal request) (answer_in (Step.Begin terminal request) result) (world_of self.new) }
+        ensures { Carries (world_of self.old) (Step.Begin terminal request) result (world_of self.new) }
     {
         if let Some(refusal) = rejection(self.engine.tables(), &request) {
             return Answer::Refused(refusal);
@@ -171,7 +159,7 @@ impl Core {
 
     /// Moves the mark of the terminal's transaction to where it stands.
     fn save(&mut self, terminal: Terminal) -> Answer
-        ensures { theory.Next system (world_of self.old) (theory.Save terminal) (answer_in (Step.Save terminal) result) (world_of self.new) }
+        ensures { Carries (world_of self.old) (Step.Save terminal) result (world_of self.new) }
     {
         let Some(mut work) = take_work(&mut self.slots, terminal) else {
             return Answer::Refused(Refusal::NotOpen);
@@ -184,7 +172,7 @@ impl Core {
 
     /// Takes the terminal's transaction back to its mark; it keeps its locks.
     fn back(&mut self, terminal: Terminal) -> Answer
-        ensures { theory.Next system (world_of self.old) (theory.Back terminal) (answer_in (Step.Back terminal) result) (world_of self.new) }
+        ensures { Carries (world_of self.old) (Step.Back terminal) result (world_of self.new) }
     {
         let Some(mut work) = take_work(&mut self.slots, terminal) else {
             return Answer::Refused(Refusal::NotOpen);
@@ -197,7 +185,7 @@ impl Core {
 
     /// Rolls the terminal's transaction back.
     fn rollback(&mut self, terminal: Terminal) -> Answer
-        ensures { theory.Next system (world_of self.old) (theory.Rollback terminal) (answer_in (Step.Rollback terminal) result) (world_of self.new) }
+        ensures { Carries (world_of self.old) (Step.Rollback terminal) result (world_of self.new) }
     {
         let Some(open) = take_work(&mut self.slots, terminal) else {
             return Answer::Refused(Refusal::NotOpen);
@@ -210,26 +198,24 @@ impl Core {
     ///
     /// `Busy` and `NoMemory` have changed nothing. After another refusal the transaction is rolled back.
     fn advance(&mut self, terminal: Terminal) -> Answer
-        ensures { theory.Next system (world_of self.old) (theory.Advance terminal) (answer_in (Step.Advance terminal) result) (world_of self.new) }
+        ensures { Carries (world_of self.old) (Step.Advance terminal) result (world_of self.new) }
     {
-        let Some(mut work) = take_work(&mut self.slots, terminal) else {
+        let Some(work) = &mut self.slots[place(terminal)] else {
             return Answer::Refused(Refusal::NotOpen);
         };
         match work.program.next(&mut self.engine, &work.tx) {
-            Progress::More => {
-                put_work(&mut self.slots, terminal, work);
-                Answer::More
-            }
+            Progress::More => Answer::More,
             Progress::Ready(reply) => {
-                let moment = commit(&mut self.engine, work, &reply);
+                let open = open_work(&mut self.slots, terminal);
+                let moment = commit(&mut self.engine, open, &reply);
                 Answer::Committed(moment, reply)
             }
             Progress::Refused(refusal) => {
                 if keeps_open(&refusal) {
-                    put_work(&mut self.slots, terminal, work);
                     return Answer::Refused(refusal);
                 }
-                roll_back(&mut self.engine, work);
+                let open = open_work(&mut self.slots, terminal);
+                roll_back(&mut self.engine, open);
                 Answer::Refused(refusal)
             }
         }

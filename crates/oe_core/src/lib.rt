@@ -6,8 +6,6 @@ mod programs;
 mod rejections;
 pub mod runs;
 mod slots;
-#[cfg(test)]
-mod tests;
 
 pub use cores::Core;
 pub use runs::run;

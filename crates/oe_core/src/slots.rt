@@ -1,8 +1,8 @@
 //! The open transactions by their terminals.
-ghost use Rattle.std.specs.Prelude.{◌≡◌, ◌<◌, ◌≤◌, Some, None, IfOk, slice_get, slice_set, vec_len, replicate};
+ghost use Rattle.std.specs.Prelude.{◌≡◌, ◌<◌, ◌≤◌, Some, None, IsSome, IfOk, slice_get, slice_set, vec_len, replicate};
 ghost use Rattle.oe_model.specs.System.{start_of};
 ghost use Rattle.oe_core.specs.Steps.{HasProgram};
-ghost use Rattle.oe_core.specs.Core.{place_of, request_of};
+ghost use Rattle.oe_core.specs.Core.{place_of, request_of, work_at};
 
 use crate::programs::Program;
 use oe_engine::{Mark, Tx};
@@ -17,6 +17,14 @@ pub struct Work {
     pub program: Program,
     pub mark_program: Program,
     pub mark: Mark,
+}
+
+/// The place of a terminal.
+pub fn place(terminal: Terminal) -> usize
+    ensures value { result ≡ terminal }
+    ensures high { result ≤ 64 }
+{
+    terminal.get() as usize
 }
 
 /// Places for the terminals 1 to 64; that of 0 stays empty.
@@ -37,7 +45,20 @@ pub fn take_work(slots: &mut Vec<Option<Work>>, terminal: Terminal) -> Option<Wo
     ensures after { slots.new.items ≡ slice_set slots.old.items terminal None }
     ensures high { terminal ≤ 64 }
 {
-    slots[terminal.get() as usize].take()
+    slots[place(terminal)].take()
+}
+
+/// Takes the open transaction of a terminal out of its place.
+pub fn open_work(slots: &mut Vec<Option<Work>>, terminal: Terminal) -> Work
+    requires at { terminal < vec_len slots.old }
+    requires open { IsSome (work_at slots.old.items terminal) }
+    ensures value { slice_get slots.old.items terminal ≡ Some (Some result) }
+    ensures after { slots.new.items ≡ slice_set slots.old.items terminal None }
+{
+    let Some(work) = take_work(slots, terminal) else {
+        unreachable!()
+    };
+    work
 }
 
 /// Puts a transaction into its terminal's empty place.
@@ -48,7 +69,7 @@ pub fn put_work(slots: &mut Vec<Option<Work>>, terminal: Terminal, work: Work)
     ensures low { 1 ≤ terminal }
     ensures high { terminal ≤ 64 }
 {
-    let old = slots[terminal.get() as usize].replace(work);
+    let old = slots[place(terminal)].replace(work);
     let None = old else { unreachable!() };
 }
 

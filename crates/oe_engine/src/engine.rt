@@ -328,12 +328,13 @@ impl Engine {
         }
     }
 
-    /// A mark where the transaction stands.
+    /// A mark where the transaction stands; the beginning for one that is not open in this engine.
     #[tactic(auto, unfolding(crate::specs::View::view_of, crate::specs::View::view_from))]
     pub fn savepoint(&self, tx: &Tx) -> Mark
-        ensures { result ≡ length ((view_of self.now).undo.active tx.now.terminal) }
+        ensures open { IsOpen self.now tx.now → result ≡ length ((view_of self.now).undo.active tx.now.terminal) }
+        ensures foreign { (IsOpen self.now tx.now → ⊥) → result ≡ 0 }
     {
-        if !self.undo.is_open(tx.terminal) {
+        if !self.is_open(tx) {
             return Mark::start();
         }
         Mark {

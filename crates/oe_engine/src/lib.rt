@@ -4,8 +4,6 @@
 pub mod access;
 pub mod engine;
 pub mod rows;
-#[cfg(test)]
-mod tests;
 mod unwinding;
 
 pub use access::Parts;

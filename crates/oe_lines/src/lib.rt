@@ -8,6 +8,3 @@ mod words;
 
 pub use commands::{Command, ExtentCount, MomentChoice, Scale};
 pub use reading::command;
-
-#[cfg(test)]
-mod tests;

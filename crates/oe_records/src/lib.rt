@@ -5,8 +5,6 @@
 pub mod befores;
 pub mod changes;
 pub mod laws;
-#[cfg(test)]
-mod tests;
 
 pub use befores::Before;
 pub use changes::Change;

@@ -1,5 +1,5 @@
-//! Requests, queries and errands, their replies, and refusals. Copying any of them takes no memory. The tests here are those of
-//! the values, keys and rows below too. Clauses of the standard are those of TPC Benchmark C 5.11.
+//! Requests, queries and errands, their replies, and refusals. Copying any of them takes no memory. Clauses of the standard are
+//! those of TPC Benchmark C 5.11.
 #![tactic(auto)]
 
 pub mod refusals;
@@ -16,6 +16,3 @@ pub use requests::{
     CustomerChoice, DeliveriesRequest, DeliveryRequest, Errand, LevelQuery, NewOrderRequest,
     PaymentRequest, Query, RenameRequest, Request, RequestLine, RequestLines, StatusQuery,
 };
-
-#[cfg(test)]
-mod tests;

@@ -10,8 +10,6 @@ pub mod inserts;
 mod numbers;
 pub mod population;
 pub mod tables;
-#[cfg(test)]
-mod tests;
 mod texts;
 pub mod undo;
 pub mod updates;

@@ -3,6 +3,4 @@
 
 pub mod keys;
 pub mod tables;
-#[cfg(test)]
-mod tests;
 pub mod walks;

@@ -18,6 +18,3 @@ pub use dumps::{
 };
 pub use laws::stamps_are_read;
 pub use pending::{LONGEST, Pending, SIZE, has_room};
-
-#[cfg(test)]
-mod tests;

@@ -5,8 +5,6 @@
 pub mod laws;
 pub mod records;
 pub mod segments;
-#[cfg(test)]
-mod tests;
 pub mod undo;
 
 pub use records::Records;

@@ -1,4 +1,4 @@
-use Rattle.std.proofs.Common.{rules, ◌≡◌, ◌++◌, ◌∷◌, [], refl, sym, ap, ◌∙◌, arith, take}
+use Rattle.std.proofs.Common.{rules, arith}
 use Rattle.oe_core.proofs.RunFacts.{served_next, served_all, ran_so}
 use Rattle.oe_core.proofs.runs.run.Goals as goal
 

@@ -12,5 +12,4 @@ pub returns : goal.returns
 returns c =
     let room : c.place.result < length c.self.inside.names.items = omega arith in
     rw (← c.self.view_is)
-    (c.copied.ensures
-    ∙ (c.get.ensures.value ∙ held-at c.self.inside.names.items c.place.result c.args.terminal c.index-names.result.now c.args.name.now c.place.ensures.value room c.index-names.ensures))
+    (c.mode_in.ensures ∙ held-at c.self.inside.names.items c.place.result c.args.terminal c.index-names.result.now c.args.name.now c.place.ensures.value room c.index-names.ensures)

@@ -1,4 +1,3 @@
-use Rattle.std.proofs.Common.{refl, sym, ◌∙◌}
 use Rattle.oe_core.proofs.OpenFacts.{orderly_opened, world_opened}
 use Rattle.oe_core.proofs.cores.Core.open.Goals as goal
 

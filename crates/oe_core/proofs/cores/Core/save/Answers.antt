@@ -1,7 +1,7 @@
-use Rattle.std.proofs.Common.{Some, None, refl, sym, ap, ◌∙◌, arith}
+use Rattle.std.proofs.Common.{None, refl, arith}
 use Rattle.oe_theory.specs.Next.{Save}
-use Rattle.oe_core.proofs.PlaceFacts.{get_set_same}
-use Rattle.oe_core.proofs.MoveFacts.{not_there, saved, within, work_here}
+use Rattle.oe_core.proofs.PlaceFacts.{put_back, get_set_same}
+use Rattle.oe_core.proofs.MoveFacts.{carries, with_slots, not_there, saved, within}
 use Rattle.oe_core.proofs.cores.Core.save.Goals as goal
 
 pub invariant_of-self : goal.invariant_of-self
@@ -10,7 +10,7 @@ invariant_of-self c =
 
 pub returns-in_default : goal.returns-in_default
 returns-in_default c =
-    rw (← c.self.view_is, c.take_work.ensures.after) (not_there _ c.self.invariant (Save c.args.terminal) c.args.terminal refl c.in_default.ensures.value).next
+    rw (← c.self.view_is, c.take_work.ensures.after) (carries _ _ _ _ (not_there _ c.self.invariant (Save c.args.terminal) c.args.terminal refl c.in_default.ensures.value))
 
 pub put_work-requires-clause-free : goal.put_work-requires-clause-free
 put_work-requires-clause-free c =
@@ -18,10 +18,11 @@ put_work-requires-clause-free c =
 
 pub invariant_of-self-2 : goal.invariant_of-self-2
 invariant_of-self-2 c =
-    rw (c.put_work.ensures.after, c.take_work.ensures.after)
-    (saved _ c.self.invariant c.args.terminal (omega (arith, c.take_work.ensures.high)) c.in-Some.work _ c.in-Some.ensures.value refl refl refl c.copied-work.ensures c.savepoint-work.ensures).orderly
+    (with_slots _ _ _ _ _ _ (put_back _ _ _ _ _ _ c.take_work.ensures.after c.put_work.ensures.after)
+    (saved _ c.self.invariant c.args.terminal (omega (arith, c.take_work.ensures.high)) c.in-Some.work _ c.in-Some.ensures.value refl refl refl c.copied-work.ensures c.savepoint-work.ensures.open)).orderly
 
 pub returns : goal.returns
 returns c =
-    rw (← c.self.view_is, c.put_work.ensures.after, c.take_work.ensures.after)
-    (saved _ c.self.invariant c.args.terminal (omega (arith, c.take_work.ensures.high)) c.in-Some.work _ c.in-Some.ensures.value refl refl refl c.copied-work.ensures c.savepoint-work.ensures).next
+    rw (← c.self.view_is)
+    (carries _ _ _ _ (with_slots _ _ _ _ _ _ (put_back _ _ _ _ _ _ c.take_work.ensures.after c.put_work.ensures.after)
+    (saved _ c.self.invariant c.args.terminal (omega (arith, c.take_work.ensures.high)) c.in-Some.work _ c.in-Some.ensures.value refl refl refl c.copied-work.ensures c.savepoint-work.ensures.open)))

@@ -1,0 +1,129 @@
+//! What terminals do and what they are told, in short.
+ghost use Rattle.std.specs.Prelude.{IfSome};
+ghost use Rattle.oe_core.specs.Steps.{IsStep};
+
+use crate::openings::district;
+use oe_core::Core;
+use oe_requests::{Column, CustomerChoice, PaymentRequest, Refusal, Reply, Request};
+use oe_steps::{Answer, Condition, Step, Verdict};
+use oe_values::{CustomerNumber, Moment, PaymentAmount, Stamp, Terminal};
+use std::process::Abort;
+
+/// An act of a terminal, or an audit of the moment 0.
+pub enum Act {
+    /// The terminal begins a payment of 250.00 in district 1 of that warehouse, by that customer.
+    Begin(u32, u32, u32),
+    Advance(u32),
+    Save(u32),
+    Back(u32),
+    Rollback(u32),
+    Audit(Condition),
+}
+
+/// What was answered.
+#[derive(Clone, Copy, Debug, PartialEq, Eq)]
+pub enum Said {
+    Begun,
+    More,
+    /// The customer that paid, and the new balance.
+    Paid(u32, i64),
+    Saved,
+    Back,
+    RolledBack,
+    Holds,
+    /// By that terminal.
+    Busy(u32),
+    /// So many are open.
+    NotQuiet(u32),
+    /// Of C_PAYMENT_CNT.
+    Overflow,
+    Refused,
+    NotOpen,
+    AlreadyOpen,
+}
+
+// The beginning of a payment.
+fn begin(terminal: Terminal, warehouse: u32, customer: u32) -> Option<Step>
+    ensures { IfSome result IsStep }
+{
+    let district = district(warehouse)?;
+    let payment = PaymentRequest {
+        district,
+        customer_district: district,
+        customer: CustomerChoice::Number(CustomerNumber::new(customer)?),
+        amount: PaymentAmount::new(25_000)?,
+        stamp: Stamp::read("2001-01-01T00:00:00")?,
+    };
+    Some(Step::Begin(terminal, Request::Payment(payment)))
+}
+
+/// The step of an act.
+pub fn step_of(act: &Act) -> Option<Step>
+    ensures { IfSome result IsStep }
+{
+    match act {
+        Act::Begin(terminal, warehouse, customer) => {
+            begin(Terminal::new(*terminal)?, *warehouse, *customer)
+        }
+        Act::Advance(terminal) => Some(Step::Advance(Terminal::new(*terminal)?)),
+        Act::Save(terminal) => Some(Step::Save(Terminal::new(*terminal)?)),
+        Act::Back(terminal) => Some(Step::Back(Terminal::new(*terminal)?)),
+        Act::Rollback(terminal) => Some(Step::Rollback(Terminal::new(*terminal)?)),
+        Act::Audit(condition) => Some(Step::Audit(*condition, Moment::new(0)?)),
+    }
+}
+
+// A refusal.
+fn refused(refusal: &Refusal) -> Said {
+    match refusal {
+        Refusal::Busy(_, terminal) => Said::Busy(terminal.get()),
+        Refusal::NotQuiet(count) => Said::NotQuiet(count.get()),
+        Refusal::Overflow(Column::PaymentCount) => Said::Overflow,
+        Refusal::NotOpen => Said::NotOpen,
+        Refusal::AlreadyOpen => Said::AlreadyOpen,
+        _ => Said::Refused,
+    }
+}
+
+// A commit.
+fn committed(reply: &Reply) -> Said {
+    match reply {
+        Reply::Payment(payment) => { Said::Paid(payment.customer.get(), payment.balance.cents()) }
+        _ => Said::Refused,
+    }
+}
+
+/// An answer in short.
+pub fn in_short(answer: &Answer) -> Said {
+    match answer {
+        Answer::Begun => Said::Begun,
+        Answer::More => Said::More,
+        Answer::Committed(_, reply) => committed(reply),
+        Answer::Saved => Said::Saved,
+        Answer::Back => Said::Back,
+        Answer::RolledBack => Said::RolledBack,
+        Answer::Audited(Verdict::Holds) => Said::Holds,
+        Answer::Refused(refusal) => refused(refusal),
+        _ => Said::Refused,
+    }
+}
+
+/// A step's answer; that of its second try, where memory was refused.
+pub fn answer(core: &mut Core, step: &Step) -> Answer
+    requires { IsStep step.now }
+{
+    let answer = core.step(step.copied());
+    if answer == Answer::Refused(Refusal::NoMemory) {
+        return core.step(step.copied());
+    }
+    answer
+}
+
+/// Carries out the acts one after another, each of which is to be answered so.
+pub fn play(rt: &impl Abort, core: &mut Core, acts: &[(Act, Said)]) -> Option<()> {
+    for (act, wanted) in acts {
+        let step = step_of(act)?;
+        assert_eq!(rt; in_short(&answer(core, &step)), *wanted);
+    }
+    Some(())
+}

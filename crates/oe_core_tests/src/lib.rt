@@ -1,0 +1,14 @@
+//! Tests of the core, in a crate of their own, so that the core is proved once. They show what no clause says: that the
+//! calls succeed where there is memory, and go on after a growth was refused.
+#![tactic(auto)]
+
+#[cfg(test)]
+mod acts;
+#[cfg(test)]
+mod locks;
+#[cfg(test)]
+mod openings;
+#[cfg(test)]
+mod payments;
+#[cfg(test)]
+mod runs;

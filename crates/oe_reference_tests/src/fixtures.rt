@@ -1,0 +1,66 @@
+//! What the tests share: small populations, keys and stamps.
+use oe_change::apply;
+use oe_keys::{CustomerKey, DistrictKey, StockKey};
+use oe_records::Change;
+use oe_rows::{Customer, Scale};
+use oe_store::{Tables, populate};
+use oe_values::{CustomerNumber, DistrictNumber, ItemNumber, Stamp, WarehouseNumber};
+use std::alloc::Global;
+
+/// One warehouse and 20 items; made the second time, where memory was refused.
+pub(crate) fn small(alloc: Global, customers: u32) -> Option<Tables> {
+    let scale = Scale {
+        warehouses: WarehouseNumber::new(1)?,
+        customers: CustomerNumber::new(customers)?,
+        items: ItemNumber::new(20)?,
+    };
+    populate(alloc, scale)
+        .or_else(|_| populate(alloc, scale))
+        .ok()
+}
+
+/// District 1 of warehouse 1.
+pub(crate) fn district() -> Option<DistrictKey> {
+    Some(DistrictKey {
+        warehouse: WarehouseNumber::new(1)?,
+        district: DistrictNumber::new(1)?,
+    })
+}
+
+/// The district's customer with that number.
+pub(crate) fn customer(number: u32) -> Option<CustomerKey> {
+    Some(district()?.customer(CustomerNumber::new(number)?))
+}
+
+/// The CUSTOMER row of the district's customer with that number.
+pub(crate) fn customer_row(tables: &Tables, number: u32) -> Option<&Customer> {
+    tables.customer(customer(number)?)
+}
+
+/// The key of the warehouse's stock of an item.
+pub(crate) fn stock(item: u32) -> Option<StockKey> {
+    Some(StockKey {
+        warehouse: WarehouseNumber::new(1)?,
+        item: ItemNumber::new(item)?,
+    })
+}
+
+/// S_QUANTITY of an item in the warehouse's stock.
+pub(crate) fn quantity_of(tables: &Tables, item: ItemNumber) -> Option<u32> {
+    let warehouse = WarehouseNumber::new(1)?;
+    Some(tables.stock(StockKey { warehouse, item })?.quantity.get())
+}
+
+/// The stamp of the requests.
+pub(crate) fn stamp() -> Option<Stamp> {
+    Stamp::read("2001-01-01T00:00:00")
+}
+
+/// Makes a change, the second time where memory was refused.
+pub(crate) fn change(tables: &mut Tables, change: &Change) -> Option<()> {
+    if apply(tables, change.copied()).is_ok() {
+        return Some(());
+    }
+    apply(tables, change.copied()).ok()?;
+    Some(())
+}
