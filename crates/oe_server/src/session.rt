@@ -105,7 +105,7 @@ impl Session {
     }
 
     /// Takes the next bytes of the input.
-    fn feed<W: Outlet>(&mut self, alloc: Global, piece: &[u8], to: &mut W) -> Result<(), Failed>
+    pub fn feed<W: Outlet>(&mut self, alloc: Global, piece: &[u8], to: &mut W) -> Result<(), Failed>
         requires count { self.old.count + length piece.now < 2 ^ 128 }
         requires live { IsLive (state_of self.old.core) }
         ensures fed { (start : Option Sink) (input : List ℕ) →

@@ -2,6 +2,7 @@
 
 use clap::{Command, Error};
 use std::alloc::Global;
+use std::convert::AsStr;
 
 /// What the program is asked to do.
 #[derive(Clone, Copy, Debug, PartialEq, Eq)]
@@ -31,14 +32,16 @@ A line is words parted by one space, at most 1024 bytes, and a newline:
                      order, orderline, item or stock
 
 Any other line is answered error 1 BadLine and its number, and changes nothing.
-The status is 0 at the end of the input, 1 after a fault, which standard error names
-(fault: read, fault: write), and 2 where the command line is none of these.
+Answers are written when 8 KiB of them wait, and at the end of the input.
+The status is 0 at the end of the input, whatever the answers, 1 after a fault, which
+standard error names (fault: read, fault: write, fault: no memory), and 2 where the
+command line is none of these.
 README.md has a worked script, and docs/MODEL.md says what each step does.";
 
 /// What these words ask for, of which the first is the program's name.
 ///
 /// An error is a command line that is none of the forms, a request for help, or a want of memory.
-pub fn job(alloc: Global, words: &[String]) -> Result<Task, Error> {
+pub fn job<S: AsStr>(alloc: Global, words: &[S]) -> Result<Task, Error> {
     let command = Command::new(alloc, "oe_server")
         .about(ABOUT)
         .after_help(FORMS)
