@@ -6,7 +6,9 @@ use oe_reference::payments::{Paid, payment};
 use oe_requests::{Column, CustomerChoice, PaymentReply, PaymentRequest};
 use oe_rows::Credit;
 use oe_store::Tables;
-use oe_values::{Balance, Count, CustomerNumber, PaymentAmount, Terminal, Text, TransactionNumber};
+use oe_values::{
+    Balance, Count, CustomerNumber, LastName, PaymentAmount, Terminal, Text, TransactionNumber,
+};
 use std::alloc::{AllocError, Global};
 use std::process::Abort;
 use std::test::Fail;
@@ -98,6 +100,40 @@ fn payments_are_answered(rt: HostRuntime) -> Result<(), Fail> {
     let bad = (10, "BARBAREING", Credit::Bad);
     assert_reply(&rt, rt.alloc(), &tables, good).ok_or("reply")?;
     assert_reply(&rt, rt.alloc(), &tables, bad).ok_or("reply")?;
+    Ok(())
+}
+
+fn by_name(last: &str) -> Option<PaymentRequest> {
+    let mut request = by_number(1)?;
+    request.customer = CustomerChoice::LastName(LastName::read(last)?);
+    Some(request)
+}
+
+/// C_ID of the customer with that last name who pays, where there is one.
+fn payer(alloc: Global, tables: &Tables, last: &str) -> Option<Option<u32>> {
+    let request = by_name(last)?;
+    match paid(alloc, tables, &request)? {
+        Some(after) => Some(Some(after.reply.customer.get())),
+        None => Some(None),
+    }
+}
+
+#[test]
+fn namesake_in_the_middle_pays(rt: HostRuntime) -> Result<(), Fail> {
+    let tables = small(rt.alloc(), 2_001).ok_or("tables")?;
+    assert_eq!(rt; payer(rt.alloc(), &tables, "BARBARBAR"), Some(Some(1_001)));
+    assert_eq!(rt;
+        payer(rt.alloc(), &tables, "BARBAROUGHT"),
+        Some(Some(1_002))
+    );
+    Ok(())
+}
+
+#[test]
+fn nobody_of_the_name_pays(rt: HostRuntime) -> Result<(), Fail> {
+    let tables = small(rt.alloc(), 10).ok_or("tables")?;
+    assert_eq!(rt; payer(rt.alloc(), &tables, "BARBARBAR"), Some(Some(1)));
+    assert_eq!(rt; payer(rt.alloc(), &tables, "EINGEINGEING"), Some(None));
     Ok(())
 }
 
