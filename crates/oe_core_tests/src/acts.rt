@@ -10,7 +10,7 @@ use oe_values::{CustomerNumber, Moment, PaymentAmount, Stamp, Terminal};
 use std::process::Abort;
 
 /// An act of a terminal, or an audit of the moment 0.
-pub enum Act {
+pub(crate) enum Act {
     /// The terminal begins a payment of 250.00 in district 1 of that warehouse, by that customer.
     Begin(u32, u32, u32),
     Advance(u32),
@@ -22,7 +22,7 @@ pub enum Act {
 
 /// What was answered.
 #[derive(Clone, Copy, Debug, PartialEq, Eq)]
-pub enum Said {
+pub(crate) enum Said {
     Begun,
     More,
     /// The customer that paid, and the new balance.
@@ -58,7 +58,7 @@ fn begin(terminal: Terminal, warehouse: u32, customer: u32) -> Option<Step>
 }
 
 /// The step of an act.
-pub fn step_of(act: &Act) -> Option<Step>
+pub(crate) fn step_of(act: &Act) -> Option<Step>
     ensures { IfSome result IsStep }
 {
     match act {
@@ -94,7 +94,7 @@ fn committed(reply: &Reply) -> Said {
 }
 
 /// An answer in short.
-pub fn in_short(answer: &Answer) -> Said {
+pub(crate) fn in_short(answer: &Answer) -> Said {
     match answer {
         Answer::Begun => Said::Begun,
         Answer::More => Said::More,
@@ -109,7 +109,7 @@ pub fn in_short(answer: &Answer) -> Said {
 }
 
 /// A step's answer; that of its second try, where memory was refused.
-pub fn answer(core: &mut Core, step: &Step) -> Answer
+pub(crate) fn answer(core: &mut Core, step: &Step) -> Answer
     requires { IsStep step.now }
 {
     let answer = core.step(step.copied());
@@ -120,7 +120,7 @@ pub fn answer(core: &mut Core, step: &Step) -> Answer
 }
 
 /// Carries out the acts one after another, each of which is to be answered so.
-pub fn play(rt: &impl Abort, core: &mut Core, acts: &[(Act, Said)]) -> Option<()> {
+pub(crate) fn play(rt: &impl Abort, core: &mut Core, acts: &[(Act, Said)]) -> Option<()> {
     for (act, wanted) in acts {
         let step = step_of(act)?;
         assert_eq!(rt; in_short(&answer(core, &step)), *wanted);

@@ -33,7 +33,7 @@ fn opened(alloc: Global, scale: Scale) -> Result<Core, NoMemory>
 }
 
 /// A core; made the second time, where memory was refused.
-pub fn open(alloc: Global) -> Option<Core> {
+pub(crate) fn open(alloc: Global) -> Option<Core> {
     match opened(alloc, scale()?) {
         Ok(core) => Some(core),
         Err(_) => opened(alloc, scale()?).ok(),
@@ -41,7 +41,7 @@ pub fn open(alloc: Global) -> Option<Core> {
 }
 
 /// District 1 of a warehouse.
-pub fn district(warehouse: u32) -> Option<DistrictKey> {
+pub(crate) fn district(warehouse: u32) -> Option<DistrictKey> {
     Some(DistrictKey {
         warehouse: WarehouseNumber::new(warehouse)?,
         district: DistrictNumber::new(1)?,
@@ -49,7 +49,7 @@ pub fn district(warehouse: u32) -> Option<DistrictKey> {
 }
 
 /// W_YTD, D_YTD and the customer's C_BALANCE.
-pub fn money(core: &Core, warehouse: u32, customer: u32) -> Option<(u64, u64, i64)> {
+pub(crate) fn money(core: &Core, warehouse: u32, customer: u32) -> Option<(u64, u64, i64)> {
     let tables = core.tables();
     let district = district(warehouse)?;
     let customer = district.customer(CustomerNumber::new(customer)?);
@@ -61,7 +61,7 @@ pub fn money(core: &Core, warehouse: u32, customer: u32) -> Option<(u64, u64, i6
 }
 
 /// C_DATA of a customer of district 1 of warehouse 1.
-pub fn data_of(core: &Core, customer: u32) -> Option<Text<0, 500>> {
+pub(crate) fn data_of(core: &Core, customer: u32) -> Option<Text<0, 500>> {
     let key = district(1)?.customer(CustomerNumber::new(customer)?);
     Some(core.tables().customer(key)?.data.copied())
 }
@@ -88,7 +88,7 @@ fn opened_worn(alloc: Global) -> Option<Core> {
 }
 
 /// A core on the population in which customer 1 has made 9,999 payments; made the second time, where memory was refused.
-pub fn open_worn(alloc: Global) -> Option<Core> {
+pub(crate) fn open_worn(alloc: Global) -> Option<Core> {
     match opened_worn(alloc) {
         Some(core) => Some(core),
         None => opened_worn(alloc),

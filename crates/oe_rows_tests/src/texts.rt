@@ -393,7 +393,7 @@ fn rows_of_warehouses(rt: HostRuntime) -> Result<(), Fail> {
 fn rows_of_districts(rt: HostRuntime) -> Result<(), Fail> {
     let mut out = Pending::new();
     let district = District {
-        name: text("D3")?,
+        name: text("DIST03")?,
         address: address()?,
         tax: number(9_999)?,
         ytd: amount(999_999_999_999)?,
@@ -401,7 +401,7 @@ fn rows_of_districts(rt: HostRuntime) -> Result<(), Fail> {
     };
     district_row(&mut out, district_key(1, 3)?, &district);
     rows(&mut out, 0);
-    let want = "1\t3\tD3\tS1\t\tCITY\tST\t123411111\t0.9999\t9999999999.99\t11\nrows 0\n";
+    let want = "1\t3\tDIST03\tS1\t\tCITY\tST\t123411111\t0.9999\t9999999999.99\t11\nrows 0\n";
     assert_shown(&rt, &out, want);
     Ok(())
 }
@@ -452,10 +452,10 @@ fn rows_of_histories(rt: HostRuntime) -> Result<(), Fail> {
         district: district_key(2, 4)?,
         date: stamp("2001-01-01T00:00:00")?,
         amount: amount(25_000)?,
-        data: text("W1    D4")?,
+        data: text("WARE02    DIST04")?,
     };
     history_row(&mut out, history_key(64, 7)?, &history);
-    let want = "64\t7\t1\t10\t3\t1\t4\t2\t2001-01-01T00:00:00\t250.00\tW1    D4\n";
+    let want = "64\t7\t1\t10\t3\t1\t4\t2\t2001-01-01T00:00:00\t250.00\tWARE02    DIST04\n";
     assert_shown(&rt, &out, want);
     Ok(())
 }
