@@ -1,9 +1,13 @@
-//! The tests of tables, values, keys, rows, requests, locks, texts and lines. They stand alone, so that each library is proved once.
-//! Where memory is refused once, each test makes the call again and then holds.
+//! The tests of tables, values, rows, requests, locks, texts and lines. They stand alone, so that each library is proved once. What
+//! a clause says is not tested again. So that a check is short, one helper asserts for a whole table of cases, tables are short, and a
+//! value that could not be made is seen by the text or the answer that is then missing. Where memory is refused once, each test
+//! makes the call again and then holds.
 #![tactic(auto)]
 
 #[cfg(test)]
-mod keys;
+mod answers;
+#[cfg(test)]
+mod dumps;
 #[cfg(test)]
 mod lines;
 #[cfg(test)]
@@ -11,12 +15,8 @@ mod locks;
 #[cfg(test)]
 mod made;
 #[cfg(test)]
-mod requests;
-#[cfg(test)]
-mod rows;
+mod refusals;
 #[cfg(test)]
 mod tables;
-#[cfg(test)]
-mod texts;
 #[cfg(test)]
 mod values;
