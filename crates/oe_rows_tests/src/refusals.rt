@@ -127,7 +127,9 @@ fn of_keys() -> Option<[(Refusal, &'static str); 11]> {
 
 #[test]
 fn refusals_of_keys(rt: HostRuntime) {
-    let cases = of_keys().expect(&rt, "a number out of its range");
+    let Some(cases) = of_keys() else {
+        panic!(rt; "a number out of its range");
+    };
     assert_refused(&rt, rt.alloc(), &cases);
 }
 
@@ -170,8 +172,12 @@ fn of_locks() -> Option<[(Refusal, &'static str); 6]> {
 
 #[test]
 fn refusals_of_values_and_locks(rt: HostRuntime) {
-    let cases = of_values().expect(&rt, "a value out of its range");
+    let Some(cases) = of_values() else {
+        panic!(rt; "a value out of its range");
+    };
     assert_refused(&rt, rt.alloc(), &cases);
-    let cases = of_locks().expect(&rt, "a number out of its range");
+    let Some(cases) = of_locks() else {
+        panic!(rt; "a number out of its range");
+    };
     assert_refused(&rt, rt.alloc(), &cases);
 }
