@@ -23,7 +23,7 @@ fn opening(scale: [u32; 3], extents: u32) -> Option<Command> {
     Some(Command::Open(scale, Number::new(extents)?))
 }
 
-// A payment by the customer of that number at home, whose district is given in two numbers, as the one where it is made.
+/// A payment by the customer of that number at home, whose district is given in two numbers, as the one where it is made.
 fn payment(
     terminal: u32,
     at: (u32, u32),

@@ -29,7 +29,7 @@ fn asked(locks: &mut Locks, name: &Name, terminal: Terminal, mode: Mode) -> Resu
     answer
 }
 
-// Whether a terminal gets a name in that mode while another holds it, and what is in its way else.
+/// Whether a terminal gets a name in that mode while another holds it, and what is in its way else.
 fn goes(alloc: Global, held: Mode, mode: Mode) -> Option<bool> {
     let (first, last) = (Number::new(1)?, Number::new(64)?);
     let name = stock(1)?;
@@ -62,7 +62,7 @@ fn modes_conflict(rt: HostRuntime) {
     }
 }
 
-// Whether the terminal holds the items up to that one so.
+/// Whether the terminal holds the items up to that one so.
 fn holds_all(locks: &Locks, terminal: Terminal, last: u32, mode: Option<Mode>) -> Option<bool> {
     for item in 1..=last {
         if locks.holds(&stock(item)?, terminal) != mode {
@@ -72,7 +72,7 @@ fn holds_all(locks: &Locks, terminal: Terminal, last: u32, mode: Option<Mode>) -
     Some(true)
 }
 
-// Takes 100 items; under an allocator that refuses once, the name that meets the refusal is taken at the second call.
+/// Takes 100 items; under an allocator that refuses once, the name that meets the refusal is taken at the second call.
 fn take_all(locks: &mut Locks, terminal: Terminal) -> Option<bool> {
     for item in 1..=100 {
         if asked(locks, &stock(item)?, terminal, Mode::Shared).is_err() {
@@ -85,7 +85,7 @@ fn take_all(locks: &mut Locks, terminal: Terminal) -> Option<bool> {
     Some(true)
 }
 
-// Raises what is held, lowers it and lets go of it, in one call each, which takes no memory.
+/// Raises what is held, lowers it and lets go of it, in one call each, which takes no memory.
 fn is_raised_and_let_go_of(locks: &mut Locks, name: &Name, terminal: Terminal) -> bool {
     if locks.acquire(*name, terminal, Mode::Exclusive).is_err() {
         return false;

@@ -3,7 +3,7 @@ use oe_table::tables::{NoMemory, Table};
 use oe_table::walks::{Candidates, Rows};
 use std::alloc::Global;
 
-// The keys of a walk, as the digits of a number.
+/// The keys of a walk, as the digits of a number.
 fn keys(rows: Rows<'_, u32, u32>) -> u32 {
     let mut keys = 0u32;
     for (key, _) in rows {
@@ -12,7 +12,7 @@ fn keys(rows: Rows<'_, u32, u32>) -> u32 {
     keys
 }
 
-// The keys of a walk over places, and after each a 0 where it was blanked.
+/// The keys of a walk over places, and after each a 0 where it was blanked.
 fn places(places: Candidates<'_, u32, u32>) -> u32 {
     let mut keys = 0u32;
     for (key, row) in places {
@@ -52,7 +52,7 @@ fn walks_in_order(rt: HostRuntime) {
     assert_eq!(rt; walks, [137, 3, 0, 37, 3507]);
 }
 
-// Under an allocator that refuses once, the key that meets the refusal is put at the second call.
+/// Under an allocator that refuses once, the key that meets the refusal is put at the second call.
 #[test]
 fn refused_memory_changes_nothing(rt: HostRuntime) {
     let mut table = Table::new(rt.alloc());
@@ -77,7 +77,7 @@ fn spelled(alloc: Global, text: &str) -> Option<String> {
     }
 }
 
-// Whether the row was put at the key 1, which was free.
+/// Whether the row was put at the key 1, which was free.
 fn is_put(table: &mut Table<u64, String>, row: Option<String>) -> bool {
     let is_free = table.get(&1).is_none();
     let Some(row) = row else {

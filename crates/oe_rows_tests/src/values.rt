@@ -161,7 +161,7 @@ fn totals_are_rounded(rt: HostRuntime) {
     }
 }
 
-// The population's text of 500 letters, which begins at the 11th of the alphabet.
+/// The population's text of 500 letters, which begins at the 11th of the alphabet.
 fn letters() -> Option<Text<0, 500>> {
     let mut letters = [b'A'; 500];
     for (place, letter) in letters.iter_mut().enumerate() {
@@ -170,7 +170,7 @@ fn letters() -> Option<Text<0, 500>> {
     Text::read_bytes(&letters)
 }
 
-// What is left of those letters after a payment of bad credit.
+/// What is left of those letters after a payment of bad credit.
 fn is_kept_after(entry: &str) -> Option<bool> {
     let old = letters()?;
     let ids = CreditIds {
