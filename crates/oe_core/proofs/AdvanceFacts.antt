@@ -1,7 +1,6 @@
 -- A row of a transaction, and its commit.
-use Rattle.std.proofs.Common.{◌≡◌, ℕ, suc, ◌<◌, inl, inr, true, false, Option, Some, None, length, slice_get, slice_set, sym, ap, ◌∙◌, subst, refl}
+use Rattle.std.proofs.Common.{◌≡◌, ℕ, suc, inl, inr, true, false, List, Option, Some, None, length, slice_get, slice_set, sym, ap, ◌∙◌, subst, refl}
 use Rattle.std.specs.Prelude.{◌⊎◌}
-use Rattle.std.proofs.lemmas.List.{length-set}
 use Rattle.oe_theory.specs.Machine.{Mode, Ask, Stop, Plain, Take, Fail, Go, Tx}
 use Rattle.oe_theory.specs.World.{total, go_together}
 use Rattle.oe_theory.specs.Next.{Advance, Answer, More, Committed, Aborted, IsNew, GivesWay, held_after}
@@ -29,13 +28,13 @@ use Rattle.oe_engine.specs.View.{View, view_of, Handle, IsOpen}
 use Rattle.oe_engine.specs.View as engine
 use Rattle.oe_engine.specs.Calls.{IsFree, IsInTheWay, row_done, committed, rolled_back}
 use Rattle.oe_engine.specs.Programs.{tx_of, ask_here, act_here, IsFreeHere, GoesOn, IsReady, Ends, IsRefused}
-use Rattle.oe_core.specs.Core.{Stored, place_of, request_of, work_at, slot_of, open_at, store_with, store_of, IsOrderly, Moves, keeps_open}
+use Rattle.oe_core.specs.Core.{Stored, place_of, request_of, work_at, slot_of, open_at, store_of, IsOrderly, Moves, keeps_open}
 use Rattle.oe_core.specs.Steps.{refusal_in}
 use Rattle.oe_core.specs.declared.slots.Work.{Work}
 use Rattle.oe_core.specs.declared.programs.Program.{Program}
 use Rattle.oe_core.specs.declared.programs.Program.TheVariants as program
-use Rattle.oe_core.proofs.PlaceFacts.{place_set, get_place}
-use Rattle.oe_core.proofs.MoveFacts.{standing, closed, the_steps, within, same_parts, slots_set, works_set, has_work, work_here, gone_works}
+use Rattle.oe_core.proofs.PlaceFacts.{taken_is, taken_out}
+use Rattle.oe_core.proofs.MoveFacts.{standing, the_steps, within, has_work, HasOpen, own_work, replaced, open_still, work_still, dropped_here}
 
 no_room : TakesNoRoom system
 unfolding record_length
@@ -64,67 +63,66 @@ in_the_way s o t n m u h =
       least = λ k p b ne e. ap (λ z. go_together m (z n)) (slot_held v k (work_at s.slots k) p e) ∙ h.least k b ne;
     }
 
--- a transaction by its handle and by its slot
-same_tx : (s : Stored) → IsOrderly s → (t : ℕ) (w : Work) → work_at s.slots t ≡ Some w
-    → tx_of s.engine w.tx (request_of w.program) ≡ tx_in system t (slot_of (view_of s.engine) t w)
-same_tx s o t w e =
-    let own = work_here s o t w e in
-    λ i. record { terminal = own.terminal i; number = suc ((view_of s.engine).counts (own.terminal i)); request = own.program i }
-
--- what the row of a slot asks for, what it does, and whether its lock is free
-module _ (s : Stored) (o : IsOrderly s) (t : ℕ) (w : Work) (e : work_at s.slots t ≡ Some w) where
+-- an open transaction: what its row asks for, what it does, and whether its lock is free
+module _ (s : Stored) (t : ℕ) (w : Work) (h : HasOpen s t w) where
   abbrev pub here : Slot system
   here = slot_of (view_of s.engine) t w
 
+  slot_here : (store_of s).slots t ≡ Some here
+  slot_here = ap (open_at (view_of s.engine) t) h.here
+
+  -- by its handle it is the same as by its slot
+  same_tx : tx_of s.engine w.tx (request_of w.program) ≡ tx_in system t here
+  same_tx =
+      let own = own_work h in
+      λ i. record { terminal = own.terminal i; number = suc ((view_of s.engine).counts (own.terminal i)); request = own.program i }
+
   pub asked_here : ask_here s.engine w.tx (request_of w.program) (place_of w.program) ≡ ask (tx_in system t here) (place_of w.program) (view_of s.engine).rows
-  asked_here = ap (λ z. ask z (place_of w.program) (view_of s.engine).rows) (same_tx s o t w e)
+  asked_here = ap (λ z. ask z (place_of w.program) (view_of s.engine).rows) same_tx
 
   pub acted_here : act_here s.engine w.tx (request_of w.program) (place_of w.program) ≡ act (tx_in system t here) (place_of w.program) (view_of s.engine).rows
-  acted_here = ap (λ z. act z (place_of w.program) (view_of s.engine).rows) (same_tx s o t w e)
+  acted_here = ap (λ z. act z (place_of w.program) (view_of s.engine).rows) same_tx
 
   pub free_here : IsFreeHere s.engine w.tx (request_of w.program) (place_of w.program)
       → IsFree (view_of s.engine) t (ask (tx_in system t here) (place_of w.program) (view_of s.engine).rows)
-  free_here h =
-      subst (λ (k : ℕ). IsFree (view_of s.engine) k (ask (tx_in system t here) (place_of w.program) (view_of s.engine).rows)) (work_here s o t w e).terminal
-      (subst (λ (a : Ask Name Refusal). IsFree (view_of s.engine) w.tx.terminal a) asked_here h)
+  free_here f =
+      subst (λ (k : ℕ). IsFree (view_of s.engine) k (ask (tx_in system t here) (place_of w.program) (view_of s.engine).rows)) (own_work h).terminal
+      (subst (λ (a : Ask Name Refusal). IsFree (view_of s.engine) w.tx.terminal a) asked_here f)
 
   pub granted_in : IsFreeHere s.engine w.tx (request_of w.program) (place_of w.program)
       → IsGrantedIn system (store_of s).slots t (ask (tx_in system t here) (place_of w.program) (view_of s.engine).rows)
-  granted_in h = granted (view_of s.engine) (work_at s.slots) t _ (free_here h)
-
-  slot_here : (store_of s).slots t ≡ Some here
-  slot_here = ap (open_at (view_of s.engine) t) e
+  granted_in f = granted (view_of s.engine) (work_at s.slots) t _ (free_here f)
 
   -- a row that ends its transaction
   leads_stop : (x : Refusal) → ask (tx_in system t here) (place_of w.program) (view_of s.engine).rows ≡ Stop x
       → Leads system (store_of s) (Advance t) (Aborted x) (dropped system t (store_of s))
-  leads_stop x q = the_steps.stops (store_of s) t here x (standing s o) slot_here q
+  leads_stop x q = the_steps.stops (store_of s) t here x (standing s h.orderly) slot_here q
 
   leads_fail : (x : Refusal) → IsFreeHere s.engine w.tx (request_of w.program) (place_of w.program)
       → act (tx_in system t here) (place_of w.program) (view_of s.engine).rows ≡ Fail x
       → Leads system (store_of s) (Advance t) (Aborted x) (dropped system t (store_of s))
-  leads_fail x f q = the_steps.fails (store_of s) t here x (standing s o) slot_here (granted_in f) q
+  leads_fail x f q = the_steps.fails (store_of s) t here x (standing s h.orderly) slot_here (granted_in f) q
 
   -- the tables accept each change of a row
   accepted : (c : Change) (p : model.Place) → IsFreeHere s.engine w.tx (request_of w.program) (place_of w.program)
       → act (tx_in system t here) (place_of w.program) (view_of s.engine).rows ≡ Go (Some c) p → Accepts c (view_of s.engine).rows
   accepted c p f q =
-      subst (Accepts c) (tables_here system laws (store_of s) (standing s o))
-      (changes_are_accepted system laws (world_of system (store_of s)) t (opened_by system ((store_of s).undo.active t) (store_of s).tables here) c p (standing s o).reached
+      subst (Accepts c) (tables_here system laws (store_of s) (standing s h.orderly))
+      (changes_are_accepted system laws (world_of system (store_of s)) t (opened_by system ((store_of s).undo.active t) (store_of s).tables here) c p (standing s h.orderly).reached
       (is_open_in system laws (store_of s) t here slot_here)
-      (granted_here system laws (store_of s) (standing s o) t here (granted_in f))
-      (acts_here system laws (store_of s) (standing s o) t here ∙ q))
+      (granted_here system laws (store_of s) (standing s h.orderly) t here (granted_in f))
+      (acts_here system laws (store_of s) (standing s h.orderly) t here ∙ q))
 
   pub leads_end : (x : Refusal) → Ends s.engine w.tx (request_of w.program) (place_of w.program) x
       → Leads system (store_of s) (Advance t) (Aborted x) (dropped system t (store_of s))
   leads_end x (inl q) = leads_stop x (sym asked_here ∙ q)
-  leads_end x (inr (inl h)) = leads_fail x h.0 (sym acted_here ∙ h.1)
-  leads_end x (inr (inr h)) = absurd (not_both h.1 (view_of s.engine).rows x (accepted h.1 h.2 h.0 (sym acted_here ∙ h.3)) h.4)
+  leads_end x (inr (inl d)) = leads_fail x d.0 (sym acted_here ∙ d.1)
+  leads_end x (inr (inr d)) = absurd (not_both d.1 (view_of s.engine).rows x (accepted d.1 d.2 d.0 (sym acted_here ∙ d.3)) d.4)
 
   -- and the refusals that may end it
   pub may_end : (x : Refusal) → Ends s.engine w.tx (request_of w.program) (place_of w.program) x → (q : Request) × MayRefuse q x
-  may_end x h =
-      let it = abort_is_its_own system laws (world_of system (store_of s)) _ t x (standing s o).reached (leads_end x h).next in
+  may_end x d =
+      let it = abort_is_its_own system laws (world_of system (store_of s)) _ t x (standing s h.orderly).reached (leads_end x d).next in
       (it.was.request, it.cause)
 
 -- what no program ends with
@@ -181,194 +179,157 @@ lacks s t p Plain g n y = (g, n, y)
 lacks s t p (Take k m) g n y = (g, n, y)
 
 -- the row went on
-pub went_on_here : (s : Stored) → IsOrderly s → (t : ℕ) → t < 65 → (w w' : Work) (e' : engine.Stored) → slice_get s.slots t ≡ Some (Some w)
-    → GoesOn s.engine w.tx (request_of w.program) (place_of w.program) e' (place_of w'.program)
-    → w'.tx ≡ w.tx → w'.request ≡ w.request → request_of w'.program ≡ request_of w.program → w'.mark_program ≡ w.mark_program → w'.mark ≡ w.mark
-    → Moves s (Advance t) More (record { engine = e'; slots = slice_set s.slots t (Some w') })
-went_on_here s o t h w w' e' e g x r p m k =
+pub went_on_here : {s : Stored} {t : ℕ} {w : Work} → HasOpen s t w → (p : Program) (e' : engine.Stored) (ys : List (Option Work))
+    → GoesOn s.engine w.tx (request_of w.program) (place_of w.program) e' (place_of p) → request_of p ≡ request_of w.program
+    → ys ≡ slice_set s.slots t (Some (record w { program = p }))
+    → Moves s (Advance t) More (record { engine = e'; slots = ys })
+went_on_here {s} {t} {w} h p e' ys g r q =
     let v = view_of s.engine in
-    let at = get_place s.slots t (Some w) None e in
-    let own = work_here s o t w at in
+    let own = own_work h in
     let a = ask (tx_in system t (slot_of v t w)) (place_of w.program) v.rows in
-    let v' = row_done t a g.change v in
-    let now : view_of e' ≡ v' =
+    let now : view_of e' ≡ row_done t a g.change v =
     g.done
-    ∙ (ap (λ (z : Ask Name Refusal). row_done w.tx.terminal z g.change v) (asked_here s o t w at)
+    ∙ (ap (λ (z : Ask Name Refusal). row_done w.tx.terminal z g.change v) (asked_here s t w h)
     ∙ ap (λ (z : ℕ). row_done z a g.change v) own.terminal) in
-    let set_here = place_set s.slots t (Some w') None (within s o t h) in
-    closed s _ (Advance t) More _
-    (the_steps.goes_on (store_of s) t (slot_of v t w) g.change (place_of w'.program) (standing s o) (slot_here s o t w at) (granted_in s o t w at g.free)
-    (sym (acted_here s o t w at) ∙ g.does) (the_steps.is_room no_room (store_of s) t g.change))
-    (ap (λ (z : View). store_with z (work_at (slice_set s.slots t (Some w')))) now
-    ∙ same_parts _ _ _ _ _ _ _ _ _ _ _ _ refl refl
-    (slots_set v v' (work_at s.slots) _ t (Some w') (Some (slot_after system (slot_of v t w) (length (v.undo.active t)) a (place_of w'.program))) set_here (λ u n. refl)
-    (λ u n. set_other t _ v.held u n)
+    replaced s h.orderly (Advance t) More t h.low (Some (record w { program = p })) (Some (slot_after system (slot_of v t w) (length (v.undo.active t)) a (place_of p))) e' (row_done t a g.change v)
+    (the_steps.goes_on (store_of s) t (slot_of v t w) g.change (place_of p) (standing s h.orderly) (slot_here s t w h) (granted_in s t w h g.free)
+    (sym (acted_here s t w h) ∙ g.does) (the_steps.is_room no_room (store_of s) t g.change))
+    now g.name (record { counts = λ u n. refl; held = λ u n. set_other t _ v.held u n; is_open = λ u n. refl })
     (λ i. Some (record {
       number = suc (v.counts t);
-      request = r i;
-      place = place_of w'.program;
-      mark_place = place_of (m i);
-      mark_count = k i;
+      request = w.request;
+      place = place_of p;
+      mark_place = place_of w.mark_program;
+      mark_count = w.mark;
       held = set_same t (held_after system a (v.held t)) v.held t refl i;
-    })))
-    refl refl refl)
-    (length-set s.slots t (Some w') ∙ o.places)
-    (works_set s.engine e' (work_at s.slots) _ t (Some w') set_here g.name (λ u n. ap (λ (z : View). z.is_open u) now) o.works
-    (record {
-      is_open = record {
-        engine = ap (λ (z : Handle). z.engine) x ∙ (own.is_open.engine ∙ sym g.name);
-        terminal = ap (λ (z : View). z.is_open w'.tx.terminal) now ∙ (ap (λ (z : Handle). v.is_open z.terminal) x ∙ own.is_open.terminal);
-      };
-      terminal = ap (λ (z : Handle). z.terminal) x ∙ own.terminal;
-      program = p ∙ (own.program ∙ sym r);
-      mark_program = ap request_of m ∙ (own.mark_program ∙ sym r);
     }))
+    (work_still s.engine e' t w p w.mark_program w.mark own (ap (λ (z : View). z.is_open) now) g.name (r ∙ own.program) own.mark_program)
+    ys q
+
+-- the transaction was taken out of its place, its program at another row
+pub record IsTaken (s : Stored) (t : ℕ) (w out : Work) (ys : List (Option Work)) : Type 0 where
+  pub was_open : HasOpen s t w
+  pub tx : out.tx ≡ w.tx
+  pub request : out.request ≡ w.request
+  pub slots : ys ≡ slice_set s.slots t None
+
+pub is_taken : {s : Stored} {t : ℕ} {w : Work} → HasOpen s t w → (p : Program) (i : ℕ) (out : Work) (ys : List (Option Work)) → i ≡ t
+    → slice_get (slice_set s.slots i (Some (record w { program = p }))) t ≡ Some (Some out) → ys ≡ slice_set (slice_set s.slots i (Some (record w { program = p }))) t None
+    → IsTaken s t w out ys
+is_taken {s} {t} {w} h p i out ys same get left =
+    let it : out ≡ record w { program = p } = taken_is s.slots i t (record w { program = p }) out same (within s h.orderly t h.low) get in
+    record {
+      was_open = h;
+      tx = ap (λ (z : Work). z.tx) it;
+      request = ap (λ (z : Work). z.request) it;
+      slots = taken_out s.slots ys i t (Some (record w { program = p })) None same left;
+    }
+
+-- it is still open then, where the engine stands for the same
+pub taken_is_open : {s : Stored} {t : ℕ} {w out : Work} {ys : List (Option Work)} → IsTaken s t w out ys → (e' : engine.Stored)
+    → view_of e' ≡ view_of s.engine → e'.name ≡ s.engine.name → IsOpen e' out.tx
+taken_is_open {s} {t} {w} k e' b name =
+    subst (λ (z : Handle). IsOpen e' z) (sym k.tx) (open_still s.engine e' w.tx (ap (λ (z : View). z.is_open) b) name (own_work k.was_open).is_open)
 
 -- it was ready, and its transaction committed
-pub committed_here : (s : Stored) → IsOrderly s → (t : ℕ) → t < 65 → (w : Work) (hx : Handle) (rq : Request) (y : Reply) (n : ℕ) (e₀ e' : engine.Stored) → slice_get s.slots t ≡ Some (Some w)
-    → IsReady s.engine w.tx (request_of w.program) (place_of w.program) y
-    → e₀ ≡ s.engine → hx ≡ w.tx → rq ≡ w.request → n ≡ suc (total terminal_limit (view_of e₀).counts)
-    → view_of e' ≡ committed hx.terminal rq y (view_of e₀) → e'.name ≡ e₀.name
-    → Moves s (Advance t) (Committed n y) (record { engine = e'; slots = slice_set s.slots t None })
-committed_here s o t h w hx rq y n e₀ e' e g same x r c b name =
+pub committed_here : {s : Stored} {t : ℕ} {w out : Work} {ys : List (Option Work)} → IsTaken s t w out ys → (y : Reply) (n : ℕ) (e₀ e' : engine.Stored)
+    → IsReady s.engine w.tx (request_of w.program) (place_of w.program) y → e₀ ≡ s.engine → n ≡ suc (total terminal_limit (view_of e₀).counts)
+    → view_of e' ≡ committed out.tx.terminal out.request y (view_of e₀) → e'.name ≡ e₀.name
+    → Moves s (Advance t) (Committed n y) (record { engine = e'; slots = ys })
+committed_here {s} {t} {w} {out} {ys} k y n e₀ e' g same c b name =
     let v = view_of s.engine in
-    let at = get_place s.slots t (Some w) None e in
-    let own = work_here s o t w at in
-    let v' = committed t w.request y v in
-    let now : view_of e' ≡ v' =
-    b ∙ (ap (λ (z : engine.Stored). committed hx.terminal rq y (view_of z)) same
-    ∙ (ap (λ (z : Request). committed hx.terminal z y v) r ∙ ap (λ (z : ℕ). committed z w.request y v) (ap (λ (z : Handle). z.terminal) x ∙ own.terminal))) in
+    let h = k.was_open in
+    let now : view_of e' ≡ committed t w.request y v =
+    b ∙ (ap (λ (z : engine.Stored). committed out.tx.terminal out.request y (view_of z)) same
+    ∙ (ap (λ (z : Request). committed out.tx.terminal z y v) k.request ∙ ap (λ (z : ℕ). committed z w.request y v) (ap (λ (z : Handle). z.terminal) k.tx ∙ (own_work h).terminal))) in
     let moment : n ≡ suc (total terminal_limit v.counts) = c ∙ ap (λ (z : engine.Stored). suc (total terminal_limit (view_of z).counts)) same in
-    subst (λ (z : ℕ). Moves s (Advance t) (Committed z y) (record { engine = e'; slots = slice_set s.slots t None })) (sym moment)
-    (closed s _ (Advance t) (Committed (suc (total terminal_limit v.counts)) y) _
-    (the_steps.commits (store_of s) t (slot_of v t w) y (standing s o) (slot_here s o t w at) (granted_in s o t w at g.free) (sym (acted_here s o t w at) ∙ g.does))
-    (ap (λ (z : View). store_with z (work_at (slice_set s.slots t None))) now
-    ∙ same_parts _ _ _ _ _ _ _ _ _ _ _ _ refl refl
-    (slots_set v v' (work_at s.slots) _ t None None (place_set s.slots t None None (within s o t h)) (λ u ne. set_other t _ v.counts u ne) (λ u ne. set_other t _ v.held u ne) refl)
-    refl refl refl)
-    (length-set s.slots t None ∙ o.places)
-    (gone_works s o t h e' v' now (name ∙ ap (λ (z : engine.Stored). z.name) same) refl))
-
--- it was refused, and nothing has changed
-stays_open : (s : Stored) → IsOrderly s → (t : ℕ) → t < 65 → (w w' : Work) (e' : engine.Stored) (a : Answer system) → slice_get s.slots t ≡ Some (Some w)
-    → view_of e' ≡ view_of s.engine → e'.name ≡ s.engine.name
-    → w'.tx ≡ w.tx → w'.request ≡ w.request → request_of w'.program ≡ request_of w.program → place_of w'.program ≡ place_of w.program
-    → w'.mark_program ≡ w.mark_program → w'.mark ≡ w.mark → Leads system (store_of s) (Advance t) a (store_of s)
-    → Moves s (Advance t) a (record { engine = e'; slots = slice_set s.slots t (Some w') })
-stays_open s o t h w w' e' a e b name x r p q m k l =
-    let v = view_of s.engine in
-    let at = get_place s.slots t (Some w) None e in
-    let own = work_here s o t w at in
-    let set_here = place_set s.slots t (Some w') None (within s o t h) in
-    closed s _ (Advance t) a _ l
-    (ap (λ (z : View). store_with z (work_at (slice_set s.slots t (Some w')))) b
-    ∙ same_parts _ _ _ _ _ _ _ _ _ _ _ _ refl refl
-    (slots_set v v (work_at s.slots) _ t (Some w') (Some (slot_of v t w)) set_here (λ u n. refl) (λ u n. refl)
-    (λ i. Some (record { number = suc (v.counts t); request = r i; place = q i; mark_place = place_of (m i); mark_count = k i; held = v.held t }))
-    ∙ set_idle t (Some (slot_of v t w)) (store_of s).slots (ap (open_at v t) at))
-    refl refl refl)
-    (length-set s.slots t (Some w') ∙ o.places)
-    (works_set s.engine e' (work_at s.slots) _ t (Some w') set_here name (λ u n. ap (λ (z : View). z.is_open u) b) o.works
-    (record {
-      is_open = record {
-        engine = ap (λ (z : Handle). z.engine) x ∙ (own.is_open.engine ∙ sym name);
-        terminal = ap (λ (z : View). z.is_open w'.tx.terminal) b ∙ (ap (λ (z : Handle). v.is_open z.terminal) x ∙ own.is_open.terminal);
-      };
-      terminal = ap (λ (z : Handle). z.terminal) x ∙ own.terminal;
-      program = p ∙ (own.program ∙ sym r);
-      mark_program = ap request_of m ∙ (own.mark_program ∙ sym r);
-    }))
-
--- or its transaction was rolled back
-pub ended_here : (s : Stored) → IsOrderly s → (t : ℕ) → t < 65 → (w : Work) (hx : Handle) (e' e'' : engine.Stored) (a : Answer system) → slice_get s.slots t ≡ Some (Some w)
-    → Leads system (store_of s) (Advance t) a (dropped system t (store_of s))
-    → view_of e' ≡ view_of s.engine → e'.name ≡ s.engine.name → hx ≡ w.tx → view_of e'' ≡ rolled_back hx.terminal (view_of e') → e''.name ≡ e'.name
-    → Moves s (Advance t) a (record { engine = e''; slots = slice_set s.slots t None })
-ended_here s o t h w hx e' e'' a e l q same x b name =
-    let v = view_of s.engine in
-    let at = get_place s.slots t (Some w) None e in
-    let now : view_of e'' ≡ rolled_back t v =
-    b ∙ (ap (λ (z : View). rolled_back hx.terminal z) q
-    ∙ ap (λ (z : ℕ). rolled_back z v) (ap (λ (z : Handle). z.terminal) x ∙ (work_here s o t w at).terminal)) in
-    closed s _ (Advance t) a _ l
-    (ap (λ (z : View). store_with z (work_at (slice_set s.slots t None))) now
-    ∙ same_parts _ _ _ _ _ _ _ _ _ _ _ _ refl refl
-    (slots_set v (rolled_back t v) (work_at s.slots) _ t None None (place_set s.slots t None None (within s o t h)) (λ u n. refl) (λ u n. set_other t _ v.held u n) refl)
-    refl refl refl)
-    (length-set s.slots t None ∙ o.places)
-    (gone_works s o t h e'' (rolled_back t v) now (name ∙ same) refl)
+    subst (λ (z : ℕ). Moves s (Advance t) (Committed z y) (record { engine = e'; slots = ys })) (sym moment)
+    (replaced s h.orderly (Advance t) (Committed (suc (total terminal_limit v.counts)) y) t h.low None None e' (committed t w.request y v)
+    (the_steps.commits (store_of s) t (slot_of v t w) y (standing s h.orderly) (slot_here s t w h) (granted_in s t w h g.free) (sym (acted_here s t w h) ∙ g.does))
+    now (name ∙ ap (λ (z : engine.Stored). z.name) same)
+    (record { counts = λ u n. set_other t _ v.counts u n; held = λ u n. set_other t _ v.held u n; is_open = λ u n. set_other t false v.is_open u n }) refl
+    (ap (λ (z : View). z.is_open t) now ∙ set_same t false v.is_open t refl)
+    ys k.slots)
 
 -- the refusals after which it stays open
-kept_lead : (s : Stored) (o : IsOrderly s) (t : ℕ) (w : Work) (e : work_at s.slots t ≡ Some w) (x : Refusal) → keeps_open x ≡ true
+kept_lead : (s : Stored) (t : ℕ) (w : Work) → HasOpen s t w → (x : Refusal) → keeps_open x ≡ true
     → IsRefused s.engine w.tx (request_of w.program) (place_of w.program) x → Leads system (store_of s) (Advance t) (refusal_in (step.Advance t) x) (store_of s)
-kept_lead s o t w e (BadLine n) kp h = let no : ⊥ = cc in absurd no
-kept_lead s o t w e (NoSuchRow k) kp h = let no : ⊥ = cc in absurd no
-kept_lead s o t w e (RowExists k) kp h = let no : ⊥ = cc in absurd no
-kept_lead s o t w e (Overflow c) kp h = let no : ⊥ = cc in absurd no
-kept_lead s o t w e (Reference k) kp h = let no : ⊥ = cc in absurd no
-kept_lead s o t w e KeyColumn kp h = let no : ⊥ = cc in absurd no
-kept_lead s o t w e (Busy n u) kp h =
-    the_steps.is_busy (store_of s) t (here s o t w e) n h.1.0 u (standing s o) (slot_here s o t w e) (sym (asked_here s o t w e) ∙ h.1.1)
-    (in_the_way s o t n h.1.0 u (subst (λ (z : ℕ). IsInTheWay (view_of s.engine) z n h.1.0 u) (work_here s o t w e).terminal h.1.2))
-kept_lead s o t w e UndoFull kp h = let it = may_end s o t w e UndoFull h.1 in absurd (never_UndoFull it.0 it.1)
-kept_lead s o t w e NoMemory kp h =
-    the_steps.lacks_memory (store_of s) t (here s o t w e) (standing s o) (slot_here s o t w e)
-    (lacks (store_of s) t (here s o t w e) _ (granted_in s o t w e h.1) (new h.2)
-    (subst (GivesWay system (yields (place_of w.program))) (acted_here s o t w e) h.3))
+kept_lead s t w o (BadLine n) kp h = let no : ⊥ = cc in absurd no
+kept_lead s t w o (NoSuchRow k) kp h = let no : ⊥ = cc in absurd no
+kept_lead s t w o (RowExists k) kp h = let no : ⊥ = cc in absurd no
+kept_lead s t w o (Overflow c) kp h = let no : ⊥ = cc in absurd no
+kept_lead s t w o (Reference k) kp h = let no : ⊥ = cc in absurd no
+kept_lead s t w o KeyColumn kp h = let no : ⊥ = cc in absurd no
+kept_lead s t w o (Busy n u) kp h =
+    the_steps.is_busy (store_of s) t (here s t w o) n h.1.0 u (standing s o.orderly) (slot_here s t w o) (sym (asked_here s t w o) ∙ h.1.1)
+    (in_the_way s o.orderly t n h.1.0 u (subst (λ (z : ℕ). IsInTheWay (view_of s.engine) z n h.1.0 u) (own_work o).terminal h.1.2))
+kept_lead s t w o UndoFull kp h = let it = may_end s t w o UndoFull h.1 in absurd (never_UndoFull it.0 it.1)
+kept_lead s t w o NoMemory kp h =
+    the_steps.lacks_memory (store_of s) t (here s t w o) (standing s o.orderly) (slot_here s t w o)
+    (lacks (store_of s) t (here s t w o) _ (granted_in s t w o h.1) (new h.2)
+    (subst (GivesWay system (yields (place_of w.program))) (acted_here s t w o) h.3))
   where
     own : (view_of s.engine).held w.tx.terminal ≡ (view_of s.engine).held t
-    own = ap (view_of s.engine).held (work_here s o t w e).terminal
+    own = ap (view_of s.engine).held (own_work o).terminal
 
     new : IsNew system ((view_of s.engine).held w.tx.terminal) (ask_here s.engine w.tx (request_of w.program) (place_of w.program))
         ⊎ ((c : Change) × (p' : model.Place) × (act_here s.engine w.tx (request_of w.program) (place_of w.program) ≡ Go (Some c) p'))
-        → IsNew system ((view_of s.engine).held t) (ask (tx_in system t (here s o t w e)) (place_of w.program) (view_of s.engine).rows) ⊎ (may_allocate (place_of w.program) ≡ true)
-    new (inl a) = inl (subst (λ z. IsNew system z (ask (tx_in system t (here s o t w e)) (place_of w.program) (view_of s.engine).rows)) own (subst (IsNew system ((view_of s.engine).held w.tx.terminal)) (asked_here s o t w e) a))
+        → IsNew system ((view_of s.engine).held t) (ask (tx_in system t (here s t w o)) (place_of w.program) (view_of s.engine).rows) ⊎ (may_allocate (place_of w.program) ≡ true)
+    new (inl a) = inl (subst (λ z. IsNew system z (ask (tx_in system t (here s t w o)) (place_of w.program) (view_of s.engine).rows)) own (subst (IsNew system ((view_of s.engine).held w.tx.terminal)) (asked_here s t w o) a))
     new (inr a) = inr (allocates (tx_of s.engine w.tx (request_of w.program)) w.program (view_of s.engine).rows a.0 a.1 a.2)
-kept_lead s o t w e NotOpen kp h = let no : ⊥ = cc in absurd no
-kept_lead s o t w e AlreadyOpen kp h = let no : ⊥ = cc in absurd no
-kept_lead s o t w e InvalidItem kp h = let no : ⊥ = cc in absurd no
-kept_lead s o t w e NoCustomer kp h = let no : ⊥ = cc in absurd no
-kept_lead s o t w e (TooOld m) kp h = let no : ⊥ = cc in absurd no
-kept_lead s o t w e (Future m) kp h = let no : ⊥ = cc in absurd no
-kept_lead s o t w e (NotQuiet n) kp h = let no : ⊥ = cc in absurd no
-kept_lead s o t w e (NotPinned n) kp h = let no : ⊥ = cc in absurd no
+kept_lead s t w o NotOpen kp h = let no : ⊥ = cc in absurd no
+kept_lead s t w o AlreadyOpen kp h = let no : ⊥ = cc in absurd no
+kept_lead s t w o InvalidItem kp h = let no : ⊥ = cc in absurd no
+kept_lead s t w o NoCustomer kp h = let no : ⊥ = cc in absurd no
+kept_lead s t w o (TooOld m) kp h = let no : ⊥ = cc in absurd no
+kept_lead s t w o (Future m) kp h = let no : ⊥ = cc in absurd no
+kept_lead s t w o (NotQuiet n) kp h = let no : ⊥ = cc in absurd no
+kept_lead s t w o (NotPinned n) kp h = let no : ⊥ = cc in absurd no
 
 -- those after which it is gone
-ended_lead : (s : Stored) (o : IsOrderly s) (t : ℕ) (w : Work) (e : work_at s.slots t ≡ Some w) (x : Refusal) → keeps_open x ≡ false
+ended_lead : (s : Stored) (t : ℕ) (w : Work) → HasOpen s t w → (x : Refusal) → keeps_open x ≡ false
     → IsRefused s.engine w.tx (request_of w.program) (place_of w.program) x → Leads system (store_of s) (Advance t) (refusal_in (step.Advance t) x) (dropped system t (store_of s))
-ended_lead s o t w e (BadLine n) kp h = leads_end s o t w e (BadLine n) h.1
-ended_lead s o t w e (NoSuchRow k) kp h = leads_end s o t w e (NoSuchRow k) h.1
-ended_lead s o t w e (RowExists k) kp h = leads_end s o t w e (RowExists k) h.1
-ended_lead s o t w e (Overflow c) kp h = leads_end s o t w e (Overflow c) h.1
-ended_lead s o t w e (Reference k) kp h = leads_end s o t w e (Reference k) h.1
-ended_lead s o t w e KeyColumn kp h = leads_end s o t w e KeyColumn h.1
-ended_lead s o t w e (Busy n u) kp h = let no : ⊥ = cc in absurd no
-ended_lead s o t w e UndoFull kp h = let no : ⊥ = cc in absurd no
-ended_lead s o t w e NoMemory kp h = let no : ⊥ = cc in absurd no
-ended_lead s o t w e NotOpen kp h = absurd (h (work_here s o t w e).is_open)
-ended_lead s o t w e AlreadyOpen kp h = let it = may_end s o t w e AlreadyOpen h.1 in absurd (never_AlreadyOpen it.0 it.1)
-ended_lead s o t w e InvalidItem kp h = leads_end s o t w e InvalidItem h.1
-ended_lead s o t w e NoCustomer kp h = leads_end s o t w e NoCustomer h.1
-ended_lead s o t w e (TooOld m) kp h = let it = may_end s o t w e (TooOld m) h.1 in absurd (never_TooOld m it.0 it.1)
-ended_lead s o t w e (Future m) kp h = let it = may_end s o t w e (Future m) h.1 in absurd (never_Future m it.0 it.1)
-ended_lead s o t w e (NotQuiet n) kp h = let it = may_end s o t w e (NotQuiet n) h.1 in absurd (never_NotQuiet n it.0 it.1)
-ended_lead s o t w e (NotPinned n) kp h = leads_end s o t w e (NotPinned n) h.1
+ended_lead s t w o (BadLine n) kp h = leads_end s t w o (BadLine n) h.1
+ended_lead s t w o (NoSuchRow k) kp h = leads_end s t w o (NoSuchRow k) h.1
+ended_lead s t w o (RowExists k) kp h = leads_end s t w o (RowExists k) h.1
+ended_lead s t w o (Overflow c) kp h = leads_end s t w o (Overflow c) h.1
+ended_lead s t w o (Reference k) kp h = leads_end s t w o (Reference k) h.1
+ended_lead s t w o KeyColumn kp h = leads_end s t w o KeyColumn h.1
+ended_lead s t w o (Busy n u) kp h = let no : ⊥ = cc in absurd no
+ended_lead s t w o UndoFull kp h = let no : ⊥ = cc in absurd no
+ended_lead s t w o NoMemory kp h = let no : ⊥ = cc in absurd no
+ended_lead s t w o NotOpen kp h = absurd (h (own_work o).is_open)
+ended_lead s t w o AlreadyOpen kp h = let it = may_end s t w o AlreadyOpen h.1 in absurd (never_AlreadyOpen it.0 it.1)
+ended_lead s t w o InvalidItem kp h = leads_end s t w o InvalidItem h.1
+ended_lead s t w o NoCustomer kp h = leads_end s t w o NoCustomer h.1
+ended_lead s t w o (TooOld m) kp h = let it = may_end s t w o (TooOld m) h.1 in absurd (never_TooOld m it.0 it.1)
+ended_lead s t w o (Future m) kp h = let it = may_end s t w o (Future m) h.1 in absurd (never_Future m it.0 it.1)
+ended_lead s t w o (NotQuiet n) kp h = let it = may_end s t w o (NotQuiet n) h.1 in absurd (never_NotQuiet n it.0 it.1)
+ended_lead s t w o (NotPinned n) kp h = leads_end s t w o (NotPinned n) h.1
 
-pub kept_here : (s : Stored) → IsOrderly s → (t : ℕ) → t < 65 → (w w' : Work) (e' : engine.Stored) (x : Refusal) → slice_get s.slots t ≡ Some (Some w)
+-- it was refused, and stays open where it stands
+pub kept_here : {s : Stored} {t : ℕ} {w : Work} → HasOpen s t w → (p : Program) (e' : engine.Stored) (ys : List (Option Work)) (x : Refusal)
     → keeps_open x ≡ true → IsRefused s.engine w.tx (request_of w.program) (place_of w.program) x
-    → view_of e' ≡ view_of s.engine → e'.name ≡ s.engine.name → w'.tx ≡ w.tx → w'.request ≡ w.request → request_of w'.program ≡ request_of w.program → place_of w'.program ≡ place_of w.program
-    → w'.mark_program ≡ w.mark_program → w'.mark ≡ w.mark
-    → Moves s (Advance t) (refusal_in (step.Advance t) x) (record { engine = e'; slots = slice_set s.slots t (Some w') })
-kept_here s o t h w w' e' x e g i b name tx r p q m k =
-    stays_open s o t h w w' e' (refusal_in (step.Advance t) x) e b name tx r p q m k (kept_lead s o t w (get_place s.slots t (Some w) None e) x g i)
+    → view_of e' ≡ view_of s.engine → e'.name ≡ s.engine.name → request_of p ≡ request_of w.program → place_of p ≡ place_of w.program
+    → ys ≡ slice_set s.slots t (Some (record w { program = p }))
+    → Moves s (Advance t) (refusal_in (step.Advance t) x) (record { engine = e'; slots = ys })
+kept_here {s} {t} {w} h p e' ys x kept why b name r same q =
+    let v = view_of s.engine in
+    let own = own_work h in
+    replaced s h.orderly (Advance t) (refusal_in (step.Advance t) x) t h.low (Some (record w { program = p })) (Some (slot_of v t w)) e' v
+    (subst (λ (f : ℕ → Option (Slot system)). Leads system (store_of s) (Advance t) (refusal_in (step.Advance t) x) (record { tables = v.rows; undo = v.undo; slots = f; seals = v.seals; counts = v.counts; extents = v.extents }))
+    (sym (set_idle t (Some (slot_of v t w)) (store_of s).slots (slot_here s t w h))) (kept_lead s t w h x kept why))
+    b name (record { counts = λ u n. refl; held = λ u n. refl; is_open = λ u n. refl })
+    (λ i. Some (record { number = suc (v.counts t); request = w.request; place = same i; mark_place = place_of w.mark_program; mark_count = w.mark; held = v.held t }))
+    (work_still s.engine e' t w p w.mark_program w.mark own (ap (λ (z : View). z.is_open) b) name (r ∙ own.program) own.mark_program)
+    ys q
 
-pub given_up_here : (s : Stored) → IsOrderly s → (t : ℕ) → t < 65 → (w : Work) (hx : Handle) (e' e'' : engine.Stored) (x : Refusal) → slice_get s.slots t ≡ Some (Some w)
+-- it was refused, and rolled back
+pub given_up_here : {s : Stored} {t : ℕ} {w out : Work} {ys : List (Option Work)} → IsTaken s t w out ys → (e' e'' : engine.Stored) (x : Refusal)
     → keeps_open x ≡ false → IsRefused s.engine w.tx (request_of w.program) (place_of w.program) x
-    → view_of e' ≡ view_of s.engine → e'.name ≡ s.engine.name → hx ≡ w.tx → view_of e'' ≡ rolled_back hx.terminal (view_of e') → e''.name ≡ e'.name
-    → Moves s (Advance t) (refusal_in (step.Advance t) x) (record { engine = e''; slots = slice_set s.slots t None })
-given_up_here s o t h w hx e' e'' x e g i q same tx b name =
-    ended_here s o t h w hx e' e'' (refusal_in (step.Advance t) x) e (ended_lead s o t w (get_place s.slots t (Some w) None e) x g i) q same tx b name
-
--- it is still open where the engine stands for the same
-pub open_still : (e : engine.Stored) (w : Work) (e' : engine.Stored) → view_of e' ≡ view_of e → e'.name ≡ e.name → IsOpen e w.tx → IsOpen e' w.tx
-open_still e w e' b name h = record { engine = h.engine ∙ sym name; terminal = ap (λ (z : View). z.is_open w.tx.terminal) b ∙ h.terminal }
+    → view_of e' ≡ view_of s.engine → e'.name ≡ s.engine.name → view_of e'' ≡ rolled_back out.tx.terminal (view_of e') → e''.name ≡ e'.name
+    → Moves s (Advance t) (refusal_in (step.Advance t) x) (record { engine = e''; slots = ys })
+given_up_here {s} {t} {w} {out} {ys} k e' e'' x ended why same same_name b name =
+    dropped_here k.was_open (Advance t) (refusal_in (step.Advance t) x) e'' ys (ended_lead s t w k.was_open x ended why)
+    (b ∙ (ap (λ (z : View). rolled_back out.tx.terminal z) same ∙ ap (λ (z : Handle). rolled_back z.terminal (view_of s.engine)) k.tx))
+    (name ∙ same_name) k.slots

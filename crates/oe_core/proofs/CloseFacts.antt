@@ -55,15 +55,19 @@ at_last : (ys : List (Option Work)) (x : Option Work) → work_at (ys ++ x ∷ [
 at_last [] x = refl
 at_last (y ∷ ys) x = at_last ys x
 
-pub endable : (e : engine.Stored) (ys : List (Option Work)) (x : Option Work) (r : Rows) → IsClosing (record { engine = e; slots = ys ++ x ∷ [] }) r → IsEndable e x
-endable e ys None r h = tt
-endable e ys (Some w) r h =
+last_endable : (e : engine.Stored) (ys : List (Option Work)) (x : Option Work) (r : Rows) → IsClosing (record { engine = e; slots = ys ++ x ∷ [] }) r → IsEndable e x
+last_endable e ys None r h = tt
+last_endable e ys (Some w) r h =
     let own = subst (λ (z : Option Work). Works e (length ys) z) (at_last ys (Some w)) (h.works (length ys)) in
     (own.is_open, unwinds_here (store_of (record { engine = e; slots = ys ++ Some w ∷ [] })) h.stands w.tx.terminal)
 
-pub popped : (e e' : engine.Stored) (ys : List (Option Work)) (x : Option Work) (r : Rows) → IsEnded e x e' → IsClosing (record { engine = e; slots = ys ++ x ∷ [] }) r
+-- what was in the last place can be ended
+pub endable : {e : engine.Stored} {xs : List (Option Work)} {r : Rows} → IsClosing (record { engine = e; slots = xs }) r → (ys : List (Option Work)) (x : Option Work) → xs ≡ ys ++ x ∷ [] → IsEndable e x
+endable {e} {xs} {r} h ys x q = last_endable e ys x r (subst (λ (z : List (Option Work)). IsClosing (record { engine = e; slots = z }) r) q h)
+
+last_popped : (e e' : engine.Stored) (ys : List (Option Work)) (x : Option Work) (r : Rows) → IsEnded e x e' → IsClosing (record { engine = e; slots = ys ++ x ∷ [] }) r
     → IsClosing (record { engine = e'; slots = ys }) r
-popped e e' ys None r h k =
+last_popped e e' ys None r h k =
     let same : work_at (ys ++ None ∷ []) ≡ work_at ys =
     sym (last_taken ys None ∙ set_idle (length ys) None (work_at (ys ++ None ∷ [])) (at_last ys None)) in
     subst (λ (z : engine.Stored). IsClosing (record { engine = z; slots = ys }) r) (sym h)
@@ -72,7 +76,7 @@ popped e e' ys None r h k =
       stands = subst (λ (z : ℕ → Option Work). IsStanding system (store_with (view_of e) z)) same k.stands;
       newest = subst (λ (z : ℕ → Option Work). newest_version system (store_with (view_of e) z) ≡ r) same k.newest;
     })
-popped e e' ys (Some w) r h k =
+last_popped e e' ys (Some w) r h k =
     let t = length ys in
     let v = view_of e in
     let before : Stored = record { engine = e; slots = ys ++ Some w ∷ [] } in
@@ -92,8 +96,16 @@ popped e e' ys (Some w) r h k =
       newest = subst (λ (z : Store system). newest_version system z ≡ r) same (d.newest ∙ k.newest);
     }
 
-pub none_open : (e : engine.Stored) (r : Rows) → IsClosing (record { engine = e; slots = [] }) r → (t : ℕ) → (view_of e).is_open t ≡ false
-none_open e r k t = k.works t
+-- and once it was ended the newest version is still the same
+pub popped : {e : engine.Stored} {xs : List (Option Work)} {r : Rows} → IsClosing (record { engine = e; slots = xs }) r → (e' : engine.Stored) (ys : List (Option Work)) (x : Option Work) → xs ≡ ys ++ x ∷ [] → IsEnded e x e'
+    → IsClosing (record { engine = e'; slots = ys }) r
+popped {e} {xs} {r} h e' ys x q n = last_popped e e' ys x r n (subst (λ (z : List (Option Work)). IsClosing (record { engine = e; slots = z }) r) q h)
 
-pub closed_rows : (e : engine.Stored) (r : Rows) → IsClosing (record { engine = e; slots = [] }) r → (view_of e).rows ≡ r
-closed_rows e r k = (store_is_orderly system laws (store_of (record { engine = e; slots = [] })) k.stands).quiet_tables (λ t. refl) ∙ k.newest
+-- where no place is left none is open, and the tables are that version
+pub none_open : {e : engine.Stored} {xs : List (Option Work)} {r : Rows} → IsClosing (record { engine = e; slots = xs }) r → xs ≡ [] → (t : ℕ) → (view_of e).is_open t ≡ false
+none_open {e} {xs} {r} h q = (subst (λ (z : List (Option Work)). IsClosing (record { engine = e; slots = z }) r) q h).works
+
+pub closed_rows : {e : engine.Stored} {xs : List (Option Work)} {r : Rows} → IsClosing (record { engine = e; slots = xs }) r → xs ≡ [] → (view_of e).rows ≡ r
+closed_rows {e} {xs} {r} h q =
+    let k = subst (λ (z : List (Option Work)). IsClosing (record { engine = e; slots = z }) r) q h in
+    (store_is_orderly system laws (store_of (record { engine = e; slots = [] })) k.stands).quiet_tables (λ t. refl) ∙ k.newest

@@ -1,5 +1,5 @@
 -- What a core does to what it stores is a step of its world.
-use Rattle.std.proofs.Common.{◌≡◌, ◌≢◌, ℕ, suc, ◌<◌, ◌≤◌, inl, inr, true, false, List, Option, Some, None, length, slice_get, slice_set, sym, ap, ◌∙◌, subst, refl, arith}
+use Rattle.std.proofs.Common.{◌≡◌, ◌≢◌, ℕ, suc, ◌<◌, ◌≤◌, inl, inr, Bool, true, false, List, Option, Some, None, length, get_or, slice_get, slice_set, sym, ap, ◌∙◌, subst, refl, arith}
 use Rattle.std.specs.Prelude.{◌⊎◌}
 use Rattle.std.proofs.lemmas.Bool.{cases_eq}
 use Rattle.std.proofs.lemmas.List.{length-set}
@@ -7,7 +7,7 @@ use mathlib.Core.Path.{fun_ext}
 use Rattle.oe_theory.specs.World.{set}
 use Rattle.oe_theory.specs.Next.{Next, Step, Begin, Save, Back, Rollback, Answer, Begun, Saved, Gone_back, Rolled_back, Not_open, works_on}
 use Rattle.oe_theory.specs.Undo.{Undo}
-use Rattle.oe_theory.specs.Store.{Slot, Seal, Store, first_slot}
+use Rattle.oe_theory.specs.Store.{Slot, Seal, Store, first_slot, dropped}
 use Rattle.oe_theory.specs.Theorems.{IsReached}
 use Rattle.oe_theory.specs.StoreTheorems.{IsStanding, Leads, Steps_of_the_store}
 use Rattle.oe_theory.proofs.Sets.{set_same, set_other}
@@ -25,7 +25,8 @@ use Rattle.oe_engine.specs.Calls.{begun, back_at, rolled_back, CanUnwind}
 use Rattle.oe_core.specs.Core.{Stored, place_of, request_of, work_at, slot_of, open_at, store_with, store_of, world_of, IsSound, IsWork, Works, IsOrderly, Moves}
 use Rattle.oe_core.specs.Steps.{HasProgram}
 use Rattle.oe_core.specs.declared.slots.Work.{Work}
-use Rattle.oe_core.proofs.PlaceFacts.{place_set, get_place, set_idle_place}
+use Rattle.oe_core.specs.declared.programs.Program.{Program}
+use Rattle.oe_core.proofs.PlaceFacts.{place_set, get_place, get_set_same, at_place, set_idle_place}
 use Rattle.oe_core.proofs.Undone.{unwinds_here}
 
 pub standing : (s : Stored) → IsOrderly s → IsStanding system (store_of s)
@@ -44,13 +45,8 @@ closed s s' i a t l e h g =
     record { next = l'.next; orderly = record { places = h; works = g; sound = l'.stands } }
 
 -- what is said of it
-pub carries : (s : Stored) (i : Step system) (a : Answer system) (s' : Stored) → Moves s i a s' → Next system (world_of s) i a (world_of s') × IsReached system (world_of s')
-carries s i a s' m = (m.next, reached_here s' m.orderly)
-
--- it asks for its places in no other form
-pub with_slots : (s : Stored) (i : Step system) (a : Answer system) (e' : engine.Stored) (xs ys : List (Option Work)) → ys ≡ xs
-    → Moves s i a (record { engine = e'; slots = xs }) → Moves s i a (record { engine = e'; slots = ys })
-with_slots s i a e' xs ys q m = subst (λ (z : List (Option Work)). Moves s i a (record { engine = e'; slots = z })) (sym q) m
+pub carries : {s : Stored} {i : Step system} {a : Answer system} {s' : Stored} → Moves s i a s' → Next system (world_of s) i a (world_of s') × IsReached system (world_of s')
+carries m = (m.next, reached_here _ m.orderly)
 
 -- a step that leaves what is stored
 pub stays : (s : Stored) → IsOrderly s → (i : Step system) (a : Answer system) → Leads system (store_of s) i a (store_of s) → Moves s i a s
@@ -130,98 +126,126 @@ no_work e t None h o = refl
 no_work e t (Some w) h o =
     let no : true ≡ false = sym h.is_open.terminal ∙ (ap (view_of e).is_open h.terminal ∙ o) in absurd (cc)
 
-pub work_here : (s : Stored) → IsOrderly s → (t : ℕ) (w : Work) → work_at s.slots t ≡ Some w → IsWork s.engine t w
-work_here s o t w e = subst (λ (z : Option Work). Works s.engine t z) e (o.works t)
+-- terminal t of an orderly core has this transaction open
+pub record HasOpen (s : Stored) (t : ℕ) (w : Work) : Type 0 where
+  pub orderly : IsOrderly s
+  pub low : t < 65
+  pub here : work_at s.slots t ≡ Some w
+
+-- a transaction that was taken out of its place
+pub taken_here : {s : Stored} {t : ℕ} {w : Work} → IsOrderly s → t ≤ 64 → slice_get s.slots t ≡ Some (Some w) → HasOpen s t w
+taken_here {s} {t} {w} o h e = record { orderly = o; low = omega (arith, h); here = get_place s.slots t (Some w) None e }
+
+-- what stands in a place that lends it
+pub lent_is : {s : Stored} {i t : ℕ} {x y : Option Work} → IsOrderly s → i ≡ t → i ≤ 64 → x ≡ get_or s.slots i x → x ≡ y → slice_get s.slots t ≡ Some y
+lent_is {s} {i} {t} {x} {y} o p h g e = at_place s.slots i t x y p (within s o t (omega (arith, p, h))) g e
+
+-- a transaction that its place lends
+pub lent_here : {s : Stored} {i t : ℕ} {x : Option Work} {w : Work} → IsOrderly s → i ≡ t → i ≤ 64 → x ≡ get_or s.slots i x → x ≡ Some w → HasOpen s t w
+lent_here {s} {i} {t} {x} {w} o p h g e = record { orderly = o; low = omega (arith, p, h); here = get_place s.slots t (Some w) None (lent_is o p h g e) }
+
+-- it is open in the engine, and its programs carry out its request
+pub own_work : {s : Stored} {t : ℕ} {w : Work} → HasOpen s t w → IsWork s.engine t w
+own_work {s} {t} {w} h = subst (λ (z : Option Work). Works s.engine t z) h.here (h.orderly.works t)
+
+-- its place is empty then
+pub emptied : {s : Stored} {t : ℕ} {w : Work} {ys : List (Option Work)} → HasOpen s t w → ys ≡ slice_set s.slots t None → slice_get ys t ≡ Some None
+emptied {s} {t} h q = subst (λ (z : List (Option Work)). slice_get z t ≡ Some None) (sym q) (get_set_same s.slots t None (within s h.orderly t h.low))
 
 -- nothing is open there
-pub not_there : (s : Stored) → IsOrderly s → (i : Step system) (t : ℕ) → works_on system i ≡ Some t → slice_get s.slots t ≡ Some None
-    → Moves s i Not_open (record { engine = s.engine; slots = slice_set s.slots t None })
-not_there s o i t w e =
-    subst (λ (z : List (Option Work)). Moves s i Not_open (record { engine = s.engine; slots = z })) (sym (set_idle_place s.slots t None e))
+pub not_there : (s : Stored) → IsOrderly s → (i : Step system) (t : ℕ) → works_on system i ≡ Some t → slice_get s.slots t ≡ Some None → (ys : List (Option Work)) → ys ≡ slice_set s.slots t None
+    → Moves s i Not_open (record { engine = s.engine; slots = ys })
+not_there s o i t w e ys q =
+    subst (λ (z : List (Option Work)). Moves s i Not_open (record { engine = s.engine; slots = z })) (sym (q ∙ set_idle_place s.slots t None e))
     (stays s o i Not_open (the_steps.is_not_open (store_of s) i t (standing s o) w (ap (open_at (view_of s.engine) t) (get_place s.slots t None None e))))
 
 -- the mark is not past the records
-pub mark_within : (s : Stored) → IsOrderly s → (t : ℕ) (w : Work) → slice_get s.slots t ≡ Some (Some w) → w.mark ≤ length ((view_of s.engine).undo.active t)
-mark_within s o t w e =
-    (store_is_orderly system laws (store_of s) (standing s o)).mark t (slot_of (view_of s.engine) t w) (ap (open_at (view_of s.engine) t) (get_place s.slots t (Some w) None e))
+pub mark_within : {s : Stored} {t : ℕ} {w : Work} → HasOpen s t w → w.mark ≤ length ((view_of s.engine).undo.active w.tx.terminal)
+mark_within {s} {t} {w} h =
+    subst (λ (k : ℕ). w.mark ≤ length ((view_of s.engine).undo.active k)) (sym (own_work h).terminal)
+    ((store_is_orderly system laws (store_of s) (standing s h.orderly)).mark t (slot_of (view_of s.engine) t w) (ap (open_at (view_of s.engine) t) h.here))
 
 -- the records of a terminal's transaction can be put back
 pub unwinds : (s : Stored) → IsOrderly s → (t : ℕ) → CanUnwind ((view_of s.engine).undo.active t) (view_of s.engine).rows
 unwinds s o t = unwinds_here (store_of s) (standing s o) t
 
-pub saved : (s : Stored) → IsOrderly s → (t : ℕ) → t < 65 → (w w' : Work) → slice_get s.slots t ≡ Some (Some w)
-    → w'.tx ≡ w.tx → w'.request ≡ w.request → w'.program ≡ w.program → w'.mark_program ≡ w.program → (IsOpen s.engine w.tx → w'.mark ≡ length ((view_of s.engine).undo.active w.tx.terminal))
-    → Moves s (Save t) Saved (record { engine = s.engine; slots = slice_set s.slots t (Some w') })
-saved s o t h w w' e x r p m k =
-    let v = view_of s.engine in
-    let at = get_place s.slots t (Some w) None e in
-    let own = work_here s o t w at in
-    let mark : w'.mark ≡ length (v.undo.active t) = k own.is_open ∙ ap (λ (z : ℕ). length (v.undo.active z)) own.terminal in
-    let set_here = place_set s.slots t (Some w') None (within s o t h) in
-    closed s _ (Save t) Saved _ (the_steps.saves (store_of s) t (slot_of v t w) (standing s o) (ap (open_at v t) at))
-    (same_parts _ _ _ _ _ _ _ _ _ _ _ _ refl refl
-    (slots_set v v (work_at s.slots) _ t (Some w') _ set_here (λ u n. refl) (λ u n. refl)
-    (λ i. Some (record { number = suc (v.counts t); request = r i; place = place_of (p i); mark_place = place_of (m i); mark_count = mark i; held = v.held t })))
-    refl refl refl)
-    (length-set s.slots t (Some w') ∙ o.places)
-    (works_set s.engine s.engine (work_at s.slots) _ t (Some w') set_here refl (λ u n. refl) o.works
-    (record {
-      is_open = subst (λ (z : Handle). IsOpen s.engine z) (sym x) own.is_open;
-      terminal = ap (λ (z : Handle). z.terminal) x ∙ own.terminal;
-      program = ap request_of p ∙ (own.program ∙ sym r);
-      mark_program = ap request_of m ∙ (own.program ∙ sym r);
-    }))
+-- nothing has changed for terminals other than t
+pub record LeavesOthers (t : ℕ) (v v' : View) : Type 0 where
+  pub counts : (u : ℕ) → u ≢ t → v'.counts u ≡ v.counts u
+  pub held : (u : ℕ) → u ≢ t → v'.held u ≡ v.held u
+  pub is_open : (u : ℕ) → u ≢ t → v'.is_open u ≡ v.is_open u
 
-pub gone_back_here : (s : Stored) → IsOrderly s → (t : ℕ) → t < 65 → (w w' : Work) (e' : engine.Stored) → slice_get s.slots t ≡ Some (Some w)
-    → view_of e' ≡ back_at w.tx.terminal w.mark (view_of s.engine) → e'.name ≡ s.engine.name
-    → w'.tx ≡ w.tx → w'.request ≡ w.request → w'.program ≡ w.mark_program → w'.mark_program ≡ w.mark_program → w'.mark ≡ w.mark
-    → Moves s (Back t) Gone_back (record { engine = e'; slots = slice_set s.slots t (Some w') })
-gone_back_here s o t h w w' e' e b name x r p m k =
+-- a step after which a terminal's place has other work, or none, and the engine stands for what the step leads to
+pub replaced : (s : Stored) → IsOrderly s → (i : Step system) (a : Answer system) (t : ℕ) → t < 65 → (x : Option Work) (y : Option (Slot system)) (e' : engine.Stored) (v' : View)
+    → Leads system (store_of s) i a (record { tables = v'.rows; undo = v'.undo; slots = set t y (store_of s).slots; seals = v'.seals; counts = v'.counts; extents = v'.extents })
+    → view_of e' ≡ v' → e'.name ≡ s.engine.name → LeavesOthers t (view_of s.engine) v' → open_at v' t x ≡ y → Works e' t x
+    → (ys : List (Option Work)) → ys ≡ slice_set s.slots t x
+    → Moves s i a (record { engine = e'; slots = ys })
+replaced s o i a t h x y e' v' lead now name left slot works ys q =
+    let at : work_at ys ≡ set t x (work_at s.slots) = ap (λ (z : List (Option Work)). work_at z) q ∙ place_set s.slots t x None (within s o t h) in
+    closed s _ i a _ lead
+    (ap (λ (z : View). store_with z (work_at ys)) now
+    ∙ same_parts _ _ _ _ _ _ _ _ _ _ _ _ refl refl (slots_set (view_of s.engine) v' (work_at s.slots) (work_at ys) t x y at left.counts left.held slot) refl refl refl)
+    (ap (λ (z : List (Option Work)). length z) q ∙ (length-set s.slots t x ∙ o.places))
+    (works_set s.engine e' (work_at s.slots) (work_at ys) t x at name (λ u n. ap (λ (z : View). z.is_open u) now ∙ left.is_open u n) o.works works)
+
+-- a transaction is still open where the same ones are
+pub open_still : (e e' : engine.Stored) (x : Handle) → (view_of e').is_open ≡ (view_of e).is_open → e'.name ≡ e.name → IsOpen e x → IsOpen e' x
+open_still e e' x b name h = record { engine = h.engine ∙ sym name; terminal = ap (λ (z : ℕ → Bool). z x.terminal) b ∙ h.terminal }
+
+-- and its work is its own at other rows of its program
+pub work_still : (e e' : engine.Stored) (t : ℕ) (w : Work) (p m : Program) (k : ℕ) → IsWork e t w → (view_of e').is_open ≡ (view_of e).is_open → e'.name ≡ e.name
+    → request_of p ≡ w.request → request_of m ≡ w.request → IsWork e' t (record w { program = p; mark_program = m; mark = k })
+work_still e e' t w p m k own b name q r =
+    record { is_open = open_still e e' w.tx b name own.is_open; terminal = own.terminal; program = q; mark_program = r }
+
+pub saved : {s : Stored} {t : ℕ} {w : Work} → HasOpen s t w → (m : Program) (k : ℕ) (ys : List (Option Work)) → m ≡ w.program
+    → (IsOpen s.engine w.tx → k ≡ length ((view_of s.engine).undo.active w.tx.terminal)) → ys ≡ slice_set s.slots t (Some (record w { mark_program = m; mark = k }))
+    → Moves s (Save t) Saved (record { engine = s.engine; slots = ys })
+saved {s} {t} {w} h m k ys same count q =
     let v = view_of s.engine in
-    let at = get_place s.slots t (Some w) None e in
-    let own = work_here s o t w at in
+    let own = own_work h in
+    let mark : k ≡ length (v.undo.active t) = count own.is_open ∙ ap (λ (z : ℕ). length (v.undo.active z)) own.terminal in
+    replaced s h.orderly (Save t) Saved t h.low (Some (record w { mark_program = m; mark = k })) _ s.engine v
+    (the_steps.saves (store_of s) t (slot_of v t w) (standing s h.orderly) (ap (open_at v t) h.here))
+    refl refl (record { counts = λ u n. refl; held = λ u n. refl; is_open = λ u n. refl })
+    (λ i. Some (record { number = suc (v.counts t); request = w.request; place = place_of w.program; mark_place = place_of (same i); mark_count = mark i; held = v.held t }))
+    (work_still s.engine s.engine t w w.program m k own refl refl own.program (ap request_of same ∙ own.program))
+    ys q
+
+pub gone_back_here : {s : Stored} {t : ℕ} {w : Work} → HasOpen s t w → (p : Program) (e' : engine.Stored) (ys : List (Option Work)) → p ≡ w.mark_program
+    → view_of e' ≡ back_at w.tx.terminal w.mark (view_of s.engine) → e'.name ≡ s.engine.name → ys ≡ slice_set s.slots t (Some (record w { program = p }))
+    → Moves s (Back t) Gone_back (record { engine = e'; slots = ys })
+gone_back_here {s} {t} {w} h p e' ys same b name q =
+    let v = view_of s.engine in
+    let own = own_work h in
     let now : view_of e' ≡ back_at t w.mark v = b ∙ ap (λ (z : ℕ). back_at z w.mark v) own.terminal in
-    let set_here = place_set s.slots t (Some w') None (within s o t h) in
-    closed s _ (Back t) Gone_back _ (the_steps.goes_back (store_of s) t (slot_of v t w) (standing s o) (ap (open_at v t) at))
-    (ap (λ (z : View). store_with z (work_at (slice_set s.slots t (Some w')))) now
-    ∙ same_parts _ _ _ _ _ _ _ _ _ _ _ _ refl refl
-    (slots_set v (back_at t w.mark v) (work_at s.slots) _ t (Some w') _ set_here (λ u n. refl) (λ u n. refl)
-    (λ i. Some (record { number = suc (v.counts t); request = r i; place = place_of (p i); mark_place = place_of (m i); mark_count = k i; held = v.held t })))
-    refl refl refl)
-    (length-set s.slots t (Some w') ∙ o.places)
-    (works_set s.engine e' (work_at s.slots) _ t (Some w') set_here name (λ u n. ap (λ (z : View). z.is_open u) now) o.works
-    (record {
-      is_open = record {
-        engine = ap (λ (z : Handle). z.engine) x ∙ (own.is_open.engine ∙ sym name);
-        terminal = ap (λ (z : View). z.is_open w'.tx.terminal) now ∙ (ap (λ (z : Handle). v.is_open z.terminal) x ∙ own.is_open.terminal);
-      };
-      terminal = ap (λ (z : Handle). z.terminal) x ∙ own.terminal;
-      program = ap request_of p ∙ (own.mark_program ∙ sym r);
-      mark_program = ap request_of m ∙ (own.mark_program ∙ sym r);
-    }))
+    replaced s h.orderly (Back t) Gone_back t h.low (Some (record w { program = p })) _ e' (back_at t w.mark v)
+    (the_steps.goes_back (store_of s) t (slot_of v t w) (standing s h.orderly) (ap (open_at v t) h.here))
+    now name (record { counts = λ u n. refl; held = λ u n. refl; is_open = λ u n. refl })
+    (λ i. Some (record { number = suc (v.counts t); request = w.request; place = place_of (same i); mark_place = place_of w.mark_program; mark_count = w.mark; held = v.held t }))
+    (work_still s.engine e' t w p w.mark_program w.mark own (ap (λ (z : View). z.is_open) now) name (ap request_of same ∙ own.mark_program) own.mark_program)
+    ys q
 
--- what is left of a transaction that is gone
-pub gone_works : (s : Stored) → IsOrderly s → (t : ℕ) → t < 65 → (e' : engine.Stored) (v' : View) → view_of e' ≡ v' → e'.name ≡ s.engine.name
-    → v'.is_open ≡ set t false (view_of s.engine).is_open → (u : ℕ) → Works e' u (work_at (slice_set s.slots t None) u)
-gone_works s o t h e' v' b name g =
-    works_set s.engine e' (work_at s.slots) _ t None (place_set s.slots t None None (within s o t h)) name
-    (λ u n. ap (λ (z : View). z.is_open u) b ∙ (ap (λ z. z u) g ∙ set_other t false (view_of s.engine).is_open u n)) o.works
-    (ap (λ (z : View). z.is_open t) b ∙ (ap (λ z. z t) g ∙ set_same t false (view_of s.engine).is_open t refl))
-
-pub rolled_back_here : (s : Stored) → IsOrderly s → (t : ℕ) → t < 65 → (w : Work) (e' : engine.Stored) → slice_get s.slots t ≡ Some (Some w)
-    → view_of e' ≡ rolled_back w.tx.terminal (view_of s.engine) → e'.name ≡ s.engine.name
-    → Moves s (Rollback t) Rolled_back (record { engine = e'; slots = slice_set s.slots t None })
-rolled_back_here s o t h w e' e b name =
+-- a step by which a terminal's transaction is rolled back
+pub dropped_here : {s : Stored} {t : ℕ} {w : Work} → HasOpen s t w → (i : Step system) (a : Answer system) (e' : engine.Stored) (ys : List (Option Work))
+    → Leads system (store_of s) i a (dropped system t (store_of s))
+    → view_of e' ≡ rolled_back w.tx.terminal (view_of s.engine) → e'.name ≡ s.engine.name → ys ≡ slice_set s.slots t None
+    → Moves s i a (record { engine = e'; slots = ys })
+dropped_here {s} {t} {w} h i a e' ys lead b name q =
     let v = view_of s.engine in
-    let at = get_place s.slots t (Some w) None e in
-    let now : view_of e' ≡ rolled_back t v = b ∙ ap (λ (z : ℕ). rolled_back z v) (work_here s o t w at).terminal in
-    closed s _ (Rollback t) Rolled_back _ (the_steps.rolls_back (store_of s) t (slot_of v t w) (standing s o) (ap (open_at v t) at))
-    (ap (λ (z : View). store_with z (work_at (slice_set s.slots t None))) now
-    ∙ same_parts _ _ _ _ _ _ _ _ _ _ _ _ refl refl
-    (slots_set v (rolled_back t v) (work_at s.slots) _ t None None (place_set s.slots t None None (within s o t h)) (λ u n. refl) (λ u n. set_other t _ v.held u n) refl)
-    refl refl refl)
-    (length-set s.slots t None ∙ o.places)
-    (gone_works s o t h e' (rolled_back t v) now name refl)
+    let now : view_of e' ≡ rolled_back t v = b ∙ ap (λ (z : ℕ). rolled_back z v) (own_work h).terminal in
+    replaced s h.orderly i a t h.low None None e' (rolled_back t v) lead now name
+    (record { counts = λ u n. refl; held = λ u n. set_other t _ v.held u n; is_open = λ u n. set_other t false v.is_open u n }) refl
+    (ap (λ (z : View). z.is_open t) now ∙ set_same t false v.is_open t refl)
+    ys q
+
+pub rolled_back_here : {s : Stored} {t : ℕ} {w : Work} → HasOpen s t w → (e' : engine.Stored) (ys : List (Option Work))
+    → view_of e' ≡ rolled_back w.tx.terminal (view_of s.engine) → e'.name ≡ s.engine.name → ys ≡ slice_set s.slots t None
+    → Moves s (Rollback t) Rolled_back (record { engine = e'; slots = ys })
+rolled_back_here {s} {t} {w} h e' ys b name q =
+    dropped_here h (Rollback t) Rolled_back e' ys
+    (the_steps.rolls_back (store_of s) t (slot_of (view_of s.engine) t w) (standing s h.orderly) (ap (open_at (view_of s.engine) t) h.here)) b name q
 
 -- begin
 pub valid : (q : Request) → HasProgram q → IsRequest q
@@ -231,29 +255,22 @@ valid (request.Delivery q) h = absurd h
 valid (request.Deliveries q) h = absurd h
 valid (request.Rename q) h = absurd h
 
-pub begun_here : (s : Stored) → IsOrderly s → (t : ℕ) → 1 ≤ t → t < 65 → (q : Request) → HasProgram q → (w : Work) (e' : engine.Stored)
+pub begun_here : (s : Stored) → IsOrderly s → (t : ℕ) → 1 ≤ t → t ≤ 64 → (q : Request) → HasProgram q → (w : Work) (e' : engine.Stored) (ys : List (Option Work))
     → rejection q (view_of s.engine).rows ≡ None → number_rejection (suc ((view_of s.engine).counts t)) ≡ None
     → (view_of s.engine).is_open t ≡ false → ((view_of s.engine).is_open t ≡ false → (view_of s.engine).held t ≡ (λ _. None))
     → view_of e' ≡ begun t (view_of s.engine) → e'.name ≡ s.engine.name
     → w.tx ≡ record { engine = s.engine.name; terminal = t } → w.request ≡ q → request_of w.program ≡ q → place_of w.program ≡ start_of q → w.mark_program ≡ w.program → w.mark ≡ 0
-    → Moves s (Begin t q) Begun (record { engine = e'; slots = slice_set s.slots t (Some w) })
-begun_here s o t l h q g w e' known counted shut idle b name x r c p m k =
+    → ys ≡ slice_set s.slots t (Some w) → Moves s (Begin t q) Begun (record { engine = e'; slots = ys })
+begun_here s o t l h q g w e' ys known counted shut idle b name x r c p m k ys_is =
     let v = view_of s.engine in
-    let none : work_at s.slots t ≡ None = no_work s.engine t (work_at s.slots t) (o.works t) shut in
-    let set_here = place_set s.slots t (Some w) None (within s o t h) in
+    let low : t < 65 = omega (arith, h) in
     let free : v.held t ≡ (λ _. None) = idle shut in
     let mark : place_of w.mark_program ≡ start_of q = ap place_of m ∙ p in
-    closed s _ (Begin t q) Begun _
+    replaced s o (Begin t q) Begun t low (Some w) (Some (first_slot system (store_of s) t q)) e' (begun t v)
     (the_steps.begins (store_of s) t q (standing s o)
-    (record { terminal = (l, below_limit t h); valid = valid q g; known = known; closed = ap (open_at v t) none; counted = counted }))
-    (ap (λ (z : View). store_with z (work_at (slice_set s.slots t (Some w)))) b
-    ∙ same_parts _ _ _ _ _ _ _ _ _ _ _ _ refl refl
-    (slots_set v (begun t v) (work_at s.slots) _ t (Some w) (Some (first_slot system (store_of s) t q)) set_here (λ u n. refl) (λ u n. refl)
-    (λ i. Some (record { number = suc (v.counts t); request = r i; place = p i; mark_place = mark i; mark_count = k i; held = free i })))
-    refl refl refl)
-    (length-set s.slots t (Some w) ∙ o.places)
-    (works_set s.engine e' (work_at s.slots) _ t (Some w) set_here name
-    (λ u n. ap (λ (z : View). z.is_open u) b ∙ set_other t true v.is_open u n) o.works
+    (record { terminal = (l, below_limit t low); valid = valid q g; known = known; closed = ap (open_at v t) (no_work s.engine t (work_at s.slots t) (o.works t) shut); counted = counted }))
+    b name (record { counts = λ u n. refl; held = λ u n. refl; is_open = λ u n. set_other t true v.is_open u n })
+    (λ i. Some (record { number = suc (v.counts t); request = r i; place = p i; mark_place = mark i; mark_count = k i; held = free i }))
     (record {
       is_open = record {
         engine = ap (λ (z : Handle). z.engine) x ∙ sym name;
@@ -262,4 +279,5 @@ begun_here s o t l h q g w e' known counted shut idle b name x r c p m k =
       terminal = ap (λ (z : Handle). z.terminal) x;
       program = c ∙ sym r;
       mark_program = ap request_of m ∙ (c ∙ sym r);
-    }))
+    })
+    ys ys_is

@@ -1,29 +1,30 @@
-use Rattle.std.proofs.Common.{None, refl, arith}
-use Rattle.oe_theory.specs.Next.{Rollback}
-use Rattle.oe_core.proofs.PlaceFacts.{get_place}
-use Rattle.oe_core.proofs.MoveFacts.{carries, not_there, rolled_back_here, work_here, unwinds}
+use Rattle.std.proofs.Common.{refl}
+use Rattle.oe_theory.specs.Next.{Rollback, Rolled_back}
+use Rattle.oe_core.specs.Core.{Moves}
+use Rattle.oe_core.proofs.MoveFacts.{carries, not_there, taken_here, own_work, rolled_back_here, unwinds}
+use Rattle.oe_core.proofs.cores.Core.rollback.Goals.{After-roll_back}
 use Rattle.oe_core.proofs.cores.Core.rollback.Goals as goal
 
 pub invariant_of-self : goal.invariant_of-self
-invariant_of-self c =
-    rw c.take_work.ensures.after (not_there _ c.self.invariant (Rollback c.args.terminal) c.args.terminal refl c.in_default.ensures.value).orderly
+invariant_of-self c = (not_there _ c.self.invariant (Rollback c.args.terminal) c.args.terminal refl c.in_default.ensures.value _ c.take_work.ensures.after).orderly
 
 pub returns-in_default : goal.returns-in_default
 returns-in_default c =
-    rw (← c.self.view_is, c.take_work.ensures.after) (carries _ _ _ _ (not_there _ c.self.invariant (Rollback c.args.terminal) c.args.terminal refl c.in_default.ensures.value))
+    rw (← c.self.view_is) (carries (not_there _ c.self.invariant (Rollback c.args.terminal) c.args.terminal refl c.in_default.ensures.value _ c.take_work.ensures.after))
 
 pub roll_back-requires-clause-open : goal.roll_back-requires-clause-open
-roll_back-requires-clause-open c = (work_here _ c.self.invariant c.args.terminal c.in-Some.open (get_place c.self.inside.slots.items c.args.terminal _ None c.in-Some.ensures.value)).is_open
+roll_back-requires-clause-open c = (own_work (taken_here c.self.invariant c.take_work.ensures.high c.in-Some.ensures.value)).is_open
 
 pub roll_back-requires-clause-unwinds : goal.roll_back-requires-clause-unwinds
 roll_back-requires-clause-unwinds c = unwinds _ c.self.invariant _
 
+-- the transaction is gone
+rolled_back : (c : After-roll_back) → Moves (record { engine = c.self.inside.engine; slots = c.self.inside.slots.items }) (Rollback c.args.terminal) Rolled_back (record { engine = c.roll_back.new.engine; slots = c.take_work.new.slots.items })
+rolled_back c =
+    rolled_back_here (taken_here c.self.invariant c.take_work.ensures.high c.in-Some.ensures.value) c.roll_back.new.engine _ c.roll_back.ensures.rolled_back c.roll_back.ensures.name c.take_work.ensures.after
+
 pub invariant_of-self-2 : goal.invariant_of-self-2
-invariant_of-self-2 c =
-    rw (c.take_work.ensures.after)
-    (rolled_back_here _ c.self.invariant c.args.terminal (omega (arith, c.take_work.ensures.high)) c.in-Some.open c.roll_back.new.engine c.in-Some.ensures.value c.roll_back.ensures.rolled_back c.roll_back.ensures.name).orderly
+invariant_of-self-2 c = (rolled_back c).orderly
 
 pub returns : goal.returns
-returns c =
-    rw (← c.self.view_is, c.take_work.ensures.after)
-    (carries _ _ _ _ (rolled_back_here _ c.self.invariant c.args.terminal (omega (arith, c.take_work.ensures.high)) c.in-Some.open c.roll_back.new.engine c.in-Some.ensures.value c.roll_back.ensures.rolled_back c.roll_back.ensures.name))
+returns c = rw (← c.self.view_is) (carries (rolled_back c))
