@@ -2,14 +2,14 @@
 ghost use Rattle.std.specs.Prelude.{IfSome};
 ghost use Rattle.oe_core.specs.Steps.{IsStep};
 
-use crate::openings::district;
+use crate::openings::{district, money};
 use oe_core::Core;
 use oe_requests::{Column, CustomerChoice, PaymentRequest, Refusal, Reply, Request};
 use oe_steps::{Answer, Condition, Step, Verdict};
 use oe_values::{CustomerNumber, Moment, PaymentAmount, Stamp, Terminal};
 use std::process::Abort;
 
-/// An act of a terminal, or an audit of the moment 0.
+/// An act of a terminal, an audit of the moment 0, or a look at the tables.
 pub(crate) enum Act {
     /// The terminal begins a payment of 250.00 in district 1 of that warehouse, by that customer.
     Begin(u32, u32, u32),
@@ -18,6 +18,8 @@ pub(crate) enum Act {
     Back(u32),
     Rollback(u32),
     Audit(Condition),
+    /// At that warehouse, its district 1, and that customer of it.
+    Look(u32, u32),
 }
 
 /// What was answered.
@@ -31,6 +33,8 @@ pub(crate) enum Said {
     Back,
     RolledBack,
     Holds,
+    /// W_YTD, D_YTD and C_BALANCE.
+    Money(u64, u64, i64),
     /// By that terminal.
     Busy(u32),
     /// So many are open.
@@ -70,6 +74,7 @@ pub(crate) fn step_of(act: &Act) -> Option<Step>
         Act::Back(terminal) => Some(Step::Back(Terminal::new(*terminal)?)),
         Act::Rollback(terminal) => Some(Step::Rollback(Terminal::new(*terminal)?)),
         Act::Audit(condition) => Some(Step::Audit(*condition, Moment::new(0)?)),
+        Act::Look(_, _) => None,
     }
 }
 
@@ -119,11 +124,19 @@ pub(crate) fn answer(core: &mut Core, step: &Step) -> Answer
     answer
 }
 
-/// Carries out the acts one after another, each of which is to be answered so.
-pub(crate) fn play(rt: &impl Abort, core: &mut Core, acts: &[(Act, Said)]) -> Option<()> {
-    for (act, wanted) in acts {
-        let step = step_of(act)?;
-        assert_eq!(rt; in_short(&answer(core, &step)), *wanted);
+/// What an act is answered.
+fn told(core: &mut Core, act: &Act) -> Option<Said> {
+    if let Act::Look(warehouse, customer) = act {
+        let (warehouse, district, customer) = money(core, *warehouse, *customer)?;
+        return Some(Said::Money(warehouse, district, customer));
     }
-    Some(())
+    let step = step_of(act)?;
+    Some(in_short(&answer(core, &step)))
+}
+
+/// Carries out the acts one after another, each of which is to be answered so.
+pub(crate) fn play(rt: &impl Abort, core: &mut Core, acts: &[(Act, Said)]) {
+    for (act, wanted) in acts {
+        assert_eq!(rt; told(core, act), Some(*wanted));
+    }
 }

@@ -1,5 +1,4 @@
 //! Runs of steps.
-ghost use Rattle.std.specs.Prelude.{IfSome};
 ghost use Rattle.std.specs.List.{All};
 ghost use Rattle.oe_core.specs.Steps.{IsStep};
 
@@ -8,8 +7,8 @@ use crate::openings::open;
 use oe_core::{Core, run};
 use oe_steps::{Answer, Step};
 use oe_table::tables::NoMemory;
+use oe_values::Terminal;
 use std::process::Abort;
-use std::test::Fail;
 
 // The answers of a run; those of its second try, where memory was refused for them.
 fn answers(core: &mut Core, steps: &[Step]) -> Option<Vec<Answer>>
@@ -23,28 +22,28 @@ fn answers(core: &mut Core, steps: &[Step]) -> Option<Vec<Answer>>
 
 /// A run answers as its steps do one after another; where memory was refused for its answers, nothing was carried out.
 fn run_a_list(rt: &impl Abort, core: &mut Core) -> Option<()> {
+    let terminal = Terminal::new(1)?;
+    let begin = step_of(&Act::Begin(1, 1, 1))?;
     let steps = [
-        step_of(&Act::Begin(1, 1, 1))?,
-        step_of(&Act::Save(1))?,
-        step_of(&Act::Rollback(1))?,
-        step_of(&Act::Back(1))?,
+        begin,
+        Step::Save(terminal),
+        Step::Rollback(terminal),
+        Step::Back(terminal),
     ];
     let answers = answers(core, &steps)?;
-    assert_eq!(rt; answers.len(), 4);
-    if answers[0] != Answer::Begun {
+    assert!(rt; answers.len() == 4);
+    if in_short(&answers[0]) != Said::Begun {
         return Some(());
     }
-    assert_eq!(rt; answers[1], Answer::Saved);
-    assert_eq!(rt; answers[2], Answer::RolledBack);
-    assert_eq!(rt; in_short(&answers[3]), Said::NotOpen);
+    assert!(rt; in_short(&answers[1]) == Said::Saved);
+    assert!(rt; in_short(&answers[2]) == Said::RolledBack);
+    assert!(rt; in_short(&answers[3]) == Said::NotOpen);
     Some(())
 }
 
 #[test]
-fn runs_answer_as_steps(rt: HostRuntime) -> Result<(), Fail> {
-    let mut core = open(rt.alloc()).ok_or("open")?;
-    let outcome = run_a_list(&rt, &mut core);
+fn runs_answer_as_steps(rt: HostRuntime) {
+    let mut core = open(&rt, rt.alloc());
+    run_a_list(&rt, &mut core).expect(&rt, "a run");
     drop(core.close());
-    outcome.ok_or("step")?;
-    Ok(())
 }
