@@ -6,11 +6,13 @@ ghost use Rattle.oe_payment.specs.Program.{IsByNumber};
 
 use oe_engine::{Engine, Tx};
 use oe_keys::{DistrictKey, WarehouseKey};
-use oe_requests::{CustomerChoice, PaymentRequest, Reply, Request};
+use oe_requests::{CustomerChoice, DistrictDelivery, PaymentRequest, Reply, Request};
 use oe_rows::Scale;
-use oe_store::{Tables, populate};
+use oe_store::populate;
+use oe_table::tables::NoMemory;
 use oe_values::{
-    CustomerNumber, DistrictNumber, ItemNumber, PaymentAmount, Stamp, Terminal, WarehouseNumber,
+    CustomerNumber, DistrictNumber, ItemNumber, Moment, PaymentAmount, Stamp, Terminal,
+    WarehouseNumber,
 };
 use std::alloc::Global;
 use std::process::Abort;
@@ -36,19 +38,16 @@ fn scale() -> Option<Scale> {
     })
 }
 
-/// The tables of one warehouse; made the second time, where memory was refused.
-pub(crate) fn tables(alloc: Global) -> Option<Tables> {
-    match populate(alloc, scale()?) {
-        Ok(tables) => Some(tables),
-        Err(_) => populate(alloc, scale()?).ok(),
-    }
+fn opened(rt: &impl Abort, alloc: Global, name: u32) -> Result<Engine, NoMemory> {
+    let scale = scale().expect(rt, "a scale");
+    Engine::open(alloc, populate(alloc, scale)?, 2, name)
 }
 
-/// An engine of that name on them; opened the second time, where memory was refused.
-pub(crate) fn engine(alloc: Global, name: u32) -> Option<Engine> {
-    match Engine::open(alloc, tables(alloc)?, 2, name) {
-        Ok(engine) => Some(engine),
-        Err(_) => Engine::open(alloc, tables(alloc)?, 2, name).ok(),
+/// An engine of that name on one warehouse; opened the second time, where memory was refused.
+pub(crate) fn engine(rt: &impl Abort, alloc: Global, name: u32) -> Engine {
+    match opened(rt, alloc, name) {
+        Ok(engine) => engine,
+        Err(_) => opened(rt, alloc, name).expect(rt, "an engine"),
     }
 }
 
@@ -66,41 +65,39 @@ pub(crate) fn payment(customer: u32) -> Option<PaymentRequest>
     })
 }
 
-/// A terminal's transaction; begun the second time, where memory was refused, which has opened none.
+/// A terminal's transaction; begun the second time, where memory was refused.
 pub(crate) fn begin(rt: &impl Abort, engine: &mut Engine, terminal: Terminal) -> Tx
     ensures { CanUnwind ((view_of engine.new).undo.active result.terminal) (view_of engine.new).rows }
 {
-    let open = engine.open_count();
     if let Ok(tx) = engine.begin(terminal) {
         return tx;
     }
-    assert_eq!(rt; engine.open_count(), open);
     match engine.begin(terminal) {
         Ok(tx) => tx,
-        Err(refusal) => panic!(rt; "{refusal}"),
+        Err(_) => panic!(rt; "not begun"),
     }
 }
 
-/// Commits a transaction, at the newest moment.
-pub(crate) fn commit(
+/// Asks for a transaction's commit: its moment, or the transaction that is handed back.
+pub(crate) fn try_commit(
     rt: &impl Abort,
     engine: &mut Engine,
     tx: Tx,
-    request: &PaymentRequest,
     reply: Reply,
-) {
-    match engine.commit(tx, Request::Payment(request.copied()), reply) {
-        Ok(moment) => assert_eq!(rt; moment, engine.newest()),
+) -> Result<Moment, Tx> {
+    let request = payment(1).expect(rt, "a payment");
+    engine.commit(tx, Request::Payment(request), reply)
+}
+
+/// Commits a transaction.
+pub(crate) fn commit(rt: &impl Abort, engine: &mut Engine, tx: Tx, reply: Reply) {
+    match try_commit(rt, engine, tx, reply) {
+        Ok(_) => {}
         Err(_tx) => panic!(rt; "not open"),
     }
 }
 
-/// Rolls a transaction back.
-pub(crate) fn roll_back(rt: &impl Abort, engine: &mut Engine, tx: Tx)
-    requires { CanUnwind ((view_of engine.old).undo.active tx.terminal) (view_of engine.old).rows }
-{
-    match engine.rollback(tx) {
-        Ok(()) => {}
-        Err(_tx) => panic!(rt; "not open"),
-    }
+/// Ends a transaction of whose effects nothing is asked.
+pub(crate) fn end(rt: &impl Abort, engine: &mut Engine, tx: Tx) {
+    commit(rt, engine, tx, Reply::Delivery(DistrictDelivery::Skipped));
 }

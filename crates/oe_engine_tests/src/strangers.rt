@@ -1,65 +1,50 @@
 //! A transaction of another engine.
-use crate::fixtures::{begin, commit, engine, payment, warehouse};
+use crate::fixtures::{begin, end, engine, try_commit, warehouse};
 use oe_engine::{Engine, Lock, Mark, Tx};
-use oe_keys::{Mode, Name};
+use oe_keys::{Mode, Name, WarehouseKey};
 use oe_records::Change;
-use oe_requests::{DistrictDelivery, PaymentRequest, Refusal, Reply, Request};
+use oe_requests::{DistrictDelivery, Refusal, Reply};
 use oe_values::{Terminal, YearToDate};
 use std::process::Abort;
-use std::test::Fail;
 
-fn warehouse_ytd(engine: &Engine) -> Option<u64> {
-    Some(engine.tables().warehouse(warehouse()?)?.ytd.cents())
+fn ytd(engine: &Engine, key: &WarehouseKey) -> Option<u64> {
+    Some(engine.tables().warehouse(*key)?.ytd.cents())
 }
 
 /// W_YTD becomes 1.00.
-fn change(engine: &Engine) -> Option<Change> {
-    let key = warehouse()?;
-    let mut row = engine.tables().warehouse(key)?.copied();
+fn change(engine: &Engine, key: &WarehouseKey) -> Option<Change> {
+    let mut row = engine.tables().warehouse(*key)?.copied();
     row.ytd = YearToDate::new(100)?;
-    Some(Change::UpdateWarehouse(key, row))
+    Some(Change::UpdateWarehouse(*key, row))
 }
 
-/// Makes a change; the second time, where memory was refused, which has changed nothing.
+/// Makes a change; the second time, where memory was refused.
 fn make(rt: &impl Abort, engine: &mut Engine, tx: &Tx, change: &Change) {
-    let ytd = warehouse_ytd(engine);
-    if let Ok(()) = engine.change(tx, change.copied()) {
+    if engine.change(tx, change.copied()).is_ok() {
         return;
     }
-    assert_eq!(rt; engine.savepoint(tx), Mark::start());
-    assert_eq!(rt; warehouse_ytd(engine), ytd);
-    if let Err(refusal) = engine.change(tx, change.copied()) {
-        panic!(rt; "{refusal}");
-    }
+    let is_made = engine.change(tx, change.copied()).is_ok();
+    assert!(rt; is_made);
 }
 
 /// Nothing is done for a transaction of another engine.
-fn refuse(rt: &impl Abort, engine: &mut Engine, tx: &Tx, name: &Name, change: &Change) {
+fn refuse(rt: &impl Abort, engine: &mut Engine, tx: &Tx, key: &WarehouseKey, change: &Change) {
+    let name = Name::Warehouse(*key);
     let lock = Lock {
-        name: *name,
+        name,
         mode: Mode::Shared,
     };
-    assert!(rt; !engine.is_open(tx));
-    refused(rt, engine.row(tx, None, None));
-    refused(rt, engine.row(tx, Some(lock), Some(change.copied())));
-    refused(rt, engine.lock(tx, *name, Mode::Shared));
-    refused(rt, engine.change(tx, change.copied()));
-}
-
-fn refused(rt: &impl Abort, answer: Result<(), Refusal>) {
-    assert_eq!(rt; answer, Err(Refusal::NotOpen));
-}
-
-/// It holds nothing, and stands at its beginning.
-fn overlook(rt: &impl Abort, engine: &Engine, tx: &Tx, name: &Name) {
-    assert_eq!(rt; engine.held(tx, name), None);
-    assert_eq!(rt; engine.savepoint(tx), Mark::start());
+    let not_open = Err(Refusal::NotOpen);
+    assert!(rt; engine.row(tx, Some(lock), Some(change.copied())) == not_open);
+    assert!(rt; engine.lock(tx, name, Mode::Shared) == not_open);
+    assert!(rt; engine.change(tx, change.copied()) == not_open);
+    assert!(rt; engine.held(tx, &name).is_none());
+    assert!(rt; engine.savepoint(tx) == Mark::start());
 }
 
 /// A commit hands it back.
-fn by_commit(rt: &impl Abort, engine: &mut Engine, tx: Tx, request: &PaymentRequest) -> Tx {
-    let reply = Reply::Delivery(DistrictDelivery::Skipped);
-    match engine.commit(tx, Request::Payment(request.copied()), reply) {
+fn by_commit(rt: &impl Abort, engine: &mut Engine, tx: Tx, reply: Reply) -> Tx {
+    match try_commit(rt, engine, tx, reply) {
         Ok(_) => panic!(rt; "committed"),
         Err(tx) => tx,
     }
@@ -76,64 +61,35 @@ fn by_rollback(rt: &impl Abort, engine: &mut Engine, tx: Tx) -> Tx {
     }
 }
 
-/// A terminal of two engines, and what it is asked for.
-#[derive(Drop)]
-struct Errand {
-    terminal: Terminal,
-    name: Name,
-    change: Change,
-    request: PaymentRequest,
-}
-
-fn errand_at(engine: &Engine) -> Option<Errand> {
-    let change = change(engine)?;
-    Some(Errand {
-        terminal: Terminal::new(1)?,
-        name: Name::Warehouse(warehouse()?),
-        change,
-        request: payment(1)?,
-    })
-}
-
-/// The own transaction makes a change, and that of the other engine none.
-fn visit(rt: &impl Abort, home: &mut Engine, own: &Tx, foreign: &Tx, errand: &Errand) {
-    refuse(rt, home, foreign, &errand.name, &errand.change);
-    assert_eq!(rt; warehouse_ytd(home), Some(100_000));
-    overlook(rt, home, own, &errand.name);
-    make(rt, home, own, &errand.change);
-    overlook(rt, home, foreign, &errand.name);
-}
-
-/// The own transaction goes on as if the other had never come.
-fn go_on(rt: &impl Abort, home: &mut Engine, own: Tx, errand: &Errand) {
-    assert_eq!(rt; home.open_count(), 1);
-    assert_eq!(rt; home.held(&own, &errand.name), Some(Mode::Exclusive));
-    assert_eq!(rt; warehouse_ytd(home), Some(100));
-    spend(rt, home, own, errand);
-}
-
-fn spend(rt: &impl Abort, engine: &mut Engine, tx: Tx, errand: &Errand) {
-    let reply = Reply::Delivery(DistrictDelivery::Skipped);
-    commit(rt, engine, tx, &errand.request, reply);
+/// The own transaction makes a change, as if the other had never come.
+fn go_on(rt: &impl Abort, home: &mut Engine, own: Tx, key: &WarehouseKey, change: &Change) {
+    assert!(rt; ytd(home, key) == Some(100_000));
+    make(rt, home, &own, change);
+    assert!(rt; ytd(home, key) == Some(100));
+    assert!(rt; home.held(&own, &Name::Warehouse(*key)) == Some(Mode::Exclusive));
+    assert!(rt; home.open_count() == 1);
+    end(rt, home, own);
 }
 
 /// A transaction of one engine comes to the other.
-fn stray(rt: &impl Abort, home: &mut Engine, abroad: &mut Engine, errand: &Errand) {
-    let own = begin(rt, home, errand.terminal);
-    let foreign = begin(rt, abroad, errand.terminal);
-    visit(rt, home, &own, &foreign, errand);
-    let foreign = by_commit(rt, home, foreign, &errand.request);
+fn stray(rt: &impl Abort, home: &mut Engine, abroad: &mut Engine, terminal: Terminal) {
+    let key = &warehouse().expect(rt, "a warehouse");
+    let change = &change(home, key).expect(rt, "a change");
+    let own = begin(rt, home, terminal);
+    let foreign = begin(rt, abroad, terminal);
+    refuse(rt, home, &foreign, key, change);
+    let skipped = Reply::Delivery(DistrictDelivery::Skipped);
+    let foreign = by_commit(rt, home, foreign, skipped);
     let foreign = by_rollback(rt, home, foreign);
-    go_on(rt, home, own, errand);
-    assert_eq!(rt; warehouse_ytd(abroad), Some(100_000));
-    spend(rt, abroad, foreign, errand);
+    go_on(rt, home, own, key, change);
+    assert!(rt; ytd(abroad, key) == Some(100_000));
+    end(rt, abroad, foreign);
 }
 
 #[test]
-fn a_foreign_transaction_is_handed_back(rt: HostRuntime) -> Result<(), Fail> {
-    let mut home = engine(rt.alloc(), 1).ok_or("engine")?;
-    let errand = errand_at(&home).ok_or("errand")?;
-    let mut abroad = engine(rt.alloc(), 2).ok_or("engine")?;
-    stray(&rt, &mut home, &mut abroad, &errand);
-    Ok(())
+fn a_foreign_transaction_is_handed_back(rt: HostRuntime) {
+    let terminal = Terminal::new(1).expect(&rt, "a terminal");
+    let mut home = engine(&rt, rt.alloc(), 1);
+    let mut abroad = engine(&rt, rt.alloc(), 2);
+    stray(&rt, &mut home, &mut abroad, terminal);
 }
