@@ -127,7 +127,7 @@ pub(crate) fn answer(core: &mut Core, step: &Step) -> Answer
 /// What an act is answered.
 fn told(core: &mut Core, act: &Act) -> Option<Said> {
     if let Act::Look(warehouse, customer) = act {
-        let (warehouse, district, customer) = money(core, *warehouse, *customer)?;
+        let (warehouse, district, customer) = money(core.tables(), *warehouse, *customer)?;
         return Some(Said::Money(warehouse, district, customer));
     }
     let step = step_of(act)?;

@@ -65,8 +65,7 @@ pub(crate) fn open(rt: &impl Abort, alloc: Global) -> Core {
 }
 
 /// W_YTD, D_YTD and the customer's C_BALANCE.
-pub(crate) fn money(core: &Core, warehouse: u32, customer: u32) -> Option<(u64, u64, i64)> {
-    let tables = core.tables();
+pub(crate) fn money(tables: &Tables, warehouse: u32, customer: u32) -> Option<(u64, u64, i64)> {
     let district = &district(warehouse)?;
     let customer = &district.customer(CustomerNumber::new(customer)?);
     Some((
