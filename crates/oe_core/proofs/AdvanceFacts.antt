@@ -3,7 +3,7 @@ use Rattle.std.proofs.Common.{◌≡◌, ℕ, suc, inl, inr, true, false, List, 
 use Rattle.std.specs.Prelude.{◌⊎◌}
 use Rattle.oe_theory.specs.Machine.{Mode, Ask, Stop, Plain, Take, Fail, Go, Tx}
 use Rattle.oe_theory.specs.World.{total, go_together}
-use Rattle.oe_theory.specs.Next.{Advance, Answer, More, Committed, Aborted, IsNew, GivesWay, held_after}
+use Rattle.oe_theory.specs.Next.{Advance, More, Committed, Aborted, IsNew, GivesWay, held_after}
 use Rattle.oe_theory.specs.Store.{Slot, Store, tx_in, world_of, opened_by, slot_after, dropped, IsGrantedIn, IsInTheWayIn, MayLackMemoryIn, TakesNoRoom}
 use Rattle.oe_theory.specs.StoreTheorems.{Leads}
 use Rattle.oe_theory.proofs.Sets.{set_same, set_other, set_idle}
