@@ -3,13 +3,12 @@ use crate::fixtures::{change, customer, district, small, stamp};
 use oe_audit::condition;
 use oe_records::Change;
 use oe_reference::deliveries::{Delivered, DistrictEffect, delivery};
-use oe_requests::{DeliveredOrder, DeliveryRequest};
+use oe_requests::DeliveryRequest;
 use oe_steps::{Condition, Verdict};
 use oe_store::Tables;
-use oe_values::{Carrier, Cents, CustomerNumber, OrderNumber};
+use oe_values::Carrier;
 use std::alloc::{AllocError, Global};
 use std::process::Abort;
-use std::test::Fail;
 
 fn request() -> Option<DeliveryRequest> {
     Some(DeliveryRequest {
@@ -36,33 +35,6 @@ fn effect(alloc: Global, tables: &Tables) -> Option<Option<DistrictEffect>> {
     }
 }
 
-/// What a delivery answers of an order with the number of its customer, of which the sum is in cents.
-fn told(number: u32, sum: u64) -> Option<DeliveredOrder> {
-    Some(DeliveredOrder {
-        order: OrderNumber::new(number)?,
-        customer: CustomerNumber::new(number)?,
-        sum: Cents::new(sum),
-    })
-}
-
-/// What the delivery answers, and C_BALANCE after it in cents; nothing, where it is skipped.
-fn delivered(alloc: Global, tables: &Tables) -> Option<(DeliveredOrder, i64)> {
-    match effect(alloc, tables)?? {
-        DistrictEffect::Delivered(after) => {
-            Some((after.reply, after.customer.account.balance.cents()))
-        }
-        DistrictEffect::Skipped => None,
-    }
-}
-
-#[test]
-fn oldest_order_is_delivered(rt: HostRuntime) -> Result<(), Fail> {
-    let expected = (told(8, 12_922).ok_or("reply")?, 11_922);
-    let tables = small(rt.alloc(), 10).ok_or("tables")?;
-    assert_eq!(rt; delivered(rt.alloc(), &tables), Some(expected));
-    Ok(())
-}
-
 /// Puts the rows after a delivery into the tables.
 fn put(tables: &mut Tables, after: &Delivered) -> Option<()> {
     let key = &district()?.order(after.reply.order);
@@ -79,30 +51,42 @@ fn put(tables: &mut Tables, after: &Delivered) -> Option<()> {
     Some(())
 }
 
-/// Delivers, and answers of what was delivered; of nothing, where it was skipped.
-fn deliver(alloc: Global, tables: &mut Tables) -> Option<Option<DeliveredOrder>> {
+/// O_ID, C_ID and the sum of a delivered order, and C_BALANCE after it. Sums are in cents.
+fn figures(after: &Delivered) -> ([u64; 3], i64) {
+    let order = u64::from(after.reply.order.get());
+    let customer = u64::from(after.reply.customer.get());
+    let balance = after.customer.account.balance.cents();
+    ([order, customer, after.reply.sum.cents()], balance)
+}
+
+/// Delivers, and answers the figures of what was delivered; of nothing, where it was skipped.
+fn deliver(alloc: Global, tables: &mut Tables) -> Option<Option<([u64; 3], i64)>> {
     match effect(alloc, tables)?? {
         DistrictEffect::Delivered(after) => {
             put(tables, &after)?;
-            Some(Some(after.reply))
+            Some(Some(figures(&after)))
         }
         DistrictEffect::Skipped => Some(None),
     }
 }
 
-/// Conditions 2 and 3 hold.
-fn assert_conditions(rt: &impl Abort, tables: &Tables) {
-    assert_eq!(rt; condition(Condition::Second, tables), Verdict::Holds);
-    assert_eq!(rt; condition(Condition::Third, tables), Verdict::Holds);
+/// The three orders that wait are delivered, the oldest first; then none, and conditions 2 and 3 hold.
+fn assert_deliveries(rt: &impl Abort, alloc: Global, tables: &mut Tables) {
+    for (number, sum, balance) in [
+        (8, 12_922, 11_922),
+        (9, 15_491, 14_491),
+        (10, 18_285, 17_285),
+    ] {
+        let figures = ([number, number, sum], balance);
+        assert_eq!(rt; deliver(alloc, tables), Some(Some(figures)));
+    }
+    assert_eq!(rt; deliver(alloc, tables), Some(None));
+    assert!(rt; condition(Condition::Second, tables) == Verdict::Holds);
+    assert!(rt; condition(Condition::Third, tables) == Verdict::Holds);
 }
 
 #[test]
-fn each_order_is_delivered_once(rt: HostRuntime) -> Result<(), Fail> {
-    let mut tables = small(rt.alloc(), 10).ok_or("tables")?;
-    for (number, sum) in [(8, 12_922), (9, 15_491), (10, 18_285)] {
-        assert_eq!(rt; deliver(rt.alloc(), &mut tables), Some(told(number, sum)));
-    }
-    assert_eq!(rt; deliver(rt.alloc(), &mut tables), Some(None));
-    assert_conditions(&rt, &tables);
-    Ok(())
+fn each_order_is_delivered_once(rt: HostRuntime) {
+    let mut tables = small(rt.alloc(), 10).expect(&rt, "tables");
+    assert_deliveries(&rt, rt.alloc(), &mut tables);
 }

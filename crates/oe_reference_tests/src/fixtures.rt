@@ -14,9 +14,10 @@ pub(crate) fn small(alloc: Global, customers: u32) -> Option<Tables> {
         customers: CustomerNumber::new(customers)?,
         items: ItemNumber::new(20)?,
     };
-    populate(alloc, scale)
-        .or_else(|_| populate(alloc, scale))
-        .ok()
+    match populate(alloc, scale) {
+        Ok(tables) => Some(tables),
+        Err(_) => populate(alloc, scale).ok(),
+    }
 }
 
 /// District 1 of warehouse 1.

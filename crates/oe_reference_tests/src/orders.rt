@@ -2,20 +2,18 @@
 use crate::fixtures::{change, district, small, stamp, stock};
 use oe_records::Change;
 use oe_reference::orders::{Ordered, new_order, stock_after_lines};
-use oe_requests::{
-    Brand, LineReplies, LineReply, NewOrderReply, NewOrderRequest, RequestLine, RequestLines,
-};
+use oe_requests::{Brand, LineReply, NewOrderReply, NewOrderRequest, RequestLine, RequestLines};
 use oe_rows::Credit;
 use oe_store::Tables;
-use oe_values::{
-    Cents, Count, CustomerNumber, LineAmount, OrderNumber, Quantity, RequestedItem, Text,
-    WarehouseNumber,
-};
+use oe_values::{CustomerNumber, Quantity, RequestedItem, WarehouseNumber};
 use std::alloc::{AllocError, Global};
-use std::test::Fail;
+use std::process::Abort;
 
 /// The items of an order, each with its quantity.
 type Items = [(u32, u32); 5];
+
+/// O_ID and the total; S_QUANTITY and OL_AMOUNT of each line. Sums are in cents.
+type Figures = ([u64; 2], [[u64; 2]; 5]);
 
 /// One piece of each of items 1 to 5.
 const FIRST_FIVE: Items = [(1, 1), (2, 1), (3, 1), (4, 1), (5, 1)];
@@ -65,73 +63,39 @@ fn ordered(alloc: Global, tables: &Tables, items: &Items) -> Option<Option<Order
     }
 }
 
-fn line_reply(quantity: u32, amount: u64) -> Option<LineReply> {
-    Some(LineReply {
-        brand: Brand::Generic,
-        quantity: Count::new(quantity)?,
-        amount: LineAmount::new(amount)?,
-    })
+fn line_figures(line: &LineReply) -> [u64; 2] {
+    [u64::from(line.quantity.get()), line.amount.cents()]
 }
 
-/// The replies to lines, each with S_QUANTITY and OL_AMOUNT.
-fn line_replies(lines: &[(u32, u64); 5]) -> Option<LineReplies> {
-    let &[first, second, third, fourth, fifth] = lines;
-    LineReplies::read(&[
-        line_reply(first.0, first.1)?,
-        line_reply(second.0, second.1)?,
-        line_reply(third.0, third.1)?,
-        line_reply(fourth.0, fourth.1)?,
-        line_reply(fifth.0, fifth.1)?,
-    ])
+/// The figures of a reply to customer 1 whose lines are all generic.
+fn figures(reply: &NewOrderReply) -> Option<Figures> {
+    let lines = reply.lines.as_slice();
+    let is_first = reply.last.as_str() == "BARBARBAR" && reply.credit == Credit::Good;
+    let are_generic = lines.iter().all(|line| line.brand == Brand::Generic);
+    let [first, second, third, fourth, fifth] = lines else {
+        return None;
+    };
+    if !is_first || !are_generic {
+        return None;
+    }
+    Some((
+        [u64::from(reply.order.get()), reply.total.cents()],
+        [
+            line_figures(first),
+            line_figures(second),
+            line_figures(third),
+            line_figures(fourth),
+            line_figures(fifth),
+        ],
+    ))
 }
 
-/// What order 11 answers.
-fn reply(total: u64, lines: &[(u32, u64); 5]) -> Option<NewOrderReply> {
-    Some(NewOrderReply {
-        order: OrderNumber::new(11)?,
-        last: Text::read("BARBARBAR")?,
-        credit: Credit::Good,
-        total: Cents::new(total),
-        lines: line_replies(lines)?,
-    })
-}
-
-/// What an order answers, computed from tables.
-fn replied_from(alloc: Global, tables: &Tables, items: &Items) -> Option<NewOrderReply> {
-    let effect = ordered(alloc, tables, items)??;
-    Some(effect.reply.copied())
-}
-
-/// The same, computed from the population; nothing where a reply is no order's.
-fn replied(alloc: Global, items: &Items) -> Option<NewOrderReply> {
-    let tables = small(alloc, 10)?;
-    replied_from(alloc, &tables, items)
-}
-
-#[test]
-fn orders_are_answered(rt: HostRuntime) -> Result<(), Fail> {
-    let amounts = [(23, 137), (36, 174), (49, 211), (62, 248), (75, 285)];
-    let expected = reply(1_070, &amounts).ok_or("reply")?;
-    assert_eq!(rt; replied(rt.alloc(), &FIRST_FIVE), Some(expected));
-    Ok(())
-}
-
-#[test]
-fn an_item_named_twice_is_supplied_twice(rt: HostRuntime) -> Result<(), Fail> {
-    let items = [(1, 10), (1, 5), (2, 1), (3, 1), (4, 1)];
-    let amounts = [(14, 1_370), (100, 685), (36, 174), (49, 211), (62, 248)];
-    let expected = reply(2_726, &amounts).ok_or("reply")?;
-    assert_eq!(rt; replied(rt.alloc(), &items), Some(expected));
-    Ok(())
-}
-
-#[test]
-fn ten_pieces_may_be_left(rt: HostRuntime) -> Result<(), Fail> {
-    let items = [(1, 10), (1, 4), (2, 1), (3, 1), (4, 1)];
-    let amounts = [(14, 1_370), (10, 548), (36, 174), (49, 211), (62, 248)];
-    let expected = reply(2_587, &amounts).ok_or("reply")?;
-    assert_eq!(rt; replied(rt.alloc(), &items), Some(expected));
-    Ok(())
+/// The figures of what an order answers; none where it has no effect.
+fn told(alloc: Global, tables: &Tables, items: &Items) -> Option<Option<Figures>> {
+    match ordered(alloc, tables, items)? {
+        Some(effect) => Some(figures(&effect.reply)),
+        None => Some(None),
+    }
 }
 
 /// S_QUANTITY of item 1 after lines.
@@ -154,31 +118,44 @@ fn quantities(tables: &Tables) -> Option<[u32; 4]> {
     ])
 }
 
-#[test]
-fn stock_is_refilled(rt: HostRuntime) -> Result<(), Fail> {
-    let tables = small(rt.alloc(), 10).ok_or("tables")?;
-    assert_eq!(rt; quantities(&tables), Some([24, 14, 100, 100]));
-    Ok(())
-}
-
 /// D_NEXT_O_ID.
 fn next_order(tables: &Tables) -> Option<u32> {
     Some(tables.district(district()?)?.next_order.get())
 }
 
-/// Whether an order with an item that no ITEM row has is without effect.
-fn is_without_effect(alloc: Global, tables: &Tables) -> Option<bool> {
+/// An order with an item that no ITEM row has is without effect, and takes no order's number.
+fn assert_unused(rt: &impl Abort, alloc: Global, tables: &Tables) {
     let unused = [(1, 1), (2, 1), (3, 1), (4, 1), (21, 1)];
-    Some(ordered(alloc, tables, &unused)?.is_none())
+    assert_eq!(rt; told(alloc, tables, &unused), Some(None));
+    assert_eq!(rt; next_order(tables), Some(11));
+    assert_eq!(rt; quantities(tables), Some([24, 14, 100, 100]));
+}
+
+/// Orders of five items, of one item twice, whose stock is refilled, and of ten pieces that may be left.
+fn assert_orders(rt: &impl Abort, alloc: Global, tables: &Tables) {
+    for (first, second, total, lines) in [
+        ((1, 1), (5, 1), 1_070, [[23, 137], [75, 285]]),
+        ((1, 10), (1, 5), 2_726, [[14, 1_370], [100, 685]]),
+        ((1, 10), (1, 4), 2_587, [[14, 1_370], [10, 548]]),
+    ] {
+        let items = [first, second, (2, 1), (3, 1), (4, 1)];
+        let lines = [lines[0], lines[1], [36, 174], [49, 211], [62, 248]];
+        assert_eq!(rt;
+            told(alloc, tables, &items),
+            Some(Some(([11, total], lines)))
+        );
+    }
+}
+
+fn assert_small(rt: &impl Abort, alloc: Global, tables: &Tables) {
+    assert_unused(rt, alloc, tables);
+    assert_orders(rt, alloc, tables);
 }
 
 #[test]
-fn an_unused_item_takes_no_order_number(rt: HostRuntime) -> Result<(), Fail> {
-    let tables = small(rt.alloc(), 10).ok_or("tables")?;
-    assert_eq!(rt; is_without_effect(rt.alloc(), &tables), Some(true));
-    assert_eq!(rt; next_order(&tables), Some(11));
-    assert_eq!(rt; later_order(rt.alloc(), &tables), Some(11));
-    Ok(())
+fn orders_are_answered(rt: HostRuntime) {
+    let tables = small(rt.alloc(), 10).expect(&rt, "tables");
+    assert_small(&rt, rt.alloc(), &tables);
 }
 
 /// Puts the stock that a line leaves into the tables.
@@ -219,7 +196,7 @@ pub(crate) fn order(alloc: Global, tables: &mut Tables) -> Option<()> {
 }
 
 /// The number of the next order of items 1 to 5, which is not put into the tables.
-pub(crate) fn later_order(alloc: Global, tables: &Tables) -> Option<u32> {
-    let effect = ordered(alloc, tables, &FIRST_FIVE)??;
-    Some(effect.reply.order.get())
+pub(crate) fn later_order(alloc: Global, tables: &Tables) -> Option<u64> {
+    let figures = told(alloc, tables, &FIRST_FIVE)??;
+    Some(figures.0[0])
 }

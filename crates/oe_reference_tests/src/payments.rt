@@ -3,162 +3,104 @@ use crate::fixtures::{change, customer, customer_row, district, small, stamp};
 use oe_formulas::payments::customer_after_payment;
 use oe_records::Change;
 use oe_reference::payments::{Paid, payment};
-use oe_requests::{Column, CustomerChoice, PaymentReply, PaymentRequest};
+use oe_requests::{Column, CustomerChoice, PaymentRequest};
 use oe_rows::Credit;
 use oe_store::Tables;
-use oe_values::{
-    Balance, Count, CustomerNumber, LastName, PaymentAmount, Terminal, Text, TransactionNumber,
-};
+use oe_values::{Count, CustomerNumber, LastName, PaymentAmount, Terminal, TransactionNumber};
 use std::alloc::{AllocError, Global};
 use std::process::Abort;
-use std::test::Fail;
 
-fn by_number(number: u32) -> Option<PaymentRequest> {
-    let district = district()?;
+/// W_YTD, D_YTD, and C_ID; C_BALANCE; whether the customer has that last name, has good credit, and got a line in C_DATA. Sums
+/// are in cents.
+type Figures = ([u64; 3], i64, [bool; 3]);
+
+fn request(customer: CustomerChoice) -> Option<PaymentRequest> {
     Some(PaymentRequest {
-        district,
-        customer_district: district,
-        customer: CustomerChoice::Number(CustomerNumber::new(number)?),
+        district: district()?,
+        customer_district: district()?,
+        customer,
         amount: PaymentAmount::new(25_000)?,
         stamp: stamp()?,
     })
 }
 
-/// The payment's effect, as terminal 1's first transaction.
-fn computed(
+/// Whether the payment's line went in at the left of C_DATA, which keeps its 500 bytes.
+fn is_written(before: &str, after: &str) -> bool {
+    let Some(kept) = after.strip_prefix("10 1 1 1 1 250.00|") else {
+        return false;
+    };
+    let lengths = (before.len(), after.len(), kept.len());
+    before.starts_with(kept) && kept.starts_with("KLMNOP") && lengths == (500, 500, 482)
+}
+
+fn figures(tables: &Tables, after: &Paid, last: &str) -> Option<Figures> {
+    let number = after.reply.customer.get();
+    let before = customer_row(tables, number)?;
+    let years = [after.warehouse.ytd.cents(), after.district.ytd.cents()];
+    let facts = [
+        after.reply.last.as_str() == last,
+        after.reply.credit == Credit::Good,
+        is_written(before.data.as_str(), after.customer.data.as_str()),
+    ];
+    let balance = after.reply.balance.cents();
+    Some(([years[0], years[1], u64::from(number)], balance, facts))
+}
+
+/// The figures after the payment, as terminal 1's first transaction; none where it has no effect.
+fn paid(
     alloc: Global,
     tables: &Tables,
     request: &PaymentRequest,
-) -> Result<Option<Paid>, AllocError> {
+    last: &str,
+) -> Result<Option<Figures>, AllocError> {
     let terminal = Terminal::new(1).unwrap();
     let number = TransactionNumber::new(1).unwrap();
-    payment(alloc, tables, terminal, number, request)
+    match payment(alloc, tables, terminal, number, request)? {
+        Some(after) => Ok(figures(tables, &after, last)),
+        None => Ok(None),
+    }
 }
 
 /// The same; computed the second time, where memory was refused.
-fn paid(alloc: Global, tables: &Tables, request: &PaymentRequest) -> Option<Option<Paid>> {
-    match computed(alloc, tables, request) {
-        Ok(paid) => Some(paid),
-        Err(_) => computed(alloc, tables, request).ok(),
+fn told(
+    alloc: Global,
+    tables: &Tables,
+    customer: CustomerChoice,
+    last: &str,
+) -> Option<Option<Figures>> {
+    let request = &request(customer)?;
+    match paid(alloc, tables, request, last) {
+        Ok(figures) => Some(figures),
+        Err(_) => paid(alloc, tables, request, last).ok(),
     }
 }
 
-fn reply(customer: u32, last: &str, credit: Credit, balance: i64) -> Option<PaymentReply> {
-    Some(PaymentReply {
-        customer: CustomerNumber::new(customer)?,
-        last: Text::read(last)?,
-        credit,
-        balance: Balance::new(balance)?,
-    })
+fn by_number(alloc: Global, tables: &Tables, number: u32, last: &str) -> Option<Option<Figures>> {
+    let number = CustomerNumber::new(number)?;
+    told(alloc, tables, CustomerChoice::Number(number), last)
+}
+
+fn by_name(alloc: Global, tables: &Tables, last: &str) -> Option<Option<Figures>> {
+    let name = LastName::read(last)?;
+    told(alloc, tables, CustomerChoice::LastName(name), last)
 }
 
 /// W_YTD and D_YTD in cents.
-fn years_to_date(tables: &Tables) -> Option<(u64, u64)> {
+fn years_to_date(tables: &Tables) -> Option<[u64; 2]> {
     let key = &district()?;
     let warehouse = tables.warehouse(key.warehouse_key())?;
-    Some((warehouse.ytd.cents(), tables.district(*key)?.ytd.cents()))
+    Some([warehouse.ytd.cents(), tables.district(*key)?.ytd.cents()])
 }
 
-/// The same after the payment of customer 1.
-fn raised(alloc: Global, tables: &Tables) -> Option<(u64, u64)> {
-    let request = by_number(1)?;
-    let after = paid(alloc, tables, &request)??;
-    Some((after.warehouse.ytd.cents(), after.district.ytd.cents()))
-}
-
-#[test]
-fn payment_raises_the_sums(rt: HostRuntime) -> Result<(), Fail> {
-    let tables = small(rt.alloc(), 10).ok_or("tables")?;
-    assert_eq!(rt; years_to_date(&tables), Some((100_000, 10_000)));
-    assert_eq!(rt; raised(rt.alloc(), &tables), Some((125_000, 35_000)));
-    Ok(())
-}
-
-/// What a payment answers.
-fn replied(alloc: Global, tables: &Tables, request: &PaymentRequest) -> Option<PaymentReply> {
-    let after = paid(alloc, tables, request)??;
-    Some(after.reply)
-}
-
-/// A payment of that customer is answered so.
-fn assert_reply(
-    rt: &impl Abort,
-    alloc: Global,
-    tables: &Tables,
-    (number, last, credit): (u32, &str, Credit),
-) -> Option<()> {
-    let request = by_number(number)?;
-    let expected = reply(number, last, credit, -26_000)?;
-    assert_eq!(rt; replied(alloc, tables, &request), Some(expected));
-    Some(())
-}
-
-#[test]
-fn payments_are_answered(rt: HostRuntime) -> Result<(), Fail> {
-    let tables = small(rt.alloc(), 10).ok_or("tables")?;
-    let good = (1, "BARBARBAR", Credit::Good);
-    let bad = (10, "BARBAREING", Credit::Bad);
-    assert_reply(&rt, rt.alloc(), &tables, good).ok_or("reply")?;
-    assert_reply(&rt, rt.alloc(), &tables, bad).ok_or("reply")?;
-    Ok(())
-}
-
-fn by_name(last: &str) -> Option<PaymentRequest> {
-    let mut request = by_number(1)?;
-    request.customer = CustomerChoice::LastName(LastName::read(last)?);
-    Some(request)
-}
-
-/// C_ID of the customer with that last name who pays, where there is one.
-fn payer(alloc: Global, tables: &Tables, last: &str) -> Option<Option<u32>> {
-    let request = by_name(last)?;
-    match paid(alloc, tables, &request)? {
-        Some(after) => Some(Some(after.reply.customer.get())),
-        None => Some(None),
-    }
-}
-
-#[test]
-fn namesake_in_the_middle_pays(rt: HostRuntime) -> Result<(), Fail> {
-    let tables = small(rt.alloc(), 2_001).ok_or("tables")?;
-    assert_eq!(rt; payer(rt.alloc(), &tables, "BARBARBAR"), Some(Some(1_001)));
-    assert_eq!(rt;
-        payer(rt.alloc(), &tables, "BARBAROUGHT"),
-        Some(Some(1_002))
-    );
-    Ok(())
-}
-
-#[test]
-fn nobody_of_the_name_pays(rt: HostRuntime) -> Result<(), Fail> {
-    let tables = small(rt.alloc(), 10).ok_or("tables")?;
-    assert_eq!(rt; payer(rt.alloc(), &tables, "BARBARBAR"), Some(Some(1)));
-    assert_eq!(rt; payer(rt.alloc(), &tables, "EINGEINGEING"), Some(None));
-    Ok(())
-}
-
-/// C_DATA before and after is 500 bytes long, and the text goes in at its left.
-fn assert_data(rt: &impl Abort, before: &str, after: &str) {
-    assert_eq!(rt; (before.len(), after.len()), (500, 500));
-    assert!(rt; after.starts_with("10 1 1 1 1 250.00|KLMNOP"));
-    let kept = after.strip_prefix("10 1 1 1 1 250.00|").unwrap_or("");
-    assert_eq!(rt; kept.len(), 482);
-    assert!(rt; before.starts_with(kept));
-}
-
-fn assert_written(rt: &impl Abort, alloc: Global, tables: &Tables) -> Option<()> {
-    let request = by_number(10)?;
-    let before = customer_row(tables, 10)?;
-    let after = paid(alloc, tables, &request)??;
-    assert_data(rt, before.data.as_str(), after.customer.data.as_str());
-    Some(())
-}
-
-#[test]
-fn bad_credit_is_written_at_the_left(rt: HostRuntime) -> Result<(), Fail> {
-    let tables = small(rt.alloc(), 10).ok_or("tables")?;
-    assert_written(&rt, rt.alloc(), &tables).ok_or("payment")?;
-    Ok(())
+/// Payments by number and by name, of good and of bad credit, and of nobody.
+fn assert_paid(rt: &impl Abort, alloc: Global, tables: &Tables) {
+    let good = ([125_000, 35_000, 1], -26_000, [true, true, false]);
+    let bad = ([125_000, 35_000, 10], -26_000, [true, false, true]);
+    assert_eq!(rt; years_to_date(tables), Some([100_000, 10_000]));
+    assert_eq!(rt; by_number(alloc, tables, 1, "BARBARBAR"), Some(Some(good)));
+    assert_eq!(rt; by_number(alloc, tables, 10, "BARBAREING"), Some(Some(bad)));
+    assert_eq!(rt; by_name(alloc, tables, "BARBARBAR"), Some(Some(good)));
+    assert_eq!(rt; by_name(alloc, tables, "EINGEINGEING"), Some(None));
 }
 
 /// Lets customer 1 have paid 9,999 times.
@@ -168,24 +110,34 @@ fn count_to_the_most(tables: &mut Tables) -> Option<()> {
     change(tables, &Change::UpdateCustomer(customer(1)?, row))
 }
 
-/// Whether the payment of customer 1 is without effect.
-fn is_without_effect(alloc: Global, tables: &Tables) -> Option<bool> {
-    let request = by_number(1)?;
-    Some(paid(alloc, tables, &request)?.is_none())
-}
-
-/// The column that would leave its range.
+/// The column of customer 1 that would leave its range.
 fn overflown(tables: &Tables) -> Option<Column> {
     let row = customer_row(tables, 1)?;
-    customer_after_payment(CustomerNumber::new(1)?, row, &by_number(1)?).err()
+    let number = CustomerNumber::new(1)?;
+    let request = request(CustomerChoice::Number(number))?;
+    customer_after_payment(number, row, &request).err()
+}
+
+/// The tables' customer 1 has paid as often as is counted.
+fn assert_uncounted(rt: &impl Abort, alloc: Global, tables: &Tables) {
+    assert_eq!(rt; by_number(alloc, tables, 1, "BARBARBAR"), Some(None));
+    assert_eq!(rt; overflown(tables), Some(Column::PaymentCount));
+}
+
+fn assert_payments(rt: &impl Abort, alloc: Global, tables: &mut Tables) {
+    assert_paid(rt, alloc, tables);
+    assert!(rt; count_to_the_most(tables).is_some());
+    assert_uncounted(rt, alloc, tables);
 }
 
 #[test]
-fn payments_are_not_counted_past_9999(rt: HostRuntime) -> Result<(), Fail> {
-    let mut tables = small(rt.alloc(), 10).ok_or("tables")?;
-    assert_eq!(rt; is_without_effect(rt.alloc(), &tables), Some(false));
-    count_to_the_most(&mut tables).ok_or("change")?;
-    assert_eq!(rt; is_without_effect(rt.alloc(), &tables), Some(true));
-    assert_eq!(rt; overflown(&tables), Some(Column::PaymentCount));
-    Ok(())
+fn payments_raise_sums_and_counts(rt: HostRuntime) {
+    let mut tables = small(rt.alloc(), 10).expect(&rt, "tables");
+    assert_payments(&rt, rt.alloc(), &mut tables);
+}
+
+/// C_ID of the customer with that last name who pays.
+pub(crate) fn payer(alloc: Global, tables: &Tables, last: &str) -> Option<u64> {
+    let figures = by_name(alloc, tables, last)??;
+    Some(figures.0[2])
 }
