@@ -1,8 +1,8 @@
 //! Audits of a small population, and of one with a row changed.
-use crate::fixtures::{district_key, is_made, order_key, populated};
+use crate::fixtures::{district_key, history_key, is_made, order_key, populated};
 use oe_audit::{condition, is_population};
 use oe_change::Change;
-use oe_keys::{HistoryKey, Key};
+use oe_keys::Key;
 use oe_steps::{Condition, Verdict};
 use oe_store::Tables;
 use oe_values::{Number, YearToDate};
@@ -18,15 +18,28 @@ fn verdicts(tables: &Tables) -> [Verdict; 4] {
     ]
 }
 
+/// Whether the tables are a population of which each condition holds.
+fn is_sound(tables: &Tables) -> bool {
+    is_population(tables) && verdicts(tables) == [Verdict::Holds; 4]
+}
+
+fn is_new_sound(alloc: Global) -> bool {
+    is_sound(&Tables::new(alloc))
+}
+
+fn is_population_sound(alloc: Global) -> Option<bool> {
+    let tables = populated(alloc, 4, 1)?;
+    Some(is_sound(&tables))
+}
+
 #[test]
-fn tables_without_rows_pass(rt: HostRuntime) {
-    let tables = Tables::new(rt.alloc());
-    assert_eq!(rt; verdicts(&tables), [Verdict::Holds; 4]);
-    assert!(rt; is_population(&tables));
+fn populations_pass(rt: HostRuntime) {
+    assert!(rt; is_new_sound(rt.alloc()));
+    assert_eq!(rt; is_population_sound(rt.alloc()), Some(true));
 }
 
 /// A change after which a population is none any more.
-#[derive(Clone, Copy)]
+#[derive(Drop)]
 enum Fault {
     /// W_YTD of the first warehouse is a cent greater.
     Cent,
@@ -54,61 +67,60 @@ fn next_order(tables: &Tables) -> Option<Change> {
     Some(Change::UpdateDistrict(key, row))
 }
 
-fn gap() -> Option<Change> {
-    Some(Change::InsertNewOrder(order_key(3, 1)?.new_order_key()))
-}
-
 fn line(tables: &Tables) -> Option<Change> {
     let order = &order_key(3, 4)?;
     let row = tables.order_line(order.line(Number::new(9)?))?.copied();
     Some(Change::InsertOrderLine(order.line(Number::new(10)?), row))
 }
 
-fn history_key(terminal: u32) -> Option<HistoryKey> {
-    Some(HistoryKey {
-        terminal: Number::new(terminal)?,
-        number: Number::new(1)?,
-        place: Number::new(1)?,
-    })
-}
-
 fn history(tables: &Tables) -> Option<Change> {
-    let row = tables.history(history_key(0)?)?.copied();
-    Some(Change::InsertHistory(history_key(1)?, row))
+    let row = tables.history(history_key(0, 1)?)?.copied();
+    Some(Change::InsertHistory(history_key(1, 1)?, row))
 }
 
-fn change(tables: &Tables, fault: Fault) -> Option<Change> {
+fn change(tables: &Tables, fault: &Fault) -> Option<Change> {
     match fault {
         Fault::Cent => cent(tables),
         Fault::NextOrder => next_order(tables),
-        Fault::Gap => gap(),
+        Fault::Gap => Some(Change::InsertNewOrder(order_key(3, 1)?.new_order_key())),
         Fault::Line => line(tables),
         Fault::History => history(tables),
     }
 }
 
-/// A population of four customers in each district, with that fault.
-fn faulty(alloc: Global, fault: Fault) -> Option<Tables> {
-    let mut tables = populated(alloc, 4, 1)?;
-    let change = &change(&tables, fault)?;
-    if !is_made(&mut tables, change) {
-        return None;
-    }
-    Some(tables)
-}
-
 /// The verdicts that a fault deserves.
-fn deserved(fault: Fault) -> Option<[Verdict; 4]> {
-    let warehouse = Verdict::Fails(Key::Warehouse(district_key(1)?.warehouse_key()));
-    let district = Verdict::Fails(Key::District(district_key(3)?));
+fn deserved(fault: &Fault) -> Option<[Verdict; 4]> {
     let holds = Verdict::Holds;
+    let district = Verdict::Fails(Key::District(district_key(3)?));
     Some(match fault {
-        Fault::Cent => [warehouse, holds, holds, holds],
+        Fault::Cent => {
+            let warehouse = Key::Warehouse(district_key(1)?.warehouse_key());
+            [Verdict::Fails(warehouse), holds, holds, holds]
+        }
         Fault::NextOrder => [holds, district, holds, holds],
         Fault::Gap => [holds, holds, district, holds],
         Fault::Line => [holds, holds, holds, district],
         Fault::History => [holds; 4],
     })
+}
+
+/// Makes the change. Whether it was made.
+fn spoil(tables: &mut Tables, fault: &Fault) -> Option<bool> {
+    let change = change(tables, fault)?;
+    Some(is_made(tables, &change))
+}
+
+/// Whether tables that the change was made in are no population, and have the verdicts that it deserves.
+fn is_found_in(tables: &mut Tables, fault: &Fault) -> Option<bool> {
+    let is_spoilt = spoil(tables, fault)?;
+    let deserved = deserved(fault)?;
+    Some(is_spoilt && !is_population(tables) && verdicts(tables) == deserved)
+}
+
+/// The same in a population of four customers in each district.
+fn is_found(alloc: Global, fault: &Fault) -> Option<bool> {
+    let mut tables = populated(alloc, 4, 1)?;
+    is_found_in(&mut tables, fault)
 }
 
 #[test]
@@ -120,15 +132,6 @@ fn faults_are_found(rt: HostRuntime) {
         Fault::Line,
         Fault::History,
     ] {
-        let tables = faulty(rt.alloc(), fault).expect(&rt, "a faulty population");
-        assert_eq!(rt; Some(verdicts(&tables)), deserved(fault));
-        assert!(rt; !is_population(&tables));
+        assert_eq!(rt; is_found(rt.alloc(), &fault), Some(true));
     }
-}
-
-#[test]
-fn population_passes(rt: HostRuntime) {
-    let tables = populated(rt.alloc(), 4, 1).expect(&rt, "a population");
-    assert_eq!(rt; verdicts(&tables), [Verdict::Holds; 4]);
-    assert!(rt; is_population(&tables));
 }
