@@ -1,5 +1,6 @@
 -- What is held, seen in the maps of the terminals.
-use Rattle.std.proofs.Common.{◌≡◌, ◌≢◌, ℕ, suc, zero, ◌+◌, ◌<◌, Bool, true, false, cond, if◌then◌else◌, List, [], ◌∷◌, map, length, get_or, set, Option, None, Some, IsSome, refl, sym, ap, ◌∙◌, subst, arith, add-one}
+use Rattle.std.proofs.Common.{◌≡◌, ◌≢◌, ℕ, suc, zero, ◌+◌, ◌<◌, ◌≤◌, ◌⊎◌, inl, inr, Bool, true, false, cond, if◌then◌else◌, List, [], ◌∷◌, map, length, get_or, set, Option, None, Some, IsSome, refl, sym, ap, ◌∙◌, subst, arith, add-one}
+use Rattle.std.proofs.lemmas.Bool.{cases_eq}
 use Rattle.std.proofs.lemmas.List.{nil_from_length, length-set, get_or-map, length-map, map-set, get_or_past, get_or-set_same, get_or-set_other}
 use Rattle.std.proofs.lemmas.List.Elements.{recursion_from_All}
 use Rattle.std.proofs.Math.Seq.{map-set_same}
@@ -10,7 +11,7 @@ use Rattle.oe_keys.specs.declared.locks.Name.{Name}
 use Rattle.oe_keys.specs.declared.locks.Mode.{Mode}
 use Rattle.oe_keys.specs.declared.locks.Mode.TheVariants.{Shared, Exclusive}
 use Rattle.oe_keys.specs.contracts.locks.NamePartialEq.TheImpl.{ghosts}
-use Rattle.oe_locks.specs.Held.{is_name, held, by_terminal, risen, IsIdle, OthersKeep, IsBelow}
+use Rattle.oe_locks.specs.Held.{is_name, held, by_terminal, risen, IsIdle, IsIdleAfter, OthersKeep, IsBelow}
 use Rattle.oe_locks.proofs.NameFacts.{eq_is_name, lookup_is_name, name_true, name_sym}
 
 module _ {S : Type 0} where
@@ -83,6 +84,16 @@ module _ {S : Type 0} where
   IsIdle-empty xs h zero q = refl
   IsIdle-empty xs h (suc i) q = ap (λ es. lookup (is_name q) es) (empty-at xs (recursion_from_All (λ m. m.entries ≡ []) xs h) i)
 
+  -- a write of one terminal's map leaves those after a last one idle
+  pub idle-set : (xs : List (HashMap Name Mode S)) (i t last last' : ℕ) (m : HashMap Name Mode S) → i + 1 ≡ t → i < length xs → last ≤ last'
+      → ((q : Name) → last' < t → lookup (ghosts.eq q) m.entries ≡ None)
+      → IsIdleAfter (by_terminal xs) last → IsIdleAfter (by_terminal (set xs i m)) last'
+  idle-set xs i t last last' m e l le none idle u b q = go (cases_eq u t)
+    where
+      go : (u ≡ t) ⊎ (u ≢ t) → held (by_terminal (set xs i m)) u q ≡ None
+      go (inl s) = ap (λ n. held (by_terminal (set xs i m)) n q) s ∙ (held-set_same xs i t m e l q ∙ none q (subst (λ n. last' < n) s b))
+      go (inr ne) = held-set_other xs i t m e u ne q ∙ idle u (omega (arith, le, b)) q
+
 -- where the test passes, the name is that one
 pub risen-at : (f : Name → Option Mode) (q n : Name) (m : Mode)
     → (if is_name q n then Some (risen m (f n)) else f q) ≡ (if is_name q n then Some (risen m (f q)) else f q)
@@ -98,3 +109,10 @@ held-above None None h = absurd h
 held-above (Some Shared) None h = absurd h
 held-above (Some Exclusive) None h = absurd h
 held-above _ (Some n) h = refl
+
+-- and not none
+pub not-below-none : (m h : Option Mode) → IsBelow m h → h ≡ None → ⊥
+not-below-none None None b e = absurd b
+not-below-none (Some Shared) None b e = absurd b
+not-below-none (Some Exclusive) None b e = absurd b
+not-below-none _ (Some n) b e = let none : ⊥ = cc in none

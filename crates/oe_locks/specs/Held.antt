@@ -58,6 +58,10 @@ HoldsNothing locks t = (q : Name) → held locks t q ≡ None
 abbrev pub IsIdle : Holdings → Type 0
 IsIdle locks = (t : ℕ) → HoldsNothing locks t
 
+-- no terminal after that one holds a name
+abbrev pub IsIdleAfter : Holdings → ℕ → Type 0
+IsIdleAfter locks last = (u : ℕ) → last < u → HoldsNothing locks u
+
 -- no other terminal holds the name in a mode that conflicts
 abbrev pub IsFreeFor : Holdings → ℕ → Name → Mode → Type 0
 IsFreeFor locks t n m = (u : ℕ) → u ≢ t → go_together m (held locks u n) ≡ true

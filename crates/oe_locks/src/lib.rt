@@ -2,7 +2,7 @@
 //! of them conflict on a name where at least one of their modes is exclusive.
 #![tactic(auto)]
 
-ghost use Rattle.std.specs.Prelude.{◌≡◌, ◌+◌, ◌<◌, MatchOption, OnOk, OnErr, IfOk, IfErr, IsSome, not, None, if◌then◌else◌};
+ghost use Rattle.std.specs.Prelude.{◌≡◌, ◌+◌, ◌<◌, ◌≤◌, MatchOption, OnOk, OnErr, IfOk, IfErr, IsSome, not, None, if◌then◌else◌};
 ghost use Rattle.oe_keys.specs.declared.locks.Name.{Name as LockName};
 ghost use Rattle.oe_requests.specs.declared.refusals.Refusal.TheVariants.{NoMemory};
 ghost use Rattle.oe_keys.specs.contracts.locks.NamePartialEq.TheImpl.{ghosts};
@@ -26,17 +26,19 @@ const TERMINALS: u32 = 64;
 pub struct Locks {
     // The names that each terminal holds, from the first terminal on.
     names: Vec<IndexMap<Name, Mode>>,
+    // The terminals after this one have never taken a name, so nobody has to ask them.
+    last: u32,
 }
 
 impl Model for Locks {
-    ghost use Rattle.std.specs.Prelude.{◌≡◌, vec_len};
-    ghost use Rattle.oe_locks.specs.Held.{Holdings, by_terminal};
+    ghost use Rattle.std.specs.Prelude.{◌≡◌, ◌≤◌, vec_len};
+    ghost use Rattle.oe_locks.specs.Held.{Holdings, by_terminal, IsIdleAfter};
 
     ghost Value = { Holdings };
 
     ghost view = { λ s. by_terminal s.names.items };
 
-    ghost invariant = { λ s. vec_len s.names ≡ 64 };
+    ghost invariant = { λ s. (vec_len s.names ≡ 64) × ((s.last ≤ 64) × IsIdleAfter (by_terminal s.names.items) s.last) };
 }
 
 // Where the terminal's names are.
@@ -45,6 +47,15 @@ fn place(terminal: Terminal) -> usize
     ensures within { result < 64 }
 {
     terminal.get() as usize - 1
+}
+
+// The greater of the two.
+fn later(last: u32, terminal: Terminal) -> u32
+    ensures last { last ≤ result }
+    ensures terminal { terminal ≤ result }
+    ensures most { last ≤ 64 → result ≤ 64 }
+{
+    last.max(terminal.get())
 }
 
 // The mode in which a name is held. It stays a call, so that asking an idle terminal is short.
@@ -81,7 +92,7 @@ impl Locks {
         for _ in 0..TERMINALS {
             names.push(IndexMap::new(alloc))?;
         }
-        Ok(Locks { names })
+        Ok(Locks { names, last: 0 })
     }
 
     /// The mode in which the terminal holds the name, or `None` where it does not hold it.
@@ -109,9 +120,7 @@ impl Locks {
     pub fn in_the_way(&self, name: &Name, terminal: Terminal, mode: Mode) -> Option<Terminal>
         ensures { MatchOption result (IsFreeFor self.now terminal name.now mode) (IsInTheWay self.now terminal name.now mode) }
     {
-        // The proof learns here how many places there are.
-        let _names = &self.names;
-        for number in 1..TERMINALS + 1 {
+        for number in 1..self.last + 1 {
             let other = Terminal::new(number).unwrap();
             if other != terminal && self.conflicts(name, other, mode) {
                 return Some(other);
@@ -128,6 +137,7 @@ impl Locks {
         ensures err { OnErr result (self.new ≡ self.old) }
     {
         let mode = modes::risen(mode, self.holds(&name, terminal));
+        self.last = later(self.last, terminal);
         let Ok(_) = self.names[place(terminal)].insert(name, mode) else {
             return Err(Refusal::NoMemory);
         };
