@@ -81,6 +81,8 @@ impl Core {
     ///
     /// A refusal has changed nothing, but for one of an Advance that is none of `Busy`, `UndoFull`, `NoMemory` and `NotOpen`:
     /// that one has rolled its transaction back.
+    // In its callers, so that an answer is not copied from layer to layer.
+    #[inline(always)]
     pub fn step(&mut self, step: Step) -> Answer
         requires { IsStep step }
         ensures serves { Serves (world_of self.old) (step_in step) (answer_in step result) (world_of self.new) }
@@ -121,6 +123,7 @@ impl Core {
     /// The verdict on a condition, of the newest moment, while no transaction is open.
     ///
     /// `NotQuiet`: so many are open. `TooOld`, `Future`: the moment is not the newest, which is named.
+    #[inline(never)]
     fn audit(&self, condition: Condition, moment: Moment) -> Answer
         ensures { Carries (world_of self.now) (Step.Audit condition moment) result (world_of self.now) }
     {
@@ -141,6 +144,7 @@ impl Core {
     ///
     /// `NoSuchRow`: the first warehouse of the request that isn't there. `AlreadyOpen`: the terminal has a transaction open.
     /// `Overflow` of H_NUMBER: it has had 4,294,967,295. `NoMemory`. The first of these is named, and nothing has changed.
+    #[inline(never)]
     fn begin(&mut self, terminal: Terminal, request: Request) -> Answer
         requires { HasProgram request }
         ensures { Carries (world_of self.old) (Step.Begin terminal request) result (world_of self.new) }
@@ -158,6 +162,7 @@ impl Core {
     }
 
     /// Moves the mark of the terminal's transaction to where it stands.
+    #[inline(never)]
     fn save(&mut self, terminal: Terminal) -> Answer
         ensures { Carries (world_of self.old) (Step.Save terminal) result (world_of self.new) }
     {
@@ -171,6 +176,7 @@ impl Core {
     }
 
     /// Takes the terminal's transaction back to its mark; it keeps its locks.
+    #[inline(never)]
     fn back(&mut self, terminal: Terminal) -> Answer
         ensures { Carries (world_of self.old) (Step.Back terminal) result (world_of self.new) }
     {
@@ -184,6 +190,7 @@ impl Core {
     }
 
     /// Rolls the terminal's transaction back.
+    #[inline(never)]
     fn rollback(&mut self, terminal: Terminal) -> Answer
         ensures { Carries (world_of self.old) (Step.Rollback terminal) result (world_of self.new) }
     {

@@ -243,7 +243,8 @@ impl Engine {
         }
     }
 
-    // Makes a change, with its undo record.
+    // Makes a change, with its undo record. It stands in its callers, so that the change is not copied once more.
+    #[inline(always)]
     fn make(&mut self, terminal: Terminal, change: Change) -> Result<(), Refusal>
         requires { (view_of self.old).is_open terminal ≡ true }
         ensures accepted { OnOk result (Accepts (change_of change) (view_of self.old).rows) }
