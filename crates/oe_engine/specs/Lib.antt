@@ -1,6 +1,7 @@
 -- What the clauses of this crate cite.
 pub mod View
 pub mod Kept
+pub mod Lent
 pub mod Calls
 pub mod Unwinds
 pub mod Programs

@@ -3,6 +3,7 @@
 
 pub mod access;
 pub mod engine;
+pub mod lent;
 pub mod rows;
 mod unwinding;
 

@@ -1,0 +1,10 @@
+use Rattle.std.proofs.Common.{◌≡◌, rules}
+use Rattle.oe_undo.specs.Undo.{open_total}
+use Rattle.oe_engine.specs.Lent.{Leaves, Keeps}
+use Rattle.oe_engine.specs.Kept.{IsKept}
+use Rattle.oe_engine.proofs.engine.Engine.with_parts.Goals as goal
+
+pub invariant_of-self : goal.invariant_of-self
+invariant_of-self g c =
+    let keeps = rw (← c.self.view_is) at c.requires.keeps in
+    keeps (search rules) c.work-answer.result c.work-answer.new.arg2 c.work-answer.new.arg3 (search rules) c.self.invariant

@@ -1,0 +1,27 @@
+-- What a call makes of tables and an undo log that are lent to it together.
+use Rattle.std.specs.Prelude.{◌≡◌, ℕ}
+use Rattle.std.specs.Fn.{Once}
+use denote.Ref.{MutBor}
+use Rattle.oe_store.specs.Stored as tables
+use Rattle.oe_undo.specs.Undo as undo
+use Rattle.oe_undo.specs.Undo.{open_total}
+use Rattle.oe_locks.specs.Held.{Holdings}
+use Rattle.oe_engine.specs.Kept.{IsKept}
+
+module _ {F R : Type 0} (g : Once F (MutBor tables.Stored × (MutBor undo.Stored × Unit {0})) (R × (MutBor tables.Stored × (MutBor undo.Stored × Unit {0})))) (f : F) where
+  -- f may be called at these tables and this undo log
+  abbrev pub Takes : tables.Stored → undo.Stored → Type 0
+  Takes ts u = (p : MutBor tables.Stored) (q : MutBor undo.Stored) → p.now ≡ ts → q.now ≡ u → g.pre f (p, (q, tt))
+
+  -- such a call may answer r, and leave those
+  pub record Leaves (ts : tables.Stored) (u : undo.Stored) (r : R) (ts' : tables.Stored) (u' : undo.Stored) : Type 0 where
+    pub first : MutBor tables.Stored
+    pub second : MutBor undo.Stored
+    pub shows : (first.now ≡ ts) × (second.now ≡ u)
+    pub left : MutBor tables.Stored × (MutBor undo.Stored × Unit {0})
+    pub met : g.post f (first, (second, tt)) (r, left)
+    pub leaves : (left.0.now ≡ ts') × (left.1.0.now ≡ u')
+
+  -- what it leaves of an engine's tables and log is an engine's beside the same locks
+  abbrev pub Keeps : tables.Stored → undo.Stored → Holdings → Type 0
+  Keeps ts u ls = (r : R) (ts' : tables.Stored) (u' : undo.Stored) → Leaves ts u r ts' u' → IsKept ts u ls → IsKept ts' u' ls
