@@ -1,5 +1,5 @@
 //! The engine.
-ghost use Rattle.std.specs.Prelude.{◌≡◌, ◌≤◌, ◌-◌, ◌↔◌, ◌⊎◌, ℕ, IsTrue, suc, true, false, [], length, take, Option, None, Some, is_some, option_map, IfOk, IfErr, OnOk, OnErr, MatchResult};
+ghost use Rattle.std.specs.Prelude.{◌≡◌, ◌≤◌, ◌<◌, ◌-◌, ◌↔◌, ◌⊎◌, ℕ, IsTrue, suc, true, false, [], length, take, Option, None, Some, is_some, option_map, IfOk, IfErr, OnOk, OnErr, MatchResult};
 ghost use Rattle.oe_theory.specs.Machine.{Take};
 ghost use Rattle.oe_theory.specs.World.{total};
 ghost use Rattle.oe_theory.specs.Store.{Slot, count_slots};
@@ -10,6 +10,8 @@ ghost use Rattle.oe_model.specs.Requests.{number_rejection};
 ghost use Rattle.oe_model.specs.System.{system, terminal_limit};
 ghost use Rattle.oe_store.specs.Stored.{rows};
 ghost use Rattle.oe_records.specs.Changes.{change_of};
+ghost use Rattle.oe_change.specs.Applies.{Refuses};
+ghost use Rattle.oe_undo.specs.Undo.{room_at};
 ghost use Rattle.oe_locks.specs.Held as locks;
 ghost use Rattle.oe_engine.specs.View.{view_of, opened_view, IsOpen};
 ghost use Rattle.oe_engine.specs.Calls.{ask_of, IsFree, IsBusy, IsBelow, begun, CantBegin, locked, made, put_mode, LockRefused, ChangeRefused, PairRefused, row_done, RowRefused, AcceptsAll, CanUnwind, count_since, back_at, committed, rolled_back};
@@ -243,7 +245,8 @@ impl Engine {
         }
     }
 
-    // Makes a change, with its undo record. It stands in its callers, so that the change is not copied once more.
+    // Makes a change, with its undo record. Where there is room for a record, memory is wanted for a place in the tables alone.
+    // It stands in its callers, so that the change is not copied once more.
     #[inline(always)]
     fn make(&mut self, terminal: Terminal, change: Change) -> Result<(), Refusal>
         requires { (view_of self.old).is_open terminal ≡ true }
@@ -252,6 +255,7 @@ impl Engine {
         ensures unwinds { OnOk result (CanUnwind ((view_of self.old).undo.active terminal) (view_of self.old).rows → CanUnwind ((view_of self.new).undo.active terminal) (view_of self.new).rows) }
         ensures name { self.new.name ≡ self.old.name }
         ensures cause { IfErr result (ChangeRefused (change_of change) (view_of self.old).rows) }
+        ensures room { 0 < room_at self.old.undo terminal → IfErr result (Refuses (change_of change) self.old.tables) }
         ensures err { OnErr result (view_of self.new ≡ view_of self.old) }
     {
         let segment = Segment::of(terminal);
