@@ -19,6 +19,8 @@ use Rattle.oe_model.specs.Meets.{Meets, Accepts, Cause}
 use Rattle.oe_model.specs.Locks.{mode_of, is_name}
 use Rattle.oe_model.specs.Requests.{number_rejection}
 use Rattle.oe_model.specs.System.{system}
+use Rattle.oe_store.specs.Stored as tables
+use Rattle.oe_change.specs.Applies.{Refuses}
 use Rattle.oe_change.specs.PutBack.{Stands}
 use Rattle.oe_engine.specs.View.{Stored, View, view_of, Handle, IsOpen}
 use Rattle.oe_engine.specs.declared.rows.Lock.{Lock}
@@ -123,6 +125,11 @@ RowRefused s x a c NotOpen = IsOpen s x → ⊥
 RowRefused s x a c (Busy n u) = IsOpen s x × ((m : theory.Mode) × (a ≡ Take n m) × IsInTheWay (view_of s) x.terminal n m u)
 RowRefused s x a c NoMemory = IsOpen s x × IsFree (view_of s) x.terminal a × (IsNew system ((view_of s).held x.terminal) a ⊎ IsSome c)
 RowRefused s x a c e = IsOpen s x × IsFree (view_of s) x.terminal a × CauseOf c (view_of s).rows e
+
+-- memory is wanted for the tables: the row's change is an insert that they accept, at a key without a place
+abbrev pub WantsPlace : Option Change → tables.Stored → Type 0
+WantsPlace None s = ⊥
+WantsPlace (Some c) s = Refuses c s NoMemory
 
 -- the tables accept the row's change, if it makes one
 abbrev pub AcceptsAll : Option Change → Rows → Type 0

@@ -1,14 +1,17 @@
 //! Names and rows of a transaction, one at a time.
-ghost use Rattle.std.specs.Prelude.{◌≡◌, Option, None, Some, option_map, IfErr, OnOk, OnErr};
+ghost use Rattle.std.specs.Prelude.{◌≡◌, ◌<◌, Option, None, Some, option_map, IfErr, OnOk, OnErr};
 ghost use Rattle.oe_theory.specs.Machine.{Take};
+ghost use Rattle.oe_theory.specs.Next.{IsNew};
 ghost use Rattle.oe_model.specs.Changes.{key_of};
 ghost use Rattle.oe_model.specs.Locks.{mode_of, governs};
 ghost use Rattle.oe_model.specs.Meets.{Accepts};
 ghost use Rattle.oe_model.specs.Rows.{row_at};
+ghost use Rattle.oe_model.specs.System.{system};
 ghost use Rattle.oe_records.specs.Changes.{change_of};
 ghost use Rattle.oe_store.specs.Stored.{rows};
+ghost use Rattle.oe_undo.specs.Undo.{room_at};
 ghost use Rattle.oe_engine.specs.View.{view_of, view_from, IsOpen};
-ghost use Rattle.oe_engine.specs.Calls.{ask_of, ask_to_write, IsFree, IsBelow, MayRead, locked, put_mode, row_done, RowRefused, CanUnwind};
+ghost use Rattle.oe_engine.specs.Calls.{ask_of, ask_to_write, IsFree, IsBelow, MayRead, locked, put_mode, row_done, RowRefused, WantsPlace, CanUnwind};
 
 use crate::engine::{Engine, Tx};
 use crate::rows::Lock;
@@ -133,6 +136,7 @@ impl Engine {
         ensures unwinds { OnOk result (CanUnwind ((view_of self.old).undo.active tx.now.terminal) (view_of self.old).rows → CanUnwind ((view_of self.new).undo.active tx.now.terminal) (view_of self.new).rows) }
         ensures name { self.new.name ≡ self.old.name }
         ensures cause { IfErr result (RowRefused self.old tx.now (ask_to_write (governs (key_of (change_of change)))) (Some (change_of change))) }
+        ensures room { (IsNew system ((view_of self.old).held tx.now.terminal) (ask_to_write (governs (key_of (change_of change)))) → ⊥) → 0 < room_at self.old.undo tx.now.terminal → IfErr result (λ e. e ≡ Refusal.NoMemory → WantsPlace (Some (change_of change)) self.old.tables) }
         ensures err { OnErr result (view_of self.new ≡ view_of self.old) }
     {
         let lock = lock_to_write(change.key());

@@ -2,6 +2,7 @@
 ghost use Rattle.std.specs.Prelude.{◌≡◌, ◌≤◌, ◌<◌, ◌-◌, ◌↔◌, ◌⊎◌, ℕ, IsTrue, suc, true, false, [], length, take, Option, None, Some, is_some, option_map, IfOk, IfErr, OnOk, OnErr, MatchResult};
 ghost use Rattle.oe_theory.specs.Machine.{Take};
 ghost use Rattle.oe_theory.specs.World.{total};
+ghost use Rattle.oe_theory.specs.Next.{IsNew};
 ghost use Rattle.oe_theory.specs.Store.{Slot, count_slots};
 ghost use Rattle.oe_model.specs.Changes.{key_of};
 ghost use Rattle.oe_model.specs.Locks.{mode_of, governs};
@@ -14,7 +15,7 @@ ghost use Rattle.oe_change.specs.Applies.{Refuses};
 ghost use Rattle.oe_undo.specs.Undo.{room_at};
 ghost use Rattle.oe_locks.specs.Held as locks;
 ghost use Rattle.oe_engine.specs.View.{view_of, opened_view, IsOpen};
-ghost use Rattle.oe_engine.specs.Calls.{ask_of, IsFree, IsBusy, IsBelow, begun, CantBegin, locked, made, put_mode, LockRefused, ChangeRefused, PairRefused, row_done, RowRefused, AcceptsAll, CanUnwind, count_since, back_at, committed, rolled_back};
+ghost use Rattle.oe_engine.specs.Calls.{ask_of, IsFree, IsBusy, IsBelow, begun, CantBegin, locked, made, put_mode, LockRefused, ChangeRefused, PairRefused, row_done, RowRefused, WantsPlace, AcceptsAll, CanUnwind, count_since, back_at, committed, rolled_back};
 
 use crate::rows::Lock;
 use crate::unwinding::take_back;
@@ -221,11 +222,13 @@ impl Engine {
 }
 
 impl Engine {
-    // Takes a lock, or raises the mode in which its name is held.
+    // Takes a lock, or raises the mode in which its name is held. Tables and undo log stay as they are.
     fn take(&mut self, terminal: Terminal, lock: Lock) -> Result<(), Refusal>
         requires { (view_of self.old).is_open terminal ≡ true }
         ensures free { OnOk result (IsFree (view_of self.old) terminal (Take lock.name (mode_of lock.mode))) }
         ensures locked { OnOk result (view_of self.new ≡ locked terminal lock.name (mode_of lock.mode) (view_of self.old)) }
+        ensures tables { self.new.tables ≡ self.old.tables }
+        ensures undo { self.new.undo ≡ self.old.undo }
         ensures name { self.new.name ≡ self.old.name }
         ensures cause { IfErr result (LockRefused (view_of self.old) terminal lock.name (mode_of lock.mode)) }
         ensures err { OnErr result (self.new ≡ self.old) }
@@ -272,7 +275,8 @@ impl Engine {
         }
     }
 
-    // Takes a lock and makes a change; where the change is refused, the name is held as it was.
+    // Takes a lock and makes a change; where the change is refused, the name is held as it was. Where the name was held before and
+    // there is room for a record, memory is wanted for a place in the tables alone.
     fn take_and_make(
         &mut self,
         terminal: Terminal,
@@ -286,6 +290,7 @@ impl Engine {
         ensures unwinds { OnOk result (CanUnwind ((view_of self.old).undo.active terminal) (view_of self.old).rows → CanUnwind ((view_of self.new).undo.active terminal) (view_of self.new).rows) }
         ensures name { self.new.name ≡ self.old.name }
         ensures cause { IfErr result (PairRefused (view_of self.old) terminal lock.name (mode_of lock.mode) (change_of change)) }
+        ensures room { (IsNew system ((view_of self.old).held terminal) (Take lock.name (mode_of lock.mode)) → ⊥) → 0 < room_at self.old.undo terminal → IfErr result (λ e. e ≡ Refusal.NoMemory → WantsPlace (Some (change_of change)) self.old.tables) }
         ensures err { OnErr result (view_of self.new ≡ view_of self.old) }
     {
         let before = self.locks.holds(&lock.name, terminal);
@@ -303,9 +308,9 @@ impl Engine {
     /// change, if it makes one, with its undo record.
     ///
     /// `NotOpen`: the transaction is not one of this engine. `Busy`: the least terminal that holds the name in a mode that
-    /// conflicts. `NoMemory`: memory was refused for a name that was not held, for the change or for its record. 2 to 6: the
-    /// tables don't accept the change. After an error nothing has changed: a lock that was gained is given back, and a mode
-    /// that rose has fallen again.
+    /// conflicts. `NoMemory`: memory was refused for a name that was not held, for a record for which the transaction's segment
+    /// had no room, or for an insert that the tables accept, at a key without a place. 2 to 6: the tables don't accept the
+    /// change. After an error nothing has changed: a lock that was gained is given back, and a mode that rose has fallen again.
     pub fn row(
         &mut self,
         tx: &Tx,
@@ -319,6 +324,7 @@ impl Engine {
         ensures unwinds { OnOk result (CanUnwind ((view_of self.old).undo.active tx.now.terminal) (view_of self.old).rows → CanUnwind ((view_of self.new).undo.active tx.now.terminal) (view_of self.new).rows) }
         ensures name { self.new.name ≡ self.old.name }
         ensures cause { IfErr result (RowRefused self.old tx.now (ask_of lock) (option_map change_of change)) }
+        ensures room { (IsNew system ((view_of self.old).held tx.now.terminal) (ask_of lock) → ⊥) → 0 < room_at self.old.undo tx.now.terminal → IfErr result (λ e. e ≡ Refusal.NoMemory → WantsPlace (option_map change_of change) self.old.tables) }
         ensures err { OnErr result (view_of self.new ≡ view_of self.old) }
     {
         if !self.is_open(tx) {
