@@ -1,26 +1,23 @@
 -- What a rollback leaves.
-use Rattle.std.proofs.Common.{◌≡◌, ◌≢◌, ℕ, suc, zero, ◌+◌, ◌-◌, ◌<◌, ◌≤◌, ◌==◌, Bool, true, false, cond, refl, sym, ap, ◌∙◌, subst, inl, inr, arith, List, [], ◌∷◌, length, take, drop}
-use Rattle.std.specs.Prelude.{Option, None, Some, is_some}
+use Rattle.std.proofs.Common.{◌≡◌, ℕ, ◌-◌, ◌<◌, ◌≤◌, ◌==◌, false, refl, sym, ap, ◌∙◌, subst, inl, inr, arith, List, [], ◌∷◌, length, take, drop}
+use Rattle.std.specs.Prelude.{None, is_some}
 use Rattle.std.proofs.lemmas.Bool.{cases_eq, cond-true, cond-false, eq-eqb, ne_eqb, true≢false}
 use Rattle.std.proofs.lemmas.List.{length-set, length-map, take_all, drop_all}
 use mathlib.Core.Path.{fun_ext}
 use Rattle.oe_keys.specs.declared.keys.Key.{Key}
 use Rattle.oe_records.specs.Befores.{record_of_before}
-use Rattle.oe_theory.specs.Machine as theory
-use Rattle.oe_keys.specs.declared.locks.Name.{Name}
 use Rattle.oe_theory.specs.World as world
 use Rattle.oe_theory.specs.Undo.{unwind, put_records}
 use Rattle.oe_model.specs.Rows.{Rows}
-use Rattle.oe_model.specs.Changes.{Record}
 use Rattle.oe_model.specs.System.{system}
 use Rattle.oe_store.specs.Stored.{rows, HasPlace}
 use Rattle.oe_store.specs.Stored as tables
 use Rattle.oe_undo.specs.Segments.{Placed}
 use Rattle.oe_undo.specs.Undo.{Stored, active_at, records_at, count_at, dropped}
-use Rattle.oe_undo.specs.Stands.{model_records, undo_of, counts_of}
+use Rattle.oe_undo.specs.Stands.{model_records, undo_of}
 use Rattle.oe_undo.proofs.StandsFacts as stands
 use Rattle.oe_locks.specs.Held.{Holdings, OthersKeep, HoldsNothing}
-use Rattle.oe_engine.specs.View.{View, view_from}
+use Rattle.oe_engine.specs.View.{view_from}
 use Rattle.oe_engine.specs.Kept.{HavePlaces, AllHavePlaces, IsKept}
 use Rattle.oe_engine.specs.Calls.{CanUnwind, back_at, rolled_back}
 use Rattle.oe_engine.specs.Unwinds.{TakesBack}

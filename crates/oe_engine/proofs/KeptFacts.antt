@@ -1,6 +1,6 @@
 -- What an engine keeps of its tables, its undo log and its locks, each call keeps.
-use Rattle.std.proofs.Common.{◌≡◌, ◌≢◌, ℕ, suc, ◌+◌, ◌-◌, ◌<◌, ◌≤◌, ◌==◌, Bool, true, false, cond, refl, sym, ap, ◌∙◌, subst, inl, inr, arith, replicate, List, [], ◌∷◌, length, get_or, set}
-use Rattle.std.specs.Prelude.{Option, None, Some, is_some, Result, Ok, Err, OnOk, OnErr}
+use Rattle.std.proofs.Common.{◌≡◌, ◌≢◌, ℕ, suc, ◌-◌, ◌<◌, ◌==◌, Bool, true, false, cond, refl, sym, ap, ◌∙◌, subst, inl, inr, replicate, List, [], ◌∷◌, length, get_or}
+use Rattle.std.specs.Prelude.{None, Some, is_some, Result, Ok, Err, OnOk, OnErr}
 use Rattle.std.proofs.lemmas.Bool.{cases_eq, cond-true, cond-false, eq-eqb, ne_eqb, true≢false}
 use Rattle.std.proofs.lemmas.List.{length-set, length-replicate}
 use Rattle.oe_keys.specs.declared.keys.Key.{Key}
@@ -24,7 +24,7 @@ use Rattle.oe_undo.proofs.StandsFacts as stands
 use Rattle.oe_undo.proofs.KeptFacts.{idle_at}
 use Rattle.oe_locks.specs.Held.{Holdings, OthersKeep, HoldsNothing, IsIdle}
 use Rattle.oe_engine.specs.Kept.{HavePlaces, AllHavePlaces, IsKept}
-use Rattle.oe_engine.proofs.LogFacts.{active_set, seen_same, changed_open, pushed_open, is_none, some_of}
+use Rattle.oe_engine.proofs.LogFacts.{active_set, seen_same, changed_open, pushed_open, some_of}
 
 -- keys that had places have them in tables in which none was lost
 pub more_places : (ts ts' : tables.Stored) → ((k : Key) → HasPlace ts k → HasPlace ts' k) → (bs : List Record) → HavePlaces ts bs → HavePlaces ts' bs

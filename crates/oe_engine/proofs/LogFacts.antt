@@ -1,6 +1,6 @@
 -- What the calls of the undo log make of what an engine stands for.
-use Rattle.std.proofs.Common.{◌≡◌, ◌≢◌, ℕ, suc, ◌+◌, ◌-◌, ◌<◌, ◌≤◌, ◌==◌, Bool, true, false, cond, refl, sym, ap, ◌∙◌, subst, inl, inr, arith, List, [], ◌∷◌, length, get_or, set}
-use Rattle.std.specs.Prelude.{Option, None, Some, is_some, IsSome, option_map}
+use Rattle.std.proofs.Common.{◌≡◌, ℕ, suc, ◌-◌, ◌<◌, ◌==◌, Bool, true, false, refl, sym, ap, ◌∙◌, inl, inr, [], ◌∷◌, length, get_or, set}
+use Rattle.std.specs.Prelude.{Option, None, Some, is_some, option_map}
 use Rattle.std.proofs.lemmas.Bool.{cases_eq, cases_lt, cond-true, cond-false, eq-eqb, ne_eqb}
 use Rattle.std.proofs.lemmas.List.{get_or-set_same, get_or-set_other, set_past}
 use mathlib.Core.Path.{fun_ext}
@@ -11,7 +11,7 @@ use Rattle.oe_records.specs.Befores.{record_of_before}
 use Rattle.oe_theory.specs.World as world
 use Rattle.oe_theory.specs.Undo.{put_records}
 use Rattle.oe_model.specs.Rows.{row_at}
-use Rattle.oe_model.specs.Changes.{Change, key_of, changed, record_of}
+use Rattle.oe_model.specs.Changes.{Change, key_of, record_of}
 use Rattle.oe_model.specs.Locks.{mode_of}
 use Rattle.oe_model.specs.System.{system}
 use Rattle.oe_store.specs.Stored.{rows}
@@ -22,8 +22,7 @@ use Rattle.oe_undo.specs.declared.undo.TerminalState.{TerminalState}
 use Rattle.oe_undo.specs.Segments.{Open, popped}
 use Rattle.oe_undo.specs.Undo.{Stored, idle, active_at, records_at, count_at, no_segments, idle_terminals, with_state, with_room, opened, pushed, popped_at, sealed, dropped}
 use Rattle.oe_undo.specs.Undo as undo
-use Rattle.oe_undo.specs.Stands.{undo_of, seals_of, counts_of}
-use Rattle.oe_undo.specs.Laws.{StandAlike, StandsWith, StandsSealed}
+use Rattle.oe_undo.specs.Stands.{undo_of}
 use Rattle.oe_undo.proofs.StandsFacts as stands
 use Rattle.oe_undo.proofs.KeptFacts.{idle_at}
 use Rattle.oe_locks.specs.Held.{Holdings, OthersKeep, HoldsNothing, IsIdle}

@@ -1,6 +1,6 @@
 -- A row is its lock and its change.
-use Rattle.std.proofs.Common.{◌≡◌, ◌≢◌, ℕ, ◌<◌, ◌==◌, Bool, true, false, cond, refl, sym, ap, ◌∙◌, subst, inl, inr, ◌⊎◌, List, ◌∷◌}
-use Rattle.std.specs.Prelude.{Option, None, Some, is_some, IsSome, option_map, Result, Ok, Err, OnOk, IfErr}
+use Rattle.std.proofs.Common.{◌≡◌, ℕ, Bool, true, false, cond, refl, sym, ap, ◌∙◌, subst, inl, inr, ◌⊎◌, List, ◌∷◌}
+use Rattle.std.specs.Prelude.{Option, None, Some, is_some, option_map, Result, Ok, Err, OnOk, IfErr}
 use Rattle.std.proofs.lemmas.Bool.{true≢false}
 use mathlib.Core.Path.{fun_ext}
 use Rattle.oe_keys.specs.declared.locks.Name.{Name}
@@ -13,9 +13,9 @@ use Rattle.oe_theory.specs.Machine.{Ask, Plain, Take}
 use Rattle.oe_theory.specs.World as world
 use Rattle.oe_theory.specs.Next.{held_after, record_on}
 use Rattle.oe_theory.specs.Undo.{put_records}
-use Rattle.oe_model.specs.Rows.{Rows, row_at}
-use Rattle.oe_model.specs.Changes.{Change, Record, key_of, record_of, changed, put_back}
-use Rattle.oe_model.specs.Meets.{Meets, Accepts, Cause}
+use Rattle.oe_model.specs.Rows.{Rows}
+use Rattle.oe_model.specs.Changes.{Change, Record, changed, put_back}
+use Rattle.oe_model.specs.Meets.{Meets}
 use Rattle.oe_model.specs.Locks.{mode_of, is_name}
 use Rattle.oe_model.specs.System.{system}
 use Rattle.oe_model.proofs.SystemLaws as model
@@ -23,7 +23,7 @@ use Rattle.oe_model.proofs.RowFacts.{undone}
 use Rattle.oe_store.specs.Stored.{rows, HasPlace}
 use Rattle.oe_store.specs.Stored as tables
 use Rattle.oe_change.specs.Applies.{Applies, Refuses}
-use Rattle.oe_change.specs.PutBack.{Stands, CanPutBack}
+use Rattle.oe_change.specs.PutBack.{Stands}
 use Rattle.oe_change.proofs.UndoFacts.{can_at_once}
 use Rattle.oe_locks.specs.Held as locks
 use Rattle.oe_locks.specs.Held.{Holdings, held}

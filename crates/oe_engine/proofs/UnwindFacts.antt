@@ -1,12 +1,11 @@
 -- Records are put back one after another, the newest first.
-use Rattle.std.proofs.Common.{◌≡◌, ◌≢◌, ℕ, suc, zero, ◌+◌, ◌-◌, ◌<◌, ◌≤◌, ◌==◌, Bool, true, false, cond, refl, sym, ap, ◌∙◌, subst, inl, inr, arith, List, [], ◌∷◌, length, get_or, set, take, drop}
-use Rattle.std.specs.Prelude.{Option, None, Some, is_some}
+use Rattle.std.proofs.Common.{◌≡◌, ℕ, suc, zero, ◌<◌, ◌≤◌, true, refl, sym, ap, ◌∙◌, subst, arith, List, [], ◌∷◌, length, take, drop}
+use Rattle.std.specs.Prelude.{None, Some, is_some}
 use Rattle.std.proofs.lemmas.List.{length-set, length-map}
-use Rattle.oe_keys.specs.declared.keys.Key.{Key}
 use Rattle.oe_records.specs.declared.befores.Before.{Before}
 use Rattle.oe_records.specs.Befores.{record_of_before}
 use Rattle.oe_theory.specs.World as world
-use Rattle.oe_theory.specs.Undo.{unwind, put_records}
+use Rattle.oe_theory.specs.Undo.{put_records}
 use Rattle.oe_model.specs.Rows.{Rows}
 use Rattle.oe_model.specs.Changes.{Record, put_back, record_key}
 use Rattle.oe_model.specs.System.{system}
@@ -14,8 +13,8 @@ use Rattle.oe_store.specs.Stored.{rows, HasPlace, SamePlaces}
 use Rattle.oe_store.specs.Stored as tables
 use Rattle.oe_change.specs.PutBack.{CanPutBack}
 use Rattle.oe_undo.specs.Segments.{Placed, newest_of}
-use Rattle.oe_undo.specs.Undo.{Stored, active_at, records_at, count_at, popped_at}
-use Rattle.oe_undo.specs.Stands.{model_records, undo_of, seals_of, counts_of}
+use Rattle.oe_undo.specs.Undo.{Stored, active_at, records_at, popped_at}
+use Rattle.oe_undo.specs.Stands.{model_records, undo_of}
 use Rattle.oe_undo.proofs.StandsFacts as stands
 use Rattle.oe_engine.specs.Kept.{HavePlaces}
 use Rattle.oe_engine.specs.Calls.{CanUnwind}

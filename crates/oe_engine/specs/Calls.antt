@@ -1,14 +1,12 @@
 -- What the engine's calls do to what it stands for, and why they are refused.
-use Rattle.std.specs.Prelude.{◌≡◌, ◌≢◌, ◌⊎◌, ℕ, suc, ◌-◌, ◌<◌, true, false, cond, List, [], ◌∷◌, Option, None, Some, IsSome, length, take, drop, is_some}
+use Rattle.std.specs.Prelude.{◌≡◌, ◌≢◌, ◌⊎◌, ℕ, suc, ◌-◌, ◌<◌, true, false, cond, List, [], ◌∷◌, Option, None, Some, IsSome, length, take, drop}
 use Rattle.oe_theory.specs.Machine.{Ask, Stop, Plain, Take, Guard, Free, Under, Own}
 use Rattle.oe_theory.specs.Machine as theory
-use Rattle.oe_theory.specs.World.{go_together, risen, set, bump, total}
+use Rattle.oe_theory.specs.World.{go_together, set, bump}
 use Rattle.oe_theory.specs.Next.{held_after, record_on, IsNew}
 use Rattle.oe_theory.specs.Undo.{unwind, put_records}
 use Rattle.oe_theory.specs.Store.{with_change_of, with_record_of}
 use Rattle.oe_keys.specs.declared.locks.Name.{Name}
-use Rattle.oe_keys.specs.declared.locks.Mode.{Mode}
-use Rattle.oe_keys.specs.declared.keys.Key.{Key}
 use Rattle.oe_requests.specs.declared.requests.Request.{Request}
 use Rattle.oe_requests.specs.declared.replies.Reply.{Reply}
 use Rattle.oe_requests.specs.declared.refusals.Refusal.{Refusal}

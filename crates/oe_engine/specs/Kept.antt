@@ -1,6 +1,5 @@
 -- What an engine keeps of its tables, its undo log and its locks together.
-use Rattle.std.specs.Prelude.{◌≡◌, ℕ, ◌<◌, true, false, List, [], ◌∷◌, length, is_some, None}
-use Rattle.oe_keys.specs.declared.locks.Name.{Name}
+use Rattle.std.specs.Prelude.{◌≡◌, ℕ, ◌<◌, true, false, List, [], ◌∷◌, length, is_some}
 use Rattle.oe_model.specs.Changes.{Record, record_key}
 use Rattle.oe_store.specs.Stored.{HasPlace}
 use Rattle.oe_store.specs.Stored as tables

@@ -1,5 +1,5 @@
 -- What a call makes of tables and an undo log that are lent to it together.
-use Rattle.std.specs.Prelude.{◌≡◌, ℕ}
+use Rattle.std.specs.Prelude.{◌≡◌}
 use Rattle.std.specs.Fn.{Once}
 use denote.Ref.{MutBor}
 use Rattle.oe_store.specs.Stored as tables

@@ -1,5 +1,5 @@
 -- A step of a program: one row of its step table, in the words of the theory of transactions.
-use Rattle.std.specs.Prelude.{◌≡◌, ◌⊎◌, ℕ, suc, Option, None, Some}
+use Rattle.std.specs.Prelude.{◌≡◌, ◌⊎◌, suc, Option, Some}
 use Rattle.oe_theory.specs.Machine.{Tx, Ask, Stop, Plain, Take, Act, Fail, Go, Ready}
 use Rattle.oe_theory.specs.Machine as theory
 use Rattle.oe_theory.specs.Next.{IsNew, GivesWay}
@@ -8,10 +8,10 @@ use Rattle.oe_requests.specs.declared.replies.Reply.{Reply}
 use Rattle.oe_requests.specs.declared.refusals.Refusal.{Refusal}
 use Rattle.oe_requests.specs.declared.refusals.Refusal.TheVariants.{Busy, NotOpen, NoMemory}
 use Rattle.oe_model.specs.Changes.{Change}
-use Rattle.oe_model.specs.Meets.{Accepts, Cause}
+use Rattle.oe_model.specs.Meets.{Cause}
 use Rattle.oe_model.specs.Places.{Place}
 use Rattle.oe_model.specs.System.{system, ask, act, yields}
-use Rattle.oe_engine.specs.View.{Stored, View, view_of, Handle, IsOpen}
+use Rattle.oe_engine.specs.View.{Stored, view_of, Handle, IsOpen}
 use Rattle.oe_engine.specs.Calls.{IsFree, IsInTheWay, row_done, AcceptsAll}
 use Rattle.oe_engine.specs.declared.rows.Progress.{Progress}
 use Rattle.oe_engine.specs.declared.rows.Progress.TheVariants as progress

@@ -1,5 +1,5 @@
 -- Records of an open segment that are being put back.
-use Rattle.std.specs.Prelude.{◌≡◌, ℕ, ◌≤◌, List, length, take, drop, is_some, true}
+use Rattle.std.specs.Prelude.{◌≡◌, ℕ, ◌≤◌, List, length, take, drop, is_some}
 use Rattle.oe_theory.specs.Undo.{unwind, put_records}
 use Rattle.oe_model.specs.Rows.{Rows}
 use Rattle.oe_model.specs.Changes.{Record}

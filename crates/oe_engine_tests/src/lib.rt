@@ -7,6 +7,8 @@ mod fixtures;
 #[cfg(test)]
 mod modes;
 #[cfg(test)]
+mod parts;
+#[cfg(test)]
 mod payments;
 #[cfg(test)]
 mod strangers;

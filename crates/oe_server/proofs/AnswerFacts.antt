@@ -1,5 +1,5 @@
 -- Each step of today is answered, and so is each run of them.
-use Rattle.std.proofs.Common.{◌≡◌, ℕ, zero, suc, ◌+◌, ◌<◌, ◌≤◌, cond, Bool, true, false, Option, None, Some, List, [], ◌∷◌, refl, sym, ap, ◌∙◌, subst, inl, inr, arith}
+use Rattle.std.proofs.Common.{◌≡◌, ℕ, zero, suc, ◌<◌, ◌≤◌, cond, Bool, true, false, Option, None, Some, List, [], ◌∷◌, refl, sym, subst, inl, inr, arith}
 use Rattle.std.specs.Prelude.{◌⊎◌, ◌≢◌, is_some, nat_le}
 use Rattle.std.proofs.lemmas.Bool.{cases_order}
 use Rattle.oe_theory.specs.World.{World, Open, newest, tables, number}
@@ -26,7 +26,7 @@ use Rattle.oe_model.specs.Requests.{MayRefuse, PaymentMayRefuse, NewOrderMayRefu
 use Rattle.oe_model.specs.System.{system, terminal_limit}
 use Rattle.oe_model.proofs.SystemLaws.{laws}
 use Rattle.oe_audit.specs.Verdict.{condition_of, verdict_of}
-use Rattle.oe_core.specs.Steps.{step_in, answer_in, Serves, AuditsOf, HasProgram}
+use Rattle.oe_core.specs.Steps.{step_in, answer_in, Serves}
 use Rattle.oe_server.specs.Script.{RunsIn}
 use Rattle.oe_server.specs.Session.{IsLive}
 use Rattle.oe_server.proofs.WorldFacts.{left, falls, live_step}

@@ -1,6 +1,6 @@
 -- Each line is answered.
-use Rattle.std.proofs.Common.{◌≡◌, ℕ, ◌+◌, ◌<◌, ◌≤◌, Bool, true, false, Option, None, Some, List, [], ◌∷◌, ◌++◌, length, refl, sym, ap, ◌∙◌, subst, inl, inr, arith}
-use Rattle.std.specs.Prelude.{◌⊎◌, codes}
+use Rattle.std.proofs.Common.{◌≡◌, ℕ, ◌+◌, ◌<◌, ◌≤◌, Bool, true, false, Option, None, Some, List, [], ◌∷◌, length, refl, sym, ◌∙◌, subst, inl, inr, arith}
+use Rattle.std.specs.Prelude.{◌⊎◌}
 use Rattle.std.proofs.lemmas.Bool.{cases_order}
 use Rattle.oe_theory.specs.World.{World, tables}
 use Rattle.oe_theory.specs.Theorems.{opened}
@@ -29,7 +29,7 @@ use Rattle.oe_model.proofs.PopulationFacts.{population_is_one}
 use Rattle.oe_model.proofs.SystemLaws.{laws, population_is_good}
 use Rattle.oe_core.specs.Steps.{HasProgram, IsNumber, IsStep}
 use Rattle.oe_server.specs.Dump.{dump_text}
-use Rattle.oe_server.specs.Script.{State, scale_in, moment_in, told, Stepped, Ran, Opens, IsAllowed, Answers, Asks, bad_line, LineAnswer, RunOfLines, Holds}
+use Rattle.oe_server.specs.Script.{State, scale_in, moment_in, told, Stepped, IsAllowed, Answers, Asks, bad_line, LineAnswer, RunOfLines, Holds}
 use Rattle.oe_server.specs.Session.{IsLive}
 use Rattle.oe_server.proofs.WorldFacts.{live_step, live_runs}
 use Rattle.oe_server.proofs.AnswerFacts.{IsTold, told_advance, told_save, told_back, told_rollback, told_begin, told_audit, told_run}

@@ -1,5 +1,5 @@
 -- Opening a core on a population, and what its line is answered.
-use Rattle.std.proofs.Common.{◌≡◌, ℕ, ◌≤◌, List, length, Option, None, Some, Result, Ok, Err, IfOk, codes, refl, ap, ◌∙◌, subst, sym, inl, inr}
+use Rattle.std.proofs.Common.{◌≡◌, ℕ, ◌≤◌, List, length, None, Some, Result, Ok, Err, IfOk, codes, refl, ap, ◌∙◌, subst, inl}
 use Rattle.oe_theory.specs.World.{World}
 use Rattle.oe_theory.specs.Theorems.{opened}
 use Rattle.oe_rows.specs.declared.scales.Scale as rows

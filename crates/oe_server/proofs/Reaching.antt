@@ -9,7 +9,7 @@ use Rattle.std.proofs.lemmas.Bool.{cases_eq}
 use Rattle.oe_server.specs.Ports.{Sink, Sent, Cut, Streams}
 use Rattle.oe_server.specs.Script.{State, LineAnswer, RunOfLines, IsInLine, ended, last_text, Output, Holds, Reached}
 use Rattle.oe_server.specs.Session.{IsLive, Standing, Broken, Fed, Ended}
-use Rattle.oe_server.proofs.Streaming.{sent_then, sent_cut, cut_more, cut_as}
+use Rattle.oe_server.proofs.Streaming.{sent_then, sent_cut, cut_more}
 use Rattle.oe_server.proofs.LineFacts.{live_lines, line_answered}
 
 run_more : (s : State) (n : ℕ) (lines : List (List ℕ)) (text : List ℕ) (v u : State) (line last : List ℕ) →

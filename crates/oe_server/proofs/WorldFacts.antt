@@ -1,40 +1,30 @@
 -- What the steps of today keep of a world, that each of them is answered, and that a run of them ends.
-use Rattle.std.proofs.Common.{◌≡◌, ℕ, zero, suc, ◌+◌, ◌<◌, ◌≤◌, ◌==◌, cond, Bool, true, false, Option, None, Some, List, [], ◌∷◌, refl, sym, ap, ◌∙◌, subst, inl, inr, arith}
-use Rattle.std.specs.Prelude.{◌⊎◌, ◌≢◌, is_some, nat_le}
+use Rattle.std.proofs.Common.{◌≡◌, ℕ, zero, suc, ◌<◌, ◌==◌, cond, Bool, true, false, Option, None, Some, [], ◌∷◌, refl, sym, ap, subst, arith}
 use Rattle.std.specs.FinMap.{get}
-use Rattle.std.proofs.lemmas.Bool.{cases_order}
-use Rattle.oe_theory.specs.Machine.{Act, Go, Tx}
-use Rattle.oe_theory.specs.World.{World, Open, IsTerminal, set, tx_of, newest, tables, number}
+use Rattle.oe_theory.specs.Machine.{Go, Tx}
+use Rattle.oe_theory.specs.World.{World, Open, set, tx_of, tables}
 use Rattle.oe_theory.specs.Next as theory
 use Rattle.oe_theory.specs.Next.{Next, IsQuiet, count_open, begun, moved, committed, Begin, Advance, Save, Back, Rollback, Rewind, More, Busy, begins, goes_on, commits, saves, goes_back, rolls_back, reads, audits, purges, rewinds, stops, fails, is_busy, is_full, is_rejected, is_open, number_is_rejected, query_is_rejected, misses, not_open, too_old, future, not_quiet, lacks_memory_at_begin, lacks_memory, works_on, IsPast}
-use Rattle.oe_theory.specs.Theorems.{IsReached, opened}
 use Rattle.oe_theory.proofs.Sets.{set_same}
-use Rattle.oe_theory.proofs.Theorems.{run_is_reached, opening_is_reached, each_is_answered, abort_is_its_own}
+use Rattle.oe_theory.proofs.Theorems.{run_is_reached}
 use Rattle.oe_keys.specs.declared.keys.Key.TheVariants as key
 use Rattle.oe_requests.specs.declared.requests.PaymentRequest.{PaymentRequest}
 use Rattle.oe_requests.specs.declared.requests.Request.{Request}
 use Rattle.oe_requests.specs.declared.requests.Request.TheVariants as request
-use Rattle.oe_requests.specs.declared.refusals.Refusal.{Refusal}
 use Rattle.oe_requests.specs.declared.refusals.Refusal.TheVariants as refusal
 use Rattle.oe_steps.specs.declared.steps.Step.{Step}
 use Rattle.oe_steps.specs.declared.steps.Step.TheVariants as step
 use Rattle.oe_steps.specs.declared.answers.Answer.{Answer}
-use Rattle.oe_steps.specs.declared.answers.Answer.TheVariants as answer
-use Rattle.oe_steps.specs.declared.audits.Condition.{Condition}
-use Rattle.oe_steps.specs.declared.audits.Verdict.{Verdict}
-use Rattle.oe_steps.specs.declared.audits.Verdict.TheVariants as verdict
-use Rattle.oe_model.specs.Audits as model
 use Rattle.oe_model.specs.Keys.{warehouse_of_district, customer_in}
-use Rattle.oe_model.specs.Rows.{Rows, row_at}
+use Rattle.oe_model.specs.Rows.{Rows}
 use Rattle.oe_model.specs.Changes.{Change}
 use Rattle.oe_model.specs.Choice.{chosen}
 use Rattle.oe_model.specs.Effects.{Doing}
 use Rattle.oe_model.specs.Places.{Place, InPayment, InNewOrder, InDelivery, NoProgram, PaymentPlace, PaymentWarehouse, PaymentDistrict, PaymentCustomer, PaymentHistory, PaymentEnd}
-use Rattle.oe_model.specs.Requests.{IsRequest, MayRefuse, PaymentMayRefuse, NewOrderMayRefuse, DeliveryMayRefuse, first_absent, rejection, number_rejection, warehouse_no, warehouses_of}
 use Rattle.oe_model.specs.System.{system, ask, act, start_of}
 use Rattle.oe_model.proofs.LawFacts.{given_goes, within_goes}
 use Rattle.oe_model.proofs.SystemLaws.{laws}
-use Rattle.oe_core.specs.Steps.{step_in, answer_in, Serves, AuditsOf, HasProgram, IsStep}
+use Rattle.oe_core.specs.Steps.{step_in, Serves, HasProgram, IsStep}
 use Rattle.oe_server.specs.Script.{RunsIn}
 use Rattle.oe_server.specs.Session.{IsOfPayment, IsPaying, HasPayments, IsLive}
 

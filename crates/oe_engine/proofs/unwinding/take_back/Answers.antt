@@ -1,11 +1,11 @@
-use Rattle.std.proofs.Common.{◌≡◌, ℕ, suc, ◌+◌, ◌-◌, ◌<◌, ◌≤◌, true, is_some, sym, ap, ◌∙◌, subst, arith, List, Some}
+use Rattle.std.proofs.Common.{◌≡◌, suc, ◌+◌, ◌-◌, true, is_some, sym, ◌∙◌, subst, arith, List, Some}
 use Rattle.oe_undo.specs.Segments.{newest_of}
 use Rattle.oe_undo.specs.Undo.{active_at, records_at}
 use Rattle.oe_model.specs.Changes.{Record}
 use Rattle.oe_undo.specs.Stands.{undo_of}
 use Rattle.oe_store.specs.Stored.{rows}
 use Rattle.oe_engine.specs.Unwinds.{Left, Unwinding}
-use Rattle.oe_engine.proofs.UnwindFacts.{begins, unchanged, none_left, can_go, goes, goes_on, ends}
+use Rattle.oe_engine.proofs.UnwindFacts.{begins, unchanged, can_go, goes, goes_on, ends}
 use Rattle.oe_engine.proofs.unwinding.take_back.Goals as goal
 
 pub loop-init : goal.loop-init

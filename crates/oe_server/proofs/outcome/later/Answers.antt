@@ -1,5 +1,4 @@
 use Rattle.std.proofs.Common.{refl, subst}
-use Rattle.oe_theory.specs.Next as theory
 use Rattle.oe_steps.specs.declared.steps.Step.TheVariants as step
 use Rattle.oe_lines.specs.declared.commands.Command.TheVariants as command
 use Rattle.oe_core.specs.Core.{world_of}

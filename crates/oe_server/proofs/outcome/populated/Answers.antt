@@ -1,4 +1,3 @@
-use Rattle.oe_lines.specs.Grammar.{IsScale}
 use Rattle.oe_store.specs.Stored.{rows}
 use Rattle.oe_model.proofs.PopulationFacts.{population_is_one}
 use Rattle.oe_core.specs.Core.{world_of}

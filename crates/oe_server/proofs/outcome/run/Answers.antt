@@ -1,4 +1,4 @@
-use Rattle.std.proofs.Common.{ℕ, suc}
+use Rattle.std.proofs.Common.{suc}
 use Rattle.oe_steps.specs.declared.answers.Answer.TheVariants as answer
 use Rattle.oe_steps.specs.declared.steps.Step.TheVariants as step
 use Rattle.oe_core.specs.Steps.{answer_in}

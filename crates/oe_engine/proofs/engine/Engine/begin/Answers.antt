@@ -1,10 +1,9 @@
 use Rattle.std.proofs.Common.{◌≡◌, ◌<◌, ◌≤◌, suc, true, false, is_some, ap, sym, ◌∙◌, length, None, arith, rules}
 use Rattle.std.proofs.lemmas.Bool.{cond-true, le-leb}
-use Rattle.oe_undo.specs.Undo.{Stored, active_at, count_at, opened, room_at, records_in}
+use Rattle.oe_undo.specs.Undo.{active_at, count_at, room_at, records_in}
 use Rattle.oe_undo.specs.Stands.{model_records}
 use Rattle.oe_model.specs.Requests.{number_rejection}
 use Rattle.oe_engine.specs.View.{view_of, view_from}
-use Rattle.oe_engine.specs.Calls.{begun}
 use Rattle.oe_engine.proofs.LogFacts.{opened_is, is_none}
 use Rattle.oe_engine.proofs.RowFacts.{idle_is, not_so}
 use Rattle.oe_engine.proofs.engine.Engine.begin.Goals as goal

@@ -1,4 +1,4 @@
-use Rattle.std.proofs.Common.{◌≡◌, ◌<◌, ◌≤◌, ◌+◌, suc, ℕ, true, is_some, sym, ap, ◌∙◌, subst, length, arith, add-one}
+use Rattle.std.proofs.Common.{◌≡◌, ◌<◌, suc, sym, ap, ◌∙◌, subst, length, arith, add-one}
 use Rattle.std.specs.Prelude.{IsSome}
 use Rattle.oe_undo.specs.Undo.{active_at}
 use Rattle.oe_undo.proofs.StandsFacts.{totals}

@@ -1,4 +1,4 @@
-use Rattle.std.proofs.Common.{◌≡◌, ℕ, true, is_some, sym, ap, ◌∙◌, subst, refl}
+use Rattle.std.proofs.Common.{sym, ap, ◌∙◌, subst, refl}
 use Rattle.std.specs.Prelude.{IsSome}
 use Rattle.oe_records.specs.Changes.{change_of}
 use Rattle.oe_records.specs.Befores.{record_of_before}

@@ -1,7 +1,7 @@
-use Rattle.std.proofs.Common.{◌≡◌, true, false, is_some, sym, ap, ◌∙◌, subst}
+use Rattle.std.proofs.Common.{◌≡◌, true, is_some, sym, ◌∙◌, subst}
 use Rattle.std.proofs.lemmas.Bool.{true≢false}
 use Rattle.oe_undo.specs.Undo.{active_at}
-use Rattle.oe_locks.specs.Held.{IsBelow, held}
+use Rattle.oe_locks.specs.Held.{IsBelow}
 use Rattle.oe_engine.specs.View.{view_of, view_from}
 use Rattle.oe_engine.proofs.KeptFacts.{locks_kept}
 use Rattle.oe_engine.proofs.RowFacts.{mode_put, put_nothing}

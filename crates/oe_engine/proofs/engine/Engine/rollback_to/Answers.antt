@@ -1,4 +1,4 @@
-use Rattle.std.proofs.Common.{◌≡◌, ◌<◌, ◌≤◌, ◌-◌, ℕ, true, is_some, sym, ap, ◌∙◌, subst, take, length}
+use Rattle.std.proofs.Common.{◌≡◌, ◌≤◌, ◌-◌, sym, ap, ◌∙◌, subst, take, length}
 use Rattle.std.specs.Prelude.{IsSome}
 use Rattle.oe_store.specs.Stored.{rows}
 use Rattle.oe_undo.specs.Undo.{active_at}

@@ -1,6 +1,5 @@
-use Rattle.std.proofs.Common.{◌≡◌, ◌⊎◌, sym, ap, ◌∙◌, subst, Some}
-use Rattle.std.specs.Prelude.{Option, option_map}
-use Rattle.oe_theory.specs.Machine as theory
+use Rattle.std.proofs.Common.{◌≡◌, ◌⊎◌, sym, ap, ◌∙◌, subst}
+use Rattle.std.specs.Prelude.{option_map}
 use Rattle.oe_model.specs.Locks.{mode_of}
 use Rattle.oe_engine.specs.View.{View, view_of, view_from}
 use Rattle.oe_engine.specs.Calls.{IsBelow, locked, put_mode}

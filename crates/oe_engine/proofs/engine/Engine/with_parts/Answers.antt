@@ -1,7 +1,4 @@
-use Rattle.std.proofs.Common.{◌≡◌, rules}
-use Rattle.oe_undo.specs.Undo.{open_total}
-use Rattle.oe_engine.specs.Lent.{Leaves, Keeps}
-use Rattle.oe_engine.specs.Kept.{IsKept}
+use Rattle.std.proofs.Common.{rules}
 use Rattle.oe_engine.proofs.engine.Engine.with_parts.Goals as goal
 
 pub invariant_of-self : goal.invariant_of-self

@@ -1,5 +1,5 @@
 use Rattle.oe_server.specs.Session.{state_of}
-use Rattle.oe_server.proofs.Reaching.{stand_line, stand_byte}
+use Rattle.oe_server.proofs.Reaching.{stand_line}
 use Rattle.oe_server.proofs.session.Session.take.Goals as goal
 
 pub returns-then-b-eq10-clause-fed : goal.returns-then-b-eq10-clause-fed
