@@ -1,10 +1,13 @@
-use Rattle.std.proofs.Common.{◌≡◌, ◌<◌, Some, None, length, set, refl, sym, ap, ◌∙◌, if◌then◌else◌, arith}
-use Rattle.oe_locks.specs.Held.{held, is_name, risen, by_terminal}
+use Rattle.std.proofs.Common.{◌≡◌, ◌<◌, ◌≤◌, Some, None, length, set, refl, sym, ap, ◌∙◌, if◌then◌else◌, arith}
+use Rattle.std.specs.Prelude.{vec_len}
+use Rattle.oe_locks.specs.Held.{held, is_name, risen, by_terminal, IsIdleAfter}
 use Rattle.oe_locks.proofs.HeldFacts.{held-at, held-changed, held-set_other, by_terminal-set_same, risen-at, idle-set}
+use Rattle.oe_locks.proofs.Locks.take.Goals.{After-insert}
 use Rattle.oe_locks.proofs.Locks.take.Goals as goal
 
-pub invariant_of-self : goal.invariant_of-self
-invariant_of-self c =
+-- what the type keeps, once the name is written or refused
+kept : (c : After-insert) → (vec_len c.self.inside.names ≡ 64) × ((c.later-self-inside.result ≤ 64) × IsIdleAfter (by_terminal (set c.self.inside.names.items c.place.result c.insert.new.self)) c.later-self-inside.result)
+kept c =
     let room : c.place.result < length c.self.inside.names.items = omega (arith, c.self.invariant.0) in (
       c.self.invariant.0,
       (
@@ -14,16 +17,11 @@ invariant_of-self c =
       ),
     )
 
+pub invariant_of-self : goal.invariant_of-self
+invariant_of-self c = kept (goal.at.invariant_of-self c).After-insert
+
 pub invariant_of-self-2 : goal.invariant_of-self-2
-invariant_of-self-2 c =
-    let room : c.place.result < length c.self.inside.names.items = omega (arith, c.self.invariant.0) in (
-      c.self.invariant.0,
-      (
-        c.later-self-inside.ensures.most c.self.invariant.1.0,
-        idle-set c.self.inside.names.items c.place.result c.args.terminal c.self.inside.last c.later-self-inside.result c.insert.new.self c.place.ensures.value room c.later-self-inside.ensures.last
-            (λ q b. absurd (omega (arith, b, c.later-self-inside.ensures.terminal))) c.self.invariant.1.1,
-      ),
-    )
+invariant_of-self-2 c = kept (goal.at.invariant_of-self-2 c).After-insert
 
 pub returns-in_default-clause-cause : goal.returns-in_default-clause-cause
 returns-in_default-clause-cause c =
