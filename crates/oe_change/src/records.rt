@@ -23,10 +23,10 @@ pub fn undo(tables: &mut Tables, before: Before)
         Before::InsertedOrderLine(key) => drop(tables.take_back_order_line(key)),
         Before::UpdatedWarehouse(key, row) => drop(tables.put_back_warehouse(key, row)),
         Before::UpdatedDistrict(key, row) => drop(tables.put_back_district(key, row)),
-        Before::UpdatedCustomer(key, row) => drop(tables.put_back_customer(key, row)),
+        Before::UpdatedCustomer(key, row) => drop(tables.put_back_customer(key, row.into_row())),
         Before::UpdatedOrder(key, row) => drop(tables.put_back_order(key, row)),
         Before::UpdatedOrderLine(key, row) => drop(tables.put_back_order_line(key, row)),
-        Before::UpdatedStock(key, row) => drop(tables.put_back_stock(key, row)),
+        Before::UpdatedStock(key, row) => drop(tables.put_back_stock(key, row.into_row())),
         Before::DeletedNewOrder(key) => tables.refill_new_order(key, NewOrder),
     }
 }

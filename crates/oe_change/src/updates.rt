@@ -10,7 +10,7 @@ use crate::inserts::supply_key;
 use oe_keys::{
     CustomerKey, DistrictKey, Key, NewOrderKey, OrderKey, OrderLineKey, StockKey, WarehouseKey,
 };
-use oe_records::Before;
+use oe_records::{Before, Boxed};
 use oe_requests::Refusal;
 use oe_rows::{Customer, District, Order, OrderLine, Stock, Warehouse};
 use oe_store::Tables;
@@ -52,10 +52,11 @@ pub(crate) fn update_district(
 }
 
 /// Puts another CUSTOMER row with the same C_LAST and C_FIRST in the place of a key's.
+#[inline(never)]
 pub(crate) fn update_customer(
     tables: &mut Tables,
     key: &CustomerKey,
-    row: Customer,
+    row: Boxed<Customer>,
 ) -> Result<Before, Refusal>
     ensures applied { IfOk result (λ b. Applies (UpdateCustomer key.now row) tables.old tables.new (record_of_before b)) }
     ensures refused { IfErr result (λ e. Refuses (UpdateCustomer key.now row) tables.old e) }
@@ -65,14 +66,16 @@ pub(crate) fn update_customer(
     let Some(old) = tables.customer(*key) else {
         return Err(Refusal::NoSuchRow(Key::Customer(*key)));
     };
-    if row.name.last != old.name.last {
+    let after = row.row();
+    if after.name.last != old.name.last {
         return Err(Refusal::KeyColumn);
     }
-    if row.name.first != old.name.first {
+    if after.name.first != old.name.first {
         return Err(Refusal::KeyColumn);
     }
-    let before = tables.update_customer(*key, row);
-    Ok(Before::UpdatedCustomer(*key, before))
+    let after = after.copied();
+    let before = tables.update_customer(*key, after);
+    Ok(Before::UpdatedCustomer(*key, row.with(before)))
 }
 
 /// Puts another ORDER row with the same O_C_ID in the place of a key's.
@@ -119,10 +122,11 @@ pub(crate) fn update_order_line(
 }
 
 /// Puts another STOCK row in the place of a key's.
+#[inline(never)]
 pub(crate) fn update_stock(
     tables: &mut Tables,
     key: &StockKey,
-    row: Stock,
+    row: Boxed<Stock>,
 ) -> Result<Before, Refusal>
     ensures applied { IfOk result (λ b. Applies (UpdateStock key.now row) tables.old tables.new (record_of_before b)) }
     ensures refused { IfErr result (λ e. Refuses (UpdateStock key.now row) tables.old e) }
@@ -132,8 +136,10 @@ pub(crate) fn update_stock(
     if tables.stock(*key).is_none() {
         return Err(Refusal::NoSuchRow(Key::Stock(*key)));
     }
-    let before = tables.update_stock(*key, row);
-    Ok(Before::UpdatedStock(*key, before))
+    let after = row.row();
+    let after = after.copied();
+    let before = tables.update_stock(*key, after);
+    Ok(Before::UpdatedStock(*key, row.with(before)))
 }
 
 /// Takes a NEW-ORDER row away. Its key keeps its place.

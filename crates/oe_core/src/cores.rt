@@ -240,6 +240,7 @@ fn keeps_open(refusal: &Refusal) -> bool
 }
 
 /// Commits a transaction of the engine, and answers the moment that it made.
+#[inline(never)]
 fn commit(engine: &mut Engine, work: Work, reply: &Reply) -> Moment
     requires { IsOpen engine.old work.tx }
     ensures moment { result ≡ suc (total terminal_limit (view_of engine.old).counts) }
@@ -260,6 +261,7 @@ fn commit(engine: &mut Engine, work: Work, reply: &Reply) -> Moment
 }
 
 /// Spends a transaction of the engine: all that it has changed is forgotten.
+#[inline(never)]
 fn roll_back(engine: &mut Engine, work: Work)
     requires open { IsOpen engine.old work.tx }
     requires unwinds { CanUnwind ((view_of engine.old).undo.active work.tx.terminal) (view_of engine.old).rows }

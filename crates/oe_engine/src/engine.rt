@@ -136,6 +136,11 @@ impl Engine {
         &self.tables
     }
 
+    /// The allocator that the engine was made with.
+    pub fn allocator(&self) -> Global {
+        self.undo.allocator()
+    }
+
     /// The newest moment: the number of all commits so far.
     #[tactic(auto, unfolding(crate::specs::View::view_of, crate::specs::View::view_from))]
     pub fn newest(&self) -> Moment

@@ -1,7 +1,7 @@
 -- A row that was done, or refused, by the engine is a step of the program.
-use Rattle.std.proofs.Common.{◌≡◌, ℕ, suc, Option, None, Some, refl, sym, ap, ◌∙◌, subst, inl, inr}
+use Rattle.std.proofs.Common.{◌≡◌, ℕ, suc, Option, Some, sym, ap, ◌∙◌, subst, inr}
 use Rattle.oe_theory.specs.Machine.{Ask, Go}
-use Rattle.oe_theory.specs.Next.{IsNew, GivesWay}
+use Rattle.oe_theory.specs.Next.{GivesWay}
 use Rattle.oe_requests.specs.declared.requests.Request.{Request}
 use Rattle.oe_requests.specs.declared.refusals.Refusal.{Refusal}
 use Rattle.oe_requests.specs.declared.refusals.Refusal.TheVariants.{BadLine, NoSuchRow, RowExists, Overflow, Reference, KeyColumn, Busy, UndoFull, NoMemory, NotOpen, AlreadyOpen, InvalidItem, NoCustomer, TooOld, Future, NotQuiet, NotPinned}

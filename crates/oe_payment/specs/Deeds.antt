@@ -7,7 +7,8 @@ use Rattle.oe_requests.specs.declared.refusals.Refusal.{Refusal}
 use Rattle.oe_requests.specs.declared.refusals.Refusal.TheVariants.{NoSuchRow, NoCustomer, Overflow}
 use Rattle.oe_model.specs.Rows.{Rows}
 use Rattle.oe_model.specs.Locks.{mode_of}
-use Rattle.oe_model.specs.Places.{PaymentPlace, InPayment}
+use Rattle.oe_model.specs.Changes.{Change}
+use Rattle.oe_model.specs.Places.{Place, PaymentPlace, InPayment}
 use Rattle.oe_model.specs.Payment.{payment_ask, payment_act}
 use Rattle.oe_records.specs.Changes.{change_of}
 use Rattle.oe_engine.specs.Calls.{ask_of}
@@ -27,5 +28,7 @@ abbrev pub IsDeed : ℕ → ℕ → PaymentRequest → PaymentPlace → Rows →
 IsDeed t k q p r deed.Stop = payment_ask q p r ≡ Stop NoCustomer
 IsDeed t k q p r (deed.Fail l e) =
     (payment_ask q p r ≡ Take l.name (mode_of l.mode)) × (payment_act t k q p r ≡ Fail e) × (is_failure e ≡ true)
+IsDeed t k q p r (deed.LacksMemory l) =
+    (payment_ask q p r ≡ Take l.name (mode_of l.mode)) × (c : Change) × (p' : Place) × (payment_act t k q p r ≡ Go (Some c) p')
 IsDeed t k q p r (deed.Go l c p') = (payment_ask q p r ≡ ask_of l) × (payment_act t k q p r ≡ Go (Some (change_of c)) (InPayment q (place_in p')))
 IsDeed t k q p r (deed.Ready y) = (payment_ask q p r ≡ Plain) × (payment_act t k q p r ≡ Ready (reply.Payment y))

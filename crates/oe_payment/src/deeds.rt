@@ -14,10 +14,11 @@ use oe_formulas::payments::{
     payment_reply, warehouse_after_payment,
 };
 use oe_keys::{CustomerKey, Key, Mode, Name, WarehouseKey};
-use oe_records::Change;
+use oe_records::{Boxed, Change};
 use oe_requests::{CustomerChoice, PaymentReply, PaymentRequest, Refusal};
 use oe_store::Tables;
 use oe_values::{CustomerNumber, Terminal, Text, TransactionNumber};
+use std::alloc::Global;
 
 /// What a row asks for and does.
 #[derive(Drop, Debug)]
@@ -26,6 +27,8 @@ pub enum Deed {
     Stop,
     /// It asks for a lock and fails.
     Fail(Lock, Refusal),
+    /// It asks for a lock, and memory for its change was refused.
+    LacksMemory(Lock),
     /// It may ask for a lock, makes a change, and the next row is at this place.
     Go(Option<Lock>, Change, Place),
     /// All rows are done.
@@ -43,6 +46,7 @@ fn exclusive(name: Name) -> Lock
 }
 
 // W_YTD rises by the amount.
+#[inline(never)]
 fn pay_warehouse(request: &PaymentRequest, key: &WarehouseKey, tables: &Tables) -> Deed
     requires { key.now ≡ warehouse_of_district request.now.district }
     ensures { (t k : ℕ) → IsDeed t k request.now PaymentWarehouse (rows tables.now) result }
@@ -61,6 +65,7 @@ fn pay_warehouse(request: &PaymentRequest, key: &WarehouseKey, tables: &Tables) 
 }
 
 // D_YTD rises by the amount.
+#[inline(never)]
 fn pay_district(request: &PaymentRequest, warehouse: &Text<0, 10>, tables: &Tables) -> Deed
     ensures { (t k : ℕ) → IsDeed t k request.now (PaymentDistrict warehouse.now) (rows tables.now) result }
 {
@@ -91,7 +96,9 @@ fn number_of(choice: &CustomerChoice) -> CustomerNumber
 
 // C_BALANCE falls and C_YTD_PAYMENT rises by the amount, C_PAYMENT_CNT rises by 1, and a bad credit's C_DATA begins with the
 // payment.
+#[inline(never)]
 fn pay_customer(
+    alloc: Global,
     request: &PaymentRequest,
     key: &CustomerKey,
     warehouse: &Text<0, 10>,
@@ -111,12 +118,16 @@ fn pay_customer(
         Ok(after) => {
             let reply = payment_reply(key.customer, &after);
             let place = Place::History(history_data(warehouse, district), reply);
-            Deed::Go(Some(lock), Change::UpdateCustomer(*key, after), place)
+            match Boxed::new(alloc, after) {
+                Ok(boxed) => Deed::Go(Some(lock), Change::UpdateCustomer(*key, boxed), place),
+                Err(_) => Deed::LacksMemory(lock),
+            }
         }
     }
 }
 
 // The payment's HISTORY row.
+#[inline(never)]
 fn note(
     request: &PaymentRequest,
     joined: &Text<0, 24>,
@@ -135,8 +146,10 @@ fn note(
     )
 }
 
-/// What the row at a place asks for and does, in transaction `number` of a terminal. It changes nothing.
+/// What the row at a place asks for and does, in transaction `number` of a terminal. It changes nothing. The row of CUSTOMER
+/// takes memory for the customer after it.
 pub fn row_of(
+    alloc: Global,
     request: &PaymentRequest,
     place: &Place,
     terminal: Terminal,
@@ -153,7 +166,7 @@ pub fn row_of(
             let key = request
                 .customer_district
                 .customer(number_of(&request.customer));
-            pay_customer(request, &key, warehouse, district, tables)
+            pay_customer(alloc, request, &key, warehouse, district, tables)
         }
         Place::History(joined, reply) => note(request, joined, reply, terminal, number),
         Place::End(reply) => Deed::Ready(reply.copied()),

@@ -63,6 +63,7 @@ impl Program {
         let number = engine.number(tx);
         let terminal = tx.terminal();
         match row_of(
+            engine.allocator(),
             &self.request,
             &self.place,
             terminal,
@@ -74,6 +75,10 @@ impl Program {
             Deed::Fail(lock, refusal) => match engine.is_free(tx, lock) {
                 Ok(()) => Progress::Refused(refusal),
                 Err(busy) => Progress::Refused(busy),
+            },
+            Deed::LacksMemory(lock) => match engine.is_free(tx, lock) {
+                Ok(()) => Progress::Refused(Refusal::NoMemory),
+                Err(refusal) => Progress::Refused(refusal),
             },
             Deed::Go(lock, change, place) => match engine.row(tx, lock, Some(change)) {
                 Ok(()) => {

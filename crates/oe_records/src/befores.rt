@@ -2,6 +2,7 @@
 ghost use Rattle.std.specs.Prelude.{◌≡◌};
 ghost use Rattle.oe_model.specs.Changes.{record_key};
 
+use crate::boxed::Boxed;
 use oe_keys::keys::{
     CustomerKey, DistrictKey, HistoryKey, Key, NewOrderKey, OrderKey, OrderLineKey, StockKey,
     WarehouseKey,
@@ -22,10 +23,10 @@ pub enum Before {
     InsertedOrderLine(OrderLineKey),
     UpdatedWarehouse(WarehouseKey, Warehouse),
     UpdatedDistrict(DistrictKey, District),
-    UpdatedCustomer(CustomerKey, Customer),
+    UpdatedCustomer(CustomerKey, Boxed<Customer>),
     UpdatedOrder(OrderKey, Order),
     UpdatedOrderLine(OrderLineKey, OrderLine),
-    UpdatedStock(StockKey, Stock),
+    UpdatedStock(StockKey, Boxed<Stock>),
     DeletedNewOrder(NewOrderKey),
 }
 
@@ -48,25 +49,6 @@ impl Before {
             Before::UpdatedOrderLine(key, _) => Key::OrderLine(*key),
             Before::UpdatedStock(key, _) => Key::Stock(*key),
             Before::DeletedNewOrder(key) => Key::NewOrder(*key),
-        }
-    }
-
-    /// A copy, which takes no memory.
-    pub fn copied(&self) -> Self
-        ensures { result ≡ self.now }
-    {
-        match self {
-            Before::InsertedHistory(key) => Before::InsertedHistory(*key),
-            Before::InsertedNewOrder(key) => Before::InsertedNewOrder(*key),
-            Before::InsertedOrder(key) => Before::InsertedOrder(*key),
-            Before::InsertedOrderLine(key) => Before::InsertedOrderLine(*key),
-            Before::UpdatedWarehouse(key, row) => Before::UpdatedWarehouse(*key, row.copied()),
-            Before::UpdatedDistrict(key, row) => Before::UpdatedDistrict(*key, row.copied()),
-            Before::UpdatedCustomer(key, row) => Before::UpdatedCustomer(*key, row.copied()),
-            Before::UpdatedOrder(key, row) => Before::UpdatedOrder(*key, row.copied()),
-            Before::UpdatedOrderLine(key, row) => Before::UpdatedOrderLine(*key, row.copied()),
-            Before::UpdatedStock(key, row) => Before::UpdatedStock(*key, row.copied()),
-            Before::DeletedNewOrder(key) => Before::DeletedNewOrder(*key),
         }
     }
 }

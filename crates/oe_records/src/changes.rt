@@ -1,7 +1,8 @@
 //! Changes.
-ghost use Rattle.std.specs.Prelude.{◌≡◌};
+ghost use Rattle.std.specs.Prelude.{◌≡◌, IfOk};
 ghost use Rattle.oe_model.specs.Changes.{key_of};
 
+use crate::boxed::Boxed;
 use oe_keys::keys::{
     CustomerKey, DistrictKey, HistoryKey, Key, NewOrderKey, OrderKey, OrderLineKey, StockKey,
     WarehouseKey,
@@ -12,6 +13,8 @@ use oe_rows::histories::History;
 use oe_rows::items::Stock;
 use oe_rows::orders::{Order, OrderLine};
 use oe_rows::warehouses::Warehouse;
+use oe_table::tables::NoMemory;
+use std::alloc::Global;
 
 /// A change of one row, of those that the standard's transactions make (clauses 2.4.2, 2.5.2 and 2.7.4): the row that is
 /// inserted or takes another's place, under its key, or the key whose row is deleted.
@@ -23,10 +26,10 @@ pub enum Change {
     InsertOrderLine(OrderLineKey, OrderLine),
     UpdateWarehouse(WarehouseKey, Warehouse),
     UpdateDistrict(DistrictKey, District),
-    UpdateCustomer(CustomerKey, Customer),
+    UpdateCustomer(CustomerKey, Boxed<Customer>),
     UpdateOrder(OrderKey, Order),
     UpdateOrderLine(OrderLineKey, OrderLine),
-    UpdateStock(StockKey, Stock),
+    UpdateStock(StockKey, Boxed<Stock>),
     DeleteNewOrder(NewOrderKey),
 }
 
@@ -51,23 +54,26 @@ impl Change {
             Change::DeleteNewOrder(key) => Key::NewOrder(*key),
         }
     }
-
-    /// A copy, which takes no memory.
-    pub fn copied(&self) -> Self
-        ensures { result ≡ self.now }
+    /// A copy; `NoMemory` where memory was refused for a row that lies in its own.
+    pub fn copied(&self, alloc: Global) -> Result<Self, NoMemory>
+        ensures { IfOk result (λ c. c ≡ self.now) }
     {
-        match self {
+        Ok(match self {
             Change::InsertHistory(key, row) => Change::InsertHistory(*key, row.copied()),
             Change::InsertNewOrder(key) => Change::InsertNewOrder(*key),
             Change::InsertOrder(key, row) => Change::InsertOrder(*key, row.copied()),
             Change::InsertOrderLine(key, row) => Change::InsertOrderLine(*key, row.copied()),
             Change::UpdateWarehouse(key, row) => Change::UpdateWarehouse(*key, row.copied()),
             Change::UpdateDistrict(key, row) => Change::UpdateDistrict(*key, row.copied()),
-            Change::UpdateCustomer(key, row) => Change::UpdateCustomer(*key, row.copied()),
+            Change::UpdateCustomer(key, row) => {
+                Change::UpdateCustomer(*key, Boxed::new(alloc, row.row().copied())?)
+            }
             Change::UpdateOrder(key, row) => Change::UpdateOrder(*key, row.copied()),
             Change::UpdateOrderLine(key, row) => Change::UpdateOrderLine(*key, row.copied()),
-            Change::UpdateStock(key, row) => Change::UpdateStock(*key, row.copied()),
+            Change::UpdateStock(key, row) => {
+                Change::UpdateStock(*key, Boxed::new(alloc, row.row().copied())?)
+            }
             Change::DeleteNewOrder(key) => Change::DeleteNewOrder(*key),
-        }
+        })
     }
 }

@@ -6,10 +6,14 @@ ghost use Rattle.oe_model.specs.Population.{IsPopulated};
 ghost use Rattle.oe_model.specs.System.{system};
 ghost use Rattle.oe_lines.specs.Grammar.{Says, HasForm};
 ghost use Rattle.oe_lines.specs.declared.commands.Command.TheVariants as asks;
+ghost use Rattle.oe_steps.specs.declared.answers.Answer.{Answer};
 ghost use Rattle.oe_core.specs.Core.{world_of};
+ghost use Rattle.oe_core.specs.Steps.{step_in, answer_in, Serves, IsStep};
 ghost use Rattle.oe_server.specs.Script.{LineAnswer, RunsIn, scale_in, moment_in};
 ghost use Rattle.oe_server.specs.Session.{state_of, IsLive};
 ghost use Rattle.oe_server.specs.Outcome.{text_of};
+ghost use Rattle.oe_server.specs.declared.outcome.Outcome.TheVariants as outcome;
+ghost use Rattle.oe_server.specs.declared.outcome.Said.TheVariants as said;
 
 use oe_core::Core;
 use oe_keys::Table;
@@ -56,6 +60,7 @@ pub fn outcome_of(core: &mut Option<Core>, alloc: Global, line: &[u8]) -> Outcom
 }
 
 /// The same before something is open.
+#[inline(never)]
 fn first(core: &mut Option<Core>, alloc: Global, asked: Command) -> Outcome
     requires none { core.old ≡ None }
     requires form { HasForm asked }
@@ -98,22 +103,27 @@ fn later(core: &mut Core, asked: Command) -> Outcome
 {
     match asked {
         Command::Open(_, _) => Outcome::Line(Said::BadLine),
-        Command::Begin(terminal, request) => {
-            Outcome::Line(Said::Told(core.step(Step::Begin(terminal, request))))
-        }
-        Command::Next(terminal) => { Outcome::Line(Said::Told(core.step(Step::Advance(terminal)))) }
+        Command::Begin(terminal, request) => told(core, Step::Begin(terminal, request)),
+        Command::Next(terminal) => told(core, Step::Advance(terminal)),
         Command::Run(terminal) => Outcome::Line(Said::Told(run(core, terminal))),
-        Command::Save(terminal) => { Outcome::Line(Said::Told(core.step(Step::Save(terminal)))) }
-        Command::Back(terminal) => { Outcome::Line(Said::Told(core.step(Step::Back(terminal)))) }
-        Command::Rollback(terminal) => {
-            Outcome::Line(Said::Told(core.step(Step::Rollback(terminal))))
-        }
+        Command::Save(terminal) => told(core, Step::Save(terminal)),
+        Command::Back(terminal) => told(core, Step::Back(terminal)),
+        Command::Rollback(terminal) => told(core, Step::Rollback(terminal)),
         Command::Dump(table) => Outcome::Rows(table),
         Command::Audit(condition, moment) => {
             let moment = moment_of(core, moment);
             Outcome::Line(Said::Audited(condition, core.step(Step::Audit(condition, moment))))
         }
     }
+}
+
+/// Takes a step.
+#[inline(never)]
+fn told(core: &mut Core, step: Step) -> Outcome
+    requires { IsStep step }
+    ensures { (x : Answer) × (result ≡ outcome.Line (said.Told x)) × Serves (world_of core.old) (step_in step) (answer_in step x) (world_of core.new) }
+{
+    Outcome::Line(Said::Told(core.step(step)))
 }
 
 /// The moment that is asked for.
@@ -127,6 +137,7 @@ fn moment_of(core: &Core, choice: MomentChoice) -> Moment
 }
 
 /// Advances up to the first answer that is not `more`.
+#[inline(never)]
 fn run(core: &mut Core, terminal: Terminal) -> Answer
     requires { IsLive (Some (world_of core.old)) }
     ensures { (n : ℕ) × RunsIn n (world_of core.old) terminal result (world_of core.new) }

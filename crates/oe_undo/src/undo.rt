@@ -94,6 +94,11 @@ impl Undo {
         })
     }
 
+    /// The allocator that the log was made with.
+    pub fn allocator(&self) -> Global {
+        self.alloc
+    }
+
     /// How many extents there are.
     pub fn extents(&self) -> u16
         ensures { result ≡ self.now.extents }
