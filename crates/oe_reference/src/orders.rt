@@ -1,5 +1,5 @@
 //! New-Order (clause 2.4).
-ghost use Rattle.std.specs.Prelude.{◌≡◌, ◌<◌, ◌≤◌, ◌∷◌, ◌++◌, [], IfOk, IfSome, None, MatchOption, option_map, map, take, length, slice_index_or, vec_len};
+ghost use Rattle.std.specs.Prelude.{◌≡◌, ◌<◌, ◌≤◌, ◌∷◌, ◌++◌, [], IfOk, IfSome, Some, None, MatchOption, option_map, map, take, length, slice_index_or, vec_len};
 ghost use Rattle.std.specs.Ordering.{eq_by_cmp};
 ghost use Rattle.oe_keys.specs.Key.{stock_cmp};
 ghost use Rattle.oe_model.specs.Effects.{in_range};
@@ -213,7 +213,8 @@ pub fn new_order(
     tables: &Tables,
     request: &NewOrderRequest,
 ) -> Result<Option<Ordered>, AllocError>
-    ensures { IfOk result (λ o. new_order_effect request.now (rows tables.now) ≡ option_map (after_order request.now (rows tables.now)) o) }
+    ensures effect { IfOk result (λ o. new_order_effect request.now (rows tables.now) ≡ option_map (after_order request.now (rows tables.now)) o) }
+    ensures lines { IfOk result (λ o. IfSome o (λ x. all_filled request.now (rows tables.now) [] request.now.lines ≡ Some (map filled_by x.lines.items))) }
 {
     let Some(warehouse) = tables.warehouse(request.district.warehouse_key()) else {
         return Ok(None);
