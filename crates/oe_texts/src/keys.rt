@@ -46,15 +46,13 @@ fn history(out: &mut Pending, key: HistoryKey, between: u8)
     small(out, key.place.get());
 }
 
-/// NO_W_ID, NO_D_ID, NO_O_ID.
+/// NO_W_ID, NO_D_ID, NO_O_ID: those of its order.
 fn new_order(out: &mut Pending, key: NewOrderKey, between: u8)
     requires { array_vec_len out.old + 32 ≤ SIZE }
     ensures items { out.new.items ≡ out.old.items ++ join_with_byte between (key_texts (Key.NewOrder key)) }
     ensures len { array_vec_len out.new ≤ array_vec_len out.old + 32 }
 {
-    small_then(out, key.warehouse.get(), between);
-    small_then(out, key.district.get(), between);
-    small(out, key.order.get());
+    order(out, key.order_key(), between);
 }
 
 /// O_W_ID, O_D_ID, O_ID.
