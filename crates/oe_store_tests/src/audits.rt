@@ -1,7 +1,7 @@
 //! Audits of a small population, and of one with a row changed.
-use crate::fixtures::{district_key, history_key, is_made, order_key, populated};
+use crate::fixtures::{district_key, history_key, order_key, populated};
 use oe_audit::{condition, is_population};
-use oe_change::Change;
+use oe_change::{Change, apply};
 use oe_keys::Key;
 use oe_steps::{Condition, Verdict};
 use oe_store::Tables;
@@ -104,10 +104,14 @@ fn deserved(fault: &Fault) -> Option<[Verdict; 4]> {
     })
 }
 
-/// Makes the change. Whether it was made.
+/// Makes the change, the second time, where memory was refused. Whether it was made.
 fn spoil(tables: &mut Tables, fault: &Fault) -> Option<bool> {
-    let change = change(tables, fault)?;
-    Some(is_made(tables, &change))
+    let first = change(tables, fault)?;
+    if apply(tables, first).is_ok() {
+        return Some(true);
+    }
+    let second = change(tables, fault)?;
+    Some(apply(tables, second).is_ok())
 }
 
 /// Whether tables that the change was made in are no population, and have the verdicts that it deserves.

@@ -12,8 +12,10 @@ use crate::fixtures::{
 };
 use oe_change::{Before, Change, apply, undo};
 use oe_keys::OrderLineKey;
+use oe_records::Boxed;
 use oe_store::Tables;
 use oe_values::{Number, Text, YearToDate};
+use std::alloc::Global;
 use std::process::Abort;
 
 fn order_insert(tables: &Tables, number: u32) -> Option<Change> {
@@ -62,11 +64,11 @@ fn district_update(tables: &Tables) -> Option<Change> {
 /// C_DATA after a payment.
 const PAID: &str = "1 1 1 1 1 8.00";
 
-fn customer_update(tables: &Tables) -> Option<Change> {
+fn customer_update(alloc: Global, tables: &Tables) -> Option<Change> {
     let key = customer_key(1, 1)?;
     let mut row = tables.customer(key)?.copied();
     row.data = Text::read(PAID)?;
-    Some(Change::UpdateCustomer(key, row))
+    Some(Change::UpdateCustomer(key, Boxed::new(alloc, row).ok()?))
 }
 
 fn order_update(tables: &Tables) -> Option<Change> {
@@ -83,11 +85,11 @@ fn line_update(tables: &Tables) -> Option<Change> {
     Some(Change::UpdateOrderLine(key, row))
 }
 
-fn stock_update(tables: &Tables) -> Option<Change> {
+fn stock_update(alloc: Global, tables: &Tables) -> Option<Change> {
     let key = stock_key(1)?;
     let mut row = tables.stock(key)?.copied();
     row.quantity = Number::new(90)?;
-    Some(Change::UpdateStock(key, row))
+    Some(Change::UpdateStock(key, Boxed::new(alloc, row).ok()?))
 }
 
 fn delete() -> Option<Change> {
@@ -98,33 +100,56 @@ fn delete() -> Option<Change> {
 const LENGTH: u32 = 31;
 
 /// One of the updates, or the delete.
-fn update(tables: &Tables, kind: u32) -> Option<Change> {
+fn update(alloc: Global, tables: &Tables, kind: u32) -> Option<Change> {
     match kind {
         0 => warehouse_update(tables),
         1 => district_update(tables),
-        2 => customer_update(tables),
+        2 => customer_update(alloc, tables),
         3 => order_update(tables),
         4 => line_update(tables),
-        5 => stock_update(tables),
+        5 => stock_update(alloc, tables),
         _ => delete(),
     }
 }
 
 /// The change at a place of the script: four inserts for each of the orders from 2 to 7, six updates, and a delete.
-fn change_at(tables: &Tables, place: u32) -> Option<Change> {
+/// `None` where memory was refused for its row.
+fn scripted(alloc: Global, tables: &Tables, place: u32) -> Option<Change> {
     if place < 24 {
         return insert(tables, place % 4, 2 + place / 4);
     }
-    update(tables, place - 24)
+    update(alloc, tables, place - 24)
+}
+
+/// The same; written the second time, where memory was refused.
+fn change_at(alloc: Global, tables: &Tables, place: u32) -> Option<Change> {
+    match scripted(alloc, tables, place) {
+        Some(change) => Some(change),
+        None => scripted(alloc, tables, place),
+    }
+}
+
+/// A copy; made the second time, where memory was refused.
+fn copied(rt: &impl Abort, alloc: Global, change: &Change) -> Change
+    ensures { result ≡ change.now }
+{
+    match change.copied(alloc) {
+        Ok(copy) => copy,
+        Err(_) => change.copied(alloc).expect(rt, "a copy"),
+    }
 }
 
 /// Makes a change; the second time, where memory was refused.
-fn make(rt: &impl Abort, tables: &mut Tables, change: &Change) -> Before
+fn make(rt: &impl Abort, alloc: Global, tables: &mut Tables, change: &Change) -> Before
     ensures { Applies (change_of change.now) tables.old tables.new (record_of_before result) }
 {
-    match apply(tables, change.copied()) {
+    let copy = copied(rt, alloc, change);
+    match apply(tables, copy) {
         Ok(before) => before,
-        Err(_) => apply(tables, change.copied()).expect(rt, "the change again"),
+        Err(_) => {
+            let again = copied(rt, alloc, change);
+            apply(tables, again).expect(rt, "the change again")
+        }
     }
 }
 
@@ -168,7 +193,7 @@ fn assert_changed(rt: &impl Abort, tables: &Tables) {
 }
 
 /// Makes the changes of the script from a place on, and undoes them, the newest first.
-fn there_and_back(rt: &impl Abort, tables: &mut Tables, place: u32)
+fn there_and_back(rt: &impl Abort, alloc: Global, tables: &mut Tables, place: u32)
     ensures rows { rows tables.new ≡ rows tables.old }
     ensures places { (k : Key) → HasPlace tables.old k → HasPlace tables.new k }
 {
@@ -177,10 +202,10 @@ fn there_and_back(rt: &impl Abort, tables: &mut Tables, place: u32)
         return;
     }
     tables.schema_holds();
-    let change = change_at(tables, place).expect(rt, "a change");
+    let change = change_at(alloc, tables, place).expect(rt, "a change");
     let facts = facts(tables);
-    let before = make(rt, tables, &change);
-    there_and_back(rt, tables, place + 1);
+    let before = make(rt, alloc, tables, &change);
+    there_and_back(rt, alloc, tables, place + 1);
     undo(tables, before);
     assert_facts(rt, tables, &facts);
 }
@@ -188,5 +213,5 @@ fn there_and_back(rt: &impl Abort, tables: &mut Tables, place: u32)
 #[test]
 fn changes_are_made_and_undone(rt: HostRuntime) {
     let mut tables = populated(rt.alloc(), 1, 1).expect(&rt, "a population");
-    there_and_back(&rt, &mut tables, 0);
+    there_and_back(&rt, rt.alloc(), &mut tables, 0);
 }

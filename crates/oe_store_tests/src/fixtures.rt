@@ -1,7 +1,5 @@
 //! Keys of the first warehouse's rows, small populations, and the numbers of rows of tables.
-use oe_change::apply;
 use oe_keys::{CustomerKey, DistrictKey, HistoryKey, OrderKey, StockKey, Table};
-use oe_records::Change;
 use oe_rows::Scale;
 use oe_store::{Tables, populate};
 use oe_values::Number;
@@ -52,14 +50,6 @@ pub(crate) fn populated(alloc: Global, customers: u32, items: u32) -> Option<Tab
         Ok(tables) => Some(tables),
         Err(_) => populate(alloc, scale(customers, items)?).ok(),
     }
-}
-
-/// Makes a change, the second time, where memory was refused. Whether it was made.
-pub(crate) fn is_made(tables: &mut Tables, change: &Change) -> bool {
-    if apply(tables, change.copied()).is_ok() {
-        return true;
-    }
-    apply(tables, change.copied()).is_ok()
 }
 
 /// The number of rows that a dump gives.
