@@ -4,6 +4,7 @@ use oe_engine::{Engine, Lock, Mark, Tx};
 use oe_keys::{Mode, Name, WarehouseKey};
 use oe_records::Change;
 use oe_requests::{DistrictDelivery, Refusal, Reply};
+use oe_rows::Warehouse;
 use oe_values::{Terminal, YearToDate};
 use std::process::Abort;
 
@@ -11,33 +12,42 @@ fn ytd(engine: &Engine, key: &WarehouseKey) -> Option<u64> {
     Some(engine.tables().warehouse(*key)?.ytd.cents())
 }
 
-/// W_YTD becomes 1.00.
-fn change(engine: &Engine, key: &WarehouseKey) -> Option<Change> {
+/// The warehouse's row with a W_YTD of 1.00.
+fn row(engine: &Engine, key: &WarehouseKey) -> Option<Warehouse> {
     let mut row = engine.tables().warehouse(*key)?.copied();
     row.ytd = YearToDate::new(100)?;
-    Some(Change::UpdateWarehouse(*key, row))
+    Some(row)
 }
 
-/// Makes a change; the second time, where memory was refused.
-fn make(rt: &impl Abort, engine: &mut Engine, tx: &Tx, change: &Change) {
-    if engine.change(tx, change.copied()).is_ok() {
+/// W_YTD becomes 1.00.
+fn change(rt: &impl Abort, engine: &Engine, key: &WarehouseKey) -> Change {
+    Change::UpdateWarehouse(*key, row(engine, key).expect(rt, "a row"))
+}
+
+/// Makes the change; the second time, where memory was refused.
+fn make(rt: &impl Abort, engine: &mut Engine, tx: &Tx, key: &WarehouseKey) {
+    let first = change(rt, engine, key);
+    if engine.change(tx, first).is_ok() {
         return;
     }
-    let is_made = engine.change(tx, change.copied()).is_ok();
+    let second = change(rt, engine, key);
+    let is_made = engine.change(tx, second).is_ok();
     assert!(rt; is_made);
 }
 
 /// Nothing is done for a transaction of another engine.
-fn refuse(rt: &impl Abort, engine: &mut Engine, tx: &Tx, key: &WarehouseKey, change: &Change) {
+fn refuse(rt: &impl Abort, engine: &mut Engine, tx: &Tx, key: &WarehouseKey) {
     let name = Name::Warehouse(*key);
     let lock = Lock {
         name,
         mode: Mode::Shared,
     };
     let not_open = Err(Refusal::NotOpen);
-    assert!(rt; engine.row(tx, Some(lock), Some(change.copied())) == not_open);
+    let first = change(rt, engine, key);
+    let second = change(rt, engine, key);
+    assert!(rt; engine.row(tx, Some(lock), Some(first)) == not_open);
     assert!(rt; engine.lock(tx, name, Mode::Shared) == not_open);
-    assert!(rt; engine.change(tx, change.copied()) == not_open);
+    assert!(rt; engine.change(tx, second) == not_open);
     assert!(rt; engine.held(tx, &name).is_none());
     assert!(rt; engine.savepoint(tx) == Mark::start());
 }
@@ -62,9 +72,9 @@ fn by_rollback(rt: &impl Abort, engine: &mut Engine, tx: Tx) -> Tx {
 }
 
 /// The own transaction makes a change, as if the other had never come.
-fn go_on(rt: &impl Abort, home: &mut Engine, own: Tx, key: &WarehouseKey, change: &Change) {
+fn go_on(rt: &impl Abort, home: &mut Engine, own: Tx, key: &WarehouseKey) {
     assert!(rt; ytd(home, key) == Some(100_000));
-    make(rt, home, &own, change);
+    make(rt, home, &own, key);
     assert!(rt; ytd(home, key) == Some(100));
     assert!(rt; home.held(&own, &Name::Warehouse(*key)) == Some(Mode::Exclusive));
     assert!(rt; home.open_count() == 1);
@@ -74,14 +84,13 @@ fn go_on(rt: &impl Abort, home: &mut Engine, own: Tx, key: &WarehouseKey, change
 /// A transaction of one engine comes to the other.
 fn stray(rt: &impl Abort, home: &mut Engine, abroad: &mut Engine, terminal: Terminal) {
     let key = &warehouse().expect(rt, "a warehouse");
-    let change = &change(home, key).expect(rt, "a change");
     let own = begin(rt, home, terminal);
     let foreign = begin(rt, abroad, terminal);
-    refuse(rt, home, &foreign, key, change);
+    refuse(rt, home, &foreign, key);
     let skipped = Reply::Delivery(DistrictDelivery::Skipped);
     let foreign = by_commit(rt, home, foreign, skipped);
     let foreign = by_rollback(rt, home, foreign);
-    go_on(rt, home, own, key, change);
+    go_on(rt, home, own, key);
     assert!(rt; ytd(abroad, key) == Some(100_000));
     end(rt, abroad, foreign);
 }
