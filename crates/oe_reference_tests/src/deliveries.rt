@@ -1,5 +1,5 @@
 //! Deliveries of district 1 by carrier 3 (clause 2.7).
-use crate::fixtures::{change, customer, district, small, stamp};
+use crate::fixtures::{change, customer, customer_update, district, small, stamp};
 use oe_audit::condition;
 use oe_records::Change;
 use oe_reference::deliveries::{Delivered, DistrictEffect, delivery};
@@ -36,17 +36,15 @@ fn effect(alloc: Global, tables: &Tables) -> Option<Option<DistrictEffect>> {
 }
 
 /// Puts the rows after a delivery into the tables.
-fn put(tables: &mut Tables, after: &Delivered) -> Option<()> {
+fn put(alloc: Global, tables: &mut Tables, after: &Delivered) -> Option<()> {
     let key = &district()?.order(after.reply.order);
-    let customer = customer(after.reply.customer.get())?;
-    change(tables, &Change::DeleteNewOrder(key.new_order_key()))?;
-    change(tables, &Change::UpdateOrder(*key, after.order))?;
-    change(
-        tables,
-        &Change::UpdateCustomer(customer, after.customer.copied()),
-    )?;
+    let customer = &customer(after.reply.customer.get())?;
+    let update = customer_update(alloc, customer, &after.customer)?;
+    change(alloc, tables, &Change::DeleteNewOrder(key.new_order_key()))?;
+    change(alloc, tables, &Change::UpdateOrder(*key, after.order))?;
+    change(alloc, tables, &update)?;
     for (line, row) in &after.lines {
-        change(tables, &Change::UpdateOrderLine(*line, row.copied()))?;
+        change(alloc, tables, &Change::UpdateOrderLine(*line, row.copied()))?;
     }
     Some(())
 }
@@ -63,7 +61,7 @@ fn figures(after: &Delivered) -> ([u64; 3], i64) {
 fn deliver(alloc: Global, tables: &mut Tables) -> Option<Option<([u64; 3], i64)>> {
     match effect(alloc, tables)?? {
         DistrictEffect::Delivered(after) => {
-            put(tables, &after)?;
+            put(alloc, tables, &after)?;
             Some(Some(figures(&after)))
         }
         DistrictEffect::Skipped => Some(None),

@@ -1,7 +1,7 @@
 //! What the tests share: small populations, keys and stamps.
 use oe_change::apply;
 use oe_keys::{CustomerKey, DistrictKey, StockKey};
-use oe_records::Change;
+use oe_records::{Boxed, Change};
 use oe_rows::{Customer, Scale};
 use oe_store::{Tables, populate};
 use oe_values::{CustomerNumber, DistrictNumber, ItemNumber, Stamp, WarehouseNumber};
@@ -57,11 +57,26 @@ pub(crate) fn stamp() -> Option<Stamp> {
     Stamp::read("2001-01-01T00:00:00")
 }
 
-/// Makes a change, the second time where memory was refused.
-pub(crate) fn change(tables: &mut Tables, change: &Change) -> Option<()> {
-    if apply(tables, change.copied()).is_ok() {
-        return Some(());
-    }
-    apply(tables, change.copied()).ok()?;
+/// The change of a CUSTOMER row; made the second time, where memory was refused.
+pub(crate) fn customer_update(alloc: Global, key: &CustomerKey, row: &Customer) -> Option<Change> {
+    let boxed = match Boxed::new(alloc, row.copied()) {
+        Ok(boxed) => boxed,
+        Err(_) => Boxed::new(alloc, row.copied()).ok()?,
+    };
+    Some(Change::UpdateCustomer(*key, boxed))
+}
+
+/// Makes a change; `None` where memory was refused.
+fn tried(alloc: Global, tables: &mut Tables, change: &Change) -> Option<()> {
+    let copy = change.copied(alloc).ok()?;
+    apply(tables, copy).ok()?;
     Some(())
+}
+
+/// Makes a change, the second time where memory was refused.
+pub(crate) fn change(alloc: Global, tables: &mut Tables, change: &Change) -> Option<()> {
+    match tried(alloc, tables, change) {
+        Some(()) => Some(()),
+        None => tried(alloc, tables, change),
+    }
 }

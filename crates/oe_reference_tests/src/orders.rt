@@ -1,6 +1,6 @@
 //! New orders of customer 1 in district 1, supplied by warehouse 1 (clause 2.4).
 use crate::fixtures::{change, district, small, stamp, stock};
-use oe_records::Change;
+use oe_records::{Boxed, Change};
 use oe_reference::orders::{Ordered, new_order, stock_after_lines};
 use oe_requests::{Brand, LineReply, NewOrderReply, NewOrderRequest, RequestLine, RequestLines};
 use oe_rows::Credit;
@@ -158,32 +158,42 @@ fn orders_are_answered(rt: HostRuntime) {
     assert_small(&rt, rt.alloc(), &tables);
 }
 
-/// Puts the stock that a line leaves into the tables.
-fn supply(tables: &mut Tables, line: &RequestLine) -> Option<()> {
+/// The change of a stock that a line leaves; `None` where memory was refused.
+fn stock_update(alloc: Global, tables: &Tables, line: &RequestLine) -> Option<Change> {
     let key = &stock(line.item.get())?;
     let row = tables.stock(*key)?;
     let after = stock_after_lines(key.warehouse, &[*line], key, row)?;
-    change(tables, &Change::UpdateStock(*key, after))
+    Some(Change::UpdateStock(*key, Boxed::new(alloc, after).ok()?))
+}
+
+/// Puts the stock that a line leaves into the tables.
+fn supply(alloc: Global, tables: &mut Tables, line: &RequestLine) -> Option<()> {
+    let update = match stock_update(alloc, tables, line) {
+        Some(update) => update,
+        None => stock_update(alloc, tables, line)?,
+    };
+    change(alloc, tables, &update)
 }
 
 /// Puts the district and the order's rows, but no stock, into the tables.
-fn insert(tables: &mut Tables, effect: &Ordered) -> Option<()> {
+fn insert(alloc: Global, tables: &mut Tables, effect: &Ordered) -> Option<()> {
     let key = &district()?.order(effect.reply.order);
     let next_district = effect.district.copied();
-    change(tables, &Change::UpdateDistrict(district()?, next_district))?;
-    change(tables, &Change::InsertOrder(*key, effect.order))?;
-    change(tables, &Change::InsertNewOrder(key.new_order_key()))?;
+    let update = Change::UpdateDistrict(district()?, next_district);
+    change(alloc, tables, &update)?;
+    change(alloc, tables, &Change::InsertOrder(*key, effect.order))?;
+    change(alloc, tables, &Change::InsertNewOrder(key.new_order_key()))?;
     for line in &effect.lines {
-        let row = line.row.copied();
-        change(tables, &Change::InsertOrderLine(key.line(line.number), row))?;
+        let row = Change::InsertOrderLine(key.line(line.number), line.row.copied());
+        change(alloc, tables, &row)?;
     }
     Some(())
 }
 
 /// Puts the stock of items 1 to 5 after an order of them into the tables.
-fn supply_five(tables: &mut Tables) -> Option<()> {
+fn supply_five(alloc: Global, tables: &mut Tables) -> Option<()> {
     for line in &lines(&FIRST_FIVE)? {
-        supply(tables, line)?;
+        supply(alloc, tables, line)?;
     }
     Some(())
 }
@@ -191,8 +201,8 @@ fn supply_five(tables: &mut Tables) -> Option<()> {
 /// Puts an order of items 1 to 5 into the tables.
 pub(crate) fn order(alloc: Global, tables: &mut Tables) -> Option<()> {
     let effect = ordered(alloc, tables, &FIRST_FIVE)??;
-    insert(tables, &effect)?;
-    supply_five(tables)
+    insert(alloc, tables, &effect)?;
+    supply_five(alloc, tables)
 }
 
 /// The number of the next order of items 1 to 5, which is not put into the tables.

@@ -1,7 +1,6 @@
 //! Payments of 250.00 in district 1 by its customers (clause 2.5).
-use crate::fixtures::{change, customer, customer_row, district, small, stamp};
+use crate::fixtures::{change, customer, customer_row, customer_update, district, small, stamp};
 use oe_formulas::payments::customer_after_payment;
-use oe_records::Change;
 use oe_reference::payments::{Paid, payment};
 use oe_requests::{Column, CustomerChoice, PaymentRequest};
 use oe_rows::Credit;
@@ -104,10 +103,11 @@ fn assert_paid(rt: &impl Abort, alloc: Global, tables: &Tables) {
 }
 
 /// Lets customer 1 have paid 9,999 times.
-fn count_to_the_most(tables: &mut Tables) -> Option<()> {
+fn count_to_the_most(alloc: Global, tables: &mut Tables) -> Option<()> {
     let mut row = customer_row(tables, 1)?.copied();
     row.account.payment_count = Count::new(9_999)?;
-    change(tables, &Change::UpdateCustomer(customer(1)?, row))
+    let update = customer_update(alloc, &customer(1)?, &row)?;
+    change(alloc, tables, &update)
 }
 
 /// The column of customer 1 that would leave its range.
@@ -126,7 +126,7 @@ fn assert_uncounted(rt: &impl Abort, alloc: Global, tables: &Tables) {
 
 fn assert_payments(rt: &impl Abort, alloc: Global, tables: &mut Tables) {
     assert_paid(rt, alloc, tables);
-    assert!(rt; count_to_the_most(tables).is_some());
+    assert!(rt; count_to_the_most(alloc, tables).is_some());
     assert_uncounted(rt, alloc, tables);
 }
 
