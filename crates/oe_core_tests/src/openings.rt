@@ -4,7 +4,7 @@ use oe_audit::is_population;
 use oe_change::apply;
 use oe_core::Core;
 use oe_keys::DistrictKey;
-use oe_records::Change;
+use oe_records::{Boxed, Change};
 use oe_rows::Scale;
 use oe_store::{Tables, populate};
 use oe_values::{Count, CustomerNumber, DistrictNumber, ItemNumber, Text, WarehouseNumber};
@@ -27,12 +27,20 @@ pub(crate) fn district(warehouse: u32) -> Option<DistrictKey> {
     })
 }
 
-// The change after which customer 2 of warehouse 1 has made 9,999 payments.
-fn wear(tables: &Tables) -> Option<Change> {
+// The change after which customer 2 of warehouse 1 has made 9,999 payments; `None` where memory was refused.
+fn wearing(alloc: Global, tables: &Tables) -> Option<Change> {
     let key = &district(1)?.customer(CustomerNumber::new(2)?);
     let mut row = tables.customer(*key)?.copied();
     row.account.payment_count = Count::new(9_999)?;
-    Some(Change::UpdateCustomer(*key, row))
+    Some(Change::UpdateCustomer(*key, Boxed::new(alloc, row).ok()?))
+}
+
+// The same; made the second time, where memory was refused.
+fn wear(rt: &impl Abort, alloc: Global, tables: &Tables) -> Change {
+    match wearing(alloc, tables) {
+        Some(change) => change,
+        None => wearing(alloc, tables).expect(rt, "a change"),
+    }
 }
 
 // The population in which it was made.
@@ -40,7 +48,7 @@ fn worn(rt: &impl Abort, alloc: Global, scale: Scale) -> Option<Tables> {
     let Ok(mut tables) = populate(alloc, scale) else {
         return None;
     };
-    let change = wear(&tables).expect(rt, "a change");
+    let change = wear(rt, alloc, &tables);
     let is_made = apply(&mut tables, change).is_ok();
     assert!(rt; is_made);
     Some(tables)
