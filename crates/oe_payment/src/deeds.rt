@@ -27,7 +27,7 @@ pub enum Deed {
     Stop,
     /// It asks for a lock and fails.
     Fail(Lock, Refusal),
-    /// It asks for a lock, and memory for its change was refused.
+    /// It asks for a lock, and memory for its change was refused: of the rows only CUSTOMER's takes any here.
     LacksMemory(Lock),
     /// It may ask for a lock, makes a change, and the next row is at this place.
     Go(Option<Lock>, Change, Place),

@@ -54,6 +54,7 @@ impl Change {
             Change::DeleteNewOrder(key) => Key::NewOrder(*key),
         }
     }
+
     /// A copy; `NoMemory` where memory was refused for a row that lies in its own.
     pub fn copied(&self, alloc: Global) -> Result<Self, NoMemory>
         ensures { IfOk result (λ c. c ≡ self.now) }
