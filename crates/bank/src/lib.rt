@@ -1,7 +1,9 @@
 // A small bank over the laws of worlds: what is proved of every run of its terminals' steps.
 #![tactic(auto)]
 
-ghost use Rattle.oe_theory.specs.Theorems.{Opening_is_reached, Run_is_reached, Abort_is_its_own, Changes_are_accepted, Open_is_known, Nothing_is_recorded, World_has_records, Used_is_of_records, Extents_suffice, Rollback_leaves_no_trace, Commit_is_whole, Abort_has_no_effect, History_is_serial, Quiet_tables, Rewind_restores, Purge_leaves_later, Versions_are_good, Undo_forgets, Undo_goes_back, Holds_of_versions, Records_follow, Tables_follow, Base_is_unwound, Version_is_unwound, Row_is_unwound, Full_is_full, Want_stands_for, Each_is_answered, Answers_are_determined};
+ghost use Rattle.oe_theory.specs.Theorems.{Opening_is_reached, Run_is_reached, Abort_is_its_own, Changes_are_accepted, Open_is_known, Nothing_is_recorded, World_has_records, Used_is_of_records, Extents_suffice, Rollback_leaves_no_trace, Commit_is_whole, Abort_has_no_effect, History_is_serial, Quiet_tables, Rewind_restores, Purge_leaves_later, Versions_are_good, Undo_forgets, Undo_goes_back, Holds_of_versions, Tests_hold_from_base, Records_follow, Tables_follow, Base_is_unwound, Version_is_unwound, Row_is_unwound, Full_is_full, Want_stands_for, Each_is_answered, Answers_are_determined, Scripts_are_answered};
+ghost use Rattle.oe_theory.specs.RecordTheorems.{Row_without_record, Records_are_apart, Each_goes_back, Lengths_are_free};
+ghost use Rattle.oe_theory.specs.StepTheorems.{Steps_are_counted, Endings_are_whole};
 ghost use Rattle.oe_theory.specs.StoreTheorems.{World_is_stored, Store_follows, Opening_stands, Steps_of_the_store, Facts_of_the_store};
 ghost use Rattle.std.specs.Prelude.{ℕ};
 ghost use Rattle.bank.specs.Bank.{bank};
@@ -183,4 +185,44 @@ pub fn used_is_of_records()
 /// No more extents are used than there are.
 pub fn extents_suffice()
     ensures { Extents_suffice bank }
+{}
+
+/// A key without a record has in each version the row that it has now.
+pub fn row_without_record()
+    ensures { Row_without_record bank }
+{}
+
+/// The records of one key lie in at most one open transaction.
+pub fn records_are_apart()
+    ensures { Records_are_apart bank }
+{}
+
+/// Put back in turn, each record finds the row that its change left.
+pub fn each_goes_back()
+    ensures { Each_goes_back bank (λ r. Unit {0}) }
+{}
+
+/// A test that whole effects keep holds of each version where it holds of the base.
+pub fn tests_hold_from_base()
+    ensures { Tests_hold_from_base bank }
+{}
+
+/// Without a want of memory a script's answers, and the world that it leaves, are a function of the world and the script.
+pub fn scripts_are_answered()
+    ensures { Scripts_are_answered bank }
+{}
+
+/// How each step changes the number of open transactions, the newest moment and the horizon.
+pub fn steps_are_counted()
+    ensures { Steps_are_counted bank }
+{}
+
+/// A row that ends its transaction commits its whole effect, or rolls it back where there is none.
+pub fn endings_are_whole()
+    ensures { Endings_are_whole bank }
+{}
+
+/// The local laws are met with records of any lengths.
+pub fn lengths_are_free()
+    ensures { Lengths_are_free bank }
 {}

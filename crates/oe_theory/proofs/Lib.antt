@@ -16,6 +16,10 @@ pub mod Total
 pub mod Runs
 pub mod Determined
 pub mod Theorems
+pub mod InTurn
+pub mod StepTheorems
+pub mod RecordKeys
+pub mod Lengths
 pub mod StoreSteps
 pub mod StoreTheorems
 pub mod StoreConditions

@@ -289,7 +289,7 @@ module _ (M : Machine) (L : Laws M) where
       rest i ne (inr h) = h
 
   -- those of commits
-  one_unwound : (r : Map) (c : Commit M) (bs : List Record) → IsOfCommit M r c bs → unwind M bs (map_after M (whole c.tx r) r) ≡ r
+  pub one_unwound : (r : Map) (c : Commit M) (bs : List Record) → IsOfCommit M r c bs → unwind M bs (map_after M (whole c.tx r) r) ≡ r
   one_unwound r c bs h =
       ap (λ z. unwind M bs (map_after M z r)) h.effect
       ∙ (ap (λ z. unwind M z (overlay M h.last.changes r)) h.records ∙ undo_whole M L r h.last.changes)

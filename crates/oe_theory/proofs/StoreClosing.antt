@@ -1,14 +1,14 @@
 -- What holds of every store that stands, and what is left of it once its open transactions were rolled back.
-use Rattle.std.proofs.Common.{◌≡◌, ℕ, suc, zero, ◌+◌, ◌-◌, ◌<◌, ◌≤◌, Option, None, Some, List, [], ◌∷◌, take, length, length-drop, refl, sym, ap, ◌∙◌, subst, inl, inr, arith}
+use Rattle.std.proofs.Common.{◌≡◌, ℕ, suc, zero, ◌+◌, ◌-◌, ◌<◌, ◌≤◌, Option, None, Some, List, [], ◌∷◌, ◌++◌, take, length, length-drop, refl, sym, ap, ◌∙◌, subst, inl, inr, arith}
 use Rattle.std.specs.Prelude.{◌⊎◌, ◌≢◌}
 use Rattle.std.proofs.lemmas.Bool.{cases_eq}
 use Rattle.oe_theory.specs.Machine.{Machine}
 use Rattle.oe_theory.specs.World.{overlay, Commit, latest, set}
 use Rattle.oe_theory.specs.Next.{filled}
 use Rattle.oe_theory.specs.Laws.{IsGood, Alone, Sound, Laws}
-use Rattle.oe_theory.specs.Undo.{unwind, unwind_open, unwind_commits, restored_commits, IsAmong, AreAll, AreOfCommits, lengths_of, used_open}
+use Rattle.oe_theory.specs.Undo.{unwind, unwind_open, unwind_commits, restored_commits, HasRecordIn, GoesBack, open_records, commit_records, IsAmong, AreAll, AreOfCommits, lengths_of, used_open}
 use Rattle.oe_theory.specs.Store.{Slot, Store, tx_in, changes_of, world_of, newest_version, newest_of, version_of, commits_after, dropped, all_below, IsQuietIn, count_slots}
-use Rattle.oe_theory.specs.StoreTheorems.{IsStanding, AreAllIn, Store_is_orderly, Runs_alone_here, Version_is_here, Row_is_here, Closing_leaves_newest, Facts_of_the_store, Rollback_leaves_versions, Used_is_a_sum, Sealing_uses_the_same}
+use Rattle.oe_theory.specs.StoreTheorems.{IsStanding, AreAllIn, Store_is_orderly, Runs_alone_here, Version_is_here, Row_is_here, Row_without_record_here, Records_are_apart_here, Each_goes_back_here, Closing_leaves_newest, Facts_of_the_store, Rollback_leaves_versions, Used_is_a_sum, Sealing_uses_the_same}
 use Rattle.oe_theory.proofs.Sets.{set_idle, set_cases, some_none, set_same, set_other}
 use Rattle.oe_theory.proofs.Steps.{good_latest, to_alone, reads_alone, acts_alone}
 use Rattle.oe_theory.proofs.Records.{open_unwound, at_restored_open, at_restored_commits}
@@ -16,7 +16,10 @@ use Rattle.oe_theory.proofs.StoreFacts.{below}
 use Rattle.oe_theory.proofs.StoreSteps.{tables_here, counts_here, open_in, is_open_in, is_shut_in, found, mark_here, length_here, used_here, granted_here, asks_here, acts_here, rolls_back_here}
 use Rattle.oe_theory.proofs.StoreTheorems.{newest_here, latest_here, version_here, counts_at_here, commits_here_are, world_is_shown}
 use Rattle.oe_theory.proofs.StoreConditions.{conditions_are_exact}
+use Rattle.oe_theory.specs.Theorems.{IsKeptByChanges}
 use Rattle.oe_theory.proofs.Theorems.{reached_sound, extents_suffice, versions_are_good}
+use Rattle.oe_theory.proofs.RecordKeys.{row_without_record, records_are_apart}
+use Rattle.oe_theory.proofs.InTurn.{each_goes_back}
 
 module _ (M : Machine) (L : Laws M) where
   open M use {Map, Record, terminal_limit}
@@ -41,6 +44,21 @@ module _ (M : Machine) (L : Laws M) where
       sym (at_restored_commits M L (take (commits_after M s m) s.undo.history) (unwind_open M s.undo.active ts s.tables) k
       ∙ ap (restored_commits M k (take (commits_after M s m) s.undo.history)) (at_restored_open M L s.undo.active ts s.tables k))
       ∙ ap (λ (z : Map). M.row_at z k) (version_is_here s ts m h all)
+
+  pub row_without_record_here : Row_without_record_here M
+  row_without_record_here s m k h no_open no_commit =
+      sym (ap (λ (z : Map). M.row_at z k) (version_here M L s h m))
+      ∙ (row_without_record M L (world_of M s) s.undo m k h.reached h.keeps no_open
+      (λ x. no_commit (subst (λ (n : ℕ). HasRecordIn M k (take (n - m) s.undo.history)) (newest_here M L s h) x))
+      ∙ ap (λ (z : Map). M.row_at z k) (tables_here M L s h))
+
+  pub records_are_apart_here : Records_are_apart_here M
+  records_are_apart_here s t v k h a b = records_are_apart M L (world_of M s) s.undo t v k h.reached h.keeps a b
+
+  pub each_goes_back_here : (P : Map → Type 0) → IsKeptByChanges M P → Each_goes_back_here M P
+  each_goes_back_here P kept s ts h all =
+      subst (λ (z : Map). GoesBack M P (open_records M s.undo.active ts ++ commit_records M s.undo.history) z) (tables_here M L s h)
+      (each_goes_back M L P kept (world_of M s) s.undo ts h.reached h.keeps (all_open s ts all))
 
   -- what holds of every store
   terminal_here : (s : Store M) → IsStanding M s → (t : ℕ) (p : Slot M) → s.slots t ≡ Some p → t < terminal_limit
@@ -218,6 +236,8 @@ module _ (M : Machine) (L : Laws M) where
         alone = runs_alone_here;
         version = version_is_here;
         row = row_is_here;
+        without_record = row_without_record_here;
+        apart = records_are_apart_here;
         rollback = rollback_leaves_versions;
         closing = closing_leaves_newest;
         used = used_is_a_sum;

@@ -1,12 +1,12 @@
 -- The theorems, for every machine that meets the local laws.
-use Rattle.std.proofs.Common.{◌≡◌, ℕ, suc, ◌-◌, ◌≤◌, get_or, take, Some, List, [], ◌∷◌, ◌++◌, refl, sym, ap, ◌∙◌, subst, arith, inl, inr}
+use Rattle.std.proofs.Common.{◌≡◌, ℕ, suc, ◌-◌, ◌≤◌, get_or, take, true, Some, List, [], ◌∷◌, ◌++◌, refl, sym, ap, ◌∙◌, subst, arith, inl, inr}
 use Rattle.oe_theory.specs.Machine.{Machine, Stop, Fail}
 use Rattle.oe_theory.specs.World.{Open, World, tx_of, overlay, counts_now, map_after, horizon, newest, at, latest, tables, layers}
 use Rattle.oe_theory.specs.Next.{IsGranted, committed, Step, Begin, Advance, Purge, Rewind, Answer, Begun, Committed, Aborted, Purged, Rewound, Undo_full, rewound, Next, commits, purges, rewinds, stops, fails, Event, Run, events}
 use Rattle.oe_theory.specs.Laws.{Laws, Sound}
 use Rattle.oe_theory.specs.Erase.{without}
 use Rattle.oe_theory.specs.Undo.{Undo, Keeps, unwind, unwind_open, unwind_commits, restored_commits, no_records, undo_after}
-use Rattle.oe_theory.specs.Theorems.{opened, IsReached, Opening_is_reached, Run_is_reached, Rollback_leaves_no_trace, Is_whole, Commit_is_whole, Is_none, Abort_has_no_effect, Is_refused, Abort_is_its_own, Changes_are_accepted, IsKeptByChanges, Holds_of_tables, Holds_while_undone, Holds_while_rewound, Open_is_known, History_is_serial, Quiet_tables, Rewind_restores, Purge_leaves_later, IsKept, Holds_of_versions, Versions_are_good, Answers_are_determined, Nothing_is_recorded, Records_follow, World_has_records, Tables_follow, Undo_forgets, Undo_goes_back, Base_is_unwound, Version_is_unwound, Row_is_unwound, Used_is_of_records, Extents_suffice, Full_is_full, Want_stands_for, Each_is_answered}
+use Rattle.oe_theory.specs.Theorems.{opened, IsReached, Opening_is_reached, Run_is_reached, Rollback_leaves_no_trace, Is_whole, Commit_is_whole, Is_none, Abort_has_no_effect, Is_refused, Abort_is_its_own, Changes_are_accepted, IsKeptByChanges, Holds_of_tables, Holds_while_undone, Holds_while_rewound, Open_is_known, History_is_serial, Quiet_tables, Rewind_restores, Purge_leaves_later, IsKept, Holds_of_versions, Holds_from_base, Tests_hold_from_base, Versions_are_good, Answers_are_determined, Scripts_are_answered, Nothing_is_recorded, Records_follow, World_has_records, Tables_follow, Undo_forgets, Undo_goes_back, Base_is_unwound, Version_is_unwound, Row_is_unwound, Used_is_of_records, Extents_suffice, Full_is_full, Want_stands_for, Each_is_answered}
 use Rattle.oe_theory.proofs.Sets.{some_none}
 use Rattle.oe_theory.proofs.Runs.{run_events, events_run, events-append, runs-append}
 use Rattle.oe_theory.proofs.Steps.{change_accepted, next_sound, commit_whole, fail_whole, stop_whole, run_sound, purged_latest, good_latest, to_alone, reads_alone, fail_alone}
@@ -224,6 +224,20 @@ module _ (M : Machine) (L : Laws M) where
   pub answers_are_determined : Answers_are_determined M
   answers_are_determined w v v' is ys ys' r r' n n' = determined_runs M w v v' is ys ys' r r' n n'
 
+  pub scripts_are_answered : Scripts_are_answered M
+  scripts_are_answered w [] r b =
+      record { answers = []; last = w; run = refl; memory = tt; only = λ ys v q n. answers_are_determined w v w [] ys [] q refl n tt }
+  scripts_are_answered w (i ∷ is) r b =
+      let x = each_is_answered w i r b.0 in
+      let y = scripts_are_answered x.after is (run_is_reached w x.after (i ∷ []) (x.answer ∷ []) r (x.after, x.next, refl)) b.1 in
+      record {
+        answers = x.answer ∷ y.answers;
+        last = y.last;
+        run = (x.after, x.next, y.run);
+        memory = (x.other, y.memory);
+        only = λ ys v q n. answers_are_determined w v y.last (i ∷ is) ys (x.answer ∷ y.answers) q (x.after, x.next, y.run) n (x.other, y.memory);
+      }
+
   pub versions_are_good : Versions_are_good M
   versions_are_good w r m = good_at M L w (reached_sound w r) m
 
@@ -236,8 +250,14 @@ module _ (M : Machine) (L : Laws M) where
     run_kept w s p [] w' r = subst (λ (z : World M). P z.base) r p
     run_kept w s p (e ∷ es) w' r = run_kept r.0 (next_sound M L w s e.step e.answer r.0 r.1) (base_kept w s p e.step e.answer r.0 r.1) es w' r.2
 
+    pub holds_from_base : Holds_from_base M P
+    holds_from_base w r p m = kept_at M L P keeps w (reached_sound w r) p m
+
     pub holds_of_versions : Holds_of_versions M P
     holds_of_versions w r p m =
         kept_at M L P keeps w (reached_sound w r)
         (run_kept (opened M r.base r.extents) (sound_opened r.base r.extents r.good) p (events M r.steps r.answers) w
         (run_events M (opened M r.base r.extents) r.steps r.answers w r.run)) m
+
+  pub tests_hold_from_base : Tests_hold_from_base M
+  tests_hold_from_base p keeps = holds_from_base (λ r. p r ≡ true) keeps

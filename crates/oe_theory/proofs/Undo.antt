@@ -25,7 +25,7 @@ module _ (M : Machine) (L : Laws M) where
   Stand m cs = (k : Key) (v : Option Row) → net M cs k ≡ Some v → row_at m k ≡ v
 
   -- a change's record put back on the row that it left
-  back_at : (r : Map) (c : Change) (cs : List Change) (m : Map) → Stand m (c ∷ cs) → (k : Key) (b : Bool) → is_key k (key_of c) ≡ b
+  pub back_at : (r : Map) (c : Change) (cs : List Change) (m : Map) → Stand m (c ∷ cs) → (k : Key) (b : Bool) → is_key k (key_of c) ≡ b
       → row_at (put_back (record_on M c (overlay M cs r)) m) k ≡ cond b (row_at (overlay M cs r) (key_of c)) (row_at m k)
   back_at r c cs m s k b q =
       at_put_back (record_on M c (overlay M cs r)) m k
@@ -92,7 +92,7 @@ module _ (M : Machine) (L : Laws M) where
       ∙ (ap (λ z. upon M L z (row_at (latest M w) k)) (top_other w t v k e)
       ∙ sym (at_layers M L (set t v w.active) terminal_limit (latest M w) k))
 
-  readable : (held : Name → Option Mode) (x : Tx M.Request) (g : Guard Name) → MayWrite M (held_of M held) x g → MayRead M (held_of M held) x g
+  pub readable : (held : Name → Option Mode) (x : Tx M.Request) (g : Guard Name) → MayWrite M (held_of M held) x g → MayRead M (held_of M held) x g
   readable held x Free h = h
   readable held x (Under n) h = enough_shared (held n) Exclusive h
   readable held x (Own i j) h = h

@@ -6,4 +6,6 @@ pub mod Erase
 pub mod Undo
 pub mod Store
 pub mod Theorems
+pub mod RecordTheorems
+pub mod StepTheorems
 pub mod StoreTheorems

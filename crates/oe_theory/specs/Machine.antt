@@ -111,3 +111,61 @@ pub record Machine : Type 1 where
   -- terminals are from the first of these numbers on, and below the second
   pub first_terminal : ℕ
   pub terminal_limit : ℕ
+
+-- the same database with records of other lengths
+abbrev pub with_lengths : (M : Machine) → (M.Record → ℕ) → Machine
+with_lengths M f =
+    record {
+      Map = M.Map;
+      Key = M.Key;
+      Row = M.Row;
+      Change = M.Change;
+      is_key = M.is_key;
+      row_at = M.row_at;
+      key_of = M.key_of;
+      row_of = M.row_of;
+      put = M.put;
+      Accepts = M.Accepts;
+      Record = M.Record;
+      record_of = M.record_of;
+      record_key = M.record_key;
+      restore = M.restore;
+      put_back = M.put_back;
+      redo = M.redo;
+      size_of = f;
+      extent = M.extent;
+      Facet = M.Facet;
+      Part = M.Part;
+      facet_key = M.facet_key;
+      part = M.part;
+      Name = M.Name;
+      is_name = M.is_name;
+      governs = M.governs;
+      governs_part = M.governs_part;
+      Request = M.Request;
+      Place = M.Place;
+      Reply = M.Reply;
+      Refusal = M.Refusal;
+      IsRequest = M.IsRequest;
+      MayRefuse = M.MayRefuse;
+      start = M.start;
+      ask = M.ask;
+      act = M.act;
+      marks = M.marks;
+      taken = M.taken;
+      whole = M.whole;
+      Good = M.Good;
+      rejection = M.rejection;
+      number_rejection = M.number_rejection;
+      may_allocate = M.may_allocate;
+      yields = M.yields;
+      Query = M.Query;
+      Found = M.Found;
+      query_rejection = M.query_rejection;
+      find = M.find;
+      Condition = M.Condition;
+      Verdict = M.Verdict;
+      verdict = M.verdict;
+      first_terminal = M.first_terminal;
+      terminal_limit = M.terminal_limit;
+    }

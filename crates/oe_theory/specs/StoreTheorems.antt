@@ -1,10 +1,10 @@
 -- What is proved of what a server stores: each step of the world is one change of the store, and each condition of a step is one on the store.
-use Rattle.std.specs.Prelude.{◌≡◌, ◌↔◌, ℕ, suc, ◌+◌, ◌≤◌, ◌<◌, Option, None, Some, List, [], take, length}
+use Rattle.std.specs.Prelude.{◌≡◌, ◌↔◌, ℕ, suc, ◌+◌, ◌≤◌, ◌<◌, Option, None, Some, List, [], ◌++◌, take, length}
 use Rattle.oe_theory.specs.Machine.{Machine, Mode, Ask, Stop, Take, Fail, Go, Ready, Here, Missing}
 use Rattle.oe_theory.specs.World.{World, IsTerminal, overlay, counts_now, counts_at, horizon, newest, at, latest, tables}
 use Rattle.oe_theory.specs.Next.{filled, used, IsGranted, IsInTheWay, HasRoom, IsFull, MayLackMemory, IsQuiet, count_open, IsPast, MayBegin, Step, Begin, Advance, Save, Back, Rollback, Read, Audit, Purge, Rewind, Answer, Begun, More, Committed, Saved, Gone_back, Rolled_back, Replied, Audited, Purged, Rewound, Aborted, Rejected, Busy, Undo_full, Not_open, Already_open, Too_old, Future, Not_quiet, No_memory, works_on, moment, Next}
 use Rattle.oe_theory.specs.Laws.{IsGood, Alone}
-use Rattle.oe_theory.specs.Undo.{Undo, unwind_open, unwind_commits, restored_open, restored_commits, IsAmong, Keeps, lengths_of, put_records, used_of, undo_after}
+use Rattle.oe_theory.specs.Undo.{Undo, unwind_open, unwind_commits, restored_open, restored_commits, HasRecord, HasRecordIn, GoesBack, open_records, commit_records, IsAmong, Keeps, lengths_of, put_records, used_of, undo_after}
 use Rattle.oe_theory.specs.Store.{Slot, Store, tx_in, changes_of, opened_by, world_of, store_of, newest_version, newest_of, horizon_of, commits_after, version_of, counts_of, opened_store, put_slot, first_slot, dropped, went_on, sealed, gone_back, marked, purged_to, rewound_to, all_dropped, MayBeginIn, IsGrantedIn, IsInTheWayIn, HasRoomIn, IsFullIn, TakesNoRoom, MayLackMemoryIn, IsQuietIn, count_slots, IsPastIn}
 use Rattle.oe_theory.specs.Theorems.{opened, IsReached}
 
@@ -298,6 +298,26 @@ module _ (M : Machine) where
       (s : Store M) (ts : List ℕ) (m : ℕ) (k : M.Key) → IsStanding s → AreAllIn s ts
       → restored_commits M k (take (commits_after M s m) s.undo.history) (restored_open M k s.undo.active ts (M.row_at s.tables k)) ≡ M.row_at (version_of M s m) k
 
+  -- a key without a record, of open transactions and of commits after a moment, has in its version the row that it has now
+  abbrev pub Row_without_record_here : Type 0
+  Row_without_record_here =
+      (s : Store M) (m : ℕ) (k : M.Key) → IsStanding s
+      → ((t : ℕ) → HasRecord M k (s.undo.active t) → ⊥)
+      → (HasRecordIn M k (take (commits_after M s m) s.undo.history) → ⊥)
+      → M.row_at (version_of M s m) k ≡ M.row_at s.tables k
+
+  -- the records of one key lie in at most one open transaction
+  abbrev pub Records_are_apart_here : Type 0
+  Records_are_apart_here =
+      (s : Store M) (t v : ℕ) (k : M.Key) → IsStanding s → HasRecord M k (s.undo.active t) → HasRecord M k (s.undo.active v) → t ≡ v
+
+  -- put back in turn, those of open transactions in any order and then those of commits from the newest, each record finds
+  -- the row that its change left, and P holds all the way
+  abbrev pub Each_goes_back_here : (M.Map → Type 0) → Type 0
+  Each_goes_back_here P =
+      (s : Store M) (ts : List ℕ) → IsStanding s → AreAllIn s ts
+      → GoesBack M P (open_records M s.undo.active ts ++ commit_records M s.undo.history) s.tables
+
   -- a transaction rolled back leaves every version, and where none is open nothing changes
   pub record Is_dropped (s : Store M) (t : ℕ) (s' : Store M) : Type 0 where
     pub stands : IsStanding s'
@@ -341,6 +361,8 @@ module _ (M : Machine) where
     pub alone : Runs_alone_here
     pub version : Version_is_here
     pub row : Row_is_here
+    pub without_record : Row_without_record_here
+    pub apart : Records_are_apart_here
     pub rollback : Rollback_leaves_versions
     pub closing : Closing_leaves_newest
     pub used : Used_is_a_sum

@@ -1,5 +1,5 @@
 -- What is proved of a machine that meets the local laws: of every world that steps can lead to from one that was just opened.
-use Rattle.std.specs.Prelude.{◌≡◌, ℕ, suc, ◌-◌, ◌≤◌, ◌<◌, true, None, Some, List, [], ◌∷◌, ◌++◌, length, take, get_or, ◌≢◌, ◌⊎◌}
+use Rattle.std.specs.Prelude.{◌≡◌, ℕ, suc, ◌-◌, ◌≤◌, ◌<◌, Bool, true, None, Some, List, [], ◌∷◌, ◌++◌, length, take, get_or, ◌≢◌, ◌⊎◌}
 use Rattle.oe_theory.specs.Machine.{Machine, Tx, Stop, Fail, Go}
 use Rattle.oe_theory.specs.World.{Open, World, IsTerminal, tx_of, overlay, counts_now, counts_at, horizon, newest, at, latest, IsSerial, tables}
 use Rattle.oe_theory.specs.Next.{record_on, filled, used, put_active, Begin, Advance, Save, Back, Rollback, Read, Audit, Purge, Rewind, Begun, More, Committed, Aborted, Purged, Rewound, Undo_full, No_memory, IsGranted, IsQuiet, Next, Runs, events, steps_of, answers_of, Step, Answer}
@@ -211,6 +211,14 @@ module _ (M : Machine) where
   abbrev pub Holds_of_versions : (M.Map → Type 0) → Type 0
   Holds_of_versions P = (w : World M) (r : IsReached w) → P r.base → (m : ℕ) → P (at M w m)
 
+  -- and where it holds of the base as it is now
+  abbrev pub Holds_from_base : (M.Map → Type 0) → Type 0
+  Holds_from_base P = (w : World M) → IsReached w → P w.base → (m : ℕ) → P (at M w m)
+
+  -- as each test that whole effects keep
+  abbrev pub Tests_hold_from_base : Type 0
+  Tests_hold_from_base = (p : M.Map → Bool) → IsKept (λ r. p r ≡ true) → Holds_from_base (λ r. p r ≡ true)
+
   -- what holds between transactions holds of each version
   abbrev pub Versions_are_good : Type 0
   Versions_are_good = (w : World M) → IsReached w → (m : ℕ) → M.Good (counts_at M w m) (at M w m)
@@ -260,3 +268,19 @@ module _ (M : Machine) where
   Answers_are_determined =
       (w v v' : World M) (is : List (Step M)) (ys ys' : List (Answer M)) → Runs M w is ys v → Runs M w is ys' v'
       → IsWithout No_memory ys → IsWithout No_memory ys' → (ys ≡ ys') × (v ≡ v')
+
+  -- the answers of a script without it, and the world that it leaves: there are such, and no others
+  pub record Is_only_run (w : World M) (is : List (Step M)) : Type 0 where
+    pub answers : List (Answer M)
+    pub last : World M
+    pub run : Runs M w is answers last
+    pub memory : IsWithout No_memory answers
+    pub only : (ys : List (Answer M)) (v : World M) → Runs M w is ys v → IsWithout No_memory ys → (ys ≡ answers) × (v ≡ last)
+
+  abbrev pub AreSteps : List (Step M) → Type 0
+  AreSteps [] = Unit {0}
+  AreSteps (i ∷ is) = IsStep i × AreSteps is
+
+  -- so they are a function of the world and the script
+  abbrev pub Scripts_are_answered : Type 0
+  Scripts_are_answered = (w : World M) (is : List (Step M)) → IsReached w → AreSteps is → Is_only_run w is

@@ -1,5 +1,5 @@
 -- The undo records of a world's transactions, and what putting them back leaves.
-use Rattle.std.specs.Prelude.{◌≡◌, ℕ, suc, zero, ◌+◌, ◌-◌, cond, Option, None, Some, List, [], ◌∷◌, length, take, drop, ◌⊎◌}
+use Rattle.std.specs.Prelude.{◌≡◌, ℕ, suc, zero, ◌+◌, ◌-◌, cond, Option, None, Some, List, [], ◌∷◌, ◌++◌, length, take, drop, ◌⊎◌}
 use Rattle.oe_theory.specs.Machine.{Machine, Act, Fail, Go, Ready}
 use Rattle.oe_theory.specs.World.{set, State, Open, Commit, World, tx_of, overlay, version, newest, latest, tables}
 use Rattle.oe_theory.specs.Next.{record_on, filled, Step, Advance, Back, Rollback, Purge, Rewind, Answer, More, Committed, Gone_back, Rolled_back, Aborted, Purged, Rewound}
@@ -53,6 +53,42 @@ module _ (M : Machine) where
   abbrev pub restored_commits : Key → List (List Record) → Option Row → Option Row
   restored_commits k [] v = v
   restored_commits k (bs ∷ ss) v = restored_commits k ss (restored k bs v)
+
+  -- some record of the list is of this key
+  abbrev pub HasRecord : Key → List Record → Type 0
+  HasRecord k [] = ⊥
+  HasRecord k (b ∷ bs) = (record_key b ≡ k) ⊎ HasRecord k bs
+
+  -- some record of these commits is
+  abbrev pub HasRecordIn : Key → List (List Record) → Type 0
+  HasRecordIn k [] = ⊥
+  HasRecordIn k (bs ∷ ss) = HasRecord k bs ⊎ HasRecordIn k ss
+
+  -- the record is of a change that the tables `on` accepted; it finds in r the row that this change left, and putting it back
+  -- gives the row that `on` has
+  pub record Finds (b : Record) (r : Map) : Type 0 where
+    pub change : Change
+    pub on : Map
+    pub accepted : M.Accepts change on
+    pub is_of : b ≡ record_on M change on
+    pub left : M.row_at r (M.key_of change) ≡ M.row_of change
+    pub redone : M.redo b r ≡ Some change
+    pub brought_back : M.row_at (put_back b r) (M.key_of change) ≡ M.row_at on (M.key_of change)
+
+  -- as the records are put back on r one after another, P holds before each and after the last, and each finds its row
+  abbrev pub GoesBack : (Map → Type 0) → List Record → Map → Type 0
+  GoesBack P [] r = P r
+  GoesBack P (b ∷ bs) r = P r × Finds b r × GoesBack P bs (put_back b r)
+
+  -- all records of open transactions in the order in which `unwind_open` puts them back
+  abbrev pub open_records : (ℕ → List Record) → List ℕ → List Record
+  open_records active [] = []
+  open_records active (t ∷ ts) = active t ++ open_records (set t [] active) ts
+
+  -- and of commits
+  abbrev pub commit_records : List (List Record) → List Record
+  commit_records [] = []
+  commit_records (bs ∷ ss) = bs ++ commit_records ss
 
   -- the terminal is listed
   abbrev pub IsAmong : ℕ → List ℕ → Type 0
