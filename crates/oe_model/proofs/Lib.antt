@@ -32,6 +32,8 @@ pub mod PaymentGood
 pub mod NewOrderGood
 pub mod DeliveryGood
 pub mod SystemLaws
+pub mod MadeFacts
+pub mod ConsistencyFacts
 pub mod RuleFacts
 pub mod FoundFacts
 pub mod RankFacts

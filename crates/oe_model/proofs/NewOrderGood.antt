@@ -85,12 +85,12 @@ zeros [] = refl
 zeros (f ∷ fs) = let a = sum_by-cons (λ (f : Filled). 0) f fs in let h = zeros fs in omega arith
 
 -- the next order of a district is new
-module _ (f : ℕ → ℕ) (r : Rows) (g : Good f r) (h : DistrictKey) (d : District) (d_at : get r.districts h ≡ Some d) where
+module _ (r : Rows) (meets : Meets r) (second : Condition_2 r) (h : DistrictKey) (d : District) (d_at : get r.districts h ≡ Some d) where
   pub order_below : (n : ℕ) → HasOrder r h n → n < d.next_order
-  order_below n p = let a = (g.condition_2 h d d_at).orders in let b = a.2.1 n p in let c : d.next_order ≡ a.0 + 1 = a.1 in omega arith
+  order_below n p = let a = (second h d d_at).orders in let b = a.2.1 n p in let c : d.next_order ≡ a.0 + 1 = a.1 in omega arith
 
   pub new_order_below : (n : ℕ) → HasNewOrder r h n → n < d.next_order
-  new_order_below n p = let a = (g.condition_2 h d d_at).new_orders n p in let b = a.2.1 n p in let c : d.next_order ≡ a.0 + 1 = a.1 in omega arith
+  new_order_below n p = let a = (second h d d_at).new_orders n p in let b = a.2.1 n p in let c : d.next_order ≡ a.0 + 1 = a.1 in omega arith
 
   absent : {A : Type 0} (v : Option A) → ((x : A) → v ≡ Some x → HasOrder r h d.next_order) → v ≡ None
   absent None k = refl
@@ -99,8 +99,8 @@ module _ (f : ℕ → ℕ) (r : Rows) (g : Good f r) (h : DistrictKey) (d : Dist
   pub is_fresh : IsFresh r h d.next_order
   is_fresh = record {
     order = absent (get r.orders (order_in h d.next_order)) (λ x e. some_present (get r.orders (order_in h d.next_order)) x e);
-    new_order = absent (get r.new_orders (new_order_in h d.next_order)) (λ x e. g.meets.new_orders (new_order_in h d.next_order) x e);
-    lines = λ n. absent (get r.order_lines (line_in (order_in h d.next_order) n)) (λ x e. (g.meets.order_lines (line_in (order_in h d.next_order) n) x e).0);
+    new_order = absent (get r.new_orders (new_order_in h d.next_order)) (λ x e. meets.new_orders (new_order_in h d.next_order) x e);
+    lines = λ n. absent (get r.order_lines (line_in (order_in h d.next_order) n)) (λ x e. (meets.order_lines (line_in (order_in h d.next_order) n) x e).0);
   }
 
 module _ (f : ℕ → ℕ) (t : ℕ) (q : NewOrderRequest) (r : Rows) (g : Good f r) (d : District) (d_at : get r.districts q.district ≡ Some d)
@@ -127,7 +127,7 @@ module _ (f : ℕ → ℕ) (t : ℕ) (q : NewOrderRequest) (r : Rows) (g : Good 
   }
 
   new : IsFresh r h0 o
-  new = is_fresh f r g h0 d d_at
+  new = is_fresh r g.meets g.condition_2 h0 d d_at
 
   was_district : (h : DistrictKey) → IsSome (get ordered_rows.districts h) → IsSome (get r.districts h)
   was_district h p = present_before district_total exact_district r.districts h0 (with_next d) h (some_present (get r.districts h0) d d_at) p
@@ -156,9 +156,9 @@ module _ (f : ℕ → ℕ) (t : ℕ) (q : NewOrderRequest) (r : Rows) (g : Good 
       own : h ≡ h0 → o + 1 ≡ x.next_order → Condition_2_at ordered_rows h x
       own s n = record {
         orders = subst (λ (i : DistrictKey). IsAfterGreatest (HasOrder ordered_rows i) x.next_order) (sym s)
-            (o, sym n, greatest_own order_total exact_order order_in district_of_order (λ i. i.order) (λ _ _. refl) (λ _ _. refl) h0 o r.orders (order_row q) (λ i p. let b = order_below f r g h0 d d_at i p in (let z : i ≤ o = omega arith in z)));
+            (o, sym n, greatest_own order_total exact_order order_in district_of_order (λ i. i.order) (λ _ _. refl) (λ _ _. refl) h0 o r.orders (order_row q) (λ i p. let b = order_below r g.meets g.condition_2 h0 d d_at i p in (let z : i ≤ o = omega arith in z)));
         new_orders = λ _ _. subst (λ (i : DistrictKey). IsAfterGreatest (HasNewOrder ordered_rows i) x.next_order) (sym s)
-            (o, sym n, greatest_own new_order_total exact_new_order new_order_in district_of_new_order (λ i. i.order) (λ _ _. refl) (λ _ _. refl) h0 o r.new_orders new_order_row (λ i p. let b = new_order_below f r g h0 d d_at i p in (let z : i ≤ o = omega arith in z)));
+            (o, sym n, greatest_own new_order_total exact_new_order new_order_in district_of_new_order (λ i. i.order) (λ _ _. refl) (λ _ _. refl) h0 o r.new_orders new_order_row (λ i p. let b = new_order_below r g.meets g.condition_2 h0 d d_at i p in (let z : i ≤ o = omega arith in z)));
       }
 
       other : eq_by_cmp district_cmp h h0 ≡ false → get r.districts h ≡ Some x → Condition_2_at ordered_rows h x
@@ -193,7 +193,7 @@ module _ (f : ℕ → ℕ) (t : ℕ) (q : NewOrderRequest) (r : Rows) (g : Good 
 
       down : (a ≡ o) ⊎ HasNewOrder r h0 a → a ≤ o
       down (inl e) = omega arith
-      down (inr p) = let h = new_order_below f r g h0 d d_at a p in omega arith
+      down (inr p) = let h = new_order_below r g.meets g.condition_2 h0 d d_at a p in omega arith
 
       one : if_of h0 h0 1 ≡ 1
       one = ap (λ c. cond c 1 0) (is_self district_total exact_district h0)
@@ -205,7 +205,7 @@ module _ (f : ℕ → ℕ) (t : ℕ) (q : NewOrderRequest) (r : Rows) (g : Good 
           by_key : (district_of_new_order i ≡ h0) ⊎ (eq_by_cmp district_cmp (district_of_new_order i) h0 ≡ false) → counted h0 i x ≡ 0
           by_key (inl s) =
               let p : HasNewOrder r h0 i.order = some_present (get r.new_orders (new_order_in h0 i.order)) x (ap (λ (h : DistrictKey). get r.new_orders (new_order_in h i.order)) (sym s) ∙ at) in
-              let a = new_order_below f r g h0 d d_at i.order p in
+              let a = new_order_below r g.meets g.condition_2 h0 d d_at i.order p in
               let c = lb.1 i.order (still h0 i.order p) in
               absurd (let no : ⊥ = omega arith in no)
           by_key (inr n) = ap (λ c. cond c 1 0) n

@@ -1,6 +1,6 @@
 -- The tables read as one map from key to row, and undo records.
 use Rattle.std.proofs.Common.{◌≡◌, refl, sym, ◌∙◌, ap, true, false, Bool, cond, Option, Some, None}
-use Rattle.std.specs.Prelude.{option_map, option_and_then}
+use Rattle.std.specs.Prelude.{option_map, option_and_then, is_some}
 use Rattle.std.specs.FinMap.{get}
 use Rattle.oe_rows.specs.declared.warehouses.Warehouse.{Warehouse}
 use Rattle.oe_rows.specs.declared.districts.District.{District}
@@ -17,7 +17,8 @@ use Rattle.oe_rows.specs.declared.rows.Row.{Row}
 use Rattle.oe_rows.specs.declared.rows.Row.TheVariants as row
 use Rattle.oe_keys.proofs.KeyFacts.{warehouse_total, exact_warehouse, district_total, exact_district, customer_total, exact_customer, history_total, exact_history, new_order_total, exact_new_order, order_total, exact_order, order_line_total, exact_order_line, item_total, exact_item, stock_total, exact_stock}
 use Rattle.oe_model.specs.Rows.{Rows, is_key, row_at, as_warehouse, as_district, as_customer, as_history, as_new_order, as_order, as_order_line, as_stock}
-use Rattle.oe_model.specs.Changes.{Change, InsertHistory, InsertNewOrder, InsertOrder, InsertOrderLine, UpdateWarehouse, UpdateDistrict, UpdateCustomer, UpdateOrder, UpdateOrderLine, UpdateStock, DeleteNewOrder, key_of, row_of, changed, Record, InsertedHistory, InsertedNewOrder, InsertedOrder, InsertedOrderLine, UpdatedWarehouse, UpdatedDistrict, UpdatedCustomer, UpdatedOrder, UpdatedOrderLine, UpdatedStock, DeletedNewOrder, record_of, record_key, row_before, put_back, redo}
+use Rattle.oe_model.specs.Changes.{Change, InsertHistory, InsertNewOrder, InsertOrder, InsertOrderLine, UpdateWarehouse, UpdateDistrict, UpdateCustomer, UpdateOrder, UpdateOrderLine, UpdateStock, DeleteNewOrder, key_of, row_of, changed, Record, InsertedHistory, InsertedNewOrder, InsertedOrder, InsertedOrderLine, UpdatedWarehouse, UpdatedDistrict, UpdatedCustomer, UpdatedOrder, UpdatedOrderLine, UpdatedStock, DeletedNewOrder, IsRecord, record_of, record_key, row_before, put_back, redo}
+use Rattle.oe_model.specs.Meets.{Accepts}
 use Rattle.oe_model.proofs.MapFacts.{is_self, is_same, same, map_get-insert, map_get-remove, map_get-with_row}
 
 pub key_refl : (a : Key) → is_key a a ≡ true
@@ -138,6 +139,20 @@ before (UpdateOrder k x) r = ap (option_map row.Order) (out-map row.Order as_ord
 before (UpdateOrderLine k x) r = ap (option_map row.OrderLine) (out-map row.OrderLine as_order_line (λ _. refl) (get r.order_lines k))
 before (UpdateStock k x) r = ap (option_map row.Stock) (out-map row.Stock as_stock (λ _. refl) (get r.stocks k))
 before (DeleteNewOrder k) r = ap (option_map row.NewOrder) (out-map row.NewOrder as_new_order (λ _. refl) (get r.new_orders k))
+
+-- the record of an accepted insert has no row before, and that of an accepted update or delete has one
+pub made : (c : Change) (r : Rows) → Accepts c r → IsRecord (record_of c (row_at r (key_of c)))
+made (InsertHistory k x) r a = out-map row.History as_history (λ _. refl) (get r.histories k) ∙ a.0
+made (InsertNewOrder k x) r a = out-map row.NewOrder as_new_order (λ _. refl) (get r.new_orders k) ∙ a.0
+made (InsertOrder k x) r a = out-map row.Order as_order (λ _. refl) (get r.orders k) ∙ a.0
+made (InsertOrderLine k x) r a = out-map row.OrderLine as_order_line (λ _. refl) (get r.order_lines k) ∙ a.0
+made (UpdateWarehouse k x) r a = ap is_some (out-map row.Warehouse as_warehouse (λ _. refl) (get r.warehouses k)) ∙ a
+made (UpdateDistrict k x) r a = ap is_some (out-map row.District as_district (λ _. refl) (get r.districts k)) ∙ a
+made (UpdateCustomer k x) r a = ap is_some (out-map row.Customer as_customer (λ _. refl) (get r.customers k) ∙ a.1)
+made (UpdateOrder k x) r a = ap is_some (out-map row.Order as_order (λ _. refl) (get r.orders k) ∙ a.1)
+made (UpdateOrderLine k x) r a = ap is_some (out-map row.OrderLine as_order_line (λ _. refl) (get r.order_lines k)) ∙ a.0
+made (UpdateStock k x) r a = ap is_some (out-map row.Stock as_stock (λ _. refl) (get r.stocks k)) ∙ a
+made (DeleteNewOrder k) r a = ap is_some (out-map row.NewOrder as_new_order (λ _. refl) (get r.new_orders k)) ∙ a
 
 pub redoes : (c : Change) (v : Option Row) (r : Rows) → row_at r (key_of c) ≡ row_of c → redo (record_of c v) r ≡ Some c
 redoes (InsertHistory k x) v r e = ap (option_map (InsertHistory k)) (un_history (get r.histories k) (Some x) e)

@@ -25,9 +25,10 @@ use Rattle.oe_model.specs.Locks.{is_name}
 use Rattle.oe_model.specs.Places.{Place, InPayment, InNewOrder, InDelivery, NoProgram}
 use Rattle.oe_model.specs.Payment.{history_key}
 use Rattle.oe_model.specs.NewOrder.{stock_of, item_at}
-use Rattle.oe_model.specs.Requests.{IsDistrict, MayRefuse, warehouses_of, warehouse_no}
+use Rattle.oe_model.specs.Requests.{IsDistrict, IsRequest, MayRefuse, rejection, warehouses_of, warehouse_no}
 use Rattle.oe_model.specs.Conditions.{Good, IsPopulation, IsStocked}
 use Rattle.oe_model.specs.System.{system, start_of, ask, act, taken, effect_of}
+use Rattle.oe_model.specs.Headline.{IsReadyFor, Programs_end}
 use Rattle.oe_model.proofs.MapFacts.{is_self, is_same}
 use Rattle.oe_model.proofs.EntryFacts.{EachOf}
 use Rattle.oe_model.proofs.RowFacts.{key_true, key_refl, at_changed, record_key_of, before, at_put_back, redoes, same_rows}
@@ -72,39 +73,53 @@ item_there n items x e = by_test (nat_le n 100000) e
     by_test true e = ap is_some e
     by_test false e = let no : ⊥ = cc in absurd no
 
-have_stock : (f : ℕ → ℕ) (r : Rows) → Good f r → (ls : List RequestLine) → EachOf (λ w. IsSome (get r.warehouses (warehouse_no w))) (map (λ l. l.supply) ls) → EachOf (HasStock r) ls
-have_stock f r g [] h = tt
-have_stock f r g (l ∷ ls) h = ((λ item e. g.stocked (stock_of l) h.0 (item_there l.item r.items item e)), have_stock f r g ls h.1)
+have_stock : (r : Rows) → IsStocked r → (ls : List RequestLine) → EachOf (λ w. IsSome (get r.warehouses (warehouse_no w))) (map (λ l. l.supply) ls) → EachOf (HasStock r) ls
+have_stock r s [] h = tt
+have_stock r s (l ∷ ls) h = ((λ item e. s (stock_of l) h.0 (item_there l.item r.items item e)), have_stock r s ls h.1)
 
 -- the district of a request is there
-district_there : (f : ℕ → ℕ) (r : Rows) → Good f r → (h : DistrictKey) → IsSome (get r.warehouses (warehouse_no h.warehouse)) → IsDistrict h → IsSome (get r.districts h)
-district_there f r g h w d = g.meets.ten_districts h w d.1.0 d.1.1
+district_there : (r : Rows) → Meets r → (h : DistrictKey) → IsSome (get r.warehouses (warehouse_no h.warehouse)) → IsDistrict h → IsSome (get r.districts h)
+district_there r m h w d = m.ten_districts h w d.1.0 d.1.1
 
--- each program, run alone from what it finds, ends with its whole effect
-ends_by : (t k : ℕ) (q : Request) (f : ℕ → ℕ) (r : Rows)
-    → (let x : Tx Request = record { terminal = t; number = k; request = q } in IsGood system f x r → EndsSo (MayRefuse q) x (start_of q) r (effect_of t k q r))
-ends_by t k (request.Payment q) f r g =
-    let there = all_there (warehouses_of (request.Payment q)) r g.known in
-    let number : k ≡ suc (f t) = g.number in
-    payment_ends (record { terminal = t; number = k; request = request.Payment q }) q r
-    (g.good.unused (history_key t k) g.terminal.0 (let less : f t < k = omega arith in less)) there.0 (district_there f r g.good q.district there.0 g.valid.district)
-ends_by t k (request.NewOrder q) f r g =
-    let there = all_there (warehouses_of (request.NewOrder q)) r g.known in
+-- each program, run alone from what it needs, ends with its whole effect
+ends_by : (t k : ℕ) (q : Request) (r : Rows)
+    → (let x : Tx Request = record { terminal = t; number = k; request = q } in
+    IsReadyFor x r → IsRequest q → rejection q r ≡ None → EndsSo (MayRefuse q) x (start_of q) r (effect_of t k q r))
+ends_by t k (request.Payment q) r g valid known =
+    let there = all_there (warehouses_of (request.Payment q)) r known in
+    payment_ends (record { terminal = t; number = k; request = request.Payment q }) q r g.unused there.0 (district_there r g.meets q.district there.0 valid.district)
+ends_by t k (request.NewOrder q) r g valid known =
+    let there = all_there (warehouses_of (request.NewOrder q)) r known in
     new_order_ends (record { terminal = t; number = k; request = request.NewOrder q }) q r
-    (λ d e. is_fresh f r g.good q.district d e) there.0 (district_there f r g.good q.district there.0 g.valid.district) (have_stock f r g.good q.lines there.1)
-ends_by t k (request.Delivery q) f r g =
+    (λ d e. is_fresh r g.meets g.conditions.condition_2 q.district d e) there.0 (district_there r g.meets q.district there.0 valid.district) (have_stock r g.stocked q.lines there.1)
+ends_by t k (request.Delivery q) r g valid known =
     delivery_ends (record { terminal = t; number = k; request = request.Delivery q }) q r
     (λ o e.
     let new = (oldest_least q.district r.new_orders o e).0 in
     let row = present_some (get r.new_orders (new_order_in q.district o)) new in
-    (new, g.good.meets.new_orders (new_order_in q.district o) row.0 row.1))
-    (λ o order e. g.good.meets.orders (order_in q.district o) order e)
-    (λ j y e. (g.good.meets.order_lines j y e).1)
-ends_by t k (request.Deliveries q) f r g = absurd g.valid
-ends_by t k (request.Rename q) f r g = absurd g.valid
+    (new, g.meets.new_orders (new_order_in q.district o) row.0 row.1))
+    (λ o order e. g.meets.orders (order_in q.district o) order e)
+    (λ j y e. (g.meets.order_lines j y e).1)
+ends_by t k (request.Deliveries q) r g valid known = absurd valid
+ends_by t k (request.Rename q) r g valid known = absurd valid
+
+pub programs_end : Programs_end
+programs_end x r g valid known = ends_by x.terminal x.number x.request r g valid known
+
+-- as what holds between transactions gives it
+ready : (f : ℕ → ℕ) (x : Tx Request) (r : Rows) → IsGood system f x r → IsReadyFor x r
+ready f x r g =
+    let number : x.number ≡ suc (f x.terminal) = g.number in
+    let h = g.good in
+    record {
+      meets = h.meets;
+      conditions = record { condition_1 = h.condition_1; condition_2 = h.condition_2; condition_3 = h.condition_3; condition_4 = h.condition_4 };
+      stocked = h.stocked;
+      unused = h.unused (history_key x.terminal x.number) g.terminal.0 (let less : f x.terminal < x.number = omega arith in less);
+    }
 
 pub ends : (f : ℕ → ℕ) (x : Tx Request) (r : Rows) → IsGood system f x r → EndsSo (MayRefuse x.request) x (start_of x.request) r (effect_of x.terminal x.number x.request r)
-ends f x r g = ends_by x.terminal x.number x.request f r g
+ends f x r g = programs_end x r (ready f x r g) g.valid g.known
 
 -- each whole effect keeps what holds between transactions
 good_by : (f : ℕ → ℕ) (t k : ℕ) (q : Request) (r after : Rows) (y : Reply) → Good f r → k ≡ suc (f t) → Meets after → IsStocked after → effect_of t k q r ≡ Some (after, y) → Good (bump t f) after

@@ -1,5 +1,5 @@
 -- Changes of one row, their undo records, and what both make of the tables.
-use Rattle.std.specs.Prelude.{Option, None, Some, option_map, option_and_then}
+use Rattle.std.specs.Prelude.{◌≡◌, Option, None, Some, IsSome, option_map, option_and_then}
 use Rattle.std.specs.FinMap.{get, insert, remove}
 use Rattle.oe_keys.specs.declared.keys.WarehouseKey.{WarehouseKey}
 use Rattle.oe_keys.specs.declared.keys.DistrictKey.{DistrictKey}
@@ -92,6 +92,20 @@ pub data Record : Type 0 where
   UpdatedOrderLine : OrderLineKey → Option OrderLine → Record
   UpdatedStock : StockKey → Option Stock → Record
   DeletedNewOrder : NewOrderKey → Option NewOrder → Record
+
+-- a record that an accepted change makes: an insert has no row before, an update and a delete have one
+abbrev pub IsRecord : Record → Type 0
+IsRecord (InsertedHistory k v) = v ≡ None
+IsRecord (InsertedNewOrder k v) = v ≡ None
+IsRecord (InsertedOrder k v) = v ≡ None
+IsRecord (InsertedOrderLine k v) = v ≡ None
+IsRecord (UpdatedWarehouse k v) = IsSome v
+IsRecord (UpdatedDistrict k v) = IsSome v
+IsRecord (UpdatedCustomer k v) = IsSome v
+IsRecord (UpdatedOrder k v) = IsSome v
+IsRecord (UpdatedOrderLine k v) = IsSome v
+IsRecord (UpdatedStock k v) = IsSome v
+IsRecord (DeletedNewOrder k v) = IsSome v
 
 -- the record of a change, by the row before
 abbrev pub record_of : Change → Option Row → Record

@@ -88,16 +88,21 @@ yields (InPayment q p) NoCustomer = by_number q.customer
 yields (InNewOrder q p) NoCustomer = true
 yields _ _ = false
 
--- the lengths of undo records are left out here: each is 0
-unfoldable pub record_length : Record → ℕ
-record_length b = 0
+-- how undo records lie in memory, which gives each its length: as values of the program, outside of any ring
+pub data Layout : Type 0 where
+  AsValues : Layout
+
+-- the length of a record; shut, so that no proof computes it
+unfoldable pub record_length : Layout → Record → ℕ
+record_length AsValues b = 0
 
 -- terminals are 1 to 64, and 0 is the population's in HISTORY; shut, so that no proof counts them
 unfoldable pub terminal_limit : ℕ
 terminal_limit = 65
 
-abbrev pub system : Machine
-system = record {
+-- the machine, by the layout of its undo records
+abbrev pub machine : Layout → Machine
+machine layout = record {
   Map = Rows;
   Key = Key;
   Row = Row;
@@ -114,7 +119,7 @@ system = record {
   restore = λ b now. row_before b;
   put_back = put_back;
   redo = redo;
-  size_of = record_length;
+  size_of = record_length layout;
   extent = 4096;
   Facet = Facet;
   Part = Part;
@@ -151,3 +156,7 @@ system = record {
   first_terminal = 1;
   terminal_limit = terminal_limit;
 }
+
+-- that of the layout of today
+abbrev pub system : Machine
+system = machine AsValues

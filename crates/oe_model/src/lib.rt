@@ -7,7 +7,7 @@ pub mod verdicts;
 
 ghost use Rattle.oe_model.specs.RowLaws.{Tables_are_a_map, Records_undo, Changes_are_judged};
 ghost use Rattle.oe_model.specs.Rules.{Payment_is_exact, Stock_is_exact, Text_occurs, Order_is_local, Oldest_is_least, Delivery_is_exact, Order_is_last, Level_is_exact, Name_is_middle, Modes_conflict, Worked};
-ghost use Rattle.oe_model.specs.Headline.{System_is_lawful, Runs_begin, Transactions_are_atomic, Versions_are_serial, Records_bring_back, Store_is_exact, Answers_are_known, Schema_always_holds, Conditions_hold};
+ghost use Rattle.oe_model.specs.Headline.{System_is_lawful, Programs_end, Runs_begin, Transactions_are_atomic, Versions_are_serial, Records_bring_back, Store_is_exact, Answers_are_known, Schema_always_holds, Conditions_hold};
 
 /// The nine tables are one map from key to row.
 pub fn tables_are_a_map()
@@ -24,10 +24,16 @@ pub fn changes_are_judged()
     ensures { Changes_are_judged }
 {}
 
-/// The machine meets the local laws of the theory of transactions: among them that each program, run alone a row at a
-/// time, has exactly its whole effect or none, and that this effect keeps what holds between transactions.
+/// The machine of each layout meets the local laws of the theory of transactions: among them that each program, run alone a row
+/// at a time, has exactly its whole effect or none, and that this effect keeps what holds between transactions.
 pub fn system_is_lawful()
     ensures { System_is_lawful }
+{}
+
+/// A program alone has its whole effect wherever the schema, conditions 1 to 4 and the stock are there, and no HISTORY row of
+/// its own transaction is.
+pub fn programs_end()
+    ensures { Programs_end }
 {}
 
 /// A run may begin from any population.

@@ -1,6 +1,8 @@
 use Rattle.oe_theory.proofs.Theorems.{nothing_is_recorded, records_follow, world_has_records, tables_follow, undo_forgets, undo_goes_back, base_is_unwound, version_is_unwound, row_is_unwound, used_is_of_records, extents_suffice, full_is_full}
+use Rattle.oe_theory.proofs.RecordKeys.{row_without_record, records_are_apart}
 use Rattle.oe_model.specs.System.{system}
 use Rattle.oe_model.proofs.SystemLaws.{laws}
+use Rattle.oe_model.proofs.MadeFacts.{records_are_made}
 use Rattle.oe_model.proofs.records_bring_back.Goals as goal
 
 pub returns : goal.returns
@@ -14,6 +16,9 @@ returns c = record {
   base_is_unwound = base_is_unwound system laws;
   version_is_unwound = version_is_unwound system laws;
   row_is_unwound = row_is_unwound system laws;
+  row_without_record = row_without_record system laws;
+  records_are_apart = records_are_apart system laws;
+  records_are_made = records_are_made;
   used_is_of_records = used_is_of_records system laws;
   extents_suffice = extents_suffice system laws;
   full_is_full = full_is_full system laws;
