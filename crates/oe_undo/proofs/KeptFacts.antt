@@ -1,8 +1,10 @@
 -- The log keeps of itself what it promises when the state of one terminal is replaced.
-use Rattle.std.proofs.Common.{◌≡◌, ◌≢◌, ℕ, suc, ◌+◌, ◌-◌, ◌*◌, ◌<◌, ◌≤◌, refl, sym, ap, ◌∙◌, subst, inl, inr, arith, rules, cond, replicate, List, [], ◌∷◌, length, get_or, set, Option, None, Some, is_some}
+use Rattle.std.proofs.Common.{◌≡◌, ◌≢◌, ℕ, zero, suc, ◌==◌, add-one, take, ◌+◌, ◌-◌, ◌*◌, ◌<◌, ◌≤◌, refl, sym, ap, ◌∙◌, subst, inl, inr, arith, rules, cond, replicate, List, [], ◌∷◌, length, get_or, set, Option, None, Some, is_some}
 use Rattle.std.specs.Option.{IsSome}
+use Rattle.std.specs.Prelude.{slice_get, option_map, IfSome}
+use Rattle.std.proofs.Math.Nat.{add-suc, add-zero}
 use Rattle.std.specs.List.{All, AllByRecursion}
-use Rattle.std.proofs.lemmas.Bool.{cases_eq, cases_lt}
+use Rattle.std.proofs.lemmas.Bool.{cases_eq, cases_lt, cond-true, cond-false, eq-eqb, ne_eqb}
 use Rattle.std.proofs.lemmas.List.{length-set, length-replicate, get_or-set_same, get_or-set_other, get_or_read, get_or-replicate, get_or_past}
 use Rattle.std.proofs.lemmas.List.Sums.{sum_by-set, sum_by-le, get_or-le-sum_by}
 use Rattle.std.proofs.lemmas.List.Folds.{sum_by-replicate}
@@ -10,8 +12,8 @@ use Rattle.std.proofs.lemmas.List.Elements.{All-set, All-weaker, All-cons, All-n
 use Rattle.oe_undo.specs.declared.segments.Place.{Place}
 use Rattle.oe_undo.specs.declared.undo.TerminalState.{TerminalState}
 use Rattle.oe_undo.specs.Segments.{Placed, Open, Committed, place_of, popped, popped_from}
-use Rattle.oe_undo.specs.Undo.{idle, records_in, IsFresh}
-use Rattle.oe_undo.specs.Kept.{ArePlaced, IsOf, IsCounted, IsKept}
+use Rattle.oe_undo.specs.Undo.{idle, commits_of, records_in, IsFresh}
+use Rattle.oe_undo.specs.Kept.{ArePlaced, IsOf, IsCounted, AreNumbered, IsKept}
 
 -- what holds of each terminal's state still holds when one is replaced by a state of which it holds
 at_set : (P : ℕ → TerminalState → Type 0) (ts : List TerminalState) (t : ℕ) (s : TerminalState) → t < length ts → P t s
@@ -28,9 +30,9 @@ one a = cond (is_some a) 1 0
 -- a terminal's state x, read from the log, is replaced by s, whose count is no less
 pub replaced : (ts : List TerminalState) (cs ds : List Committed) (l k n o l' k' n' o' t : ℕ) (x s : TerminalState)
     → IsKept ts cs l k n o → 1 ≤ t → t ≤ 64 → x ≡ get_or ts t x → x.count ≤ s.count → s.count < 4_294_967_296
-    → ((a : Open) → s.active ≡ Some a → IsOf t s.count a) → All (IsCounted (set ts t s)) ds
+    → ((a : Open) → s.active ≡ Some a → IsOf t s.count a) → All (IsCounted (set ts t s)) ds → AreNumbered (λ u. (get_or (set ts t s) u idle).count) ds
     → n' + x.count ≡ n + s.count → l' ≤ n' → o' + one x.active ≡ o + one s.active → l' + o' ≤ k' → IsKept (set ts t s) ds l' k' n' o'
-replaced ts cs ds l k n o l' k' n' o' t x s K low high read more small of counted moved kept opens spare =
+replaced ts cs ds l k n o l' k' n' o' t x s K low high read more small of counted numbered moved kept opens spare =
     let size : length ts ≡ 65 = K.size in
     let within : t < length ts = omega arith in
     let not_0 : 0 ≢ t = omega arith in
@@ -47,6 +49,7 @@ replaced ts cs ds l k n o l' k' n' o' t x s K low high read more small of counte
       counts = All-set (λ z. z.count < 4_294_967_296) ts t s small K.counts;
       active = at_set (λ u z. (a : Open) → z.active ≡ Some a → IsOf u z.count a) ts t s within of K.active;
       commits = counted;
+      numbers = numbered;
       moments = omega arith;
       kept = kept;
       opens = omega arith;
@@ -63,6 +66,48 @@ counted_still ts cs t x s within read more old =
     at_set (λ u z. (get_or ts u idle).count ≤ z.count) ts t s within here (λ u. omega arith) in
     All-weaker (IsCounted ts) (IsCounted (set ts t s))
     (λ c h. let below = all c.terminal in let was = h.number in record { number = omega arith; places = h.places }) cs old
+
+-- and their numbers are the same where a terminal's count stays
+pub numbered_still : (ts : List TerminalState) (cs : List Committed) (t : ℕ) (x s : TerminalState) → t < length ts → x ≡ get_or ts t x → s.count ≡ x.count
+    → AreNumbered (λ u. (get_or ts u idle).count) cs → AreNumbered (λ u. (get_or (set ts t s) u idle).count) cs
+numbered_still ts cs t x s within read same old =
+    let is : x ≡ get_or ts t idle = get_or_read ts t x within read idle in
+    let here : s.count ≡ (get_or ts t idle).count = same ∙ ap (λ z. z.count) is in
+    let all : (u : ℕ) → (get_or (set ts t s) u idle).count ≡ (get_or ts u idle).count =
+    at_set (λ u z. z.count ≡ (get_or ts u idle).count) ts t s within here (λ u. refl) in
+    λ later c e. old later c e ∙ sym (all c.terminal)
+
+-- a commit's number is the count of its terminal, and those before it are as they were
+numbered_more : (f g : ℕ → ℕ) (cs : List Committed) (d : Committed) (t : ℕ) → d.terminal ≡ t → d.number ≡ g t → g t ≡ suc (f t) → ((u : ℕ) → u ≢ t → g u ≡ f u)
+    → AreNumbered f cs → AreNumbered g (d ∷ cs)
+numbered_more f g cs d t terminal number more others old later c e = go later e
+  where
+    front : slice_get (d ∷ cs) 0 ≡ Some c → c.number + commits_of c.terminal [] ≡ g c.terminal
+    front h = let same : d ≡ c = cc in subst (λ z. z.number + 0 ≡ g z.terminal) same (add-zero d.number ∙ (number ∙ ap g (sym terminal)))
+
+    past : (j : ℕ) → slice_get cs j ≡ Some c → c.number + cond (c.terminal == d.terminal) (suc (commits_of c.terminal (take j cs))) (commits_of c.terminal (take j cs)) ≡ g c.terminal
+    past j h =
+        let was : c.number + commits_of c.terminal (take j cs) ≡ f c.terminal = old j c h in
+        elim (cases_eq c.terminal t) [
+          | inl p ↦
+              let here : c.terminal ≡ d.terminal = p ∙ sym terminal in
+              ap (λ z. c.number + z) (cond-true (c.terminal == d.terminal) (suc (commits_of c.terminal (take j cs))) (commits_of c.terminal (take j cs)) (eq-eqb c.terminal d.terminal here))
+              ∙ (add-suc c.number (commits_of c.terminal (take j cs)) ∙ (ap suc was ∙ (ap (λ z. suc (f z)) p ∙ (sym more ∙ ap g (sym p)))))
+          | inr ne ↦
+              let apart : c.terminal ≢ d.terminal = λ q. ne (q ∙ terminal) in
+              ap (λ z. c.number + z) (cond-false (c.terminal == d.terminal) (suc (commits_of c.terminal (take j cs))) (commits_of c.terminal (take j cs)) (ne_eqb c.terminal d.terminal apart))
+              ∙ (was ∙ sym (others c.terminal ne))
+        ]
+
+    go : (i : ℕ) → slice_get (d ∷ cs) i ≡ Some c → c.number + commits_of c.terminal (take i (d ∷ cs)) ≡ g c.terminal
+    go zero h = front h
+    go (suc j) h = past j h
+
+-- the number of a commit that was found
+pub number_found : {A : Type 0} (now : A → Committed) (o : Option A) (counts : ℕ → ℕ) (cs : List Committed) (later : ℕ) → option_map now o ≡ slice_get cs later → AreNumbered counts cs
+    → IfSome o (λ a. (now a).number + commits_of (now a).terminal (take later cs) ≡ counts (now a).terminal)
+number_found now None counts cs later e h = tt
+number_found now (Some a) counts cs later e h = h later (now a) (sym e)
 
 -- the open segment of a state that was read from the log
 pub is_of : (ts : List TerminalState) (cs : List Committed) (l k n o t : ℕ) (x : TerminalState) (a : Open)
@@ -85,7 +130,7 @@ changed_kept ts cs l k n o t x a b K low high read active stays =
     let one_is : one x.active ≡ 1 = ap one active in
     replaced ts cs cs l k n o l k n o t x s K low high read (omega arith) (let below = of.below in omega arith)
     (λ y e. let same : b ≡ y = cc in subst (IsOf t x.count) same (stays of))
-    (counted_still ts cs t x s within read (omega arith) K.commits) refl K.kept (ap (λ z. o + z) one_is) K.spare
+    (counted_still ts cs t x s within read (omega arith) K.commits) (numbered_still ts cs t x s within read refl K.numbers) refl K.kept (ap (λ z. o + z) one_is) K.spare
 
 pub roomed_is_of : (t n room : ℕ) (a : Open) → IsOf t n a → IsOf t n (record a { room = room })
 roomed_is_of t n room a h = record { terminal = h.terminal; number = h.number; below = h.below; places = h.places }
@@ -132,6 +177,7 @@ closed_kept ts cs l k n o t x K low high read active =
     let spare = K.spare in
     replaced ts cs cs l k n o l k n (o - 1) t x (record { count = x.count; active = None }) K low high read (omega arith) counts
     (λ c e. cc) (counted_still ts cs t x (record { count = x.count; active = None }) within read (omega arith) K.commits)
+    (numbered_still ts cs t x (record { count = x.count; active = None }) within read refl K.numbers)
     refl K.kept (omega arith) (omega arith)
 
 -- a segment without records is opened
@@ -156,6 +202,7 @@ opened_kept ts cs ds l k n o l' k' t x b K low high read closed below terminal n
     replaced ts cs ds l k n o l' k' n (o + 1) t x s K low high read (omega arith) (omega arith)
     (λ y e. let same : b ≡ y = cc in subst (IsOf t x.count) same of)
     (subst (All (IsCounted (set ts t s))) (sym same) (counted_still ts cs t x s within read (omega arith) K.commits))
+    (subst (AreNumbered (λ u. (get_or (set ts t s) u idle).count)) (sym same) (numbered_still ts cs t x s within read refl K.numbers))
     refl (omega arith) (omega arith) spare
 
 -- an open segment is made that of a commit
@@ -182,6 +229,8 @@ sealed_kept ts cs ds l k n o l' k' n' t x a e d K low high read active none is_o
     let number_is : d.number ≡ a.number = ap (λ z. z.number) is_of_a in
     let now : (get_or (set ts t s) d.terminal idle).count ≡ x.count + 1 =
     ap (λ z. (get_or (set ts t s) z idle).count) terminal_is ∙ ap (λ z. z.count) (get_or-set_same ts t s idle within) in
+    let count_is : x.count ≡ (get_or ts t idle).count = ap (λ z. z.count) is in
+    let count_now : (get_or (set ts t s) t idle).count ≡ suc x.count = ap (λ z. z.count) (get_or-set_same ts t s idle within) ∙ add-one x.count in
     let places : ArePlaced d.terminal d.number d.records =
     subst (λ z. ArePlaced z.terminal z.number z.records) (sym is_of_a)
     (subst (λ z. ArePlaced z a.number a.records) (sym of.terminal) (subst (λ z. ArePlaced t z a.records) (sym of.number) of.places)) in
@@ -189,6 +238,9 @@ sealed_kept ts cs ds l k n o l' k' n' t x a e d K low high read active none is_o
     replaced ts cs ds l k n o l' k' n' (o - 1) t x s K low high read (omega arith) (omega arith)
     (λ c h. cc)
     (subst (All (IsCounted (set ts t s))) (sym front) (All-cons (IsCounted (set ts t s)) d cs new (counted_still ts cs t x s within read (omega arith) K.commits)))
+    (subst (AreNumbered (λ u. (get_or (set ts t s) u idle).count)) (sym front)
+    (numbered_more (λ u. (get_or ts u idle).count) (λ u. (get_or (set ts t s) u idle).count) cs d t terminal_is
+    (number_is ∙ (number ∙ sym count_now)) (count_now ∙ ap suc count_is) (λ u ne. ap (λ z. z.count) (get_or-set_other ts t u s idle ne)) K.numbers))
     (omega arith) (omega arith) (omega arith) (omega arith)
 
 pub idle_at : (n t : ℕ) → get_or (replicate n idle) t idle ≡ idle
@@ -206,6 +258,7 @@ first_kept ts cs l k n m size all none len newest =
       counts = All-replicate (λ z. z.count < 4_294_967_296) m idle (omega arith);
       active = λ t o e. let is : None ≡ Some o = sym (ap (λ z. z.active) (idle_at m t)) ∙ e in cc;
       commits = subst (All (IsCounted (replicate m idle))) (sym none) (All-nil (IsCounted (replicate m idle)));
+      numbers = subst (AreNumbered (λ t. (get_or (replicate m idle) t idle).count)) (sym none) (λ later c e. let no : ⊥ = cc in absurd no);
       moments = omega arith;
       kept = omega arith;
       opens = omega arith;

@@ -1,9 +1,9 @@
 -- What an undo log keeps of itself.
-use Rattle.std.specs.Prelude.{◌≡◌, ℕ, suc, ◌+◌, ◌<◌, ◌≤◌, ⊤, List, [], ◌∷◌, length, get_or, None, Some, is_some}
+use Rattle.std.specs.Prelude.{◌≡◌, ℕ, suc, ◌+◌, ◌<◌, ◌≤◌, ⊤, List, [], ◌∷◌, length, take, slice_get, get_or, None, Some, is_some}
 use Rattle.std.specs.List.{All, sum_by, count_by}
 use Rattle.oe_undo.specs.declared.undo.TerminalState.{TerminalState}
 use Rattle.oe_undo.specs.Segments.{Placed, Open, Committed, place_of}
-use Rattle.oe_undo.specs.Undo.{idle}
+use Rattle.oe_undo.specs.Undo.{idle, commits_of}
 
 -- records of a transaction have its places, by the number of older ones
 abbrev pub ArePlaced : ℕ → ℕ → List Placed → Type 0
@@ -22,12 +22,17 @@ pub record IsCounted (terminals : List TerminalState) (c : Committed) : Type 0 w
   pub number : c.number ≤ (get_or terminals c.terminal idle).count
   pub places : ArePlaced c.terminal c.number c.records
 
+-- the number of each commit, newest first, is its terminal's count less the terminal's newer commits
+abbrev pub AreNumbered : (ℕ → ℕ) → List Committed → Type 0
+AreNumbered counts cs = (later : ℕ) (c : Committed) → slice_get cs later ≡ Some c → c.number + commits_of c.terminal (take later cs) ≡ counts c.terminal
+
 pub record IsKept (terminals : List TerminalState) (committed : List Committed) (len capacity newest open_count : ℕ) : Type 0 where
   pub size : length terminals ≡ 65
   pub nobody : (get_or terminals 0 idle).active ≡ None
   pub counts : All (λ s. s.count < 4_294_967_296) terminals
   pub active : (t : ℕ) (o : Open) → (get_or terminals t idle).active ≡ Some o → IsOf t (get_or terminals t idle).count o
   pub commits : All (IsCounted terminals) committed
+  pub numbers : AreNumbered (λ t. (get_or terminals t idle).count) committed
   pub moments : newest ≡ sum_by (λ s. s.count) terminals
   pub kept : len ≤ newest
   pub opens : open_count ≡ count_by (λ s. is_some s.active) terminals

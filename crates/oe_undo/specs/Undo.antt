@@ -1,5 +1,5 @@
 -- The undo log as plain data, and what its calls do to it.
-use Rattle.std.specs.Prelude.{◌≢◌, ℕ, suc, ◌-◌, List, [], ◌∷◌, get_or, set, replicate, Option, None, Some, is_some}
+use Rattle.std.specs.Prelude.{◌≢◌, ℕ, suc, ◌-◌, ◌==◌, cond, List, [], ◌∷◌, get_or, set, replicate, Option, None, Some, is_some}
 use Rattle.std.specs.List.{All, sum_by, count_by}
 use Rattle.oe_requests.specs.declared.requests.Request.{Request}
 use Rattle.oe_requests.specs.declared.replies.Reply.{Reply}
@@ -54,6 +54,11 @@ total_count v = sum_by (λ s. s.count) v.terminals
 -- how many terminals have a segment open
 abbrev pub open_total : Stored → ℕ
 open_total v = count_by (λ s. is_some s.active) v.terminals
+
+-- how many of these commits are a terminal's
+abbrev pub commits_of : ℕ → List Committed → ℕ
+commits_of t [] = 0
+commits_of t (c ∷ cs) = cond (t == c.terminal) (suc (commits_of t cs)) (commits_of t cs)
 
 -- no record of the terminals' open segments or of a commit stands at this place
 pub record IsFresh (v : Stored) (p : Place) : Type 0 where

@@ -1,8 +1,8 @@
 //! The undo log.
-ghost use Rattle.std.specs.Prelude.{◌≡◌, ◌<◌, ◌≤◌, ◌+◌, ◌-◌, ◌↔◌, [], length, slice_get, IsTrue, IsSome, Some, None, IfOk, OnOk, OnErr, IfErr};
+ghost use Rattle.std.specs.Prelude.{◌≡◌, ◌<◌, ◌≤◌, ◌+◌, ◌-◌, ◌↔◌, [], length, take, slice_get, IfSome, IsTrue, IsSome, Some, None, IfOk, OnOk, OnErr, IfErr};
 ghost use Rattle.std.specs.Option.{option_copied};
 ghost use Rattle.oe_undo.specs.Segments.{records_of, newest_of};
-ghost use Rattle.oe_undo.specs.Undo.{no_segments, idle_terminals, count_at, active_at, records_at, room_at, total_count, open_total, opened, with_room, pushed, popped_at, sealed, dropped, IsFresh};
+ghost use Rattle.oe_undo.specs.Undo.{no_segments, idle_terminals, commits_of, count_at, active_at, records_at, room_at, total_count, open_total, opened, with_room, pushed, popped_at, sealed, dropped, IsFresh};
 
 use crate::records::Records;
 use crate::segments::{CommittedSegment, OpenSegment, Place, Segment};
@@ -154,9 +154,10 @@ impl Undo {
         Moment::new(self.newest.get() - kept).unwrap()
     }
 
-    /// The segment of a commit, by the number of later ones.
+    /// The segment of a commit, by the number of later ones. Its number is its terminal's count less the terminal's later commits.
     pub fn committed(&self, later: usize) -> Option<&CommittedSegment>
-        ensures { option_copied result ≡ slice_get self.now.committed later }
+        ensures commit { option_copied result ≡ slice_get self.now.committed later }
+        ensures number { IfSome result (λ s. s.now.number + commits_of s.now.terminal (take later self.now.committed) ≡ count_at self.now s.now.terminal) }
     {
         self.committed.get(later)
     }
