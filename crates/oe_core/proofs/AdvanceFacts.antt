@@ -27,7 +27,7 @@ use Rattle.oe_model.proofs.SystemLaws.{laws}
 use Rattle.oe_engine.specs.View.{View, view_of, Handle, IsOpen}
 use Rattle.oe_engine.specs.View as engine
 use Rattle.oe_engine.specs.Calls.{IsFree, IsInTheWay, row_done, committed, rolled_back}
-use Rattle.oe_engine.specs.Programs.{tx_of, ask_here, act_here, IsFreeHere, GoesOn, IsReady, Ends, IsRefused}
+use Rattle.oe_engine.specs.Programs.{tx_of, ask_here, act_here, IsFreeHere, GoesOn, IsReady, Ends, WantsMemory, IsRefused}
 use Rattle.oe_core.specs.Core.{Stored, place_of, request_of, work_at, slot_of, open_at, store_of, IsOrderly, Moves, keeps_open}
 use Rattle.oe_core.specs.Steps.{refusal_in}
 use Rattle.oe_core.specs.declared.slots.Work.{Work}
@@ -273,7 +273,7 @@ kept_lead s t w o NoMemory kp h =
     own = ap (view_of s.engine).held (own_work o).terminal
 
     new : IsNew system ((view_of s.engine).held w.tx.terminal) (ask_here s.engine w.tx (request_of w.program) (place_of w.program))
-        ⊎ ((c : Change) × (p' : model.Place) × (act_here s.engine w.tx (request_of w.program) (place_of w.program) ≡ Go (Some c) p'))
+        ⊎ ((c : Change) × (p' : model.Place) × (act_here s.engine w.tx (request_of w.program) (place_of w.program) ≡ Go (Some c) p') × WantsMemory s.engine w.tx c)
         → IsNew system ((view_of s.engine).held t) (ask (tx_in system t (here s t w o)) (place_of w.program) (view_of s.engine).rows) ⊎ (may_allocate (place_of w.program) ≡ true)
     new (inl a) = inl (subst (λ z. IsNew system z (ask (tx_in system t (here s t w o)) (place_of w.program) (view_of s.engine).rows)) own (subst (IsNew system ((view_of s.engine).held w.tx.terminal)) (asked_here s t w o) a))
     new (inr a) = inr (allocates (tx_of s.engine w.tx (request_of w.program)) w.program (view_of s.engine).rows a.0 a.1 a.2)

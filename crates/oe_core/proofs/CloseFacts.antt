@@ -18,7 +18,6 @@ use Rattle.oe_engine.specs.Calls.{rolled_back}
 use Rattle.oe_core.specs.Core.{Stored, work_at, store_with, store_of, world_of, Works, IsOrderly, IsEndable, IsEnded}
 use Rattle.oe_core.specs.declared.slots.Work.{Work}
 use Rattle.oe_core.proofs.MoveFacts.{standing, same_parts, slots_set, works_set}
-use Rattle.oe_core.proofs.Undone.{unwinds_here}
 
 -- the newest version is still this one
 pub record IsClosing (s : Stored) (r : Rows) : Type 0 where
@@ -59,7 +58,7 @@ last_endable : (e : engine.Stored) (ys : List (Option Work)) (x : Option Work) (
 last_endable e ys None r h = tt
 last_endable e ys (Some w) r h =
     let own = subst (λ (z : Option Work). Works e (length ys) z) (at_last ys (Some w)) (h.works (length ys)) in
-    (own.is_open, unwinds_here (store_of (record { engine = e; slots = ys ++ Some w ∷ [] })) h.stands w.tx.terminal)
+    own.is_open
 
 -- what was in the last place can be ended
 pub endable : {e : engine.Stored} {xs : List (Option Work)} {r : Rows} → IsClosing (record { engine = e; slots = xs }) r → (ys : List (Option Work)) (x : Option Work) → xs ≡ ys ++ x ∷ [] → IsEndable e x

@@ -1,5 +1,4 @@
 pub mod PlaceFacts
-pub mod Undone
 pub mod MoveFacts
 pub mod BeginFacts
 pub mod AdvanceFacts

@@ -21,13 +21,12 @@ use Rattle.oe_model.specs.System.{system, start_of, terminal_limit}
 use Rattle.oe_model.proofs.SystemLaws.{laws}
 use Rattle.oe_engine.specs.View.{View, view_of, Handle, IsOpen}
 use Rattle.oe_engine.specs.View as engine
-use Rattle.oe_engine.specs.Calls.{begun, back_at, rolled_back, CanUnwind}
+use Rattle.oe_engine.specs.Calls.{begun, back_at, rolled_back}
 use Rattle.oe_core.specs.Core.{Stored, place_of, request_of, work_at, slot_of, open_at, store_with, store_of, world_of, IsSound, IsWork, Works, IsOrderly, Moves}
 use Rattle.oe_core.specs.Steps.{HasProgram}
 use Rattle.oe_core.specs.declared.slots.Work.{Work}
 use Rattle.oe_core.specs.declared.programs.Program.{Program}
 use Rattle.oe_core.proofs.PlaceFacts.{place_set, get_place, get_set_same, at_place, set_idle_place}
-use Rattle.oe_core.proofs.Undone.{unwinds_here}
 
 pub standing : (s : Stored) → IsOrderly s → IsStanding system (store_of s)
 unfolding IsSound
@@ -164,10 +163,6 @@ pub mark_within : {s : Stored} {t : ℕ} {w : Work} → HasOpen s t w → w.mark
 mark_within {s} {t} {w} h =
     subst (λ (k : ℕ). w.mark ≤ length ((view_of s.engine).undo.active k)) (sym (own_work h).terminal)
     ((store_is_orderly system laws (store_of s) (standing s h.orderly)).mark t (slot_of (view_of s.engine) t w) (ap (open_at (view_of s.engine) t) h.here))
-
--- the records of a terminal's transaction can be put back
-pub unwinds : (s : Stored) → IsOrderly s → (t : ℕ) → CanUnwind ((view_of s.engine).undo.active t) (view_of s.engine).rows
-unwinds s o t = unwinds_here (store_of s) (standing s o) t
 
 -- nothing has changed for terminals other than t
 pub record LeavesOthers (t : ℕ) (v v' : View) : Type 0 where

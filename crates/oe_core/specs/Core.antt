@@ -13,7 +13,7 @@ use Rattle.oe_model.specs.Places.{Place}
 use Rattle.oe_model.specs.System.{system}
 use Rattle.oe_engine.specs.View.{View, view_of, IsOpen}
 use Rattle.oe_engine.specs.View as engine
-use Rattle.oe_engine.specs.Calls.{CanUnwind, rolled_back}
+use Rattle.oe_engine.specs.Calls.{rolled_back}
 use Rattle.oe_payment.specs.Program as payment
 use Rattle.oe_core.specs.declared.programs.Program.{Program}
 use Rattle.oe_core.specs.declared.programs.Program.TheVariants as program
@@ -96,10 +96,10 @@ keeps_open refusal.UndoFull = true
 keeps_open refusal.NoMemory = true
 keeps_open _ = false
 
--- the transaction of a place can be rolled back
+-- the transaction of a place is open
 abbrev pub IsEndable : engine.Stored → Option Work → Type 0
 IsEndable e None = Unit {0}
-IsEndable e (Some w) = IsOpen e w.tx × CanUnwind ((view_of e).undo.active w.tx.terminal) (view_of e).rows
+IsEndable e (Some w) = IsOpen e w.tx
 
 -- and was, where there is one
 abbrev pub IsEnded : engine.Stored → Option Work → engine.Stored → Type 0

@@ -6,7 +6,7 @@ ghost use Rattle.oe_model.specs.Conditions.{IsPopulation};
 ghost use Rattle.oe_model.specs.System.{system, terminal_limit};
 ghost use Rattle.oe_store.specs.Stored.{rows};
 ghost use Rattle.oe_engine.specs.View.{view_of, IsOpen};
-ghost use Rattle.oe_engine.specs.Calls.{CanUnwind, committed, rolled_back};
+ghost use Rattle.oe_engine.specs.Calls.{committed, rolled_back};
 ghost use Rattle.oe_core.specs.Steps.{step_in, answer_in, Serves, Carries, IsStep, HasProgram};
 ghost use Rattle.oe_core.specs.Core.{world_of, keeps_open, IsEndable, IsEnded};
 
@@ -263,8 +263,7 @@ fn commit(engine: &mut Engine, work: Work, reply: &Reply) -> Moment
 /// Spends a transaction of the engine: all that it has changed is forgotten.
 #[inline(never)]
 fn roll_back(engine: &mut Engine, work: Work)
-    requires open { IsOpen engine.old work.tx }
-    requires unwinds { CanUnwind ((view_of engine.old).undo.active work.tx.terminal) (view_of engine.old).rows }
+    requires { IsOpen engine.old work.tx }
     ensures rolled_back { view_of engine.new ≡ rolled_back work.tx.terminal (view_of engine.old) }
     ensures name { engine.new.name ≡ engine.old.name }
 {

@@ -8,7 +8,6 @@ use Rattle.oe_keys.specs.declared.keys.Key.{Key}
 use Rattle.oe_records.specs.Befores.{record_of_before}
 use Rattle.oe_theory.specs.World as world
 use Rattle.oe_theory.specs.Undo.{unwind, put_records}
-use Rattle.oe_model.specs.Rows.{Rows}
 use Rattle.oe_model.specs.System.{system}
 use Rattle.oe_store.specs.Stored.{rows, HasPlace}
 use Rattle.oe_store.specs.Stored as tables
@@ -19,7 +18,7 @@ use Rattle.oe_undo.proofs.StandsFacts as stands
 use Rattle.oe_locks.specs.Held.{Holdings, OthersKeep, HoldsNothing}
 use Rattle.oe_engine.specs.View.{view_from}
 use Rattle.oe_engine.specs.Kept.{HavePlaces, AllHavePlaces, IsKept}
-use Rattle.oe_engine.specs.Calls.{CanUnwind, back_at, rolled_back}
+use Rattle.oe_engine.specs.Calls.{back_at, rolled_back}
 use Rattle.oe_engine.specs.Unwinds.{TakesBack}
 use Rattle.oe_engine.proofs.LockFacts.{held_of, released_is}
 use Rattle.oe_engine.proofs.LogFacts.{active_set, seen_same}
@@ -100,12 +99,6 @@ rolled_back_is ts ts' u u' ls ls' t n is within h own others =
     let seals_is = s.seals ∙ w.seals in
     let counts_is = s.counts ∙ w.counts in
     λ i. record { rows = rows_is i; undo = undo_is i; seals = seals_is i; counts = counts_is i; held = names i; is_open = opens i; extents = w.extents i }
-
-pub can_all : (u : Stored) (t n : ℕ) (r : Rows) → n ≡ length (records_at u t) → CanUnwind ((undo_of u).active t) r → CanUnwind (take n ((undo_of u).active t)) r
-can_all u t n r is can =
-    let many = length-map (records_at u t) (λ b. record_of_before b.before) in
-    let all : take n ((undo_of u).active t) ≡ (undo_of u).active t = take_all n ((undo_of u).active t) (omega arith) in
-    subst (λ bs. CanUnwind bs r) (sym all) can
 
 -- how many are to go to come back to a mark
 pub since_is : (u : Stored) (t k n mark m : ℕ) → t ≡ k → n ≡ length (records_at u t) → m ≡ mark → n - m ≡ length ((undo_of u).active k) - mark

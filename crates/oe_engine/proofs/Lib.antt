@@ -1,7 +1,9 @@
+pub mod CoveredFacts
 pub mod EndFacts
 pub mod KeptFacts
 pub mod LockFacts
 pub mod LogFacts
 pub mod MakeFacts
 pub mod RowFacts
+pub mod SafeFacts
 pub mod UnwindFacts

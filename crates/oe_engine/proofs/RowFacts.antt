@@ -1,5 +1,5 @@
 -- A row is its lock and its change.
-use Rattle.std.proofs.Common.{◌≡◌, ℕ, Bool, true, false, cond, refl, sym, ap, ◌∙◌, subst, inl, inr, ◌⊎◌, List, ◌∷◌}
+use Rattle.std.proofs.Common.{◌≡◌, ℕ, Bool, true, false, cond, refl, sym, ap, ◌∙◌, subst, inl, inr, ◌⊎◌, ◌∷◌}
 use Rattle.std.specs.Prelude.{Option, None, Some, is_some, option_map, Result, Ok, Err, OnOk, IfErr}
 use Rattle.std.proofs.lemmas.Bool.{true≢false}
 use mathlib.Core.Path.{fun_ext}
@@ -9,29 +9,24 @@ use Rattle.oe_keys.specs.declared.locks.Mode.TheVariants.{Shared, Exclusive}
 use Rattle.oe_requests.specs.declared.refusals.Refusal.{Refusal}
 use Rattle.oe_requests.specs.declared.refusals.Refusal.TheVariants.{BadLine, NoSuchRow, RowExists, Overflow, Reference, KeyColumn, Busy, UndoFull, NoMemory, NotOpen, AlreadyOpen, InvalidItem, NoCustomer, TooOld, Future, NotQuiet, NotPinned}
 use Rattle.oe_theory.specs.Machine as theory
-use Rattle.oe_theory.specs.Machine.{Ask, Plain, Take}
+use Rattle.oe_theory.specs.Machine.{Plain, Take}
 use Rattle.oe_theory.specs.World as world
 use Rattle.oe_theory.specs.Next.{held_after, record_on}
 use Rattle.oe_theory.specs.Undo.{put_records}
-use Rattle.oe_model.specs.Rows.{Rows}
-use Rattle.oe_model.specs.Changes.{Change, Record, changed, put_back}
-use Rattle.oe_model.specs.Meets.{Meets}
+use Rattle.oe_model.specs.Changes.{Change, changed}
 use Rattle.oe_model.specs.Locks.{mode_of, is_name}
 use Rattle.oe_model.specs.System.{system}
 use Rattle.oe_model.proofs.SystemLaws as model
-use Rattle.oe_model.proofs.RowFacts.{undone}
-use Rattle.oe_store.specs.Stored.{rows, HasPlace}
+use Rattle.oe_store.specs.Stored.{rows}
 use Rattle.oe_store.specs.Stored as tables
-use Rattle.oe_change.specs.Applies.{Applies, Refuses}
-use Rattle.oe_change.specs.PutBack.{Stands}
-use Rattle.oe_change.proofs.UndoFacts.{can_at_once}
+use Rattle.oe_change.specs.Applies.{Refuses}
 use Rattle.oe_locks.specs.Held as locks
 use Rattle.oe_locks.specs.Held.{Holdings, held}
 use Rattle.oe_undo.specs.Undo as undo
 use Rattle.oe_undo.specs.Undo.{active_at}
 use Rattle.oe_engine.specs.View.{View, view_from, view_of, Stored, Handle, IsOpen}
 use Rattle.oe_engine.specs.Kept.{IsKept}
-use Rattle.oe_engine.specs.Calls.{IsFree, IsInTheWay, IsBelow, locked, made, put_mode, LockRefused, ChangeRefused, PairRefused, RowRefused, row_done, CanUnwind}
+use Rattle.oe_engine.specs.Calls.{IsFree, IsInTheWay, IsBelow, locked, made, put_mode, LockRefused, ChangeRefused, PairRefused, RowRefused, row_done}
 use Rattle.oe_engine.proofs.LockFacts.{held_of, same_together, taken_is, put_is, set_own, set_at, set_twice, put_taken}
 
 -- a row that neither locks nor changes leaves all as it was
@@ -120,6 +115,17 @@ below_so (Some Shared) (Some Shared) h = absurd h
 below_so (Some Exclusive) (Some Shared) h = absurd h
 below_so (Some Exclusive) (Some Exclusive) h = absurd h
 
+pub below_as : (m o : Option Mode) → locks.IsBelow m o → IsBelow (option_map mode_of m) (option_map mode_of o)
+below_as None (Some Shared) h = tt
+below_as None (Some Exclusive) h = tt
+below_as (Some Shared) (Some Exclusive) h = tt
+below_as None None h = absurd h
+below_as (Some Shared) None h = absurd h
+below_as (Some Exclusive) None h = absurd h
+below_as (Some Shared) (Some Shared) h = absurd h
+below_as (Some Exclusive) (Some Shared) h = absurd h
+below_as (Some Exclusive) (Some Exclusive) h = absurd h
+
 -- Freedom and its causes, in the theory's words
 module _ (ts : tables.Stored) (u : undo.Stored) (ls : Holdings) where
   pub free_is : (t : ℕ) (n : Name) (m : Mode) → locks.IsFreeFor ls t n m → IsFree (view_from ts u ls) t (Take n (mode_of m))
@@ -191,25 +197,6 @@ module _ (ts : tables.Stored) (u : undo.Stored) (ls : Holdings) where
   unfolding view_from
   put_nothing t n m (inl e) never = sym (subst (λ z. put_mode t n z (view_from ts u ls) ≡ view_from ts u ls) (sym e) (put_same t n (view_from ts u ls)))
   put_nothing t n m (inr h) never = absurd (never (below_so m (held ls t n) h))
-
--- a change that was made can be undone
-stands_so : (c : Change) (ts ts' : tables.Stored) (b : Record) → Meets (rows ts) → Applies c ts ts' b → Stands (record_on system c (rows ts)) (changed c (rows ts))
-stands_so c ts ts' b schema a =
-    subst (Stands (record_on system c (rows ts))) a.changes (subst (λ z. Stands z (rows ts')) a.before (can_at_once c ts ts' b schema a).stands)
-
-unwinds_more : (c : Change) (r : Rows) (bs : List Record) → Meets r → Stands (record_on system c r) (changed c r) → CanUnwind bs r
-    → CanUnwind (record_on system c r ∷ bs) (changed c r)
-unwinds_more c r bs schema stands can =
-    let back : put_back (record_on system c r) (changed c r) ≡ r = undone c r in
-    (stands, subst Meets (sym back) schema, subst (CanUnwind bs) (sym back) can)
-
-pub unwinds_made : (c : Change) (ts ts' : tables.Stored) (b : Record) (t : ℕ) (v w : View) → v.rows ≡ rows ts → Meets (rows ts) → Applies c ts ts' b
-    → w ≡ made t c v → CanUnwind (v.undo.active t) v.rows → CanUnwind (w.undo.active t) w.rows
-unwinds_made c ts ts' b t v w is schema a made_is can =
-    let stands : Stands (record_on system c v.rows) (changed c v.rows) = subst (λ r. Stands (record_on system c r) (changed c r)) (sym is) (stands_so c ts ts' b schema a) in
-    let more : CanUnwind (record_on system c v.rows ∷ v.undo.active t) (changed c v.rows) = unwinds_more c v.rows (v.undo.active t) (subst Meets (sym is) schema) stands can in
-    subst (λ z. CanUnwind (z.undo.active t) z.rows) (sym made_is)
-    (subst (λ bs. CanUnwind bs (changed c v.rows)) (sym (set_at t (record_on system c v.rows ∷ v.undo.active t) v.undo.active)) more)
 
 -- Why rows are refused
 pub pair_by_lock : (v : View) (t : ℕ) (n : Name) (m : theory.Mode) (c : Change) (e : Refusal) → LockRefused v t n m e → PairRefused v t n m c e

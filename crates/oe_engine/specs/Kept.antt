@@ -7,6 +7,8 @@ use Rattle.oe_undo.specs.Undo.{active_at, count_at}
 use Rattle.oe_undo.specs.Undo as undo
 use Rattle.oe_undo.specs.Stands.{undo_of}
 use Rattle.oe_locks.specs.Held.{Holdings, HoldsNothing}
+use Rattle.oe_engine.specs.View.{view_from}
+use Rattle.oe_engine.specs.Covered.{IsSafe}
 
 -- each record's key has a place, so that to put its row back takes no memory
 abbrev pub HavePlaces : tables.Stored → List Record → Type 0
@@ -27,3 +29,8 @@ pub record IsKept (ts : tables.Stored) (u : undo.Stored) (ls : Holdings) : Type 
   pub idle : (t : ℕ) → is_some (active_at u t) ≡ false → HoldsNothing ls t
   -- the number of an open transaction is in its range
   pub counted : (t : ℕ) → is_some (active_at u t) ≡ true → count_at u t < 4_294_967_295
+
+-- an engine's tables, undo log and locks
+pub record IsSound (ts : tables.Stored) (u : undo.Stored) (ls : Holdings) : Type 0 where
+  pub kept : IsKept ts u ls
+  pub safe : IsSafe (view_from ts u ls)

@@ -6,7 +6,7 @@ use Rattle.oe_store.specs.Stored as tables
 use Rattle.oe_undo.specs.Undo as undo
 use Rattle.oe_undo.specs.Undo.{open_total}
 use Rattle.oe_locks.specs.Held.{Holdings}
-use Rattle.oe_engine.specs.Kept.{IsKept}
+use Rattle.oe_engine.specs.Kept.{IsSound}
 
 module _ {F R : Type 0} (g : Once F (MutBor tables.Stored × (MutBor undo.Stored × Unit {0})) (R × (MutBor tables.Stored × (MutBor undo.Stored × Unit {0})))) (f : F) where
   -- f may be called at these tables and this undo log
@@ -24,4 +24,4 @@ module _ {F R : Type 0} (g : Once F (MutBor tables.Stored × (MutBor undo.Stored
 
   -- what it leaves of an engine's tables and log is an engine's beside the same locks
   abbrev pub Keeps : tables.Stored → undo.Stored → Holdings → Type 0
-  Keeps ts u ls = (r : R) (ts' : tables.Stored) (u' : undo.Stored) → Leaves ts u r ts' u' → IsKept ts u ls → IsKept ts' u' ls
+  Keeps ts u ls = (r : R) (ts' : tables.Stored) (u' : undo.Stored) → Leaves ts u r ts' u' → IsSound ts u ls → IsSound ts' u' ls

@@ -1,5 +1,6 @@
 -- What the clauses of this crate cite.
 pub mod View
+pub mod Covered
 pub mod Kept
 pub mod Lent
 pub mod Calls

@@ -1,5 +1,5 @@
 -- A step of a program: one row of its step table, in the words of the theory of transactions.
-use Rattle.std.specs.Prelude.{◌≡◌, ◌⊎◌, suc, Option, Some}
+use Rattle.std.specs.Prelude.{◌≡◌, ◌⊎◌, suc, Bool, true, false, Option, Some}
 use Rattle.oe_theory.specs.Machine.{Tx, Ask, Stop, Plain, Take, Act, Fail, Go, Ready}
 use Rattle.oe_theory.specs.Machine as theory
 use Rattle.oe_theory.specs.Next.{IsNew, GivesWay}
@@ -7,12 +7,13 @@ use Rattle.oe_requests.specs.declared.requests.Request.{Request}
 use Rattle.oe_requests.specs.declared.replies.Reply.{Reply}
 use Rattle.oe_requests.specs.declared.refusals.Refusal.{Refusal}
 use Rattle.oe_requests.specs.declared.refusals.Refusal.TheVariants.{Busy, NotOpen, NoMemory}
-use Rattle.oe_model.specs.Changes.{Change}
+use Rattle.oe_model.specs.Changes.{Change, UpdateCustomer, UpdateStock}
 use Rattle.oe_model.specs.Meets.{Cause}
 use Rattle.oe_model.specs.Places.{Place}
 use Rattle.oe_model.specs.System.{system, ask, act, yields}
+use Rattle.oe_undo.specs.Undo.{room_at}
 use Rattle.oe_engine.specs.View.{Stored, view_of, Handle, IsOpen}
-use Rattle.oe_engine.specs.Calls.{IsFree, IsInTheWay, row_done, AcceptsAll}
+use Rattle.oe_engine.specs.Calls.{IsFree, IsInTheWay, row_done, AcceptsAll, WantsPlace}
 use Rattle.oe_engine.specs.declared.rows.Progress.{Progress}
 use Rattle.oe_engine.specs.declared.rows.Progress.TheVariants as progress
 
@@ -54,13 +55,23 @@ Ends s x q p e =
     ⊎ (IsFreeHere s x q p × (act_here s x q p ≡ Fail e))
     ⊎ (IsFreeHere s x q p × (c : Change) × (p' : Place) × (act_here s x q p ≡ Go (Some c) p') × Cause c (view_of s).rows e)
 
+-- the row that a change leaves lies in memory of its own, which its program takes: a customer's, and a stock's
+abbrev pub is_boxed : Change → Bool
+is_boxed (UpdateCustomer k x) = true
+is_boxed (UpdateStock k x) = true
+is_boxed _ = false
+
+-- memory is wanted for a row's change: its undo record has no room, it is an insert at a key without a place, or its row takes some
+abbrev pub WantsMemory : Stored → Handle → Change → Type 0
+WantsMemory s x c = (room_at s.undo x.terminal ≡ 0) ⊎ WantsPlace (Some c) s.tables ⊎ (is_boxed c ≡ true)
+
 -- why a row was refused
 abbrev pub IsRefused : Stored → Handle → Request → Place → Refusal → Type 0
 IsRefused s x q p NotOpen = IsOpen s x → ⊥
 IsRefused s x q p (Busy n u) = IsOpen s x × ((m : theory.Mode) × (ask_here s x q p ≡ Take n m) × IsInTheWay (view_of s) x.terminal n m u)
 IsRefused s x q p NoMemory =
     IsOpen s x × IsFreeHere s x q p
-    × (IsNew system ((view_of s).held x.terminal) (ask_here s x q p) ⊎ ((c : Change) × (p' : Place) × (act_here s x q p ≡ Go (Some c) p')))
+    × (IsNew system ((view_of s).held x.terminal) (ask_here s x q p) ⊎ ((c : Change) × (p' : Place) × (act_here s x q p ≡ Go (Some c) p') × WantsMemory s x c))
     × GivesWay system (yields p) (act_here s x q p)
 IsRefused s x q p e = IsOpen s x × Ends s x q p e
 

@@ -1,5 +1,5 @@
 //! Names and rows of a transaction, one at a time.
-ghost use Rattle.std.specs.Prelude.{◌≡◌, ◌<◌, Option, None, Some, option_map, IfErr, OnOk, OnErr};
+ghost use Rattle.std.specs.Prelude.{◌≡◌, ◌<◌, suc, Option, None, Some, option_map, IfErr, OnOk, OnErr};
 ghost use Rattle.oe_theory.specs.Machine.{Take};
 ghost use Rattle.oe_theory.specs.Next.{IsNew};
 ghost use Rattle.oe_model.specs.Changes.{key_of};
@@ -10,8 +10,9 @@ ghost use Rattle.oe_model.specs.System.{system};
 ghost use Rattle.oe_records.specs.Changes.{change_of};
 ghost use Rattle.oe_store.specs.Stored.{rows};
 ghost use Rattle.oe_undo.specs.Undo.{room_at};
-ghost use Rattle.oe_engine.specs.View.{view_of, view_from, IsOpen};
-ghost use Rattle.oe_engine.specs.Calls.{ask_of, ask_to_write, IsFree, IsBelow, MayRead, locked, put_mode, row_done, RowRefused, WantsPlace, CanUnwind};
+ghost use Rattle.oe_engine.specs.View.{view_of, IsOpen};
+ghost use Rattle.oe_engine.specs.Covered.{IsOwn, HoldsOrder, IsUnused};
+ghost use Rattle.oe_engine.specs.Calls.{ask_of, ask_to_write, IsFree, IsBelow, MayRead, locked, put_mode, row_done, RowRefused, WantsPlace};
 
 use crate::engine::{Engine, Tx};
 use crate::rows::Lock;
@@ -113,10 +114,12 @@ impl Engine {
         row_at(&self.tables, key)
     }
 
-    /// Lowers the mode in which an open transaction holds a name, or with `None` lets go of the name. It takes no memory.
+    /// Lowers the mode in which an open transaction holds a name, or with `None` lets go of the name. None of its changes is of a
+    /// row under that name. It takes no memory.
     pub fn give_back(&mut self, tx: &Tx, name: Name, mode: Option<Mode>)
         requires open { IsOpen self.old tx.now }
         requires below { IsBelow (option_map mode_of mode) ((view_of self.old).held tx.now.terminal name) }
+        requires unused { IsUnused name ((view_of self.old).undo.active tx.now.terminal) }
         ensures put { view_of self.new ≡ put_mode tx.now.terminal name (option_map mode_of mode) (view_of self.old) }
         ensures name { self.new.name ≡ self.old.name }
     {
@@ -125,15 +128,16 @@ impl Engine {
 
     /// Makes a change for a transaction, with its undo record. Where the changed row lies under a name, that is taken for the
     /// transaction alone, if it does not hold it so: an order's for its lines, a queue's for its NEW-ORDER rows, none for a
-    /// HISTORY row.
+    /// HISTORY row. A HISTORY row is the transaction's own, and the order's name of a new NEW-ORDER row it holds already.
     ///
     /// The errors are those of `row`, and after one nothing has changed.
     pub fn change(&mut self, tx: &Tx, change: Change) -> Result<(), Refusal>
+        requires own { IsOpen self.old tx.now → IsOwn tx.now.terminal (suc ((view_of self.old).counts tx.now.terminal)) (governs (key_of (change_of change))) }
+        requires order { IsOpen self.old tx.now → HoldsOrder ((view_of self.old).held tx.now.terminal) (change_of change) }
         ensures open { OnOk result (IsOpen self.old tx.now) }
         ensures free { OnOk result (IsFree (view_of self.old) tx.now.terminal (ask_to_write (governs (key_of (change_of change))))) }
         ensures accepted { OnOk result (Accepts (change_of change) (view_of self.old).rows) }
         ensures done { OnOk result (view_of self.new ≡ row_done tx.now.terminal (ask_to_write (governs (key_of (change_of change)))) (Some (change_of change)) (view_of self.old)) }
-        ensures unwinds { OnOk result (CanUnwind ((view_of self.old).undo.active tx.now.terminal) (view_of self.old).rows → CanUnwind ((view_of self.new).undo.active tx.now.terminal) (view_of self.new).rows) }
         ensures name { self.new.name ≡ self.old.name }
         ensures cause { IfErr result (RowRefused self.old tx.now (ask_to_write (governs (key_of (change_of change)))) (Some (change_of change))) }
         ensures room { (IsNew system ((view_of self.old).held tx.now.terminal) (ask_to_write (governs (key_of (change_of change)))) → ⊥) → 0 < room_at self.old.undo tx.now.terminal → IfErr result (λ e. e ≡ Refusal.NoMemory → WantsPlace (Some (change_of change)) self.old.tables) }
@@ -144,9 +148,10 @@ impl Engine {
     }
 
     /// What the engine is made of.
-    #[tactic(auto, unfolding(crate::specs::View::view_of, crate::specs::View::view_from))]
     pub fn parts(&self) -> Parts<'_>
-        ensures { view_from result.tables.now result.undo.now result.locks.now ≡ view_of self.now }
+        ensures tables { result.tables.now ≡ self.now.tables }
+        ensures undo { result.undo.now ≡ self.now.undo }
+        ensures locks { result.locks.now ≡ self.now.locks }
     {
         Parts {
             tables: &self.tables,

@@ -1,5 +1,5 @@
 //! The engine.
-ghost use Rattle.std.specs.Prelude.{◌≡◌, ◌≤◌, ◌<◌, ◌-◌, ◌↔◌, ◌⊎◌, ℕ, IsTrue, suc, true, false, [], length, take, Option, None, Some, is_some, option_map, IfOk, IfErr, OnOk, OnErr, MatchResult};
+ghost use Rattle.std.specs.Prelude.{◌≡◌, ◌≤◌, ◌<◌, ◌-◌, ◌↔◌, ◌⊎◌, ℕ, IsTrue, suc, true, false, [], length, Option, None, Some, is_some, option_map, IfOk, IfErr, OnOk, OnErr, MatchResult};
 ghost use Rattle.oe_theory.specs.Machine.{Take};
 ghost use Rattle.oe_theory.specs.World.{total};
 ghost use Rattle.oe_theory.specs.Next.{IsNew};
@@ -15,7 +15,8 @@ ghost use Rattle.oe_change.specs.Applies.{Refuses};
 ghost use Rattle.oe_undo.specs.Undo.{room_at};
 ghost use Rattle.oe_locks.specs.Held as locks;
 ghost use Rattle.oe_engine.specs.View.{view_of, opened_view, IsOpen};
-ghost use Rattle.oe_engine.specs.Calls.{ask_of, IsFree, IsBusy, IsBelow, begun, CantBegin, locked, made, put_mode, LockRefused, ChangeRefused, PairRefused, row_done, RowRefused, WantsPlace, AcceptsAll, CanUnwind, count_since, back_at, committed, rolled_back};
+ghost use Rattle.oe_engine.specs.Covered.{MayMake, IsUnused, IsSafe};
+ghost use Rattle.oe_engine.specs.Calls.{ask_of, IsFree, IsBusy, IsBelow, begun, CantBegin, locked, made, put_mode, LockRefused, ChangeRefused, PairRefused, row_done, RowRefused, WantsPlace, AcceptsAll, IsCovered, CanUnwind, back_at, committed, rolled_back};
 
 use crate::rows::Lock;
 use crate::unwinding::take_back;
@@ -42,13 +43,13 @@ pub struct Engine {
 
 impl Model for Engine {
     ghost use Rattle.oe_engine.specs.View.{Stored};
-    ghost use Rattle.oe_engine.specs.Kept.{IsKept};
+    ghost use Rattle.oe_engine.specs.Kept.{IsSound};
 
     ghost Value = { Stored };
 
     ghost view = { λ e. record { tables = e.tables; undo = e.undo; locks = e.locks; name = e.name } };
 
-    ghost invariant = { λ e. IsKept e.tables e.undo e.locks };
+    ghost invariant = { λ e. IsSound e.tables e.undo e.locks };
 }
 
 /// An open transaction of an engine. It can't be dropped: `commit` or `rollback` spends it.
@@ -120,6 +121,7 @@ impl Engine {
         let Ok(locks) = Locks::new(alloc) else {
             return Err(NoMemory);
         };
+        tables.schema_holds();
         Ok(Engine {
             tables,
             undo,
@@ -217,6 +219,16 @@ impl Engine {
         }
     }
 
+    /// What holds of open work at all times: what a transaction has changed it alone may change, and all of it can be put back, in
+    /// any order of transactions.
+    #[tactic(auto, unfolding(crate::specs::View::view_of))]
+    pub fn is_safe(&self)
+        ensures safe { IsSafe (view_of self.now) }
+        ensures unwinds { (t : ℕ) → CanUnwind ((view_of self.now).undo.active t) (view_of self.now).rows }
+    {
+        let _known = &self.tables;
+    }
+
     /// Whether a transaction is open in this engine.
     #[tactic(auto, unfolding(crate::specs::View::view_of, crate::specs::View::view_from))]
     pub fn is_open(&self, tx: &Tx) -> bool
@@ -241,10 +253,11 @@ impl Engine {
         self.locks.acquire(lock.name, terminal, lock.mode)
     }
 
-    // Puts a name back into a mode in which it was held, or lets go of it.
+    // Puts a name back into a mode in which it was held, or lets go of it, where the transaction has changed nothing under it.
     pub(crate) fn restore(&mut self, terminal: Terminal, name: Name, mode: Option<Mode>)
         requires open { (view_of self.old).is_open terminal ≡ true }
         requires below { (option_map mode_of mode ≡ (view_of self.old).held terminal name) ⊎ IsBelow (option_map mode_of mode) ((view_of self.old).held terminal name) }
+        requires unused { IsBelow (option_map mode_of mode) ((view_of self.old).held terminal name) → IsUnused name ((view_of self.old).undo.active terminal) }
         ensures put { view_of self.new ≡ put_mode terminal name (option_map mode_of mode) (view_of self.old) }
         ensures name { self.new.name ≡ self.old.name }
     {
@@ -257,10 +270,10 @@ impl Engine {
     // It stands in its callers, so that the change is not copied once more.
     #[inline(always)]
     fn make(&mut self, terminal: Terminal, change: Change) -> Result<(), Refusal>
-        requires { (view_of self.old).is_open terminal ≡ true }
+        requires open { (view_of self.old).is_open terminal ≡ true }
+        requires covered { MayMake ((view_of self.old).held terminal) terminal (suc ((view_of self.old).counts terminal)) (change_of change) }
         ensures accepted { OnOk result (Accepts (change_of change) (view_of self.old).rows) }
         ensures made { OnOk result (view_of self.new ≡ made terminal (change_of change) (view_of self.old)) }
-        ensures unwinds { OnOk result (CanUnwind ((view_of self.old).undo.active terminal) (view_of self.old).rows → CanUnwind ((view_of self.new).undo.active terminal) (view_of self.new).rows) }
         ensures name { self.new.name ≡ self.old.name }
         ensures cause { IfErr result (ChangeRefused (change_of change) (view_of self.old).rows) }
         ensures room { 0 < room_at self.old.undo terminal → IfErr result (Refuses (change_of change) self.old.tables) }
@@ -288,11 +301,11 @@ impl Engine {
         lock: Lock,
         change: Change,
     ) -> Result<(), Refusal>
-        requires { (view_of self.old).is_open terminal ≡ true }
+        requires open { (view_of self.old).is_open terminal ≡ true }
+        requires covered { IsCovered (view_of self.old) terminal (Take lock.name (mode_of lock.mode)) (Some (change_of change)) }
         ensures free { OnOk result (IsFree (view_of self.old) terminal (Take lock.name (mode_of lock.mode))) }
         ensures accepted { OnOk result (Accepts (change_of change) (view_of self.old).rows) }
         ensures done { OnOk result (view_of self.new ≡ made terminal (change_of change) (locked terminal lock.name (mode_of lock.mode) (view_of self.old))) }
-        ensures unwinds { OnOk result (CanUnwind ((view_of self.old).undo.active terminal) (view_of self.old).rows → CanUnwind ((view_of self.new).undo.active terminal) (view_of self.new).rows) }
         ensures name { self.new.name ≡ self.old.name }
         ensures cause { IfErr result (PairRefused (view_of self.old) terminal lock.name (mode_of lock.mode) (change_of change)) }
         ensures room { (IsNew system ((view_of self.old).held terminal) (Take lock.name (mode_of lock.mode)) → ⊥) → 0 < room_at self.old.undo terminal → IfErr result (λ e. e ≡ Refusal.NoMemory → WantsPlace (Some (change_of change)) self.old.tables) }
@@ -312,6 +325,9 @@ impl Engine {
     /// One row of a program: takes its lock, if it asks for one, or raises the mode in which the name is held, and makes its
     /// change, if it makes one, with its undo record.
     ///
+    /// The change is of a row that the transaction alone may change (`IsCovered`): the row's name it holds exclusively, or takes
+    /// so by this call; a HISTORY row has its terminal and number; and whoever inserts a NEW-ORDER row holds its order's name.
+    ///
     /// `NotOpen`: the transaction is not one of this engine. `Busy`: the least terminal that holds the name in a mode that
     /// conflicts. `NoMemory`: memory was refused for a name that was not held, for a record for which the transaction's segment
     /// had no room, or for an insert that the tables accept, at a key without a place. 2 to 6: the tables don't accept the
@@ -322,11 +338,11 @@ impl Engine {
         lock: Option<Lock>,
         change: Option<Change>,
     ) -> Result<(), Refusal>
+        requires { IsOpen self.old tx.now → IsCovered (view_of self.old) tx.now.terminal (ask_of lock) (option_map change_of change) }
         ensures open { OnOk result (IsOpen self.old tx.now) }
         ensures free { OnOk result (IsFree (view_of self.old) tx.now.terminal (ask_of lock)) }
         ensures accepted { OnOk result (AcceptsAll (option_map change_of change) (view_of self.old).rows) }
         ensures done { OnOk result (view_of self.new ≡ row_done tx.now.terminal (ask_of lock) (option_map change_of change) (view_of self.old)) }
-        ensures unwinds { OnOk result (CanUnwind ((view_of self.old).undo.active tx.now.terminal) (view_of self.old).rows → CanUnwind ((view_of self.new).undo.active tx.now.terminal) (view_of self.new).rows) }
         ensures name { self.new.name ≡ self.old.name }
         ensures cause { IfErr result (RowRefused self.old tx.now (ask_of lock) (option_map change_of change)) }
         ensures room { (IsNew system ((view_of self.old).held tx.now.terminal) (ask_of lock) → ⊥) → 0 < room_at self.old.undo tx.now.terminal → IfErr result (λ e. e ≡ Refusal.NoMemory → WantsPlace (option_map change_of change) self.old.tables) }
@@ -363,7 +379,6 @@ impl Engine {
     pub fn rollback_to(&mut self, tx: &Tx, mark: Mark)
         requires open { IsOpen self.old tx.now }
         requires mark { mark ≤ length ((view_of self.old).undo.active tx.now.terminal) }
-        requires unwinds { CanUnwind (take (count_since (view_of self.old) tx.now.terminal mark) ((view_of self.old).undo.active tx.now.terminal)) (view_of self.old).rows }
         ensures back { view_of self.new ≡ back_at tx.now.terminal mark (view_of self.old) }
         ensures name { self.new.name ≡ self.old.name }
     {
@@ -400,7 +415,6 @@ impl Engine {
     /// Rolls a transaction back: all that it has changed is forgotten. It takes no memory. A transaction that is not open in this
     /// engine is handed back, and nothing has changed.
     pub fn rollback(&mut self, tx: Tx) -> Result<(), Tx>
-        requires unwinds { IsOpen self.old tx → CanUnwind ((view_of self.old).undo.active tx.terminal) (view_of self.old).rows }
         ensures open { OnOk result (IsOpen self.old tx) }
         ensures rolled_back { OnOk result (view_of self.new ≡ rolled_back tx.terminal (view_of self.old)) }
         ensures name { self.new.name ≡ self.old.name }

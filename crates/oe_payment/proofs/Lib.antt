@@ -1,1 +1,2 @@
+pub mod CoverFacts
 pub mod StepFacts

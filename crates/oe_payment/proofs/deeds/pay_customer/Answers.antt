@@ -5,9 +5,9 @@ use Rattle.oe_payment.proofs.deeds.pay_customer.Goals as goal
 
 pub returns-in-Err-new : goal.returns-in-Err-new
 returns-in-Err-new c = λ t k. (
-  refl,
   search rules,
   UpdateCustomer c.args.key.now c.in-Ok.after,
   InPayment c.args.request.now (PaymentHistory c.history_data.result c.payment_reply-reply.result),
   search rules,
+  refl,
 )

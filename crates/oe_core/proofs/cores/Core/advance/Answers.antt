@@ -5,7 +5,7 @@ use Rattle.oe_engine.specs.View as engine
 use Rattle.oe_steps.specs.declared.steps.Step.TheVariants as step
 use Rattle.oe_core.specs.Core.{Moves}
 use Rattle.oe_core.specs.Steps.{refusal_in}
-use Rattle.oe_core.proofs.MoveFacts.{carries, not_there, lent_is, lent_here, unwinds}
+use Rattle.oe_core.proofs.MoveFacts.{carries, not_there, lent_is, lent_here}
 use Rattle.oe_core.proofs.AdvanceFacts.{went_on_here, IsTaken, is_taken, taken_is_open, committed_here, kept_here, given_up_here}
 use Rattle.oe_core.proofs.cores.Core.advance.Goals.{In-More, After-open_work-open, After-commit-moment, Then-keeps_open, After-open_work-open-in-Refused, After-roll_back}
 use Rattle.oe_core.proofs.cores.Core.advance.Goals as goal
@@ -77,13 +77,10 @@ taken_refused c =
     is_taken (lent_here c.self.invariant c.place.ensures.value c.place.ensures.high c.index_mut.ensures.value c.in-Some.is) c.next.new.self c.place.result _ _
     c.place.ensures.value c.open_work-open-in-Refused.ensures.value c.open_work-open-in-Refused.ensures.after
 
-pub roll_back-requires-clause-open : goal.roll_back-requires-clause-open
-roll_back-requires-clause-open c =
-    taken_is_open (taken_refused (goal.at.roll_back-requires-clause-open c).After-open_work-open-in-Refused) c.next.new.engine
+pub roll_back-requires : goal.roll_back-requires
+roll_back-requires c =
+    taken_is_open (taken_refused (goal.at.roll_back-requires c).After-open_work-open-in-Refused) c.next.new.engine
     c.in-Refused.ensures.progresses.1 c.in-Refused.ensures.progresses.2
-
-pub roll_back-requires-clause-unwinds : goal.roll_back-requires-clause-unwinds
-roll_back-requires-clause-unwinds c = rw c.in-Refused.ensures.progresses.1 (unwinds _ c.self.invariant _)
 
 given_up : (c : After-roll_back) → Moves (record { engine = c.self.inside.engine; slots = c.self.inside.slots.items }) (Advance c.args.terminal) (refusal_in (step.Advance c.args.terminal) c.in-Refused.refusal)
     (record { engine = c.roll_back.new.engine; slots = c.open_work-open-in-Refused.new.slots.items })

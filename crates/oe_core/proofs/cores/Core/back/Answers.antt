@@ -2,8 +2,7 @@ use Rattle.std.proofs.Common.{refl}
 use Rattle.oe_theory.specs.Next.{Back, Gone_back}
 use Rattle.oe_core.specs.Core.{Moves}
 use Rattle.oe_core.proofs.PlaceFacts.{put_back}
-use Rattle.oe_core.proofs.MoveFacts.{carries, not_there, taken_here, own_work, mark_within, emptied, gone_back_here, unwinds}
-use Rattle.oe_core.proofs.Undone.{take_unwinds}
+use Rattle.oe_core.proofs.MoveFacts.{carries, not_there, taken_here, own_work, mark_within, emptied, gone_back_here}
 use Rattle.oe_core.proofs.cores.Core.back.Goals.{After-put_work}
 use Rattle.oe_core.proofs.cores.Core.back.Goals as goal
 
@@ -19,9 +18,6 @@ rollback_to-requires-clause-open c = (own_work (taken_here c.self.invariant c.ta
 
 pub rollback_to-requires-clause-mark : goal.rollback_to-requires-clause-mark
 rollback_to-requires-clause-mark c = mark_within (taken_here c.self.invariant c.take_work.ensures.high c.in-Some.ensures.value)
-
-pub rollback_to-requires-clause-unwinds : goal.rollback_to-requires-clause-unwinds
-rollback_to-requires-clause-unwinds c = take_unwinds _ _ _ (unwinds _ c.self.invariant _)
 
 pub put_work-requires-clause-free : goal.put_work-requires-clause-free
 put_work-requires-clause-free c = emptied (taken_here c.self.invariant c.take_work.ensures.high c.in-Some.ensures.value) c.take_work.ensures.after

@@ -1,7 +1,7 @@
 use Rattle.std.proofs.Common.{refl}
 use Rattle.oe_theory.specs.Next.{Rollback, Rolled_back}
 use Rattle.oe_core.specs.Core.{Moves}
-use Rattle.oe_core.proofs.MoveFacts.{carries, not_there, taken_here, own_work, rolled_back_here, unwinds}
+use Rattle.oe_core.proofs.MoveFacts.{carries, not_there, taken_here, own_work, rolled_back_here}
 use Rattle.oe_core.proofs.cores.Core.rollback.Goals.{After-roll_back}
 use Rattle.oe_core.proofs.cores.Core.rollback.Goals as goal
 
@@ -12,11 +12,8 @@ pub returns-in_default : goal.returns-in_default
 returns-in_default c =
     rw (← c.self.view_is) (carries (not_there _ c.self.invariant (Rollback c.args.terminal) c.args.terminal refl c.in_default.ensures.value _ c.take_work.ensures.after))
 
-pub roll_back-requires-clause-open : goal.roll_back-requires-clause-open
-roll_back-requires-clause-open c = (own_work (taken_here c.self.invariant c.take_work.ensures.high c.in-Some.ensures.value)).is_open
-
-pub roll_back-requires-clause-unwinds : goal.roll_back-requires-clause-unwinds
-roll_back-requires-clause-unwinds c = unwinds _ c.self.invariant _
+pub roll_back-requires : goal.roll_back-requires
+roll_back-requires c = (own_work (taken_here c.self.invariant c.take_work.ensures.high c.in-Some.ensures.value)).is_open
 
 -- the transaction is gone
 rolled_back : (c : After-roll_back) → Moves (record { engine = c.self.inside.engine; slots = c.self.inside.slots.items }) (Rollback c.args.terminal) Rolled_back (record { engine = c.roll_back.new.engine; slots = c.take_work.new.slots.items })

@@ -1,9 +1,13 @@
-use Rattle.std.proofs.Common.{◌≡◌, ◌<◌, ◌≤◌, suc, true, false, is_some, ap, sym, ◌∙◌, length, None, arith, rules}
+use Rattle.std.proofs.Common.{◌≡◌, ◌<◌, ◌≤◌, suc, true, false, is_some, ap, subst, sym, ◌∙◌, length, None, arith, rules}
 use Rattle.std.proofs.lemmas.Bool.{cond-true, le-leb}
 use Rattle.oe_undo.specs.Undo.{active_at, count_at, room_at, records_in}
 use Rattle.oe_undo.specs.Stands.{model_records}
 use Rattle.oe_model.specs.Requests.{number_rejection}
 use Rattle.oe_engine.specs.View.{view_of, view_from}
+use Rattle.oe_engine.specs.Kept.{IsKept}
+use Rattle.oe_engine.specs.Covered.{IsSafe}
+use Rattle.oe_engine.proofs.KeptFacts.{opened_kept}
+use Rattle.oe_engine.proofs.SafeFacts.{safe_begun}
 use Rattle.oe_engine.proofs.LogFacts.{opened_is, is_none}
 use Rattle.oe_engine.proofs.RowFacts.{idle_is, not_so}
 use Rattle.oe_engine.proofs.engine.Engine.begin.Goals as goal
@@ -13,7 +17,7 @@ number_there n h = cond-true _ _ _ (le-leb (suc n) 4_294_967_295 (omega arith))
 
 pub returns-then-is_open-clause-idle : goal.returns-then-is_open-clause-idle
 unfolding view_of
-returns-then-is_open-clause-idle c = rw (← c.self.view_is) (idle_is c.self.inside.tables c.self.inside.undo c.self.inside.locks c.args.terminal c.self.invariant)
+returns-then-is_open-clause-idle c = rw (← c.self.view_is) (idle_is c.self.inside.tables c.self.inside.undo c.self.inside.locks c.args.terminal c.self.invariant.kept)
 
 pub returns-then-is_open-clause-cause : goal.returns-then-is_open-clause-cause
 unfolding view_of view_from
@@ -21,7 +25,7 @@ returns-then-is_open-clause-cause c = rw (← c.self.view_is) (c.is_open.ensures
 
 pub returns-then-count-clause-idle : goal.returns-then-count-clause-idle
 unfolding view_of
-returns-then-count-clause-idle c = rw (← c.self.view_is) (idle_is c.self.inside.tables c.self.inside.undo c.self.inside.locks c.args.terminal c.self.invariant)
+returns-then-count-clause-idle c = rw (← c.self.view_is) (idle_is c.self.inside.tables c.self.inside.undo c.self.inside.locks c.args.terminal c.self.invariant.kept)
 
 pub returns-then-count-clause-cause : goal.returns-then-count-clause-cause
 unfolding view_of view_from
@@ -31,7 +35,7 @@ returns-then-count-clause-cause c =
 
 pub returns-in_default-clause-idle : goal.returns-in_default-clause-idle
 unfolding view_of
-returns-in_default-clause-idle c = rw (← c.self.view_is) (idle_is c.self.inside.tables c.self.inside.undo c.self.inside.locks c.args.terminal c.self.invariant)
+returns-in_default-clause-idle c = rw (← c.self.view_is) (idle_is c.self.inside.tables c.self.inside.undo c.self.inside.locks c.args.terminal c.self.invariant.kept)
 
 pub returns-in_default-clause-cause : goal.returns-in_default-clause-cause
 unfolding view_of view_from
@@ -59,7 +63,7 @@ pub returns-clause-begun : goal.returns-clause-begun
 unfolding view_of
 returns-clause-begun c =
     let closed : active_at c.self.inside.undo c.args.terminal ≡ None = is_none _ (not_so _ _ c.is_open.ensures.1 c.if-is_open.false) in
-    let size : length c.self.inside.undo.terminals ≡ 65 = c.self.invariant.size in
+    let size : length c.self.inside.undo.terminals ≡ 65 = c.self.invariant.kept.size in
     let within : c.args.terminal < length c.self.inside.undo.terminals = omega (arith, c.get-number.ensures.value, c.get-number.ensures.high) in
     rw (← c.self.view_is)
     (ap (λ u. view_from c.self.inside.tables u c.self.inside.locks) c.in-Ok.ensures.opened
@@ -67,4 +71,20 @@ returns-clause-begun c =
 
 pub returns-clause-idle : goal.returns-clause-idle
 unfolding view_of
-returns-clause-idle c = rw (← c.self.view_is) (idle_is c.self.inside.tables c.self.inside.undo c.self.inside.locks c.args.terminal c.self.invariant)
+returns-clause-idle c = rw (← c.self.view_is) (idle_is c.self.inside.tables c.self.inside.undo c.self.inside.locks c.args.terminal c.self.invariant.kept)
+
+pub invariant_of-self-2 : goal.invariant_of-self-2
+invariant_of-self-2 c =
+    let closed : active_at c.self.inside.undo c.args.terminal ≡ None = is_none _ (not_so _ _ c.is_open.ensures.1 c.if-is_open.false) in
+    let size : length c.self.inside.undo.terminals ≡ 65 = c.self.invariant.kept.size in
+    let within : c.args.terminal < length c.self.inside.undo.terminals = omega (arith, c.get-number.ensures.value, c.get-number.ensures.high) in
+    let below : count_at c.self.inside.undo c.args.terminal < 4_294_967_295 = search rules in
+    let room = room_at c.open_segment.new.self c.args.terminal in
+    record {
+      kept = subst (λ u. IsKept c.self.inside.tables u c.self.inside.locks) (sym c.in-Ok.ensures.opened)
+          (opened_kept c.self.inside.tables c.self.inside.undo c.self.inside.locks c.args.terminal room within closed below c.self.invariant.kept);
+      safe = subst IsSafe
+          (sym (ap (λ u. view_from c.self.inside.tables u c.self.inside.locks) c.in-Ok.ensures.opened
+          ∙ opened_is c.self.inside.tables c.self.inside.undo c.self.inside.locks c.args.terminal room within closed))
+          (safe_begun c.args.terminal (view_from c.self.inside.tables c.self.inside.undo c.self.inside.locks) c.self.invariant.safe);
+    }

@@ -7,7 +7,9 @@ use Rattle.oe_engine.specs.View.{view_of, view_from, IsOpen}
 use Rattle.oe_engine.specs.Kept.{IsKept}
 use Rattle.oe_engine.specs.Calls.{committed}
 use Rattle.oe_engine.proofs.LogFacts.{sealed_is}
+use Rattle.oe_engine.specs.Covered.{IsSafe}
 use Rattle.oe_engine.proofs.KeptFacts.{sealed_kept}
+use Rattle.oe_engine.proofs.SafeFacts.{safe_committed}
 use Rattle.oe_engine.proofs.engine.Engine.commit.Goals as goal
 
 pub seal-moment-requires : goal.seal-moment-requires
@@ -22,7 +24,7 @@ pub returns-clause-moment : goal.returns-clause-moment
 unfolding view_of view_from
 returns-clause-moment c =
     rw (← c.self.view_is)
-    (c.seal-moment.ensures.moment ∙ add-one _ ∙ ap suc (sym (totals c.self.inside.undo c.self.invariant.size)))
+    (c.seal-moment.ensures.moment ∙ add-one _ ∙ ap suc (sym (totals c.self.inside.undo c.self.invariant.kept.size)))
 
 pub invariant_of-self : goal.invariant_of-self
 unfolding view_of view_from
@@ -35,10 +37,16 @@ invariant_of-self c =
     let own : HoldsNothing c.release_all.new.self c.of-segment.result = subst (HoldsNothing c.release_all.new.self) c.terminal.ensures c.release_all.ensures.own in
     let others : OthersKeep c.self.inside.locks c.release_all.new.self c.of-segment.result =
     subst (OthersKeep c.self.inside.locks c.release_all.new.self) c.terminal.ensures c.release_all.ensures.others in
-    let size : length c.self.inside.undo.terminals ≡ 65 = c.self.invariant.size in
+    let size : length c.self.inside.undo.terminals ≡ 65 = c.self.invariant.kept.size in
     let within : c.of-segment.result < length c.self.inside.undo.terminals = omega (arith, c.get-number.ensures.value, c.get-number.ensures.high, c.of-segment.ensures) in
-    subst (λ u. IsKept c.self.inside.tables u c.release_all.new.self) (sym c.seal-moment.ensures.sealed)
-    (sealed_kept c.self.inside.tables c.self.inside.undo c.self.inside.locks c.release_all.new.self c.of-segment.result c.args.request c.args.reply within here own others c.self.invariant)
+    record {
+      kept = subst (λ u. IsKept c.self.inside.tables u c.release_all.new.self) (sym c.seal-moment.ensures.sealed)
+          (sealed_kept c.self.inside.tables c.self.inside.undo c.self.inside.locks c.release_all.new.self c.of-segment.result c.args.request c.args.reply within here own others c.self.invariant.kept);
+      safe = subst IsSafe
+          (sym (ap (λ u. view_from c.self.inside.tables u c.release_all.new.self) c.seal-moment.ensures.sealed
+          ∙ sealed_is c.self.inside.tables c.self.inside.undo c.self.inside.locks c.release_all.new.self c.of-segment.result c.args.request c.args.reply within here own others))
+          (safe_committed c.of-segment.result c.args.request c.args.reply (view_from c.self.inside.tables c.self.inside.undo c.self.inside.locks) c.self.invariant.safe);
+    }
 
 pub returns-clause-committed : goal.returns-clause-committed
 unfolding view_of view_from
@@ -51,7 +59,7 @@ returns-clause-committed c =
     let own : HoldsNothing c.release_all.new.self c.of-segment.result = subst (HoldsNothing c.release_all.new.self) c.terminal.ensures c.release_all.ensures.own in
     let others : OthersKeep c.self.inside.locks c.release_all.new.self c.of-segment.result =
     subst (OthersKeep c.self.inside.locks c.release_all.new.self) c.terminal.ensures c.release_all.ensures.others in
-    let size : length c.self.inside.undo.terminals ≡ 65 = c.self.invariant.size in
+    let size : length c.self.inside.undo.terminals ≡ 65 = c.self.invariant.kept.size in
     let within : c.of-segment.result < length c.self.inside.undo.terminals = omega (arith, c.get-number.ensures.value, c.get-number.ensures.high, c.of-segment.ensures) in
     rw (← c.self.view_is)
     (ap (λ u. view_from c.self.inside.tables u c.release_all.new.self) c.seal-moment.ensures.sealed

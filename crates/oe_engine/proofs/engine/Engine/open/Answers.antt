@@ -1,15 +1,22 @@
 use Rattle.std.proofs.Common.{ap, subst, sym, ◌∙◌}
 use Rattle.oe_engine.specs.View.{view_of, view_from}
+use Rattle.oe_store.specs.Stored.{rows}
 use Rattle.oe_engine.specs.Kept.{IsKept}
+use Rattle.oe_engine.specs.Covered.{IsSafe}
 use Rattle.oe_engine.proofs.LogFacts.{first_is}
 use Rattle.oe_engine.proofs.KeptFacts.{first_kept}
+use Rattle.oe_engine.proofs.SafeFacts.{safe_first}
 use Rattle.oe_engine.proofs.engine.Engine.open.Goals as goal
 
 pub invariant_of-result : goal.invariant_of-result
 invariant_of-result c =
     let quiet = rw c.in-Ok-new.is at c.new-2.ensures in
     let first = rw c.in-Ok.is at c.new.ensures in
-    subst (λ u. IsKept c.args.tables u c.in-Ok-new.locks) (sym first) (first_kept c.args.tables c.args.extents c.in-Ok-new.locks quiet)
+    record {
+      kept = subst (λ u. IsKept c.args.tables u c.in-Ok-new.locks) (sym first) (first_kept c.args.tables c.args.extents c.in-Ok-new.locks quiet);
+      safe = subst IsSafe (sym (ap (λ u. view_from c.args.tables u c.in-Ok-new.locks) first ∙ first_is c.args.tables c.args.extents c.in-Ok-new.locks quiet))
+          (safe_first (rows c.args.tables) c.args.extents c.schema_holds.ensures);
+    }
 
 pub returns-clause-view : goal.returns-clause-view
 unfolding view_of

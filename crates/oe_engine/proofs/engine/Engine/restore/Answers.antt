@@ -1,10 +1,15 @@
 use Rattle.std.proofs.Common.{◌≡◌, true, is_some, sym, ◌∙◌, subst}
+use Rattle.std.specs.Prelude.{option_map}
 use Rattle.std.proofs.lemmas.Bool.{true≢false}
 use Rattle.oe_undo.specs.Undo.{active_at}
+use Rattle.oe_model.specs.Locks.{mode_of}
 use Rattle.oe_locks.specs.Held.{IsBelow}
 use Rattle.oe_engine.specs.View.{view_of, view_from}
 use Rattle.oe_engine.proofs.KeptFacts.{locks_kept}
-use Rattle.oe_engine.proofs.RowFacts.{mode_put, put_nothing}
+use Rattle.oe_engine.specs.Covered.{IsSafe, IsUnused}
+use Rattle.oe_engine.specs.Calls as calls
+use Rattle.oe_engine.proofs.SafeFacts.{safe_put}
+use Rattle.oe_engine.proofs.RowFacts.{below_as, mode_put, put_nothing}
 use Rattle.oe_engine.proofs.engine.Engine.restore.Goals as goal
 
 pub invariant_of-self : goal.invariant_of-self
@@ -12,7 +17,17 @@ unfolding view_of view_from
 invariant_of-self c =
     let given = rw (← c.self.view_is) at c.requires.open in
     let is : is_some (active_at c.self.inside.undo c.args.terminal) ≡ true = given in
-    locks_kept c.self.inside.tables c.self.inside.undo c.self.inside.locks c.give_back.new.self c.args.terminal is c.give_back.ensures.others c.self.invariant
+    let v = view_from c.self.inside.tables c.self.inside.undo c.self.inside.locks in
+    let lower = subst (IsBelow c.args.mode) c.holds.ensures (c.is_below.ensures.0 c.if-is_below.true) in
+    let below : calls.IsBelow (option_map mode_of c.args.mode) (v.held c.args.terminal c.args.name) = below_as _ _ lower in
+    let unused = rw (← c.self.view_is) at c.requires.unused in
+    let none : IsUnused c.args.name (v.undo.active c.args.terminal) = unused below in
+    record {
+      kept = locks_kept c.self.inside.tables c.self.inside.undo c.self.inside.locks c.give_back.new.self c.args.terminal is c.give_back.ensures.others c.self.invariant.kept;
+      safe = subst IsSafe
+          (sym (mode_put c.self.inside.tables c.self.inside.undo c.self.inside.locks c.give_back.new.self c.args.terminal c.args.name c.args.mode c.give_back.ensures.own c.give_back.ensures.others))
+          (safe_put c.args.terminal c.args.name (option_map mode_of c.args.mode) v below none c.self.invariant.safe);
+    }
 
 pub returns-then-is_below-clause-put : goal.returns-then-is_below-clause-put
 unfolding view_of

@@ -1,13 +1,13 @@
 use Rattle.std.proofs.Common.{◌≡◌, ◌<◌, [], sym, ap, ◌∙◌, subst, length, arith}
 use Rattle.std.specs.Prelude.{IsSome}
-use Rattle.oe_store.specs.Stored.{rows}
 use Rattle.oe_undo.specs.Undo.{active_at, records_at}
-use Rattle.oe_undo.specs.Stands.{undo_of}
 use Rattle.oe_locks.specs.Held.{HoldsNothing, OthersKeep}
 use Rattle.oe_engine.specs.View.{view_of, view_from, IsOpen}
 use Rattle.oe_engine.specs.Kept.{IsKept}
-use Rattle.oe_engine.specs.Calls.{CanUnwind, rolled_back}
-use Rattle.oe_engine.proofs.EndFacts.{can_all, taken_kept, dropped_kept, none_is_left, rolled_back_is}
+use Rattle.oe_engine.specs.Calls.{rolled_back}
+use Rattle.oe_engine.specs.Covered.{IsSafe}
+use Rattle.oe_engine.proofs.SafeFacts.{safe_rolled_back, newest_unwind}
+use Rattle.oe_engine.proofs.EndFacts.{taken_kept, dropped_kept, none_is_left, rolled_back_is}
 use Rattle.oe_engine.proofs.engine.Engine.rollback.Goals as goal
 
 pub mark-count-requires : goal.mark-count-requires
@@ -27,14 +27,9 @@ take_back-requires-clause-open c =
     subst (λ s. IsSome (active_at c.self.inside.undo s)) (sym (c.of-segment.ensures ∙ ap (λ x. x.terminal) c.tx.view_is)) is
 
 pub take_back-requires-clause-unwinds : goal.take_back-requires-clause-unwinds
-unfolding view_of view_from
+unfolding view_from
 take_back-requires-clause-unwinds c =
-    let o : IsOpen c.args.self.now c.args.tx = c.is_open.ensures.0 c.if-not-is_open.false in
-    let there = c.requires.unwinds o in
-    let given = rw (← c.self.view_is) at there in
-    let can : CanUnwind ((undo_of c.self.inside.undo).active c.args.tx.terminal) (rows c.self.inside.tables) = given in
-    can_all c.self.inside.undo c.of-segment.result c.mark-count.result (rows c.self.inside.tables) c.mark-count.ensures
-    (subst (λ s. CanUnwind ((undo_of c.self.inside.undo).active s) (rows c.self.inside.tables)) (sym (c.of-segment.ensures ∙ ap (λ x. x.terminal) c.tx.view_is)) can)
+    newest_unwind c.of-segment.result c.mark-count.result (view_from c.self.inside.tables c.self.inside.undo c.self.inside.locks) c.self.invariant.safe
 
 pub drop_segment-requires-clause-open : goal.drop_segment-requires-clause-open
 unfolding view_of view_from
@@ -56,11 +51,19 @@ invariant_of-self c =
     let own : HoldsNothing c.release_all.new.self c.of-segment.result = subst (HoldsNothing c.release_all.new.self) (sym c.of-segment.ensures) c.release_all.ensures.own in
     let others : OthersKeep c.self.inside.locks c.release_all.new.self c.of-segment.result =
     subst (OthersKeep c.self.inside.locks c.release_all.new.self) (sym c.of-segment.ensures) c.release_all.ensures.others in
-    let size : length c.take_back.new.undo.terminals ≡ 65 = c.take_back.ensures.others.size ∙ c.self.invariant.size in
+    let size : length c.take_back.new.undo.terminals ≡ 65 = c.take_back.ensures.others.size ∙ c.self.invariant.kept.size in
     let within : c.of-segment.result < length c.take_back.new.undo.terminals = omega (arith, c.get-number.ensures.value, c.get-number.ensures.high, c.of-segment.ensures) in
-    subst (λ u. IsKept c.take_back.new.tables u c.release_all.new.self) (sym c.drop_segment.ensures)
-    (dropped_kept c.take_back.new.tables c.take_back.new.undo c.self.inside.locks c.release_all.new.self c.of-segment.result within empty own others
-    (taken_kept c.self.inside.tables c.take_back.new.tables c.self.inside.undo c.take_back.new.undo c.self.inside.locks c.of-segment.result c.mark-count.result c.take_back.ensures c.self.invariant))
+    let first : length c.self.inside.undo.terminals ≡ 65 = c.self.invariant.kept.size in
+    let there : c.of-segment.result < length c.self.inside.undo.terminals = omega (arith, c.get-number.ensures.value, c.get-number.ensures.high, c.of-segment.ensures) in
+    record {
+      kept = subst (λ u. IsKept c.take_back.new.tables u c.release_all.new.self) (sym c.drop_segment.ensures)
+          (dropped_kept c.take_back.new.tables c.take_back.new.undo c.self.inside.locks c.release_all.new.self c.of-segment.result within empty own others
+          (taken_kept c.self.inside.tables c.take_back.new.tables c.self.inside.undo c.take_back.new.undo c.self.inside.locks c.of-segment.result c.mark-count.result c.take_back.ensures c.self.invariant.kept));
+      safe = subst IsSafe
+          (sym (ap (λ u. view_from c.take_back.new.tables u c.release_all.new.self) c.drop_segment.ensures
+          ∙ rolled_back_is c.self.inside.tables c.take_back.new.tables c.self.inside.undo c.take_back.new.undo c.self.inside.locks c.release_all.new.self c.of-segment.result c.mark-count.result c.mark-count.ensures there c.take_back.ensures own others))
+          (safe_rolled_back c.of-segment.result (view_from c.self.inside.tables c.self.inside.undo c.self.inside.locks) c.self.invariant.safe);
+    }
 
 pub returns-clause-rolled_back : goal.returns-clause-rolled_back
 unfolding view_of
@@ -68,7 +71,7 @@ returns-clause-rolled_back c =
     let own : HoldsNothing c.release_all.new.self c.of-segment.result = subst (HoldsNothing c.release_all.new.self) (sym c.of-segment.ensures) c.release_all.ensures.own in
     let others : OthersKeep c.self.inside.locks c.release_all.new.self c.of-segment.result =
     subst (OthersKeep c.self.inside.locks c.release_all.new.self) (sym c.of-segment.ensures) c.release_all.ensures.others in
-    let size : length c.self.inside.undo.terminals ≡ 65 = c.self.invariant.size in
+    let size : length c.self.inside.undo.terminals ≡ 65 = c.self.invariant.kept.size in
     let within : c.of-segment.result < length c.self.inside.undo.terminals = omega (arith, c.get-number.ensures.value, c.get-number.ensures.high, c.of-segment.ensures) in
     rw (← c.self.view_is)
     (ap (λ u. view_from c.take_back.new.tables u c.release_all.new.self) c.drop_segment.ensures

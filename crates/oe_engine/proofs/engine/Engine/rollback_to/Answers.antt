@@ -1,10 +1,11 @@
-use Rattle.std.proofs.Common.{◌≡◌, ◌≤◌, ◌-◌, sym, ap, ◌∙◌, subst, take, length}
+use Rattle.std.proofs.Common.{◌≡◌, ◌≤◌, ◌-◌, sym, ap, ◌∙◌, subst, length}
 use Rattle.std.specs.Prelude.{IsSome}
-use Rattle.oe_store.specs.Stored.{rows}
 use Rattle.oe_undo.specs.Undo.{active_at}
 use Rattle.oe_undo.specs.Stands.{undo_of}
 use Rattle.oe_engine.specs.View.{view_of, view_from}
-use Rattle.oe_engine.specs.Calls.{CanUnwind, back_at}
+use Rattle.oe_engine.specs.Calls.{back_at}
+use Rattle.oe_engine.specs.Covered.{IsSafe}
+use Rattle.oe_engine.proofs.SafeFacts.{safe_back, newest_unwind}
 use Rattle.oe_engine.proofs.EndFacts.{taken_kept, back_is, since_is, within_mark}
 use Rattle.oe_engine.proofs.engine.Engine.rollback_to.Goals as goal
 
@@ -30,18 +31,22 @@ take_back-requires-clause-open c =
     subst (λ s. IsSome (active_at c.self.inside.undo s)) (sym (c.of-segment.ensures ∙ ap (λ x. x.terminal) c.tx.view_is)) is
 
 pub take_back-requires-clause-unwinds : goal.take_back-requires-clause-unwinds
-unfolding view_of view_from
+unfolding view_from
 take_back-requires-clause-unwinds c =
-    let same : c.of-segment.result ≡ c.args.tx.now.terminal = c.of-segment.ensures ∙ ap (λ x. x.terminal) c.tx.view_is in
-    let n = since_is c.self.inside.undo c.of-segment.result c.args.tx.now.terminal c.mark.result c.args.mark c.mark-2.inside.records same c.mark.ensures c.mark-2.view_is in
-    let given = rw (← c.self.view_is) at c.requires.unwinds in
-    let can : CanUnwind (take (length ((undo_of c.self.inside.undo).active c.args.tx.now.terminal) - c.args.mark) ((undo_of c.self.inside.undo).active c.args.tx.now.terminal)) (rows c.self.inside.tables) = given in
-    subst (λ s. CanUnwind (take (c.mark.result - c.mark-2.inside.records) ((undo_of c.self.inside.undo).active s)) (rows c.self.inside.tables)) (sym same)
-    (subst (λ k. CanUnwind (take k ((undo_of c.self.inside.undo).active c.args.tx.now.terminal)) (rows c.self.inside.tables)) (sym n) can)
+    newest_unwind c.of-segment.result (c.mark.result - c.mark-2.inside.records) (view_from c.self.inside.tables c.self.inside.undo c.self.inside.locks) c.self.invariant.safe
 
 pub invariant_of-self : goal.invariant_of-self
 invariant_of-self c =
-    taken_kept c.self.inside.tables c.take_back.new.tables c.self.inside.undo c.take_back.new.undo c.self.inside.locks c.of-segment.result (c.mark.result - c.mark-2.inside.records) c.take_back.ensures c.self.invariant
+    let same : c.of-segment.result ≡ c.args.tx.now.terminal = c.of-segment.ensures ∙ ap (λ x. x.terminal) c.tx.view_is in
+    let n = since_is c.self.inside.undo c.of-segment.result c.args.tx.now.terminal c.mark.result c.args.mark c.mark-2.inside.records same c.mark.ensures c.mark-2.view_is in
+    let here : length ((undo_of c.self.inside.undo).active c.args.tx.now.terminal) ≡ length ((undo_of c.self.inside.undo).active c.of-segment.result) = ap (λ t. length ((undo_of c.self.inside.undo).active t)) (sym same) in
+    record {
+      kept = taken_kept c.self.inside.tables c.take_back.new.tables c.self.inside.undo c.take_back.new.undo c.self.inside.locks c.of-segment.result (c.mark.result - c.mark-2.inside.records) c.take_back.ensures c.self.invariant.kept;
+      safe = subst IsSafe
+          (sym (back_is c.self.inside.tables c.take_back.new.tables c.self.inside.undo c.take_back.new.undo c.self.inside.locks c.of-segment.result c.args.mark (c.mark.result - c.mark-2.inside.records)
+          (n ∙ ap (λ k. k - c.args.mark) here) c.take_back.ensures))
+          (safe_back c.of-segment.result c.args.mark (view_from c.self.inside.tables c.self.inside.undo c.self.inside.locks) c.self.invariant.safe);
+    }
 
 pub returns-clause-back : goal.returns-clause-back
 unfolding view_of

@@ -2,6 +2,7 @@ use Rattle.std.proofs.Common.{◌≡◌, true, is_some}
 use Rattle.oe_undo.specs.Undo.{active_at}
 use Rattle.oe_engine.specs.View.{view_of, view_from}
 use Rattle.oe_engine.proofs.KeptFacts.{asked_kept}
+use Rattle.oe_engine.proofs.SafeFacts.{asked_safe}
 use Rattle.oe_engine.proofs.RowFacts.{on_ok, on_both, if_err, free_is, locked_is, lock_cause}
 use Rattle.oe_engine.proofs.engine.Engine.take.Goals as goal
 
@@ -10,7 +11,11 @@ unfolding view_of view_from
 invariant_of-self c =
     let given = rw (← c.self.view_is) at c.requires in
     let is : is_some (active_at c.self.inside.undo c.args.terminal) ≡ true = given in
-    asked_kept c.acquire.result c.self.inside.tables c.self.inside.undo c.self.inside.locks c.acquire.new.self c.args.terminal is c.acquire.ensures.others c.acquire.ensures.err c.self.invariant
+    record {
+      kept = asked_kept c.acquire.result c.self.inside.tables c.self.inside.undo c.self.inside.locks c.acquire.new.self c.args.terminal is c.acquire.ensures.others c.acquire.ensures.err c.self.invariant.kept;
+      safe = asked_safe c.acquire.result c.self.inside.tables c.self.inside.undo c.self.inside.locks c.acquire.new.self c.args.terminal c.args.lock.name c.args.lock.mode
+          c.acquire.ensures.free c.acquire.ensures.own c.acquire.ensures.others c.acquire.ensures.err c.self.invariant.safe;
+    }
 
 pub returns-clause-free : goal.returns-clause-free
 unfolding view_of
@@ -28,4 +33,4 @@ pub returns-clause-cause : goal.returns-clause-cause
 unfolding view_of
 returns-clause-cause c =
     rw (← c.self.view_is)
-    (if_err c.acquire.result (λ e h. lock_cause c.self.inside.tables c.self.inside.undo c.self.inside.locks c.args.terminal c.args.lock.name c.args.lock.mode e c.self.invariant h) c.acquire.ensures.cause)
+    (if_err c.acquire.result (λ e h. lock_cause c.self.inside.tables c.self.inside.undo c.self.inside.locks c.args.terminal c.args.lock.name c.args.lock.mode e c.self.invariant.kept h) c.acquire.ensures.cause)

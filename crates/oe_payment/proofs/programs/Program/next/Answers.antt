@@ -3,8 +3,16 @@ use Rattle.oe_model.specs.Places.{InPayment}
 use Rattle.oe_records.specs.Changes.{change_of}
 use Rattle.oe_store.specs.Stored.{rows}
 use Rattle.oe_payment.specs.Program.{place_in}
+use Rattle.oe_payment.proofs.CoverFacts.{covered_here}
 use Rattle.oe_payment.proofs.StepFacts.{goes_on, is_refused}
 use Rattle.oe_payment.proofs.programs.Program.next.Goals as goal
+
+pub row-requires : goal.row-requires
+row-requires c = λ o.
+    covered_here c.args.engine.now c.args.tx.now c.self.inside.request (place_in c.self.inside.place)
+    (InPayment c.self.inside.request (place_in c.in-Go.place)) c.in-Go.lock (change_of c.in-Go.change)
+    c.terminal-terminal.result c.number-number.result (rows c.tables.result.now)
+    c.terminal-terminal.ensures c.number-number.ensures c.in-Go.ensures.0 c.in-Go.ensures.1
 
 pub returns-in-Ok-row-clause-progresses : goal.returns-in-Ok-row-clause-progresses
 returns-in-Ok-row-clause-progresses c =
@@ -17,12 +25,13 @@ returns-in-Ok-row-clause-progresses c =
 
 pub returns-in-Err-row-clause-progresses : goal.returns-in-Err-row-clause-progresses
 returns-in-Err-row-clause-progresses c =
+    let room = rw c.in-Err-row.is at c.row.ensures.room in
     rw (← c.self.view_is) (
       is_refused c.args.engine.now c.args.tx.now c.self.inside.request (place_in c.self.inside.place)
           (InPayment c.self.inside.request (place_in c.in-Go.place)) c.in-Go.lock (change_of c.in-Go.change)
           c.terminal-terminal.result c.number-number.result (rows c.tables.result.now)
           c.terminal-terminal.ensures c.number-number.ensures c.tables.ensures c.in-Go.ensures.0 c.in-Go.ensures.1
-          c.in-Err-row.refusal c.in-Err-row.ensures.cause,
+          c.in-Err-row.refusal room c.in-Err-row.ensures.cause,
       c.in-Err-row.ensures.err,
       c.in-Err-row.ensures.name,
       refl,

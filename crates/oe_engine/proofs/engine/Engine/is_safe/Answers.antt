@@ -1,0 +1,8 @@
+use Rattle.oe_engine.specs.View.{view_of, view_from}
+use Rattle.oe_engine.proofs.SafeFacts.{all_unwind}
+use Rattle.oe_engine.proofs.engine.Engine.is_safe.Goals as goal
+
+pub returns-clause-unwinds : goal.returns-clause-unwinds
+unfolding view_of
+returns-clause-unwinds c =
+    rw (← c.self.view_is) (λ t. all_unwind t (view_from c.self.inside.tables c.self.inside.undo c.self.inside.locks) c.self.invariant.safe)

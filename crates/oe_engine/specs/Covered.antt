@@ -1,0 +1,79 @@
+-- Open work: whose the rows are that it has changed, and that it can be put back.
+use Rattle.std.specs.Prelude.{◌≡◌, ◌≢◌, ℕ, suc, List, [], ◌∷◌, Option, None, Some, IsSome, drop}
+use Rattle.oe_theory.specs.Machine.{Guard, Free, Under, Own}
+use Rattle.oe_theory.specs.Machine as theory
+use Rattle.oe_theory.specs.World.{set}
+use Rattle.oe_keys.specs.declared.locks.Name.{Name}
+use Rattle.oe_keys.specs.declared.locks.Name.TheVariants as name
+use Rattle.oe_model.specs.Keys.{order_of_new_order}
+use Rattle.oe_model.specs.Rows.{Rows}
+use Rattle.oe_model.specs.Changes.{Change, InsertNewOrder, key_of, Record, UpdatedWarehouse, UpdatedDistrict, UpdatedCustomer, UpdatedOrder, UpdatedOrderLine, UpdatedStock, record_key, put_back}
+use Rattle.oe_model.specs.Meets.{Meets}
+use Rattle.oe_model.specs.Locks.{governs}
+use Rattle.oe_change.specs.PutBack.{Stands}
+use Rattle.oe_engine.specs.View.{View}
+
+-- transaction k of terminal t alone may change rows under this guard: it holds their name exclusively, or they are its own
+abbrev pub Owns : (Name → Option theory.Mode) → ℕ → ℕ → Guard Name → Type 0
+Owns held t k Free = ⊥
+Owns held t k (Under n) = held n ≡ Some theory.Exclusive
+Owns held t k (Own u j) = (u ≡ t) × (j ≡ k)
+
+-- rows that belong to a transaction are its own
+abbrev pub IsOwn : ℕ → ℕ → Guard Name → Type 0
+IsOwn t k Free = ⊥
+IsOwn t k (Under n) = Unit {0}
+IsOwn t k (Own u j) = (u ≡ t) × (j ≡ k)
+
+-- whoever inserts a NEW-ORDER row holds the name of its order
+abbrev pub HoldsOrder : (Name → Option theory.Mode) → Change → Type 0
+HoldsOrder held (InsertNewOrder k x) = IsSome (held (name.Order (order_of_new_order k)))
+HoldsOrder held _ = Unit {0}
+
+-- transaction k of terminal t may make a change beside others' open work: of a row that it alone may change
+abbrev pub MayMake : (Name → Option theory.Mode) → ℕ → ℕ → Change → Type 0
+MayMake held t k c = Owns held t k (governs (key_of c)) × HoldsOrder held c
+
+-- the record of an update has the row before it
+abbrev pub IsWhole : Record → Type 0
+IsWhole (UpdatedWarehouse k v) = IsSome v
+IsWhole (UpdatedDistrict k v) = IsSome v
+IsWhole (UpdatedCustomer k v) = IsSome v
+IsWhole (UpdatedOrder k v) = IsSome v
+IsWhole (UpdatedOrderLine k v) = IsSome v
+IsWhole (UpdatedStock k v) = IsSome v
+IsWhole _ = Unit {0}
+
+-- each record is of a row that its transaction alone may change
+abbrev pub AreOwned : (Name → Option theory.Mode) → ℕ → ℕ → List Record → Type 0
+AreOwned held t k [] = Unit {0}
+AreOwned held t k (b ∷ bs) = Owns held t k (governs (record_key b)) × IsWhole b × AreOwned held t k bs
+
+-- none of the records is of a row under this name
+abbrev pub IsUnused : Name → List Record → Type 0
+IsUnused n [] = Unit {0}
+IsUnused n (b ∷ bs) = (governs (record_key b) ≢ Under n) × IsUnused n bs
+
+-- the newest of these records, if there is one, finds the row that its change left
+abbrev pub FindsNewest : List Record → Rows → Type 0
+FindsNewest [] r = Unit {0}
+FindsNewest (b ∷ bs) r = Stands b r
+
+-- and is put back
+abbrev pub put_newest : List Record → Rows → Rows
+put_newest [] r = r
+put_newest (b ∷ bs) r = put_back b r
+
+-- the newest records of these terminals' transactions can be put back, one after another in this order: each finds the row that
+-- its change left, and after the last the schema holds
+abbrev pub Unwinds : (ℕ → List Record) → Rows → List ℕ → Type 0
+Unwinds active r [] = Meets r
+Unwinds active r (t ∷ ts) = FindsNewest (active t) r × Unwinds (set t (drop 1 (active t)) active) (put_newest (active t) r) ts
+
+pub record IsSafe (v : View) : Type 0 where
+  -- what an open transaction has changed it alone may change
+  pub owned : (t : ℕ) → AreOwned (v.held t) t (suc (v.counts t)) (v.undo.active t)
+  -- a name that one transaction holds exclusively no other holds
+  pub alone : (t u : ℕ) (n : Name) → u ≢ t → v.held t n ≡ Some theory.Exclusive → v.held u n ≡ None
+  -- open work can be put back, whole or in part, in any order of terminals
+  pub unwinds : (ts : List ℕ) → Unwinds v.undo.active v.rows ts
