@@ -1,26 +1,17 @@
 #![tactic(auto)]
 //! An order-entry server that answers scripts. Clauses of the standard are those of TPC Benchmark C 5.11.
 
-mod dumps;
-mod memory;
-mod outcome;
-mod output;
-mod ports;
-mod script;
-mod session;
-mod standard;
-mod tasks;
-#[cfg(test)]
-mod tests;
-
 use clap::Error;
 use clap::error::ErrorKind;
-use script::run_script;
-use standard::{Printed, Standard};
+use oe_script::script::run_script;
+use oe_script::session::Fault;
+use oe_script::standard::{Printed, Standard};
+use oe_tasks::{Task, job};
 use std::env::Env;
+use std::io::Read;
 use std::process::ExitCode;
-use std::{env, io};
-use tasks::{Task, job};
+use std::rt::Files;
+use std::{env, fs, io};
 
 fn main(rt: HostRuntime) -> io::Result<ExitCode> {
     let words = match words(&rt) {
@@ -28,7 +19,8 @@ fn main(rt: HostRuntime) -> io::Result<ExitCode> {
         Err(error) => return refuse(&rt, error),
     };
     match job(rt.alloc(), words.as_slice()) {
-        Ok(Task::Script) => answer_script(&rt),
+        Ok(Task::Script) => answer(&rt, rt.reader()),
+        Ok(Task::File(name)) => answer_file(&rt, name),
         Err(error) => tell(&rt, error),
     }
 }
@@ -53,7 +45,7 @@ fn refuse<R: Eprint>(rt: &R, error: io::Error) -> io::Result<ExitCode> {
     Ok(ExitCode::from(2))
 }
 
-/// Says why a command line is refused, or gives the help that it asks for.
+/// Says why a command line is refused, or gives the help or the version that it asks for.
 fn tell<R: Print + Eprint>(rt: &R, error: Error) -> io::Result<ExitCode> {
     if matches!(error.kind(), ErrorKind::OutOfMemory) {
         return fail(rt, "no memory");
@@ -64,19 +56,39 @@ fn tell<R: Print + Eprint>(rt: &R, error: Error) -> io::Result<ExitCode> {
     }
     match printed {
         Ok(()) => Ok(ExitCode::SUCCESS),
-        Err(_) => fail(rt, "write"),
+        Err(error) => fail(rt, write_fault(error.kind() == io::ErrorKind::BrokenPipe)),
     }
 }
 
-/// Answers standard input on standard output.
-fn answer_script<R: Input + Print + Eprint + AllocGlobal>(rt: &R) -> io::Result<ExitCode> {
-    let mut reader = Standard(rt.reader());
-    let mut writer = Printed(rt);
-    match run_script(rt.alloc(), &mut reader, &mut writer) {
-        Ok(()) => Ok(ExitCode::SUCCESS),
-        Err(fault) => {
-            eprintln!(rt; "fault: {fault}")?;
+/// The name of a fault at a write.
+fn write_fault(closed: bool) -> &'static str {
+    if closed { "output closed" } else { "write" }
+}
+
+/// Answers a file on standard output.
+fn answer_file<R: Files + Print + Eprint + AllocGlobal>(
+    rt: &R,
+    name: &str,
+) -> io::Result<ExitCode> {
+    match fs::open(rt, name) {
+        Ok(file) => answer(rt, file),
+        Err(error) => {
+            eprintln!(rt; "error: {name} can't be opened: {error}")?;
             Ok(ExitCode::FAILURE)
         }
+    }
+}
+
+/// Answers what is read on standard output.
+fn answer<R: Print + Eprint + AllocGlobal, T: Read + Drop>(
+    rt: &R,
+    input: T,
+) -> io::Result<ExitCode> {
+    let mut reader = Standard(input);
+    let mut writer = Printed::new(rt);
+    match run_script(rt.alloc(), &mut reader, &mut writer) {
+        Ok(()) => Ok(ExitCode::SUCCESS),
+        Err(Fault::Read) => fail(rt, "read"),
+        Err(Fault::Write) => fail(rt, write_fault(writer.is_closed())),
     }
 }

@@ -1,0 +1,9 @@
+pub mod Streaming
+pub mod WorldFacts
+pub mod AnswerFacts
+pub mod LineFacts
+pub mod DumpFacts
+pub mod Reaching
+pub mod Splitting
+pub mod Ending
+pub mod OpenFacts

@@ -1,0 +1,200 @@
+-- Each line is answered.
+use Rattle.std.proofs.Common.{◌≡◌, ℕ, ◌+◌, ◌<◌, ◌≤◌, Bool, true, false, Option, None, Some, List, [], ◌∷◌, ◌++◌, length, refl, sym, ap, ◌∙◌, subst, inl, inr, arith}
+use Rattle.std.specs.Prelude.{◌⊎◌}
+use Rattle.std.proofs.lemmas.Bool.{cases_order}
+use Rattle.oe_theory.specs.World.{World, tables}
+use Rattle.oe_theory.specs.Theorems.{opened}
+use Rattle.oe_theory.proofs.Theorems.{opening_is_reached}
+use Rattle.oe_requests.specs.declared.refusals.Refusal.TheVariants as refusal
+use Rattle.oe_requests.specs.declared.requests.CustomerChoice.{CustomerChoice}
+use Rattle.oe_requests.specs.declared.requests.CustomerChoice.TheVariants as choice
+use Rattle.oe_requests.specs.declared.requests.Request.{Request}
+use Rattle.oe_requests.specs.declared.requests.Request.TheVariants as request
+use Rattle.oe_steps.specs.declared.answers.Answer.TheVariants as answer
+use Rattle.oe_steps.specs.declared.steps.Step.{Step}
+use Rattle.oe_steps.specs.declared.steps.Step.TheVariants as step
+use Rattle.oe_texts.specs.Answer.{answer_line}
+use Rattle.oe_lines.specs.declared.commands.Command.{Command}
+use Rattle.oe_lines.specs.declared.commands.Command.TheVariants as command
+use Rattle.oe_lines.specs.declared.commands.Scale.{Scale}
+use Rattle.oe_lines.specs.Grammar as grammar
+use Rattle.oe_lines.specs.Grammar.{Says, HasForm}
+use Rattle.oe_lines.specs.Reading.{command_of}
+use Rattle.oe_lines.proofs.GrammarFacts.{read_is_said, said_is_read}
+use Rattle.oe_model.specs.Requests as model
+use Rattle.oe_model.specs.Rows.{Rows}
+use Rattle.oe_model.specs.Population.{IsPopulated}
+use Rattle.oe_model.specs.System.{system}
+use Rattle.oe_model.proofs.PopulationFacts.{population_is_one}
+use Rattle.oe_model.proofs.SystemLaws.{laws, population_is_good}
+use Rattle.oe_core.specs.Steps.{HasProgram, IsNumber, IsStep}
+use Rattle.oe_script.specs.Dump.{dump_text}
+use Rattle.oe_script.specs.Script.{State, scale_in, moment_in, told, Stepped, IsAllowed, Answers, Asks, bad_line, LineAnswer, RunOfLines, Holds}
+use Rattle.oe_script.specs.Session.{IsLive}
+use Rattle.oe_script.proofs.WorldFacts.{live_step, live_runs}
+use Rattle.oe_script.proofs.AnswerFacts.{IsTold, told_advance, told_save, told_back, told_rollback, told_begin, told_audit, told_run}
+
+-- THE FORMS OF LINES
+
+by_number : (c : CustomerChoice) → grammar.IsCustomer c → model.IsChoice c × IsNumber c
+by_number (choice.Number n) h = (h, tt)
+by_number (choice.LastName last) h = absurd h
+
+-- a request that a line spells has a program
+pub has_program : (q : Request) → grammar.IsRequest q → HasProgram q
+has_program (request.Payment q) h =
+    let b = by_number q.customer h.customer in (
+      record {
+        district = (h.district.warehouse, h.district.district);
+        customer_district = (h.customer_district.warehouse, h.customer_district.district);
+        customer = b.0;
+        amount = h.amount;
+        stamp = h.stamp;
+      },
+      b.1,
+    )
+has_program (request.NewOrder q) h = absurd h
+has_program (request.Delivery q) h = absurd h
+has_program (request.Deliveries q) h = absurd h
+has_program (request.Rename q) h = absurd h
+
+is_request : (q : Request) → HasProgram q → model.IsRequest q
+is_request (request.Payment q) h = h.0
+is_request (request.NewOrder q) h = absurd h
+is_request (request.Delivery q) h = absurd h
+is_request (request.Deliveries q) h = absurd h
+is_request (request.Rename q) h = absurd h
+
+-- a line says one thing
+pub one_command : (line : List ℕ) (c d : Command) → Says line c → Says line d → c ≡ d
+one_command line c d h k = let same : ◌≡◌ {A = Option Command} (Some c) (Some d) = sym (said_is_read line c h) ∙ said_is_read line d k in cc
+
+-- WHAT LINES KEEP
+
+live_opened : (s : Scale) (extents : ℕ) (r : Rows) → grammar.IsScale s → IsPopulated (scale_in s) r → IsLive (Some (opened system r extents))
+live_opened s extents r h p = (
+  opening_is_reached system laws r extents
+      (population_is_good r (population_is_one.is_population (scale_in s) r (record { warehouses = h.warehouses; customers = h.customers; items = h.items }) p)),
+  λ t. tt,
+)
+
+live_stepped : (w : World system) (i : Step) (text : List ℕ) (s : State) → IsStep i → IsLive (Some w) → Stepped w i text s → IsLive s
+live_stepped w i text s b l (x, w', serves, e, same) = subst IsLive (sym same) (live_step w i _ w' b l serves)
+
+pub live_answers : (s : State) (c : Command) (text : List ℕ) (s' : State) → HasForm c → IsLive s → Answers s c text s' → IsLive s'
+live_answers None (command.Open scale extents) text s' f l (inl (r, p, e, same)) = subst IsLive (sym same) (live_opened scale extents r f.0 p)
+live_answers None (command.Open scale extents) text s' f l (inr (e, same)) = subst IsLive (sym same) tt
+live_answers None (command.Begin t q) text s' f l a = absurd a
+live_answers None (command.Next t) text s' f l a = absurd a
+live_answers None (command.Run t) text s' f l a = absurd a
+live_answers None (command.Save t) text s' f l a = absurd a
+live_answers None (command.Back t) text s' f l a = absurd a
+live_answers None (command.Rollback t) text s' f l a = absurd a
+live_answers None (command.Dump t) text s' f l a = absurd a
+live_answers None (command.Audit c m) text s' f l a = absurd a
+live_answers (Some w) (command.Open scale extents) text s' f l a = absurd a
+live_answers (Some w) (command.Begin t q) text s' f l a = live_stepped w (step.Begin t q) text s' (has_program q f.1) l a
+live_answers (Some w) (command.Next t) text s' f l a = live_stepped w (step.Advance t) text s' tt l a
+live_answers (Some w) (command.Run t) text s' f l (n, x, w', r, e, same) = subst IsLive (sym same) (live_runs n w t x w' l r)
+live_answers (Some w) (command.Save t) text s' f l a = live_stepped w (step.Save t) text s' tt l a
+live_answers (Some w) (command.Back t) text s' f l a = live_stepped w (step.Back t) text s' tt l a
+live_answers (Some w) (command.Rollback t) text s' f l a = live_stepped w (step.Rollback t) text s' tt l a
+live_answers (Some w) (command.Dump t) text s' f l a = subst IsLive (sym a.1) l
+live_answers (Some w) (command.Audit c m) text s' f l a = live_stepped w (step.Audit c (moment_in w m)) text s' tt l a
+
+pub live_line : (s : State) (n : ℕ) (line text : List ℕ) (s' : State) → IsLive s → LineAnswer s n line text s' → IsLive s'
+live_line s n line text s' l (inl (c, asks, a)) = live_answers s c text s' asks.says.form l a
+live_line s n line text s' l (inr (bad, e, same)) = subst IsLive (sym same) l
+
+pub live_lines : (s : State) (n : ℕ) (lines : List (List ℕ)) (text : List ℕ) (s' : State) → IsLive s → RunOfLines s n lines text s' → IsLive s'
+live_lines s n [] text s' l r = subst IsLive (sym r.1) l
+live_lines s n (line ∷ lines) text s' l (mid, first, rest, a, r, e) = live_lines mid (n + 1) lines rest s' (live_line s (n + 1) line first mid l a) r
+
+-- EACH LINE IS ANSWERED
+
+abbrev IsAnswered : State → Command → Type 0
+IsAnswered s c = (text : List ℕ) × (s' : State) × Answers s c text s'
+
+stepped : (w : World system) (i : Step) → IsTold w i → (text : List ℕ) × (s' : State) × Stepped w i text s'
+stepped w i (x, w', serves) = (told i x, Some w', (x, w', serves, refl, refl))
+
+answered : (s : State) (c : Command) → HasForm c → IsLive s → IsAllowed s c → IsAnswered s c
+answered None (command.Open scale extents) f l a = (answer_line (answer.Refused refusal.NoMemory), None, inr (refl, refl))
+answered None (command.Begin t q) f l a = absurd a
+answered None (command.Next t) f l a = absurd a
+answered None (command.Run t) f l a = absurd a
+answered None (command.Save t) f l a = absurd a
+answered None (command.Back t) f l a = absurd a
+answered None (command.Rollback t) f l a = absurd a
+answered None (command.Dump t) f l a = absurd a
+answered None (command.Audit c m) f l a = absurd a
+answered (Some w) (command.Open scale extents) f l a = absurd a
+answered (Some w) (command.Begin t q) f l a = stepped w (step.Begin t q) (told_begin w t q f.0.0 f.0.1 (is_request q (has_program q f.1)))
+answered (Some w) (command.Next t) f l a = stepped w (step.Advance t) (told_advance w t l.0)
+answered (Some w) (command.Run t) f l a = let r = told_run w t l in (answer_line r.1, Some r.2, (r.0, r.1, r.2, r.3, refl, refl))
+answered (Some w) (command.Save t) f l a = stepped w (step.Save t) (told_save w t)
+answered (Some w) (command.Back t) f l a = stepped w (step.Back t) (told_back w t)
+answered (Some w) (command.Rollback t) f l a = stepped w (step.Rollback t) (told_rollback w t)
+answered (Some w) (command.Dump t) f l a = (dump_text t (tables system w), Some w, (refl, refl))
+answered (Some w) (command.Audit c m) f l a = stepped w (step.Audit c (moment_in w m)) (told_audit w c (moment_in w m) l.0)
+
+allowed : (s : State) (c : Command) → IsAllowed s c ⊎ (IsAllowed s c → ⊥)
+allowed None (command.Open scale extents) = inl tt
+allowed None (command.Begin t q) = inr (λ h. h)
+allowed None (command.Next t) = inr (λ h. h)
+allowed None (command.Run t) = inr (λ h. h)
+allowed None (command.Save t) = inr (λ h. h)
+allowed None (command.Back t) = inr (λ h. h)
+allowed None (command.Rollback t) = inr (λ h. h)
+allowed None (command.Dump t) = inr (λ h. h)
+allowed None (command.Audit c m) = inr (λ h. h)
+allowed (Some w) (command.Open scale extents) = inr (λ h. h)
+allowed (Some w) (command.Begin t q) = inl tt
+allowed (Some w) (command.Next t) = inl tt
+allowed (Some w) (command.Run t) = inl tt
+allowed (Some w) (command.Save t) = inl tt
+allowed (Some w) (command.Back t) = inl tt
+allowed (Some w) (command.Rollback t) = inl tt
+allowed (Some w) (command.Dump t) = inl tt
+allowed (Some w) (command.Audit c m) = inl tt
+
+-- the text of a line, and the state after it
+abbrev pub IsLineAnswered : State → ℕ → List ℕ → Type 0
+IsLineAnswered s n line = (text : List ℕ) × (s' : State) × LineAnswer s n line text s'
+
+-- a line that is none of the forms here
+pub refused : (s : State) (n : ℕ) (line : List ℕ) → ((c : Command) → Asks s line c → ⊥) → LineAnswer s n line (bad_line n) s
+refused s n line bad = inr (bad, refl, refl)
+
+pub line_answered : (s : State) (n : ℕ) (line : List ℕ) → IsLive s → IsLineAnswered s n line
+line_answered s n line l = by_length (cases_order (length line) 1_024)
+  where
+    bad : ((c : Command) → Asks s line c → ⊥) → IsLineAnswered s n line
+    bad h = (bad_line n, s, refused s n line h)
+
+    by_right : length line ≤ 1_024 → (c : Command) → Says line c → IsAllowed s c ⊎ (IsAllowed s c → ⊥) → IsLineAnswered s n line
+    by_right short c says (inl a) = let r = answered s c says.form l a in (r.0, r.1, inl (c, record { short = short; says = says; allowed = a }, r.2))
+    by_right short c says (inr d) = bad (λ e asks. d (subst (IsAllowed s) (one_command line e c asks.says says) asks.allowed))
+
+    by_command : length line ≤ 1_024 → (o : Option Command) → o ≡ command_of line → IsLineAnswered s n line
+    by_command short None e = bad (λ c asks. let differs : ◌≡◌ {A = Option Command} None (Some c) = e ∙ said_is_read line c asks.says in let none : ⊥ = cc in none)
+    by_command short (Some c) e = let says : Says line c = read_is_said (Some c) line e in by_right short c says (allowed s c)
+
+    by_length : (length line ≡ 1_024) ⊎ ((length line < 1_024) ⊎ (1_024 < length line)) → IsLineAnswered s n line
+    by_length (inl e) = by_command (omega (arith, e)) (command_of line) refl
+    by_length (inr (inl b)) = by_command (omega (arith, b)) (command_of line) refl
+    by_length (inr (inr b)) = bad (λ c asks. let h = asks.short in absurd (omega (arith, b, h)))
+
+-- a line that is asked for where something is open
+pub taken : (w : World system) (n : ℕ) (line : List ℕ) (asked c : Command) (text : List ℕ) (s' : State) → length line ≤ 1_024 → Says line asked → asked ≡ c → IsAllowed (Some w) c
+    → Answers (Some w) c text s' → LineAnswer (Some w) n line text s'
+taken w n line asked c text s' short says e a answers = inl (c, record { short = short; says = subst (Says line) e says; allowed = a }, answers)
+
+-- a line that fits is held whole
+pub held_line : (held : List ℕ) (over : Bool) (line : List ℕ) → over ≡ false → Holds held over line → held ≡ line
+held_line held false line e h = h.0
+held_line held true line e h = let none : ⊥ = cc in absurd none
+
+-- a line of which nothing came before
+pub fresh_line : (held : List ℕ) (over : Bool) (line last : List ℕ) → over ≡ false → held ≡ [] → Holds held over line → line ++ last ≡ last
+fresh_line held over line last e none h = ap (λ z. z ++ last) (sym (held_line held over line e h) ∙ none)

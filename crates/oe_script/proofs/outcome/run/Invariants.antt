@@ -1,0 +1,19 @@
+use Rattle.std.proofs.Common.{ℕ, Some}
+use Rattle.oe_theory.specs.World.{World}
+use Rattle.oe_model.specs.System.{system}
+use Rattle.oe_steps.specs.declared.answers.Answer.{Answer}
+use Rattle.oe_core.specs.Core.{world_of}
+use Rattle.oe_script.specs.Script.{RunsIn}
+use Rattle.oe_script.specs.Session.{IsLive}
+use Rattle.oe_script.proofs.WorldFacts.{left}
+use Rattle.oe_script.proofs.outcome.run.Given as goal
+
+-- what runs from here runs from the start
+abbrev pub invariant-loop-answer : goal.invariant-loop-answer
+invariant-loop-answer l = record {
+  live : IsLive (Some (world_of l.core));
+  runs : (n : ℕ) (x : Answer) (w : World system) → RunsIn n (world_of l.core) l.terminal x w → (m : ℕ) × RunsIn m (world_of l.initial.core) l.terminal x w;
+}
+
+abbrev pub decreases-loop-answer : goal.decreases-loop-answer
+decreases-loop-answer l = left (world_of l.core) l.terminal

@@ -1,0 +1,146 @@
+-- What a script is answered.
+use Rattle.std.specs.Prelude.{◌≡◌, ◌≢◌, ℕ, zero, suc, ◌+◌, ◌≤◌, ◌<◌, ◌⊎◌, Bool, true, false, All, List, [], ◌∷◌, ◌++◌, length, Option, Some, None, codes}
+use Rattle.std.specs.List.{flat_map}
+use Rattle.oe_theory.specs.World.{World, newest, tables}
+use Rattle.oe_theory.specs.Theorems.{opened}
+use Rattle.oe_requests.specs.declared.refusals.Refusal.TheVariants as refusal
+use Rattle.oe_rows.specs.declared.scales.Scale as rows
+use Rattle.oe_model.specs.Rows.{Rows}
+use Rattle.oe_model.specs.Population.{IsPopulated}
+use Rattle.oe_model.specs.System.{system}
+use Rattle.oe_steps.specs.declared.answers.Answer.{Answer}
+use Rattle.oe_steps.specs.declared.answers.Answer.TheVariants as answer
+use Rattle.oe_steps.specs.declared.audits.Condition.{Condition}
+use Rattle.oe_steps.specs.declared.steps.Step.{Step}
+use Rattle.oe_steps.specs.declared.steps.Step.TheVariants as step
+use Rattle.oe_texts.specs.Answer.{answer_line, audit_line}
+use Rattle.oe_lines.specs.declared.commands.Command.{Command}
+use Rattle.oe_lines.specs.declared.commands.Command.TheVariants as command
+use Rattle.oe_lines.specs.declared.commands.MomentChoice.{MomentChoice}
+use Rattle.oe_lines.specs.declared.commands.MomentChoice.TheVariants as moment
+use Rattle.oe_lines.specs.declared.commands.Scale.{Scale}
+use Rattle.oe_lines.specs.Grammar.{Says}
+use Rattle.oe_core.specs.Steps.{step_in, answer_in, Serves}
+use Rattle.oe_script.specs.Dump.{dump_text}
+
+-- nothing is open yet, or the world that a core stands for
+abbrev pub State : Type 0
+State = Option (World system)
+
+abbrev pub scale_in : Scale → rows.Scale
+scale_in s = record { warehouses = s.warehouses; customers = s.customers; items = s.items }
+
+-- the moment that is asked for: `now` is the newest
+abbrev pub moment_in : World system → MomentChoice → ℕ
+moment_in w moment.Now = newest system w
+moment_in w (moment.At m) = m
+
+-- the text of an audit's answer, which names the condition where there is a verdict
+abbrev pub audit_text : Condition → Answer → List ℕ
+audit_text c (answer.Audited v) = audit_line c v
+audit_text c x = answer_line x
+
+-- the text of a step's answer
+abbrev pub told : Step → Answer → List ℕ
+told (step.Audit c m) x = audit_text c x
+told i x = answer_line x
+
+-- the step may be answered by this text, and this state is left
+abbrev pub Stepped : World system → Step → List ℕ → State → Type 0
+Stepped w i text s = (x : Answer) × (w' : World system) × Serves w (step_in i) (answer_in i x) w' × (text ≡ told i x) × (s ≡ Some w')
+
+-- n advances of terminal t that are answered `more`, and one with this answer, which is another
+abbrev pub RunsIn : ℕ → World system → ℕ → Answer → World system → Type 0
+RunsIn zero w t x w' = (x ≢ answer.More) × Serves w (step_in (step.Advance t)) (answer_in (step.Advance t) x) w'
+RunsIn (suc n) w t x w' = (mid : World system) × Serves w (step_in (step.Advance t)) (answer_in (step.Advance t) answer.More) mid × RunsIn n mid t x w'
+
+-- of a run the last answer alone is written
+abbrev pub Ran : World system → ℕ → List ℕ → State → Type 0
+Ran w t text s = (n : ℕ) × (x : Answer) × (w' : World system) × RunsIn n w t x w' × (text ≡ answer_line x) × (s ≡ Some w')
+
+-- an opening gives a population of that scale, or is refused where memory is, and may then be asked for again
+abbrev pub Opens : Scale → ℕ → List ℕ → State → Type 0
+Opens scale extents text s =
+    ((r : Rows) × IsPopulated (scale_in scale) r × (text ≡ codes "opened\n") × (s ≡ Some (opened system r extents)))
+    ⊎ ((text ≡ answer_line (answer.Refused refusal.NoMemory)) × (s ≡ None))
+
+-- before something is open only `open` is in the grammar, and afterwards it is not
+abbrev pub IsAllowed : State → Command → Type 0
+IsAllowed None (command.Open scale extents) = Unit {0}
+IsAllowed None c = ⊥
+IsAllowed (Some w) (command.Open scale extents) = ⊥
+IsAllowed (Some w) c = Unit {0}
+
+-- the command may be answered by this text, and this state is left
+abbrev pub Answers : State → Command → List ℕ → State → Type 0
+Answers None (command.Open scale extents) text s = Opens scale extents text s
+Answers None c text s = ⊥
+Answers (Some w) (command.Open scale extents) text s = ⊥
+Answers (Some w) (command.Begin t q) text s = Stepped w (step.Begin t q) text s
+Answers (Some w) (command.Next t) text s = Stepped w (step.Advance t) text s
+Answers (Some w) (command.Run t) text s = Ran w t text s
+Answers (Some w) (command.Save t) text s = Stepped w (step.Save t) text s
+Answers (Some w) (command.Back t) text s = Stepped w (step.Back t) text s
+Answers (Some w) (command.Rollback t) text s = Stepped w (step.Rollback t) text s
+Answers (Some w) (command.Dump t) text s = (text ≡ dump_text t (tables system w)) × (s ≡ Some w)
+Answers (Some w) (command.Audit c m) text s = Stepped w (step.Audit c (moment_in w m)) text s
+
+-- the line, without its end, is taken for this command
+pub record Asks (s : State) (line : List ℕ) (c : Command) : Type 0 where
+  pub short : length line ≤ 1_024
+  pub says : Says line c
+  pub allowed : IsAllowed s c
+
+-- the refusal of the n-th line, counted from 1
+abbrev pub bad_line : ℕ → List ℕ
+bad_line n = answer_line (answer.Refused (refusal.BadLine n))
+
+-- the n-th line is answered: as its command is, or as no command
+abbrev pub LineAnswer : State → ℕ → List ℕ → List ℕ → State → Type 0
+LineAnswer s n line text s' =
+    ((c : Command) × Asks s line c × Answers s c text s')
+    ⊎ (((c : Command) → Asks s line c → ⊥) × (text ≡ bad_line n) × (s' ≡ s))
+
+-- lines in order, where n came before
+abbrev pub RunOfLines : State → ℕ → List (List ℕ) → List ℕ → State → Type 0
+RunOfLines s n [] text s' = (text ≡ []) × (s' ≡ s)
+RunOfLines s n (line ∷ lines) text s' =
+    (mid : State) × (first : List ℕ) × (rest : List ℕ) × LineAnswer s (n + 1) line first mid × RunOfLines mid (n + 1) lines rest s' × (text ≡ first ++ rest)
+
+-- byte 10 ends a line
+abbrev pub IsInLine : List ℕ → Type 0
+IsInLine line = All (λ b. b ≢ 10) line
+
+abbrev pub ended : List ℕ → List ℕ
+ended line = line ++ 10 ∷ []
+
+-- a last line without its end is none of the forms
+abbrev pub last_text : ℕ → List ℕ → List ℕ
+last_text n [] = []
+last_text n (b ∷ bs) = bad_line n
+
+-- the input may be answered by this output
+pub record Output (input out : List ℕ) : Type 0 where
+  pub lines : List (List ℕ)
+  pub last : List ℕ
+  pub answers : List ℕ
+  pub state : State
+  pub whole : input ≡ flat_map ended lines ++ last
+  pub each : All IsInLine lines
+  pub tail : IsInLine last
+  pub run : RunOfLines None 0 lines answers state
+  pub text : out ≡ answers ++ last_text (length lines + 1) last
+
+-- the bytes of a line so far: held whole while they fit, and only known to be too many afterwards
+abbrev pub Holds : List ℕ → Bool → List ℕ → Type 0
+Holds held false line = (held ≡ line) × (length line ≤ 1_024)
+Holds held true line = 1_024 < length line
+
+-- of the input these lines were answered, by this output, and a beginning of the next line was read
+pub record Reached (input out : List ℕ) (state : State) (count : ℕ) (line : List ℕ) : Type 0 where
+  pub lines : List (List ℕ)
+  pub whole : input ≡ flat_map ended lines ++ line
+  pub each : All IsInLine lines
+  pub tail : IsInLine line
+  pub counted : count ≡ length lines
+  pub run : RunOfLines None 0 lines out state

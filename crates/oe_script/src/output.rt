@@ -1,0 +1,108 @@
+//! Output that waits in a buffer of fixed size.
+ghost use Rattle.std.specs.Prelude.{◌≡◌, ◌<◌, ◌≤◌, ◌+◌, ◌++◌, ℕ, [], length, decimal, codes, MatchResult, IfOk};
+ghost use Rattle.arrayvec.specs.ArrayVec.{array_vec_len};
+ghost use Rattle.oe_script.specs.Ports.{Streams, Cut};
+ghost use Rattle.oe_script.specs.Script.{bad_line};
+ghost use Rattle.oe_script.specs.Outcome.{said_text};
+
+use crate::outcome::Said;
+use crate::ports::{Failed, Outlet};
+use itoa::Buffer;
+use oe_steps::Answer;
+use oe_texts::{LONGEST, Pending, SIZE, answer, audited, has_room, opened};
+
+/// Writes all of the bytes.
+pub fn write_all<W: Outlet>(to: &mut W, bytes: &[u8]) -> Result<(), Failed>
+    ensures { Streams (W.sink to.old) [] (W.sink to.new) [] bytes.now result }
+{
+    let mut at = 0;
+    while at < bytes.len() {
+        match to.write(&bytes[at..]) {
+            Ok(n) => at += n,
+            Err(e) => return Err(e),
+        }
+    }
+    Ok(())
+}
+
+/// Writes what waits.
+pub fn flush<W: Outlet>(out: &mut Pending, to: &mut W) -> Result<(), Failed>
+    ensures stream { Streams (W.sink to.old) out.old.items (W.sink to.new) out.new.items [] result }
+    ensures empty { out.new.items ≡ [] }
+{
+    let written = write_all(to, out.as_slice());
+    out.clear();
+    written
+}
+
+/// Writes what waits where the longest line has no room behind it.
+pub fn make_room<W: Outlet>(out: &mut Pending, to: &mut W) -> Result<(), Failed>
+    ensures stream { Streams (W.sink to.old) out.old.items (W.sink to.new) out.new.items [] result }
+    ensures room { array_vec_len out.new + LONGEST ≤ SIZE }
+{
+    if has_room(out) {
+        return Ok(());
+    }
+    flush(out, to)
+}
+
+/// Appends these bytes.
+fn text(out: &mut Pending, bytes: &[u8])
+    requires { array_vec_len out.old + length bytes.now ≤ SIZE }
+    ensures items { out.new.items ≡ out.old.items ++ bytes.now }
+    ensures len { array_vec_len out.new ≡ array_vec_len out.old + length bytes.now }
+{
+    out.try_extend_from_slice(bytes).unwrap();
+}
+
+/// Appends a number in decimal.
+fn decimal(out: &mut Pending, number: u128)
+    requires { array_vec_len out.old + 39 ≤ SIZE }
+    ensures items { out.new.items ≡ out.old.items ++ decimal number }
+    ensures len { array_vec_len out.new ≤ array_vec_len out.old + 39 }
+{
+    let mut buffer = Buffer::new();
+    text(out, buffer.format(number).as_bytes());
+}
+
+/// Appends the line `error 1 BadLine <number>`.
+fn bad(out: &mut Pending, number: u128)
+    requires { array_vec_len out.old + LONGEST ≤ SIZE }
+    ensures { out.new.items ≡ out.old.items ++ bad_line number }
+{
+    text(out, b"error ");
+    decimal(out, 1);
+    text(out, b" BadLine ");
+    decimal(out, number);
+    text(out, b"\n");
+}
+
+/// Appends a line; `number` is that of the line which is answered.
+fn say(out: &mut Pending, said: &Said, number: u128)
+    requires { array_vec_len out.old + LONGEST ≤ SIZE }
+    ensures { out.new.items ≡ out.old.items ++ said_text number said.now }
+{
+    match said {
+        Said::Opened => opened(out),
+        Said::Told(given) => answer(out, given),
+        Said::Audited(condition, Answer::Audited(verdict)) => audited(out, *condition, verdict),
+        Said::Audited(_, given) => answer(out, given),
+        Said::BadLine => bad(out, number),
+    }
+}
+
+/// Appends a line to what waits, which is written first where there is no room.
+pub fn put<W: Outlet>(
+    out: &mut Pending,
+    to: &mut W,
+    said: &Said,
+    number: u128,
+) -> Result<(), Failed>
+    ensures { Streams (W.sink to.old) out.old.items (W.sink to.new) out.new.items (said_text number said.now) result }
+{
+    if let Err(e) = make_room(out, to) {
+        return Err(e);
+    }
+    say(out, said, number);
+    Ok(())
+}

@@ -1,0 +1,25 @@
+//! A script's run from its first byte to its last.
+ghost use Rattle.oe_script.specs.Session.{ScriptRan};
+
+use crate::ports::{Intake, Outlet};
+use crate::session::{Fault, Session};
+use std::alloc::Global;
+
+/// Answers a script, line by line, to its end.
+///
+/// What waits is written before each read. A fault comes only where a call of the reader or of the writer failed, or the
+/// input had not ended after 2^64 - 1 reads. After one of the reader each whole line that was read is answered, and no
+/// more is written; after one of the writer what was written is a beginning of an output of all that was read. Want of
+/// memory inside a step is that line's answer, and the run goes on.
+pub fn run_script<R: Intake, W: Outlet>(
+    alloc: Global,
+    reader: &mut R,
+    writer: &mut W,
+) -> Result<(), Fault>
+    ensures { ScriptRan (R.source reader.old) (R.source reader.new) (W.sink writer.old) (W.sink writer.new) result }
+{
+    let mut session = Session::new();
+    let ran = session.run(alloc, reader, writer);
+    session.close();
+    ran
+}

@@ -1,0 +1,259 @@
+//! One script's run: what is open, the line that is read, and the output that waits.
+ghost use Rattle.std.specs.Prelude.{◌≡◌, ◌<◌, ◌≤◌, ◌+◌, ◌++◌, ◌∷◌, ◌^◌, ℕ, List, [], length, Option, None, true, false, OnOk};
+ghost use Rattle.oe_script.specs.Ports.{Sink, Streams};
+ghost use Rattle.oe_script.specs.Script.{LineAnswer, Holds, last_text};
+ghost use Rattle.oe_script.specs.Session.{state_of, IsLive, Fed, Standing, Ended, ScriptRan};
+ghost use Rattle.oe_script.specs.Outcome.{text_of};
+
+use crate::dumps::dump;
+use crate::outcome::{Outcome, Said, outcome_of};
+use crate::output::{flush, put};
+use crate::ports::{Failed, Intake, Outlet};
+use arrayvec::ArrayVec;
+use memchr::memchr;
+use oe_core::Core;
+use oe_texts::Pending;
+use std::alloc::Global;
+use thiserror::Error;
+
+/// A line's bytes before its end are at most as many.
+pub const LINE: usize = 1_024;
+
+/// So many bytes are read at once.
+pub const PIECE: usize = 65_536;
+
+/// It can't be dropped, since a core can't: `close` ends it.
+pub struct Session {
+    pub core: Option<Core>,
+    /// The beginning of a line whose end was not read yet.
+    pub line: ArrayVec<u8, LINE>,
+    /// The line is too long, and its bytes are not kept.
+    pub over: bool,
+    /// How many lines came before.
+    pub count: u128,
+    pub out: Pending,
+}
+
+/// Why a script could not be answered whole.
+#[derive(Clone, Copy, Debug, PartialEq, Eq, Drop, Error)]
+pub enum Fault {
+    #[error("read")]
+    Read,
+    #[error("write")]
+    Write,
+}
+
+impl Session {
+    /// Nothing is open, read or answered.
+    pub fn new() -> Session
+        ensures { result ≡ record { core = None; line = record { items = [] }; over = false; count = 0; out = record { items = [] } } }
+    {
+        Session {
+            core: None,
+            line: ArrayVec::new(),
+            over: false,
+            count: 0,
+            out: ArrayVec::new(),
+        }
+    }
+
+    /// Gives up what is open.
+    pub fn close(self) {
+        let Session {
+            core,
+            line: _,
+            over: _,
+            count: _,
+            out: _,
+        } = self;
+        match core {
+            None => {}
+            Some(core) => drop(core.close()),
+        }
+    }
+
+    /// Reads the input to its end and answers it.
+    pub fn run<R: Intake, W: Outlet>(
+        &mut self,
+        alloc: Global,
+        reader: &mut R,
+        writer: &mut W,
+    ) -> Result<(), Fault>
+        requires core { self.old.core ≡ None }
+        requires line { self.old.line.items ≡ [] }
+        requires over { self.old.over ≡ false }
+        requires count { self.old.count ≡ 0 }
+        requires out { self.old.out.items ≡ [] }
+        ensures { ScriptRan (R.source reader.old) (R.source reader.new) (W.sink writer.old) (W.sink writer.new) result }
+    {
+        let mut buf = [0u8; PIECE];
+        for _ in 0..u64::MAX {
+            prove!(self.out.is_empty());
+            match reader.read(&mut buf) {
+                Err(_) => return Err(Fault::Read),
+                Ok(0) => {
+                    return match self.finish(writer) {
+                        Ok(()) => Ok(()),
+                        Err(_) => Err(Fault::Write),
+                    };
+                }
+                Ok(n) => {
+                    if let Err(_) = self.answer(alloc, &buf[..n], writer) {
+                        return Err(Fault::Write);
+                    }
+                }
+            }
+        }
+        Err(Fault::Read)
+    }
+
+    /// Takes the next bytes of the input, and writes what waits.
+    fn answer<W: Outlet>(&mut self, alloc: Global, piece: &[u8], to: &mut W) -> Result<(), Failed>
+        requires count { self.old.count + length piece.now < 2 ^ 128 }
+        requires live { IsLive (state_of self.old.core) }
+        ensures fed { (start : Option Sink) (input : List ℕ) →
+            Standing start input (W.sink to.old) self.old.out.items (state_of self.old.core) self.old.count self.old.line.items self.old.over →
+            Fed start (input ++ piece.now) (W.sink to.new) self.new.out.items (state_of self.new.core) self.new.count self.new.line.items self.new.over result }
+        ensures written { OnOk result (self.new.out.items ≡ []) }
+        ensures count { self.new.count ≤ self.old.count + length piece.now }
+        ensures live { IsLive (state_of self.new.core) }
+    {
+        if let Err(e) = self.feed(alloc, piece, to) {
+            return Err(e);
+        }
+        flush(&mut self.out, to)
+    }
+
+    /// Takes the next bytes of the input.
+    pub fn feed<W: Outlet>(&mut self, alloc: Global, piece: &[u8], to: &mut W) -> Result<(), Failed>
+        requires count { self.old.count + length piece.now < 2 ^ 128 }
+        requires live { IsLive (state_of self.old.core) }
+        ensures fed { (start : Option Sink) (input : List ℕ) →
+            Standing start input (W.sink to.old) self.old.out.items (state_of self.old.core) self.old.count self.old.line.items self.old.over →
+            Fed start (input ++ piece.now) (W.sink to.new) self.new.out.items (state_of self.new.core) self.new.count self.new.line.items self.new.over result }
+        ensures count { self.new.count ≤ self.old.count + length piece.now }
+        ensures live { IsLive (state_of self.new.core) }
+    {
+        let mut rest = piece;
+        while let Some(n) = memchr(b'\n', rest) {
+            if let Err(e) = self.end_line(alloc, &rest[..n], to) {
+                return Err(e);
+            }
+            rest = &rest[n + 1..];
+        }
+        self.keep(rest);
+        Ok(())
+    }
+
+    /// Answers what is left at the end of the input, and writes what waits.
+    fn finish<W: Outlet>(&mut self, to: &mut W) -> Result<(), Failed>
+        requires { self.old.count + 1 < 2 ^ 128 }
+        ensures { (start : Option Sink) (input : List ℕ) →
+            Standing start input (W.sink to.old) self.old.out.items (state_of self.old.core) self.old.count self.old.line.items self.old.over →
+            Ended start input (W.sink to.new) result }
+    {
+        if let Err(e) = self.end_last(to) {
+            return Err(e);
+        }
+        flush(&mut self.out, to)
+    }
+
+    /// Answers a last line that has no end.
+    fn end_last<W: Outlet>(&mut self, to: &mut W) -> Result<(), Failed>
+        requires { self.old.count + 1 < 2 ^ 128 }
+        ensures { (line : List ℕ) → Holds self.old.line.items self.old.over line →
+            Streams (W.sink to.old) self.old.out.items (W.sink to.new) self.new.out.items (last_text (self.old.count + 1) line) result }
+    {
+        if self.over {
+            return put(&mut self.out, to, &Said::BadLine, self.count + 1);
+        }
+        if !self.line.is_empty() {
+            return put(&mut self.out, to, &Said::BadLine, self.count + 1);
+        }
+        Ok(())
+    }
+
+    /// Further bytes of a line.
+    fn keep(&mut self, bytes: &[u8])
+        ensures core { self.new.core ≡ self.old.core }
+        ensures count { self.new.count ≡ self.old.count }
+        ensures out { self.new.out ≡ self.old.out }
+        ensures line { (line : List ℕ) → Holds self.old.line.items self.old.over line → Holds self.new.line.items self.new.over (line ++ bytes.now) }
+    {
+        if self.over {
+            return;
+        }
+        if self.line.try_extend_from_slice(bytes).is_err() {
+            self.over = true;
+        }
+    }
+
+    /// The end of a line, whose last bytes these are: its answer goes out.
+    fn end_line<W: Outlet>(&mut self, alloc: Global, last: &[u8], to: &mut W) -> Result<(), Failed>
+        requires count { self.old.count + 1 < 2 ^ 128 }
+        requires live { IsLive (state_of self.old.core) }
+        ensures answer { (line : List ℕ) → Holds self.old.line.items self.old.over line →
+            (text : List ℕ) × LineAnswer (state_of self.old.core) (self.old.count + 1) (line ++ last.now) text (state_of self.new.core)
+            × Streams (W.sink to.old) self.old.out.items (W.sink to.new) self.new.out.items text result }
+        ensures line { self.new.line.items ≡ [] }
+        ensures over { self.new.over ≡ false }
+        ensures count { self.new.count ≡ self.old.count + 1 }
+        ensures live { IsLive (state_of self.new.core) }
+    {
+        self.count += 1;
+        match self.outcome(alloc, last) {
+            Outcome::Line(said) => put(&mut self.out, to, &said, self.count),
+            Outcome::Rows(table) => match &self.core {
+                Some(core) => dump(core.tables(), table, &mut self.out, to),
+                None => Ok(()),
+            },
+        }
+    }
+
+    /// Takes the step that the line asks for, whose last bytes these are, and begins the next line.
+    fn outcome(&mut self, alloc: Global, last: &[u8]) -> Outcome
+        requires live { IsLive (state_of self.old.core) }
+        ensures outcome { (n : ℕ) (line : List ℕ) → Holds self.old.line.items self.old.over line →
+            LineAnswer (state_of self.old.core) n (line ++ last.now) (text_of (state_of self.new.core) n result) (state_of self.new.core) }
+        ensures line { self.new.line.items ≡ [] }
+        ensures over { self.new.over ≡ false }
+        ensures count { self.new.count ≡ self.old.count }
+        ensures out { self.new.out ≡ self.old.out }
+        ensures live { IsLive (state_of self.new.core) }
+    {
+        if self.is_begun() || LINE < last.len() {
+            self.keep(last);
+            return self.kept(alloc);
+        }
+        outcome_of(&mut self.core, alloc, last)
+    }
+
+    /// A line was begun whose end was not read yet.
+    fn is_begun(&self) -> bool
+        ensures { result ≡ false → (self.now.over ≡ false) × (self.now.line.items ≡ []) }
+    {
+        self.over || !self.line.is_empty()
+    }
+
+    /// Takes the step that the kept line asks for, and begins the next line.
+    fn kept(&mut self, alloc: Global) -> Outcome
+        requires live { IsLive (state_of self.old.core) }
+        ensures outcome { (n : ℕ) (line : List ℕ) → Holds self.old.line.items self.old.over line →
+            LineAnswer (state_of self.old.core) n line (text_of (state_of self.new.core) n result) (state_of self.new.core) }
+        ensures line { self.new.line.items ≡ [] }
+        ensures over { self.new.over ≡ false }
+        ensures count { self.new.count ≡ self.old.count }
+        ensures out { self.new.out ≡ self.old.out }
+        ensures live { IsLive (state_of self.new.core) }
+    {
+        let over = self.over;
+        self.over = false;
+        if over {
+            self.line.clear();
+            return Outcome::Line(Said::BadLine);
+        }
+        let outcome = outcome_of(&mut self.core, alloc, self.line.as_slice());
+        self.line.clear();
+        outcome
+    }
+}

@@ -1,0 +1,48 @@
+//! A reader of the system and the standard output, which tell nothing.
+ghost use Rattle.std.specs.Prelude.{None};
+
+use crate::ports::{Failed, Intake, Outlet};
+use std::io::{ErrorKind, Read};
+
+#[derive(Drop)]
+pub struct Standard<T>(pub T);
+
+impl<T: Read> Intake for Standard<T> {
+    ghost source = { λ _. None };
+
+    fn read(&mut self, buf: &mut [u8]) -> Result<usize, Failed> {
+        self.0.read(buf).map_err(|_| Failed)
+    }
+}
+
+/// The standard output of a runtime.
+#[derive(Drop)]
+pub struct Printed<'a, P: Print> {
+    to: &'a P,
+    closed: bool,
+}
+
+impl<'a, P: Print> Printed<'a, P> {
+    pub fn new(to: &'a P) -> Printed<'a, P> {
+        Printed { to, closed: false }
+    }
+
+    /// A write failed because nobody reads any more.
+    pub fn is_closed(&self) -> bool {
+        self.closed
+    }
+}
+
+impl<'a, P: Print> Outlet for Printed<'a, P> {
+    ghost sink = { λ _. None };
+
+    fn write(&mut self, bytes: &[u8]) -> Result<usize, Failed> {
+        match self.to.write_all(bytes) {
+            Ok(()) => Ok(bytes.len()),
+            Err(error) => {
+                self.closed = error.kind() == ErrorKind::BrokenPipe;
+                Err(Failed)
+            }
+        }
+    }
+}

@@ -1,0 +1,18 @@
+-- Which words of a command line ask for which task.
+use Rattle.std.specs.Prelude.{◌≡◌, ◌≢◌, ℕ, List, [], ◌∷◌, ◌⊎◌, slice_index, codes}
+use Rattle.oe_tasks.specs.declared.Task.{Task}
+use Rattle.oe_tasks.specs.declared.Task.TheVariants as task
+
+-- a name that is not taken for an option: it begins with no hyphen
+abbrev pub IsPlain : List ℕ → Type 0
+IsPlain name = slice_index name 0 ≢ 45
+
+-- the words behind `script` name this file: alone, or behind `--`
+abbrev pub Names : List (List ℕ) → List ℕ → Type 0
+Names words file = ((words ≡ file ∷ []) × IsPlain file) ⊎ (words ≡ codes "--" ∷ file ∷ [])
+
+-- the program's name, `script`, and no more for standard input, or a file
+abbrev pub Asks : List (List ℕ) → Task → Type 0
+Asks (program ∷ verb ∷ rest) task.Script = (verb ≡ codes "script") × (rest ≡ [])
+Asks (program ∷ verb ∷ rest) (task.File file) = (verb ≡ codes "script") × Names rest file.now
+Asks words task = ⊥

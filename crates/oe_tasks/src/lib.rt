@@ -1,0 +1,153 @@
+#![tactic(auto)]
+//! The words of the command line.
+ghost use Rattle.std.specs.Prelude.{◌≡◌, ◌↔◌, ◌==◌, IsFalse, codes, map, slice_index, MatchOption, MatchResult};
+ghost use Rattle.oe_tasks.specs.Words.{Asks};
+ghost use Rattle.oe_tasks.specs.declared.Task.{Task};
+
+#[cfg(test)]
+mod tests;
+
+use clap::error::ErrorKind;
+use clap::{Arg, Command, Error};
+use std::alloc::Global;
+use std::convert::AsStr;
+
+/// What the program is asked to do.
+#[derive(Clone, Copy, Debug, PartialEq, Eq)]
+pub enum Task<'a> {
+    /// To answer the script on standard input.
+    Script,
+    /// To answer the script in the file of that name.
+    File(&'a str),
+}
+
+const ABOUT: &str =
+    "An order-entry server with the tables, transactions and audits of TPC Benchmark C 5.11";
+
+const SCRIPT: &str = "Answers the script in FILE, or on standard input";
+
+const VERSION: &str = "0.1.0";
+
+const USAGE: &str = "oe_server script < FILE
+       oe_server script FILE
+       oe_server --help | --version";
+
+const FORMS: &str = "\
+A script is lines; each is answered on standard output before the program waits for more.
+A line is words parted by one space, at most 1024 bytes, and a newline. Terminals T are 1
+to 64. What stands behind the colon is the answer:
+
+  open W C I E       comes first, and once: W warehouses (1 to 16) with 10 districts each,
+                     C customers in each district (1 to 3000), I items (1 to 100000) and
+                     E undo extents (2 to 4096): opened
+  begin T payment WAREHOUSE DISTRICT CUSTOMER_WAREHOUSE CUSTOMER_DISTRICT CUSTOMER AMOUNT STAMP
+                     terminal T begins a payment by customer number: warehouses are 1 to
+                     16, districts 1 to 10, customers 1 to 3000, amounts 1.00 to 5000.00,
+                     stamps YYYY-MM-DDTHH:MM:SS of the years 1900 to 2100: begun
+  next T             carries out the next step of T's transaction: more, or, at its end,
+                     commit MOMENT payment CUSTOMER LAST_NAME CREDIT BALANCE
+  run T              carries out its steps up to the first that is not answered more: that
+                     step's answer alone
+  save T             marks where T's transaction stands: saved
+  back T             undoes its steps since the mark: back
+  rollback T         undoes all its steps, and ends it: rolled back
+  audit N M          audits condition N (1 or 2) of the newest moment, while nothing is
+                     open; M is now, or its number (0 to 999999999999): condition N holds,
+                     or condition N fails at, and the key of the first row at which it does
+  dump TABLE         shows warehouse, district, customer, history, neworder, order,
+                     orderline, item or stock: a line for each row, and rows COUNT
+
+A step that is refused is answered error NUMBER CAUSE, and changes nothing; the next line
+is answered as ever. Any other line is answered error 1 BadLine and its number from 1.
+
+The status is 0 at the end of the input, whatever the answers; 1 after a fault, which
+standard error names (fault: read, fault: write, fault: output closed, fault: no memory),
+and for a FILE that can't be opened; and 2 where the command line is none of these.
+README.md has a worked script, and docs/MODEL.md says what each step does.";
+
+/// What these words ask for, of which the first is the program's name.
+///
+/// An error is a command line that is none of the forms, a request for help, or a want of memory.
+pub fn job<'a, S: AsStr>(alloc: Global, words: &'a [S]) -> Result<Task<'a>, Error>
+    ensures { MatchResult result (Asks (map S.text words.now)) (λ _. (task : Task) → Asks (map S.text words.now) task → ⊥) }
+{
+    match asked(words) {
+        Some(task) => Ok(task),
+        None => Err(refusal(alloc, words)),
+    }
+}
+
+/// The task that these words ask for.
+fn asked<'a, S: AsStr>(words: &'a [S]) -> Option<Task<'a>>
+    ensures { MatchOption result ((task : Task) → Asks (map S.text words.now) task → ⊥) (Asks (map S.text words.now)) }
+{
+    if words.len() < 2 || words[1].as_str() != "script" {
+        return None;
+    }
+    match words.len() {
+        2 => Some(Task::Script),
+        3 => {
+            let name = words[2].as_str();
+            if is_option(name) {
+                return None;
+            }
+            Some(Task::File(name))
+        }
+        4 => {
+            let mark = words[2].as_str();
+            if is_no_mark(mark) {
+                return None;
+            }
+            Some(Task::File(words[3].as_str()))
+        }
+        _ => None,
+    }
+}
+
+/// A word that is taken for an option.
+fn is_option(word: &str) -> bool
+    ensures { result ≡ (slice_index word.now 0 == 45) }
+{
+    word.starts_with('-')
+}
+
+/// Not the mark behind which no word is an option.
+fn is_no_mark(word: &str) -> bool
+    ensures { IsFalse result ↔ (word.now ≡ codes "--") }
+{
+    word != "--"
+}
+
+/// Why they ask for none.
+fn refusal<S: AsStr>(alloc: Global, words: &[S]) -> Error {
+    match explained(alloc, words) {
+        Ok(error) => error,
+        Err(error) => error,
+    }
+}
+
+/// The same, or a want of memory.
+fn explained<S: AsStr>(alloc: Global, words: &[S]) -> Result<Error, Error> {
+    let mut command = grammar(alloc)?;
+    match command.try_get_matches_from_mut(words) {
+        Ok(_) => Ok(command.error(ErrorKind::UnknownArgument, "FILE is missing")?),
+        Err(error) => Ok(error),
+    }
+}
+
+/// The command line's grammar.
+fn grammar<'a>(alloc: Global) -> Result<Command<'a>, Error> {
+    let script = Command::new(alloc, "script")
+        .about(SCRIPT)
+        .override_usage(USAGE)
+        .after_help(FORMS)
+        .arg(Arg::new(alloc, "FILE").help("The script; standard input where it is left out"))?;
+    let command = Command::new(alloc, "oe_server")
+        .about(ABOUT)
+        .version(VERSION)
+        .override_usage(USAGE)
+        .after_help(FORMS)
+        .subcommand_required(true)
+        .subcommand(script)?;
+    Ok(command)
+}
