@@ -9,14 +9,10 @@ mod faults;
 #[cfg(test)]
 mod fronts;
 #[cfg(test)]
-mod hostile;
-#[cfg(test)]
 mod lines;
 #[cfg(test)]
 mod long_lines;
 #[cfg(test)]
 mod memory;
-#[cfg(test)]
-mod traces;
 #[cfg(test)]
 mod trials;
