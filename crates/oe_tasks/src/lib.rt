@@ -57,13 +57,14 @@ to 64. What stands behind the colon is the answer:
   dump TABLE         shows warehouse, district, customer, history, neworder, order,
                      orderline, item or stock: a line for each row, and rows COUNT
 
-A step that is refused is answered error NUMBER CAUSE, and changes nothing; the next line
-is answered as ever. Any other line is answered error 1 BadLine and its number from 1.
+A step that is refused is answered error NUMBER CAUSE. It changes nothing, but that an
+Overflow at a step and NoCustomer roll their transaction back; the next line is answered as
+ever. Any other line is answered error 1 BadLine and its number from 1.
 
 The status is 0 at the end of the input, whatever the answers; 1 after a fault, which
 standard error names (fault: read, fault: write, fault: output closed, fault: no memory),
 and for a FILE that can't be opened; and 2 where the command line is none of these.
-README.md has a worked script, and docs/MODEL.md says what each step does.";
+docs/SCRIPTS.md is the manual: steps, locks, refusals, columns and worked scripts.";
 
 /// What these words ask for, of which the first is the program's name.
 ///

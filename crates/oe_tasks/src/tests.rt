@@ -68,7 +68,7 @@ const HELP: [&str; 20] = [
     "0 at the end of the input",
     "fault: read, fault: write, fault: output closed, fault: no memory",
     "README.md",
-    "docs/MODEL.md",
+    "docs/SCRIPTS.md",
 ];
 
 /// Help, which goes to standard output; asked again, where memory was refused.
