@@ -20,6 +20,27 @@ pub(crate) fn small(alloc: Global, customers: u32) -> Option<Tables> {
     }
 }
 
+/// Two warehouses, 20 customers a district, and 40 items; made the second time, where memory was refused.
+pub(crate) fn two_warehouses(alloc: Global) -> Option<Tables> {
+    let scale = Scale {
+        warehouses: WarehouseNumber::new(2)?,
+        customers: CustomerNumber::new(20)?,
+        items: ItemNumber::new(40)?,
+    };
+    match populate(alloc, scale) {
+        Ok(tables) => Some(tables),
+        Err(_) => populate(alloc, scale).ok(),
+    }
+}
+
+/// The district with these numbers.
+pub(crate) fn district_of(warehouse: u32, district: u32) -> Option<DistrictKey> {
+    Some(DistrictKey {
+        warehouse: WarehouseNumber::new(warehouse)?,
+        district: DistrictNumber::new(district)?,
+    })
+}
+
 /// District 1 of warehouse 1.
 pub(crate) fn district() -> Option<DistrictKey> {
     Some(DistrictKey {

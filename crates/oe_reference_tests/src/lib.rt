@@ -13,3 +13,5 @@ mod orders;
 mod payments;
 #[cfg(test)]
 mod queries;
+#[cfg(test)]
+mod remote;
