@@ -48,7 +48,7 @@ fn refused_command_lines(rt: HostRuntime) {
 }
 
 /// What help has to say: each line form, the ranges, the statuses, and where to read on.
-const HELP: [&str; 20] = [
+const HELP: [&str; 19] = [
     "oe_server script < FILE\n",
     "oe_server script FILE\n",
     "  open W C I E ",
@@ -67,7 +67,6 @@ const HELP: [&str; 20] = [
     "error 1 BadLine",
     "0 at the end of the input",
     "fault: read, fault: write, fault: output closed, fault: no memory",
-    "README.md",
     "docs/SCRIPTS.md",
 ];
 

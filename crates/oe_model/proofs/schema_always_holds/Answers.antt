@@ -12,4 +12,10 @@ kept : IsKeptByChanges system Meets
 kept = record { between = λ f r g. g.meets; kept = accepted_meets }
 
 pub returns : goal.returns
-returns c = record { of_tables = holds_of_tables system laws Meets kept; while_undone = holds_while_undone system laws Meets kept; while_rewound = holds_while_rewound system laws Meets kept; in_turn = each_goes_back system laws Meets kept; in_turn_here = each_goes_back_here system laws Meets kept }
+returns c = record {
+  of_tables = holds_of_tables system laws Meets kept;
+  while_undone = holds_while_undone system laws Meets kept;
+  while_rewound = holds_while_rewound system laws Meets kept;
+  in_turn = each_goes_back system laws Meets kept;
+  in_turn_here = each_goes_back_here system laws Meets kept;
+}
