@@ -207,4 +207,17 @@ impl<K: TableKey, R> Table<K, R> {
         let places = self.slots.range(from..to);
         Candidates { places }
     }
+
+    /// The keys from `from` up to `to`, both included, that have a place, in their order, each with its row or,
+    /// where it was blanked, `None`.
+    pub fn candidates_inclusive(&self, from: K, to: K) -> Candidates<'_, K, R>
+    where
+        K: Drop,
+        requires { IsLeBy K.cmp from to }
+        ensures places { result ≡ entries_between K.cmp (Included from) (Included to) self.now }
+        ensures ordered { IsStrictlySortedBy K.cmp (keys_of self.now) }
+    {
+        let places = self.slots.range(from..=to);
+        Candidates { places }
+    }
 }
