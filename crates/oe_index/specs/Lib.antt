@@ -1,0 +1,4 @@
+-- What the clauses of this crate cite.
+pub mod Orders
+pub mod Groups
+pub mod Sets
