@@ -1,5 +1,5 @@
 //! What several tests use.
-use oe_index::{IndexEntry, Index};
+use oe_index::{Index, IndexEntry};
 use oe_keys::DistrictKey;
 use oe_values::Number;
 
