@@ -4,17 +4,18 @@ use Rattle.oe_theory.specs.World.{World, newest, tables, at}
 use Rattle.oe_theory.specs.Next as theory
 use Rattle.oe_theory.specs.Next.{Next, Runs, Begin, Advance, Save, Back, Rollback, Read, Purge, Rewind, Audit, Begun, More, Committed, Saved, Gone_back, Rolled_back, Replied, Audited, Purged, Rewound, Aborted, Rejected, Busy, Undo_full, Not_open, Already_open, Too_old, Future, Not_quiet, No_memory, audits}
 use Rattle.oe_theory.specs.Theorems.{IsReached}
-use Rattle.oe_theory.proofs.Theorems.{run_is_reached, commit_is_whole, history_is_serial, rollback_leaves_no_trace, versions_are_good, tables_when_quiet}
+use Rattle.oe_theory.specs.StepTheorems.{IsEnding}
+use Rattle.oe_theory.proofs.Theorems.{run_is_reached, history_is_serial, rollback_leaves_no_trace, tables_when_quiet}
+use Rattle.oe_theory.proofs.StepTheorems.{endings_are_whole, audit_ends_none}
 use Rattle.oe_steps.specs.declared.steps.Step.{Step}
 use Rattle.oe_steps.specs.declared.answers.Answer.{Answer}
 use Rattle.oe_model.specs.Audits as model
-use Rattle.oe_model.specs.Conditions.{Good}
 use Rattle.oe_model.specs.Rows.{Rows}
-use Rattle.oe_model.specs.Headline.{Conditions}
 use Rattle.oe_model.specs.System.{system}
 use Rattle.oe_model.proofs.SystemLaws.{laws}
+use Rattle.oe_model.proofs.ConsistencyFacts.{consistent}
 use Rattle.oe_core.specs.Steps.{step_in, answer_in, Serves, AuditsOf}
-use Rattle.oe_core.specs.Run.{Served, is_refused_audit, steps_but, answers_but, IsWholeAt, AreWhole, Ran}
+use Rattle.oe_core.specs.Run.{Served, is_refused_audit, steps_but, answers_but, AreWhole, Ran}
 
 -- one more step at the end
 served_more : (w v w' : World system) (is : List Step) (ys : List Answer) (i : Step) (a : Answer) → Served w is ys v → Serves v (step_in i) (answer_in i a) w'
@@ -108,51 +109,30 @@ still_reached w v (Purge m) a r h = one_run w v (Purge m) a r h
 still_reached w v (Rewind m) a r h = one_run w v (Rewind m) a r h
 still_reached w v (Audit m c) a r h = subst (IsReached system) (sym h.1) r
 
-whole_at : (w v : World system) (i : theory.Step system) (a : theory.Answer system) → IsReached system w → Serves w i a v → IsWholeAt w i a v
-whole_at w v (Begin t q) a r h = tt
-whole_at w v (Save t) a r h = tt
-whole_at w v (Back t) a r h = tt
-whole_at w v (Rollback t) a r h = tt
-whole_at w v (Read m q) a r h = tt
-whole_at w v (Purge m) a r h = tt
-whole_at w v (Rewind m) a r h = tt
-whole_at w v (Audit m c) a r h = tt
-whole_at w v (Advance t) Begun r h = tt
-whole_at w v (Advance t) More r h = tt
-whole_at w v (Advance t) (Committed k y) r h = commit_is_whole system laws w v t k y r h
-whole_at w v (Advance t) Saved r h = tt
-whole_at w v (Advance t) Gone_back r h = tt
-whole_at w v (Advance t) Rolled_back r h = tt
-whole_at w v (Advance t) (Replied f) r h = tt
-whole_at w v (Advance t) (Purged k) r h = tt
-whole_at w v (Advance t) (Rewound k) r h = tt
-whole_at w v (Advance t) (Aborted e) r h = tt
-whole_at w v (Advance t) (Rejected e) r h = tt
-whole_at w v (Advance t) (Busy n u) r h = tt
-whole_at w v (Advance t) Undo_full r h = tt
-whole_at w v (Advance t) Not_open r h = tt
-whole_at w v (Advance t) Already_open r h = tt
-whole_at w v (Advance t) (Too_old k) r h = tt
-whole_at w v (Advance t) (Future k) r h = tt
-whole_at w v (Advance t) (Not_quiet n) r h = tt
-whole_at w v (Advance t) No_memory r h = tt
-whole_at w v (Advance t) (Audited x) r h = tt
+whole_at : (w v : World system) (i : theory.Step system) (a : theory.Answer system) → IsReached system w → Serves w i a v → IsEnding system w a i v
+whole_at w v (Begin t q) a r h = endings_are_whole system laws w v (Begin t q) a r h
+whole_at w v (Advance t) a r h = endings_are_whole system laws w v (Advance t) a r h
+whole_at w v (Save t) a r h = endings_are_whole system laws w v (Save t) a r h
+whole_at w v (Back t) a r h = endings_are_whole system laws w v (Back t) a r h
+whole_at w v (Rollback t) a r h = endings_are_whole system laws w v (Rollback t) a r h
+whole_at w v (Read m q) a r h = endings_are_whole system laws w v (Read m q) a r h
+whole_at w v (Purge m) a r h = endings_are_whole system laws w v (Purge m) a r h
+whole_at w v (Rewind m) a r h = endings_are_whole system laws w v (Rewind m) a r h
+whole_at w v (Audit m c) a r h = audit_ends_none system laws w v a m c
 
 are_whole : (w w' : World system) (is : List Step) (ys : List Answer) → IsReached system w → Served w is ys w' → AreWhole w is ys w'
-are_whole w w' [] [] r h = h
+are_whole w w' [] [] r h = (consistent w r, h)
 are_whole w w' [] (a ∷ ys) r h = absurd h
 are_whole w w' (i ∷ is) [] r h = absurd h
-are_whole w w' (i ∷ is) (a ∷ ys) r h =
-    (h.0, h.1, whole_at w h.0 (step_in i) (answer_in i a) r h.1, are_whole h.0 w' is ys (still_reached w h.0 (step_in i) (answer_in i a) r h.1) h.2)
-
-of_good : (f : ℕ → ℕ) (r : Rows) → Good f r → Conditions r
-of_good f r g = record { condition_1 = g.condition_1; condition_2 = g.condition_2; condition_3 = g.condition_3; condition_4 = g.condition_4 }
+are_whole w w' (i ∷ is) (a ∷ ys) r h = (
+  consistent w r,
+  (h.0, h.1, whole_at w h.0 (step_in i) (answer_in i a) r h.1, are_whole h.0 w' is ys (still_reached w h.0 (step_in i) (answer_in i a) r h.1) h.2),
+)
 
 pub ran_so : (w w' : World system) (is : List Step) (ys : List Answer) → IsReached system w → Served w is ys w' → Ran w is ys w'
 ran_so w w' is ys r h =
     let runs = runs_of w w' is ys h in
     let reached : IsReached system w' = run_is_reached system laws w w' (steps_but is ys) (answers_but is ys) r runs in
-    let good = λ (m : ℕ). of_good _ _ (versions_are_good system laws w' reached m) in
     record {
       runs = runs;
       reached = reached;
@@ -161,6 +141,6 @@ ran_so w w' is ys r h =
           rollback_leaves_no_trace system laws w w' before after said later t q r l
           (subst (λ z. Runs system w z (said ++ Begun ∷ later) w') e (subst (λ z. Runs system w (steps_but is ys) z w') g runs)) k;
       serial = history_is_serial system laws w' reached;
-      conditions = good;
-      when_quiet = λ quiet. subst Conditions (sym (tables_when_quiet system laws w' quiet)) (good (newest system w'));
+      conditions = (consistent w' reached).of_versions;
+      when_quiet = (consistent w' reached).when_quiet;
     }

@@ -1,14 +1,15 @@
 -- A run of steps one after another, and what follows of it.
-use Rattle.std.specs.Prelude.{◌≡◌, ℕ, suc, Bool, true, false, cond, List, [], ◌∷◌, ◌++◌, length}
-use Rattle.oe_theory.specs.World.{World, at, newest, tables, IsSerial}
+use Rattle.std.specs.Prelude.{◌≡◌, ℕ, Bool, true, false, cond, List, [], ◌∷◌, ◌++◌, length}
+use Rattle.oe_theory.specs.World.{World, at, tables, IsSerial}
 use Rattle.oe_theory.specs.Next as theory
-use Rattle.oe_theory.specs.Next.{IsQuiet, Begin, Advance, Begun, Committed, Runs, events, steps_of, answers_of}
+use Rattle.oe_theory.specs.Next.{IsQuiet, Begin, Begun, Runs, events, steps_of, answers_of}
 use Rattle.oe_theory.specs.Erase.{is_rolled_back, without}
-use Rattle.oe_theory.specs.Theorems.{IsReached, Is_whole}
+use Rattle.oe_theory.specs.Theorems.{IsReached}
+use Rattle.oe_theory.specs.StepTheorems.{IsEnding}
 use Rattle.oe_requests.specs.declared.requests.Request.{Request}
 use Rattle.oe_steps.specs.declared.steps.Step.{Step}
 use Rattle.oe_steps.specs.declared.answers.Answer.{Answer}
-use Rattle.oe_model.specs.Headline.{Conditions}
+use Rattle.oe_model.specs.Headline.{Conditions, Is_consistent}
 use Rattle.oe_model.specs.System.{system}
 use Rattle.oe_core.specs.Steps.{step_in, answer_in, Serves}
 
@@ -36,20 +37,19 @@ answers_but (i ∷ is) (a ∷ ys) = cond (is_refused_audit (step_in i) (answer_i
 answers_but [] ys = []
 answers_but (i ∷ is) [] = []
 
--- a commit is the whole effect of its transaction on the newest version, and makes the next moment
-abbrev pub IsWholeAt : World system → theory.Step system → theory.Answer system → World system → Type 0
-IsWholeAt w (theory.Advance t) (theory.Committed m y) w' = Is_whole system w t y w' × (m ≡ newest system w') × (newest system w' ≡ suc (newest system w))
-IsWholeAt w i a w' = Unit {0}
-
--- so it is with each step, one after another
+-- In each world that is passed conditions 1 to 4 (clauses 3.3.2.1 to 3.3.2.4) hold of the version of each moment, and of the tables
+-- when none is open. A row that ends its transaction commits its whole effect on the newest version and makes the next moment, or
+-- rolls it back where that effect is none, with the program's own refusal there
 abbrev pub AreWhole : World system → List Step → List Answer → World system → Type 0
-AreWhole w [] [] w' = w ≡ w'
-AreWhole w (i ∷ is) (a ∷ ys) w' = (v : World system) × Serves w (step_in i) (answer_in i a) v × IsWholeAt w (step_in i) (answer_in i a) v × AreWhole v is ys w'
+AreWhole w [] [] w' = Is_consistent w × (w ≡ w')
+AreWhole w (i ∷ is) (a ∷ ys) w' =
+    Is_consistent w
+    × ((v : World system) × Serves w (step_in i) (answer_in i a) v × IsEnding system w (answer_in i a) (step_in i) v × AreWhole v is ys w')
 AreWhole w [] (a ∷ ys) w' = ⊥
 AreWhole w (i ∷ is) [] w' = ⊥
 
 -- What follows of a run from a world that steps led to. Without the audits that were refused it is a run of the machine; each of its
--- commits is whole; and a transaction that is rolled back in it leaves no trace
+-- transactions ends whole, and conditions 1 to 4 hold all the way; and a transaction that is rolled back in it leaves no trace
 pub record Ran (w : World system) (is : List Step) (ys : List Answer) (w' : World system) : Type 0 where
   pub runs : Runs system w (steps_but is ys) (answers_but is ys) w'
   pub reached : IsReached system w'
