@@ -113,17 +113,6 @@ pub(crate) fn in_short(answer: &Answer) -> Said {
     }
 }
 
-/// A step's answer; that of its second try, where memory was refused.
-pub(crate) fn answer(core: &mut Core, step: &Step) -> Answer
-    requires { IsStep step.now }
-{
-    let answer = core.step(step.copied());
-    if answer == Answer::Refused(Refusal::NoMemory) {
-        return core.step(step.copied());
-    }
-    answer
-}
-
 /// What an act is answered.
 fn told(core: &mut Core, act: &Act) -> Option<Said> {
     if let Act::Look(warehouse, customer) = act {
@@ -131,7 +120,7 @@ fn told(core: &mut Core, act: &Act) -> Option<Said> {
         return Some(Said::Money(warehouse, district, customer));
     }
     let step = step_of(act)?;
-    Some(in_short(&answer(core, &step)))
+    Some(in_short(&core.step(step)))
 }
 
 /// Carries out the acts one after another, each of which is to be answered so.

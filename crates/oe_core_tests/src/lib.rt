@@ -1,5 +1,5 @@
 //! Tests of the core, in a crate of their own, so that the core is proved once. They show what no clause says: that the
-//! calls succeed where there is memory, and go on after a growth was refused.
+//! calls succeed where there is memory.
 #![tactic(auto)]
 
 #[cfg(test)]

@@ -27,7 +27,7 @@ pub(crate) fn district(warehouse: u32) -> Option<DistrictKey> {
     })
 }
 
-// The change after which customer 2 of warehouse 1 has made 9,999 payments; `None` where memory was refused.
+// The change after which customer 2 of warehouse 1 has made 9,999 payments.
 fn wearing(alloc: Global, tables: &Tables) -> Option<Change> {
     let key = &district(1)?.customer(CustomerNumber::new(2)?);
     let mut row = tables.customer(*key)?.copied();
@@ -35,20 +35,12 @@ fn wearing(alloc: Global, tables: &Tables) -> Option<Change> {
     Some(Change::UpdateCustomer(*key, Boxed::new(alloc, row).ok()?))
 }
 
-// The same; made the second time, where memory was refused.
-fn wear(rt: &impl Abort, alloc: Global, tables: &Tables) -> Change {
-    match wearing(alloc, tables) {
-        Some(change) => change,
-        None => wearing(alloc, tables).expect(rt, "a change"),
-    }
-}
-
 // The population in which it was made.
 fn worn(rt: &impl Abort, alloc: Global, scale: Scale) -> Option<Tables> {
     let Ok(mut tables) = populate(alloc, scale) else {
         return None;
     };
-    let change = wear(rt, alloc, &tables);
+    let change = wearing(alloc, &tables).expect(rt, "a change");
     let is_made = apply(&mut tables, change).is_ok();
     assert!(rt; is_made);
     Some(tables)
@@ -63,12 +55,8 @@ fn opened(rt: &impl Abort, alloc: Global) -> Option<Core> {
     Core::open(alloc, tables, 64).ok()
 }
 
-/// A core on the population in which customer 2 of warehouse 1 has made 9,999 payments; made the second time, where memory
-/// was refused.
+/// A core on the population in which customer 2 of warehouse 1 has made 9,999 payments.
 pub(crate) fn open(rt: &impl Abort, alloc: Global) -> Core {
-    if let Some(core) = opened(rt, alloc) {
-        return core;
-    }
     opened(rt, alloc).expect(rt, "a core")
 }
 
