@@ -1,7 +1,5 @@
 //! Engines, transactions and payments to test with.
 ghost use Rattle.std.specs.Prelude.{IfSome};
-ghost use Rattle.oe_engine.specs.View.{view_of};
-ghost use Rattle.oe_engine.specs.Calls.{CanUnwind};
 ghost use Rattle.oe_payment.specs.Program.{IsByNumber};
 
 use oe_engine::{Engine, Tx};
@@ -43,12 +41,9 @@ fn opened(rt: &impl Abort, alloc: Global, name: u32) -> Result<Engine, NoMemory>
     Engine::open(alloc, populate(alloc, scale)?, 2, name)
 }
 
-/// An engine of that name on one warehouse; opened the second time, where memory was refused.
+/// An engine of that name on one warehouse.
 pub(crate) fn engine(rt: &impl Abort, alloc: Global, name: u32) -> Engine {
-    match opened(rt, alloc, name) {
-        Ok(engine) => engine,
-        Err(_) => opened(rt, alloc, name).expect(rt, "an engine"),
-    }
+    opened(rt, alloc, name).expect(rt, "an engine")
 }
 
 /// A payment of 250.00 in district 1 by a customer of it.
@@ -65,13 +60,8 @@ pub(crate) fn payment(customer: u32) -> Option<PaymentRequest>
     })
 }
 
-/// A terminal's transaction; begun the second time, where memory was refused.
-pub(crate) fn begin(rt: &impl Abort, engine: &mut Engine, terminal: Terminal) -> Tx
-    ensures { CanUnwind ((view_of engine.new).undo.active result.terminal) (view_of engine.new).rows }
-{
-    if let Ok(tx) = engine.begin(terminal) {
-        return tx;
-    }
+/// A terminal's transaction.
+pub(crate) fn begin(rt: &impl Abort, engine: &mut Engine, terminal: Terminal) -> Tx {
     match engine.begin(terminal) {
         Ok(tx) => tx,
         Err(_) => panic!(rt; "not begun"),

@@ -6,18 +6,9 @@ use oe_requests::Refusal;
 use oe_values::Terminal;
 use std::process::Abort;
 
-/// Takes a name in a mode; the second time, where memory was refused.
-fn take(rt: &impl Abort, engine: &mut Engine, tx: &Tx, name: &Name, mode: Mode) {
-    if engine.lock(tx, *name, mode).is_ok() {
-        return;
-    }
-    let is_taken = engine.lock(tx, *name, mode).is_ok();
-    assert!(rt; is_taken);
-}
-
 /// Takes a name in a mode, and holds it so.
 fn hold(rt: &impl Abort, engine: &mut Engine, tx: &Tx, name: &Name, mode: Mode) {
-    take(rt, engine, tx, name, mode);
+    assert!(rt; engine.lock(tx, *name, mode) == Ok(()));
     assert!(rt; engine.held(tx, name) == Some(mode));
 }
 

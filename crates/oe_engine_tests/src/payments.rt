@@ -1,7 +1,4 @@
 //! A payment of 250.00 on the population, a row at a time.
-ghost use Rattle.oe_engine.specs.View.{view_of};
-ghost use Rattle.oe_engine.specs.Calls.{CanUnwind};
-
 use crate::fixtures::{begin, commit, district, engine, payment};
 use oe_engine::{Engine, Progress, Tx};
 use oe_payment::Program;
@@ -22,32 +19,14 @@ fn money(tables: &Tables, customer: u32) -> Option<(u64, u64, i64)> {
     ))
 }
 
-/// A row of the payment, after which what the transaction has changed can be put back.
-fn next(engine: &mut Engine, program: &mut Program, tx: &Tx) -> Progress
-    requires { CanUnwind ((view_of engine.old).undo.active tx.now.terminal) (view_of engine.old).rows }
-    ensures { CanUnwind ((view_of engine.new).undo.active tx.now.terminal) (view_of engine.new).rows }
-{
-    engine.tables().schema_holds();
-    program.next(engine, tx)
-}
-
-/// A row that is done; the second time, where memory was refused.
-fn more(rt: &impl Abort, engine: &mut Engine, program: &mut Program, tx: &Tx)
-    requires { CanUnwind ((view_of engine.old).undo.active tx.now.terminal) (view_of engine.old).rows }
-    ensures { CanUnwind ((view_of engine.new).undo.active tx.now.terminal) (view_of engine.new).rows }
-{
-    if matches!(next(engine, program, tx), Progress::More) {
-        return;
-    }
-    let is_done = matches!(next(engine, program, tx), Progress::More);
+/// A row of the payment is done.
+fn more(rt: &impl Abort, engine: &mut Engine, program: &mut Program, tx: &Tx) {
+    let is_done = matches!(program.next(engine, tx), Progress::More);
     assert!(rt; is_done);
 }
 
 /// The four rows of a payment, all of them done.
-fn make(rt: &impl Abort, engine: &mut Engine, program: &mut Program, tx: &Tx)
-    requires { CanUnwind ((view_of engine.old).undo.active tx.now.terminal) (view_of engine.old).rows }
-    ensures { CanUnwind ((view_of engine.new).undo.active tx.now.terminal) (view_of engine.new).rows }
-{
+fn make(rt: &impl Abort, engine: &mut Engine, program: &mut Program, tx: &Tx) {
     more(rt, engine, program, tx);
     more(rt, engine, program, tx);
     more(rt, engine, program, tx);

@@ -13,41 +13,43 @@ fn ytd(engine: &Engine, key: &WarehouseKey) -> Option<u64> {
 }
 
 /// The warehouse's row with a W_YTD of 1.00.
-fn row(engine: &Engine, key: &WarehouseKey) -> Option<Warehouse> {
+fn with_ytd(engine: &Engine, key: &WarehouseKey) -> Option<Warehouse> {
     let mut row = engine.tables().warehouse(*key)?.copied();
     row.ytd = YearToDate::new(100)?;
     Some(row)
 }
 
-/// W_YTD becomes 1.00.
-fn change(rt: &impl Abort, engine: &Engine, key: &WarehouseKey) -> Change {
-    Change::UpdateWarehouse(*key, row(engine, key).expect(rt, "a row"))
+/// W_YTD becomes 1.00, if the engine takes the change.
+fn make(rt: &impl Abort, engine: &mut Engine, tx: &Tx, key: &WarehouseKey) -> Result<(), Refusal> {
+    let row = with_ytd(engine, key).expect(rt, "a row");
+    engine.change(tx, Change::UpdateWarehouse(*key, row))
 }
 
-/// Makes the change; the second time, where memory was refused.
-fn make(rt: &impl Abort, engine: &mut Engine, tx: &Tx, key: &WarehouseKey) {
-    let first = change(rt, engine, key);
-    if engine.change(tx, first).is_ok() {
-        return;
+/// The same with a lock that is not enough for it, which only a transaction that isn't open here may ask for.
+fn make_shared(
+    rt: &impl Abort,
+    engine: &mut Engine,
+    tx: &Tx,
+    key: &WarehouseKey,
+) -> Result<(), Refusal> {
+    if engine.is_open(tx) {
+        panic!(rt; "open");
     }
-    let second = change(rt, engine, key);
-    let is_made = engine.change(tx, second).is_ok();
-    assert!(rt; is_made);
+    let row = with_ytd(engine, key).expect(rt, "a row");
+    let lock = Lock {
+        name: Name::Warehouse(*key),
+        mode: Mode::Shared,
+    };
+    engine.row(tx, Some(lock), Some(Change::UpdateWarehouse(*key, row)))
 }
 
 /// Nothing is done for a transaction of another engine.
 fn refuse(rt: &impl Abort, engine: &mut Engine, tx: &Tx, key: &WarehouseKey) {
     let name = Name::Warehouse(*key);
-    let lock = Lock {
-        name,
-        mode: Mode::Shared,
-    };
     let not_open = Err(Refusal::NotOpen);
-    let first = change(rt, engine, key);
-    let second = change(rt, engine, key);
-    assert!(rt; engine.row(tx, Some(lock), Some(first)) == not_open);
+    assert!(rt; make_shared(rt, engine, tx, key) == not_open);
     assert!(rt; engine.lock(tx, name, Mode::Shared) == not_open);
-    assert!(rt; engine.change(tx, second) == not_open);
+    assert!(rt; make(rt, engine, tx, key) == not_open);
     assert!(rt; engine.held(tx, &name).is_none());
     assert!(rt; engine.savepoint(tx) == Mark::start());
 }
@@ -62,9 +64,6 @@ fn by_commit(rt: &impl Abort, engine: &mut Engine, tx: Tx, reply: Reply) -> Tx {
 
 /// And so does a rollback.
 fn by_rollback(rt: &impl Abort, engine: &mut Engine, tx: Tx) -> Tx {
-    if engine.is_open(&tx) {
-        panic!(rt; "open");
-    }
     match engine.rollback(tx) {
         Ok(()) => panic!(rt; "rolled back"),
         Err(tx) => tx,
@@ -74,7 +73,7 @@ fn by_rollback(rt: &impl Abort, engine: &mut Engine, tx: Tx) -> Tx {
 /// The own transaction makes a change, as if the other had never come.
 fn go_on(rt: &impl Abort, home: &mut Engine, own: Tx, key: &WarehouseKey) {
     assert!(rt; ytd(home, key) == Some(100_000));
-    make(rt, home, &own, key);
+    assert!(rt; make(rt, home, &own, key) == Ok(()));
     assert!(rt; ytd(home, key) == Some(100));
     assert!(rt; home.held(&own, &Name::Warehouse(*key)) == Some(Mode::Exclusive));
     assert!(rt; home.open_count() == 1);
