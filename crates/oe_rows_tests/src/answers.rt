@@ -1,135 +1,29 @@
-//! The texts of answers, at worked values.
-use crate::made::{assert_shown, district_key};
+//! The texts of answers that no script gets yet, at worked values.
+use crate::made::district_key;
 use oe_keys::Key;
 use oe_requests::{
-    Brand, DeliveredOrder, DistrictDelivery, LineReply, NewOrderReply, OrderStatus, PaymentReply,
-    QueryReply, RenameReply, Reply, StatusLine, StatusReply,
+    Brand, DeliveredOrder, DistrictDelivery, LineReply, NewOrderReply, OrderStatus, QueryReply,
+    RenameReply, Reply, StatusLine, StatusReply,
 };
 use oe_rows::Credit;
 use oe_steps::{Answer, Condition, Verdict};
-use oe_texts::{Pending, answer, audited, has_room, opened};
-use oe_values::{Amount, Balance, Cents, FirstName, LastName, Lines, Moment, Number, Stamp, Text};
+use oe_texts::{Pending, answer, audited};
+use oe_values::{
+    Amount, Balance, Carrier, Cents, FirstName, LastName, Lines, Moment, Number, Stamp, Text,
+};
 use std::process::Abort;
 
+/// The answer's line is that one. Nothing is shown of an answer that could not be made.
 fn assert_answer(rt: &impl Abort, given: Option<Answer>, want: &str) {
     let mut out = Pending::new();
     if let Some(given) = &given {
         answer(&mut out, given);
     }
-    assert_shown(rt, &Some(out), want);
+    assert_eq!(rt; out.as_slice(), want.as_bytes(), "{want}");
 }
 
-fn assert_replied(rt: &impl Abort, reply: Option<Reply>, want: &str) {
-    let mut out = Pending::new();
-    if let (Some(reply), Some(moment)) = (reply, Moment::new(1)) {
-        answer(&mut out, &Answer::Committed(moment, reply));
-    }
-    assert_shown(rt, &Some(out), want);
-}
-
-#[test]
-fn short_answers(rt: HostRuntime) {
-    let last = Moment::new(999_999_999_999).expect(&rt, "a moment");
-    for (given, want) in [
-        (Answer::Begun, "begun\n"),
-        (Answer::More, "more\n"),
-        (Answer::Saved, "saved\n"),
-        (Answer::Back, "back\n"),
-        (Answer::RolledBack, "rolled back\n"),
-        (Answer::Purged(last), "purged 999999999999\n"),
-        (Answer::Rewound(last), "rewound 999999999999\n"),
-    ] {
-        assert_answer(&rt, Some(given), want);
-    }
-}
-
-fn verdicts() -> Option<Pending> {
-    let fails = Verdict::Fails(Key::District(district_key(1, 3)?));
-    let mut out = Pending::new();
-    opened(&mut out);
-    audited(&mut out, Condition::Second, &fails);
-    audited(&mut out, Condition::Fourth, &Verdict::Holds);
-    answer(&mut out, &Answer::Audited(fails));
-    if has_room(&out) { Some(out) } else { None }
-}
-
-#[test]
-fn openings_and_audits(rt: HostRuntime) {
-    let want = "opened\ncondition 2 fails at 1 3\ncondition 4 holds\nfails at 1 3\n";
-    assert_shown(&rt, &verdicts(), want);
-}
-
-fn payment(credit: Credit, cents: i64) -> Option<Reply> {
-    Some(Reply::Payment(PaymentReply {
-        customer: Number::new(1)?,
-        last: Text::read("BARBARBAR")?,
-        credit,
-        balance: Balance::new(cents)?,
-    }))
-}
-
-fn renaming() -> Option<Reply> {
-    Some(Reply::Rename(RenameReply {
-        customer: Number::new(10)?,
-        last: LastName::read("BARBAROUGHT")?,
-        first: FirstName::read("A1")?,
-    }))
-}
-
-fn delivered() -> Option<DistrictDelivery> {
-    Some(DistrictDelivery::Delivered(DeliveredOrder {
-        order: Number::new(8)?,
-        customer: Number::new(9)?,
-        sum: Cents::new(12_922),
-    }))
-}
-
-fn ten_deliveries() -> Option<Reply> {
-    let mut ten = [DistrictDelivery::Skipped; 10];
-    ten[0] = delivered()?;
-    ten[9] = delivered()?;
-    Some(Reply::Deliveries(Lines::read(&ten)?))
-}
-
-#[test]
-fn replies(rt: HostRuntime) {
-    for (reply, want) in [
-        (
-            payment(Credit::Good, -26_000),
-            "commit 1 payment 1 BARBARBAR GC -260.00\n",
-        ),
-        (
-            payment(Credit::Bad, 5),
-            "commit 1 payment 1 BARBARBAR BC 0.05\n",
-        ),
-        (
-            payment(Credit::Bad, -1),
-            "commit 1 payment 1 BARBARBAR BC -0.01\n",
-        ),
-        (renaming(), "commit 1 rename 10 BARBAROUGHT A1\n"),
-        (
-            delivered().map(Reply::Delivery),
-            "commit 1 delivery 8 9 129.22\n",
-        ),
-        (
-            Some(Reply::Delivery(DistrictDelivery::Skipped)),
-            "commit 1 delivery skipped\n",
-        ),
-        (
-            ten_deliveries(),
-            "commit 1 deliveries 1:8:9:129.22 2:skipped 3:skipped 4:skipped 5:skipped 6:skipped 7:skipped 8:skipped 9:skipped 10:8:9:129.22\n",
-        ),
-        (
-            order(),
-            "commit 1 neworder 11 BARBARBAR GC 27.26 G:14:13.70 G:100:6.85 G:36:1.74 G:49:2.11 G:62:2.48\n",
-        ),
-        (
-            great_order(),
-            "commit 1 neworder 1  BC 184467440737095516.15 B:0:9999.99\n",
-        ),
-    ] {
-        assert_replied(&rt, reply, want);
-    }
+fn committed(moment: u64, reply: Reply) -> Option<Answer> {
+    Some(Answer::Committed(Moment::new(moment)?, reply))
 }
 
 fn line(brand: Brand, quantity: u32, cents: u64) -> Option<LineReply> {
@@ -140,71 +34,106 @@ fn line(brand: Brand, quantity: u32, cents: u64) -> Option<LineReply> {
     })
 }
 
-fn order() -> Option<Reply> {
+fn order() -> Option<Answer> {
     let lines = [
-        line(Brand::Generic, 14, 1370)?,
-        line(Brand::Generic, 100, 685)?,
-        line(Brand::Generic, 36, 174)?,
-        line(Brand::Generic, 49, 211)?,
-        line(Brand::Generic, 62, 248)?,
+        line(Brand::Generic, 14, 1_370)?,
+        line(Brand::Original, 0, 999_999)?,
+        line(Brand::Generic, 100, 5)?,
     ];
-    Some(Reply::NewOrder(NewOrderReply {
+    let reply = NewOrderReply {
         order: Number::new(11)?,
         last: Text::read("BARBARBAR")?,
         credit: Credit::Good,
-        total: Cents::new(2726),
+        total: Cents::new(2_726),
         lines: Lines::read(&lines)?,
+    };
+    committed(3, Reply::NewOrder(reply))
+}
+
+fn delivered() -> Option<DistrictDelivery> {
+    Some(DistrictDelivery::Delivered(DeliveredOrder {
+        order: Number::new(8)?,
+        customer: Number::new(9)?,
+        sum: Cents::new(12_922),
     }))
 }
 
-fn great_order() -> Option<Reply> {
-    Some(Reply::NewOrder(NewOrderReply {
-        order: Number::new(1)?,
-        last: Text::read("")?,
-        credit: Credit::Bad,
-        total: Cents::new(u64::MAX),
-        lines: Lines::read(&[line(Brand::Original, 0, 999_999)?])?,
-    }))
+/// The replies to deliveries of the second and the tenth district, of ten, where nothing waits in the others.
+fn ten_deliveries() -> Option<Answer> {
+    let mut ten = [DistrictDelivery::Skipped; 10];
+    ten[1] = delivered()?;
+    ten[9] = delivered()?;
+    committed(4, Reply::Deliveries(Lines::read(&ten)?))
 }
 
-fn status_line(item: u32, cents: u64, delivery: Option<Stamp>) -> Option<StatusLine> {
+fn renaming() -> Option<Answer> {
+    let reply = RenameReply {
+        customer: Number::new(10)?,
+        last: LastName::read("BARBAROUGHT")?,
+        first: FirstName::read("A1")?,
+    };
+    committed(5, Reply::Rename(reply))
+}
+
+#[test]
+fn replies(rt: HostRuntime) {
+    for (given, want) in [
+        (
+            order(),
+            "commit 3 neworder 11 BARBARBAR GC 27.26 G:14:13.70 B:0:9999.99 G:100:0.05\n",
+        ),
+        (
+            committed(6, Reply::Delivery(DistrictDelivery::Skipped)),
+            "commit 6 delivery skipped\n",
+        ),
+        (
+            ten_deliveries(),
+            "commit 4 deliveries 1:skipped 2:8:9:129.22 3:skipped 4:skipped 5:skipped 6:skipped 7:skipped 8:skipped 9:skipped 10:8:9:129.22\n",
+        ),
+        (renaming(), "commit 5 rename 10 BARBAROUGHT A1\n"),
+    ] {
+        assert_answer(&rt, given, want);
+    }
+    let delivery = delivered().expect(&rt, "a delivery");
+    assert_answer(
+        &rt,
+        committed(7, Reply::Delivery(delivery)),
+        "commit 7 delivery 8 9 129.22\n",
+    );
+}
+
+fn status_line(supply: u32, item: u32, delivery: Option<Stamp>) -> Option<StatusLine> {
     Some(StatusLine {
-        supply: Number::new(1)?,
+        supply: Number::new(supply)?,
         item: Number::new(item)?,
         quantity: Number::new(5)?,
-        amount: Amount::new(cents)?,
+        amount: Amount::new(137)?,
         delivery,
     })
 }
 
-fn delivered_order() -> Option<OrderStatus> {
-    let entry = Stamp::read("2000-01-01T00:00:00")?;
-    let lines = [
-        status_line(11, 0, Some(entry))?,
-        status_line(14, 0, Some(entry))?,
-    ];
-    Some(OrderStatus {
-        number: Number::new(1)?,
+/// Customer 17's newest order, of two lines, of which one is delivered.
+fn status(cents: i64, carrier: Option<Carrier>) -> Option<Answer> {
+    let entry = Stamp::read("2000-02-29T01:02:03")?;
+    let lines = [status_line(16, 11, Some(entry))?, status_line(2, 14, None)?];
+    let order = OrderStatus {
+        number: Number::new(3)?,
         entry,
-        carrier: Some(Number::new(2)?),
+        carrier,
         lines: Lines::read(&lines)?,
-    })
-}
-
-fn open_order() -> Option<OrderStatus> {
-    Some(OrderStatus {
-        number: Number::new(11)?,
-        entry: Stamp::read("2100-12-31T23:59:59")?,
-        carrier: None,
-        lines: Lines::read(&[status_line(1, 137, None)?])?,
-    })
-}
-
-fn status(cents: i64, order: Option<OrderStatus>) -> Option<Answer> {
+    };
     Some(Answer::Replied(QueryReply::Status(StatusReply {
-        customer: Number::new(1)?,
+        customer: Number::new(17)?,
         balance: Balance::new(cents)?,
-        order,
+        order: Some(order),
+    })))
+}
+
+fn no_order() -> Option<Answer> {
+    Some(Answer::Replied(QueryReply::Status(StatusReply {
+        customer: Number::new(6)?,
+        balance: Balance::new(0)?,
+        order: None,
     })))
 }
 
@@ -216,16 +145,37 @@ fn level() -> Option<Answer> {
 fn replies_to_queries(rt: HostRuntime) {
     for (given, want) in [
         (
-            status(-1_000, delivered_order()),
-            "status 1 -10.00 1 2000-01-01T00:00:00 2 1:11:5:0.00:2000-01-01T00:00:00 1:14:5:0.00:2000-01-01T00:00:00\n",
+            status(-1, Carrier::new(10)),
+            "status 17 -0.01 3 2000-02-29T01:02:03 10 16:11:5:1.37:2000-02-29T01:02:03 2:14:5:1.37:-\n",
         ),
         (
-            status(-1_000, open_order()),
-            "status 1 -10.00 11 2100-12-31T23:59:59 - 1:1:5:1.37:-\n",
+            status(-1_000, None),
+            "status 17 -10.00 3 2000-02-29T01:02:03 - 16:11:5:1.37:2000-02-29T01:02:03 2:14:5:1.37:-\n",
         ),
-        (status(0, None), "status 1 0.00 no order\n"),
+        (no_order(), "status 6 0.00 no order\n"),
         (level(), "level 300\n"),
     ] {
         assert_answer(&rt, given, want);
     }
+}
+
+/// A district at which an audit fails.
+fn fails() -> Option<Verdict> {
+    Some(Verdict::Fails(Key::District(district_key(1, 3)?)))
+}
+
+#[test]
+fn moments_and_failures(rt: HostRuntime) {
+    let last = Moment::new(999_999_999_999).expect(&rt, "a moment");
+    let fails = fails().expect(&rt, "a key");
+    for (given, want) in [
+        (Answer::Purged(last), "purged 999999999999\n"),
+        (Answer::Rewound(last), "rewound 999999999999\n"),
+        (Answer::Audited(fails), "fails at 1 3\n"),
+    ] {
+        assert_answer(&rt, Some(given), want);
+    }
+    let mut out = Pending::new();
+    audited(&mut out, Condition::Second, &fails);
+    assert!(rt; out.as_slice() == b"condition 2 fails at 1 3\n".as_slice());
 }

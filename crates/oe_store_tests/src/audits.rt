@@ -1,4 +1,5 @@
-//! Audits of a small population, and of one with a row changed.
+//! Audits of a population with a row changed: the condition that the change breaks fails, at the district or warehouse that it
+//! breaks it at.
 use crate::fixtures::{district_key, history_key, order_key, populated};
 use oe_audit::{condition, is_population};
 use oe_change::{Change, apply};
@@ -7,6 +8,75 @@ use oe_steps::{Condition, Verdict};
 use oe_store::Tables;
 use oe_values::{Number, YearToDate};
 use std::alloc::Global;
+
+/// W_YTD of warehouse 2 is a cent greater than the sum of its districts.
+fn cent(tables: &Tables) -> Option<Change> {
+    let key = district_key(2, 1)?.warehouse_key();
+    let mut row = tables.warehouse(key)?.copied();
+    row.ytd = YearToDate::new(40_001)?;
+    Some(Change::UpdateWarehouse(key, row))
+}
+
+/// D_NEXT_O_ID is 12, where the greatest O_ID is 4.
+fn next_order(tables: &Tables) -> Option<Change> {
+    let key = district_key(1, 3)?;
+    let mut row = tables.district(key)?.copied();
+    row.next_order = Number::new(12)?;
+    Some(Change::UpdateDistrict(key, row))
+}
+
+/// Order 4, which has O_OL_CNT 9, gets a tenth line.
+fn line(tables: &Tables) -> Option<Change> {
+    let order = &order_key(2, 10, 4)?;
+    let row = tables.order_line(order.line(Number::new(9)?))?.copied();
+    Some(Change::InsertOrderLine(order.line(Number::new(10)?), row))
+}
+
+/// A HISTORY row stands there once more, as one of terminal 9.
+fn history(tables: &Tables) -> Option<Change> {
+    let row = tables.history(history_key(0, 7)?)?.copied();
+    Some(Change::InsertHistory(history_key(9, 1)?, row))
+}
+
+/// A change that breaks the condition of that number; one that breaks none, for another number. Condition 3 is broken where
+/// order 2 waits, while order 3 does not and order 4 does.
+fn fault(tables: &Tables, number: u32) -> Option<Change> {
+    match number {
+        1 => cent(tables),
+        2 => next_order(tables),
+        3 => Some(Change::InsertNewOrder(order_key(2, 7, 2)?.new_order_key())),
+        4 => line(tables),
+        _ => history(tables),
+    }
+}
+
+/// The verdicts after it.
+fn deserved(number: u32) -> Option<[Verdict; 4]> {
+    let holds = Verdict::Holds;
+    let warehouse = Verdict::Fails(Key::Warehouse(district_key(2, 1)?.warehouse_key()));
+    Some(match number {
+        1 => [warehouse, holds, holds, holds],
+        2 => [
+            holds,
+            Verdict::Fails(Key::District(district_key(1, 3)?)),
+            holds,
+            holds,
+        ],
+        3 => [
+            holds,
+            holds,
+            Verdict::Fails(Key::District(district_key(2, 7)?)),
+            holds,
+        ],
+        4 => [
+            holds,
+            holds,
+            holds,
+            Verdict::Fails(Key::District(district_key(2, 10)?)),
+        ],
+        _ => [holds; 4],
+    })
+}
 
 /// The four verdicts, in the conditions' order.
 fn verdicts(tables: &Tables) -> [Verdict; 4] {
@@ -18,124 +88,23 @@ fn verdicts(tables: &Tables) -> [Verdict; 4] {
     ]
 }
 
-/// Whether the tables are a population of which each condition holds.
-fn is_sound(tables: &Tables) -> bool {
-    is_population(tables) && verdicts(tables) == [Verdict::Holds; 4]
+/// Whether tables that were a population are none after the change, and have the verdicts that it deserves.
+fn is_found_in(tables: &mut Tables, number: u32) -> Option<bool> {
+    let change = fault(tables, number)?;
+    let deserved = deserved(number)?;
+    let was_population = is_population(tables);
+    let is_made = apply(tables, change).is_ok();
+    Some(was_population && is_made && !is_population(tables) && verdicts(tables) == deserved)
 }
 
-fn is_new_sound(alloc: Global) -> bool {
-    is_sound(&Tables::new(alloc))
-}
-
-fn is_population_sound(alloc: Global) -> Option<bool> {
-    let tables = populated(alloc, 4, 1)?;
-    Some(is_sound(&tables))
-}
-
-#[test]
-fn populations_pass(rt: HostRuntime) {
-    assert!(rt; is_new_sound(rt.alloc()));
-    assert_eq!(rt; is_population_sound(rt.alloc()), Some(true));
-}
-
-/// A change after which a population is none any more.
-#[derive(Drop)]
-enum Fault {
-    /// W_YTD of the first warehouse is a cent greater.
-    Cent,
-    /// D_NEXT_O_ID of the third district is 12, where the greatest O_ID is 4.
-    NextOrder,
-    /// Order 1 of the third district waits too, where else only order 4 does.
-    Gap,
-    /// Order 4 of the third district, which has O_OL_CNT 9, gets a tenth line.
-    Line,
-    /// The first HISTORY row stands there once more, as one of terminal 1.
-    History,
-}
-
-fn cent(tables: &Tables) -> Option<Change> {
-    let key = district_key(1)?.warehouse_key();
-    let mut row = tables.warehouse(key)?.copied();
-    row.ytd = YearToDate::new(40_001)?;
-    Some(Change::UpdateWarehouse(key, row))
-}
-
-fn next_order(tables: &Tables) -> Option<Change> {
-    let key = district_key(3)?;
-    let mut row = tables.district(key)?.copied();
-    row.next_order = Number::new(12)?;
-    Some(Change::UpdateDistrict(key, row))
-}
-
-fn line(tables: &Tables) -> Option<Change> {
-    let order = &order_key(3, 4)?;
-    let row = tables.order_line(order.line(Number::new(9)?))?.copied();
-    Some(Change::InsertOrderLine(order.line(Number::new(10)?), row))
-}
-
-fn history(tables: &Tables) -> Option<Change> {
-    let row = tables.history(history_key(0, 1)?)?.copied();
-    Some(Change::InsertHistory(history_key(1, 1)?, row))
-}
-
-fn change(tables: &Tables, fault: &Fault) -> Option<Change> {
-    match fault {
-        Fault::Cent => cent(tables),
-        Fault::NextOrder => next_order(tables),
-        Fault::Gap => Some(Change::InsertNewOrder(order_key(3, 1)?.new_order_key())),
-        Fault::Line => line(tables),
-        Fault::History => history(tables),
-    }
-}
-
-/// The verdicts that a fault deserves.
-fn deserved(fault: &Fault) -> Option<[Verdict; 4]> {
-    let holds = Verdict::Holds;
-    let district = Verdict::Fails(Key::District(district_key(3)?));
-    Some(match fault {
-        Fault::Cent => {
-            let warehouse = Key::Warehouse(district_key(1)?.warehouse_key());
-            [Verdict::Fails(warehouse), holds, holds, holds]
-        }
-        Fault::NextOrder => [holds, district, holds, holds],
-        Fault::Gap => [holds, holds, district, holds],
-        Fault::Line => [holds, holds, holds, district],
-        Fault::History => [holds; 4],
-    })
-}
-
-/// Makes the change, the second time, where memory was refused. Whether it was made.
-fn spoil(tables: &mut Tables, fault: &Fault) -> Option<bool> {
-    let first = change(tables, fault)?;
-    if apply(tables, first).is_ok() {
-        return Some(true);
-    }
-    let second = change(tables, fault)?;
-    Some(apply(tables, second).is_ok())
-}
-
-/// Whether tables that the change was made in are no population, and have the verdicts that it deserves.
-fn is_found_in(tables: &mut Tables, fault: &Fault) -> Option<bool> {
-    let is_spoilt = spoil(tables, fault)?;
-    let deserved = deserved(fault)?;
-    Some(is_spoilt && !is_population(tables) && verdicts(tables) == deserved)
-}
-
-/// The same in a population of four customers in each district.
-fn is_found(alloc: Global, fault: &Fault) -> Option<bool> {
-    let mut tables = populated(alloc, 4, 1)?;
-    is_found_in(&mut tables, fault)
+fn is_found(alloc: Global, number: u32) -> Option<bool> {
+    let mut tables = populated(alloc)?;
+    is_found_in(&mut tables, number)
 }
 
 #[test]
 fn faults_are_found(rt: HostRuntime) {
-    for fault in [
-        Fault::Cent,
-        Fault::NextOrder,
-        Fault::Gap,
-        Fault::Line,
-        Fault::History,
-    ] {
-        assert_eq!(rt; is_found(rt.alloc(), &fault), Some(true));
+    for number in 1..=5u32 {
+        assert_eq!(rt; is_found(rt.alloc(), number), Some(true), "{number}");
     }
 }
