@@ -1,14 +1,16 @@
 //! Deliveries of district 1 by carrier 3 (clause 2.7).
-use crate::fixtures::{change, customer, customer_update, district, small, stamp};
-use oe_audit::condition;
-use oe_records::Change;
+use crate::fixtures::{district, stamp};
+use oe_change::{Change, apply};
 use oe_reference::deliveries::{Delivered, DistrictEffect, delivery};
 use oe_requests::DeliveryRequest;
-use oe_steps::{Condition, Verdict};
 use oe_store::Tables;
 use oe_values::Carrier;
-use std::alloc::{AllocError, Global};
+use std::alloc::Global;
 use std::process::Abort;
+
+/// O_ID, C_ID and the sum of a delivered order, its carrier, and how many of its lines have the request's stamp; C_BALANCE after
+/// it. Sums are in cents.
+type Figures = ([u64; 5], i64);
 
 fn request() -> Option<DeliveryRequest> {
     Some(DeliveryRequest {
@@ -18,73 +20,63 @@ fn request() -> Option<DeliveryRequest> {
     })
 }
 
-fn computed(
-    alloc: Global,
-    tables: &Tables,
-    request: &DeliveryRequest,
-) -> Result<Option<DistrictEffect>, AllocError> {
-    delivery(alloc, tables, request)
-}
-
-/// The delivery's effect; computed the second time, where memory was refused.
+/// The delivery's effect.
 fn effect(alloc: Global, tables: &Tables) -> Option<Option<DistrictEffect>> {
     let request = request()?;
-    match computed(alloc, tables, &request) {
-        Ok(effect) => Some(effect),
-        Err(_) => computed(alloc, tables, &request).ok(),
-    }
+    delivery(alloc, tables, &request).ok()
 }
 
-/// Puts the rows after a delivery into the tables.
-fn put(alloc: Global, tables: &mut Tables, after: &Delivered) -> Option<()> {
-    let key = &district()?.order(after.reply.order);
-    let customer = &customer(after.reply.customer.get())?;
-    let update = customer_update(alloc, customer, &after.customer)?;
-    change(alloc, tables, &Change::DeleteNewOrder(key.new_order_key()))?;
-    change(alloc, tables, &Change::UpdateOrder(*key, after.order))?;
-    change(alloc, tables, &update)?;
-    for (line, row) in &after.lines {
-        change(alloc, tables, &Change::UpdateOrderLine(*line, row.copied()))?;
+fn figures(after: &Delivered) -> Figures {
+    let reply = &after.reply;
+    let mut dated = 0u64;
+    for (_, line) in &after.lines {
+        let seconds = match line.delivery {
+            Some(date) => date.seconds(),
+            None => 0,
+        };
+        if seconds == 3_187_296_000 {
+            dated = dated.saturating_add(1);
+        }
+    }
+    let carrier = match after.order.carrier {
+        Some(carrier) => u64::from(carrier.get()),
+        None => 0,
+    };
+    let order = u64::from(reply.order.get());
+    let customer = u64::from(reply.customer.get());
+    let figures = [order, customer, reply.sum.cents(), carrier, dated];
+    (figures, after.customer.account.balance.cents())
+}
+
+/// Takes a delivered order out of the queue.
+fn take_off(tables: &mut Tables, after: &Delivered) -> Option<()> {
+    let key = district()?.order(after.reply.order).new_order_key();
+    if apply(tables, Change::DeleteNewOrder(key)).is_err() {
+        return None;
     }
     Some(())
 }
 
-/// O_ID, C_ID and the sum of a delivered order, and C_BALANCE after it. Sums are in cents.
-fn figures(after: &Delivered) -> ([u64; 3], i64) {
-    let order = u64::from(after.reply.order.get());
-    let customer = u64::from(after.reply.customer.get());
-    let balance = after.customer.account.balance.cents();
-    ([order, customer, after.reply.sum.cents()], balance)
-}
-
 /// Delivers, and answers the figures of what was delivered; of nothing, where it was skipped.
-fn deliver(alloc: Global, tables: &mut Tables) -> Option<Option<([u64; 3], i64)>> {
+fn deliver(alloc: Global, tables: &mut Tables) -> Option<Option<Figures>> {
     match effect(alloc, tables)?? {
         DistrictEffect::Delivered(after) => {
-            put(alloc, tables, &after)?;
+            take_off(tables, &after)?;
             Some(Some(figures(&after)))
         }
         DistrictEffect::Skipped => Some(None),
     }
 }
 
-/// The three orders that wait are delivered, the oldest first; then none, and conditions 2 and 3 hold.
-fn assert_deliveries(rt: &impl Abort, alloc: Global, tables: &mut Tables) {
-    for (number, sum, balance) in [
-        (8, 12_922, 11_922),
-        (9, 15_491, 14_491),
-        (10, 18_285, 17_285),
+/// The three orders that wait are delivered, the oldest first; then none.
+pub(crate) fn assert_deliveries(rt: &impl Abort, alloc: Global, tables: &mut Tables) {
+    for (number, sum, lines, balance) in [
+        (8, 12_922, 13, 11_922),
+        (9, 15_491, 14, 14_491),
+        (10, 18_285, 15, 17_285),
     ] {
-        let figures = ([number, number, sum], balance);
+        let figures = ([number, number, sum, 3, lines], balance);
         assert_eq!(rt; deliver(alloc, tables), Some(Some(figures)));
     }
     assert_eq!(rt; deliver(alloc, tables), Some(None));
-    assert!(rt; condition(Condition::Second, tables) == Verdict::Holds);
-    assert!(rt; condition(Condition::Third, tables) == Verdict::Holds);
-}
-
-#[test]
-fn each_order_is_delivered_once(rt: HostRuntime) {
-    let mut tables = small(rt.alloc(), 10).expect(&rt, "tables");
-    assert_deliveries(&rt, rt.alloc(), &mut tables);
 }

@@ -1,182 +1,112 @@
 //! Order-Status and Stock-Level in district 1 (clauses 2.6 and 2.8).
-use crate::fixtures::{district, quantity_of, small};
-use crate::orders::{later_order, order};
-use crate::payments::payer;
+use crate::fixtures::district;
 use oe_reference::queries::{NewestOrder, Status, low_items, order_status};
-use oe_requests::{CustomerChoice, LevelQuery, StatusLine, StatusQuery};
+use oe_requests::{CustomerChoice, LevelQuery, StatusQuery};
 use oe_store::Tables;
-use oe_values::{
-    CustomerNumber, ItemNumber, LastName, LineAmount, LineQuantity, Stamp, Threshold,
-    WarehouseNumber,
-};
-use std::alloc::{AllocError, Global};
+use oe_values::{LastName, Threshold};
+use std::alloc::Global;
 use std::process::Abort;
 
-fn computed(
-    alloc: Global,
-    tables: &Tables,
-    query: &StatusQuery,
-) -> Result<Option<Status>, AllocError> {
-    order_status(alloc, tables, query)
-}
+/// C_BALANCE in cents; of the newest order O_ID, O_CARRIER_ID, which is 0 where it is null, and the seconds of O_ENTRY_D; how many
+/// of its lines were delivered then, and how many pieces they have; their items, of two digits each, and their amounts in cents,
+/// of three digits each.
+type Figures = (i64, [u64; 3], [u64; 2], [u64; 2]);
 
-/// What Order-Status tells; computed the second time, where memory was refused.
-fn told(alloc: Global, tables: &Tables, customer: CustomerChoice) -> Option<Option<Status>> {
+/// What Order-Status tells of the customer that is chosen by that last name.
+fn told(alloc: Global, tables: &Tables, last: &str) -> Option<Option<Status>> {
     let query = StatusQuery {
         district: district()?,
-        customer,
+        customer: CustomerChoice::LastName(LastName::read(last)?),
     };
-    match computed(alloc, tables, &query) {
-        Ok(status) => Some(status),
-        Err(_) => computed(alloc, tables, &query).ok(),
-    }
+    order_status(alloc, tables, &query).ok()
 }
 
-/// A line of warehouse 1's stock.
-fn line(item: u32, quantity: u32, cents: u64, delivery: &Option<Stamp>) -> Option<StatusLine> {
-    Some(StatusLine {
-        supply: WarehouseNumber::new(1)?,
-        item: ItemNumber::new(item)?,
-        quantity: LineQuantity::new(quantity)?,
-        amount: LineAmount::new(cents)?,
-        delivery: *delivery,
-    })
-}
-
-/// Whether the lines are those of the items, each with OL_AMOUNT in cents, with that OL_QUANTITY and OL_DELIVERY_D.
-fn are_lines(
-    lines: &[StatusLine],
-    quantity: u32,
-    delivery: &Option<Stamp>,
-    items: &[(u32, u64)],
-) -> Option<bool> {
-    for (told, item) in lines.iter().zip(items) {
-        if *told != line(item.0, quantity, item.1, delivery)? {
-            return Some(false);
+/// How many lines were delivered at the order's entry, and how many pieces they have; their items, and their amounts.
+fn lines(order: &NewestOrder) -> ([u64; 2], [u64; 2]) {
+    let mut delivered = 0u64;
+    let mut pieces = 0u64;
+    let mut items = 0u64;
+    let mut cents = 0u64;
+    for line in &order.lines {
+        if line.delivery == Some(order.entry) {
+            delivered = delivered.saturating_add(1);
         }
+        pieces = pieces.saturating_add(u64::from(line.quantity.get()));
+        items = items
+            .saturating_mul(100)
+            .saturating_add(u64::from(line.item.get()));
+        cents = cents
+            .saturating_mul(1_000)
+            .saturating_add(line.amount.cents());
     }
-    Some(lines.len() == items.len())
+    ([delivered, pieces], [items, cents])
 }
 
-/// O_ID and O_CARRIER_ID, which is 0 where it is null.
-fn numbers(order: &NewestOrder) -> [u32; 2] {
-    match order.carrier {
-        Some(carrier) => [order.number.get(), carrier.get()],
-        None => [order.number.get(), 0],
-    }
-}
-
-/// Those of the newest order of customer 1, with C_BALANCE in cents; nothing, where it was not entered then, or has other lines.
-fn newest(
-    status: &Status,
-    (entry, delivery): (&Stamp, &Option<Stamp>),
-    quantity: u32,
-    items: &[(u32, u64)],
-) -> Option<([u32; 2], i64)> {
+/// The figures of a status with an order.
+fn figures(status: &Status) -> Option<Figures> {
     let Some(order) = &status.order else {
         return None;
     };
-    let are_told = are_lines(&order.lines, quantity, delivery, items)?;
-    if !are_told || order.entry != *entry || status.customer.get() != 1 {
-        return None;
-    }
-    Some((numbers(order), status.balance.cents()))
+    let carrier = match order.carrier {
+        Some(carrier) => u64::from(carrier.get()),
+        None => 0,
+    };
+    let heads = [
+        u64::from(order.number.get()),
+        carrier,
+        order.entry.seconds(),
+    ];
+    let (counts, sums) = lines(order);
+    Some((status.balance.cents(), heads, counts, sums))
 }
 
-/// The first order of customer 1, which the population has delivered.
-fn first_order(alloc: Global, tables: &Tables) -> Option<([u32; 2], i64)> {
-    let entry = &Stamp::read("2000-01-01T00:00:00")?;
-    let number = CustomerNumber::new(1)?;
-    let status = told(alloc, tables, CustomerChoice::Number(number))??;
-    let items = [(11, 0), (14, 0), (17, 0), (20, 0), (3, 0), (6, 0)];
-    newest(&status, (entry, &Some(*entry)), 5, &items)
-}
-
-/// The order of items 1 to 5 that customer 1 has placed, which is not delivered.
-fn placed_order(alloc: Global, tables: &Tables) -> Option<([u32; 2], i64)> {
-    let entry = &Stamp::read("2001-01-01T00:00:00")?;
-    let number = CustomerNumber::new(1)?;
-    let status = told(alloc, tables, CustomerChoice::Number(number))??;
-    let items = [(1, 137), (2, 174), (3, 211), (4, 248), (5, 285)];
-    newest(&status, (entry, &None), 1, &items)
+/// Those of customer 1, who alone has that last name.
+fn newest(alloc: Global, tables: &Tables) -> Option<Figures> {
+    let status = told(alloc, tables, "BARBARBAR")??;
+    figures(&status)
 }
 
 /// C_ID of the customer with that last name of whom Order-Status tells, where it tells of one.
 fn named(alloc: Global, tables: &Tables, last: &str) -> Option<Option<u32>> {
-    let choice = CustomerChoice::LastName(LastName::read(last)?);
-    match told(alloc, tables, choice)? {
+    match told(alloc, tables, last)? {
         Some(status) => Some(Some(status.customer.get())),
         None => Some(None),
     }
 }
 
-fn low_once(
-    alloc: Global,
-    tables: &Tables,
-    query: &LevelQuery,
-) -> Result<Option<Vec<ItemNumber>>, AllocError> {
-    low_items(alloc, tables, query)
-}
-
-/// How many items there are; their numbers, two digits each; and the pieces of all of them in the warehouse's stock.
-fn stocked(tables: &Tables, items: &[ItemNumber]) -> Option<(usize, u32, u32)> {
-    let mut numbers = 0u32;
-    let mut pieces = 0u32;
-    for item in items {
-        numbers = numbers.saturating_mul(100).saturating_add(item.get());
-        pieces = pieces.saturating_add(quantity_of(tables, *item)?);
-    }
-    Some((items.len(), numbers, pieces))
-}
-
-/// The items that Stock-Level counts; computed the second time, where memory was refused.
-fn low(alloc: Global, tables: &Tables, threshold: u32) -> Option<(usize, u32, u32)> {
+/// How many items Stock-Level counts, and their numbers, of two digits each.
+fn low(alloc: Global, tables: &Tables, threshold: u32) -> Option<(usize, u32)> {
     let query = LevelQuery {
         district: district()?,
         threshold: Threshold::new(threshold)?,
     };
-    let items = match low_once(alloc, tables, &query) {
-        Ok(items) => items?,
-        Err(_) => low_once(alloc, tables, &query).ok()??,
-    };
-    stocked(tables, &items)
+    let items = low_items(alloc, tables, &query).ok()??;
+    let mut numbers = 0u32;
+    for item in &items {
+        numbers = numbers.saturating_mul(100).saturating_add(item.get());
+    }
+    Some((items.len(), numbers))
 }
 
-fn assert_told(rt: &impl Abort, alloc: Global, tables: &Tables) {
-    assert_eq!(rt; first_order(alloc, tables), Some(([1, 2], -1_000)));
-    assert_eq!(rt; named(alloc, tables, "BARBARBAR"), Some(Some(1)));
+/// The first order of customer 1, which the population has delivered; nobody of a name; and the items that are low.
+pub(crate) fn assert_queries(rt: &impl Abort, alloc: Global, tables: &Tables) {
+    let sums = [11_14_17_20_03_06, 0];
+    let first = (-1_000, [1, 2, 3_155_673_600], [6, 30], sums);
+    assert_eq!(rt; newest(alloc, tables), Some(first));
     assert_eq!(rt; named(alloc, tables, "EINGEINGEING"), Some(None));
-    assert_eq!(rt; low(alloc, tables, 11), Some((0, 0, 0)));
-    assert_eq!(rt; low(alloc, tables, 12), Some((2, 714, 22)));
+    assert_eq!(rt; low(alloc, tables, 11), Some((0, 0)));
+    assert_eq!(rt; low(alloc, tables, 12), Some((2, 7_14)));
 }
 
-/// An order is placed, and told of as the newest; the next would be order 12.
-fn assert_placed(rt: &impl Abort, alloc: Global, tables: &mut Tables) {
-    assert!(rt; order(alloc, tables).is_some());
-    assert_eq!(rt; later_order(alloc, tables), Some(12));
-    assert_eq!(rt; placed_order(alloc, tables), Some(([11, 0], -1_000)));
+/// The order of items 1 to 5 that customer 1 has placed is the newest, and is not delivered.
+pub(crate) fn assert_placed(rt: &impl Abort, alloc: Global, tables: &Tables) {
+    let sums = [1_02_03_04_05, 137_174_211_248_285];
+    let placed = (-1_000, [11, 0, 3_187_296_000], [0, 5], sums);
+    assert_eq!(rt; newest(alloc, tables), Some(placed));
 }
 
-fn assert_queries(rt: &impl Abort, alloc: Global, tables: &mut Tables) {
-    assert_told(rt, alloc, tables);
-    assert_placed(rt, alloc, tables);
-}
-
-#[test]
-fn newest_orders_and_low_stocks_are_told(rt: HostRuntime) {
-    let mut tables = small(rt.alloc(), 10).expect(&rt, "tables");
-    assert_queries(&rt, rt.alloc(), &mut tables);
-}
-
-fn assert_namesakes(rt: &impl Abort, alloc: Global, tables: &Tables) {
-    assert_eq!(rt; payer(alloc, tables, "BARBARBAR"), Some(1_001));
-    assert_eq!(rt; payer(alloc, tables, "BARBAROUGHT"), Some(1_002));
+/// Of namesakes Order-Status tells of the one in the middle.
+pub(crate) fn assert_namesakes(rt: &impl Abort, alloc: Global, tables: &Tables) {
     assert_eq!(rt; named(alloc, tables, "BARBARBAR"), Some(Some(1_001)));
     assert_eq!(rt; named(alloc, tables, "BARBAROUGHT"), Some(Some(1_002)));
-}
-
-#[test]
-fn namesakes_in_the_middle_are_chosen(rt: HostRuntime) {
-    let tables = small(rt.alloc(), 2_001).expect(&rt, "tables");
-    assert_namesakes(&rt, rt.alloc(), &tables);
 }

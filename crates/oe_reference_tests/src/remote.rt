@@ -76,13 +76,10 @@ fn computed_payment(
     }
 }
 
-/// The figures of the payment; computed the second time, where memory was refused.
+/// The figures of the payment.
 fn paid(alloc: Global, tables: &Tables) -> Option<PaymentFigures> {
     let request = &paid_request()?;
-    match computed_payment(alloc, tables, request) {
-        Ok(figures) => figures,
-        Err(_) => computed_payment(alloc, tables, request).ok()?,
-    }
+    computed_payment(alloc, tables, request).ok()?
 }
 
 fn line(supply: u32, item: u32, quantity: u32) -> Option<RequestLine> {
@@ -138,22 +135,10 @@ fn order_figures(after: &Ordered) -> Option<OrderFigures> {
     Some((reply.order.get(), reply.total.cents(), facts, lines))
 }
 
-fn computed_order(
-    alloc: Global,
-    tables: &Tables,
-    request: &NewOrderRequest,
-) -> Result<Option<Ordered>, AllocError> {
-    new_order(alloc, tables, request)
-}
-
-/// The figures of the order; computed the second time, where memory was refused.
+/// The figures of the order.
 fn ordered(alloc: Global, tables: &Tables) -> Option<OrderFigures> {
     let request = &order_request()?;
-    let effect = match computed_order(alloc, tables, request) {
-        Ok(effect) => effect,
-        Err(_) => computed_order(alloc, tables, request).ok()?,
-    };
-    order_figures(&effect?)
+    order_figures(&new_order(alloc, tables, request).ok()??)
 }
 
 /// S_QUANTITY, S_YTD, S_ORDER_CNT and S_REMOTE_CNT of item 20 in warehouse 1 after the order.
@@ -193,22 +178,10 @@ fn delivery_figures(after: &Delivered) -> (u32, u32, u64, bool) {
     )
 }
 
-fn computed_delivery(
-    alloc: Global,
-    tables: &Tables,
-    request: &DeliveryRequest,
-) -> Result<Option<DistrictEffect>, AllocError> {
-    delivery(alloc, tables, request)
-}
-
-/// The figures of the delivery; computed the second time, where memory was refused.
+/// The figures of the delivery.
 fn delivered(alloc: Global, tables: &Tables) -> Option<(u32, u32, u64, bool)> {
     let request = &delivery_request()?;
-    let effect = match computed_delivery(alloc, tables, request) {
-        Ok(effect) => effect,
-        Err(_) => computed_delivery(alloc, tables, request).ok()?,
-    };
-    match effect? {
+    match delivery(alloc, tables, request).ok()?? {
         DistrictEffect::Delivered(after) => Some(delivery_figures(&after)),
         DistrictEffect::Skipped => None,
     }
