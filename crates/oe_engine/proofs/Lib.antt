@@ -4,6 +4,7 @@ pub mod KeptFacts
 pub mod LockFacts
 pub mod LogFacts
 pub mod MakeFacts
+pub mod ReplyFacts
 pub mod RowFacts
 pub mod SafeFacts
 pub mod UnwindFacts

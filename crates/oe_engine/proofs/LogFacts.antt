@@ -1,5 +1,5 @@
 -- What the calls of the undo log make of what an engine stands for.
-use Rattle.std.proofs.Common.{◌≡◌, ℕ, suc, ◌-◌, ◌<◌, ◌==◌, Bool, true, false, refl, sym, ap, ◌∙◌, inl, inr, [], ◌∷◌, length, get_or, set}
+use Rattle.std.proofs.Common.{◌≡◌, ℕ, suc, ◌-◌, ◌<◌, ◌==◌, Bool, true, false, refl, sym, ap, ◌∙◌, inl, inr, List, [], ◌∷◌, length, get_or, set, map, slice_get}
 use Rattle.std.specs.Prelude.{Option, None, Some, is_some, option_map}
 use Rattle.std.proofs.lemmas.Bool.{cases_eq, cases_lt, cond-true, cond-false, eq-eqb, ne_eqb}
 use Rattle.std.proofs.lemmas.List.{get_or-set_same, get_or-set_other, set_past}
@@ -19,14 +19,14 @@ use Rattle.oe_store.specs.Stored as tables
 use Rattle.oe_change.specs.Applies.{Applies}
 use Rattle.oe_undo.specs.declared.segments.Place.{Place}
 use Rattle.oe_undo.specs.declared.undo.TerminalState.{TerminalState}
-use Rattle.oe_undo.specs.Segments.{Open, popped}
+use Rattle.oe_undo.specs.Segments.{Open, Committed, popped}
 use Rattle.oe_undo.specs.Undo.{Stored, idle, active_at, records_at, count_at, no_segments, idle_terminals, with_state, with_room, opened, pushed, popped_at, sealed, dropped}
 use Rattle.oe_undo.specs.Undo as undo
-use Rattle.oe_undo.specs.Stands.{undo_of}
+use Rattle.oe_undo.specs.Stands.{undo_of, seal_of}
 use Rattle.oe_undo.proofs.StandsFacts as stands
 use Rattle.oe_undo.proofs.KeptFacts.{idle_at}
 use Rattle.oe_locks.specs.Held.{Holdings, OthersKeep, HoldsNothing, IsIdle}
-use Rattle.oe_engine.specs.View.{view_from, opened_view}
+use Rattle.oe_engine.specs.View.{view_from, newest_reply, opened_view}
 use Rattle.oe_engine.specs.Calls.{begun, made, committed}
 use Rattle.oe_engine.proofs.LockFacts.{held_of, released_is}
 
@@ -169,3 +169,12 @@ sealed_is ts u ls ls' t q y within is own others =
       is_open = opens i;
       extents = u.extents;
     }
+
+-- the newest commit
+pub newest_is : (cs : List Committed) (c : Committed) (y : Reply) → Some c ≡ slice_get cs 0 → y ≡ c.reply → Some y ≡ newest_reply (map seal_of cs)
+newest_is [] c y e f = let no : ⊥ = cc in absurd no
+newest_is (d ∷ cs) c y e f = let same : c ≡ d = cc in ap Some (f ∙ ap (λ (z : Committed). z.reply) same)
+
+pub none_is_newest : (cs : List Committed) → ◌≡◌ {A = Option Committed} None (slice_get cs 0) → None ≡ newest_reply (map seal_of cs)
+none_is_newest [] e = refl
+none_is_newest (d ∷ cs) e = let no : ⊥ = cc in absurd no

@@ -1,15 +1,19 @@
 -- A step of a program: one row of its step table, in the words of the theory of transactions.
-use Rattle.std.specs.Prelude.{◌≡◌, ◌⊎◌, suc, Bool, true, false, Option, Some}
+use Rattle.std.specs.Prelude.{◌≡◌, ◌⊎◌, suc, Bool, true, false, [], Option, None, Some}
 use Rattle.oe_theory.specs.Machine.{Tx, Ask, Stop, Plain, Take, Act, Fail, Go, Ready}
 use Rattle.oe_theory.specs.Machine as theory
 use Rattle.oe_theory.specs.Next.{IsNew, GivesWay}
 use Rattle.oe_requests.specs.declared.requests.Request.{Request}
 use Rattle.oe_requests.specs.declared.replies.Reply.{Reply}
+use Rattle.oe_requests.specs.declared.replies.Reply.TheVariants as reply
+use Rattle.oe_requests.specs.declared.replies.DistrictDelivery.TheVariants.{Skipped}
 use Rattle.oe_requests.specs.declared.refusals.Refusal.{Refusal}
 use Rattle.oe_requests.specs.declared.refusals.Refusal.TheVariants.{Busy, NotOpen, NoMemory}
 use Rattle.oe_model.specs.Changes.{Change, UpdateCustomer, UpdateStock}
 use Rattle.oe_model.specs.Meets.{Cause}
-use Rattle.oe_model.specs.Places.{Place}
+use Rattle.oe_model.specs.Places.{Place, InPayment, InNewOrder, InDelivery, NoProgram, PaymentPlace, PaymentEnd, NewOrderPlace, NewOrderStock, DeliveryPlace, DeliveryNothing, DeliveryEnd}
+use Rattle.oe_model.specs.NewOrder.{ordered_reply}
+use Rattle.oe_model.specs.Delivery.{delivered_reply}
 use Rattle.oe_model.specs.System.{system, ask, act, yields}
 use Rattle.oe_undo.specs.Undo.{room_at}
 use Rattle.oe_engine.specs.View.{Stored, view_of, Handle, IsOpen}
@@ -41,6 +45,26 @@ pub record GoesOn (s : Stored) (x : Handle) (q : Request) (p : Place) (s' : Stor
   pub accepted : AcceptsAll change (view_of s).rows
   pub done : view_of s' ≡ row_done x.terminal (ask_here s x q p) change (view_of s)
   pub name : s'.name ≡ s.name
+
+-- the reply of a program that has come to its end, by its place
+abbrev pub payment_reply : PaymentPlace → Option Reply
+payment_reply (PaymentEnd y) = Some (reply.Payment y)
+payment_reply _ = None
+
+abbrev pub new_order_reply : NewOrderPlace → Option Reply
+new_order_reply (NewOrderStock s before done []) = Some (reply.NewOrder (ordered_reply s done))
+new_order_reply _ = None
+
+abbrev pub delivery_reply : DeliveryPlace → Option Reply
+delivery_reply DeliveryNothing = Some (reply.Delivery Skipped)
+delivery_reply (DeliveryEnd o c sum) = Some (delivered_reply o c sum)
+delivery_reply _ = None
+
+abbrev pub reply_at : Place → Option Reply
+reply_at (InPayment q p) = payment_reply p
+reply_at (InNewOrder q p) = new_order_reply p
+reply_at (InDelivery q p) = delivery_reply p
+reply_at NoProgram = None
 
 -- the program has come to its end with this reply
 pub record IsReady (s : Stored) (x : Handle) (q : Request) (p : Place) (y : Reply) : Type 0 where
@@ -78,5 +102,5 @@ IsRefused s x q p e = IsOpen s x × Ends s x q p e
 -- one step of a program that carries out this request, from a place and an engine to a place and an engine
 abbrev pub Progresses : Request → Handle → Stored → Place → Progress → Stored → Place → Type 0
 Progresses q x s p progress.More s' p' = GoesOn s x q p s' p'
-Progresses q x s p (progress.Ready y) s' p' = IsReady s x q p y × (s' ≡ s) × (p' ≡ p)
+Progresses q x s p progress.Ready s' p' = ((y : Reply) × IsReady s x q p y) × (s' ≡ s) × (p' ≡ p)
 Progresses q x s p (progress.Refused e) s' p' = IsRefused s x q p e × (view_of s' ≡ view_of s) × (s'.name ≡ s.name) × (p' ≡ p)

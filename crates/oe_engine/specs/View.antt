@@ -1,9 +1,10 @@
 -- What an engine stands for, in the words of the theory of transactions.
-use Rattle.std.specs.Prelude.{◌≡◌, ℕ, Bool, true, false, List, [], Option, None, is_some, option_map}
+use Rattle.std.specs.Prelude.{◌≡◌, ℕ, Bool, true, false, List, [], ◌∷◌, Option, None, Some, is_some, option_map}
 use Rattle.oe_keys.specs.declared.locks.Name.{Name}
 use Rattle.oe_theory.specs.Machine as theory
 use Rattle.oe_theory.specs.Undo.{Undo, no_records}
 use Rattle.oe_theory.specs.Store.{Seal}
+use Rattle.oe_requests.specs.declared.replies.Reply.{Reply}
 use Rattle.oe_model.specs.Rows.{Rows}
 use Rattle.oe_model.specs.Locks.{mode_of}
 use Rattle.oe_model.specs.System.{system}
@@ -57,6 +58,11 @@ pub record Handle : Type 0 where
 pub record IsOpen (s : Stored) (x : Handle) : Type 0 where
   pub engine : x.engine ≡ s.name
   pub terminal : (view_of s).is_open x.terminal ≡ true
+
+-- the reply of the newest of these commits, if there is one
+abbrev pub newest_reply : List (Seal system) → Option Reply
+newest_reply [] = None
+newest_reply (d ∷ ds) = Some d.reply
 
 -- an engine in which nothing has begun
 abbrev pub opened_view : Rows → ℕ → View

@@ -1,5 +1,6 @@
 //! The engine.
 ghost use Rattle.std.specs.Prelude.{◌≡◌, ◌≤◌, ◌<◌, ◌-◌, ◌↔◌, ◌⊎◌, ℕ, IsTrue, suc, true, false, [], length, Option, None, Some, is_some, option_map, IfOk, IfErr, OnOk, OnErr, MatchResult};
+ghost use Rattle.std.specs.Option.{option_copied};
 ghost use Rattle.oe_theory.specs.Machine.{Take};
 ghost use Rattle.oe_theory.specs.World.{total};
 ghost use Rattle.oe_theory.specs.Next.{IsNew};
@@ -14,7 +15,7 @@ ghost use Rattle.oe_records.specs.Changes.{change_of};
 ghost use Rattle.oe_change.specs.Applies.{Refuses};
 ghost use Rattle.oe_undo.specs.Undo.{room_at};
 ghost use Rattle.oe_locks.specs.Held as locks;
-ghost use Rattle.oe_engine.specs.View.{view_of, opened_view, IsOpen};
+ghost use Rattle.oe_engine.specs.View.{view_of, newest_reply, opened_view, IsOpen};
 ghost use Rattle.oe_engine.specs.Covered.{MayMake, IsUnused, IsSafe};
 ghost use Rattle.oe_engine.specs.Calls.{ask_of, IsFree, IsBusy, IsBelow, begun, CantBegin, locked, made, put_mode, LockRefused, ChangeRefused, PairRefused, row_done, RowRefused, WantsPlace, AcceptsAll, IsCovered, CanUnwind, back_at, committed, rolled_back};
 
@@ -157,6 +158,16 @@ impl Engine {
         ensures { result ≡ total terminal_limit (view_of self.now).counts - length (view_of self.now).seals }
     {
         self.undo.horizon()
+    }
+
+    /// The reply of the newest commit, which the undo log keeps; none before the first commit.
+    pub fn newest_reply(&self) -> Option<&Reply>
+        ensures { option_copied result ≡ newest_reply (view_of self.now).seals }
+    {
+        match self.undo.committed(0) {
+            Some(commit) => Some(commit.reply()),
+            None => None,
+        }
     }
 
     /// How many transactions are open.

@@ -1,7 +1,7 @@
 //! What a row of a program asks for, and how a program's step ends.
 
 use oe_keys::{Mode, Name};
-use oe_requests::{Refusal, Reply};
+use oe_requests::Refusal;
 
 /// A lock that a row asks for before its work.
 #[derive(Clone, Copy, Debug, PartialEq, Eq)]
@@ -15,8 +15,8 @@ pub struct Lock {
 pub enum Progress {
     /// The row is done, and there is a further one.
     More,
-    /// All rows are done; nothing is left but to commit.
-    Ready(Reply),
+    /// All rows are done, and the program has its reply; nothing is left but to commit.
+    Ready,
     /// The row was refused, and nothing has changed.
     Refused(Refusal),
 }

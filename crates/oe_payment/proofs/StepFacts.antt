@@ -1,9 +1,10 @@
 -- A row that was done, or refused, by the engine is a step of the program.
 use Rattle.std.proofs.Common.{◌≡◌, ℕ, zero, suc, ◌<◌, Option, None, Some, refl, sym, ap, ◌∙◌, subst, inl, inr, ◌⊎◌, arith}
-use Rattle.oe_theory.specs.Machine.{Ask, Stop, Plain, Take, Go}
+use Rattle.oe_theory.specs.Machine.{Ask, Stop, Plain, Take, Go, Ready}
 use Rattle.oe_theory.specs.Machine as theory
 use Rattle.oe_theory.specs.Next.{IsNew, GivesWay}
 use Rattle.oe_requests.specs.declared.requests.Request.{Request}
+use Rattle.oe_requests.specs.declared.replies.Reply.{Reply}
 use Rattle.oe_requests.specs.declared.refusals.Refusal.{Refusal}
 use Rattle.oe_requests.specs.declared.refusals.Refusal.TheVariants.{BadLine, NoSuchRow, RowExists, Overflow, Reference, KeyColumn, Busy, UndoFull, NoMemory, NotOpen, AlreadyOpen, InvalidItem, NoCustomer, TooOld, Future, NotQuiet, NotPinned}
 use Rattle.oe_keys.specs.declared.locks.Name.{Name}
@@ -11,6 +12,7 @@ use Rattle.oe_model.specs.Changes.{Change}
 use Rattle.oe_requests.specs.declared.requests.PaymentRequest.{PaymentRequest}
 use Rattle.oe_requests.specs.declared.requests.Request.TheVariants as request
 use Rattle.oe_model.specs.Rows.{Rows}
+use Rattle.oe_model.specs.Effects.{Doing}
 use Rattle.oe_model.specs.Places.{Place, PaymentPlace, InPayment}
 use Rattle.oe_model.specs.Payment.{payment_ask, payment_act}
 use Rattle.oe_model.specs.System.{system, yields}
@@ -18,20 +20,30 @@ use Rattle.oe_undo.specs.Undo.{room_at}
 use Rattle.oe_engine.specs.View.{Stored, view_of, Handle, IsOpen}
 use Rattle.oe_engine.specs.Calls.{ask_of, IsFree, row_done, AcceptsAll, RowRefused, WantsPlace}
 use Rattle.oe_engine.specs.declared.rows.Lock.{Lock}
-use Rattle.oe_engine.specs.Programs.{ask_here, act_here, GoesOn, WantsMemory, IsRefused}
+use Rattle.oe_engine.specs.Programs.{ask_here, act_here, GoesOn, IsReady, WantsMemory, IsRefused}
 
 -- what the row at a place does, read off the engine: t, k and r are the terminal, the number and the rows
 asks_here : (s : Stored) (x : Handle) (q : PaymentRequest) (p : PaymentPlace) (r : Rows) (a : Ask Name Refusal) → r ≡ (view_of s).rows
     → payment_ask q p r ≡ a → ask_here s x (request.Payment q) (InPayment q p) ≡ a
 asks_here s x q p r a rows asks = subst (λ v. payment_ask q p v ≡ a) rows asks
 
-does_here : (s : Stored) (x : Handle) (q : PaymentRequest) (p : PaymentPlace) (t k : ℕ) (r : Rows) (c : Option Change) (p' : Place)
+does_here : (s : Stored) (x : Handle) (q : PaymentRequest) (p : PaymentPlace) (t k : ℕ) (r : Rows) (d : Doing)
     → t ≡ x.terminal → k ≡ suc ((view_of s).counts x.terminal) → r ≡ (view_of s).rows
-    → payment_act t k q p r ≡ Go c p' → act_here s x (request.Payment q) (InPayment q p) ≡ Go c p'
-does_here s x q p t k r c p' terminal number rows does =
-    subst (λ u. payment_act u (suc ((view_of s).counts x.terminal)) q p (view_of s).rows ≡ Go c p') terminal
-    (subst (λ n. payment_act t n q p (view_of s).rows ≡ Go c p') number
-    (subst (λ v. payment_act t k q p v ≡ Go c p') rows does))
+    → payment_act t k q p r ≡ d → act_here s x (request.Payment q) (InPayment q p) ≡ d
+does_here s x q p t k r d terminal number rows does =
+    subst (λ u. payment_act u (suc ((view_of s).counts x.terminal)) q p (view_of s).rows ≡ d) terminal
+    (subst (λ n. payment_act t n q p (view_of s).rows ≡ d) number
+    (subst (λ v. payment_act t k q p v ≡ d) rows does))
+
+pub is_ready : (s : Stored) (x : Handle) (q : PaymentRequest) (p : PaymentPlace) (y : Reply) (t k : ℕ) (r : Rows)
+    → t ≡ x.terminal → k ≡ suc ((view_of s).counts x.terminal) → r ≡ (view_of s).rows
+    → payment_ask q p r ≡ Plain → payment_act t k q p r ≡ Ready y → IsOpen s x → IsReady s x (request.Payment q) (InPayment q p) y
+is_ready s x q p y t k r terminal number rows asks does o =
+    record {
+      is_open = o;
+      free = subst (λ b. IsFree (view_of s) x.terminal b) (sym (asks_here s x q p r Plain rows asks)) tt;
+      does = does_here s x q p t k r (Ready y) terminal number rows does;
+    }
 
 pub goes_on : (s s' : Stored) (x : Handle) (q : PaymentRequest) (p : PaymentPlace) (p' : Place) (l : Option Lock) (c : Change) (t k : ℕ) (r : Rows)
     → t ≡ x.terminal → k ≡ suc ((view_of s).counts x.terminal) → r ≡ (view_of s).rows
@@ -45,7 +57,7 @@ goes_on s s' x q p p' l c t k r terminal number rows asks does o free accepted d
       is_open = o;
       free = subst (λ b. IsFree (view_of s) x.terminal b) (sym here) free;
       change = Some c;
-      does = does_here s x q p t k r (Some c) p' terminal number rows does;
+      does = does_here s x q p t k r (Go (Some c) p') terminal number rows does;
       accepted = accepted;
       done = done ∙ ap (λ b. row_done x.terminal b (Some c) (view_of s)) (sym here);
       name = same;
@@ -99,6 +111,6 @@ pub is_refused : (s : Stored) (x : Handle) (q : PaymentRequest) (p : PaymentPlac
     → payment_ask q p r ≡ ask_of l → payment_act t k q p r ≡ Go (Some c) p'
     → (e : Refusal) → IsRoom s x c (ask_of l) e → RowRefused s x (ask_of l) (Some c) e → IsRefused s x (request.Payment q) (InPayment q p) e
 is_refused s x q p p' l c t k r terminal number rows asks does e room h =
-    refused_by s x (request.Payment q) (InPayment q p) p' c (does_here s x q p t k r (Some c) p' terminal number rows does) e
+    refused_by s x (request.Payment q) (InPayment q p) p' c (does_here s x q p t k r (Go (Some c) p') terminal number rows does) e
     (subst (λ b. IsRoom s x c b e) (sym (asks_here s x q p r (ask_of l) rows asks)) room)
     (subst (λ b. RowRefused s x b (Some c) e) (sym (asks_here s x q p r (ask_of l) rows asks)) h)

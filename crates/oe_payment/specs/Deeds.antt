@@ -2,6 +2,7 @@
 use Rattle.std.specs.Prelude.{◌≡◌, ℕ, Bool, true, false, Some}
 use Rattle.oe_theory.specs.Machine.{Stop, Plain, Take, Fail, Go, Ready}
 use Rattle.oe_requests.specs.declared.requests.PaymentRequest.{PaymentRequest}
+use Rattle.oe_requests.specs.declared.replies.PaymentReply.{PaymentReply}
 use Rattle.oe_requests.specs.declared.replies.Reply.TheVariants as reply
 use Rattle.oe_requests.specs.declared.refusals.Refusal.{Refusal}
 use Rattle.oe_requests.specs.declared.refusals.Refusal.TheVariants.{NoSuchRow, NoCustomer, Overflow}
@@ -32,4 +33,4 @@ IsDeed t k q p r (deed.Fail l e) =
 IsDeed t k q p r (deed.LacksMemory l) =
     (payment_ask q p r ≡ Take l.name (mode_of l.mode)) × (c : Change) × (p' : Place) × (payment_act t k q p r ≡ Go (Some c) p') × (is_boxed c ≡ true)
 IsDeed t k q p r (deed.Go l c p') = (payment_ask q p r ≡ ask_of l) × (payment_act t k q p r ≡ Go (Some (change_of c)) (InPayment q (place_in p')))
-IsDeed t k q p r (deed.Ready y) = (payment_ask q p r ≡ Plain) × (payment_act t k q p r ≡ Ready (reply.Payment y))
+IsDeed t k q p r deed.Ready = (payment_ask q p r ≡ Plain) × (y : PaymentReply) × (payment_act t k q p r ≡ Ready (reply.Payment y))

@@ -32,7 +32,7 @@ pub enum Deed {
     /// It may ask for a lock, makes a change, and the next row is at this place.
     Go(Option<Lock>, Change, Place),
     /// All rows are done.
-    Ready(PaymentReply),
+    Ready,
 }
 
 // The lock of a name that a row changes.
@@ -169,6 +169,6 @@ pub fn row_of(
             pay_customer(alloc, request, &key, warehouse, district, tables)
         }
         Place::History(joined, reply) => note(request, joined, reply, terminal, number),
-        Place::End(reply) => Deed::Ready(reply.copied()),
+        Place::End(_) => Deed::Ready,
     }
 }

@@ -1,42 +1,40 @@
 //! The program.
-ghost use Rattle.std.specs.Prelude.{◌≡◌};
+ghost use Rattle.std.specs.Prelude.{◌≡◌, option_map};
+ghost use Rattle.std.specs.Option.{option_copied};
 ghost use Rattle.oe_requests.specs.declared.requests.Request.{Request};
-ghost use Rattle.oe_model.specs.Places.{PaymentWarehouse};
-ghost use Rattle.oe_engine.specs.Programs.{Progresses};
-ghost use Rattle.oe_payment.specs.Program.{place_of, IsByNumber};
+ghost use Rattle.oe_requests.specs.declared.replies.Reply.{Reply};
+ghost use Rattle.oe_model.specs.Places.{InPayment, PaymentWarehouse};
+ghost use Rattle.oe_engine.specs.Programs.{Progresses, payment_reply};
+ghost use Rattle.oe_payment.specs.Program.{IsByNumber};
 
 use crate::deeds::{Deed, row_of};
 use crate::places::Place;
 use oe_engine::{Engine, Progress, Tx};
-use oe_requests::{PaymentRequest, Refusal, Reply};
+use oe_requests::{PaymentReply, PaymentRequest, Refusal};
 use std::marker::Model;
 
-/// A payment by customer number, and the row that it comes to next. It is of fixed size.
+/// Where a payment by customer number stands: the row that it comes to next, with what the rows before have read. Its request lies
+/// with whoever carries it out. It is of fixed size.
 #[derive(Drop, Debug)]
 pub struct Program {
-    request: PaymentRequest,
     place: Place,
 }
 
 impl Model for Program {
-    ghost use Rattle.oe_payment.specs.Program.{Paying, place_in, IsByNumber};
+    ghost use Rattle.oe_model.specs.Places.{PaymentPlace};
+    ghost use Rattle.oe_payment.specs.Program.{place_in};
 
-    ghost Value = { Paying };
+    ghost Value = { PaymentPlace };
 
-    ghost view = { λ p. record { request = p.request; place = place_in p.place } };
-
-    ghost invariant = { λ p. IsByNumber p.request.customer };
+    ghost view = { λ p. place_in p.place };
 }
 
 impl Program {
     /// At its first row.
-    pub fn new(request: PaymentRequest) -> Self
-        requires { IsByNumber request.customer }
-        ensures request { result.request ≡ request }
-        ensures place { result.place ≡ PaymentWarehouse }
+    pub fn new() -> Self
+        ensures { result ≡ PaymentWarehouse }
     {
         Program {
-            request,
             place: Place::Warehouse,
         }
     }
@@ -46,16 +44,26 @@ impl Program {
         ensures { result ≡ self.now }
     {
         Program {
-            request: self.request.copied(),
             place: self.place.copied(),
         }
     }
 
+    /// The reply, once all rows are done; none before that.
+    pub fn reply(&self) -> Option<&PaymentReply>
+        ensures { option_map Reply.Payment (option_copied result) ≡ payment_reply self.now }
+    {
+        match &self.place {
+            Place::End(reply) => Some(reply),
+            _ => None,
+        }
+    }
+
     /// One row of the payment: its lock and its one change. The order of refusals is `NoCustomer`, `Busy`, `Overflow`, and
-    /// `NoMemory` where memory was refused. A refused row leaves the program, the tables and the locks as they were.
-    pub fn next(&mut self, engine: &mut Engine, tx: &Tx) -> Progress
-        ensures progresses { Progresses (Request.Payment self.old.request) tx.now engine.old (place_of self.old) result engine.new (place_of self.new) }
-        ensures request { self.new.request ≡ self.old.request }
+    /// `NoMemory` where memory was refused. A refused row leaves the program, the tables and the locks as they were. Each row of a
+    /// payment is told the same request.
+    pub fn next(&mut self, request: &PaymentRequest, engine: &mut Engine, tx: &Tx) -> Progress
+        requires { IsByNumber request.now.customer }
+        ensures { Progresses (Request.Payment request.now) tx.now engine.old (InPayment request.now self.old) result engine.new (InPayment request.now self.new) }
     {
         if !engine.is_open(tx) {
             return Progress::Refused(Refusal::NotOpen);
@@ -64,14 +72,14 @@ impl Program {
         let terminal = tx.terminal();
         match row_of(
             engine.allocator(),
-            &self.request,
+            request,
             &self.place,
             terminal,
             number,
             engine.tables(),
         ) {
             Deed::Stop => Progress::Refused(Refusal::NoCustomer),
-            Deed::Ready(reply) => Progress::Ready(Reply::Payment(reply)),
+            Deed::Ready => Progress::Ready,
             Deed::Fail(lock, refusal) => match engine.is_free(tx, lock) {
                 Ok(()) => Progress::Refused(refusal),
                 Err(busy) => Progress::Refused(busy),

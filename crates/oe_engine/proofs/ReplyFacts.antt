@@ -1,0 +1,86 @@
+-- A program that is ready has its reply in its place.
+use Rattle.std.proofs.Common.{◌≡◌, ℕ, [], ◌∷◌, Option, None, Some}
+use Rattle.std.specs.FinMap.{get}
+use Rattle.oe_theory.specs.Machine.{Tx, Go, Ready}
+use Rattle.oe_keys.specs.declared.keys.Key.TheVariants as key
+use Rattle.oe_requests.specs.declared.requests.PaymentRequest.{PaymentRequest}
+use Rattle.oe_requests.specs.declared.requests.NewOrderRequest.{NewOrderRequest}
+use Rattle.oe_requests.specs.declared.requests.DeliveryRequest.{DeliveryRequest}
+use Rattle.oe_requests.specs.declared.requests.Request.{Request}
+use Rattle.oe_requests.specs.declared.replies.Reply.{Reply}
+use Rattle.oe_requests.specs.declared.refusals.Column.{Column}
+use Rattle.oe_requests.specs.declared.refusals.Refusal.{Refusal}
+use Rattle.oe_requests.specs.declared.refusals.Refusal.TheVariants.{NoSuchRow, InvalidItem, NoCustomer}
+use Rattle.oe_model.specs.Keys.{warehouse_of_district, customer_in, order_in, new_order_in, line_in}
+use Rattle.oe_model.specs.Rows.{Rows}
+use Rattle.oe_model.specs.Changes.{Change, DeleteNewOrder}
+use Rattle.oe_model.specs.Effects.{Doing, given, within}
+use Rattle.oe_model.specs.Choice.{chosen}
+use Rattle.oe_model.specs.Places.{Place, InPayment, InNewOrder, InDelivery, NoProgram, PaymentPlace, PaymentWarehouse, PaymentDistrict, PaymentCustomer, PaymentHistory, PaymentEnd, NewOrderPlace, NewOrderWarehouse, NewOrderDistrict, NewOrderCustomer, NewOrderOrder, NewOrderQueue, NewOrderStock, NewOrderLine, DeliveryPlace, DeliveryQueue, DeliveryNothing, DeliveryOrder, DeliveryLine, DeliveryEnd}
+use Rattle.oe_model.specs.Payment.{payment_act}
+use Rattle.oe_model.specs.NewOrder.{item_at, stock_of, new_order_act}
+use Rattle.oe_model.specs.Delivery.{delivery_act, oldest}
+use Rattle.oe_model.specs.System.{act}
+use Rattle.oe_engine.specs.Programs.{payment_reply, new_order_reply, delivery_reply, reply_at}
+
+given_ready : {A : Type 0} (e : Refusal) (o : Option A) (f : A → Doing) (y : Reply) → given e o f ≡ Ready y → (a : A) × (f a ≡ Ready y)
+given_ready e None f y h = let no : ⊥ = cc in absurd no
+given_ready e (Some a) f y h = (a, h)
+
+within_ready : (o : Option Column) (d : Doing) (y : Reply) → within o d ≡ Ready y → d ≡ Ready y
+within_ready None d y h = h
+within_ready (Some k) d y h = let no : ⊥ = cc in absurd no
+
+goes : (c : Option Change) (p : Place) (y : Reply) → ◌≡◌ {A = Doing} (Go c p) (Ready y) → ⊥
+goes c p y h = cc
+
+payment_ready : (t k : ℕ) (q : PaymentRequest) (p : PaymentPlace) (r : Rows) (y : Reply) → payment_act t k q p r ≡ Ready y → payment_reply p ≡ Some y
+payment_ready t k q PaymentWarehouse r y h =
+    let (x, e) = given_ready (NoSuchRow (key.Warehouse (warehouse_of_district q.district))) (get r.warehouses (warehouse_of_district q.district)) _ y h in absurd (goes _ _ y (within_ready _ _ y e))
+payment_ready t k q (PaymentDistrict w) r y h =
+    let (x, e) = given_ready (NoSuchRow (key.District q.district)) (get r.districts q.district) _ y h in absurd (goes _ _ y (within_ready _ _ y e))
+payment_ready t k q (PaymentCustomer w d) r y h =
+    let (c, e) = given_ready NoCustomer (chosen q.customer_district q.customer r.customers) _ y h in
+    let (x, f) = given_ready NoCustomer (get r.customers (customer_in q.customer_district c)) _ y e in
+    absurd (goes _ _ y (within_ready _ _ y f))
+payment_ready t k q (PaymentHistory d z) r y h = absurd (goes _ _ y h)
+payment_ready t k q (PaymentEnd z) r y h = cc
+
+new_order_ready : (q : NewOrderRequest) (p : NewOrderPlace) (r : Rows) (y : Reply) → new_order_act q p r ≡ Ready y → new_order_reply p ≡ Some y
+new_order_ready q NewOrderWarehouse r y h =
+    let (x, e) = given_ready (NoSuchRow (key.Warehouse (warehouse_of_district q.district))) (get r.warehouses (warehouse_of_district q.district)) _ y h in absurd (goes _ _ y e)
+new_order_ready q (NewOrderDistrict w) r y h =
+    let (x, e) = given_ready (NoSuchRow (key.District q.district)) (get r.districts q.district) _ y h in absurd (goes _ _ y (within_ready _ _ y e))
+new_order_ready q (NewOrderCustomer o w d) r y h =
+    let (x, e) = given_ready NoCustomer (get r.customers (customer_in q.district q.customer)) _ y h in absurd (goes _ _ y e)
+new_order_ready q (NewOrderOrder s) r y h = absurd (goes _ _ y h)
+new_order_ready q (NewOrderQueue s) r y h = absurd (goes _ _ y h)
+new_order_ready q (NewOrderStock s before done []) r y h = cc
+new_order_ready q (NewOrderStock s before done (l ∷ ls)) r y h =
+    let (item, e) = given_ready InvalidItem (item_at l.item r.items) _ y h in
+    let (x, f) = given_ready (NoSuchRow (key.Stock (stock_of l))) (get r.stocks (stock_of l)) _ y e in
+    absurd (goes _ _ y (within_ready _ _ y f))
+new_order_ready q (NewOrderLine s before done l f ls) r y h = absurd (goes _ _ y h)
+
+-- the first row of a delivery, by the oldest order that waits
+queue_goes : (q : DeliveryRequest) (o : Option ℕ) (y : Reply)
+    → ◌≡◌ {A = Doing} (elim o [ None ↦ Go None (InDelivery q DeliveryNothing) | Some n ↦ Go (Some (DeleteNewOrder (new_order_in q.district n))) (InDelivery q (DeliveryOrder n)) ]) (Ready y) → ⊥
+queue_goes q None y h = goes _ _ y h
+queue_goes q (Some n) y h = goes _ _ y h
+
+delivery_ready : (q : DeliveryRequest) (p : DeliveryPlace) (r : Rows) (y : Reply) → delivery_act q p r ≡ Ready y → delivery_reply p ≡ Some y
+delivery_ready q DeliveryQueue r y h = absurd (queue_goes q (oldest q.district r.new_orders) y h)
+delivery_ready q DeliveryNothing r y h = cc
+delivery_ready q (DeliveryOrder o) r y h =
+    let (x, e) = given_ready (NoSuchRow (key.Order (order_in q.district o))) (get r.orders (order_in q.district o)) _ y h in absurd (goes _ _ y e)
+delivery_ready q (DeliveryLine o c [] sum) r y h =
+    let (x, e) = given_ready (NoSuchRow (key.Customer (customer_in q.district c))) (get r.customers (customer_in q.district c)) _ y h in absurd (goes _ _ y (within_ready _ _ y e))
+delivery_ready q (DeliveryLine o c (n ∷ ns) sum) r y h =
+    let (x, e) = given_ready (NoSuchRow (key.OrderLine (line_in (order_in q.district o) n))) (get r.order_lines (line_in (order_in q.district o) n)) _ y h in absurd (goes _ _ y e)
+delivery_ready q (DeliveryEnd o c sum) r y h = cc
+
+pub ready_at : (x : Tx Request) (p : Place) (r : Rows) (y : Reply) → act x p r ≡ Ready y → reply_at p ≡ Some y
+ready_at x (InPayment q p) r y h = payment_ready x.terminal x.number q p r y h
+ready_at x (InNewOrder q p) r y h = new_order_ready q p r y h
+ready_at x (InDelivery q p) r y h = delivery_ready q p r y h
+ready_at x NoProgram r y h = let no : ⊥ = cc in absurd no
