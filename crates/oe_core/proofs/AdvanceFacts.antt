@@ -2,13 +2,15 @@
 use Rattle.std.proofs.Common.{◌≡◌, ℕ, suc, inl, inr, true, false, List, Option, Some, None, length, slice_get, slice_set, sym, ap, ◌∙◌, subst, refl}
 use Rattle.std.specs.Prelude.{◌⊎◌}
 use Rattle.oe_theory.specs.Machine.{Mode, Ask, Stop, Plain, Take, Fail, Go, Tx}
-use Rattle.oe_theory.specs.World.{total, go_together}
-use Rattle.oe_theory.specs.Next.{Advance, More, Committed, Aborted, IsNew, GivesWay, held_after}
-use Rattle.oe_theory.specs.Store.{Slot, Store, tx_in, world_of, opened_by, slot_after, dropped, IsGrantedIn, IsInTheWayIn, MayLackMemoryIn, TakesNoRoom}
+use Rattle.oe_theory.specs.World.{World, total, go_together}
+use Rattle.oe_theory.specs.Next.{Next, Step, Answer, Advance, More, Committed, Aborted, commits, IsNew, GivesWay, held_after}
+use Rattle.oe_theory.specs.Store.{Slot, Store, tx_in, opened_by, slot_after, dropped, IsGrantedIn, IsInTheWayIn, MayLackMemoryIn, TakesNoRoom}
+use Rattle.oe_theory.specs.Store as theory
 use Rattle.oe_theory.specs.StoreTheorems.{Leads}
 use Rattle.oe_theory.proofs.Sets.{set_same, set_other, set_idle}
 use Rattle.oe_theory.proofs.StoreSteps.{tables_here, is_open_in, granted_here, acts_here}
 use Rattle.oe_theory.proofs.Theorems.{changes_are_accepted, abort_is_its_own}
+use Rattle.oe_requests.specs.declared.requests.PaymentRequest.{PaymentRequest}
 use Rattle.oe_requests.specs.declared.requests.Request.{Request}
 use Rattle.oe_requests.specs.declared.requests.Request.TheVariants as request
 use Rattle.oe_requests.specs.declared.replies.Reply.{Reply}
@@ -16,6 +18,7 @@ use Rattle.oe_keys.specs.declared.locks.Name.{Name}
 use Rattle.oe_requests.specs.declared.refusals.Refusal.{Refusal}
 use Rattle.oe_requests.specs.declared.refusals.Refusal.TheVariants.{BadLine, NoSuchRow, RowExists, Overflow, Reference, KeyColumn, Busy, UndoFull, NoMemory, NotOpen, AlreadyOpen, InvalidItem, NoCustomer, TooOld, Future, NotQuiet, NotPinned}
 use Rattle.oe_steps.specs.declared.steps.Step.TheVariants as step
+use Rattle.oe_steps.specs.declared.answers.Answer.TheVariants as answer
 use Rattle.oe_model.specs.Rows.{Rows}
 use Rattle.oe_model.specs.Changes.{Change}
 use Rattle.oe_model.specs.Meets.{Accepts}
@@ -27,14 +30,15 @@ use Rattle.oe_model.proofs.SystemLaws.{laws}
 use Rattle.oe_engine.specs.View.{View, view_of, Handle, IsOpen}
 use Rattle.oe_engine.specs.View as engine
 use Rattle.oe_engine.specs.Calls.{IsFree, IsInTheWay, row_done, committed, rolled_back}
-use Rattle.oe_engine.specs.Programs.{tx_of, ask_here, act_here, IsFreeHere, GoesOn, IsReady, Ends, WantsMemory, IsRefused}
-use Rattle.oe_core.specs.Core.{Stored, place_of, request_of, work_at, slot_of, open_at, store_of, IsOrderly, Moves, keeps_open}
-use Rattle.oe_core.specs.Steps.{refusal_in}
+use Rattle.oe_engine.specs.Programs.{reply_at, tx_of, ask_here, act_here, IsFreeHere, GoesOn, IsReady, Ends, WantsMemory, IsRefused}
+use Rattle.oe_engine.proofs.ReplyFacts.{ready_at}
+use Rattle.oe_core.specs.Core.{Stored, IsOf, place_of, reply_of, in_place, work_at, slot_of, open_at, store_of, world_of, IsOrderly, Moves, keeps_open}
+use Rattle.oe_core.specs.Steps.{refusal_in, Carries, newest_reply}
 use Rattle.oe_core.specs.declared.slots.Work.{Work}
 use Rattle.oe_core.specs.declared.programs.Program.{Program}
 use Rattle.oe_core.specs.declared.programs.Program.TheVariants as program
-use Rattle.oe_core.proofs.PlaceFacts.{taken_is, taken_out}
-use Rattle.oe_core.proofs.MoveFacts.{standing, the_steps, within, has_work, HasOpen, own_work, replaced, open_still, work_still, dropped_here}
+use Rattle.oe_core.proofs.PlaceFacts.{get_place}
+use Rattle.oe_core.proofs.MoveFacts.{standing, carries, the_steps, has_work, HasOpen, slot_here, own_work, worked, emptied, open_still, work_still, dropped_here}
 
 no_room : TakesNoRoom system
 unfolding record_length
@@ -54,75 +58,72 @@ in_the_way : (s : Stored) → IsOrderly s → (t : ℕ) (n : Name) (m : Mode) (u
     → IsInTheWayIn system (store_of s).slots t n m u
 in_the_way s o t n m u h =
     let v = view_of s.engine in
-    let found = has_work s.engine u (work_at s.slots u) (o.works u) h.is_open in
+    let found = has_work s.engine u (in_place s.txs u) (in_place s.works u) (o.works u) h.is_open in
     record {
       other = h.other;
       who = slot_of v u found.0;
       is_open = ap (open_at v u) found.1;
       conflicts = h.conflicts;
-      least = λ k p b ne e. ap (λ z. go_together m (z n)) (slot_held v k (work_at s.slots k) p e) ∙ h.least k b ne;
+      least = λ k p b ne e. ap (λ z. go_together m (z n)) (slot_held v k (work_at s k) p e) ∙ h.least k b ne;
     }
 
 -- an open transaction: what its row asks for, what it does, and whether its lock is free
-module _ (s : Stored) (t : ℕ) (w : Work) (h : HasOpen s t w) where
+module _ (s : Stored) (t : ℕ) (x : Handle) (w : Work) (h : HasOpen s t x w) where
   abbrev pub here : Slot system
   here = slot_of (view_of s.engine) t w
 
-  slot_here : (store_of s).slots t ≡ Some here
-  slot_here = ap (open_at (view_of s.engine) t) h.here
-
   -- by its handle it is the same as by its slot
-  same_tx : tx_of s.engine w.tx (request_of w.program) ≡ tx_in system t here
+  same_tx : tx_of s.engine x w.request ≡ tx_in system t here
   same_tx =
       let own = own_work h in
-      λ i. record { terminal = own.terminal i; number = suc ((view_of s.engine).counts (own.terminal i)); request = own.program i }
+      λ i. record { terminal = own.terminal i; number = suc ((view_of s.engine).counts (own.terminal i)); request = w.request }
 
-  pub asked_here : ask_here s.engine w.tx (request_of w.program) (place_of w.program) ≡ ask (tx_in system t here) (place_of w.program) (view_of s.engine).rows
-  asked_here = ap (λ z. ask z (place_of w.program) (view_of s.engine).rows) same_tx
+  pub asked_here : ask_here s.engine x w.request (place_of w.request w.program) ≡ ask (tx_in system t here) (place_of w.request w.program) (view_of s.engine).rows
+  asked_here = ap (λ z. ask z (place_of w.request w.program) (view_of s.engine).rows) same_tx
 
-  pub acted_here : act_here s.engine w.tx (request_of w.program) (place_of w.program) ≡ act (tx_in system t here) (place_of w.program) (view_of s.engine).rows
-  acted_here = ap (λ z. act z (place_of w.program) (view_of s.engine).rows) same_tx
+  pub acted_here : act_here s.engine x w.request (place_of w.request w.program) ≡ act (tx_in system t here) (place_of w.request w.program) (view_of s.engine).rows
+  acted_here = ap (λ z. act z (place_of w.request w.program) (view_of s.engine).rows) same_tx
 
-  pub free_here : IsFreeHere s.engine w.tx (request_of w.program) (place_of w.program)
-      → IsFree (view_of s.engine) t (ask (tx_in system t here) (place_of w.program) (view_of s.engine).rows)
+  pub free_here : IsFreeHere s.engine x w.request (place_of w.request w.program)
+      → IsFree (view_of s.engine) t (ask (tx_in system t here) (place_of w.request w.program) (view_of s.engine).rows)
   free_here f =
-      subst (λ (k : ℕ). IsFree (view_of s.engine) k (ask (tx_in system t here) (place_of w.program) (view_of s.engine).rows)) (own_work h).terminal
-      (subst (λ (a : Ask Name Refusal). IsFree (view_of s.engine) w.tx.terminal a) asked_here f)
+      subst (λ (k : ℕ). IsFree (view_of s.engine) k (ask (tx_in system t here) (place_of w.request w.program) (view_of s.engine).rows)) (own_work h).terminal
+      (subst (λ (a : Ask Name Refusal). IsFree (view_of s.engine) x.terminal a) asked_here f)
 
-  pub granted_in : IsFreeHere s.engine w.tx (request_of w.program) (place_of w.program)
-      → IsGrantedIn system (store_of s).slots t (ask (tx_in system t here) (place_of w.program) (view_of s.engine).rows)
-  granted_in f = granted (view_of s.engine) (work_at s.slots) t _ (free_here f)
+  pub granted_in : IsFreeHere s.engine x w.request (place_of w.request w.program)
+      → IsGrantedIn system (store_of s).slots t (ask (tx_in system t here) (place_of w.request w.program) (view_of s.engine).rows)
+  granted_in f = granted (view_of s.engine) (work_at s) t _ (free_here f)
 
   -- a row that ends its transaction
-  leads_stop : (x : Refusal) → ask (tx_in system t here) (place_of w.program) (view_of s.engine).rows ≡ Stop x
-      → Leads system (store_of s) (Advance t) (Aborted x) (dropped system t (store_of s))
-  leads_stop x q = the_steps.stops (store_of s) t here x (standing s h.orderly) slot_here q
+  leads_stop : (e : Refusal) → ask (tx_in system t here) (place_of w.request w.program) (view_of s.engine).rows ≡ Stop e
+      → Leads system (store_of s) (Advance t) (Aborted e) (dropped system t (store_of s))
+  leads_stop e q = the_steps.stops (store_of s) t here e (standing s h.orderly) (slot_here h) q
 
-  leads_fail : (x : Refusal) → IsFreeHere s.engine w.tx (request_of w.program) (place_of w.program)
-      → act (tx_in system t here) (place_of w.program) (view_of s.engine).rows ≡ Fail x
-      → Leads system (store_of s) (Advance t) (Aborted x) (dropped system t (store_of s))
-  leads_fail x f q = the_steps.fails (store_of s) t here x (standing s h.orderly) slot_here (granted_in f) q
+  leads_fail : (e : Refusal) → IsFreeHere s.engine x w.request (place_of w.request w.program)
+      → act (tx_in system t here) (place_of w.request w.program) (view_of s.engine).rows ≡ Fail e
+      → Leads system (store_of s) (Advance t) (Aborted e) (dropped system t (store_of s))
+  leads_fail e f q = the_steps.fails (store_of s) t here e (standing s h.orderly) (slot_here h) (granted_in f) q
 
   -- the tables accept each change of a row
-  accepted : (c : Change) (p : model.Place) → IsFreeHere s.engine w.tx (request_of w.program) (place_of w.program)
-      → act (tx_in system t here) (place_of w.program) (view_of s.engine).rows ≡ Go (Some c) p → Accepts c (view_of s.engine).rows
+  accepted : (c : Change) (p : model.Place) → IsFreeHere s.engine x w.request (place_of w.request w.program)
+      → act (tx_in system t here) (place_of w.request w.program) (view_of s.engine).rows ≡ Go (Some c) p → Accepts c (view_of s.engine).rows
   accepted c p f q =
       subst (Accepts c) (tables_here system laws (store_of s) (standing s h.orderly))
-      (changes_are_accepted system laws (world_of system (store_of s)) t (opened_by system ((store_of s).undo.active t) (store_of s).tables here) c p (standing s h.orderly).reached
-      (is_open_in system laws (store_of s) t here slot_here)
+      (changes_are_accepted system laws (theory.world_of system (store_of s)) t (opened_by system ((store_of s).undo.active t) (store_of s).tables here) c p (standing s h.orderly).reached
+      (is_open_in system laws (store_of s) t here (slot_here h))
       (granted_here system laws (store_of s) (standing s h.orderly) t here (granted_in f))
       (acts_here system laws (store_of s) (standing s h.orderly) t here ∙ q))
 
-  pub leads_end : (x : Refusal) → Ends s.engine w.tx (request_of w.program) (place_of w.program) x
-      → Leads system (store_of s) (Advance t) (Aborted x) (dropped system t (store_of s))
-  leads_end x (inl q) = leads_stop x (sym asked_here ∙ q)
-  leads_end x (inr (inl d)) = leads_fail x d.0 (sym acted_here ∙ d.1)
-  leads_end x (inr (inr d)) = absurd (not_both d.1 (view_of s.engine).rows x (accepted d.1 d.2 d.0 (sym acted_here ∙ d.3)) d.4)
+  pub leads_end : (e : Refusal) → Ends s.engine x w.request (place_of w.request w.program) e
+      → Leads system (store_of s) (Advance t) (Aborted e) (dropped system t (store_of s))
+  leads_end e (inl q) = leads_stop e (sym asked_here ∙ q)
+  leads_end e (inr (inl d)) = leads_fail e d.0 (sym acted_here ∙ d.1)
+  leads_end e (inr (inr d)) = absurd (not_both d.1 (view_of s.engine).rows e (accepted d.1 d.2 d.0 (sym acted_here ∙ d.3)) d.4)
 
   -- and the refusals that may end it
-  pub may_end : (x : Refusal) → Ends s.engine w.tx (request_of w.program) (place_of w.program) x → (q : Request) × MayRefuse q x
-  may_end x d =
-      let it = abort_is_its_own system laws (world_of system (store_of s)) _ t x (standing s h.orderly).reached (leads_end x d).next in
+  pub may_end : (e : Refusal) → Ends s.engine x w.request (place_of w.request w.program) e → (q : Request) × MayRefuse q e
+  may_end e d =
+      let it = abort_is_its_own system laws (theory.world_of system (store_of s)) _ t e (standing s h.orderly).reached (leads_end e d).next in
       (it.was.request, it.cause)
 
 -- what no program ends with
@@ -162,15 +163,19 @@ never_NotQuiet n (request.Deliveries q) h = h
 never_NotQuiet n (request.Rename q) h = h
 
 -- a row's change may need memory
-allocates : (x : Tx Request) (p : Program) (r : Rows) (c : Change) (q : model.Place) → act x (place_of p) r ≡ Go (Some c) q → may_allocate (place_of p) ≡ true
-allocates x (program.Payment p) r c q e = go p.place e
-  where
-    go : (k : model.PaymentPlace) → act x (model.InPayment p.request k) r ≡ Go (Some c) q → may_allocate (model.InPayment p.request k) ≡ true
-    go model.PaymentWarehouse h = refl
-    go (model.PaymentDistrict n) h = refl
-    go (model.PaymentCustomer n d) h = refl
-    go (model.PaymentHistory d y) h = refl
-    go (model.PaymentEnd y) h = let no : ⊥ = cc in absurd no
+payment_allocates : (x : Tx Request) (q : PaymentRequest) (p : model.PaymentPlace) (r : Rows) (c : Change) (z : model.Place) → act x (model.InPayment q p) r ≡ Go (Some c) z → may_allocate (model.InPayment q p) ≡ true
+payment_allocates x q model.PaymentWarehouse r c z e = refl
+payment_allocates x q (model.PaymentDistrict n) r c z e = refl
+payment_allocates x q (model.PaymentCustomer n d) r c z e = refl
+payment_allocates x q (model.PaymentHistory d y) r c z e = refl
+payment_allocates x q (model.PaymentEnd y) r c z e = let no : ⊥ = cc in absurd no
+
+allocates : (x : Tx Request) (q : Request) (p : Program) (r : Rows) (c : Change) (z : model.Place) → act x (place_of q p) r ≡ Go (Some c) z → may_allocate (place_of q p) ≡ true
+allocates x (request.Payment q) (program.Payment p) r c z e = payment_allocates x q p r c z e
+allocates x (request.NewOrder q) p r c z e = let no : ⊥ = cc in absurd no
+allocates x (request.Delivery q) p r c z e = let no : ⊥ = cc in absurd no
+allocates x (request.Deliveries q) p r c z e = let no : ⊥ = cc in absurd no
+allocates x (request.Rename q) p r c z e = let no : ⊥ = cc in absurd no
 
 lacks : (s : Store system) (t : ℕ) (p : Slot system) (a : Ask Name Refusal) → IsGrantedIn system s.slots t a → (IsNew system p.held a ⊎ (may_allocate p.place ≡ true))
     → GivesWay system (yields p.place) (act (tx_in system t p) p.place s.tables) → MayLackMemoryIn system s t p a
@@ -179,157 +184,166 @@ lacks s t p Plain g n y = (g, n, y)
 lacks s t p (Take k m) g n y = (g, n, y)
 
 -- the row went on
-pub went_on_here : {s : Stored} {t : ℕ} {w : Work} → HasOpen s t w → (p : Program) (e' : engine.Stored) (ys : List (Option Work))
-    → GoesOn s.engine w.tx (request_of w.program) (place_of w.program) e' (place_of p) → request_of p ≡ request_of w.program
-    → ys ≡ slice_set s.slots t (Some (record w { program = p }))
-    → Moves s (Advance t) More (record { engine = e'; slots = ys })
-went_on_here {s} {t} {w} h p e' ys g r q =
+pub went_on_here : {s : Stored} {t : ℕ} {x : Handle} {w : Work} → HasOpen s t x w → (p : Program) (e' : engine.Stored) (ws : List (Option Work))
+    → GoesOn s.engine x w.request (place_of w.request w.program) e' (place_of w.request p) → IsOf w.request p
+    → ws ≡ slice_set s.works t (Some (record w { program = p }))
+    → Moves s (Advance t) More (record { engine = e'; txs = s.txs; works = ws })
+went_on_here {s} {t} {x} {w} h p e' ws g r q =
     let v = view_of s.engine in
     let own = own_work h in
-    let a = ask (tx_in system t (slot_of v t w)) (place_of w.program) v.rows in
+    let a = ask (tx_in system t (slot_of v t w)) (place_of w.request w.program) v.rows in
     let now : view_of e' ≡ row_done t a g.change v =
     g.done
-    ∙ (ap (λ (z : Ask Name Refusal). row_done w.tx.terminal z g.change v) (asked_here s t w h)
+    ∙ (ap (λ (z : Ask Name Refusal). row_done x.terminal z g.change v) (asked_here s t x w h)
     ∙ ap (λ (z : ℕ). row_done z a g.change v) own.terminal) in
-    replaced s h.orderly (Advance t) More t h.low (Some (record w { program = p })) (Some (slot_after system (slot_of v t w) (length (v.undo.active t)) a (place_of p))) e' (row_done t a g.change v)
-    (the_steps.goes_on (store_of s) t (slot_of v t w) g.change (place_of p) (standing s h.orderly) (slot_here s t w h) (granted_in s t w h g.free)
-    (sym (acted_here s t w h) ∙ g.does) (the_steps.is_room no_room (store_of s) t g.change))
+    worked h (Advance t) More (record w { program = p }) (Some (slot_after system (slot_of v t w) (length (v.undo.active t)) a (place_of w.request p))) e' (row_done t a g.change v)
+    (the_steps.goes_on (store_of s) t (slot_of v t w) g.change (place_of w.request p) (standing s h.orderly) (slot_here h) (granted_in s t x w h g.free)
+    (sym (acted_here s t x w h) ∙ g.does) (the_steps.is_room no_room (store_of s) t g.change))
     now g.name (record { counts = λ u n. refl; held = λ u n. set_other t _ v.held u n; is_open = λ u n. refl })
     (λ i. Some (record {
       number = suc (v.counts t);
       request = w.request;
-      place = place_of p;
-      mark_place = place_of w.mark_program;
-      mark_count = w.mark;
+      place = place_of w.request p;
+      mark_place = place_of w.request w.mark.program;
+      mark_count = w.mark.records;
       held = set_same t (held_after system a (v.held t)) v.held t refl i;
     }))
-    (work_still s.engine e' t w p w.mark_program w.mark own (ap (λ (z : View). z.is_open) now) g.name (r ∙ own.program) own.mark_program)
-    ys q
+    (work_still s.engine e' t x w p w.mark own (ap (λ (z : View). z.is_open) now) g.name r own.mark)
+    ws q
 
--- the transaction was taken out of its place, its program at another row
-pub record IsTaken (s : Stored) (t : ℕ) (w out : Work) (ys : List (Option Work)) : Type 0 where
-  pub was_open : HasOpen s t w
-  pub tx : out.tx ≡ w.tx
-  pub request : out.request ≡ w.request
-  pub slots : ys ≡ slice_set s.slots t None
+-- what is taken out of a place is the transaction that stood there
+pub taken_is : {s : Stored} {t : ℕ} {x : Handle} {w : Work} → HasOpen s t x w → (out : Handle) → slice_get s.txs t ≡ Some (Some out) → out ≡ x
+taken_is {s} {t} {x} h out e =
+    let it : Some out ≡ Some x = sym (get_place s.txs t (Some out) None e) ∙ h.tx in
+    cc
 
-pub is_taken : {s : Stored} {t : ℕ} {w : Work} → HasOpen s t w → (p : Program) (i : ℕ) (out : Work) (ys : List (Option Work)) → i ≡ t
-    → slice_get (slice_set s.slots i (Some (record w { program = p }))) t ≡ Some (Some out) → ys ≡ slice_set (slice_set s.slots i (Some (record w { program = p }))) t None
-    → IsTaken s t w out ys
-is_taken {s} {t} {w} h p i out ys same get left =
-    let it : out ≡ record w { program = p } = taken_is s.slots i t (record w { program = p }) out same (within s h.orderly t h.low) get in
-    record {
-      was_open = h;
-      tx = ap (λ (z : Work). z.tx) it;
-      request = ap (λ (z : Work). z.request) it;
-      slots = taken_out s.slots ys i t (Some (record w { program = p })) None same left;
-    }
+-- it is open still, where the engine stands for the same
+pub taken_is_open : {s : Stored} {t : ℕ} {x : Handle} {w : Work} → HasOpen s t x w → (out : Handle) → slice_get s.txs t ≡ Some (Some out) → (e' : engine.Stored)
+    → view_of e' ≡ view_of s.engine → e'.name ≡ s.engine.name → IsOpen e' out
+taken_is_open {s} {t} {x} h out e e' b name =
+    subst (λ (z : Handle). IsOpen e' z) (sym (taken_is h out e)) (open_still s.engine e' x (ap (λ (z : View). z.is_open) b) name (own_work h).is_open)
 
--- it is still open then, where the engine stands for the same
-pub taken_is_open : {s : Stored} {t : ℕ} {w out : Work} {ys : List (Option Work)} → IsTaken s t w out ys → (e' : engine.Stored)
-    → view_of e' ≡ view_of s.engine → e'.name ≡ s.engine.name → IsOpen e' out.tx
-taken_is_open {s} {t} {w} k e' b name =
-    subst (λ (z : Handle). IsOpen e' z) (sym k.tx) (open_still s.engine e' w.tx (ap (λ (z : View). z.is_open) b) name (own_work k.was_open).is_open)
+-- a program that is ready has its reply
+reply_here : (q : Request) (p : Program) → IsOf q p → reply_at (place_of q p) ≡ reply_of p
+reply_here (request.Payment q) (program.Payment p) h = refl
+reply_here (request.NewOrder q) p h = absurd h
+reply_here (request.Delivery q) p h = absurd h
+reply_here (request.Deliveries q) p h = absurd h
+reply_here (request.Rename q) p h = absurd h
+
+pub has_reply : {s : Stored} {t : ℕ} {x : Handle} {w : Work} → HasOpen s t x w → (p : Program) → IsOf w.request p → place_of w.request p ≡ place_of w.request w.program
+    → (y : Reply) → IsReady s.engine x w.request (place_of w.request w.program) y → reply_of p ≡ Some y
+has_reply {s} {t} {x} {w} h p of_it same y g =
+    sym (reply_here w.request p of_it) ∙ (ap reply_at same ∙ ready_at (tx_of s.engine x w.request) (place_of w.request w.program) (view_of s.engine).rows y g.does)
 
 -- it was ready, and its transaction committed
-pub committed_here : {s : Stored} {t : ℕ} {w out : Work} {ys : List (Option Work)} → IsTaken s t w out ys → (y : Reply) (n : ℕ) (e₀ e' : engine.Stored)
-    → IsReady s.engine w.tx (request_of w.program) (place_of w.program) y → e₀ ≡ s.engine → n ≡ suc (total terminal_limit (view_of e₀).counts)
-    → view_of e' ≡ committed out.tx.terminal out.request y (view_of e₀) → e'.name ≡ e₀.name
-    → Moves s (Advance t) (Committed n y) (record { engine = e'; slots = ys })
-committed_here {s} {t} {w} {out} {ys} k y n e₀ e' g same c b name =
+pub committed_here : {s : Stored} {t : ℕ} {x : Handle} {w : Work} → HasOpen s t x w → (out : Handle) → out ≡ x → (y : Reply) (n : ℕ) (e₀ e' : engine.Stored) (xs : List (Option Handle)) (ws : List (Option Work)) (z : Option Work)
+    → IsReady s.engine x w.request (place_of w.request w.program) y → e₀ ≡ s.engine → n ≡ suc (total terminal_limit (view_of e₀).counts)
+    → view_of e' ≡ committed out.terminal w.request y (view_of e₀) → e'.name ≡ e₀.name → xs ≡ slice_set s.txs t None → ws ≡ slice_set s.works t z
+    → Moves s (Advance t) (Committed n y) (record { engine = e'; txs = xs; works = ws })
+committed_here {s} {t} {x} {w} h out own y n e₀ e' xs ws z g same c b name p q =
     let v = view_of s.engine in
-    let h = k.was_open in
     let now : view_of e' ≡ committed t w.request y v =
-    b ∙ (ap (λ (z : engine.Stored). committed out.tx.terminal out.request y (view_of z)) same
-    ∙ (ap (λ (z : Request). committed out.tx.terminal z y v) k.request ∙ ap (λ (z : ℕ). committed z w.request y v) (ap (λ (z : Handle). z.terminal) k.tx ∙ (own_work h).terminal))) in
-    let moment : n ≡ suc (total terminal_limit v.counts) = c ∙ ap (λ (z : engine.Stored). suc (total terminal_limit (view_of z).counts)) same in
-    subst (λ (z : ℕ). Moves s (Advance t) (Committed z y) (record { engine = e'; slots = ys })) (sym moment)
-    (replaced s h.orderly (Advance t) (Committed (suc (total terminal_limit v.counts)) y) t h.low None None e' (committed t w.request y v)
-    (the_steps.commits (store_of s) t (slot_of v t w) y (standing s h.orderly) (slot_here s t w h) (granted_in s t w h g.free) (sym (acted_here s t w h) ∙ g.does))
-    now (name ∙ ap (λ (z : engine.Stored). z.name) same)
-    (record { counts = λ u n. set_other t _ v.counts u n; held = λ u n. set_other t _ v.held u n; is_open = λ u n. set_other t false v.is_open u n }) refl
-    (ap (λ (z : View). z.is_open t) now ∙ set_same t false v.is_open t refl)
-    ys k.slots)
+    b ∙ (ap (λ (k : engine.Stored). committed out.terminal w.request y (view_of k)) same
+    ∙ ap (λ (k : ℕ). committed k w.request y v) (ap (λ (k : Handle). k.terminal) own ∙ (own_work h).terminal)) in
+    let moment : n ≡ suc (total terminal_limit v.counts) = c ∙ ap (λ (k : engine.Stored). suc (total terminal_limit (view_of k).counts)) same in
+    subst (λ (k : ℕ). Moves s (Advance t) (Committed k y) (record { engine = e'; txs = xs; works = ws })) (sym moment)
+    (emptied h (Advance t) (Committed (suc (total terminal_limit v.counts)) y) e' (committed t w.request y v)
+    (the_steps.commits (store_of s) t (slot_of v t w) y (standing s h.orderly) (slot_here h) (granted_in s t x w h g.free) (sym (acted_here s t x w h) ∙ g.does))
+    now (name ∙ ap (λ (k : engine.Stored). k.name) same)
+    (record { counts = λ u n. set_other t _ v.counts u n; held = λ u n. set_other t _ v.held u n; is_open = λ u n. set_other t false v.is_open u n })
+    (set_same t false v.is_open t refl)
+    xs ws z p q)
+
+-- the reply of a commit is that of the newest
+pub reply_is_newest : (w : World system) (i : Step system) (a : Answer system) (w' : World system) (m : ℕ) (y : Reply) → Next system w i a w' → a ≡ Committed m y → newest_reply w' ≡ Some y
+reply_is_newest w _ _ _ m y (commits t o z e g r) h = cc
+reply_is_newest w _ _ _ m y n h = let no : ⊥ = cc in absurd no
+
+pub told_newest : {s : Stored} {t m : ℕ} {y : Reply} {s' : Stored} → Moves s (Advance t) (Committed m y) s'
+    → (z : Reply) × (newest_reply (world_of s') ≡ Some z) × Carries (world_of s) (step.Advance t) (answer.Committed m z) (world_of s')
+told_newest {s} {t} {m} {y} {s'} k = (y, reply_is_newest (world_of s) (Advance t) (Committed m y) (world_of s') m y k.next refl, carries k)
 
 -- the refusals after which it stays open
-kept_lead : (s : Stored) (t : ℕ) (w : Work) → HasOpen s t w → (x : Refusal) → keeps_open x ≡ true
-    → IsRefused s.engine w.tx (request_of w.program) (place_of w.program) x → Leads system (store_of s) (Advance t) (refusal_in (step.Advance t) x) (store_of s)
-kept_lead s t w o (BadLine n) kp h = let no : ⊥ = cc in absurd no
-kept_lead s t w o (NoSuchRow k) kp h = let no : ⊥ = cc in absurd no
-kept_lead s t w o (RowExists k) kp h = let no : ⊥ = cc in absurd no
-kept_lead s t w o (Overflow c) kp h = let no : ⊥ = cc in absurd no
-kept_lead s t w o (Reference k) kp h = let no : ⊥ = cc in absurd no
-kept_lead s t w o KeyColumn kp h = let no : ⊥ = cc in absurd no
-kept_lead s t w o (Busy n u) kp h =
-    the_steps.is_busy (store_of s) t (here s t w o) n h.1.0 u (standing s o.orderly) (slot_here s t w o) (sym (asked_here s t w o) ∙ h.1.1)
+kept_lead : (s : Stored) (t : ℕ) (y : Handle) (w : Work) → HasOpen s t y w → (x : Refusal) → keeps_open x ≡ true
+    → IsRefused s.engine y w.request (place_of w.request w.program) x → Leads system (store_of s) (Advance t) (refusal_in (step.Advance t) x) (store_of s)
+kept_lead s t y w o (BadLine n) kp h = let no : ⊥ = cc in absurd no
+kept_lead s t y w o (NoSuchRow k) kp h = let no : ⊥ = cc in absurd no
+kept_lead s t y w o (RowExists k) kp h = let no : ⊥ = cc in absurd no
+kept_lead s t y w o (Overflow c) kp h = let no : ⊥ = cc in absurd no
+kept_lead s t y w o (Reference k) kp h = let no : ⊥ = cc in absurd no
+kept_lead s t y w o KeyColumn kp h = let no : ⊥ = cc in absurd no
+kept_lead s t y w o (Busy n u) kp h =
+    the_steps.is_busy (store_of s) t (here s t y w o) n h.1.0 u (standing s o.orderly) (slot_here o) (sym (asked_here s t y w o) ∙ h.1.1)
     (in_the_way s o.orderly t n h.1.0 u (subst (λ (z : ℕ). IsInTheWay (view_of s.engine) z n h.1.0 u) (own_work o).terminal h.1.2))
-kept_lead s t w o UndoFull kp h = let it = may_end s t w o UndoFull h.1 in absurd (never_UndoFull it.0 it.1)
-kept_lead s t w o NoMemory kp h =
-    the_steps.lacks_memory (store_of s) t (here s t w o) (standing s o.orderly) (slot_here s t w o)
-    (lacks (store_of s) t (here s t w o) _ (granted_in s t w o h.1) (new h.2)
-    (subst (GivesWay system (yields (place_of w.program))) (acted_here s t w o) h.3))
+kept_lead s t y w o UndoFull kp h = let it = may_end s t y w o UndoFull h.1 in absurd (never_UndoFull it.0 it.1)
+kept_lead s t y w o NoMemory kp h =
+    the_steps.lacks_memory (store_of s) t (here s t y w o) (standing s o.orderly) (slot_here o)
+    (lacks (store_of s) t (here s t y w o) _ (granted_in s t y w o h.1) (new h.2)
+    (subst (GivesWay system (yields (place_of w.request w.program))) (acted_here s t y w o) h.3))
   where
-    own : (view_of s.engine).held w.tx.terminal ≡ (view_of s.engine).held t
+    own : (view_of s.engine).held y.terminal ≡ (view_of s.engine).held t
     own = ap (view_of s.engine).held (own_work o).terminal
 
-    new : IsNew system ((view_of s.engine).held w.tx.terminal) (ask_here s.engine w.tx (request_of w.program) (place_of w.program))
-        ⊎ ((c : Change) × (p' : model.Place) × (act_here s.engine w.tx (request_of w.program) (place_of w.program) ≡ Go (Some c) p') × WantsMemory s.engine w.tx c)
-        → IsNew system ((view_of s.engine).held t) (ask (tx_in system t (here s t w o)) (place_of w.program) (view_of s.engine).rows) ⊎ (may_allocate (place_of w.program) ≡ true)
-    new (inl a) = inl (subst (λ z. IsNew system z (ask (tx_in system t (here s t w o)) (place_of w.program) (view_of s.engine).rows)) own (subst (IsNew system ((view_of s.engine).held w.tx.terminal)) (asked_here s t w o) a))
-    new (inr a) = inr (allocates (tx_of s.engine w.tx (request_of w.program)) w.program (view_of s.engine).rows a.0 a.1 a.2)
-kept_lead s t w o NotOpen kp h = let no : ⊥ = cc in absurd no
-kept_lead s t w o AlreadyOpen kp h = let no : ⊥ = cc in absurd no
-kept_lead s t w o InvalidItem kp h = let no : ⊥ = cc in absurd no
-kept_lead s t w o NoCustomer kp h = let no : ⊥ = cc in absurd no
-kept_lead s t w o (TooOld m) kp h = let no : ⊥ = cc in absurd no
-kept_lead s t w o (Future m) kp h = let no : ⊥ = cc in absurd no
-kept_lead s t w o (NotQuiet n) kp h = let no : ⊥ = cc in absurd no
-kept_lead s t w o (NotPinned n) kp h = let no : ⊥ = cc in absurd no
+    new : IsNew system ((view_of s.engine).held y.terminal) (ask_here s.engine y w.request (place_of w.request w.program))
+        ⊎ ((c : Change) × (p' : model.Place) × (act_here s.engine y w.request (place_of w.request w.program) ≡ Go (Some c) p') × WantsMemory s.engine y c)
+        → IsNew system ((view_of s.engine).held t) (ask (tx_in system t (here s t y w o)) (place_of w.request w.program) (view_of s.engine).rows) ⊎ (may_allocate (place_of w.request w.program) ≡ true)
+    new (inl a) = inl (subst (λ z. IsNew system z (ask (tx_in system t (here s t y w o)) (place_of w.request w.program) (view_of s.engine).rows)) own (subst (IsNew system ((view_of s.engine).held y.terminal)) (asked_here s t y w o) a))
+    new (inr a) = inr (allocates (tx_of s.engine y w.request) w.request w.program (view_of s.engine).rows a.0 a.1 a.2)
+kept_lead s t y w o NotOpen kp h = let no : ⊥ = cc in absurd no
+kept_lead s t y w o AlreadyOpen kp h = let no : ⊥ = cc in absurd no
+kept_lead s t y w o InvalidItem kp h = let no : ⊥ = cc in absurd no
+kept_lead s t y w o NoCustomer kp h = let no : ⊥ = cc in absurd no
+kept_lead s t y w o (TooOld m) kp h = let no : ⊥ = cc in absurd no
+kept_lead s t y w o (Future m) kp h = let no : ⊥ = cc in absurd no
+kept_lead s t y w o (NotQuiet n) kp h = let no : ⊥ = cc in absurd no
+kept_lead s t y w o (NotPinned n) kp h = let no : ⊥ = cc in absurd no
 
 -- those after which it is gone
-ended_lead : (s : Stored) (t : ℕ) (w : Work) → HasOpen s t w → (x : Refusal) → keeps_open x ≡ false
-    → IsRefused s.engine w.tx (request_of w.program) (place_of w.program) x → Leads system (store_of s) (Advance t) (refusal_in (step.Advance t) x) (dropped system t (store_of s))
-ended_lead s t w o (BadLine n) kp h = leads_end s t w o (BadLine n) h.1
-ended_lead s t w o (NoSuchRow k) kp h = leads_end s t w o (NoSuchRow k) h.1
-ended_lead s t w o (RowExists k) kp h = leads_end s t w o (RowExists k) h.1
-ended_lead s t w o (Overflow c) kp h = leads_end s t w o (Overflow c) h.1
-ended_lead s t w o (Reference k) kp h = leads_end s t w o (Reference k) h.1
-ended_lead s t w o KeyColumn kp h = leads_end s t w o KeyColumn h.1
-ended_lead s t w o (Busy n u) kp h = let no : ⊥ = cc in absurd no
-ended_lead s t w o UndoFull kp h = let no : ⊥ = cc in absurd no
-ended_lead s t w o NoMemory kp h = let no : ⊥ = cc in absurd no
-ended_lead s t w o NotOpen kp h = absurd (h (own_work o).is_open)
-ended_lead s t w o AlreadyOpen kp h = let it = may_end s t w o AlreadyOpen h.1 in absurd (never_AlreadyOpen it.0 it.1)
-ended_lead s t w o InvalidItem kp h = leads_end s t w o InvalidItem h.1
-ended_lead s t w o NoCustomer kp h = leads_end s t w o NoCustomer h.1
-ended_lead s t w o (TooOld m) kp h = let it = may_end s t w o (TooOld m) h.1 in absurd (never_TooOld m it.0 it.1)
-ended_lead s t w o (Future m) kp h = let it = may_end s t w o (Future m) h.1 in absurd (never_Future m it.0 it.1)
-ended_lead s t w o (NotQuiet n) kp h = let it = may_end s t w o (NotQuiet n) h.1 in absurd (never_NotQuiet n it.0 it.1)
-ended_lead s t w o (NotPinned n) kp h = leads_end s t w o (NotPinned n) h.1
+ended_lead : (s : Stored) (t : ℕ) (y : Handle) (w : Work) → HasOpen s t y w → (x : Refusal) → keeps_open x ≡ false
+    → IsRefused s.engine y w.request (place_of w.request w.program) x → Leads system (store_of s) (Advance t) (refusal_in (step.Advance t) x) (dropped system t (store_of s))
+ended_lead s t y w o (BadLine n) kp h = leads_end s t y w o (BadLine n) h.1
+ended_lead s t y w o (NoSuchRow k) kp h = leads_end s t y w o (NoSuchRow k) h.1
+ended_lead s t y w o (RowExists k) kp h = leads_end s t y w o (RowExists k) h.1
+ended_lead s t y w o (Overflow c) kp h = leads_end s t y w o (Overflow c) h.1
+ended_lead s t y w o (Reference k) kp h = leads_end s t y w o (Reference k) h.1
+ended_lead s t y w o KeyColumn kp h = leads_end s t y w o KeyColumn h.1
+ended_lead s t y w o (Busy n u) kp h = let no : ⊥ = cc in absurd no
+ended_lead s t y w o UndoFull kp h = let no : ⊥ = cc in absurd no
+ended_lead s t y w o NoMemory kp h = let no : ⊥ = cc in absurd no
+ended_lead s t y w o NotOpen kp h = absurd (h (own_work o).is_open)
+ended_lead s t y w o AlreadyOpen kp h = let it = may_end s t y w o AlreadyOpen h.1 in absurd (never_AlreadyOpen it.0 it.1)
+ended_lead s t y w o InvalidItem kp h = leads_end s t y w o InvalidItem h.1
+ended_lead s t y w o NoCustomer kp h = leads_end s t y w o NoCustomer h.1
+ended_lead s t y w o (TooOld m) kp h = let it = may_end s t y w o (TooOld m) h.1 in absurd (never_TooOld m it.0 it.1)
+ended_lead s t y w o (Future m) kp h = let it = may_end s t y w o (Future m) h.1 in absurd (never_Future m it.0 it.1)
+ended_lead s t y w o (NotQuiet n) kp h = let it = may_end s t y w o (NotQuiet n) h.1 in absurd (never_NotQuiet n it.0 it.1)
+ended_lead s t y w o (NotPinned n) kp h = leads_end s t y w o (NotPinned n) h.1
 
 -- it was refused, and stays open where it stands
-pub kept_here : {s : Stored} {t : ℕ} {w : Work} → HasOpen s t w → (p : Program) (e' : engine.Stored) (ys : List (Option Work)) (x : Refusal)
-    → keeps_open x ≡ true → IsRefused s.engine w.tx (request_of w.program) (place_of w.program) x
-    → view_of e' ≡ view_of s.engine → e'.name ≡ s.engine.name → request_of p ≡ request_of w.program → place_of p ≡ place_of w.program
-    → ys ≡ slice_set s.slots t (Some (record w { program = p }))
-    → Moves s (Advance t) (refusal_in (step.Advance t) x) (record { engine = e'; slots = ys })
-kept_here {s} {t} {w} h p e' ys x kept why b name r same q =
+pub kept_here : {s : Stored} {t : ℕ} {y : Handle} {w : Work} → HasOpen s t y w → (p : Program) (e' : engine.Stored) (ws : List (Option Work)) (x : Refusal)
+    → keeps_open x ≡ true → IsRefused s.engine y w.request (place_of w.request w.program) x
+    → view_of e' ≡ view_of s.engine → e'.name ≡ s.engine.name → IsOf w.request p → place_of w.request p ≡ place_of w.request w.program
+    → ws ≡ slice_set s.works t (Some (record w { program = p }))
+    → Moves s (Advance t) (refusal_in (step.Advance t) x) (record { engine = e'; txs = s.txs; works = ws })
+kept_here {s} {t} {y} {w} h p e' ws x kept why b name r same q =
     let v = view_of s.engine in
     let own = own_work h in
-    replaced s h.orderly (Advance t) (refusal_in (step.Advance t) x) t h.low (Some (record w { program = p })) (Some (slot_of v t w)) e' v
+    worked h (Advance t) (refusal_in (step.Advance t) x) (record w { program = p }) (Some (slot_of v t w)) e' v
     (subst (λ (f : ℕ → Option (Slot system)). Leads system (store_of s) (Advance t) (refusal_in (step.Advance t) x) (record { tables = v.rows; undo = v.undo; slots = f; seals = v.seals; counts = v.counts; extents = v.extents }))
-    (sym (set_idle t (Some (slot_of v t w)) (store_of s).slots (slot_here s t w h))) (kept_lead s t w h x kept why))
+    (sym (set_idle t (Some (slot_of v t w)) (store_of s).slots (slot_here h))) (kept_lead s t y w h x kept why))
     b name (record { counts = λ u n. refl; held = λ u n. refl; is_open = λ u n. refl })
-    (λ i. Some (record { number = suc (v.counts t); request = w.request; place = same i; mark_place = place_of w.mark_program; mark_count = w.mark; held = v.held t }))
-    (work_still s.engine e' t w p w.mark_program w.mark own (ap (λ (z : View). z.is_open) b) name (r ∙ own.program) own.mark_program)
-    ys q
+    (λ i. Some (record { number = suc (v.counts t); request = w.request; place = same i; mark_place = place_of w.request w.mark.program; mark_count = w.mark.records; held = v.held t }))
+    (work_still s.engine e' t y w p w.mark own (ap (λ (z : View). z.is_open) b) name r own.mark)
+    ws q
 
 -- it was refused, and rolled back
-pub given_up_here : {s : Stored} {t : ℕ} {w out : Work} {ys : List (Option Work)} → IsTaken s t w out ys → (e' e'' : engine.Stored) (x : Refusal)
-    → keeps_open x ≡ false → IsRefused s.engine w.tx (request_of w.program) (place_of w.program) x
-    → view_of e' ≡ view_of s.engine → e'.name ≡ s.engine.name → view_of e'' ≡ rolled_back out.tx.terminal (view_of e') → e''.name ≡ e'.name
-    → Moves s (Advance t) (refusal_in (step.Advance t) x) (record { engine = e''; slots = ys })
-given_up_here {s} {t} {w} {out} {ys} k e' e'' x ended why same same_name b name =
-    dropped_here k.was_open (Advance t) (refusal_in (step.Advance t) x) e'' ys (ended_lead s t w k.was_open x ended why)
-    (b ∙ (ap (λ (z : View). rolled_back out.tx.terminal z) same ∙ ap (λ (z : Handle). rolled_back z.terminal (view_of s.engine)) k.tx))
-    (name ∙ same_name) k.slots
+pub given_up_here : {s : Stored} {t : ℕ} {y : Handle} {w : Work} → HasOpen s t y w → (out : Handle) → out ≡ y → (e' e'' : engine.Stored) (xs : List (Option Handle)) (ws : List (Option Work)) (z : Option Work) (x : Refusal)
+    → keeps_open x ≡ false → IsRefused s.engine y w.request (place_of w.request w.program) x
+    → view_of e' ≡ view_of s.engine → e'.name ≡ s.engine.name → view_of e'' ≡ rolled_back out.terminal (view_of e') → e''.name ≡ e'.name
+    → xs ≡ slice_set s.txs t None → ws ≡ slice_set s.works t z
+    → Moves s (Advance t) (refusal_in (step.Advance t) x) (record { engine = e''; txs = xs; works = ws })
+given_up_here {s} {t} {y} {w} h out own e' e'' xs ws z x ended why same same_name b name p q =
+    dropped_here h (Advance t) (refusal_in (step.Advance t) x) e'' xs ws z (ended_lead s t y w h x ended why)
+    (b ∙ (ap (λ (k : View). rolled_back out.terminal k) same ∙ ap (λ (k : Handle). rolled_back k.terminal (view_of s.engine)) own))
+    (name ∙ same_name) p q

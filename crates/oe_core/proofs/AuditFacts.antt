@@ -1,31 +1,33 @@
 -- Audits of the newest moment.
-use Rattle.std.proofs.Common.{inl, inr, ◌≡◌, ℕ, zero, suc, ◌<◌, ◌≤◌, true, false, Option, Some, None, sym, ap, ◌∙◌, subst, refl, arith}
+use Rattle.std.proofs.Common.{inl, inr, ◌≡◌, ℕ, zero, suc, ◌<◌, ◌≤◌, true, false, List, [], ◌∷◌, Option, Some, None, sym, ap, ◌∙◌, subst, refl, arith}
 use Rattle.std.specs.Prelude.{is_some, ◌⊎◌}
 use Rattle.std.specs.Ordering.{is_lt, is_gt, nat_cmp}
 use Rattle.std.specs.Cmp.{nat_cmp_is}
 use Rattle.std.specs.declared.cmp.Ordering.TheVariants.{Less, Equal, Greater}
-use Rattle.oe_theory.specs.World.{newest, tables, total}
+use Rattle.oe_theory.specs.World.{Commit, newest, tables, total}
 use Rattle.oe_theory.specs.Next.{IsQuiet, Audited, Too_old, Future, Not_quiet}
-use Rattle.oe_theory.specs.Store.{Slot, count_slots}
-use Rattle.oe_theory.proofs.StoreSteps.{tables_here, is_shut_in}
+use Rattle.oe_theory.specs.Store.{Slot, seals_of, count_slots}
+use Rattle.oe_theory.specs.Store as theory
+use Rattle.oe_theory.proofs.StoreSteps.{tables_here, seals_here, is_shut_in}
 use Rattle.oe_theory.proofs.StoreTheorems.{newest_here, open_count}
 use Rattle.oe_theory.proofs.StoreClosing.{store_is_orderly}
 use Rattle.oe_model.specs.Audits as model
 use Rattle.oe_model.specs.System.{system, terminal_limit}
 use Rattle.oe_model.proofs.SystemLaws.{laws}
-use Rattle.oe_engine.specs.View.{View, view_of}
+use Rattle.oe_engine.specs.View.{View, view_of, Handle}
 use Rattle.oe_engine.specs.View as engine
-use Rattle.oe_core.specs.Core.{Stored, work_at, open_at, store_of, world_of, Works, IsOrderly}
-use Rattle.oe_core.specs.Steps.{AuditsOf}
+use Rattle.oe_core.specs.Core.{Stored, in_place, work_of, open_at, store_of, world_of, Works, IsOrderly}
+use Rattle.oe_core.specs.Steps.{AuditsOf, reply_of_newest, newest_reply}
 use Rattle.oe_core.specs.declared.slots.Work.{Work}
 use Rattle.oe_core.proofs.MoveFacts.{standing}
 
-is_open_at : (e : engine.Stored) (t : ℕ) (x : Option Work) → Works e t x → is_some (open_at (view_of e) t x) ≡ (view_of e).is_open t
-is_open_at e t None h = sym h
-is_open_at e t (Some w) h = sym (sym (ap (view_of e).is_open h.terminal) ∙ h.is_open.terminal)
+is_open_at : (e : engine.Stored) (t : ℕ) (x : Option Handle) (y : Option Work) → Works e t x y → is_some (open_at (view_of e) t (work_of x y)) ≡ (view_of e).is_open t
+is_open_at e t None y h = sym h
+is_open_at e t (Some x) None h = absurd h
+is_open_at e t (Some x) (Some w) h = sym (sym (ap (view_of e).is_open h.terminal) ∙ h.is_open.terminal)
 
 pub is_open_here : (s : Stored) → IsOrderly s → (t : ℕ) → is_some ((store_of s).slots t) ≡ (view_of s.engine).is_open t
-is_open_here s o t = is_open_at s.engine t (work_at s.slots t) (o.works t)
+is_open_here s o t = is_open_at s.engine t (in_place s.txs t) (in_place s.works t) (o.works t)
 
 counted : (slots : ℕ → Option (Slot system)) → slots 0 ≡ None → (n : ℕ) → count_slots system slots (suc n) ≤ n
 counted slots none zero = go (slots 0) none
@@ -71,6 +73,16 @@ quiet_here s o n e out =
 pub newest_is : (s : Stored) → IsOrderly s → newest system (world_of s) ≡ total terminal_limit (view_of s.engine).counts
 unfolding world_of
 newest_is s o = newest_here system laws (store_of s) (standing s o)
+
+reply_of_seals : (cs : List (Commit system)) → reply_of_newest cs ≡ engine.newest_reply (seals_of system cs)
+reply_of_seals [] = refl
+reply_of_seals (c ∷ cs) = refl
+
+pub newest_reply_is : (s : Stored) → IsOrderly s → newest_reply (world_of s) ≡ engine.newest_reply (view_of s.engine).seals
+unfolding world_of
+newest_reply_is s o =
+    reply_of_seals (theory.world_of system (store_of s)).history
+    ∙ ap engine.newest_reply (seals_here system laws (store_of s) (standing s o))
 
 pub tables_are : (s : Stored) → IsOrderly s → tables system (world_of s) ≡ (view_of s.engine).rows
 unfolding world_of

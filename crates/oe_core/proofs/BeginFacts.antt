@@ -13,9 +13,9 @@ use Rattle.oe_model.specs.Requests.{warehouses_of, warehouse_no, first_absent, r
 use Rattle.oe_model.specs.System.{system}
 use Rattle.oe_engine.specs.View.{view_of}
 use Rattle.oe_engine.specs.Calls.{CantBegin}
-use Rattle.oe_core.specs.Core.{Stored, work_at, slot_of, open_at, store_of, IsOrderly, Moves}
+use Rattle.oe_core.specs.Core.{Stored, in_place, slot_of, open_at, store_of, IsOrderly, Moves}
 use Rattle.oe_core.specs.Steps.{HasProgram, refusal_in}
-use Rattle.oe_core.proofs.MoveFacts.{standing, stays, the_steps, has_work, no_work, below_limit, valid}
+use Rattle.oe_core.proofs.MoveFacts.{standing, stays, the_steps, has_work, is_shut, below_limit, valid}
 
 -- a request that is turned away
 only_absent : (t : ℕ) (q : Request) (e : Refusal) (ws : List ℕ) (r : Rows) → first_absent ws r ≡ Some e → refusal_in (step.Begin t q) e ≡ Rejected e
@@ -49,7 +49,7 @@ outnumbered : (s : Stored) → IsOrderly s → (t : ℕ) (q : Request) (e : Refu
 outnumbered s o t q e k h =
     stays s o (Begin t q) (Rejected e)
     (the_steps.number_is_rejected (store_of s) t q e (standing s o) k
-    (ap (open_at (view_of s.engine) t) (no_work s.engine t (work_at s.slots t) (o.works t) h.0)) h.1)
+    (is_shut s o t h.0) h.1)
 
 pub not_begun : (s : Stored) → IsOrderly s → (t : ℕ) → 1 ≤ t → t < 65 → (q : Request) → HasProgram q → rejection q (view_of s.engine).rows ≡ None → (e : Refusal)
     → CantBegin (view_of s.engine) t e → Moves s (Begin t q) (refusal_in (step.Begin t q) e) s
@@ -74,7 +74,7 @@ not_begun s o t l b q g kn NoMemory h =
       terminal = (l, below_limit t b);
       valid = valid q g;
       known = kn;
-      closed = ap (open_at (view_of s.engine) t) (no_work s.engine t (work_at s.slots t) (o.works t) h.0);
+      closed = is_shut s o t h.0;
       counted = h.1;
     }))
 not_begun s o t l b q g kn NotOpen h =
@@ -83,7 +83,7 @@ not_begun s o t l b q g kn NotOpen h =
     absurd no
 not_begun s o t l b q g kn AlreadyOpen h =
     let v = view_of s.engine in
-    let found = has_work s.engine t (work_at s.slots t) (o.works t) h in
+    let found = has_work s.engine t (in_place s.txs t) (in_place s.works t) (o.works t) h in
     stays s o (Begin t q) Already_open (the_steps.is_open (store_of s) t q (slot_of v t found.0) (standing s o) kn (ap (open_at v t) found.1))
 not_begun s o t l b q g kn InvalidItem h = outnumbered s o t q InvalidItem kn h
 not_begun s o t l b q g kn NoCustomer h = outnumbered s o t q NoCustomer kn h

@@ -12,16 +12,16 @@ use Rattle.oe_theory.proofs.StoreClosing.{store_is_orderly, rollback_leaves_vers
 use Rattle.oe_model.specs.Rows.{Rows}
 use Rattle.oe_model.specs.System.{system}
 use Rattle.oe_model.proofs.SystemLaws.{laws}
-use Rattle.oe_engine.specs.View.{View, view_of}
+use Rattle.oe_engine.specs.View.{View, view_of, Handle}
 use Rattle.oe_engine.specs.View as engine
 use Rattle.oe_engine.specs.Calls.{rolled_back}
-use Rattle.oe_core.specs.Core.{Stored, work_at, store_with, store_of, world_of, Works, IsOrderly, IsEndable, IsEnded}
+use Rattle.oe_core.specs.Core.{Stored, in_place, work_of, work_at, store_with, store_of, world_of, IsWork, Works, IsOrderly, IsEndable, IsEnded}
 use Rattle.oe_core.specs.declared.slots.Work.{Work}
-use Rattle.oe_core.proofs.MoveFacts.{standing, same_parts, slots_set, works_set}
+use Rattle.oe_core.proofs.MoveFacts.{standing, same_parts, slots_set, work_set, works_set}
 
 -- the newest version is still this one
 pub record IsClosing (s : Stored) (r : Rows) : Type 0 where
-  pub works : (t : ℕ) → Works s.engine t (work_at s.slots t)
+  pub works : (t : ℕ) → Works s.engine t (in_place s.txs t) (in_place s.works t)
   pub stands : IsStanding system (store_of s)
   pub newest : newest_version system (store_of s) ≡ r
 
@@ -33,62 +33,71 @@ pub newest_is_latest : (s : Stored) → IsOrderly s → newest_version system (s
 unfolding world_of
 newest_is_latest s o = sym (latest_here system laws (store_of s) (standing s o))
 
-at_end : (ys : List (Option Work)) → get_or ys (length ys) None ≡ None
+at_end : (ys : List (Option Handle)) → get_or ys (length ys) None ≡ None
 at_end [] = refl
 at_end (y ∷ ys) = at_end ys
 
-at_front : (ys : List (Option Work)) (x : Option Work) (u : ℕ) → u ≢ length ys → get_or ys u None ≡ get_or (ys ++ x ∷ []) u None
+at_front : (ys : List (Option Handle)) (x : Option Handle) (u : ℕ) → u ≢ length ys → get_or ys u None ≡ get_or (ys ++ x ∷ []) u None
 at_front [] x zero n = absurd (n refl)
 at_front [] x (suc u) n = refl
 at_front (y ∷ ys) x zero n = refl
 at_front (y ∷ ys) x (suc u) n = at_front ys x u (λ e. n (ap suc e))
 
-last_taken : (ys : List (Option Work)) (x : Option Work) → work_at ys ≡ set (length ys) None (work_at (ys ++ x ∷ []))
+last_taken : (ys : List (Option Handle)) (x : Option Handle) → in_place ys ≡ set (length ys) None (in_place (ys ++ x ∷ []))
 last_taken ys x = fun_ext (λ u. go u (cases_eq u (length ys)))
   where
-    go : (u : ℕ) → (u ≡ length ys) ⊎ (u ≢ length ys) → work_at ys u ≡ set (length ys) None (work_at (ys ++ x ∷ [])) u
-    go u (inl e) = ap (work_at ys) e ∙ (at_end ys ∙ sym (set_same (length ys) None (work_at (ys ++ x ∷ [])) u e))
-    go u (inr n) = at_front ys x u n ∙ sym (set_other (length ys) None (work_at (ys ++ x ∷ [])) u n)
+    go : (u : ℕ) → (u ≡ length ys) ⊎ (u ≢ length ys) → in_place ys u ≡ set (length ys) None (in_place (ys ++ x ∷ [])) u
+    go u (inl e) = ap (in_place ys) e ∙ (at_end ys ∙ sym (set_same (length ys) None (in_place (ys ++ x ∷ [])) u e))
+    go u (inr n) = at_front ys x u n ∙ sym (set_other (length ys) None (in_place (ys ++ x ∷ [])) u n)
 
-at_last : (ys : List (Option Work)) (x : Option Work) → work_at (ys ++ x ∷ []) (length ys) ≡ x
+at_last : (ys : List (Option Handle)) (x : Option Handle) → in_place (ys ++ x ∷ []) (length ys) ≡ x
 at_last [] x = refl
 at_last (y ∷ ys) x = at_last ys x
 
-last_endable : (e : engine.Stored) (ys : List (Option Work)) (x : Option Work) (r : Rows) → IsClosing (record { engine = e; slots = ys ++ x ∷ [] }) r → IsEndable e x
-last_endable e ys None r h = tt
-last_endable e ys (Some w) r h =
-    let own = subst (λ (z : Option Work). Works e (length ys) z) (at_last ys (Some w)) (h.works (length ys)) in
-    own.is_open
+-- a transaction and its work
+its_work : (e : engine.Stored) (t : ℕ) (x : Handle) (y : Option Work) → Works e t (Some x) y → (w : Work) × IsWork e t x w
+its_work e t x None h = absurd h
+its_work e t x (Some w) h = (w, h)
+
+last_endable : (e : engine.Stored) (ws : List (Option Work)) (ys : List (Option Handle)) (x : Option Handle) (r : Rows) → IsClosing (record { engine = e; txs = ys ++ x ∷ []; works = ws }) r → IsEndable e x
+last_endable e ws ys None r h = tt
+last_endable e ws ys (Some x) r h =
+    let own = its_work e (length ys) x (in_place ws (length ys))
+    (subst (λ (z : Option Handle). Works e (length ys) z (in_place ws (length ys))) (at_last ys (Some x)) (h.works (length ys))) in
+    own.1.is_open
 
 -- what was in the last place can be ended
-pub endable : {e : engine.Stored} {xs : List (Option Work)} {r : Rows} → IsClosing (record { engine = e; slots = xs }) r → (ys : List (Option Work)) (x : Option Work) → xs ≡ ys ++ x ∷ [] → IsEndable e x
-endable {e} {xs} {r} h ys x q = last_endable e ys x r (subst (λ (z : List (Option Work)). IsClosing (record { engine = e; slots = z }) r) q h)
+pub endable : {e : engine.Stored} {xs : List (Option Handle)} {ws : List (Option Work)} {r : Rows} → IsClosing (record { engine = e; txs = xs; works = ws }) r → (ys : List (Option Handle)) (x : Option Handle) → xs ≡ ys ++ x ∷ [] → IsEndable e x
+endable {e} {xs} {ws} {r} h ys x q = last_endable e ws ys x r (subst (λ (z : List (Option Handle)). IsClosing (record { engine = e; txs = z; works = ws }) r) q h)
 
-last_popped : (e e' : engine.Stored) (ys : List (Option Work)) (x : Option Work) (r : Rows) → IsEnded e x e' → IsClosing (record { engine = e; slots = ys ++ x ∷ [] }) r
-    → IsClosing (record { engine = e'; slots = ys }) r
-last_popped e e' ys None r h k =
-    let same : work_at (ys ++ None ∷ []) ≡ work_at ys =
-    sym (last_taken ys None ∙ set_idle (length ys) None (work_at (ys ++ None ∷ [])) (at_last ys None)) in
-    subst (λ (z : engine.Stored). IsClosing (record { engine = z; slots = ys }) r) (sym h)
+last_popped : (e e' : engine.Stored) (ws : List (Option Work)) (ys : List (Option Handle)) (x : Option Handle) (r : Rows) → IsEnded e x e' → IsClosing (record { engine = e; txs = ys ++ x ∷ []; works = ws }) r
+    → IsClosing (record { engine = e'; txs = ys; works = ws }) r
+last_popped e e' ws ys None r h k =
+    let same : in_place (ys ++ None ∷ []) ≡ in_place ys =
+    sym (last_taken ys None ∙ set_idle (length ys) None (in_place (ys ++ None ∷ [])) (at_last ys None)) in
+    subst (λ (z : engine.Stored). IsClosing (record { engine = z; txs = ys; works = ws }) r) (sym h)
     (record {
-      works = λ t. subst (λ (z : ℕ → Option Work). Works e t (z t)) same (k.works t);
-      stands = subst (λ (z : ℕ → Option Work). IsStanding system (store_with (view_of e) z)) same k.stands;
-      newest = subst (λ (z : ℕ → Option Work). newest_version system (store_with (view_of e) z) ≡ r) same k.newest;
+      works = λ t. subst (λ (z : ℕ → Option Handle). Works e t (z t) (in_place ws t)) same (k.works t);
+      stands = subst (λ (z : ℕ → Option Handle). IsStanding system (store_with (view_of e) (λ t. work_of (z t) (in_place ws t)))) same k.stands;
+      newest = subst (λ (z : ℕ → Option Handle). newest_version system (store_with (view_of e) (λ t. work_of (z t) (in_place ws t))) ≡ r) same k.newest;
     })
-last_popped e e' ys (Some w) r h k =
+last_popped e e' ws ys (Some x) r h k =
     let t = length ys in
     let v = view_of e in
-    let before : Stored = record { engine = e; slots = ys ++ Some w ∷ [] } in
-    let own = subst (λ (z : Option Work). Works e t z) (at_last ys (Some w)) (k.works t) in
-    let now : view_of e' ≡ rolled_back t v = h.0 ∙ ap (λ (z : ℕ). rolled_back z v) own.terminal in
+    let before : Stored = record { engine = e; txs = ys ++ Some x ∷ []; works = ws } in
+    let after : Stored = record { engine = e'; txs = ys; works = ws } in
+    let own = its_work e t x (in_place ws t) (subst (λ (z : Option Handle). Works e t z (in_place ws t)) (at_last ys (Some x)) (k.works t)) in
+    let now : view_of e' ≡ rolled_back t v = h.0 ∙ ap (λ (z : ℕ). rolled_back z v) own.1.terminal in
     let d = rollback_leaves_versions system laws (store_of before) t k.stands in
-    let same : dropped system t (store_of before) ≡ store_of (record { engine = e'; slots = ys }) =
-    sym (ap (λ (z : View). store_with z (work_at ys)) now
+    let kept : in_place ws ≡ set t (in_place ws t) (in_place ws) = sym (set_idle t (in_place ws t) (in_place ws) refl) in
+    let left : work_at after ≡ set t None (work_at before) = work_set (in_place before.txs) (in_place ys) (in_place ws) (in_place ws) t None (in_place ws t) (last_taken ys (Some x)) kept in
+    let same : dropped system t (store_of before) ≡ store_of after =
+    sym (ap (λ (z : View). store_with z (work_at after)) now
     ∙ same_parts _ _ _ _ _ _ _ _ _ _ _ _ refl refl
-    (slots_set v (rolled_back t v) (work_at before.slots) (work_at ys) t None None (last_taken ys (Some w)) (λ u n. refl) (λ u n. set_other t _ v.held u n) refl)
+    (slots_set v (rolled_back t v) (work_at before) (work_at after) t None None left (λ u n. refl) (λ u n. set_other t _ v.held u n) refl)
     refl refl refl) in
     record {
-      works = works_set e e' (work_at before.slots) (work_at ys) t None (last_taken ys (Some w)) h.1
+      works = works_set e e' (in_place before.txs) (in_place ys) (in_place ws) (in_place ws) t None (in_place ws t) (last_taken ys (Some x)) kept h.1
           (λ u n. ap (λ (z : View). z.is_open u) now ∙ set_other t false v.is_open u n) k.works
           (ap (λ (z : View). z.is_open t) now ∙ set_same t false v.is_open t refl);
       stands = subst (λ (z : Store system). IsStanding system z) same d.stands;
@@ -96,15 +105,15 @@ last_popped e e' ys (Some w) r h k =
     }
 
 -- and once it was ended the newest version is still the same
-pub popped : {e : engine.Stored} {xs : List (Option Work)} {r : Rows} → IsClosing (record { engine = e; slots = xs }) r → (e' : engine.Stored) (ys : List (Option Work)) (x : Option Work) → xs ≡ ys ++ x ∷ [] → IsEnded e x e'
-    → IsClosing (record { engine = e'; slots = ys }) r
-popped {e} {xs} {r} h e' ys x q n = last_popped e e' ys x r n (subst (λ (z : List (Option Work)). IsClosing (record { engine = e; slots = z }) r) q h)
+pub popped : {e : engine.Stored} {xs : List (Option Handle)} {ws : List (Option Work)} {r : Rows} → IsClosing (record { engine = e; txs = xs; works = ws }) r → (e' : engine.Stored) (ys : List (Option Handle)) (x : Option Handle) → xs ≡ ys ++ x ∷ [] → IsEnded e x e'
+    → IsClosing (record { engine = e'; txs = ys; works = ws }) r
+popped {e} {xs} {ws} {r} h e' ys x q n = last_popped e e' ws ys x r n (subst (λ (z : List (Option Handle)). IsClosing (record { engine = e; txs = z; works = ws }) r) q h)
 
 -- where no place is left none is open, and the tables are that version
-pub none_open : {e : engine.Stored} {xs : List (Option Work)} {r : Rows} → IsClosing (record { engine = e; slots = xs }) r → xs ≡ [] → (t : ℕ) → (view_of e).is_open t ≡ false
-none_open {e} {xs} {r} h q = (subst (λ (z : List (Option Work)). IsClosing (record { engine = e; slots = z }) r) q h).works
+pub none_open : {e : engine.Stored} {xs : List (Option Handle)} {ws : List (Option Work)} {r : Rows} → IsClosing (record { engine = e; txs = xs; works = ws }) r → xs ≡ [] → (t : ℕ) → (view_of e).is_open t ≡ false
+none_open {e} {xs} {ws} {r} h q = (subst (λ (z : List (Option Handle)). IsClosing (record { engine = e; txs = z; works = ws }) r) q h).works
 
-pub closed_rows : {e : engine.Stored} {xs : List (Option Work)} {r : Rows} → IsClosing (record { engine = e; slots = xs }) r → xs ≡ [] → (view_of e).rows ≡ r
-closed_rows {e} {xs} {r} h q =
-    let k = subst (λ (z : List (Option Work)). IsClosing (record { engine = e; slots = z }) r) q h in
-    (store_is_orderly system laws (store_of (record { engine = e; slots = [] })) k.stands).quiet_tables (λ t. refl) ∙ k.newest
+pub closed_rows : {e : engine.Stored} {xs : List (Option Handle)} {ws : List (Option Work)} {r : Rows} → IsClosing (record { engine = e; txs = xs; works = ws }) r → xs ≡ [] → (view_of e).rows ≡ r
+closed_rows {e} {xs} {ws} {r} h q =
+    let k = subst (λ (z : List (Option Handle)). IsClosing (record { engine = e; txs = z; works = ws }) r) q h in
+    (store_is_orderly system laws (store_of (record { engine = e; txs = []; works = ws })) k.stands).quiet_tables (λ t. refl) ∙ k.newest

@@ -22,11 +22,12 @@ use Rattle.oe_model.proofs.SystemLaws.{laws}
 use Rattle.oe_engine.specs.View.{View, view_of, Handle, IsOpen}
 use Rattle.oe_engine.specs.View as engine
 use Rattle.oe_engine.specs.Calls.{begun, back_at, rolled_back}
-use Rattle.oe_core.specs.Core.{Stored, place_of, request_of, work_at, slot_of, open_at, store_with, store_of, world_of, IsSound, IsWork, Works, IsOrderly, Moves}
+use Rattle.oe_core.specs.Core.{Stored, IsOf, place_of, in_place, work_of, work_at, slot_of, open_at, store_with, store_of, world_of, IsSound, IsWork, Works, IsOrderly, Moves}
 use Rattle.oe_core.specs.Steps.{HasProgram}
+use Rattle.oe_core.specs.declared.slots.Savepoint.{Savepoint}
 use Rattle.oe_core.specs.declared.slots.Work.{Work}
 use Rattle.oe_core.specs.declared.programs.Program.{Program}
-use Rattle.oe_core.proofs.PlaceFacts.{place_set, get_place, get_set_same, at_place, set_idle_place}
+use Rattle.oe_core.proofs.PlaceFacts.{place_set, kept_place, get_place, lent_place, set_idle_place}
 
 pub standing : (s : Stored) → IsOrderly s → IsStanding system (store_of s)
 unfolding IsSound
@@ -37,11 +38,11 @@ unfolding IsSound world_of
 reached_here s o = o.sound.reached
 
 pub closed : (s s' : Stored) (i : Step system) (a : Answer system) (t : Store system) → Leads system (store_of s) i a t → store_of s' ≡ t
-    → length s'.slots ≡ 65 → ((u : ℕ) → Works s'.engine u (work_at s'.slots u)) → Moves s i a s'
+    → length s'.txs ≡ 65 → length s'.works ≡ 65 → ((u : ℕ) → Works s'.engine u (in_place s'.txs u) (in_place s'.works u)) → Moves s i a s'
 unfolding IsSound world_of
-closed s s' i a t l e h g =
+closed s s' i a t l e h k g =
     let l' : Leads system (store_of s) i a (store_of s') = subst (λ (z : Store system). Leads system (store_of s) i a z) (sym e) l in
-    record { next = l'.next; orderly = record { places = h; works = g; sound = l'.stands } }
+    record { next = l'.next; orderly = record { tx_places = h; work_places = k; works = g; sound = l'.stands } }
 
 -- what is said of it
 pub carries : {s : Stored} {i : Step system} {a : Answer system} {s' : Stored} → Moves s i a s' → Next system (world_of s) i a (world_of s') × IsReached system (world_of s')
@@ -49,13 +50,16 @@ carries m = (m.next, reached_here _ m.orderly)
 
 -- a step that leaves what is stored
 pub stays : (s : Stored) → IsOrderly s → (i : Step system) (a : Answer system) → Leads system (store_of s) i a (store_of s) → Moves s i a s
-stays s o i a l = closed s s i a (store_of s) l refl o.places o.works
+stays s o i a l = closed s s i a (store_of s) l refl o.tx_places o.work_places o.works
 
 pub the_steps : Steps_of_the_store system
 the_steps = steps_of_the_store system laws
 
-pub within : (s : Stored) → IsOrderly s → (t : ℕ) → t < 65 → t < length s.slots
-within s o t h = omega (arith, h, o.places)
+pub within : (s : Stored) → IsOrderly s → (t : ℕ) → t < 65 → t < length s.txs
+within s o t h = omega (arith, h, o.tx_places)
+
+works_within : (s : Stored) → IsOrderly s → (t : ℕ) → t < 65 → t < length s.works
+works_within s o t h = omega (arith, h, o.work_places)
 
 pub below_limit : (t : ℕ) → t < 65 → t < terminal_limit
 unfolding terminal_limit
@@ -76,7 +80,7 @@ slots_set v v' f g t x y e c h q = fun_ext (λ u. go u (cases_eq u t))
     same : (u : ℕ) (w : Option Work) → v'.counts u ≡ v.counts u → v'.held u ≡ v.held u → open_at v' u w ≡ open_at v u w
     same u None a b = refl
     same u (Some w) a b =
-        λ i. Some (record { number = suc (a i); request = w.request; place = place_of w.program; mark_place = place_of w.mark_program; mark_count = w.mark; held = b i })
+        λ i. Some (record { number = suc (a i); request = w.request; place = place_of w.request w.program; mark_place = place_of w.request w.mark.program; mark_count = w.mark.records; held = b i })
 
     go : (u : ℕ) → (u ≡ t) ⊎ (u ≢ t) → open_at v' u (g u) ≡ set t y (λ k. open_at v k (f k)) u
     go u (inl p) =
@@ -88,81 +92,124 @@ slots_set v v' f g t x y e c h q = fun_ext (λ u. go u (cases_eq u t))
         ∙ (ap (open_at v' u) (set_other t x f u n)
         ∙ (same u (f u) (c u n) (h u n) ∙ sym (set_other t y (λ k. open_at v k (f k)) u n)))
 
--- and the work behind them
-pub works_set : (e e' : engine.Stored) (f g : ℕ → Option Work) (t : ℕ) (x : Option Work) → g ≡ set t x f → e'.name ≡ e.name
-    → ((u : ℕ) → u ≢ t → (view_of e').is_open u ≡ (view_of e).is_open u) → ((u : ℕ) → Works e u (f u)) → Works e' t x → (u : ℕ) → Works e' u (g u)
-works_set e e' f g t x p name o all here u = go (cases_eq u t)
+-- what is carried out, where one place has changed
+pub work_set : (a b : ℕ → Option Handle) (f g : ℕ → Option Work) (t : ℕ) (x : Option Handle) (w : Option Work) → b ≡ set t x a → g ≡ set t w f
+    → (λ u. work_of (b u) (g u)) ≡ set t (work_of x w) (λ u. work_of (a u) (f u))
+work_set a b f g t x w p q = fun_ext (λ u. go u (cases_eq u t))
   where
-    move : (w : Option Work) → (view_of e').is_open u ≡ (view_of e).is_open u → Works e u w → Works e' u w
-    move None q h = q ∙ h
-    move (Some w) q h =
+    go : (u : ℕ) → (u ≡ t) ⊎ (u ≢ t) → work_of (b u) (g u) ≡ set t (work_of x w) (λ k. work_of (a k) (f k)) u
+    go u (inl e) =
+        let tx : b u ≡ x = ap (λ z. z u) p ∙ set_same t x a u e in
+        let work : g u ≡ w = ap (λ z. z u) q ∙ set_same t w f u e in
+        (λ i. work_of (tx i) (work i)) ∙ sym (set_same t (work_of x w) (λ k. work_of (a k) (f k)) u e)
+    go u (inr n) =
+        let tx : b u ≡ a u = ap (λ z. z u) p ∙ set_other t x a u n in
+        let work : g u ≡ f u = ap (λ z. z u) q ∙ set_other t w f u n in
+        (λ i. work_of (tx i) (work i)) ∙ sym (set_other t (work_of x w) (λ k. work_of (a k) (f k)) u n)
+
+-- and the work behind them
+pub works_set : (e e' : engine.Stored) (a b : ℕ → Option Handle) (f g : ℕ → Option Work) (t : ℕ) (x : Option Handle) (w : Option Work)
+    → b ≡ set t x a → g ≡ set t w f → e'.name ≡ e.name
+    → ((u : ℕ) → u ≢ t → (view_of e').is_open u ≡ (view_of e).is_open u) → ((u : ℕ) → Works e u (a u) (f u)) → Works e' t x w → (u : ℕ) → Works e' u (b u) (g u)
+works_set e e' a b f g t x w p q name o all here u = go (cases_eq u t)
+  where
+    move : (y : Option Handle) (z : Option Work) → (view_of e').is_open u ≡ (view_of e).is_open u → Works e u y z → Works e' u y z
+    move None z r h = r ∙ h
+    move (Some y) None r h = absurd h
+    move (Some y) (Some z) r h =
         record {
           is_open = record {
             engine = h.is_open.engine ∙ sym name;
-            terminal = ap (view_of e').is_open h.terminal ∙ (q ∙ (sym (ap (view_of e).is_open h.terminal) ∙ h.is_open.terminal));
+            terminal = ap (view_of e').is_open h.terminal ∙ (r ∙ (sym (ap (view_of e).is_open h.terminal) ∙ h.is_open.terminal));
           };
           terminal = h.terminal;
           program = h.program;
-          mark_program = h.mark_program;
+          mark = h.mark;
         }
 
-    go : (u ≡ t) ⊎ (u ≢ t) → Works e' u (g u)
-    go (inl q) =
-        subst (λ (z : Option Work). Works e' u z) (sym (ap (λ z. z u) p ∙ set_same t x f u q))
-        (subst (λ (k : ℕ). Works e' k x) (sym q) here)
+    go : (u ≡ t) ⊎ (u ≢ t) → Works e' u (b u) (g u)
+    go (inl r) =
+        subst (λ (y : Option Handle). Works e' u y (g u)) (sym (ap (λ z. z u) p ∙ set_same t x a u r))
+        (subst (λ (z : Option Work). Works e' u x z) (sym (ap (λ z. z u) q ∙ set_same t w f u r))
+        (subst (λ (k : ℕ). Works e' k x w) (sym r) here))
     go (inr n) =
-        subst (λ (z : Option Work). Works e' u z) (sym (ap (λ z. z u) p ∙ set_other t x f u n))
-        (move (f u) (o u n) (all u))
+        subst (λ (y : Option Handle). Works e' u y (g u)) (sym (ap (λ z. z u) p ∙ set_other t x a u n))
+        (subst (λ (z : Option Work). Works e' u (a u) z) (sym (ap (λ z. z u) q ∙ set_other t w f u n))
+        (move (a u) (f u) (o u n) (all u)))
 
 -- the work of a terminal that has a transaction open
-pub has_work : (e : engine.Stored) (t : ℕ) (x : Option Work) → Works e t x → (view_of e).is_open t ≡ true → (w : Work) × (x ≡ Some w)
-has_work e t None h o = let no : true ≡ false = sym o ∙ h in absurd (cc)
-has_work e t (Some w) h o = (w, refl)
+pub has_work : (e : engine.Stored) (t : ℕ) (x : Option Handle) (y : Option Work) → Works e t x y → (view_of e).is_open t ≡ true → (w : Work) × (work_of x y ≡ Some w)
+has_work e t None y h o = let no : true ≡ false = sym o ∙ h in absurd (cc)
+has_work e t (Some x) None h o = absurd h
+has_work e t (Some x) (Some w) h o = (w, refl)
 
 -- and its place, where it has none
-pub no_work : (e : engine.Stored) (t : ℕ) (x : Option Work) → Works e t x → (view_of e).is_open t ≡ false → x ≡ None
-no_work e t None h o = refl
-no_work e t (Some w) h o =
+pub no_tx : (e : engine.Stored) (t : ℕ) (x : Option Handle) (y : Option Work) → Works e t x y → (view_of e).is_open t ≡ false → x ≡ None
+no_tx e t None y h o = refl
+no_tx e t (Some x) None h o = absurd h
+no_tx e t (Some x) (Some w) h o =
     let no : true ≡ false = sym h.is_open.terminal ∙ (ap (view_of e).is_open h.terminal ∙ o) in absurd (cc)
 
+pub no_slot : (s : Stored) (t : ℕ) → in_place s.txs t ≡ None → (store_of s).slots t ≡ None
+no_slot s t e = ap (λ z. open_at (view_of s.engine) t (work_of z (in_place s.works t))) e
+
+pub is_shut : (s : Stored) → IsOrderly s → (t : ℕ) → (view_of s.engine).is_open t ≡ false → (store_of s).slots t ≡ None
+is_shut s o t h = no_slot s t (no_tx s.engine t (in_place s.txs t) (in_place s.works t) (o.works t) h)
+
 -- terminal t of an orderly core has this transaction open
-pub record HasOpen (s : Stored) (t : ℕ) (w : Work) : Type 0 where
+pub record HasOpen (s : Stored) (t : ℕ) (x : Handle) (w : Work) : Type 0 where
   pub orderly : IsOrderly s
   pub low : t < 65
-  pub here : work_at s.slots t ≡ Some w
+  pub tx : in_place s.txs t ≡ Some x
+  pub work : in_place s.works t ≡ Some w
 
--- a transaction that was taken out of its place
-pub taken_here : {s : Stored} {t : ℕ} {w : Work} → IsOrderly s → t ≤ 64 → slice_get s.slots t ≡ Some (Some w) → HasOpen s t w
-taken_here {s} {t} {w} o h e = record { orderly = o; low = omega (arith, h); here = get_place s.slots t (Some w) None e }
+-- so has its slot
+pub slot_here : {s : Stored} {t : ℕ} {x : Handle} {w : Work} → HasOpen s t x w → (store_of s).slots t ≡ Some (slot_of (view_of s.engine) t w)
+slot_here {s} {t} h = λ i. open_at (view_of s.engine) t (work_of (h.tx i) (h.work i))
 
--- what stands in a place that lends it
-pub lent_is : {s : Stored} {i t : ℕ} {x y : Option Work} → IsOrderly s → i ≡ t → i ≤ 64 → x ≡ get_or s.slots i x → x ≡ y → slice_get s.slots t ≡ Some y
-lent_is {s} {i} {t} {x} {y} o p h g e = at_place s.slots i t x y p (within s o t (omega (arith, p, h))) g e
+-- it is open in the engine, and its programs are those of its request
+pub own_work : {s : Stored} {t : ℕ} {x : Handle} {w : Work} → HasOpen s t x w → IsWork s.engine t x w
+own_work {s} {t} {x} h =
+    subst (λ (z : Option Work). Works s.engine t (Some x) z) h.work
+    (subst (λ (y : Option Handle). Works s.engine t y (in_place s.works t)) h.tx (h.orderly.works t))
 
--- a transaction that its place lends
-pub lent_here : {s : Stored} {i t : ℕ} {x : Option Work} {w : Work} → IsOrderly s → i ≡ t → i ≤ 64 → x ≡ get_or s.slots i x → x ≡ Some w → HasOpen s t w
-lent_here {s} {i} {t} {x} {w} o p h g e = record { orderly = o; low = omega (arith, p, h); here = get_place s.slots t (Some w) None (lent_is o p h g e) }
+-- where there is a transaction there is work for it
+work_there : (e : engine.Stored) (t : ℕ) (x : Handle) (y : Option Work) → Works e t (Some x) y → y ≡ None → ⊥
+work_there e t x None h none = h
+work_there e t x (Some w) h none = let no : ⊥ = cc in no
 
--- it is open in the engine, and its programs carry out its request
-pub own_work : {s : Stored} {t : ℕ} {w : Work} → HasOpen s t w → IsWork s.engine t w
-own_work {s} {t} {w} h = subst (λ (z : Option Work). Works s.engine t z) h.here (h.orderly.works t)
+pub has_work_there : (s : Stored) (t : ℕ) (x : Handle) → IsOrderly s → in_place s.txs t ≡ Some x → in_place s.works t ≡ None → ⊥
+has_work_there s t x o e none =
+    work_there s.engine t x (in_place s.works t) (subst (λ (y : Option Handle). Works s.engine t y (in_place s.works t)) e (o.works t)) none
 
--- its place is empty then
-pub emptied : {s : Stored} {t : ℕ} {w : Work} {ys : List (Option Work)} → HasOpen s t w → ys ≡ slice_set s.slots t None → slice_get ys t ≡ Some None
-emptied {s} {t} h q = subst (λ (z : List (Option Work)). slice_get z t ≡ Some None) (sym q) (get_set_same s.slots t None (within s h.orderly t h.low))
+-- what a place lends is what stands there
+pub lent_tx : {s : Stored} {i t : ℕ} {x y : Option Handle} → IsOrderly s → i ≡ t → i ≤ 64 → x ≡ get_or s.txs i x → x ≡ y → in_place s.txs t ≡ y
+lent_tx {s} {i} {t} {x} {y} o p h g e = lent_place s.txs i t x y p (within s o t (omega (arith, p, h))) g e
+
+pub lent_work : {s : Stored} {i t : ℕ} {x y : Option Work} → IsOrderly s → i ≡ t → i ≤ 64 → x ≡ get_or s.works i x → x ≡ y → in_place s.works t ≡ y
+lent_work {s} {i} {t} {x} {y} o p h g e = lent_place s.works i t x y p (works_within s o t (omega (arith, p, h))) g e
+
+-- a transaction and its work that their places lend
+pub lent_here : {s : Stored} {i j t : ℕ} {x : Option Handle} {y : Handle} {v : Option Work} {w : Work} → IsOrderly s
+    → i ≡ t → i ≤ 64 → x ≡ get_or s.txs i x → x ≡ Some y → j ≡ t → j ≤ 64 → v ≡ get_or s.works j v → v ≡ Some w → HasOpen s t y w
+lent_here {s} {i} {j} {t} {x} {y} {v} {w} o p h g e q k f d = record { orderly = o; low = omega (arith, p, h); tx = lent_tx o p h g e; work = lent_work o q k f d }
 
 -- nothing is open there
-pub not_there : (s : Stored) → IsOrderly s → (i : Step system) (t : ℕ) → works_on system i ≡ Some t → slice_get s.slots t ≡ Some None → (ys : List (Option Work)) → ys ≡ slice_set s.slots t None
-    → Moves s i Not_open (record { engine = s.engine; slots = ys })
-not_there s o i t w e ys q =
-    subst (λ (z : List (Option Work)). Moves s i Not_open (record { engine = s.engine; slots = z })) (sym (q ∙ set_idle_place s.slots t None e))
-    (stays s o i Not_open (the_steps.is_not_open (store_of s) i t (standing s o) w (ap (open_at (view_of s.engine) t) (get_place s.slots t None None e))))
+pub nothing_open : (s : Stored) → IsOrderly s → (i : Step system) (t : ℕ) → works_on system i ≡ Some t → in_place s.txs t ≡ None → Moves s i Not_open s
+nothing_open s o i t w e = stays s o i Not_open (the_steps.is_not_open (store_of s) i t (standing s o) w (no_slot s t e))
+
+-- also once it was taken out
+pub nothing_taken : (s : Stored) → IsOrderly s → (i : Step system) (t : ℕ) → works_on system i ≡ Some t → slice_get s.txs t ≡ Some None → (xs : List (Option Handle)) → xs ≡ slice_set s.txs t None
+    → Moves s i Not_open (record { engine = s.engine; txs = xs; works = s.works })
+nothing_taken s o i t w e xs q =
+    subst (λ (z : List (Option Handle)). Moves s i Not_open (record { engine = s.engine; txs = z; works = s.works })) (sym (q ∙ set_idle_place s.txs t None e))
+    (nothing_open s o i t w (get_place s.txs t None None e))
 
 -- the mark is not past the records
-pub mark_within : {s : Stored} {t : ℕ} {w : Work} → HasOpen s t w → w.mark ≤ length ((view_of s.engine).undo.active w.tx.terminal)
-mark_within {s} {t} {w} h =
-    subst (λ (k : ℕ). w.mark ≤ length ((view_of s.engine).undo.active k)) (sym (own_work h).terminal)
-    ((store_is_orderly system laws (store_of s) (standing s h.orderly)).mark t (slot_of (view_of s.engine) t w) (ap (open_at (view_of s.engine) t) h.here))
+pub mark_within : {s : Stored} {t : ℕ} {x : Handle} {w : Work} → HasOpen s t x w → w.mark.records ≤ length ((view_of s.engine).undo.active x.terminal)
+mark_within {s} {t} {x} {w} h =
+    subst (λ (k : ℕ). w.mark.records ≤ length ((view_of s.engine).undo.active k)) (sym (own_work h).terminal)
+    ((store_is_orderly system laws (store_of s) (standing s h.orderly)).mark t (slot_of (view_of s.engine) t w) (slot_here h))
 
 -- nothing has changed for terminals other than t
 pub record LeavesOthers (t : ℕ) (v v' : View) : Type 0 where
@@ -170,77 +217,115 @@ pub record LeavesOthers (t : ℕ) (v v' : View) : Type 0 where
   pub held : (u : ℕ) → u ≢ t → v'.held u ≡ v.held u
   pub is_open : (u : ℕ) → u ≢ t → v'.is_open u ≡ v.is_open u
 
--- a step after which a terminal's place has other work, or none, and the engine stands for what the step leads to
-pub replaced : (s : Stored) → IsOrderly s → (i : Step system) (a : Answer system) (t : ℕ) → t < 65 → (x : Option Work) (y : Option (Slot system)) (e' : engine.Stored) (v' : View)
+-- a step after which a terminal's place has another transaction and other work, or none, and the engine stands for what the step
+-- leads to
+pub replaced : (s : Stored) → IsOrderly s → (i : Step system) (a : Answer system) (t : ℕ) → t < 65 → (x : Option Handle) (w : Option Work) (y : Option (Slot system)) (e' : engine.Stored) (v' : View)
     → Leads system (store_of s) i a (record { tables = v'.rows; undo = v'.undo; slots = set t y (store_of s).slots; seals = v'.seals; counts = v'.counts; extents = v'.extents })
-    → view_of e' ≡ v' → e'.name ≡ s.engine.name → LeavesOthers t (view_of s.engine) v' → open_at v' t x ≡ y → Works e' t x
-    → (ys : List (Option Work)) → ys ≡ slice_set s.slots t x
-    → Moves s i a (record { engine = e'; slots = ys })
-replaced s o i a t h x y e' v' lead now name left slot works ys q =
-    let at : work_at ys ≡ set t x (work_at s.slots) = ap (λ (z : List (Option Work)). work_at z) q ∙ place_set s.slots t x None (within s o t h) in
-    closed s _ i a _ lead
-    (ap (λ (z : View). store_with z (work_at ys)) now
-    ∙ same_parts _ _ _ _ _ _ _ _ _ _ _ _ refl refl (slots_set (view_of s.engine) v' (work_at s.slots) (work_at ys) t x y at left.counts left.held slot) refl refl refl)
-    (ap (λ (z : List (Option Work)). length z) q ∙ (length-set s.slots t x ∙ o.places))
-    (works_set s.engine e' (work_at s.slots) (work_at ys) t x at name (λ u n. ap (λ (z : View). z.is_open u) now ∙ left.is_open u n) o.works works)
+    → view_of e' ≡ v' → e'.name ≡ s.engine.name → LeavesOthers t (view_of s.engine) v' → open_at v' t (work_of x w) ≡ y → Works e' t x w
+    → (xs : List (Option Handle)) (ws : List (Option Work)) → xs ≡ slice_set s.txs t x → ws ≡ slice_set s.works t w
+    → Moves s i a (record { engine = e'; txs = xs; works = ws })
+replaced s o i a t h x w y e' v' lead now name left slot works xs ws p q =
+    let s' : Stored = record { engine = e'; txs = xs; works = ws } in
+    let txs : in_place xs ≡ set t x (in_place s.txs) = ap (λ (z : List (Option Handle)). in_place z) p ∙ place_set s.txs t x None (within s o t h) in
+    let work : in_place ws ≡ set t w (in_place s.works) = ap (λ (z : List (Option Work)). in_place z) q ∙ place_set s.works t w None (works_within s o t h) in
+    let at : work_at s' ≡ set t (work_of x w) (work_at s) = work_set (in_place s.txs) (in_place xs) (in_place s.works) (in_place ws) t x w txs work in
+    closed s s' i a _ lead
+    (ap (λ (z : View). store_with z (work_at s')) now
+    ∙ same_parts _ _ _ _ _ _ _ _ _ _ _ _ refl refl (slots_set (view_of s.engine) v' (work_at s) (work_at s') t (work_of x w) y at left.counts left.held slot) refl refl refl)
+    (ap (λ (z : List (Option Handle)). length z) p ∙ (length-set s.txs t x ∙ o.tx_places))
+    (ap (λ (z : List (Option Work)). length z) q ∙ (length-set s.works t w ∙ o.work_places))
+    (works_set s.engine e' (in_place s.txs) (in_place xs) (in_place s.works) (in_place ws) t x w txs work name (λ u n. ap (λ (z : View). z.is_open u) now ∙ left.is_open u n) o.works works)
+
+-- a step that leaves the transaction in its place, and changes its work
+pub worked : {s : Stored} {t : ℕ} {x : Handle} {w : Work} → HasOpen s t x w → (i : Step system) (a : Answer system) (w' : Work) (y : Option (Slot system)) (e' : engine.Stored) (v' : View)
+    → Leads system (store_of s) i a (record { tables = v'.rows; undo = v'.undo; slots = set t y (store_of s).slots; seals = v'.seals; counts = v'.counts; extents = v'.extents })
+    → view_of e' ≡ v' → e'.name ≡ s.engine.name → LeavesOthers t (view_of s.engine) v' → Some (slot_of v' t w') ≡ y → IsWork e' t x w'
+    → (ws : List (Option Work)) → ws ≡ slice_set s.works t (Some w')
+    → Moves s i a (record { engine = e'; txs = s.txs; works = ws })
+worked {s} {t} {x} h i a w' y e' v' lead now name left slot own ws q =
+    replaced s h.orderly i a t h.low (Some x) (Some w') y e' v' lead now name left slot own s.txs ws
+    (kept_place s.txs t None ∙ ap (λ (z : Option Handle). slice_set s.txs t z) h.tx) q
+
+-- a step that takes it out of its place; what lies there is nobody's then
+pub emptied : {s : Stored} {t : ℕ} {x : Handle} {w : Work} → HasOpen s t x w → (i : Step system) (a : Answer system) (e' : engine.Stored) (v' : View)
+    → Leads system (store_of s) i a (record { tables = v'.rows; undo = v'.undo; slots = set t None (store_of s).slots; seals = v'.seals; counts = v'.counts; extents = v'.extents })
+    → view_of e' ≡ v' → e'.name ≡ s.engine.name → LeavesOthers t (view_of s.engine) v' → v'.is_open t ≡ false
+    → (xs : List (Option Handle)) (ws : List (Option Work)) (z : Option Work) → xs ≡ slice_set s.txs t None → ws ≡ slice_set s.works t z
+    → Moves s i a (record { engine = e'; txs = xs; works = ws })
+emptied {s} {t} h i a e' v' lead now name left shut xs ws z p q =
+    replaced s h.orderly i a t h.low None z None e' v' lead now name left refl (ap (λ (v : View). v.is_open t) now ∙ shut) xs ws p q
 
 -- a transaction is still open where the same ones are
 pub open_still : (e e' : engine.Stored) (x : Handle) → (view_of e').is_open ≡ (view_of e).is_open → e'.name ≡ e.name → IsOpen e x → IsOpen e' x
 open_still e e' x b name h = record { engine = h.engine ∙ sym name; terminal = ap (λ (z : ℕ → Bool). z x.terminal) b ∙ h.terminal }
 
 -- and its work is its own at other rows of its program
-pub work_still : (e e' : engine.Stored) (t : ℕ) (w : Work) (p m : Program) (k : ℕ) → IsWork e t w → (view_of e').is_open ≡ (view_of e).is_open → e'.name ≡ e.name
-    → request_of p ≡ w.request → request_of m ≡ w.request → IsWork e' t (record w { program = p; mark_program = m; mark = k })
-work_still e e' t w p m k own b name q r =
-    record { is_open = open_still e e' w.tx b name own.is_open; terminal = own.terminal; program = q; mark_program = r }
+pub work_still : (e e' : engine.Stored) (t : ℕ) (x : Handle) (w : Work) (p : Program) (m : Savepoint) → IsWork e t x w → (view_of e').is_open ≡ (view_of e).is_open → e'.name ≡ e.name
+    → IsOf w.request p → IsOf w.request m.program → IsWork e' t x (record w { program = p; mark = m })
+work_still e e' t x w p m own b name q r =
+    record { is_open = open_still e e' x b name own.is_open; terminal = own.terminal; program = q; mark = r }
 
-pub saved : {s : Stored} {t : ℕ} {w : Work} → HasOpen s t w → (m : Program) (k : ℕ) (ys : List (Option Work)) → m ≡ w.program
-    → (IsOpen s.engine w.tx → k ≡ length ((view_of s.engine).undo.active w.tx.terminal)) → ys ≡ slice_set s.slots t (Some (record w { mark_program = m; mark = k }))
-    → Moves s (Save t) Saved (record { engine = s.engine; slots = ys })
-saved {s} {t} {w} h m k ys same count q =
+pub saved : {s : Stored} {t : ℕ} {x : Handle} {w : Work} → HasOpen s t x w → (m : Savepoint) (k : ℕ) (ws : List (Option Work)) → m ≡ record { program = w.program; records = k }
+    → (IsOpen s.engine x → k ≡ length ((view_of s.engine).undo.active x.terminal)) → ws ≡ slice_set s.works t (Some (record w { mark = m }))
+    → Moves s (Save t) Saved (record { engine = s.engine; txs = s.txs; works = ws })
+saved {s} {t} {x} {w} h m k ws same count q =
     let v = view_of s.engine in
     let own = own_work h in
-    let mark : k ≡ length (v.undo.active t) = count own.is_open ∙ ap (λ (z : ℕ). length (v.undo.active z)) own.terminal in
-    replaced s h.orderly (Save t) Saved t h.low (Some (record w { mark_program = m; mark = k })) _ s.engine v
-    (the_steps.saves (store_of s) t (slot_of v t w) (standing s h.orderly) (ap (open_at v t) h.here))
+    let records : m.records ≡ length (v.undo.active t) =
+    ap (λ (z : Savepoint). z.records) same ∙ (count own.is_open ∙ ap (λ (z : ℕ). length (v.undo.active z)) own.terminal) in
+    let stands : m.program ≡ w.program = ap (λ (z : Savepoint). z.program) same in
+    worked h (Save t) Saved (record w { mark = m }) _ s.engine v
+    (the_steps.saves (store_of s) t (slot_of v t w) (standing s h.orderly) (slot_here h))
     refl refl (record { counts = λ u n. refl; held = λ u n. refl; is_open = λ u n. refl })
-    (λ i. Some (record { number = suc (v.counts t); request = w.request; place = place_of w.program; mark_place = place_of (same i); mark_count = mark i; held = v.held t }))
-    (work_still s.engine s.engine t w w.program m k own refl refl own.program (ap request_of same ∙ own.program))
-    ys q
+    (λ i. Some (record { number = suc (v.counts t); request = w.request; place = place_of w.request w.program; mark_place = place_of w.request (stands i); mark_count = records i; held = v.held t }))
+    (work_still s.engine s.engine t x w w.program m own refl refl own.program (subst (IsOf w.request) (sym stands) own.program))
+    ws q
 
-pub gone_back_here : {s : Stored} {t : ℕ} {w : Work} → HasOpen s t w → (p : Program) (e' : engine.Stored) (ys : List (Option Work)) → p ≡ w.mark_program
-    → view_of e' ≡ back_at w.tx.terminal w.mark (view_of s.engine) → e'.name ≡ s.engine.name → ys ≡ slice_set s.slots t (Some (record w { program = p }))
-    → Moves s (Back t) Gone_back (record { engine = e'; slots = ys })
-gone_back_here {s} {t} {w} h p e' ys same b name q =
+pub gone_back_here : {s : Stored} {t : ℕ} {x : Handle} {w : Work} → HasOpen s t x w → (p : Program) (e' : engine.Stored) (ws : List (Option Work)) → p ≡ w.mark.program
+    → view_of e' ≡ back_at x.terminal w.mark.records (view_of s.engine) → e'.name ≡ s.engine.name → ws ≡ slice_set s.works t (Some (record w { program = p }))
+    → Moves s (Back t) Gone_back (record { engine = e'; txs = s.txs; works = ws })
+gone_back_here {s} {t} {x} {w} h p e' ws same b name q =
     let v = view_of s.engine in
     let own = own_work h in
-    let now : view_of e' ≡ back_at t w.mark v = b ∙ ap (λ (z : ℕ). back_at z w.mark v) own.terminal in
-    replaced s h.orderly (Back t) Gone_back t h.low (Some (record w { program = p })) _ e' (back_at t w.mark v)
-    (the_steps.goes_back (store_of s) t (slot_of v t w) (standing s h.orderly) (ap (open_at v t) h.here))
+    let now : view_of e' ≡ back_at t w.mark.records v = b ∙ ap (λ (z : ℕ). back_at z w.mark.records v) own.terminal in
+    worked h (Back t) Gone_back (record w { program = p }) _ e' (back_at t w.mark.records v)
+    (the_steps.goes_back (store_of s) t (slot_of v t w) (standing s h.orderly) (slot_here h))
     now name (record { counts = λ u n. refl; held = λ u n. refl; is_open = λ u n. refl })
-    (λ i. Some (record { number = suc (v.counts t); request = w.request; place = place_of (same i); mark_place = place_of w.mark_program; mark_count = w.mark; held = v.held t }))
-    (work_still s.engine e' t w p w.mark_program w.mark own (ap (λ (z : View). z.is_open) now) name (ap request_of same ∙ own.mark_program) own.mark_program)
-    ys q
+    (λ i. Some (record { number = suc (v.counts t); request = w.request; place = place_of w.request (same i); mark_place = place_of w.request w.mark.program; mark_count = w.mark.records; held = v.held t }))
+    (work_still s.engine e' t x w p w.mark own (ap (λ (z : View). z.is_open) now) name (subst (IsOf w.request) (sym same) own.mark) own.mark)
+    ws q
 
 -- a step by which a terminal's transaction is rolled back
-pub dropped_here : {s : Stored} {t : ℕ} {w : Work} → HasOpen s t w → (i : Step system) (a : Answer system) (e' : engine.Stored) (ys : List (Option Work))
+pub dropped_here : {s : Stored} {t : ℕ} {x : Handle} {w : Work} → HasOpen s t x w → (i : Step system) (a : Answer system) (e' : engine.Stored) (xs : List (Option Handle)) (ws : List (Option Work)) (z : Option Work)
     → Leads system (store_of s) i a (dropped system t (store_of s))
-    → view_of e' ≡ rolled_back w.tx.terminal (view_of s.engine) → e'.name ≡ s.engine.name → ys ≡ slice_set s.slots t None
-    → Moves s i a (record { engine = e'; slots = ys })
-dropped_here {s} {t} {w} h i a e' ys lead b name q =
+    → view_of e' ≡ rolled_back x.terminal (view_of s.engine) → e'.name ≡ s.engine.name → xs ≡ slice_set s.txs t None → ws ≡ slice_set s.works t z
+    → Moves s i a (record { engine = e'; txs = xs; works = ws })
+dropped_here {s} {t} h i a e' xs ws z lead b name p q =
     let v = view_of s.engine in
-    let now : view_of e' ≡ rolled_back t v = b ∙ ap (λ (z : ℕ). rolled_back z v) (own_work h).terminal in
-    replaced s h.orderly i a t h.low None None e' (rolled_back t v) lead now name
-    (record { counts = λ u n. refl; held = λ u n. set_other t _ v.held u n; is_open = λ u n. set_other t false v.is_open u n }) refl
-    (ap (λ (z : View). z.is_open t) now ∙ set_same t false v.is_open t refl)
-    ys q
+    let now : view_of e' ≡ rolled_back t v = b ∙ ap (λ (k : ℕ). rolled_back k v) (own_work h).terminal in
+    emptied h i a e' (rolled_back t v) lead now name
+    (record { counts = λ u n. refl; held = λ u n. set_other t _ v.held u n; is_open = λ u n. set_other t false v.is_open u n })
+    (set_same t false v.is_open t refl)
+    xs ws z p q
 
-pub rolled_back_here : {s : Stored} {t : ℕ} {w : Work} → HasOpen s t w → (e' : engine.Stored) (ys : List (Option Work))
-    → view_of e' ≡ rolled_back w.tx.terminal (view_of s.engine) → e'.name ≡ s.engine.name → ys ≡ slice_set s.slots t None
-    → Moves s (Rollback t) Rolled_back (record { engine = e'; slots = ys })
-rolled_back_here {s} {t} {w} h e' ys b name q =
-    dropped_here h (Rollback t) Rolled_back e' ys
-    (the_steps.rolls_back (store_of s) t (slot_of (view_of s.engine) t w) (standing s h.orderly) (ap (open_at (view_of s.engine) t) h.here)) b name q
+-- where what it carried out is not there any more, none is open
+pub rolled_back_here : {s : Stored} {t : ℕ} {x : Handle} {w : Work} → HasOpen s t x w → (e' : engine.Stored) (xs : List (Option Handle))
+    → view_of e' ≡ rolled_back x.terminal (view_of s.engine) → e'.name ≡ s.engine.name → xs ≡ slice_set s.txs t None
+    → Moves s (Rollback t) Rolled_back (record { engine = e'; txs = xs; works = s.works })
+rolled_back_here {s} {t} {x} {w} h e' xs b name q =
+    dropped_here h (Rollback t) Rolled_back e' xs s.works (in_place s.works t)
+    (the_steps.rolls_back (store_of s) t (slot_of (view_of s.engine) t w) (standing s h.orderly) (slot_here h)) b name q (kept_place s.works t None)
+
+-- a transaction that stands in its place, and its work
+work_of_tx : (e : engine.Stored) (t : ℕ) (x : Handle) (y : Option Work) → Works e t (Some x) y → (w : Work) × (y ≡ Some w)
+work_of_tx e t x None h = absurd h
+work_of_tx e t x (Some w) h = (w, refl)
+
+pub taken_here : {s : Stored} {t : ℕ} {x : Handle} → IsOrderly s → t ≤ 64 → slice_get s.txs t ≡ Some (Some x) → (w : Work) × HasOpen s t x w
+taken_here {s} {t} {x} o h e =
+    let tx : in_place s.txs t ≡ Some x = get_place s.txs t (Some x) None e in
+    let found = work_of_tx s.engine t x (in_place s.works t) (subst (λ (y : Option Handle). Works s.engine t y (in_place s.works t)) tx (o.works t)) in
+    (found.0, record { orderly = o; low = omega (arith, h); tx = tx; work = found.1 })
 
 -- begin
 pub valid : (q : Request) → HasProgram q → IsRequest q
@@ -250,29 +335,33 @@ valid (request.Delivery q) h = absurd h
 valid (request.Deliveries q) h = absurd h
 valid (request.Rename q) h = absurd h
 
-pub begun_here : (s : Stored) → IsOrderly s → (t : ℕ) → 1 ≤ t → t ≤ 64 → (q : Request) → HasProgram q → (w : Work) (e' : engine.Stored) (ys : List (Option Work))
+pub begun_here : (s : Stored) → IsOrderly s → (t : ℕ) → 1 ≤ t → t ≤ 64 → (q : Request) → HasProgram q → (x : Handle) (w : Work) (e' : engine.Stored) (xs : List (Option Handle)) (ws : List (Option Work))
     → rejection q (view_of s.engine).rows ≡ None → number_rejection (suc ((view_of s.engine).counts t)) ≡ None
     → (view_of s.engine).is_open t ≡ false → ((view_of s.engine).is_open t ≡ false → (view_of s.engine).held t ≡ (λ _. None))
     → view_of e' ≡ begun t (view_of s.engine) → e'.name ≡ s.engine.name
-    → w.tx ≡ record { engine = s.engine.name; terminal = t } → w.request ≡ q → request_of w.program ≡ q → place_of w.program ≡ start_of q → w.mark_program ≡ w.program → w.mark ≡ 0
-    → ys ≡ slice_set s.slots t (Some w) → Moves s (Begin t q) Begun (record { engine = e'; slots = ys })
-begun_here s o t l h q g w e' ys known counted shut idle b name x r c p m k ys_is =
+    → x ≡ record { engine = s.engine.name; terminal = t } → w.request ≡ q → IsOf q w.program → place_of q w.program ≡ start_of q → w.mark ≡ record { program = w.program; records = 0 }
+    → xs ≡ slice_set s.txs t (Some x) → ws ≡ slice_set s.works t (Some w) → Moves s (Begin t q) Begun (record { engine = e'; txs = xs; works = ws })
+begun_here s o t l h q g x w e' xs ws known counted shut idle b name tx r c p m txs works =
     let v = view_of s.engine in
     let low : t < 65 = omega (arith, h) in
     let free : v.held t ≡ (λ _. None) = idle shut in
-    let mark : place_of w.mark_program ≡ start_of q = ap place_of m ∙ p in
-    replaced s o (Begin t q) Begun t low (Some w) (Some (first_slot system (store_of s) t q)) e' (begun t v)
+    let stands : w.mark.program ≡ w.program = ap (λ (z : Savepoint). z.program) m in
+    let of_it : IsOf w.request w.program = subst (λ (z : Request). IsOf z w.program) (sym r) c in
+    let place : place_of w.request w.program ≡ start_of q = ap (λ (z : Request). place_of z w.program) r ∙ p in
+    let mark : place_of w.request w.mark.program ≡ start_of q = ap (place_of w.request) stands ∙ place in
+    let records : w.mark.records ≡ 0 = ap (λ (z : Savepoint). z.records) m in
+    replaced s o (Begin t q) Begun t low (Some x) (Some w) (Some (first_slot system (store_of s) t q)) e' (begun t v)
     (the_steps.begins (store_of s) t q (standing s o)
-    (record { terminal = (l, below_limit t low); valid = valid q g; known = known; closed = ap (open_at v t) (no_work s.engine t (work_at s.slots t) (o.works t) shut); counted = counted }))
+    (record { terminal = (l, below_limit t low); valid = valid q g; known = known; closed = is_shut s o t shut; counted = counted }))
     b name (record { counts = λ u n. refl; held = λ u n. refl; is_open = λ u n. set_other t true v.is_open u n })
-    (λ i. Some (record { number = suc (v.counts t); request = r i; place = p i; mark_place = mark i; mark_count = k i; held = free i }))
+    (λ i. Some (record { number = suc (v.counts t); request = r i; place = place i; mark_place = mark i; mark_count = records i; held = free i }))
     (record {
       is_open = record {
-        engine = ap (λ (z : Handle). z.engine) x ∙ sym name;
-        terminal = ap (λ (z : View). z.is_open w.tx.terminal) b ∙ set_same t true v.is_open w.tx.terminal (ap (λ (z : Handle). z.terminal) x);
+        engine = ap (λ (z : Handle). z.engine) tx ∙ sym name;
+        terminal = ap (λ (z : View). z.is_open x.terminal) b ∙ set_same t true v.is_open x.terminal (ap (λ (z : Handle). z.terminal) tx);
       };
-      terminal = ap (λ (z : Handle). z.terminal) x;
-      program = c ∙ sym r;
-      mark_program = ap request_of m ∙ (c ∙ sym r);
+      terminal = ap (λ (z : Handle). z.terminal) tx;
+      program = of_it;
+      mark = subst (IsOf w.request) (sym stands) of_it;
     })
-    ys ys_is
+    xs ws txs works

@@ -1,5 +1,5 @@
 -- Places of a list, as a function of their numbers.
-use Rattle.std.proofs.Common.{◌≡◌, ◌≢◌, ℕ, zero, suc, ◌<◌, inl, inr, List, [], ◌∷◌, Option, Some, length, slice_get, slice_set, get_or, replicate, sym, ap, ◌∙◌, refl, arith}
+use Rattle.std.proofs.Common.{◌≡◌, ◌≢◌, ℕ, zero, suc, ◌<◌, inl, inr, List, [], ◌∷◌, Option, Some, None, length, slice_get, slice_set, get_or, replicate, sym, ap, ◌∙◌, refl, arith}
 use Rattle.std.specs.Prelude.{◌⊎◌}
 use Rattle.std.proofs.lemmas.Bool.{cases_eq}
 use Rattle.std.proofs.lemmas.List.{set-set}
@@ -45,22 +45,14 @@ slice_of (y ∷ ys) zero x d h e = ap Some e
 slice_of (y ∷ ys) (suc t) x d h e = slice_of ys t x d (omega arith) e
 
 -- what stands behind a loan of a place
-pub at_place : {X : Type 0} (xs : List X) (i t : ℕ) (x y : X) → i ≡ t → t < length xs → x ≡ get_or xs i x → x ≡ y → slice_get xs t ≡ Some y
-at_place xs i t x y e h g f = slice_of xs t x x h (ap (λ (k : ℕ). get_or xs k x) (sym e) ∙ sym g) ∙ ap Some f
+pub lent_place : {X : Type 0} (xs : List (Option X)) (i t : ℕ) (x y : Option X) → i ≡ t → t < length xs → x ≡ get_or xs i x → x ≡ y → get_or xs t None ≡ y
+lent_place xs i t x y e h g f = get_place xs t x None (slice_of xs t x x h (ap (λ (k : ℕ). get_or xs k x) (sym e) ∙ sym g)) ∙ f
 
--- what was put in is what is taken out
-pub taken_is : {X : Type 0} (xs : List (Option X)) (i t : ℕ) (x y : X) → i ≡ t → t < length xs → slice_get (slice_set xs i (Some x)) t ≡ Some (Some y) → y ≡ x
-taken_is xs i t x y e h g =
-    let it : Some (Some y) ≡ Some (Some x) = sym g ∙ (ap (λ (k : ℕ). slice_get (slice_set xs k (Some x)) t) e ∙ get_set_same xs t (Some x) h) in
-    some_inj _ _ (some_inj _ _ it)
-
--- and nothing of it is left
-pub taken_out : {X : Type 0} (xs ys : List X) (i t : ℕ) (x y : X) → i ≡ t → ys ≡ slice_set (slice_set xs i x) t y → ys ≡ slice_set xs t y
-taken_out xs ys i t x y e g = g ∙ (ap (λ (k : ℕ). slice_set (slice_set xs k x) t y) e ∙ set-set xs t x y)
-
--- taken out, changed and put in again
-pub put_back : {X : Type 0} (xs ys zs : List X) (t : ℕ) (x y : X) → ys ≡ slice_set xs t x → zs ≡ slice_set ys t y → zs ≡ slice_set xs t y
-put_back {X = X} xs ys zs t x y e g = g ∙ (ap (λ (ws : List X). slice_set ws t y) e ∙ set-set xs t x y)
+-- a place that is set to what stands there
+pub kept_place : {X : Type 0} (xs : List X) (t : ℕ) (d : X) → xs ≡ slice_set xs t (get_or xs t d)
+kept_place [] t d = refl
+kept_place (y ∷ ys) zero d = refl
+kept_place (y ∷ ys) (suc t) d = ap (λ zs. y ∷ zs) (kept_place ys t d)
 
 pub set_idle_place : {X : Type 0} (xs : List X) (t : ℕ) (x : X) → slice_get xs t ≡ Some x → slice_set xs t x ≡ xs
 set_idle_place [] t x e = refl

@@ -9,31 +9,55 @@ use Rattle.oe_requests.specs.declared.requests.Request.{Request}
 use Rattle.oe_requests.specs.declared.requests.Request.TheVariants as request
 use Rattle.oe_requests.specs.declared.refusals.Refusal.{Refusal}
 use Rattle.oe_requests.specs.declared.refusals.Refusal.TheVariants as refusal
-use Rattle.oe_model.specs.Places.{Place}
+use Rattle.oe_requests.specs.declared.replies.Reply.{Reply}
+use Rattle.oe_model.specs.Places.{Place, InPayment, NoProgram}
 use Rattle.oe_model.specs.System.{system}
-use Rattle.oe_engine.specs.View.{View, view_of, IsOpen}
+use Rattle.oe_engine.specs.View.{View, view_of, Handle, IsOpen}
 use Rattle.oe_engine.specs.View as engine
 use Rattle.oe_engine.specs.Calls.{rolled_back}
-use Rattle.oe_payment.specs.Program as payment
+use Rattle.oe_engine.specs.Programs.{payment_reply}
+use Rattle.oe_core.specs.Steps.{IsNumber}
 use Rattle.oe_core.specs.declared.programs.Program.{Program}
 use Rattle.oe_core.specs.declared.programs.Program.TheVariants as program
 use Rattle.oe_core.specs.declared.slots.Work.{Work}
 
--- the engine, and the open transactions in the places of their terminals
+-- the engine, the open transactions in the places of their terminals, and what lies there for them to carry out
 pub record Stored : Type 0 where
   pub engine : engine.Stored
-  pub slots : List (Option Work)
+  pub txs : List (Option Handle)
+  pub works : List (Option Work)
 
--- the row that a program comes to next, and the request that it carries out
-abbrev pub place_of : Program → Place
-place_of (program.Payment p) = payment.place_of p
+-- the program is one of this request
+abbrev pub IsOf : Request → Program → Type 0
+IsOf (request.Payment q) (program.Payment p) = IsNumber q.customer
+IsOf (request.NewOrder q) p = ⊥
+IsOf (request.Delivery q) p = ⊥
+IsOf (request.Deliveries q) p = ⊥
+IsOf (request.Rename q) p = ⊥
 
-abbrev pub request_of : Program → Request
-request_of (program.Payment p) = request.Payment p.request
+-- the row that it comes to next
+abbrev pub place_of : Request → Program → Place
+place_of (request.Payment q) (program.Payment p) = InPayment q p
+place_of (request.NewOrder q) p = NoProgram
+place_of (request.Delivery q) p = NoProgram
+place_of (request.Deliveries q) p = NoProgram
+place_of (request.Rename q) p = NoProgram
 
--- the work of a terminal
-abbrev pub work_at : List (Option Work) → ℕ → Option Work
-work_at ws t = get_or ws t None
+-- its reply, at its end
+abbrev pub reply_of : Program → Option Reply
+reply_of (program.Payment p) = payment_reply p
+
+-- what stands in a terminal's place
+abbrev pub in_place : {X : Type 0} → List (Option X) → ℕ → Option X
+in_place xs t = get_or xs t None
+
+-- what an open transaction carries out; without one, what lies there is nobody's
+abbrev pub work_of : Option Handle → Option Work → Option Work
+work_of None w = None
+work_of (Some x) w = w
+
+abbrev pub work_at : Stored → ℕ → Option Work
+work_at s t = work_of (in_place s.txs t) (in_place s.works t)
 
 -- an open transaction of terminal t, as the theory stores it
 abbrev pub slot_of : View → ℕ → Work → Slot system
@@ -41,9 +65,9 @@ slot_of v t w =
     record {
       number = suc (v.counts t);
       request = w.request;
-      place = place_of w.program;
-      mark_place = place_of w.mark_program;
-      mark_count = w.mark;
+      place = place_of w.request w.program;
+      mark_place = place_of w.request w.mark.program;
+      mark_count = w.mark.records;
       held = v.held t;
     }
 
@@ -57,7 +81,7 @@ abbrev pub store_with : View → (ℕ → Option Work) → Store system
 store_with v f = record { tables = v.rows; undo = v.undo; slots = λ t. open_at v t (f t); seals = v.seals; counts = v.counts; extents = v.extents }
 
 abbrev pub store_of : Stored → Store system
-store_of s = store_with (view_of s.engine) (work_at s.slots)
+store_of s = store_with (view_of s.engine) (work_at s)
 
 -- the world of open transactions and commits
 unfoldable pub world_of : Stored → World system
@@ -67,21 +91,23 @@ world_of s = theory.world_of system (store_of s)
 unfoldable pub IsSound : Stored → Type 0
 IsSound s = IsStanding system (store_of s)
 
--- the transaction is open in the engine, and its programs carry out its request
-pub record IsWork (e : engine.Stored) (t : ℕ) (w : Work) : Type 0 where
-  pub is_open : IsOpen e w.tx
-  pub terminal : w.tx.terminal ≡ t
-  pub program : request_of w.program ≡ w.request
-  pub mark_program : request_of w.mark_program ≡ w.request
+-- the transaction is open in the engine, and its programs are those of its request
+pub record IsWork (e : engine.Stored) (t : ℕ) (x : Handle) (w : Work) : Type 0 where
+  pub is_open : IsOpen e x
+  pub terminal : x.terminal ≡ t
+  pub program : IsOf w.request w.program
+  pub mark : IsOf w.request w.mark.program
 
--- a place has work exactly where its terminal has a transaction open
-abbrev pub Works : engine.Stored → ℕ → Option Work → Type 0
-Works e t None = (view_of e).is_open t ≡ false
-Works e t (Some w) = IsWork e t w
+-- a place has a transaction, and work for it, exactly where its terminal has one open
+abbrev pub Works : engine.Stored → ℕ → Option Handle → Option Work → Type 0
+Works e t None w = (view_of e).is_open t ≡ false
+Works e t (Some x) None = ⊥
+Works e t (Some x) (Some w) = IsWork e t x w
 
 pub record IsOrderly (s : Stored) : Type 0 where
-  pub places : length s.slots ≡ 65
-  pub works : (t : ℕ) → Works s.engine t (work_at s.slots t)
+  pub tx_places : length s.txs ≡ 65
+  pub work_places : length s.works ≡ 65
+  pub works : (t : ℕ) → Works s.engine t (in_place s.txs t) (in_place s.works t)
   pub sound : IsSound s
 
 -- a step of what is stored
@@ -97,11 +123,11 @@ keeps_open refusal.NoMemory = true
 keeps_open _ = false
 
 -- the transaction of a place is open
-abbrev pub IsEndable : engine.Stored → Option Work → Type 0
+abbrev pub IsEndable : engine.Stored → Option Handle → Type 0
 IsEndable e None = Unit {0}
-IsEndable e (Some w) = IsOpen e w.tx
+IsEndable e (Some x) = IsOpen e x
 
 -- and was, where there is one
-abbrev pub IsEnded : engine.Stored → Option Work → engine.Stored → Type 0
+abbrev pub IsEnded : engine.Stored → Option Handle → engine.Stored → Type 0
 IsEnded e None e' = e' ≡ e
-IsEnded e (Some w) e' = (view_of e' ≡ rolled_back w.tx.terminal (view_of e)) × (e'.name ≡ e.name)
+IsEnded e (Some x) e' = (view_of e' ≡ rolled_back x.terminal (view_of e)) × (e'.name ≡ e.name)

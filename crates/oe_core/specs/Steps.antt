@@ -1,6 +1,6 @@
 -- Steps and answers as those of the theory of transactions, and what a step may be answered.
-use Rattle.std.specs.Prelude.{◌≡◌, ◌≢◌, ℕ, ◌<◌}
-use Rattle.oe_theory.specs.World.{World, newest, tables}
+use Rattle.std.specs.Prelude.{◌≡◌, ◌≢◌, ℕ, ◌<◌, List, [], ◌∷◌, Option, None, Some, Result, Ok, Err}
+use Rattle.oe_theory.specs.World.{Commit, World, newest, tables}
 use Rattle.oe_theory.specs.Next as theory
 use Rattle.oe_theory.specs.Next.{Next, IsQuiet, count_open}
 use Rattle.oe_theory.specs.Theorems.{IsReached}
@@ -10,6 +10,7 @@ use Rattle.oe_requests.specs.declared.requests.Request.{Request}
 use Rattle.oe_requests.specs.declared.requests.Request.TheVariants as request
 use Rattle.oe_requests.specs.declared.refusals.Refusal.{Refusal}
 use Rattle.oe_requests.specs.declared.refusals.Refusal.TheVariants as refusal
+use Rattle.oe_requests.specs.declared.replies.Reply.{Reply}
 use Rattle.oe_steps.specs.declared.steps.Step.{Step}
 use Rattle.oe_steps.specs.declared.steps.Step.TheVariants as step
 use Rattle.oe_steps.specs.declared.answers.Answer.{Answer}
@@ -18,6 +19,8 @@ use Rattle.oe_audit.specs.Verdict.{condition_of, verdict_of}
 use Rattle.oe_model.specs.Audits as model
 use Rattle.oe_model.specs.Requests.{IsRequest}
 use Rattle.oe_model.specs.System.{system}
+use Rattle.oe_core.specs.declared.advances.Advanced.{Advanced}
+use Rattle.oe_core.specs.declared.advances.Advanced.TheVariants as advanced
 
 abbrev pub step_in : Step → theory.Step system
 step_in (step.Begin t q) = theory.Begin t q
@@ -77,6 +80,25 @@ Serves w i a w' = Next system w i a w'
 -- a step that was answered so, and steps have led to the world that it leaves
 abbrev pub Carries : World system → Step → Answer → World system → Type 0
 Carries w i a w' = Serves w (step_in i) (answer_in i a) w' × IsReached system w'
+
+-- the answer of a Begin
+abbrev pub begin_answer : Result (Unit {0}) Refusal → Answer
+begin_answer (Ok x) = answer.Begun
+begin_answer (Err e) = answer.Refused e
+
+-- the reply of the newest commit, if there is one
+abbrev pub reply_of_newest : List (Commit system) → Option Reply
+reply_of_newest [] = None
+reply_of_newest (c ∷ cs) = Some c.reply
+
+abbrev pub newest_reply : World system → Option Reply
+newest_reply w = reply_of_newest w.history
+
+-- an Advance that ended so: the reply of a commit is that of the newest
+abbrev pub Advances : World system → ℕ → Advanced → World system → Type 0
+Advances w t advanced.More w' = Carries w (step.Advance t) answer.More w'
+Advances w t (advanced.Committed m) w' = (y : Reply) × (newest_reply w' ≡ Some y) × Carries w (step.Advance t) (answer.Committed m y) w'
+Advances w t (advanced.Refused e) w' = Carries w (step.Advance t) (answer.Refused e) w'
 
 -- the requests that have a program today: payments by customer number, in their ranges
 abbrev pub IsNumber : CustomerChoice → Type 0

@@ -1,5 +1,6 @@
 //! The core.
-ghost use Rattle.std.specs.Prelude.{◌≡◌, IfOk, suc};
+ghost use Rattle.std.specs.Prelude.{◌≡◌, IfOk, IfSome, IsSome, suc};
+ghost use Rattle.std.specs.Option.{option_copied};
 ghost use Rattle.oe_theory.specs.World.{latest, newest, tables, total};
 ghost use Rattle.oe_theory.specs.Theorems.{opened, IsReached};
 ghost use Rattle.oe_model.specs.Conditions.{IsPopulation};
@@ -7,13 +8,14 @@ ghost use Rattle.oe_model.specs.System.{system, terminal_limit};
 ghost use Rattle.oe_store.specs.Stored.{rows};
 ghost use Rattle.oe_engine.specs.View.{view_of, IsOpen};
 ghost use Rattle.oe_engine.specs.Calls.{committed, rolled_back};
-ghost use Rattle.oe_core.specs.Steps.{step_in, answer_in, Serves, Carries, IsStep, HasProgram};
-ghost use Rattle.oe_core.specs.Core.{world_of, keeps_open, IsEndable, IsEnded};
+ghost use Rattle.oe_core.specs.Steps.{step_in, answer_in, Serves, Carries, begin_answer, Advances, newest_reply, IsStep, HasProgram};
+ghost use Rattle.oe_core.specs.Core.{world_of, reply_of, keeps_open, IsEndable, IsEnded};
 
+use crate::advances::Advanced;
 use crate::programs::Program;
 use crate::rejections::rejection;
-use crate::slots::{Work, begun_work, empty_slots, open_work, place, put_work, take_work};
-use oe_engine::{Engine, Progress};
+use crate::slots::{Work, begun_work, empty_txs, empty_works, open_tx, place, put_tx, take_tx};
+use oe_engine::{Engine, Progress, Tx};
 use oe_requests::{Refusal, Reply, Request};
 use oe_steps::{Answer, Condition, Step};
 use oe_store::Tables;
@@ -25,7 +27,9 @@ use std::marker::Model;
 /// A core. It can't be dropped: `close` ends it.
 pub struct Core {
     engine: Engine,
-    slots: Vec<Option<Work>>,
+    // By the terminals' numbers; 0 is nobody's. What a transaction carried out lies in its place until the next begins.
+    txs: Vec<Option<Tx>>,
+    works: Vec<Option<Work>>,
     alloc: Global,
 }
 
@@ -34,9 +38,9 @@ impl Model for Core {
 
     ghost Value = { Stored };
 
-    ghost view = { λ c. record { engine = c.engine; slots = c.slots.items } };
+    ghost view = { λ c. record { engine = c.engine; txs = c.txs.items; works = c.works.items } };
 
-    ghost invariant = { λ c. IsOrderly (record { engine = c.engine; slots = c.slots.items }) };
+    ghost invariant = { λ c. IsOrderly (record { engine = c.engine; txs = c.txs.items; works = c.works.items }) };
 }
 
 impl Core {
@@ -46,12 +50,16 @@ impl Core {
         ensures { IfOk result (λ c. world_of c ≡ opened system (rows tables) extents) }
     {
         let engine = Engine::open(alloc, tables, extents, 0)?;
-        let Ok(slots) = empty_slots(alloc) else {
+        let Ok(works) = empty_works(alloc) else {
+            return Err(NoMemory);
+        };
+        let Ok(txs) = empty_txs(alloc) else {
             return Err(NoMemory);
         };
         Ok(Core {
             engine,
-            slots,
+            txs,
+            works,
             alloc,
         })
     }
@@ -68,6 +76,13 @@ impl Core {
         ensures { result ≡ newest system (world_of self.now) }
     {
         self.engine.newest()
+    }
+
+    /// The reply of the newest commit; none before the first.
+    pub fn newest_reply(&self) -> Option<&Reply>
+        ensures { option_copied result ≡ newest_reply (world_of self.now) }
+    {
+        self.engine.newest_reply()
     }
 
     /// Steps have led to where the core stands.
@@ -89,8 +104,8 @@ impl Core {
         ensures reached { IsReached system (world_of self.new) }
     {
         match step {
-            Step::Begin(terminal, request) => self.begin(terminal, request),
-            Step::Advance(terminal) => self.advance(terminal),
+            Step::Begin(terminal, request) => self.answer_begin(terminal, &request),
+            Step::Advance(terminal) => self.answer_advance(terminal),
             Step::Save(terminal) => self.save(terminal),
             Step::Back(terminal) => self.back(terminal),
             Step::Rollback(terminal) => self.rollback(terminal),
@@ -105,13 +120,14 @@ impl Core {
     {
         let Core {
             mut engine,
-            mut slots,
+            mut txs,
+            works: _,
             alloc: _,
         } = self;
-        while let Some(slot) = slots.pop() {
-            end_work(&mut engine, slot);
+        while let Some(tx) = txs.pop() {
+            end(&mut engine, tx);
         }
-        slots.destroy_empty();
+        txs.destroy_empty();
         engine.close()
     }
 
@@ -140,24 +156,50 @@ impl Core {
         Answer::Audited(oe_audit::condition(condition, self.engine.tables()))
     }
 
+    // A Begin, and its answer.
+    fn answer_begin(&mut self, terminal: Terminal, request: &Request) -> Answer
+        requires { HasProgram request.now }
+        ensures { Carries (world_of self.old) (Step.Begin terminal request.now) result (world_of self.new) }
+    {
+        match self.begin(terminal, request) {
+            Ok(()) => Answer::Begun,
+            Err(refusal) => Answer::Refused(refusal),
+        }
+    }
+
+    // An Advance, and its answer, with a copy of the reply.
+    fn answer_advance(&mut self, terminal: Terminal) -> Answer
+        ensures { Carries (world_of self.old) (Step.Advance terminal) result (world_of self.new) }
+    {
+        match self.advance(terminal) {
+            Advanced::More => Answer::More,
+            Advanced::Committed(moment) => match self.newest_reply() {
+                Some(reply) => Answer::Committed(moment, reply.copied()),
+                None => unreachable!(),
+            },
+            Advanced::Refused(refusal) => Answer::Refused(refusal),
+        }
+    }
+
     /// Begins the terminal's transaction.
     ///
     /// `NoSuchRow`: the first warehouse of the request that isn't there. `AlreadyOpen`: the terminal has a transaction open.
     /// `Overflow` of H_NUMBER: it has had 4,294,967,295. `NoMemory`. The first of these is named, and nothing has changed.
     #[inline(never)]
-    fn begin(&mut self, terminal: Terminal, request: Request) -> Answer
-        requires { HasProgram request }
-        ensures { Carries (world_of self.old) (Step.Begin terminal request) result (world_of self.new) }
+    pub fn begin(&mut self, terminal: Terminal, request: &Request) -> Result<(), Refusal>
+        requires { HasProgram request.now }
+        ensures { Carries (world_of self.old) (Step.Begin terminal request.now) (begin_answer result) (world_of self.new) }
     {
-        if let Some(refusal) = rejection(self.engine.tables(), &request) {
-            return Answer::Refused(refusal);
+        if let Some(refusal) = rejection(self.engine.tables(), request) {
+            return Err(refusal);
         }
         match self.engine.begin(terminal) {
             Ok(tx) => {
-                put_work(&mut self.slots, terminal, begun_work(tx, request));
-                Answer::Begun
+                put_tx(&mut self.txs, terminal, tx);
+                self.works[place(terminal)] = Some(begun_work(request));
+                Ok(())
             }
-            Err(refusal) => Answer::Refused(refusal),
+            Err(refusal) => Err(refusal),
         }
     }
 
@@ -166,12 +208,13 @@ impl Core {
     fn save(&mut self, terminal: Terminal) -> Answer
         ensures { Carries (world_of self.old) (Step.Save terminal) result (world_of self.new) }
     {
-        let Some(mut work) = take_work(&mut self.slots, terminal) else {
+        let Some(tx) = &self.txs[place(terminal)] else {
             return Answer::Refused(Refusal::NotOpen);
         };
-        work.mark_program = work.program.copied();
-        work.mark = self.engine.savepoint(&work.tx);
-        put_work(&mut self.slots, terminal, work);
+        let Some(work) = &mut self.works[place(terminal)] else {
+            unreachable!()
+        };
+        work.mark.set(&work.program, self.engine.savepoint(tx));
         Answer::Saved
     }
 
@@ -180,12 +223,14 @@ impl Core {
     fn back(&mut self, terminal: Terminal) -> Answer
         ensures { Carries (world_of self.old) (Step.Back terminal) result (world_of self.new) }
     {
-        let Some(mut work) = take_work(&mut self.slots, terminal) else {
+        let Some(tx) = &self.txs[place(terminal)] else {
             return Answer::Refused(Refusal::NotOpen);
         };
-        self.engine.rollback_to(&work.tx, work.mark);
-        work.program = work.mark_program.copied();
-        put_work(&mut self.slots, terminal, work);
+        let Some(work) = &mut self.works[place(terminal)] else {
+            unreachable!()
+        };
+        self.engine.rollback_to(tx, work.mark.records);
+        work.program.go_to(&work.mark.program);
         Answer::Back
     }
 
@@ -194,36 +239,38 @@ impl Core {
     fn rollback(&mut self, terminal: Terminal) -> Answer
         ensures { Carries (world_of self.old) (Step.Rollback terminal) result (world_of self.new) }
     {
-        let Some(open) = take_work(&mut self.slots, terminal) else {
+        let Some(tx) = take_tx(&mut self.txs, terminal) else {
             return Answer::Refused(Refusal::NotOpen);
         };
-        roll_back(&mut self.engine, open);
+        roll_back(&mut self.engine, tx);
         Answer::RolledBack
     }
 
     /// One row of the terminal's transaction; where none is left the transaction commits.
     ///
     /// `Busy` and `NoMemory` have changed nothing. After another refusal the transaction is rolled back.
-    fn advance(&mut self, terminal: Terminal) -> Answer
-        ensures { Carries (world_of self.old) (Step.Advance terminal) result (world_of self.new) }
+    pub fn advance(&mut self, terminal: Terminal) -> Advanced
+        ensures { Advances (world_of self.old) terminal result (world_of self.new) }
     {
-        let Some(work) = &mut self.slots[place(terminal)] else {
-            return Answer::Refused(Refusal::NotOpen);
+        let Some(tx) = &self.txs[place(terminal)] else {
+            return Advanced::Refused(Refusal::NotOpen);
         };
-        match work.program.next(&mut self.engine, &work.tx) {
-            Progress::More => Answer::More,
-            Progress::Ready(reply) => {
-                let open = open_work(&mut self.slots, terminal);
-                let moment = commit(&mut self.engine, open, &reply);
-                Answer::Committed(moment, reply)
+        let Some(work) = &mut self.works[place(terminal)] else {
+            unreachable!()
+        };
+        match work.program.next(&work.request, &mut self.engine, tx) {
+            Progress::More => Advanced::More,
+            Progress::Ready => {
+                let open = open_tx(&mut self.txs, terminal);
+                Advanced::Committed(commit(&mut self.engine, open, &work.request, &work.program))
             }
             Progress::Refused(refusal) => {
                 if keeps_open(&refusal) {
-                    return Answer::Refused(refusal);
+                    return Advanced::Refused(refusal);
                 }
-                let open = open_work(&mut self.slots, terminal);
+                let open = open_tx(&mut self.txs, terminal);
                 roll_back(&mut self.engine, open);
-                Answer::Refused(refusal)
+                Advanced::Refused(refusal)
             }
         }
     }
@@ -239,22 +286,17 @@ fn keeps_open(refusal: &Refusal) -> bool
     )
 }
 
-/// Commits a transaction of the engine, and answers the moment that it made.
+/// Commits a transaction of the engine whose program is at its end, and answers the moment that it made. Request and reply are
+/// copied into the log, which takes no memory.
 #[inline(never)]
-fn commit(engine: &mut Engine, work: Work, reply: &Reply) -> Moment
-    requires { IsOpen engine.old work.tx }
+fn commit(engine: &mut Engine, tx: Tx, request: &Request, program: &Program) -> Moment
+    requires open { IsOpen engine.old tx }
+    requires ready { IsSome (reply_of program.now) }
     ensures moment { result ≡ suc (total terminal_limit (view_of engine.old).counts) }
-    ensures committed { view_of engine.new ≡ committed work.tx.terminal work.request reply.now (view_of engine.old) }
+    ensures committed { IfSome (reply_of program.now) (λ y. view_of engine.new ≡ committed tx.terminal request.now y (view_of engine.old)) }
     ensures name { engine.new.name ≡ engine.old.name }
 {
-    let Work {
-        tx,
-        request,
-        program: _,
-        mark_program: _,
-        mark: _,
-    } = work;
-    match engine.commit(tx, request, reply.copied()) {
+    match engine.commit(tx, request.copied(), program.reply()) {
         Ok(moment) => moment,
         Err(_) => unreachable!(),
     }
@@ -262,18 +304,11 @@ fn commit(engine: &mut Engine, work: Work, reply: &Reply) -> Moment
 
 /// Spends a transaction of the engine: all that it has changed is forgotten.
 #[inline(never)]
-fn roll_back(engine: &mut Engine, work: Work)
-    requires { IsOpen engine.old work.tx }
-    ensures rolled_back { view_of engine.new ≡ rolled_back work.tx.terminal (view_of engine.old) }
+fn roll_back(engine: &mut Engine, tx: Tx)
+    requires { IsOpen engine.old tx }
+    ensures rolled_back { view_of engine.new ≡ rolled_back tx.terminal (view_of engine.old) }
     ensures name { engine.new.name ≡ engine.old.name }
 {
-    let Work {
-        tx,
-        request: _,
-        program: _,
-        mark_program: _,
-        mark: _,
-    } = work;
     match engine.rollback(tx) {
         Ok(()) => {}
         Err(_) => unreachable!(),
@@ -281,11 +316,11 @@ fn roll_back(engine: &mut Engine, work: Work)
 }
 
 /// Rolls back the transaction of a place, where there is one.
-fn end_work(engine: &mut Engine, slot: Option<Work>)
-    requires { IsEndable engine.old slot }
-    ensures { IsEnded engine.old slot engine.new }
+fn end(engine: &mut Engine, place: Option<Tx>)
+    requires { IsEndable engine.old place }
+    ensures { IsEnded engine.old place engine.new }
 {
-    if let Some(work) = slot {
-        roll_back(engine, work);
+    if let Some(tx) = place {
+        roll_back(engine, tx);
     }
 }

@@ -1,11 +1,13 @@
 //! The core: overlapping transactions as the machine.
 #![tactic(auto)]
 
+pub mod advances;
 pub mod cores;
 mod programs;
 mod rejections;
 pub mod runs;
 mod slots;
 
+pub use advances::Advanced;
 pub use cores::Core;
 pub use runs::run;

@@ -1,14 +1,14 @@
 //! The programs of transactions.
-ghost use Rattle.std.specs.Prelude.{◌≡◌};
+ghost use Rattle.std.specs.Prelude.{◌≡◌, Some, IsSome};
 ghost use Rattle.oe_model.specs.System.{start_of};
 ghost use Rattle.oe_engine.specs.Programs.{Progresses};
 ghost use Rattle.oe_core.specs.Steps.{HasProgram};
-ghost use Rattle.oe_core.specs.Core.{place_of, request_of};
+ghost use Rattle.oe_core.specs.Core.{IsOf, place_of, reply_of};
 
 use oe_engine::{Engine, Progress, Tx};
-use oe_requests::Request;
+use oe_requests::{Reply, Request};
 
-/// A program, and the row that it comes to next.
+/// Where the program of a request stands. The request lies beside it.
 #[derive(Drop)]
 pub enum Program {
     Payment(oe_payment::Program),
@@ -18,13 +18,11 @@ impl Program {
     /// The program of a request, at its first row.
     pub fn new(request: &Request) -> Self
         requires { HasProgram request.now }
-        ensures request { request_of result ≡ request.now }
-        ensures place { place_of result ≡ start_of request.now }
+        ensures of { IsOf request.now result }
+        ensures place { place_of request.now result ≡ start_of request.now }
     {
         match request {
-            Request::Payment(payment) => {
-                Program::Payment(oe_payment::Program::new(payment.copied()))
-            }
+            Request::Payment(_) => Program::Payment(oe_payment::Program::new()),
             _ => unreachable!(),
         }
     }
@@ -38,13 +36,37 @@ impl Program {
         }
     }
 
-    /// One row of the program: its lock and its change. `Refused` leaves all as it was.
-    pub fn next(&mut self, engine: &mut Engine, tx: &Tx) -> Progress
-        ensures progresses { Progresses (request_of self.old) tx.now engine.old (place_of self.old) result engine.new (place_of self.new) }
-        ensures request { request_of self.new ≡ request_of self.old }
+    /// Goes to where another program stands. It takes no memory.
+    pub fn go_to(&mut self, other: &Program)
+        ensures { self.new ≡ other.now }
+    {
+        *self = other.copied();
+    }
+
+    /// A copy of the reply, at the end. It takes no memory.
+    pub fn reply(&self) -> Reply
+        requires { IsSome (reply_of self.now) }
+        ensures { reply_of self.now ≡ Some result }
     {
         match self {
-            Program::Payment(program) => program.next(engine, tx),
+            Program::Payment(program) => match program.reply() {
+                Some(reply) => Reply::Payment(reply.copied()),
+                None => unreachable!(),
+            },
+        }
+    }
+
+    /// One row of the program of this request: its lock and its change. `Refused` leaves all as it was.
+    pub fn next(&mut self, request: &Request, engine: &mut Engine, tx: &Tx) -> Progress
+        requires { IsOf request.now self.old }
+        ensures progresses { Progresses request.now tx.now engine.old (place_of request.now self.old) result engine.new (place_of request.now self.new) }
+        ensures of { IsOf request.now self.new }
+    {
+        match self {
+            Program::Payment(program) => match request {
+                Request::Payment(payment) => program.next(payment, engine, tx),
+                _ => unreachable!(),
+            },
         }
     }
 }

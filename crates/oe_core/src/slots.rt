@@ -1,8 +1,8 @@
-//! The open transactions by their terminals.
+//! The places of terminals: their open transactions, and what these carry out.
 ghost use Rattle.std.specs.Prelude.{◌≡◌, ◌<◌, ◌≤◌, Some, None, IsSome, IfOk, slice_get, slice_set, vec_len, replicate};
 ghost use Rattle.oe_model.specs.System.{start_of};
 ghost use Rattle.oe_core.specs.Steps.{HasProgram};
-ghost use Rattle.oe_core.specs.Core.{place_of, request_of, work_at};
+ghost use Rattle.oe_core.specs.Core.{IsOf, place_of, in_place};
 
 use crate::programs::Program;
 use oe_engine::{Mark, Tx};
@@ -10,13 +10,29 @@ use oe_requests::Request;
 use oe_values::Terminal;
 use std::alloc::{AllocError, Global};
 
-/// An open transaction: its program where it stands, and where it stood at its mark.
+/// What an open transaction carries out: its request, where its program stands, and its mark.
+#[derive(Drop)]
 pub struct Work {
-    pub tx: Tx,
     pub request: Request,
     pub program: Program,
-    pub mark_program: Program,
-    pub mark: Mark,
+    pub mark: Savepoint,
+}
+
+/// Where a transaction stood: its program, and how many records it had made.
+#[derive(Drop)]
+pub struct Savepoint {
+    pub program: Program,
+    pub records: Mark,
+}
+
+impl Savepoint {
+    /// Moves to where a program stands.
+    pub fn set(&mut self, program: &Program, records: Mark)
+        ensures { self.new ≡ record { program = program.now; records = records } }
+    {
+        self.program.go_to(program);
+        self.records = records;
+    }
 }
 
 /// The place of a terminal.
@@ -27,69 +43,79 @@ pub fn place(terminal: Terminal) -> usize
     terminal.get() as usize
 }
 
-/// Places for the terminals 1 to 64; that of 0 stays empty.
-pub fn empty_slots(alloc: Global) -> Result<Vec<Option<Work>>, AllocError>
+/// Places for the transactions of the terminals 1 to 64; that of 0 stays empty.
+pub fn empty_txs(alloc: Global) -> Result<Vec<Option<Tx>>, AllocError>
     ensures { IfOk result (λ v. v.items ≡ replicate 65 None) }
 {
-    let mut slots = Vec::with_capacity(alloc, 65)?;
+    let mut txs = Vec::with_capacity(alloc, 65)?;
     for _ in 0..65u8 {
-        slots.push(None).unwrap();
+        txs.push(None).unwrap();
     }
-    Ok(slots)
+    Ok(txs)
+}
+
+/// Places for what they carry out.
+pub fn empty_works(alloc: Global) -> Result<Vec<Option<Work>>, AllocError>
+    ensures { IfOk result (λ v. v.items ≡ replicate 65 None) }
+{
+    let mut works = Vec::with_capacity(alloc, 65)?;
+    for _ in 0..65u8 {
+        works.push(None).unwrap();
+    }
+    Ok(works)
 }
 
 /// Takes what stands in a terminal's place.
-pub fn take_work(slots: &mut Vec<Option<Work>>, terminal: Terminal) -> Option<Work>
-    requires { terminal < vec_len slots.old }
-    ensures value { slice_get slots.old.items terminal ≡ Some result }
-    ensures after { slots.new.items ≡ slice_set slots.old.items terminal None }
+pub fn take_tx(txs: &mut Vec<Option<Tx>>, terminal: Terminal) -> Option<Tx>
+    requires { terminal < vec_len txs.old }
+    ensures value { slice_get txs.old.items terminal ≡ Some result }
+    ensures after { txs.new.items ≡ slice_set txs.old.items terminal None }
     ensures high { terminal ≤ 64 }
 {
-    slots[place(terminal)].take()
+    txs[place(terminal)].take()
 }
 
 /// Takes the open transaction of a terminal out of its place.
-pub fn open_work(slots: &mut Vec<Option<Work>>, terminal: Terminal) -> Work
-    requires at { terminal < vec_len slots.old }
-    requires open { IsSome (work_at slots.old.items terminal) }
-    ensures value { slice_get slots.old.items terminal ≡ Some (Some result) }
-    ensures after { slots.new.items ≡ slice_set slots.old.items terminal None }
+pub fn open_tx(txs: &mut Vec<Option<Tx>>, terminal: Terminal) -> Tx
+    requires at { terminal < vec_len txs.old }
+    requires open { IsSome (in_place txs.old.items terminal) }
+    ensures value { slice_get txs.old.items terminal ≡ Some (Some result) }
+    ensures after { txs.new.items ≡ slice_set txs.old.items terminal None }
 {
-    let Some(work) = take_work(slots, terminal) else {
+    let Some(tx) = take_tx(txs, terminal) else {
         unreachable!()
     };
-    work
+    tx
 }
 
 /// Puts a transaction into its terminal's empty place.
-pub fn put_work(slots: &mut Vec<Option<Work>>, terminal: Terminal, work: Work)
-    requires at { terminal < vec_len slots.old }
-    requires free { slice_get slots.old.items terminal ≡ Some None }
-    ensures after { slots.new.items ≡ slice_set slots.old.items terminal (Some work) }
+pub fn put_tx(txs: &mut Vec<Option<Tx>>, terminal: Terminal, tx: Tx)
+    requires at { terminal < vec_len txs.old }
+    requires free { slice_get txs.old.items terminal ≡ Some None }
+    ensures after { txs.new.items ≡ slice_set txs.old.items terminal (Some tx) }
     ensures low { 1 ≤ terminal }
     ensures high { terminal ≤ 64 }
 {
-    let old = slots[place(terminal)].replace(work);
+    let old = txs[place(terminal)].replace(tx);
     let None = old else { unreachable!() };
 }
 
-/// A transaction that has just begun.
-pub fn begun_work(tx: Tx, request: Request) -> Work
-    requires { HasProgram request }
-    ensures tx { result.tx ≡ tx }
-    ensures request { result.request ≡ request }
-    ensures program { request_of result.program ≡ request }
-    ensures place { place_of result.program ≡ start_of request }
-    ensures mark_program { result.mark_program ≡ result.program }
-    ensures mark { result.mark ≡ 0 }
+/// What a transaction of this request carries out that has just begun.
+pub fn begun_work(request: &Request) -> Work
+    requires { HasProgram request.now }
+    ensures request { result.request ≡ request.now }
+    ensures of { IsOf request.now result.program }
+    ensures place { place_of request.now result.program ≡ start_of request.now }
+    ensures mark { result.mark ≡ record { program = result.program; records = 0 } }
 {
-    let program = Program::new(&request);
-    let mark_program = program.copied();
+    let program = Program::new(request);
+    let mark = Savepoint {
+        program: program.copied(),
+        records: Mark::start(),
+    };
     Work {
-        tx,
-        request,
+        request: request.copied(),
         program,
-        mark_program,
-        mark: Mark::start(),
+        mark,
     }
 }

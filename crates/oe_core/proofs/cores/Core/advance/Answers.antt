@@ -1,68 +1,89 @@
-use Rattle.std.proofs.Common.{Some, refl, sym, ap, ◌∙◌, ℕ, slice_set}
+use Rattle.std.proofs.Common.{Some, refl, sym, ap, subst, ◌∙◌, ◌≡◌, ℕ, slice_set}
+use Rattle.std.specs.Prelude.{IsSome, IfSome}
+use Rattle.oe_requests.specs.declared.replies.Reply.{Reply}
 use Rattle.oe_theory.specs.Next.{Advance, More, Committed}
 use Rattle.oe_engine.specs.View.{view_of}
 use Rattle.oe_engine.specs.View as engine
+use Rattle.oe_engine.specs.Calls.{committed}
 use Rattle.oe_steps.specs.declared.steps.Step.TheVariants as step
-use Rattle.oe_core.specs.Core.{Moves}
+use Rattle.oe_core.specs.Core.{Moves, reply_of}
 use Rattle.oe_core.specs.Steps.{refusal_in}
-use Rattle.oe_core.proofs.MoveFacts.{carries, not_there, lent_is, lent_here}
-use Rattle.oe_core.proofs.AdvanceFacts.{went_on_here, IsTaken, is_taken, taken_is_open, committed_here, kept_here, given_up_here}
-use Rattle.oe_core.proofs.cores.Core.advance.Goals.{In-More, After-open_work-open, After-commit-moment, Then-keeps_open, After-open_work-open-in-Refused, After-roll_back}
+use Rattle.oe_core.proofs.MoveFacts.{carries, nothing_open, HasOpen, lent_tx, lent_here, own_work}
+use Rattle.oe_core.proofs.AdvanceFacts.{went_on_here, taken_is, taken_is_open, has_reply, committed_here, told_newest, kept_here, given_up_here}
+use Rattle.oe_core.proofs.cores.Core.advance.Goals.{In-Some-index_mut, In-Ready, After-self-in-More-1, After-self-in-Ready-1, Then-keeps_open, After-roll_back}
 use Rattle.oe_core.proofs.cores.Core.advance.Goals as goal
 
 pub returns-in_default : goal.returns-in_default
 returns-in_default c =
     rw (← c.self.view_is)
-    (carries (not_there _ c.self.invariant (Advance c.args.terminal) c.args.terminal refl
-    (lent_is c.self.invariant c.place.ensures.value c.place.ensures.high c.index_mut.ensures.value c.in_default.is) _
-    (λ i. slice_set c.self.inside.slots.items (c.place.ensures.value i) (c.in_default.is i))))
+    (carries (nothing_open (record { engine = c.self.inside.engine; txs = c.self.inside.txs.items; works = c.self.inside.works.items }) c.self.invariant (Advance c.args.terminal) c.args.terminal refl
+    (lent_tx c.self.invariant c.place.ensures.value c.place.ensures.high c.index.ensures c.in_default.is)))
+
+-- the transaction in its place
+is_there : (c : In-Some-index_mut) → HasOpen (record { engine = c.self.inside.engine; txs = c.self.inside.txs.items; works = c.self.inside.works.items }) c.args.terminal c.in-Some.tx c.in-Some-index_mut.work
+is_there c =
+    lent_here c.self.invariant c.place.ensures.value c.place.ensures.high c.index.ensures c.in-Some.is c.place-2.ensures.value c.place-2.ensures.high c.index_mut.ensures.value c.in-Some-index_mut.is
+
+pub next-requires : goal.next-requires
+next-requires c = (own_work (is_there (goal.at.next-requires c).In-Some-index_mut)).program
 
 -- the row went on
-went_on : (c : In-More) → Moves (record { engine = c.self.inside.engine; slots = c.self.inside.slots.items }) (Advance c.args.terminal) More
-    (record { engine = c.next.new.engine; slots = slice_set c.self.inside.slots.items c.place.result (Some (record c.in-Some.work { program = c.next.new.self })) })
+went_on : (c : After-self-in-More-1) → Moves (record { engine = c.self.inside.engine; txs = c.self.inside.txs.items; works = c.self.inside.works.items }) (Advance c.args.terminal) More
+    (record { engine = c.next.new.engine; txs = c.self.inside.txs.items; works = slice_set c.self.inside.works.items c.place-2.result (Some (record c.in-Some-index_mut.work { program = c.next.new.self })) })
 went_on c =
-    went_on_here (lent_here c.self.invariant c.place.ensures.value c.place.ensures.high c.index_mut.ensures.value c.in-Some.is) c.next.new.self c.next.new.engine _
-    c.in-More.ensures.progresses c.in-More.ensures.request
-    (ap (λ (k : ℕ). slice_set c.self.inside.slots.items k (Some (record c.in-Some.work { program = c.next.new.self }))) c.place.ensures.value)
+    went_on_here (is_there (goal.at.returns-in-More c).In-Some-index_mut) c.next.new.self c.next.new.engine _ c.in-More.ensures.progresses c.in-More.ensures.of
+    (ap (λ (k : ℕ). slice_set c.self.inside.works.items k (Some (record c.in-Some-index_mut.work { program = c.next.new.self }))) c.place-2.ensures.value)
 
-pub invariant_of-self-in-More : goal.invariant_of-self-in-More
-invariant_of-self-in-More c = (went_on c).orderly
+pub invariant_of-self : goal.invariant_of-self
+invariant_of-self c = (went_on c).orderly
 
 pub returns-in-More : goal.returns-in-More
 returns-in-More c = rw (← c.self.view_is) (carries (went_on c))
 
--- it was ready: the transaction is taken out of its place, and commits
-taken_ready : (c : After-open_work-open)
-    → IsTaken (record { engine = c.self.inside.engine; slots = c.self.inside.slots.items }) c.args.terminal c.in-Some.work c.open_work-open.result c.open_work-open.new.slots.items
-taken_ready c =
-    is_taken (lent_here c.self.invariant c.place.ensures.value c.place.ensures.high c.index_mut.ensures.value c.in-Some.is) c.next.new.self c.place.result _ _
-    c.place.ensures.value c.open_work-open.ensures.value c.open_work-open.ensures.after
+-- it was ready: its program has its reply, and its transaction commits
+has_its_reply : (c : In-Ready) → HasOpen (record { engine = c.self.inside.engine; txs = c.self.inside.txs.items; works = c.self.inside.works.items }) c.args.terminal c.in-Some.tx c.in-Some-index_mut.work
+    → reply_of c.next.new.self ≡ Some c.in-Ready.ensures.progresses.0.0
+has_its_reply c here =
+    let ready = c.in-Ready.ensures.progresses in
+    has_reply here c.next.new.self c.in-Ready.ensures.of ready.2 ready.0.0 ready.0.1
 
-pub commit-moment-requires : goal.commit-moment-requires
-commit-moment-requires c =
-    taken_is_open (taken_ready (goal.at.commit-moment-requires c).After-open_work-open) c.next.new.engine
-    (ap view_of c.in-Ready.ensures.progresses.1) (ap (λ (z : engine.Stored). z.name) c.in-Ready.ensures.progresses.1)
+pub commit-requires-clause-open : goal.commit-requires-clause-open
+commit-requires-clause-open c =
+    let ready = c.in-Ready.ensures.progresses in
+    taken_is_open (is_there (goal.at.commit-requires-clause-open c).In-Some-index_mut) c.open_tx-open.result c.open_tx-open.ensures.value c.next.new.engine
+    (ap view_of ready.1) (ap (λ (z : engine.Stored). z.name) ready.1)
 
-committed : (c : After-commit-moment) → Moves (record { engine = c.self.inside.engine; slots = c.self.inside.slots.items }) (Advance c.args.terminal) (Committed c.commit-moment.result c.in-Ready.reply)
-    (record { engine = c.commit-moment.new.engine; slots = c.open_work-open.new.slots.items })
-committed c =
-    committed_here (taken_ready (goal.at.returns-in-Ready c).After-open_work-open) c.in-Ready.reply c.commit-moment.result c.next.new.engine c.commit-moment.new.engine
-    c.in-Ready.ensures.progresses.0 c.in-Ready.ensures.progresses.1 c.commit-moment.ensures.moment c.commit-moment.ensures.committed c.commit-moment.ensures.name
+pub commit-requires-clause-ready : goal.commit-requires-clause-ready
+commit-requires-clause-ready c =
+    let at = goal.at.commit-requires-clause-ready c in
+    subst IsSome (sym (has_its_reply at.In-Ready (is_there at.In-Some-index_mut))) refl
+
+committed_now : (c : After-self-in-Ready-1) → Moves (record { engine = c.self.inside.engine; txs = c.self.inside.txs.items; works = c.self.inside.works.items }) (Advance c.args.terminal) (Committed c.commit.result c.in-Ready.ensures.progresses.0.0)
+    (record { engine = c.commit.new.engine; txs = c.open_tx-open.new.txs.items; works = slice_set c.self.inside.works.items c.place-2.result (Some (record c.in-Some-index_mut.work { program = c.next.new.self })) })
+committed_now c =
+    let here = is_there (goal.at.returns-in-Ready c).In-Some-index_mut in
+    let ready = c.in-Ready.ensures.progresses in
+    let reply : reply_of c.next.new.self ≡ Some ready.0.0 = has_its_reply (goal.at.returns-in-Ready c).In-Ready here in
+    committed_here here c.open_tx-open.result (taken_is here c.open_tx-open.result c.open_tx-open.ensures.value) ready.0.0 c.commit.result c.next.new.engine c.commit.new.engine _ _ (Some (record c.in-Some-index_mut.work { program = c.next.new.self }))
+    ready.0.1 ready.1 c.commit.ensures.moment
+    (subst (λ o. IfSome o (λ y. view_of c.commit.new.engine ≡ committed c.open_tx-open.result.terminal c.in-Some-index_mut.work.request y (view_of c.next.new.engine))) reply c.commit.ensures.committed)
+    c.commit.ensures.name c.open_tx-open.ensures.after
+    (ap (λ (k : ℕ). slice_set c.self.inside.works.items k (Some (record c.in-Some-index_mut.work { program = c.next.new.self }))) c.place-2.ensures.value)
 
 pub invariant_of-self-in-Ready : goal.invariant_of-self-in-Ready
-invariant_of-self-in-Ready c = (committed c).orderly
+invariant_of-self-in-Ready c = (committed_now c).orderly
 
 pub returns-in-Ready : goal.returns-in-Ready
-returns-in-Ready c = rw (← c.self.view_is) (carries (committed c))
+returns-in-Ready c = rw (← c.self.view_is) (told_newest (committed_now c))
 
 -- it was refused, and the transaction stays open where it stands
-kept : (c : Then-keeps_open) → Moves (record { engine = c.self.inside.engine; slots = c.self.inside.slots.items }) (Advance c.args.terminal) (refusal_in (step.Advance c.args.terminal) c.in-Refused.refusal)
-    (record { engine = c.next.new.engine; slots = slice_set c.self.inside.slots.items c.place.result (Some (record c.in-Some.work { program = c.next.new.self })) })
+kept : (c : Then-keeps_open) → Moves (record { engine = c.self.inside.engine; txs = c.self.inside.txs.items; works = c.self.inside.works.items }) (Advance c.args.terminal) (refusal_in (step.Advance c.args.terminal) c.in-Refused.refusal)
+    (record { engine = c.next.new.engine; txs = c.self.inside.txs.items; works = slice_set c.self.inside.works.items c.place-2.result (Some (record c.in-Some-index_mut.work { program = c.next.new.self })) })
 kept c =
     let refused = c.in-Refused.ensures.progresses in
-    kept_here (lent_here c.self.invariant c.place.ensures.value c.place.ensures.high c.index_mut.ensures.value c.in-Some.is) c.next.new.self c.next.new.engine _ c.in-Refused.refusal
-    (sym c.keeps_open.ensures ∙ c.if-keeps_open.true) refused.0 refused.1 refused.2 c.in-Refused.ensures.request refused.3
-    (ap (λ (k : ℕ). slice_set c.self.inside.slots.items k (Some (record c.in-Some.work { program = c.next.new.self }))) c.place.ensures.value)
+    kept_here (is_there (goal.at.returns-then-keeps_open c).In-Some-index_mut) c.next.new.self c.next.new.engine _ c.in-Refused.refusal
+    (sym c.keeps_open.ensures ∙ c.if-keeps_open.true) refused.0 refused.1 refused.2 c.in-Refused.ensures.of refused.3
+    (ap (λ (k : ℕ). slice_set c.self.inside.works.items k (Some (record c.in-Some-index_mut.work { program = c.next.new.self }))) c.place-2.ensures.value)
 
 pub invariant_of-self-then-keeps_open : goal.invariant_of-self-then-keeps_open
 invariant_of-self-then-keeps_open c = (kept c).orderly
@@ -71,23 +92,20 @@ pub returns-then-keeps_open : goal.returns-then-keeps_open
 returns-then-keeps_open c = rw (← c.self.view_is) (carries (kept c))
 
 -- it was refused: the transaction is taken out of its place, and rolled back
-taken_refused : (c : After-open_work-open-in-Refused)
-    → IsTaken (record { engine = c.self.inside.engine; slots = c.self.inside.slots.items }) c.args.terminal c.in-Some.work c.open_work-open-in-Refused.result c.open_work-open-in-Refused.new.slots.items
-taken_refused c =
-    is_taken (lent_here c.self.invariant c.place.ensures.value c.place.ensures.high c.index_mut.ensures.value c.in-Some.is) c.next.new.self c.place.result _ _
-    c.place.ensures.value c.open_work-open-in-Refused.ensures.value c.open_work-open-in-Refused.ensures.after
-
 pub roll_back-requires : goal.roll_back-requires
 roll_back-requires c =
-    taken_is_open (taken_refused (goal.at.roll_back-requires c).After-open_work-open-in-Refused) c.next.new.engine
+    taken_is_open (is_there (goal.at.roll_back-requires c).In-Some-index_mut) c.open_tx-open-in-Refused.result c.open_tx-open-in-Refused.ensures.value c.next.new.engine
     c.in-Refused.ensures.progresses.1 c.in-Refused.ensures.progresses.2
 
-given_up : (c : After-roll_back) → Moves (record { engine = c.self.inside.engine; slots = c.self.inside.slots.items }) (Advance c.args.terminal) (refusal_in (step.Advance c.args.terminal) c.in-Refused.refusal)
-    (record { engine = c.roll_back.new.engine; slots = c.open_work-open-in-Refused.new.slots.items })
+given_up : (c : After-roll_back) → Moves (record { engine = c.self.inside.engine; txs = c.self.inside.txs.items; works = c.self.inside.works.items }) (Advance c.args.terminal) (refusal_in (step.Advance c.args.terminal) c.in-Refused.refusal)
+    (record { engine = c.roll_back.new.engine; txs = c.open_tx-open-in-Refused.new.txs.items; works = slice_set c.self.inside.works.items c.place-2.result (Some (record c.in-Some-index_mut.work { program = c.next.new.self })) })
 given_up c =
+    let here = is_there (goal.at.returns-else-keeps_open c).In-Some-index_mut in
     let refused = c.in-Refused.ensures.progresses in
-    given_up_here (taken_refused (goal.at.returns-else-keeps_open c).After-open_work-open-in-Refused) c.next.new.engine c.roll_back.new.engine c.in-Refused.refusal
-    (sym c.keeps_open.ensures ∙ c.if-keeps_open.false) refused.0 refused.1 refused.2 c.roll_back.ensures.rolled_back c.roll_back.ensures.name
+    let out = c.open_tx-open-in-Refused in
+    given_up_here here out.result (taken_is here out.result out.ensures.value) c.next.new.engine c.roll_back.new.engine _ _ (Some (record c.in-Some-index_mut.work { program = c.next.new.self })) c.in-Refused.refusal
+    (sym c.keeps_open.ensures ∙ c.if-keeps_open.false) refused.0 refused.1 refused.2 c.roll_back.ensures.rolled_back c.roll_back.ensures.name out.ensures.after
+    (ap (λ (k : ℕ). slice_set c.self.inside.works.items k (Some (record c.in-Some-index_mut.work { program = c.next.new.self }))) c.place-2.ensures.value)
 
 pub invariant_of-self-in-Refused : goal.invariant_of-self-in-Refused
 invariant_of-self-in-Refused c = (given_up c).orderly

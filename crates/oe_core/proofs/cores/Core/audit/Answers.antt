@@ -16,7 +16,7 @@ returns-in-Some c =
     rw (← c.self.view_is) ((refused, refl), reached_here _ c.self.invariant)
 
 -- no transaction is open
-quiet : (c : In_default) → IsQuiet system (world_of (record { engine = c.self.inside.engine; slots = c.self.inside.slots.items }))
+quiet : (c : In_default) → IsQuiet system (world_of (record { engine = c.self.inside.engine; txs = c.self.inside.txs.items; works = c.self.inside.works.items }))
 quiet c = quiet_here _ c.self.invariant c.open_count.result (c.open_count.ensures _ (is_open_here _ c.self.invariant)) (λ h. false_true (c.in_default.ensures.variant.1 h))
 
 pub returns-then-lt : goal.returns-then-lt

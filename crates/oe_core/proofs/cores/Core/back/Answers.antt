@@ -1,35 +1,36 @@
-use Rattle.std.proofs.Common.{refl}
+use Rattle.std.proofs.Common.{Some, refl, ap, ℕ, slice_set}
 use Rattle.oe_theory.specs.Next.{Back, Gone_back}
 use Rattle.oe_core.specs.Core.{Moves}
-use Rattle.oe_core.proofs.PlaceFacts.{put_back}
-use Rattle.oe_core.proofs.MoveFacts.{carries, not_there, taken_here, own_work, mark_within, emptied, gone_back_here}
-use Rattle.oe_core.proofs.cores.Core.back.Goals.{After-put_work}
+use Rattle.oe_core.proofs.MoveFacts.{carries, nothing_open, HasOpen, lent_tx, lent_here, own_work, mark_within, gone_back_here}
+use Rattle.oe_core.proofs.cores.Core.back.Goals.{In-Some-index_mut, After-self-2-1}
 use Rattle.oe_core.proofs.cores.Core.back.Goals as goal
-
-pub invariant_of-self : goal.invariant_of-self
-invariant_of-self c = (not_there _ c.self.invariant (Back c.args.terminal) c.args.terminal refl c.in_default.ensures.value _ c.take_work.ensures.after).orderly
 
 pub returns-in_default : goal.returns-in_default
 returns-in_default c =
-    rw (← c.self.view_is) (carries (not_there _ c.self.invariant (Back c.args.terminal) c.args.terminal refl c.in_default.ensures.value _ c.take_work.ensures.after))
+    rw (← c.self.view_is)
+    (carries (nothing_open (record { engine = c.self.inside.engine; txs = c.self.inside.txs.items; works = c.self.inside.works.items }) c.self.invariant (Back c.args.terminal) c.args.terminal refl
+    (lent_tx c.self.invariant c.place.ensures.value c.place.ensures.high c.index.ensures c.in_default.is)))
+
+-- the transaction in its place
+is_there : (c : In-Some-index_mut) → HasOpen (record { engine = c.self.inside.engine; txs = c.self.inside.txs.items; works = c.self.inside.works.items }) c.args.terminal c.in-Some.tx c.in-Some-index_mut.work
+is_there c =
+    lent_here c.self.invariant c.place.ensures.value c.place.ensures.high c.index.ensures c.in-Some.is c.place-2.ensures.value c.place-2.ensures.high c.index_mut.ensures.value c.in-Some-index_mut.is
 
 pub rollback_to-requires-clause-open : goal.rollback_to-requires-clause-open
-rollback_to-requires-clause-open c = (own_work (taken_here c.self.invariant c.take_work.ensures.high c.in-Some.ensures.value)).is_open
+rollback_to-requires-clause-open c = (own_work (is_there (goal.at.rollback_to-requires-clause-open c).In-Some-index_mut)).is_open
 
 pub rollback_to-requires-clause-mark : goal.rollback_to-requires-clause-mark
-rollback_to-requires-clause-mark c = mark_within (taken_here c.self.invariant c.take_work.ensures.high c.in-Some.ensures.value)
-
-pub put_work-requires-clause-free : goal.put_work-requires-clause-free
-put_work-requires-clause-free c = emptied (taken_here c.self.invariant c.take_work.ensures.high c.in-Some.ensures.value) c.take_work.ensures.after
+rollback_to-requires-clause-mark c = mark_within (is_there (goal.at.rollback_to-requires-clause-mark c).In-Some-index_mut)
 
 -- the transaction is back at its mark
-gone_back : (c : After-put_work) → Moves (record { engine = c.self.inside.engine; slots = c.self.inside.slots.items }) (Back c.args.terminal) Gone_back (record { engine = c.rollback_to.new.self; slots = c.put_work.new.slots.items })
+gone_back : (c : After-self-2-1) → Moves (record { engine = c.self.inside.engine; txs = c.self.inside.txs.items; works = c.self.inside.works.items }) (Back c.args.terminal) Gone_back
+    (record { engine = c.rollback_to.new.self; txs = c.self.inside.txs.items; works = slice_set c.self.inside.works.items c.place-2.result (Some (record c.in-Some-index_mut.work { program = c.go_to.new.self })) })
 gone_back c =
-    gone_back_here (taken_here c.self.invariant c.take_work.ensures.high c.in-Some.ensures.value) _ c.rollback_to.new.self _ c.copied-work.ensures c.rollback_to.ensures.back c.rollback_to.ensures.name
-    (put_back _ _ _ _ _ _ c.take_work.ensures.after c.put_work.ensures.after)
+    gone_back_here (is_there (goal.at.returns c).In-Some-index_mut) c.go_to.new.self c.rollback_to.new.self _ c.go_to.ensures c.rollback_to.ensures.back c.rollback_to.ensures.name
+    (ap (λ (k : ℕ). slice_set c.self.inside.works.items k (Some (record c.in-Some-index_mut.work { program = c.go_to.new.self }))) c.place-2.ensures.value)
 
-pub invariant_of-self-2 : goal.invariant_of-self-2
-invariant_of-self-2 c = (gone_back c).orderly
+pub invariant_of-self : goal.invariant_of-self
+invariant_of-self c = (gone_back c).orderly
 
 pub returns : goal.returns
 returns c = rw (← c.self.view_is) (carries (gone_back c))

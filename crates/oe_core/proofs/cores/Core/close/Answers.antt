@@ -3,21 +3,22 @@ use Rattle.std.proofs.lemmas.List.{nil_from_length}
 use Rattle.oe_core.proofs.CloseFacts.{before_closing, newest_is_latest, endable, popped, none_open, closed_rows}
 use Rattle.oe_core.proofs.cores.Core.close.Goals as goal
 
-pub loop-slot-init : goal.loop-slot-init
-loop-slot-init c = before_closing _ c.self.invariant
+pub loop-tx-init : goal.loop-tx-init
+loop-tx-init c = (c.self.inside.works.items, rw (← c.self.view_is) (before_closing _ c.self.invariant))
 
-pub end_work-requires : goal.end_work-requires
-end_work-requires c = endable c.loop-slot.invariant _ _ c.in-Some.ensures.items
+pub end-requires : goal.end-requires
+end-requires c = endable c.loop-tx.invariant.1 _ _ c.in-Some.ensures.items
 
-pub loop-slot-preserved : goal.loop-slot-preserved
-loop-slot-preserved c = popped c.loop-slot.invariant c.end_work.new.engine _ _ c.in-Some.ensures.items c.end_work.ensures
+pub loop-tx-preserved : goal.loop-tx-preserved
+loop-tx-preserved c = (c.loop-tx.invariant.0, popped c.loop-tx.invariant.1 c.end.new.engine _ _ c.in-Some.ensures.items c.end.ensures)
 
 pub close-requires : goal.close-requires
 close-requires c =
-    let none : c.loop-slot.slots.items ≡ [] = nil_from_length _ (omega (arith, c.in_default.ensures.cases, c.loop-slot.slots.ok.0)) in
-    none_open c.loop-slot.invariant none
+    let none : c.loop-tx.txs.items ≡ [] = nil_from_length _ (omega (arith, c.in_default.ensures.cases, c.loop-tx.txs.ok.0)) in
+    none_open c.loop-tx.invariant.1 none
 
 pub returns : goal.returns
 returns c =
-    let none : c.loop-slot.slots.items ≡ [] = nil_from_length _ (omega (arith, c.in_default.ensures.cases, c.loop-slot.slots.ok.0)) in
-    rw (← c.self.view_is) (c.close.ensures ∙ (closed_rows c.loop-slot.invariant none ∙ newest_is_latest _ c.self.invariant))
+    let none : c.loop-tx.txs.items ≡ [] = nil_from_length _ (omega (arith, c.in_default.ensures.cases, c.loop-tx.txs.ok.0)) in
+    let rows = c.close.ensures ∙ closed_rows c.loop-tx.invariant.1 none in
+    rw (← c.self.view_is) ((rw (← c.self.view_is) at rows) ∙ newest_is_latest _ c.self.invariant)

@@ -1,24 +1,24 @@
 use Rattle.std.proofs.Common.{refl}
 use Rattle.oe_theory.specs.Next.{Rollback, Rolled_back}
 use Rattle.oe_core.specs.Core.{Moves}
-use Rattle.oe_core.proofs.MoveFacts.{carries, not_there, taken_here, own_work, rolled_back_here}
+use Rattle.oe_core.proofs.MoveFacts.{carries, nothing_taken, taken_here, own_work, rolled_back_here}
 use Rattle.oe_core.proofs.cores.Core.rollback.Goals.{After-roll_back}
 use Rattle.oe_core.proofs.cores.Core.rollback.Goals as goal
 
 pub invariant_of-self : goal.invariant_of-self
-invariant_of-self c = (not_there _ c.self.invariant (Rollback c.args.terminal) c.args.terminal refl c.in_default.ensures.value _ c.take_work.ensures.after).orderly
+invariant_of-self c = (nothing_taken _ c.self.invariant (Rollback c.args.terminal) c.args.terminal refl c.in_default.ensures.value _ c.take_tx.ensures.after).orderly
 
 pub returns-in_default : goal.returns-in_default
 returns-in_default c =
-    rw (← c.self.view_is) (carries (not_there _ c.self.invariant (Rollback c.args.terminal) c.args.terminal refl c.in_default.ensures.value _ c.take_work.ensures.after))
+    rw (← c.self.view_is) (carries (nothing_taken _ c.self.invariant (Rollback c.args.terminal) c.args.terminal refl c.in_default.ensures.value _ c.take_tx.ensures.after))
 
 pub roll_back-requires : goal.roll_back-requires
-roll_back-requires c = (own_work (taken_here c.self.invariant c.take_work.ensures.high c.in-Some.ensures.value)).is_open
+roll_back-requires c = (own_work (taken_here c.self.invariant c.take_tx.ensures.high c.in-Some.ensures.value).1).is_open
 
 -- the transaction is gone
-rolled_back : (c : After-roll_back) → Moves (record { engine = c.self.inside.engine; slots = c.self.inside.slots.items }) (Rollback c.args.terminal) Rolled_back (record { engine = c.roll_back.new.engine; slots = c.take_work.new.slots.items })
+rolled_back : (c : After-roll_back) → Moves (record { engine = c.self.inside.engine; txs = c.self.inside.txs.items; works = c.self.inside.works.items }) (Rollback c.args.terminal) Rolled_back (record { engine = c.roll_back.new.engine; txs = c.take_tx.new.txs.items; works = c.self.inside.works.items })
 rolled_back c =
-    rolled_back_here (taken_here c.self.invariant c.take_work.ensures.high c.in-Some.ensures.value) c.roll_back.new.engine _ c.roll_back.ensures.rolled_back c.roll_back.ensures.name c.take_work.ensures.after
+    rolled_back_here (taken_here c.self.invariant c.take_tx.ensures.high c.in-Some.ensures.value).1 c.roll_back.new.engine _ c.roll_back.ensures.rolled_back c.roll_back.ensures.name c.take_tx.ensures.after
 
 pub invariant_of-self-2 : goal.invariant_of-self-2
 invariant_of-self-2 c = (rolled_back c).orderly

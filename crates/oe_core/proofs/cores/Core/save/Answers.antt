@@ -1,29 +1,30 @@
-use Rattle.std.proofs.Common.{refl}
+use Rattle.std.proofs.Common.{Some, refl, ap, ℕ, slice_set}
 use Rattle.oe_theory.specs.Next.{Save, Saved}
 use Rattle.oe_core.specs.Core.{Moves}
-use Rattle.oe_core.proofs.PlaceFacts.{put_back}
-use Rattle.oe_core.proofs.MoveFacts.{carries, not_there, taken_here, emptied, saved}
-use Rattle.oe_core.proofs.cores.Core.save.Goals.{After-put_work}
+use Rattle.oe_core.proofs.MoveFacts.{carries, nothing_open, HasOpen, lent_tx, lent_here, saved}
+use Rattle.oe_core.proofs.cores.Core.save.Goals.{In-Some-index_mut, After-self-2-1}
 use Rattle.oe_core.proofs.cores.Core.save.Goals as goal
-
-pub invariant_of-self : goal.invariant_of-self
-invariant_of-self c = (not_there _ c.self.invariant (Save c.args.terminal) c.args.terminal refl c.in_default.ensures.value _ c.take_work.ensures.after).orderly
 
 pub returns-in_default : goal.returns-in_default
 returns-in_default c =
-    rw (← c.self.view_is) (carries (not_there _ c.self.invariant (Save c.args.terminal) c.args.terminal refl c.in_default.ensures.value _ c.take_work.ensures.after))
+    rw (← c.self.view_is)
+    (carries (nothing_open (record { engine = c.self.inside.engine; txs = c.self.inside.txs.items; works = c.self.inside.works.items }) c.self.invariant (Save c.args.terminal) c.args.terminal refl
+    (lent_tx c.self.invariant c.place.ensures.value c.place.ensures.high c.index.ensures c.in_default.is)))
 
-pub put_work-requires-clause-free : goal.put_work-requires-clause-free
-put_work-requires-clause-free c = emptied (taken_here c.self.invariant c.take_work.ensures.high c.in-Some.ensures.value) c.take_work.ensures.after
+-- the transaction in its place
+is_there : (c : In-Some-index_mut) → HasOpen (record { engine = c.self.inside.engine; txs = c.self.inside.txs.items; works = c.self.inside.works.items }) c.args.terminal c.in-Some.tx c.in-Some-index_mut.work
+is_there c =
+    lent_here c.self.invariant c.place.ensures.value c.place.ensures.high c.index.ensures c.in-Some.is c.place-2.ensures.value c.place-2.ensures.high c.index_mut.ensures.value c.in-Some-index_mut.is
 
 -- the mark has moved
-marked : (c : After-put_work) → Moves (record { engine = c.self.inside.engine; slots = c.self.inside.slots.items }) (Save c.args.terminal) Saved (record { engine = c.self.inside.engine; slots = c.put_work.new.slots.items })
+marked : (c : After-self-2-1) → Moves (record { engine = c.self.inside.engine; txs = c.self.inside.txs.items; works = c.self.inside.works.items }) (Save c.args.terminal) Saved
+    (record { engine = c.self.inside.engine; txs = c.self.inside.txs.items; works = slice_set c.self.inside.works.items c.place-2.result (Some (record c.in-Some-index_mut.work { mark = c.set.new.self })) })
 marked c =
-    saved (taken_here c.self.invariant c.take_work.ensures.high c.in-Some.ensures.value) _ _ _ c.copied-work.ensures c.savepoint-work.ensures.open
-    (put_back _ _ _ _ _ _ c.take_work.ensures.after c.put_work.ensures.after)
+    saved (is_there (goal.at.returns c).In-Some-index_mut) c.set.new.self c.savepoint.result _ c.set.ensures c.savepoint.ensures.open
+    (ap (λ (k : ℕ). slice_set c.self.inside.works.items k (Some (record c.in-Some-index_mut.work { mark = c.set.new.self }))) c.place-2.ensures.value)
 
-pub invariant_of-self-2 : goal.invariant_of-self-2
-invariant_of-self-2 c = (marked c).orderly
+pub invariant_of-self : goal.invariant_of-self
+invariant_of-self c = (marked c).orderly
 
 pub returns : goal.returns
 returns c = rw (← c.self.view_is) (carries (marked c))
