@@ -1,15 +1,17 @@
 -- Each line is answered.
-use Rattle.std.proofs.Common.{◌≡◌, ℕ, ◌+◌, ◌<◌, ◌≤◌, Bool, true, false, Option, None, Some, List, [], ◌∷◌, ◌++◌, length, refl, sym, ap, ◌∙◌, subst, inl, inr, arith}
-use Rattle.std.specs.Prelude.{◌⊎◌}
+use Rattle.std.proofs.Common.{◌≡◌, Result, Ok, Err, ℕ, ◌+◌, ◌<◌, ◌≤◌, Bool, true, false, Option, None, Some, List, [], ◌∷◌, ◌++◌, length, refl, sym, ap, ◌∙◌, subst, inl, inr, arith}
+use Rattle.std.specs.Prelude.{◌⊎◌, ◌≢◌}
 use Rattle.std.proofs.lemmas.Bool.{cases_order}
 use Rattle.oe_theory.specs.World.{World, tables}
 use Rattle.oe_theory.specs.Theorems.{opened}
 use Rattle.oe_theory.proofs.Theorems.{opening_is_reached}
+use Rattle.oe_keys.specs.declared.keys.Table.{Table}
 use Rattle.oe_requests.specs.declared.refusals.Refusal.TheVariants as refusal
 use Rattle.oe_requests.specs.declared.requests.CustomerChoice.{CustomerChoice}
 use Rattle.oe_requests.specs.declared.requests.CustomerChoice.TheVariants as choice
 use Rattle.oe_requests.specs.declared.requests.Request.{Request}
 use Rattle.oe_requests.specs.declared.requests.Request.TheVariants as request
+use Rattle.oe_steps.specs.declared.answers.Answer.{Answer}
 use Rattle.oe_steps.specs.declared.answers.Answer.TheVariants as answer
 use Rattle.oe_steps.specs.declared.steps.Step.{Step}
 use Rattle.oe_steps.specs.declared.steps.Step.TheVariants as step
@@ -27,11 +29,16 @@ use Rattle.oe_model.specs.Population.{IsPopulated}
 use Rattle.oe_model.specs.System.{system}
 use Rattle.oe_model.proofs.PopulationFacts.{population_is_one}
 use Rattle.oe_model.proofs.SystemLaws.{laws, population_is_good}
-use Rattle.oe_core.specs.Steps.{HasProgram, IsNumber, IsStep}
+use Rattle.oe_core.specs.Steps.{step_in, answer_in, Serves, Advances, HasProgram, IsNumber, IsStep}
+use Rattle.oe_core.specs.declared.advances.Advanced.{Advanced}
+use Rattle.oe_core.specs.declared.advances.Advanced.TheVariants as advanced
 use Rattle.oe_script.specs.Dump.{dump_text}
 use Rattle.oe_script.specs.Script.{State, scale_in, moment_in, told, Stepped, IsAllowed, Answers, Asks, bad_line, LineAnswer, RunOfLines, Holds}
 use Rattle.oe_script.specs.Session.{IsLive}
+use Rattle.oe_script.specs.Ports.{Sink, Sent, Cut, Streams}
+use Rattle.oe_script.specs.Outcome.{IsAnswer, Replies}
 use Rattle.oe_script.proofs.WorldFacts.{live_step, live_runs}
+use Rattle.oe_script.proofs.Streaming.{sent_waits, sent_then, sent_cut, cut_more}
 use Rattle.oe_script.proofs.AnswerFacts.{IsTold, told_advance, told_save, told_back, told_rollback, told_begin, told_audit, told_run}
 
 -- THE FORMS OF LINES
@@ -185,6 +192,21 @@ line_answered s n line l = by_length (cases_order (length line) 1_024)
     by_length (inr (inl b)) = by_command (omega (arith, b)) (command_of line) refl
     by_length (inr (inr b)) = bad (λ c asks. let h = asks.short in absurd (omega (arith, b, h)))
 
+-- THE ANSWERS OF ADVANCES
+
+-- an advance has its answer
+pub answer_of : (w w' : World system) (t : ℕ) (a : Advanced) → Advances w t a w' → (x : Answer) × IsAnswer w' a x × Serves w (step_in (step.Advance t)) (answer_in (step.Advance t) x) w'
+answer_of w w' t advanced.More h = (answer.More, refl, h.0)
+answer_of w w' t (advanced.Committed m) (y, e, (serves, reached)) = (answer.Committed m y, (y, e, refl), serves)
+answer_of w w' t (advanced.Refused e) h = (answer.Refused e, refl, h.0)
+
+pub not_more : (w : World system) (a : Advanced) (x : Answer) → IsAnswer w a x → a ≢ advanced.More → x ≢ answer.More
+not_more w advanced.More x h n e = n refl
+not_more w (advanced.Committed m) x (y, k, is) n e = let same : answer.Committed m y ≡ answer.More = sym is ∙ e in cc
+not_more w (advanced.Refused r) x is n e = let same : answer.Refused r ≡ answer.More = sym is ∙ e in cc
+
+-- WHAT GOES OUT
+
 -- a line that is asked for where something is open
 pub taken : (w : World system) (n : ℕ) (line : List ℕ) (asked c : Command) (text : List ℕ) (s' : State) → length line ≤ 1_024 → Says line asked → asked ≡ c → IsAllowed (Some w) c
     → Answers (Some w) c text s' → LineAnswer (Some w) n line text s'
@@ -198,3 +220,49 @@ held_line held true line e h = let none : ⊥ = cc in absurd none
 -- a line of which nothing came before
 pub fresh_line : (held : List ℕ) (over : Bool) (line last : List ℕ) → over ≡ false → held ≡ [] → Holds held over line → line ++ last ≡ last
 fresh_line held over line last e none h = ap (λ z. z ++ last) (sym (held_line held over line e h) ∙ none)
+
+-- the line was answered, and its text waits
+pub told_here : (w w' : World system) (n : ℕ) (line : List ℕ) (asked c : Command) (sink : Option Sink) (old new text : List ℕ)
+    → length line ≤ 1_024 → Says line asked → asked ≡ c → IsAllowed (Some w) c → Answers (Some w) c text (Some w') → new ≡ old ++ text
+    → (x : List ℕ) × LineAnswer (Some w) n line x (Some w') × Sent sink old sink new x
+told_here w w' n line asked c sink old new text short says e a answers same =
+    (text, taken w n line asked c text (Some w') short says e a answers, sent_waits sink old new text same)
+
+pub dumped_here : {T E : Type 0} (w : World system) (n : ℕ) (line : List ℕ) (asked : Command) (t : Table) (old new : Option Sink) (waited waits text : List ℕ) (r : Result T E)
+    → length line ≤ 1_024 → Says line asked → asked ≡ command.Dump t → text ≡ dump_text t (tables system w) → Streams old waited new waits text r
+    → Replies (Some w) n line (Some w) old waited new waits r
+dumped_here w n line asked t old new waited waits text (Ok x) short says e is h = (text, taken w n line asked (command.Dump t) text (Some w) short says e tt (is, refl), h)
+dumped_here w n line asked t old new waited waits text (Err x) short says e is h = (refl, text, Some w, taken w n line asked (command.Dump t) text (Some w) short says e tt (is, refl), h)
+
+-- once something is open it can't be opened again
+pub not_opened : (w : World system) (line : List ℕ) (asked : Command) (scale : Scale) (extents : ℕ) → Says line asked → asked ≡ command.Open scale extents → (c : Command) → Asks (Some w) line c → ⊥
+not_opened w line asked scale extents says e c asks =
+    let same : c ≡ command.Open scale extents = one_command line c asked asks.says says ∙ e in
+    subst (IsAllowed (Some w)) same asks.allowed
+
+-- a line that was answered leaves what is live
+pub live_replied : {T E : Type 0} (s : State) (n : ℕ) (line : List ℕ) (s' : State) (old new : Option Sink) (waited waits : List ℕ) (r : Result T E) → IsLive s → Replies s n line s' old waited new waits r → IsLive s'
+live_replied s n line s' old new waited waits (Ok x) l h = live_line s n line h.0 s' l h.1
+live_replied s n line s' old new waited waits (Err e) l h = subst IsLive (sym h.0) l
+
+-- room was made before it
+pub replied_after : {T E : Type 0} (s : State) (n : ℕ) (line : List ℕ) (s' : State) (old mid new : Option Sink) (waited between waits : List ℕ) (r : Result T E)
+    → Sent old waited mid between [] → Replies s n line s' mid between new waits r → Replies s n line s' old waited new waits r
+replied_after s n line s' old mid new waited between waits (Ok x) m h = (h.0, h.1, sent_then old mid new waited between waits [] h.0 m h.2)
+replied_after s n line s' old mid new waited between waits (Err e) m h = (h.0, h.1, h.2, h.3, sent_cut old mid new waited between [] h.1 m h.4)
+
+-- there was no room, and none could be made
+pub replied_never : (s : State) (n : ℕ) (line : List ℕ) (old new : Option Sink) (waited : List ℕ) → IsLive s → Cut old waited new []
+    → (s ≡ s) × (text : List ℕ) × (t : State) × LineAnswer s n line text t × Cut old waited new text
+replied_never s n line old new waited l h = let a = line_answered s n line l in (refl, a.0, a.1, a.2, cut_more old new waited [] a.0 h)
+
+-- a line that is none of the forms
+pub replied_bad : {T E : Type 0} (s : State) (n : ℕ) (line : List ℕ) (old new : Option Sink) (waited waits : List ℕ) (r : Result T E) → ((c : Command) → Asks s line c → ⊥)
+    → Streams old waited new waits (bad_line n) r → Replies s n line s old waited new waits r
+replied_bad s n line old new waited waits (Ok x) bad h = (bad_line n, refused s n line bad, h)
+replied_bad s n line old new waited waits (Err e) bad h = (refl, bad_line n, s, refused s n line bad, h)
+
+-- a line that is too long is none of them
+pub too_long : (s : State) (held : List ℕ) (over : Bool) (line : List ℕ) → over ≡ true → Holds held over line → (c : Command) → Asks s line c → ⊥
+too_long s held true line e h c asks = let short = asks.short in absurd (omega (arith, h, short))
+too_long s held false line e h c asks = let no : ⊥ = cc in no

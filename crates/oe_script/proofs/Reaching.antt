@@ -7,6 +7,7 @@ use Rattle.std.proofs.lemmas.List.Elements.{All-push, All-append}
 use Rattle.std.proofs.lemmas.Grind.{flat_map-append}
 use Rattle.std.proofs.lemmas.Bool.{cases_eq}
 use Rattle.oe_script.specs.Ports.{Sink, Sent, Cut, Streams}
+use Rattle.oe_script.specs.Outcome.{Replies}
 use Rattle.oe_script.specs.Script.{State, LineAnswer, RunOfLines, IsInLine, ended, last_text, Output, Holds, Reached}
 use Rattle.oe_script.specs.Session.{IsLive, Standing, Broken, Fed, Ended}
 use Rattle.oe_script.proofs.Streaming.{sent_then, sent_cut, sent_as, cut_as, cut_more}
@@ -115,7 +116,7 @@ stand_bytes start now input waits core count held held' over over' more h grows 
 -- the end of a line, whose last bytes come with it
 pub stand_line : {T E : Type 0} (start now after : Option Sink) (input waits waits' : List ℕ) (core core' : State) (count : ℕ) (held : List ℕ) (over : Bool) (last : List ℕ) (r : Result T E) →
     IsInLine last →
-    ((line : List ℕ) → Holds held over line → (text : List ℕ) × LineAnswer core (count + 1) (line ++ last) text core' × Streams now waits after waits' text r) →
+    ((line : List ℕ) → Holds held over line → Replies core (count + 1) (line ++ last) core' now waits after waits' r) →
     Standing start input now waits core count held over → Fed start ((input ++ last) ++ 10 ∷ []) after waits' core' (count + 1) [] false r
 stand_line start now after input waits waits' core core' count held over last (Ok x) h answer s =
     let a = answer s.0 s.3 in (
@@ -128,9 +129,9 @@ stand_line start now after input waits waits' core core' count held over last (O
 stand_line start now after input waits waits' core core' count held over last (Err x) h answer s = λ more.
     let a = answer s.0 s.3 in
     let end = (input ++ last) ++ 10 ∷ [] in
-    let o = reach_rest more end (s.1 ++ a.0) core' (count + 1) []
-    (reach_line (input ++ last) s.1 core core' count (s.0 ++ last) a.0 (reach_bytes input s.1 core count s.0 last h s.2) a.1) in
-    ((s.1 ++ a.0) ++ o.0, o.1, cut_more start after [] (s.1 ++ a.0) o.0 (sent_cut start now after [] waits s.1 a.0 s.4 a.2))
+    let o = reach_rest more end (s.1 ++ a.1) a.2 (count + 1) []
+    (reach_line (input ++ last) s.1 core a.2 count (s.0 ++ last) a.1 (reach_bytes input s.1 core count s.0 last h s.2) a.3) in
+    ((s.1 ++ a.1) ++ o.0, o.1, cut_more start after [] (s.1 ++ a.1) o.0 (sent_cut start now after [] waits s.1 a.1 s.4 a.4))
 
 -- what waits is written
 pub stand_flush : {T E : Type 0} (start now after : Option Sink) (input waits waits' : List ℕ) (core : State) (count : ℕ) (held : List ℕ) (over : Bool) (r : Result T E) →

@@ -1,24 +1,34 @@
--- What is written for a line.
-use Rattle.std.specs.Prelude.{ℕ, List, [], Some, None, codes}
-use Rattle.oe_theory.specs.World.{tables}
-use Rattle.oe_model.specs.System.{system}
+-- What a line comes to: the text that goes out for it, and the state that it leaves.
+use Rattle.std.specs.Prelude.{◌≡◌, ℕ, ◌++◌, List, Option, Some, Result, MatchResult}
+use Rattle.oe_theory.specs.World.{World}
+use Rattle.oe_requests.specs.declared.replies.Reply.{Reply}
+use Rattle.oe_steps.specs.declared.steps.Step.{Step}
+use Rattle.oe_steps.specs.declared.answers.Answer.{Answer}
+use Rattle.oe_steps.specs.declared.answers.Answer.TheVariants as answer
 use Rattle.oe_texts.specs.Answer.{answer_line}
-use Rattle.oe_script.specs.Dump.{dump_text}
-use Rattle.oe_script.specs.Script.{State, audit_text, bad_line}
-use Rattle.oe_script.specs.declared.outcome.Outcome.{Outcome}
-use Rattle.oe_script.specs.declared.outcome.Outcome.TheVariants as outcome
-use Rattle.oe_script.specs.declared.outcome.Said.{Said}
-use Rattle.oe_script.specs.declared.outcome.Said.TheVariants as said
+use Rattle.oe_model.specs.System.{system}
+use Rattle.oe_core.specs.Steps.{step_in, answer_in, Serves, newest_reply}
+use Rattle.oe_core.specs.declared.advances.Advanced.{Advanced}
+use Rattle.oe_core.specs.declared.advances.Advanced.TheVariants as advanced
+use Rattle.oe_script.specs.Ports.{Sink, Sent, Cut}
+use Rattle.oe_script.specs.Script.{State, told, RunsIn, LineAnswer}
 
--- one line, where the n-th is answered
-abbrev pub said_text : ℕ → Said → List ℕ
-said_text n said.Opened = codes "opened\n"
-said_text n (said.Told x) = answer_line x
-said_text n (said.Audited c x) = audit_text c x
-said_text n said.BadLine = bad_line n
+-- the answer of an Advance that ended so and left this world, whose newest commit has its reply
+abbrev pub IsAnswer : World system → Advanced → Answer → Type 0
+IsAnswer w advanced.More x = x ≡ answer.More
+IsAnswer w (advanced.Committed m) x = (y : Reply) × (newest_reply w ≡ Some y) × (x ≡ answer.Committed m y)
+IsAnswer w (advanced.Refused e) x = x ≡ answer.Refused e
 
--- all of it
-abbrev pub text_of : State → ℕ → Outcome → List ℕ
-text_of s n (outcome.Line x) = said_text n x
-text_of (Some w) n (outcome.Rows t) = dump_text t (tables system w)
-text_of None n (outcome.Rows t) = []
+-- a step was served, and the line of its answer appended
+abbrev pub Tells : World system → Step → World system → List ℕ → List ℕ → Type 0
+Tells w i w' old new = (x : Answer) × Serves w (step_in i) (answer_in i x) w' × (new ≡ old ++ told i x)
+
+-- of a run the last answer's
+abbrev pub TellsRun : World system → ℕ → World system → List ℕ → List ℕ → Type 0
+TellsRun w t w' old new = (n : ℕ) × (x : Answer) × RunsIn n w t x w' × (new ≡ old ++ answer_line x)
+
+-- the n-th line is answered, and all of its text went out; where a write failed a front of it did, and the state is as before
+abbrev pub Replies : {T E : Type 0} → State → ℕ → List ℕ → State → Option Sink → List ℕ → Option Sink → List ℕ → Result T E → Type 0
+Replies s n line s' old waited new waits r = MatchResult r
+    (λ _. (text : List ℕ) × LineAnswer s n line text s' × Sent old waited new waits text)
+    (λ _. (s' ≡ s) × (text : List ℕ) × (t : State) × LineAnswer s n line text t × Cut old waited new text)

@@ -1,5 +1,6 @@
-//! What a line comes to.
-ghost use Rattle.std.specs.Prelude.{◌≡◌, ◌≤◌, ℕ, List, length, Option, Some, None, IfOk};
+//! What a line comes to: the step that it asks for is taken, and the text of its answer appended.
+ghost use Rattle.std.specs.Prelude.{◌≡◌, ◌≤◌, ◌+◌, ◌++◌, ℕ, List, length, Option, Some, None, IfOk};
+ghost use Rattle.arrayvec.specs.ArrayVec.{array_vec_len};
 ghost use Rattle.oe_theory.specs.Theorems.{opened};
 ghost use Rattle.oe_model.specs.Rows.{Rows};
 ghost use Rattle.oe_model.specs.Population.{IsPopulated};
@@ -7,75 +8,92 @@ ghost use Rattle.oe_model.specs.System.{system};
 ghost use Rattle.oe_lines.specs.Grammar.{Says, HasForm};
 ghost use Rattle.oe_lines.specs.declared.commands.Command.TheVariants as asks;
 ghost use Rattle.oe_steps.specs.declared.answers.Answer.{Answer};
+ghost use Rattle.oe_texts.specs.Answer.{answer_line};
 ghost use Rattle.oe_core.specs.Core.{world_of};
-ghost use Rattle.oe_core.specs.Steps.{step_in, answer_in, Serves, IsStep};
+ghost use Rattle.oe_core.specs.Steps.{step_in, answer_in, Serves, HasProgram, IsStep};
 ghost use Rattle.oe_script.specs.Script.{LineAnswer, RunsIn, scale_in, moment_in};
 ghost use Rattle.oe_script.specs.Session.{state_of, IsLive};
-ghost use Rattle.oe_script.specs.Outcome.{text_of};
-ghost use Rattle.oe_script.specs.declared.outcome.Outcome.TheVariants as outcome;
-ghost use Rattle.oe_script.specs.declared.outcome.Said.TheVariants as said;
+ghost use Rattle.oe_script.specs.Outcome.{IsAnswer, Tells, TellsRun, Replies};
 
-use oe_core::Core;
-use oe_keys::Table;
+use crate::dumps::dump;
+use crate::output::{bad, make_room};
+use crate::ports::{Failed, Outlet};
+use oe_core::{Advanced, Core};
 use oe_lines::{Command, ExtentCount, MomentChoice, Scale, command};
-use oe_requests::Refusal;
+use oe_requests::{Refusal, Request};
 use oe_steps::{Answer, Condition, Step};
 use oe_store::{NoMemory, populate};
+use oe_texts::{LONGEST, Pending, SIZE, answer, audited, begun, committed, more, opened, refused};
 use oe_values::{Moment, Terminal};
 use std::alloc::Global;
 
-/// What is written for a line.
-#[derive(Drop)]
-pub enum Outcome {
-    Line(Said),
-    /// The rows of a table, and their count.
-    Rows(Table),
-}
-
-/// One line of output.
-#[derive(Drop)]
-pub enum Said {
-    /// Something is open now.
-    Opened,
-    Told(Answer),
-    /// The answer of an audit, which names its condition.
-    Audited(Condition, Answer),
-    /// The line is none of the forms.
-    BadLine,
-}
-
-/// Takes the step that a line asks for. The line stands without its end.
-pub fn outcome_of(core: &mut Option<Core>, alloc: Global, line: &[u8]) -> Outcome
+/// Answers a line, which stands without its end and has this number. What waits is written first where the longest line has no room
+/// behind it; where that failed, no step was taken.
+pub fn answer_line<W: Outlet>(
+    core: &mut Option<Core>,
+    alloc: Global,
+    line: &[u8],
+    number: u128,
+    out: &mut Pending,
+    to: &mut W,
+) -> Result<(), Failed>
     requires short { length line.now ≤ 1_024 }
     requires live { IsLive (state_of core.old) }
-    ensures { (n : ℕ) → LineAnswer (state_of core.old) n line.now (text_of (state_of core.new) n result) (state_of core.new) }
+    ensures { Replies (state_of core.old) number line.now (state_of core.new) (W.sink to.old) out.old.items (W.sink to.new) out.new.items result }
+{
+    if let Err(e) = make_room(out, to) {
+        return Err(e);
+    }
+    take_line(core, alloc, line, number, out, to)
+}
+
+// The same where there is room.
+#[inline(always)]
+fn take_line<W: Outlet>(
+    core: &mut Option<Core>,
+    alloc: Global,
+    line: &[u8],
+    number: u128,
+    out: &mut Pending,
+    to: &mut W,
+) -> Result<(), Failed>
+    requires room { array_vec_len out.old + LONGEST ≤ SIZE }
+    requires short { length line.now ≤ 1_024 }
+    requires live { IsLive (state_of core.old) }
+    ensures { Replies (state_of core.old) number line.now (state_of core.new) (W.sink to.old) out.old.items (W.sink to.new) out.new.items result }
 {
     let Some(asked) = command(line) else {
-        return Outcome::Line(Said::BadLine);
+        bad(out, number);
+        return Ok(());
     };
     match core {
-        None => first(core, alloc, asked),
-        Some(core) => later(core, asked),
+        None => {
+            first(core, alloc, &asked, number, out);
+            Ok(())
+        }
+        Some(core) => later(core, &asked, number, out, to),
     }
 }
 
 /// The same before something is open.
 #[inline(never)]
-fn first(core: &mut Option<Core>, alloc: Global, asked: Command) -> Outcome
+fn first(core: &mut Option<Core>, alloc: Global, asked: &Command, number: u128, out: &mut Pending)
+    requires room { array_vec_len out.old + LONGEST ≤ SIZE }
     requires none { core.old ≡ None }
-    requires form { HasForm asked }
-    ensures { (n : ℕ) (line : List ℕ) → length line ≤ 1_024 → Says line asked → LineAnswer None n line (text_of (state_of core.new) n result) (state_of core.new) }
+    requires form { HasForm asked.now }
+    ensures { (line : List ℕ) → length line ≤ 1_024 → Says line asked.now →
+        (text : List ℕ) × LineAnswer None number line text (state_of core.new) × (out.new.items ≡ out.old.items ++ text) }
 {
     match asked {
-        Command::Open(scale, extents) => match populated(alloc, scale, extents) {
+        Command::Open(scale, extents) => match populated(alloc, *scale, *extents) {
             Ok(made) => {
                 let old = core.replace(made);
                 let None = old else { unreachable!() };
-                Outcome::Line(Said::Opened)
+                opened(out);
             }
-            Err(_) => Outcome::Line(Said::Told(Answer::Refused(Refusal::NoMemory))),
+            Err(_) => refused(out, &Refusal::NoMemory),
         },
-        _ => Outcome::Line(Said::BadLine),
+        _ => bad(out, number),
     }
 }
 
@@ -96,34 +114,137 @@ fn populated(alloc: Global, scale: Scale, extents: ExtentCount) -> Result<Core, 
 }
 
 /// The same where something is open.
-fn later(core: &mut Core, asked: Command) -> Outcome
-    requires form { HasForm asked }
+fn later<W: Outlet>(
+    core: &mut Core,
+    asked: &Command,
+    number: u128,
+    out: &mut Pending,
+    to: &mut W,
+) -> Result<(), Failed>
+    requires room { array_vec_len out.old + LONGEST ≤ SIZE }
+    requires form { HasForm asked.now }
     requires live { IsLive (Some (world_of core.old)) }
-    ensures { (n : ℕ) (line : List ℕ) → length line ≤ 1_024 → Says line asked → LineAnswer (Some (world_of core.old)) n line (text_of (Some (world_of core.new)) n result) (Some (world_of core.new)) }
+    ensures { (line : List ℕ) → length line ≤ 1_024 → Says line asked.now →
+        Replies (Some (world_of core.old)) number line (Some (world_of core.new)) (W.sink to.old) out.old.items (W.sink to.new) out.new.items result }
 {
     match asked {
-        Command::Open(_, _) => Outcome::Line(Said::BadLine),
-        Command::Begin(terminal, request) => told(core, Step::Begin(terminal, request)),
-        Command::Next(terminal) => told(core, Step::Advance(terminal)),
-        Command::Run(terminal) => Outcome::Line(Said::Told(run(core, terminal))),
-        Command::Save(terminal) => told(core, Step::Save(terminal)),
-        Command::Back(terminal) => told(core, Step::Back(terminal)),
-        Command::Rollback(terminal) => told(core, Step::Rollback(terminal)),
-        Command::Dump(table) => Outcome::Rows(table),
+        Command::Dump(table) => dump(core.tables(), *table, out, to),
+        Command::Open(_, _) => {
+            bad(out, number);
+            Ok(())
+        }
+        Command::Begin(terminal, request) => {
+            tell_begin(core, *terminal, request, out);
+            Ok(())
+        }
+        Command::Next(terminal) => {
+            tell_next(core, *terminal, out);
+            Ok(())
+        }
+        Command::Run(terminal) => {
+            tell_run(core, *terminal, out);
+            Ok(())
+        }
+        Command::Save(terminal) => {
+            tell(core, Step::Save(*terminal), out);
+            Ok(())
+        }
+        Command::Back(terminal) => {
+            tell(core, Step::Back(*terminal), out);
+            Ok(())
+        }
+        Command::Rollback(terminal) => {
+            tell(core, Step::Rollback(*terminal), out);
+            Ok(())
+        }
         Command::Audit(condition, moment) => {
-            let moment = moment_of(core, moment);
-            Outcome::Line(Said::Audited(condition, core.step(Step::Audit(condition, moment))))
+            tell_audit(core, *condition, *moment, out);
+            Ok(())
         }
     }
 }
 
-/// Takes a step.
-#[inline(never)]
-fn told(core: &mut Core, step: Step) -> Outcome
-    requires { IsStep step }
-    ensures { (x : Answer) × (result ≡ outcome.Line (said.Told x)) × Serves (world_of core.old) (step_in step) (answer_in step x) (world_of core.new) }
+/// Begins a transaction.
+fn tell_begin(core: &mut Core, terminal: Terminal, request: &Request, out: &mut Pending)
+    requires room { array_vec_len out.old + LONGEST ≤ SIZE }
+    requires program { HasProgram request.now }
+    ensures { Tells (world_of core.old) (Step.Begin terminal request.now) (world_of core.new) out.old.items out.new.items }
 {
-    Outcome::Line(Said::Told(core.step(step)))
+    match core.begin(terminal, request) {
+        Ok(()) => begun(out),
+        Err(refusal) => refused(out, &refusal),
+    }
+}
+
+/// Takes one row.
+fn tell_next(core: &mut Core, terminal: Terminal, out: &mut Pending)
+    requires { array_vec_len out.old + LONGEST ≤ SIZE }
+    ensures { Tells (world_of core.old) (Step.Advance terminal) (world_of core.new) out.old.items out.new.items }
+{
+    let ended = core.advance(terminal);
+    tell_advanced(core, &ended, out);
+}
+
+/// Takes rows up to the first whose answer is not `more`, which alone is told.
+fn tell_run(core: &mut Core, terminal: Terminal, out: &mut Pending)
+    requires room { array_vec_len out.old + LONGEST ≤ SIZE }
+    requires live { IsLive (Some (world_of core.old)) }
+    ensures { TellsRun (world_of core.old) terminal (world_of core.new) out.old.items out.new.items }
+{
+    let ended = run(core, terminal);
+    tell_advanced(core, &ended, out);
+}
+
+/// Advances up to the first answer that is not `more`.
+fn run(core: &mut Core, terminal: Terminal) -> Advanced
+    requires { IsLive (Some (world_of core.old)) }
+    ensures { (n : ℕ) × (x : Answer) × IsAnswer (world_of core.new) result x × RunsIn n (world_of core.old) terminal x (world_of core.new) }
+{
+    loop {
+        match core.advance(terminal) {
+            Advanced::More => {}
+            ended => return ended,
+        }
+    }
+}
+
+/// Appends the answer of an advance that ended so. The reply of a commit is lent by the core.
+fn tell_advanced(core: &Core, ended: &Advanced, out: &mut Pending)
+    requires room { array_vec_len out.old + LONGEST ≤ SIZE }
+    requires answer { (x : Answer) × IsAnswer (world_of core.now) ended.now x }
+    ensures { (x : Answer) → IsAnswer (world_of core.now) ended.now x → out.new.items ≡ out.old.items ++ answer_line x }
+{
+    match ended {
+        Advanced::More => more(out),
+        Advanced::Committed(moment) => match core.newest_reply() {
+            Some(reply) => committed(out, *moment, reply),
+            None => unreachable!(),
+        },
+        Advanced::Refused(refusal) => refused(out, refusal),
+    }
+}
+
+/// Takes another step than an audit.
+#[inline(never)]
+fn tell(core: &mut Core, step: Step, out: &mut Pending)
+    requires room { array_vec_len out.old + LONGEST ≤ SIZE }
+    requires step { IsStep step }
+    ensures { (x : Answer) × Serves (world_of core.old) (step_in step) (answer_in step x) (world_of core.new) × (out.new.items ≡ out.old.items ++ answer_line x) }
+{
+    answer(out, &core.step(step));
+}
+
+/// Audits the moment that is asked for.
+#[inline(never)]
+fn tell_audit(core: &mut Core, condition: Condition, moment: MomentChoice, out: &mut Pending)
+    requires { array_vec_len out.old + LONGEST ≤ SIZE }
+    ensures { Tells (world_of core.old) (Step.Audit condition (moment_in (world_of core.old) moment)) (world_of core.new) out.old.items out.new.items }
+{
+    let moment = moment_of(core, moment);
+    match core.step(Step::Audit(condition, moment)) {
+        Answer::Audited(verdict) => audited(out, condition, &verdict),
+        given => answer(out, &given),
+    }
 }
 
 /// The moment that is asked for.
@@ -133,19 +254,5 @@ fn moment_of(core: &Core, choice: MomentChoice) -> Moment
     match choice {
         MomentChoice::Now => core.newest(),
         MomentChoice::At(moment) => moment,
-    }
-}
-
-/// Advances up to the first answer that is not `more`.
-#[inline(never)]
-fn run(core: &mut Core, terminal: Terminal) -> Answer
-    requires { IsLive (Some (world_of core.old)) }
-    ensures { (n : ℕ) × RunsIn n (world_of core.old) terminal result (world_of core.new) }
-{
-    loop {
-        match core.step(Step::Advance(terminal)) {
-            Answer::More => {}
-            answer => return answer,
-        }
     }
 }

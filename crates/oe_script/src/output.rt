@@ -3,13 +3,10 @@ ghost use Rattle.std.specs.Prelude.{◌≡◌, ◌<◌, ◌≤◌, ◌+◌, ◌+
 ghost use Rattle.arrayvec.specs.ArrayVec.{array_vec_len};
 ghost use Rattle.oe_script.specs.Ports.{Streams, Cut};
 ghost use Rattle.oe_script.specs.Script.{bad_line};
-ghost use Rattle.oe_script.specs.Outcome.{said_text};
 
-use crate::outcome::Said;
 use crate::ports::{Failed, Outlet};
 use itoa::Buffer;
-use oe_steps::Answer;
-use oe_texts::{LONGEST, Pending, SIZE, answer, audited, has_room, opened};
+use oe_texts::{LONGEST, Pending, SIZE, has_room};
 
 /// Writes all of the bytes.
 pub fn write_all<W: Outlet>(to: &mut W, bytes: &[u8]) -> Result<(), Failed>
@@ -66,7 +63,7 @@ fn decimal(out: &mut Pending, number: u128)
 }
 
 /// Appends the line `error 1 BadLine <number>`.
-fn bad(out: &mut Pending, number: u128)
+pub fn bad(out: &mut Pending, number: u128)
     requires { array_vec_len out.old + LONGEST ≤ SIZE }
     ensures { out.new.items ≡ out.old.items ++ bad_line number }
 {
@@ -77,32 +74,13 @@ fn bad(out: &mut Pending, number: u128)
     text(out, b"\n");
 }
 
-/// Appends a line; `number` is that of the line which is answered.
-fn say(out: &mut Pending, said: &Said, number: u128)
-    requires { array_vec_len out.old + LONGEST ≤ SIZE }
-    ensures { out.new.items ≡ out.old.items ++ said_text number said.now }
-{
-    match said {
-        Said::Opened => opened(out),
-        Said::Told(given) => answer(out, given),
-        Said::Audited(condition, Answer::Audited(verdict)) => audited(out, *condition, verdict),
-        Said::Audited(_, given) => answer(out, given),
-        Said::BadLine => bad(out, number),
-    }
-}
-
-/// Appends a line to what waits, which is written first where there is no room.
-pub fn put<W: Outlet>(
-    out: &mut Pending,
-    to: &mut W,
-    said: &Said,
-    number: u128,
-) -> Result<(), Failed>
-    ensures { Streams (W.sink to.old) out.old.items (W.sink to.new) out.new.items (said_text number said.now) result }
+/// The same, where what waits is written first if there is no room behind it.
+pub fn put_bad<W: Outlet>(out: &mut Pending, to: &mut W, number: u128) -> Result<(), Failed>
+    ensures { Streams (W.sink to.old) out.old.items (W.sink to.new) out.new.items (bad_line number) result }
 {
     if let Err(e) = make_room(out, to) {
         return Err(e);
     }
-    say(out, said, number);
+    bad(out, number);
     Ok(())
 }

@@ -1,13 +1,12 @@
 //! One script's run: what is open, the line that is read, and the output that waits.
 ghost use Rattle.std.specs.Prelude.{◌≡◌, ◌<◌, ◌≤◌, ◌+◌, ◌++◌, ◌∷◌, ◌^◌, ℕ, List, [], length, Option, None, true, false, OnOk};
 ghost use Rattle.oe_script.specs.Ports.{Sink, Streams};
-ghost use Rattle.oe_script.specs.Script.{LineAnswer, Holds, last_text};
+ghost use Rattle.oe_script.specs.Script.{Holds, last_text};
 ghost use Rattle.oe_script.specs.Session.{state_of, IsLive, Fed, Standing, Ended, ScriptRan};
-ghost use Rattle.oe_script.specs.Outcome.{text_of};
+ghost use Rattle.oe_script.specs.Outcome.{Replies};
 
-use crate::dumps::dump;
-use crate::outcome::{Outcome, Said, outcome_of};
-use crate::output::{flush, put};
+use crate::outcome::answer_line;
+use crate::output::{flush, put_bad};
 use crate::ports::{Failed, Intake, Outlet};
 use arrayvec::ArrayVec;
 use memchr::memchr;
@@ -165,10 +164,10 @@ impl Session {
             Streams (W.sink to.old) self.old.out.items (W.sink to.new) self.new.out.items (last_text (self.old.count + 1) line) result }
     {
         if self.over {
-            return put(&mut self.out, to, &Said::BadLine, self.count + 1);
+            return put_bad(&mut self.out, to, self.count + 1);
         }
         if !self.line.is_empty() {
-            return put(&mut self.out, to, &Said::BadLine, self.count + 1);
+            return put_bad(&mut self.out, to, self.count + 1);
         }
         Ok(())
     }
@@ -193,39 +192,18 @@ impl Session {
         requires count { self.old.count + 1 < 2 ^ 128 }
         requires live { IsLive (state_of self.old.core) }
         ensures answer { (line : List ℕ) → Holds self.old.line.items self.old.over line →
-            (text : List ℕ) × LineAnswer (state_of self.old.core) (self.old.count + 1) (line ++ last.now) text (state_of self.new.core)
-            × Streams (W.sink to.old) self.old.out.items (W.sink to.new) self.new.out.items text result }
+            Replies (state_of self.old.core) (self.old.count + 1) (line ++ last.now) (state_of self.new.core) (W.sink to.old) self.old.out.items (W.sink to.new) self.new.out.items result }
         ensures line { self.new.line.items ≡ [] }
         ensures over { self.new.over ≡ false }
         ensures count { self.new.count ≡ self.old.count + 1 }
         ensures live { IsLive (state_of self.new.core) }
     {
         self.count += 1;
-        match self.outcome(alloc, last) {
-            Outcome::Line(said) => put(&mut self.out, to, &said, self.count),
-            Outcome::Rows(table) => match &self.core {
-                Some(core) => dump(core.tables(), table, &mut self.out, to),
-                None => Ok(()),
-            },
-        }
-    }
-
-    /// Takes the step that the line asks for, whose last bytes these are, and begins the next line.
-    fn outcome(&mut self, alloc: Global, last: &[u8]) -> Outcome
-        requires live { IsLive (state_of self.old.core) }
-        ensures outcome { (n : ℕ) (line : List ℕ) → Holds self.old.line.items self.old.over line →
-            LineAnswer (state_of self.old.core) n (line ++ last.now) (text_of (state_of self.new.core) n result) (state_of self.new.core) }
-        ensures line { self.new.line.items ≡ [] }
-        ensures over { self.new.over ≡ false }
-        ensures count { self.new.count ≡ self.old.count }
-        ensures out { self.new.out ≡ self.old.out }
-        ensures live { IsLive (state_of self.new.core) }
-    {
         if self.is_begun() || LINE < last.len() {
             self.keep(last);
-            return self.kept(alloc);
+            return self.end_kept(alloc, to);
         }
-        outcome_of(&mut self.core, alloc, last)
+        answer_line(&mut self.core, alloc, last, self.count, &mut self.out, to)
     }
 
     /// A line was begun whose end was not read yet.
@@ -235,25 +213,32 @@ impl Session {
         self.over || !self.line.is_empty()
     }
 
-    /// Takes the step that the kept line asks for, and begins the next line.
-    fn kept(&mut self, alloc: Global) -> Outcome
+    /// The end of a line that was kept, of this number: its answer goes out.
+    #[inline(never)]
+    fn end_kept<W: Outlet>(&mut self, alloc: Global, to: &mut W) -> Result<(), Failed>
         requires live { IsLive (state_of self.old.core) }
-        ensures outcome { (n : ℕ) (line : List ℕ) → Holds self.old.line.items self.old.over line →
-            LineAnswer (state_of self.old.core) n line (text_of (state_of self.new.core) n result) (state_of self.new.core) }
+        ensures answer { (line : List ℕ) → Holds self.old.line.items self.old.over line →
+            Replies (state_of self.old.core) self.old.count line (state_of self.new.core) (W.sink to.old) self.old.out.items (W.sink to.new) self.new.out.items result }
         ensures line { self.new.line.items ≡ [] }
         ensures over { self.new.over ≡ false }
         ensures count { self.new.count ≡ self.old.count }
-        ensures out { self.new.out ≡ self.old.out }
         ensures live { IsLive (state_of self.new.core) }
     {
         let over = self.over;
         self.over = false;
         if over {
             self.line.clear();
-            return Outcome::Line(Said::BadLine);
+            return put_bad(&mut self.out, to, self.count);
         }
-        let outcome = outcome_of(&mut self.core, alloc, self.line.as_slice());
+        let answered = answer_line(
+            &mut self.core,
+            alloc,
+            self.line.as_slice(),
+            self.count,
+            &mut self.out,
+            to,
+        );
         self.line.clear();
-        outcome
+        answered
     }
 }

@@ -1,6 +1,7 @@
 //! Answers.
 ghost use Rattle.std.specs.Prelude.{◌≡◌, ◌≤◌, ◌+◌, ◌++◌, codes};
 ghost use Rattle.arrayvec.specs.ArrayVec.{array_vec_len};
+ghost use Rattle.oe_steps.specs.declared.answers.Answer.{Answer};
 ghost use Rattle.oe_texts.specs.Answer.{verdict_text, answer_text, answer_line, audit_line};
 
 use crate::columns::{number, small_then};
@@ -8,7 +9,9 @@ use crate::keys::columns;
 use crate::pending::{LONGEST, Pending, SIZE, text};
 use crate::refusals::error;
 use crate::replies::{query, reply};
+use oe_requests::{Refusal, Reply};
 use oe_steps::{Answer, Condition, Verdict};
+use oe_values::Moment;
 
 /// `holds`, or `fails at <key columns>`.
 fn verdict(out: &mut Pending, verdict: &Verdict)
@@ -25,6 +28,18 @@ fn verdict(out: &mut Pending, verdict: &Verdict)
     }
 }
 
+/// `commit <moment> <reply>`.
+fn commit(out: &mut Pending, moment: Moment, given: &Reply)
+    requires { array_vec_len out.old + 1239 ≤ SIZE }
+    ensures items { out.new.items ≡ out.old.items ++ answer_text (Answer.Committed moment given.now) }
+    ensures len { array_vec_len out.new ≤ array_vec_len out.old + 1239 }
+{
+    text(out, b"commit ");
+    number(out, moment.get());
+    out.push(b' ');
+    reply(out, given);
+}
+
 fn answer_without_end(out: &mut Pending, answer: &Answer)
     requires { array_vec_len out.old + 1239 ≤ SIZE }
     ensures items { out.new.items ≡ out.old.items ++ answer_text answer.now }
@@ -33,12 +48,7 @@ fn answer_without_end(out: &mut Pending, answer: &Answer)
     match answer {
         Answer::Begun => text(out, b"begun"),
         Answer::More => text(out, b"more"),
-        Answer::Committed(moment, given) => {
-            text(out, b"commit ");
-            number(out, moment.get());
-            out.push(b' ');
-            reply(out, given);
-        }
+        Answer::Committed(moment, given) => commit(out, *moment, given),
         Answer::Saved => text(out, b"saved"),
         Answer::Back => text(out, b"back"),
         Answer::RolledBack => text(out, b"rolled back"),
@@ -63,6 +73,44 @@ pub fn answer(out: &mut Pending, answer: &Answer)
     ensures len { array_vec_len out.new ≤ array_vec_len out.old + LONGEST }
 {
     answer_without_end(out, answer);
+    out.push(b'\n');
+}
+
+/// Appends the line of a Begin that was not refused.
+pub fn begun(out: &mut Pending)
+    requires { array_vec_len out.old + LONGEST ≤ SIZE }
+    ensures items { out.new.items ≡ out.old.items ++ answer_line Answer.Begun }
+    ensures len { array_vec_len out.new ≤ array_vec_len out.old + LONGEST }
+{
+    text(out, b"begun\n");
+}
+
+/// Appends the line of an Advance that has left a row.
+pub fn more(out: &mut Pending)
+    requires { array_vec_len out.old + LONGEST ≤ SIZE }
+    ensures items { out.new.items ≡ out.old.items ++ answer_line Answer.More }
+    ensures len { array_vec_len out.new ≤ array_vec_len out.old + LONGEST }
+{
+    text(out, b"more\n");
+}
+
+/// Appends the line of a commit with this reply.
+pub fn committed(out: &mut Pending, moment: Moment, given: &Reply)
+    requires { array_vec_len out.old + LONGEST ≤ SIZE }
+    ensures items { out.new.items ≡ out.old.items ++ answer_line (Answer.Committed moment given.now) }
+    ensures len { array_vec_len out.new ≤ array_vec_len out.old + LONGEST }
+{
+    commit(out, moment, given);
+    out.push(b'\n');
+}
+
+/// Appends the line of a refusal.
+pub fn refused(out: &mut Pending, refusal: &Refusal)
+    requires { array_vec_len out.old + LONGEST ≤ SIZE }
+    ensures items { out.new.items ≡ out.old.items ++ answer_line (Answer.Refused refusal.now) }
+    ensures len { array_vec_len out.new ≤ array_vec_len out.old + LONGEST }
+{
+    error(out, refusal);
     out.push(b'\n');
 }
 

@@ -1,47 +1,57 @@
-use Rattle.std.proofs.Common.{Some, refl, ap, subst}
-use Rattle.oe_steps.specs.declared.steps.Step.TheVariants as step
+use Rattle.std.proofs.Common.{Some, refl, ap, sym, ◌∙◌}
+use Rattle.oe_theory.specs.World.{tables}
+use Rattle.oe_model.specs.System.{system}
 use Rattle.oe_lines.specs.declared.commands.Command.TheVariants as command
 use Rattle.oe_core.specs.Core.{world_of}
-use Rattle.oe_core.specs.Steps.{step_in, answer_in, Serves}
-use Rattle.oe_script.specs.Outcome.{text_of}
-use Rattle.oe_script.proofs.LineFacts.{taken}
+use Rattle.oe_script.specs.Dump.{dump_text}
+use Rattle.oe_script.specs.Script.{bad_line}
+use Rattle.oe_script.proofs.Streaming.{sent_waits}
+use Rattle.oe_script.proofs.LineFacts.{told_here, dumped_here, refused, not_opened}
 use Rattle.oe_script.proofs.outcome.later.Goals as goal
 
+pub returns-in-Dump : goal.returns-in-Dump
+returns-in-Dump g c = λ line short says.
+    dumped_here (world_of c.args.core.now) c.args.number line c.args.asked.now c.in-Dump.table (g.W.Outlet.sink c.args.to.now) (g.W.Outlet.sink c.dump.new.to) c.args.out.now.items c.dump.new.out.items _ c.dump.result
+    short says c.in-Dump.is (ap (dump_text c.in-Dump.table) c.tables.ensures) c.dump.ensures
+
+pub returns-in-Open : goal.returns-in-Open
+returns-in-Open g c = λ line short says. (
+  bad_line c.args.number,
+  refused (Some (world_of c.args.core.now)) c.args.number line (not_opened (world_of c.args.core.now) line c.args.asked.now c.in-Open.field-0 c.in-Open.field-1 says c.in-Open.is),
+  sent_waits (g.W.Outlet.sink c.args.to.now) c.args.out.now.items c.bad.new.out.items (bad_line c.args.number) c.bad.ensures,
+)
+
 pub returns-in-Begin : goal.returns-in-Begin
-returns-in-Begin c = λ n line short says.
-    taken (world_of c.args.core.now) n line c.args.asked (command.Begin c.in-Begin.terminal c.in-Begin.request) _ _ short says c.in-Begin.is tt
-    (c.told.ensures.0, world_of c.told.new.core, c.told.ensures.2, ap (text_of (Some (world_of c.told.new.core)) n) c.told.ensures.1, refl)
+returns-in-Begin g c = λ line short says.
+    told_here (world_of c.args.core.now) (world_of c.tell_begin.new.core) c.args.number line c.args.asked.now (command.Begin c.in-Begin.terminal c.in-Begin.request) (g.W.Outlet.sink c.args.to.now) c.args.out.now.items c.tell_begin.new.out.items _
+    short says c.in-Begin.is tt (c.tell_begin.ensures.0, world_of c.tell_begin.new.core, c.tell_begin.ensures.1, refl, refl) c.tell_begin.ensures.2
 
 pub returns-in-Next : goal.returns-in-Next
-returns-in-Next c = λ n line short says.
-    taken (world_of c.args.core.now) n line c.args.asked (command.Next c.in-Next.terminal) _ _ short says c.in-Next.is tt
-    (c.told-in-Next.ensures.0, world_of c.told-in-Next.new.core, c.told-in-Next.ensures.2, ap (text_of (Some (world_of c.told-in-Next.new.core)) n) c.told-in-Next.ensures.1, refl)
+returns-in-Next g c = λ line short says.
+    told_here (world_of c.args.core.now) (world_of c.tell_next.new.core) c.args.number line c.args.asked.now (command.Next c.in-Next.terminal) (g.W.Outlet.sink c.args.to.now) c.args.out.now.items c.tell_next.new.out.items _
+    short says c.in-Next.is tt (c.tell_next.ensures.0, world_of c.tell_next.new.core, c.tell_next.ensures.1, refl, refl) c.tell_next.ensures.2
 
 pub returns-in-Run : goal.returns-in-Run
-returns-in-Run c = λ n line short says.
-    taken (world_of c.args.core.now) n line c.args.asked (command.Run c.in-Run.terminal) _ _ short says c.in-Run.is tt
-    (c.run.ensures.0, c.run.result, world_of c.run.new.core, c.run.ensures.1, refl, refl)
+returns-in-Run g c = λ line short says.
+    told_here (world_of c.args.core.now) (world_of c.tell_run.new.core) c.args.number line c.args.asked.now (command.Run c.in-Run.terminal) (g.W.Outlet.sink c.args.to.now) c.args.out.now.items c.tell_run.new.out.items _
+    short says c.in-Run.is tt (c.tell_run.ensures.0, c.tell_run.ensures.1, world_of c.tell_run.new.core, c.tell_run.ensures.2, refl, refl) c.tell_run.ensures.3
 
 pub returns-in-Save : goal.returns-in-Save
-returns-in-Save c = λ n line short says.
-    taken (world_of c.args.core.now) n line c.args.asked (command.Save c.in-Save.terminal) _ _ short says c.in-Save.is tt
-    (c.told-in-Save.ensures.0, world_of c.told-in-Save.new.core, c.told-in-Save.ensures.2, ap (text_of (Some (world_of c.told-in-Save.new.core)) n) c.told-in-Save.ensures.1, refl)
+returns-in-Save g c = λ line short says.
+    told_here (world_of c.args.core.now) (world_of c.tell.new.core) c.args.number line c.args.asked.now (command.Save c.in-Save.terminal) (g.W.Outlet.sink c.args.to.now) c.args.out.now.items c.tell.new.out.items _
+    short says c.in-Save.is tt (c.tell.ensures.0, world_of c.tell.new.core, c.tell.ensures.1, refl, refl) c.tell.ensures.2
 
 pub returns-in-Back : goal.returns-in-Back
-returns-in-Back c = λ n line short says.
-    taken (world_of c.args.core.now) n line c.args.asked (command.Back c.in-Back.terminal) _ _ short says c.in-Back.is tt
-    (c.told-in-Back.ensures.0, world_of c.told-in-Back.new.core, c.told-in-Back.ensures.2, ap (text_of (Some (world_of c.told-in-Back.new.core)) n) c.told-in-Back.ensures.1, refl)
+returns-in-Back g c = λ line short says.
+    told_here (world_of c.args.core.now) (world_of c.tell-in-Back.new.core) c.args.number line c.args.asked.now (command.Back c.in-Back.terminal) (g.W.Outlet.sink c.args.to.now) c.args.out.now.items c.tell-in-Back.new.out.items _
+    short says c.in-Back.is tt (c.tell-in-Back.ensures.0, world_of c.tell-in-Back.new.core, c.tell-in-Back.ensures.1, refl, refl) c.tell-in-Back.ensures.2
 
 pub returns-in-Rollback : goal.returns-in-Rollback
-returns-in-Rollback c = λ n line short says.
-    taken (world_of c.args.core.now) n line c.args.asked (command.Rollback c.in-Rollback.terminal) _ _ short says c.in-Rollback.is tt
-    (c.told-in-Rollback.ensures.0, world_of c.told-in-Rollback.new.core, c.told-in-Rollback.ensures.2, ap (text_of (Some (world_of c.told-in-Rollback.new.core)) n) c.told-in-Rollback.ensures.1, refl)
+returns-in-Rollback g c = λ line short says.
+    told_here (world_of c.args.core.now) (world_of c.tell-in-Rollback.new.core) c.args.number line c.args.asked.now (command.Rollback c.in-Rollback.terminal) (g.W.Outlet.sink c.args.to.now) c.args.out.now.items c.tell-in-Rollback.new.out.items _
+    short says c.in-Rollback.is tt (c.tell-in-Rollback.ensures.0, world_of c.tell-in-Rollback.new.core, c.tell-in-Rollback.ensures.1, refl, refl) c.tell-in-Rollback.ensures.2
 
 pub returns-in-Audit : goal.returns-in-Audit
-returns-in-Audit c = λ n line short says.
-    let w = world_of c.args.core.now in
-    let x = c.step.result in
-    let w' = world_of c.step.new.self in
-    let k = c.in-Audit.condition in
-    taken w n line c.args.asked (command.Audit k c.in-Audit.moment) _ _ short says c.in-Audit.is tt
-    (x, w', subst (λ m. Serves w (step_in (step.Audit k m)) (answer_in (step.Audit k m) x) w') c.moment_of-moment.ensures c.step.ensures.serves, refl, refl)
+returns-in-Audit g c = λ line short says.
+    told_here (world_of c.args.core.now) (world_of c.tell_audit.new.core) c.args.number line c.args.asked.now (command.Audit c.in-Audit.condition c.in-Audit.moment) (g.W.Outlet.sink c.args.to.now) c.args.out.now.items c.tell_audit.new.out.items _
+    short says c.in-Audit.is tt (c.tell_audit.ensures.0, world_of c.tell_audit.new.core, c.tell_audit.ensures.1, refl, refl) c.tell_audit.ensures.2

@@ -4,18 +4,23 @@ use Rattle.oe_steps.specs.declared.steps.Step.TheVariants as step
 use Rattle.oe_core.specs.Steps.{answer_in}
 use Rattle.oe_core.specs.Core.{world_of}
 use Rattle.oe_script.proofs.WorldFacts.{falls, live_step}
+use Rattle.oe_script.proofs.LineFacts.{answer_of, not_more}
 use Rattle.oe_script.proofs.outcome.run.Goals as goal
 
-pub loop-answer-smaller : goal.loop-answer-smaller
-loop-answer-smaller c = falls (world_of c.loop-answer.core) (world_of c.step.new.self) c.args.terminal c.loop-answer.invariant.live.1 c.in-More.ensures.serves
+pub loop-ended-smaller : goal.loop-ended-smaller
+loop-ended-smaller c = falls (world_of c.loop-ended.core) (world_of c.advance.new.self) c.args.terminal c.loop-ended.invariant.live.1 c.in-More.ensures.0
 
-pub loop-answer-preserved : goal.loop-answer-preserved
-loop-answer-preserved c =
+pub loop-ended-preserved : goal.loop-ended-preserved
+loop-ended-preserved c =
     let t = c.args.terminal in
     record {
-      live = live_step (world_of c.loop-answer.core) (step.Advance t) (answer_in (step.Advance t) answer.More) (world_of c.step.new.self) tt c.loop-answer.invariant.live c.in-More.ensures.serves;
-      runs = λ n x w r. c.loop-answer.invariant.runs (suc n) x w (world_of c.step.new.self, c.in-More.ensures.serves, r);
+      live = live_step (world_of c.loop-ended.core) (step.Advance t) (answer_in (step.Advance t) answer.More) (world_of c.advance.new.self) tt c.loop-ended.invariant.live c.in-More.ensures.0;
+      runs = λ n x w r. c.loop-ended.invariant.runs (suc n) x w (world_of c.advance.new.self, c.in-More.ensures.0, r);
     }
 
 pub returns-in_default : goal.returns-in_default
-returns-in_default c = c.loop-answer.invariant.runs 0 c.step.result (world_of c.step.new.self) (c.in_default.not-More, c.step.ensures.serves)
+returns-in_default c =
+    let w' = world_of c.advance.new.self in
+    let a = answer_of (world_of c.loop-ended.core) w' c.args.terminal c.advance.result c.advance.ensures in
+    let r = c.loop-ended.invariant.runs 0 a.0 w' (not_more w' c.advance.result a.0 a.1 c.in_default.not-More, a.2) in
+    (r.0, a.0, a.1, r.1)

@@ -9,11 +9,11 @@ use Rattle.oe_script.proofs.WorldFacts.{left}
 use Rattle.oe_script.proofs.outcome.run.Given as goal
 
 -- what runs from here runs from the start
-abbrev pub invariant-loop-answer : goal.invariant-loop-answer
-invariant-loop-answer l = record {
+abbrev pub invariant-loop-ended : goal.invariant-loop-ended
+invariant-loop-ended l = record {
   live : IsLive (Some (world_of l.core));
   runs : (n : ℕ) (x : Answer) (w : World system) → RunsIn n (world_of l.core) l.terminal x w → (m : ℕ) × RunsIn m (world_of l.initial.core) l.terminal x w;
 }
 
-abbrev pub decreases-loop-answer : goal.decreases-loop-answer
-decreases-loop-answer l = left (world_of l.core) l.terminal
+abbrev pub decreases-loop-ended : goal.decreases-loop-ended
+decreases-loop-ended l = left (world_of l.core) l.terminal
