@@ -1,8 +1,10 @@
 //! A payment of 250.00 on the population, a row at a time.
+ghost use Rattle.oe_payment.specs.Program.{IsByNumber};
+
 use crate::fixtures::{begin, commit, district, engine, payment};
 use oe_engine::{Engine, Progress, Tx};
 use oe_payment::Program;
-use oe_requests::{PaymentReply, Reply};
+use oe_requests::{PaymentReply, PaymentRequest, Reply};
 use oe_rows::Credit;
 use oe_store::Tables;
 use oe_values::{CustomerNumber, Terminal};
@@ -20,53 +22,74 @@ fn money(tables: &Tables, customer: u32) -> Option<(u64, u64, i64)> {
 }
 
 /// A row of the payment is done.
-fn more(rt: &impl Abort, engine: &mut Engine, program: &mut Program, tx: &Tx) {
-    let is_done = matches!(program.next(engine, tx), Progress::More);
+fn more(
+    rt: &impl Abort,
+    request: &PaymentRequest,
+    engine: &mut Engine,
+    program: &mut Program,
+    tx: &Tx,
+)
+    requires { IsByNumber request.now.customer }
+{
+    let is_done = matches!(program.next(request, engine, tx), Progress::More);
     assert!(rt; is_done);
 }
 
 /// The four rows of a payment, all of them done.
-fn make(rt: &impl Abort, engine: &mut Engine, program: &mut Program, tx: &Tx) {
-    more(rt, engine, program, tx);
-    more(rt, engine, program, tx);
-    more(rt, engine, program, tx);
-    more(rt, engine, program, tx);
+fn make(
+    rt: &impl Abort,
+    request: &PaymentRequest,
+    engine: &mut Engine,
+    program: &mut Program,
+    tx: &Tx,
+)
+    requires { IsByNumber request.now.customer }
+{
+    more(rt, request, engine, program, tx);
+    more(rt, request, engine, program, tx);
+    more(rt, request, engine, program, tx);
+    more(rt, request, engine, program, tx);
 }
 
-/// The program of a payment by a customer.
-fn program(rt: &impl Abort, customer: u32) -> Program {
+/// A payment by a customer.
+fn request(rt: &impl Abort, customer: u32) -> PaymentRequest
+    ensures { IsByNumber result.customer }
+{
     match payment(customer) {
-        Some(request) => Program::new(request),
+        Some(request) => request,
         None => panic!(rt; "no payment"),
     }
 }
 
 /// The reply at a payment's end.
-fn reply(rt: &impl Abort, answer: Progress) -> PaymentReply {
-    match answer {
-        Progress::Ready(reply) => match reply {
-            Reply::Payment(reply) => reply,
-            _ => panic!(rt; "no payment"),
-        },
-        _ => panic!(rt; "not ready"),
+fn reply(rt: &impl Abort, ended: &Progress, program: &Program) -> PaymentReply {
+    if !matches!(ended, Progress::Ready) {
+        panic!(rt; "not ready");
+    }
+    match program.reply() {
+        Some(reply) => reply.copied(),
+        None => panic!(rt; "no reply"),
     }
 }
 
 /// A payment to its commit, and its reply.
 fn pay(rt: &impl Abort, engine: &mut Engine, terminal: Terminal, customer: u32) -> PaymentReply {
-    let mut program = program(rt, customer);
+    let request = request(rt, customer);
+    let mut program = Program::new();
     let tx = begin(rt, engine, terminal);
-    make(rt, engine, &mut program, &tx);
-    let reply = reply(rt, program.next(engine, &tx));
+    make(rt, &request, engine, &mut program, &tx);
+    let ended = program.next(&request, engine, &tx);
+    let reply = reply(rt, &ended, &program);
     commit(rt, engine, tx, Reply::Payment(reply.copied()));
     reply
 }
 
 /// A payment that is rolled back.
 fn forget(rt: &impl Abort, engine: &mut Engine, terminal: Terminal, customer: u32) {
-    let mut program = program(rt, customer);
+    let request = request(rt, customer);
+    let mut program = Program::new();
     let tx = begin(rt, engine, terminal);
-    make(rt, engine, &mut program, &tx);
+    make(rt, &request, engine, &mut program, &tx);
     assert!(rt; money(engine.tables(), customer) == Some((125_000, 35_000, -26_000)));
     match engine.rollback(tx) {
         Ok(()) => {}
