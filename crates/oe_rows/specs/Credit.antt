@@ -4,6 +4,8 @@ use Rattle.std.specs.Prelude.{ℕ, ◌+◌, ◌-◌, ◌*◌, ◌/◌, ◌%◌, 
 use Rattle.std.specs.List.{join_with_byte}
 use Rattle.oe_values.specs.Stamp.{two_digits}
 use Rattle.oe_rows.specs.declared.credits.CreditIds.{CreditIds}
+use Rattle.oe_rows.specs.declared.customers.Account.{Account}
+use Rattle.oe_rows.specs.declared.customers.Customer.{Customer}
 
 -- the total of an order in cents, of its lines' amounts; rates are in ten-thousandths, and a half cent rounds up
 abbrev pub order_total : List ℕ → ℕ → ℕ → ℕ → ℕ
@@ -24,3 +26,7 @@ credit_entry ids amount =
 -- the entry goes in at the left, and what passes 500 bytes is discarded on the right
 abbrev pub bad_credit_data : List ℕ → CreditIds → ℕ → List ℕ
 bad_credit_data old ids amount = take 500 (credit_entry ids amount ++ old)
+
+-- a row with this account and with an entry put before C_DATA
+abbrev pub with_entry : Account → List ℕ → Customer → Customer
+with_entry a entry c = record c { account = a; «data» = take 500 (entry ++ c.data) }

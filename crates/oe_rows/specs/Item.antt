@@ -5,6 +5,7 @@ use Rattle.std.specs.List.{All}
 use Rattle.oe_values.specs.Text.{IsText}
 use Rattle.oe_rows.specs.declared.items.Item.{Item}
 use Rattle.oe_rows.specs.declared.items.Stock.{Stock}
+use Rattle.oe_rows.specs.declared.items.StockCounters.{StockCounters}
 
 pub record IsItem (i : Item) : Type 0 where
   pub image : IsInRange 1 200_000 i.image
@@ -20,3 +21,7 @@ pub record IsStock (s : Stock) : Type 0 where
   pub order_count : s.order_count ≤ 9_999
   pub remote_count : s.remote_count ≤ 9_999
   pub text : IsText 0 50 s.data
+
+-- a row with these counters
+abbrev pub with_counters : StockCounters → Stock → Stock
+with_counters n s = record s { quantity = n.quantity; ytd = n.ytd; order_count = n.order_count; remote_count = n.remote_count }

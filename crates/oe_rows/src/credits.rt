@@ -85,8 +85,9 @@ fn spelled_entry(ids: CreditIds, amount: PaymentAmount) -> ArrayString<90>
     text
 }
 
-/// The same, as a text.
-fn credit_entry(ids: CreditIds, amount: PaymentAmount) -> Text<0, 90>
+/// What a payment puts before the data of a customer with bad credit (clause 2.5.2.2): `C_ID C_D_ID C_W_ID D_ID W_ID
+/// H_AMOUNT|`.
+pub fn credit_entry(ids: CreditIds, amount: PaymentAmount) -> Text<0, 90>
     ensures { result ≡ credit_entry ids amount }
 {
     let spelled = spelled_entry(ids, amount);

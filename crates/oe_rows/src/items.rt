@@ -26,6 +26,15 @@ pub struct Stock {
     pub data: Text<0, 50>,
 }
 
+/// The columns of a STOCK row that orders change: S_QUANTITY, S_YTD, S_ORDER_CNT and S_REMOTE_CNT (clause 2.4.2.2).
+#[derive(Clone, Copy, Debug)]
+pub struct StockCounters {
+    pub quantity: Count,
+    pub ytd: StockYtd,
+    pub order_count: Count,
+    pub remote_count: Count,
+}
+
 impl Item {
     ghost use Rattle.oe_rows.specs.Item.{IsItem};
 

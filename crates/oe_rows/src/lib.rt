@@ -12,11 +12,11 @@ pub mod rows;
 pub mod scales;
 pub mod warehouses;
 
-pub use credits::{CreditIds, bad_credit_data, total};
+pub use credits::{CreditIds, bad_credit_data, credit_entry, total};
 pub use customers::{Account, Credit, Customer, CustomerName};
 pub use districts::District;
 pub use histories::History;
-pub use items::{Item, Stock};
+pub use items::{Item, Stock, StockCounters};
 pub use orders::{NewOrder, Order, OrderLine};
 pub use rows::Row;
 pub use scales::Scale;

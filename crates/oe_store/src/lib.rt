@@ -2,6 +2,7 @@
 //! Benchmark C 5.11.
 #![tactic(auto)]
 
+pub mod columns;
 mod drafts;
 pub mod dumps;
 mod fills;

@@ -1,0 +1,106 @@
+//! Columns that transactions write, set in their rows' places. It takes no memory, each column is in its range by type, and
+//! none is part of a key or refers to another row.
+ghost use Rattle.std.specs.Prelude.{◌≡◌, Some, IsSome};
+ghost use Rattle.std.specs.FinMap.{get};
+ghost use Rattle.oe_rows.specs.Credit.{with_entry};
+ghost use Rattle.oe_rows.specs.Item.{with_counters};
+ghost use Rattle.oe_rows.specs.declared.warehouses.Warehouse.{Warehouse};
+ghost use Rattle.oe_rows.specs.declared.districts.District.{District};
+ghost use Rattle.oe_rows.specs.declared.customers.Customer.{Customer};
+ghost use Rattle.oe_rows.specs.declared.orders.Order.{Order};
+ghost use Rattle.oe_rows.specs.declared.orders.OrderLine.{OrderLine};
+ghost use Rattle.oe_rows.specs.declared.items.Stock.{Stock};
+ghost use Rattle.oe_model.specs.Changes.{changed, UpdateWarehouse, UpdateDistrict, UpdateCustomer, UpdateOrder, UpdateOrderLine, UpdateStock};
+ghost use Rattle.oe_store.specs.Stored.{rows, SamePlaces};
+
+use crate::tables::Tables;
+use oe_keys::{CustomerKey, DistrictKey, OrderKey, OrderLineKey, StockKey, WarehouseKey};
+use oe_rows::{Account, StockCounters};
+use oe_values::{Carrier, OrderNumber, Stamp, Text, YearToDate};
+
+impl Tables {
+    /// Sets W_YTD of the WAREHOUSE row of a key.
+    pub fn set_warehouse_ytd(&mut self, key: &WarehouseKey, ytd: YearToDate)
+        requires { IsSome (get (rows self.old).warehouses key.now) }
+        ensures rows { (w : Warehouse) → get (rows self.old).warehouses key.now ≡ Some w → rows self.new ≡ changed (UpdateWarehouse key.now (record w { ytd = ytd })) (rows self.old) }
+        ensures places { SamePlaces self.old self.new }
+    {
+        let row = self.warehouses.row_mut(key).unwrap();
+        row.ytd = ytd;
+    }
+
+    /// Sets D_YTD of the DISTRICT row of a key.
+    pub fn set_district_ytd(&mut self, key: &DistrictKey, ytd: YearToDate)
+        requires { IsSome (get (rows self.old).districts key.now) }
+        ensures rows { (d : District) → get (rows self.old).districts key.now ≡ Some d → rows self.new ≡ changed (UpdateDistrict key.now (record d { ytd = ytd })) (rows self.old) }
+        ensures places { SamePlaces self.old self.new }
+    {
+        let row = self.districts.row_mut(key).unwrap();
+        row.ytd = ytd;
+    }
+
+    /// Sets D_NEXT_O_ID of the DISTRICT row of a key.
+    pub fn set_next_order(&mut self, key: &DistrictKey, order: OrderNumber)
+        requires { IsSome (get (rows self.old).districts key.now) }
+        ensures rows { (d : District) → get (rows self.old).districts key.now ≡ Some d → rows self.new ≡ changed (UpdateDistrict key.now (record d { next_order = order })) (rows self.old) }
+        ensures places { SamePlaces self.old self.new }
+    {
+        let row = self.districts.row_mut(key).unwrap();
+        row.next_order = order;
+    }
+
+    /// Sets the account of the CUSTOMER row of a key.
+    pub fn set_account(&mut self, key: &CustomerKey, account: &Account)
+        requires { IsSome (get (rows self.old).customers key.now) }
+        ensures rows { (c : Customer) → get (rows self.old).customers key.now ≡ Some c → rows self.new ≡ changed (UpdateCustomer key.now (record c { account = account.now })) (rows self.old) }
+        ensures places { SamePlaces self.old self.new }
+    {
+        let row = self.customers.row_mut(key).unwrap();
+        row.account = *account;
+    }
+
+    /// Sets the account of the CUSTOMER row of a key, and puts an entry before C_DATA, of which what passes 500 bytes is
+    /// discarded (clause 2.5.2.2).
+    pub fn set_bad_credit(&mut self, key: &CustomerKey, account: &Account, entry: &Text<0, 90>)
+        requires { IsSome (get (rows self.old).customers key.now) }
+        ensures rows { (c : Customer) → get (rows self.old).customers key.now ≡ Some c → rows self.new ≡ changed (UpdateCustomer key.now (with_entry account.now entry.now c)) (rows self.old) }
+        ensures places { SamePlaces self.old self.new }
+    {
+        let row = self.customers.row_mut(key).unwrap();
+        row.account = *account;
+        row.data = entry.before(&row.data);
+    }
+
+    /// Sets O_CARRIER_ID of the ORDER row of a key.
+    pub fn set_carrier(&mut self, key: &OrderKey, carrier: Carrier)
+        requires { IsSome (get (rows self.old).orders key.now) }
+        ensures rows { (o : Order) → get (rows self.old).orders key.now ≡ Some o → rows self.new ≡ changed (UpdateOrder key.now (record o { carrier = Some carrier })) (rows self.old) }
+        ensures places { SamePlaces self.old self.new }
+    {
+        let row = self.orders.row_mut(key).unwrap();
+        row.carrier = Some(carrier);
+    }
+
+    /// Sets OL_DELIVERY_D of the ORDER-LINE row of a key.
+    pub fn set_delivery(&mut self, key: &OrderLineKey, stamp: Stamp)
+        requires { IsSome (get (rows self.old).order_lines key.now) }
+        ensures rows { (l : OrderLine) → get (rows self.old).order_lines key.now ≡ Some l → rows self.new ≡ changed (UpdateOrderLine key.now (record l { delivery = Some stamp })) (rows self.old) }
+        ensures places { SamePlaces self.old self.new }
+    {
+        let row = self.order_lines.row_mut(key).unwrap();
+        row.delivery = Some(stamp);
+    }
+
+    /// Sets S_QUANTITY, S_YTD, S_ORDER_CNT and S_REMOTE_CNT of the STOCK row of a key.
+    pub fn set_counters(&mut self, key: &StockKey, counters: &StockCounters)
+        requires { IsSome (get (rows self.old).stocks key.now) }
+        ensures rows { (s : Stock) → get (rows self.old).stocks key.now ≡ Some s → rows self.new ≡ changed (UpdateStock key.now (with_counters counters.now s)) (rows self.old) }
+        ensures places { SamePlaces self.old self.new }
+    {
+        let row = self.stocks.row_mut(key).unwrap();
+        row.quantity = counters.quantity;
+        row.ytd = counters.ytd;
+        row.order_count = counters.order_count;
+        row.remote_count = counters.remote_count;
+    }
+}
