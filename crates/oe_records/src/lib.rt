@@ -1,4 +1,4 @@
-//! The values between the tables and their undo records: a change of one row, and what undoes it. A row of
+//! The values between the tables and their undo records: a change of one row, what is written to one, and what undoes it. A row of
 //! CUSTOMER or STOCK lies in memory of its own there. Clauses of the standard are those of TPC Benchmark C 5.11.
 #![tactic(auto)]
 
@@ -6,7 +6,9 @@ pub mod befores;
 pub mod boxed;
 pub mod changes;
 pub mod laws;
+pub mod writes;
 
 pub use befores::Before;
 pub use boxed::Boxed;
 pub use changes::Change;
+pub use writes::Write;
