@@ -1,4 +1,5 @@
 -- What the clauses of this crate cite.
 pub mod Applies
+pub mod Writes
 pub mod PutBack
 pub mod Laws

@@ -2,11 +2,14 @@
 #![tactic(auto)]
 
 pub mod changes;
+mod columns;
 mod inserts;
 pub mod laws;
 pub mod records;
 mod updates;
+pub mod writes;
 
 pub use changes::apply;
-pub use oe_records::{Before, Change};
+pub use oe_records::{Before, Change, Write};
 pub use records::undo;
+pub use writes::write;

@@ -1,0 +1,32 @@
+-- What a write makes of the tables, and why one is refused.
+use Rattle.std.specs.Prelude.{◌≡◌, ◌⊎◌, Bool, true, false, IfSome}
+use Rattle.std.specs.Option.{MatchOption, IsSomeAnd}
+use Rattle.oe_requests.specs.declared.refusals.Refusal.{Refusal}
+use Rattle.oe_requests.specs.declared.refusals.Refusal.TheVariants.{NoSuchRow, NoMemory}
+use Rattle.oe_model.specs.Changes.{Change, UpdateCustomer, UpdateStock, Record}
+use Rattle.oe_records.specs.declared.writes.Write.{Write}
+use Rattle.oe_records.specs.Writes.{key_written, written}
+use Rattle.oe_store.specs.Stored.{Stored, rows}
+use Rattle.oe_change.specs.Applies.{Applies, Refuses, IsFirst}
+
+-- it is a change of these rows, which is accepted and made; `b` is its undo record
+abbrev pub Writes : Write → Stored → Stored → Record → Type 0
+Writes w old new b = IsSomeAnd (written w (rows old)) (λ c. Applies c old new b)
+
+-- the record of such a change has the row before in memory of its own: a customer's, and a stock's
+abbrev pub is_boxed : Change → Bool
+is_boxed (UpdateCustomer k x) = true
+is_boxed (UpdateStock k x) = true
+is_boxed _ = false
+
+-- a refusal for want of the record's memory
+abbrev pub WantsBox : Change → Refusal → Type 0
+WantsBox c e = (e ≡ NoMemory) × (is_boxed c ≡ true)
+
+-- why a write is refused: its row is absent, its change is refused, or memory is wanted for the record
+abbrev pub RefusesWrite : Write → Stored → Refusal → Type 0
+RefusesWrite w s e = MatchOption (written w (rows s)) (e ≡ NoSuchRow (key_written w)) (λ c. Refuses c s e ⊎ WantsBox c e)
+
+-- of several causes of its change the first is named
+abbrev pub IsFirstOf : Write → Stored → Refusal → Type 0
+IsFirstOf w s e = IfSome (written w (rows s)) (λ c. IsFirst c (rows s) e)
