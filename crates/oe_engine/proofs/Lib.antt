@@ -4,6 +4,7 @@ pub mod KeptFacts
 pub mod LockFacts
 pub mod LogFacts
 pub mod MakeFacts
+mod WriteFacts
 pub mod ReplyFacts
 pub mod RowFacts
 pub mod SafeFacts

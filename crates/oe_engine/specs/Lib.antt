@@ -4,5 +4,6 @@ pub mod Covered
 pub mod Kept
 pub mod Lent
 pub mod Calls
+pub mod Writes
 pub mod Unwinds
 pub mod Programs

@@ -1,5 +1,5 @@
 -- A step of a program: one row of its step table, in the words of the theory of transactions.
-use Rattle.std.specs.Prelude.{◌≡◌, ◌⊎◌, suc, Bool, true, false, [], Option, None, Some}
+use Rattle.std.specs.Prelude.{◌≡◌, ◌⊎◌, suc, true, [], Option, None, Some}
 use Rattle.oe_theory.specs.Machine.{Tx, Ask, Stop, Plain, Take, Act, Fail, Go, Ready}
 use Rattle.oe_theory.specs.Machine as theory
 use Rattle.oe_theory.specs.Next.{IsNew, GivesWay}
@@ -9,12 +9,13 @@ use Rattle.oe_requests.specs.declared.replies.Reply.TheVariants as reply
 use Rattle.oe_requests.specs.declared.replies.DistrictDelivery.TheVariants.{Skipped}
 use Rattle.oe_requests.specs.declared.refusals.Refusal.{Refusal}
 use Rattle.oe_requests.specs.declared.refusals.Refusal.TheVariants.{Busy, NotOpen, NoMemory}
-use Rattle.oe_model.specs.Changes.{Change, UpdateCustomer, UpdateStock}
+use Rattle.oe_model.specs.Changes.{Change}
 use Rattle.oe_model.specs.Meets.{Cause}
 use Rattle.oe_model.specs.Places.{Place, InPayment, InNewOrder, InDelivery, NoProgram, PaymentPlace, PaymentEnd, NewOrderPlace, NewOrderStock, DeliveryPlace, DeliveryNothing, DeliveryEnd}
 use Rattle.oe_model.specs.NewOrder.{ordered_reply}
 use Rattle.oe_model.specs.Delivery.{delivered_reply}
 use Rattle.oe_model.specs.System.{system, ask, act, yields}
+use Rattle.oe_change.specs.Writes.{is_boxed}
 use Rattle.oe_undo.specs.Undo.{room_at}
 use Rattle.oe_engine.specs.View.{Stored, view_of, Handle, IsOpen}
 use Rattle.oe_engine.specs.Calls.{IsFree, IsInTheWay, row_done, AcceptsAll, WantsPlace}
@@ -79,13 +80,8 @@ Ends s x q p e =
     ⊎ (IsFreeHere s x q p × (act_here s x q p ≡ Fail e))
     ⊎ (IsFreeHere s x q p × (c : Change) × (p' : Place) × (act_here s x q p ≡ Go (Some c) p') × Cause c (view_of s).rows e)
 
--- the row that a change leaves lies in memory of its own, which its program takes: a customer's, and a stock's
-abbrev pub is_boxed : Change → Bool
-is_boxed (UpdateCustomer k x) = true
-is_boxed (UpdateStock k x) = true
-is_boxed _ = false
-
--- memory is wanted for a row's change: its undo record has no room, it is an insert at a key without a place, or its row takes some
+-- memory is wanted for a row's change: its undo record has no room, it is an insert at a key without a place, or the row
+-- before it lies in memory of its own in the record
 abbrev pub WantsMemory : Stored → Handle → Change → Type 0
 WantsMemory s x c = (room_at s.undo x.terminal ≡ 0) ⊎ WantsPlace (Some c) s.tables ⊎ (is_boxed c ≡ true)
 

@@ -43,7 +43,7 @@ fn exclusive(name: Name) -> Option<Lock>
 
 // The lock under which a row of that key is changed: none for a HISTORY row, which is its own transaction's, and for an ITEM
 // row, which never changes.
-fn lock_to_write(key: Key) -> Option<Lock>
+pub(crate) fn lock_to_write(key: Key) -> Option<Lock>
     ensures { ask_of result ≡ ask_to_write (governs key) }
 {
     match key {

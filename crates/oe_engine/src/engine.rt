@@ -251,7 +251,7 @@ impl Engine {
 
 impl Engine {
     // Takes a lock, or raises the mode in which its name is held. Tables and undo log stay as they are.
-    fn take(&mut self, terminal: Terminal, lock: Lock) -> Result<(), Refusal>
+    pub(crate) fn take(&mut self, terminal: Terminal, lock: Lock) -> Result<(), Refusal>
         requires { (view_of self.old).is_open terminal ≡ true }
         ensures free { OnOk result (IsFree (view_of self.old) terminal (Take lock.name (mode_of lock.mode))) }
         ensures locked { OnOk result (view_of self.new ≡ locked terminal lock.name (mode_of lock.mode) (view_of self.old)) }

@@ -6,6 +6,7 @@ pub mod engine;
 pub mod lent;
 pub mod rows;
 mod unwinding;
+pub mod writes;
 
 pub use access::Parts;
 pub use engine::{Engine, Mark, Tx};

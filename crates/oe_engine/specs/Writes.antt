@@ -1,0 +1,55 @@
+-- What a write asks of its transaction, and why one is refused.
+use Rattle.std.specs.Prelude.{◌≡◌, ◌⊎◌, ℕ, true, Option, Some, IsSome, IfSome}
+use Rattle.std.specs.Option.{IsSomeAnd, ForSome}
+use Rattle.oe_theory.specs.Machine.{Ask, Take}
+use Rattle.oe_theory.specs.Machine as theory
+use Rattle.oe_keys.specs.declared.keys.Key.{Key}
+use Rattle.oe_keys.specs.declared.locks.Name.{Name}
+use Rattle.oe_keys.specs.declared.locks.Name.TheVariants as name
+use Rattle.oe_requests.specs.declared.refusals.Refusal.{Refusal}
+use Rattle.oe_requests.specs.declared.refusals.Refusal.TheVariants.{Busy, NotOpen, NoMemory, NoSuchRow}
+use Rattle.oe_model.specs.Keys.{order_of_new_order}
+use Rattle.oe_model.specs.Changes.{Change}
+use Rattle.oe_model.specs.Locks.{governs}
+use Rattle.oe_records.specs.declared.writes.Write.{Write}
+use Rattle.oe_records.specs.declared.writes.Write.TheVariants.{InsertNewOrder}
+use Rattle.oe_records.specs.Writes.{key_written, written}
+use Rattle.oe_change.specs.Writes.{is_boxed}
+use Rattle.oe_store.specs.Stored as tables
+use Rattle.oe_engine.specs.View.{Stored, View, view_of, Handle, IsOpen}
+use Rattle.oe_engine.specs.Calls.{ask_to_write, IsFree, IsInTheWay, LockRefused, WantsPlace}
+
+-- the lock under which it is made
+abbrev pub ask_of_write : Write → Ask Name Refusal
+ask_of_write w = ask_to_write (governs (key_written w))
+
+-- the change that it is of the rows as they are, if its row is there
+abbrev pub change_written : Write → View → Option Change
+change_written w v = written w v.rows
+
+-- whoever inserts a NEW-ORDER row holds the name of its order
+abbrev pub WriteHoldsOrder : (Name → Option theory.Mode) → Write → Type 0
+WriteHoldsOrder held (InsertNewOrder k) = IsSome (held (name.Order (order_of_new_order k)))
+WriteHoldsOrder held _ = Unit {0}
+
+-- why a write without its row is refused: the row is absent, or memory is wanted for a record
+abbrev pub AbsentRefused : Key → Refusal → Type 0
+AbsentRefused k NoMemory = Unit {0}
+AbsentRefused k e = e ≡ NoSuchRow k
+
+-- with a lock that is refused, or free
+abbrev pub AbsentPairRefused : View → ℕ → Name → theory.Mode → Key → Refusal → Type 0
+AbsentPairRefused v t n m k (Busy name u) = LockRefused v t n m (Busy name u)
+AbsentPairRefused v t n m k NoMemory = IsFree v t (Take n m)
+AbsentPairRefused v t n m k e = IsFree v t (Take n m) × (e ≡ NoSuchRow k)
+
+-- with the lock of its key, in a transaction that is open here or is not
+abbrev pub AbsentRowRefused : Stored → Handle → Key → Refusal → Type 0
+AbsentRowRefused s x k NotOpen = IsOpen s x → ⊥
+AbsentRowRefused s x k (Busy n u) = IsOpen s x × ((m : theory.Mode) × (ask_to_write (governs k) ≡ Take n m) × IsInTheWay (view_of s) x.terminal n m u)
+AbsentRowRefused s x k NoMemory = IsOpen s x × IsFree (view_of s) x.terminal (ask_to_write (governs k))
+AbsentRowRefused s x k e = IsOpen s x × IsFree (view_of s) x.terminal (ask_to_write (governs k)) × (e ≡ NoSuchRow k)
+
+-- memory is wanted for a write of a row that is there: a place in the tables, or the record of a customer or a stock
+abbrev pub WantsRow : Option Change → tables.Stored → Type 0
+WantsRow o s = IsSomeAnd o (λ c. WantsPlace (Some c) s ⊎ (is_boxed c ≡ true))

@@ -1,0 +1,117 @@
+//! What transactions write to rows, each with its lock and its undo record.
+ghost use Rattle.std.specs.Prelude.{◌≡◌, ◌<◌, suc, true, Some, None, IsSome, IfErr, OnOk, OnErr};
+ghost use Rattle.std.specs.Option.{ForSome};
+ghost use Rattle.oe_theory.specs.Machine.{Take};
+ghost use Rattle.oe_theory.specs.Next.{IsNew};
+ghost use Rattle.oe_model.specs.Locks.{mode_of, governs};
+ghost use Rattle.oe_model.specs.Meets.{Accepts};
+ghost use Rattle.oe_model.specs.System.{system};
+ghost use Rattle.oe_records.specs.Writes.{key_written};
+ghost use Rattle.oe_change.specs.Writes.{RefusesWrite};
+ghost use Rattle.oe_undo.specs.Undo.{room_at};
+ghost use Rattle.oe_engine.specs.View.{view_of, IsOpen};
+ghost use Rattle.oe_engine.specs.Covered.{MayMake, IsOwn};
+ghost use Rattle.oe_engine.specs.Calls.{IsFree, locked, made, ChangeRefused, PairRefused, row_done, RowRefused, IsCovered};
+ghost use Rattle.oe_engine.specs.Writes.{ask_of_write, change_written, WriteHoldsOrder, AbsentRefused, AbsentPairRefused, AbsentRowRefused, WantsRow};
+
+use crate::access::lock_to_write;
+use crate::engine::{Engine, Tx};
+use crate::rows::Lock;
+use oe_records::Write;
+use oe_requests::Refusal;
+use oe_undo::Segment;
+use oe_values::Terminal;
+
+impl Engine {
+    // Writes to a row, with its undo record. Where there is room for a record, memory is wanted for a place in the tables or
+    // for the row before alone.
+    fn put(&mut self, terminal: Terminal, write: &Write<'_>) -> Result<(), Refusal>
+        requires open { (view_of self.old).is_open terminal ≡ true }
+        requires covered { ForSome (change_written write.now (view_of self.old)) (MayMake ((view_of self.old).held terminal) terminal (suc ((view_of self.old).counts terminal))) }
+        ensures there { OnOk result (IsSome (change_written write.now (view_of self.old))) }
+        ensures accepted { ForSome (change_written write.now (view_of self.old)) (λ c. OnOk result (Accepts c (view_of self.old).rows)) }
+        ensures made { ForSome (change_written write.now (view_of self.old)) (λ c. OnOk result (view_of self.new ≡ made terminal c (view_of self.old))) }
+        ensures name { self.new.name ≡ self.old.name }
+        ensures cause { ForSome (change_written write.now (view_of self.old)) (λ c. IfErr result (ChangeRefused c (view_of self.old).rows)) }
+        ensures absent { change_written write.now (view_of self.old) ≡ None → IfErr result (AbsentRefused (key_written write.now)) }
+        ensures room { 0 < room_at self.old.undo terminal → IfErr result (RefusesWrite write.now self.old.tables) }
+        ensures err { OnErr result (view_of self.new ≡ view_of self.old) }
+    {
+        let segment = Segment::of(terminal);
+        let Ok(_) = self.undo.reserve(segment, 1) else {
+            return Err(Refusal::NoMemory);
+        };
+        let alloc = self.undo.allocator();
+        match oe_change::write(alloc, &mut self.tables, write) {
+            Ok(before) => {
+                self.undo.push(segment, before);
+                Ok(())
+            }
+            Err(refusal) => Err(refusal),
+        }
+    }
+
+    // Takes a lock and writes; where the write is refused, the name is held as it was. Where the name was held before and there is
+    // room for a record, memory is wanted for a place in the tables or for the row before alone.
+    fn take_and_put(
+        &mut self,
+        terminal: Terminal,
+        lock: Lock,
+        write: &Write<'_>,
+    ) -> Result<(), Refusal>
+        requires open { (view_of self.old).is_open terminal ≡ true }
+        requires covered { ForSome (change_written write.now (view_of self.old)) (λ c. IsCovered (view_of self.old) terminal (Take lock.name (mode_of lock.mode)) (Some c)) }
+        ensures free { OnOk result (IsFree (view_of self.old) terminal (Take lock.name (mode_of lock.mode))) }
+        ensures there { OnOk result (IsSome (change_written write.now (view_of self.old))) }
+        ensures accepted { ForSome (change_written write.now (view_of self.old)) (λ c. OnOk result (Accepts c (view_of self.old).rows)) }
+        ensures done { ForSome (change_written write.now (view_of self.old)) (λ c. OnOk result (view_of self.new ≡ made terminal c (locked terminal lock.name (mode_of lock.mode) (view_of self.old)))) }
+        ensures name { self.new.name ≡ self.old.name }
+        ensures cause { ForSome (change_written write.now (view_of self.old)) (λ c. IfErr result (PairRefused (view_of self.old) terminal lock.name (mode_of lock.mode) c)) }
+        ensures absent { change_written write.now (view_of self.old) ≡ None → IfErr result (AbsentPairRefused (view_of self.old) terminal lock.name (mode_of lock.mode) (key_written write.now)) }
+        ensures room { (IsNew system ((view_of self.old).held terminal) (Take lock.name (mode_of lock.mode)) → ⊥) → 0 < room_at self.old.undo terminal → IfErr result (λ e. e ≡ Refusal.NoMemory → WantsRow (change_written write.now (view_of self.old)) self.old.tables) }
+        ensures err { OnErr result (view_of self.new ≡ view_of self.old) }
+    {
+        let before = self.locks.holds(&lock.name, terminal);
+        if let Err(refusal) = self.take(terminal, lock) {
+            return Err(refusal);
+        }
+        if let Err(refusal) = self.put(terminal, write) {
+            self.restore(terminal, lock.name, before);
+            return Err(refusal);
+        }
+        Ok(())
+    }
+
+    /// Writes to one row in its place for a transaction, with its undo record. Where the row lies under a name, that is taken for
+    /// the transaction alone, if it does not hold it so: an order's for its lines, a queue's for its NEW-ORDER rows, none for a
+    /// HISTORY row. A HISTORY row is the transaction's own, and the order's name of a new NEW-ORDER row it holds already.
+    ///
+    /// `NotOpen`: the transaction is not one of this engine. `Busy`: the least terminal that holds the name in a mode that
+    /// conflicts. `NoSuchRow`: the row to be changed or deleted is absent. `NoMemory`: memory was refused for a name that was not
+    /// held, for a record for which the transaction's segment had no room, for an insert that the tables accept, at a key without a
+    /// place, or for the record of a customer or a stock. Else the tables don't accept the insert. After an error nothing has
+    /// changed: a lock that was gained is given back, and a mode that rose has fallen again.
+    pub fn write(&mut self, tx: &Tx, write: &Write<'_>) -> Result<(), Refusal>
+        requires own { IsOpen self.old tx.now → IsOwn tx.now.terminal (suc ((view_of self.old).counts tx.now.terminal)) (governs (key_written write.now)) }
+        requires order { IsOpen self.old tx.now → WriteHoldsOrder ((view_of self.old).held tx.now.terminal) write.now }
+        ensures open { OnOk result (IsOpen self.old tx.now) }
+        ensures free { OnOk result (IsFree (view_of self.old) tx.now.terminal (ask_of_write write.now)) }
+        ensures there { OnOk result (IsSome (change_written write.now (view_of self.old))) }
+        ensures accepted { ForSome (change_written write.now (view_of self.old)) (λ c. OnOk result (Accepts c (view_of self.old).rows)) }
+        ensures done { ForSome (change_written write.now (view_of self.old)) (λ c. OnOk result (view_of self.new ≡ row_done tx.now.terminal (ask_of_write write.now) (Some c) (view_of self.old))) }
+        ensures name { self.new.name ≡ self.old.name }
+        ensures cause { ForSome (change_written write.now (view_of self.old)) (λ c. IfErr result (RowRefused self.old tx.now (ask_of_write write.now) (Some c))) }
+        ensures absent { change_written write.now (view_of self.old) ≡ None → IfErr result (AbsentRowRefused self.old tx.now (key_written write.now)) }
+        ensures room { (IsNew system ((view_of self.old).held tx.now.terminal) (ask_of_write write.now) → ⊥) → 0 < room_at self.old.undo tx.now.terminal → IfErr result (λ e. e ≡ Refusal.NoMemory → WantsRow (change_written write.now (view_of self.old)) self.old.tables) }
+        ensures err { OnErr result (view_of self.new ≡ view_of self.old) }
+    {
+        if !self.is_open(tx) {
+            return Err(Refusal::NotOpen);
+        }
+        let terminal = tx.terminal();
+        match lock_to_write(write.key()) {
+            None => self.put(terminal, write),
+            Some(lock) => self.take_and_put(terminal, lock, write),
+        }
+    }
+}
