@@ -85,11 +85,11 @@ pub(crate) fn set_account(
     let Some(row) = tables.customer(*key) else {
         return Err(Refusal::NoSuchRow(Key::Customer(*key)));
     };
-    let Ok(kept) = Boxed::new(alloc, row.copied()) else {
+    let Ok(customer) = Boxed::new(alloc, row.copied()) else {
         return Err(Refusal::NoMemory);
     };
     tables.set_account(key, account);
-    Ok(Before::UpdatedCustomer(*key, kept))
+    Ok(Before::UpdatedCustomer(*key, customer))
 }
 
 /// Sets the account of a customer with bad credit, with an entry before C_DATA.
@@ -109,11 +109,11 @@ pub(crate) fn set_bad_credit(
     let Some(row) = tables.customer(*key) else {
         return Err(Refusal::NoSuchRow(Key::Customer(*key)));
     };
-    let Ok(kept) = Boxed::new(alloc, row.copied()) else {
+    let Ok(debtor) = Boxed::new(alloc, row.copied()) else {
         return Err(Refusal::NoMemory);
     };
     tables.set_bad_credit(key, account, entry);
-    Ok(Before::UpdatedCustomer(*key, kept))
+    Ok(Before::UpdatedCustomer(*key, debtor))
 }
 
 /// Sets O_CARRIER_ID.
@@ -171,9 +171,9 @@ pub(crate) fn set_counters(
     let Some(row) = tables.stock(*key) else {
         return Err(Refusal::NoSuchRow(Key::Stock(*key)));
     };
-    let Ok(kept) = Boxed::new(alloc, row.copied()) else {
+    let Ok(stock) = Boxed::new(alloc, row.copied()) else {
         return Err(Refusal::NoMemory);
     };
     tables.set_counters(key, counters);
-    Ok(Before::UpdatedStock(*key, kept))
+    Ok(Before::UpdatedStock(*key, stock))
 }

@@ -1,7 +1,20 @@
 -- A row whose columns are tested against their ranges.
-use Rattle.std.specs.Prelude.{Option, None, Some, Result, Ok, Err}
+use Rattle.std.specs.Prelude.{ℕ, Option, None, Some, Result, Ok, Err}
+use Rattle.oe_rows.specs.declared.customers.Account.{Account}
+use Rattle.oe_rows.specs.declared.customers.Customer.{Customer}
+use Rattle.oe_requests.specs.declared.requests.PaymentRequest.{PaymentRequest}
 use Rattle.oe_requests.specs.declared.refusals.Column.{Column}
+use Rattle.oe_model.specs.Payment.{paid_data}
 
 -- the row, or the first of its columns that leaves its range
 abbrev pub checked : {A : Type 0} → (A → Option Column) → A → Result A Column
 checked out x = elim (out x) [ None ↦ Ok x | Some c ↦ Err c ]
+
+-- the row that such columns make, where they stay in their ranges
+abbrev pub row_with : {A B : Type 0} → (A → B) → Result A Column → Result B Column
+row_with f (Ok x) = Ok (f x)
+row_with f (Err c) = Err c
+
+-- the customer c with this account, and with the data after a payment
+abbrev pub paid_with : ℕ → PaymentRequest → Customer → Account → Customer
+paid_with c q x a = record x { account = a; «data» = paid_data c q x.credit x.data }

@@ -1,16 +1,31 @@
-//! The rows after a payment (clause 2.5.2.2).
-ghost use Rattle.std.specs.Prelude.{◌≡◌};
-ghost use Rattle.oe_formulas.specs.Checks.{checked};
+//! The rows after a payment (clause 2.5.2.2), and the columns that it sets.
+ghost use Rattle.std.specs.Prelude.{◌≡◌, ℕ};
+ghost use Rattle.oe_rows.specs.Credit.{credit_entry};
+ghost use Rattle.oe_formulas.specs.Checks.{checked, row_with, paid_with};
+ghost use Rattle.oe_model.specs.Keys.{customer_in};
 ghost use Rattle.oe_model.specs.Payment.{paid_warehouse, paid_warehouse_out, paid_district, paid_district_out, paid_data, paid_customer, paid_customer_out, history_data, history_row, history_key, paid_reply};
 
 use arrayvec::ArrayString;
 use oe_keys::HistoryKey;
 use oe_requests::{Column, PaymentReply, PaymentRequest};
-use oe_rows::{Credit, CreditIds, Customer, District, History, Warehouse, bad_credit_data};
+use oe_rows::{
+    Account, Credit, CreditIds, Customer, District, History, Warehouse, bad_credit_data,
+    credit_entry,
+};
 use oe_values::{
     Balance, Count, CustomerNumber, HistoryPlace, HistoryTerminal, LineAmount, Terminal, Text,
     TransactionNumber, YearToDate,
 };
+
+/// W_YTD after a payment: it rises by the amount. Else W_YTD, which would leave its range.
+pub fn warehouse_ytd_after(row: &Warehouse, request: &PaymentRequest) -> Result<YearToDate, Column>
+    ensures { row_with (λ ytd. record row.now { ytd = ytd }) result ≡ checked paid_warehouse_out (paid_warehouse request.now row.now) }
+{
+    match YearToDate::new(row.ytd.cents() + u64::from(request.amount.get())) {
+        Some(ytd) => Ok(ytd),
+        None => Err(Column::WarehouseYtd),
+    }
+}
 
 /// The warehouse after a payment: W_YTD rises by the amount. Else W_YTD, which would leave its range.
 pub fn warehouse_after_payment(
@@ -19,26 +34,49 @@ pub fn warehouse_after_payment(
 ) -> Result<Warehouse, Column>
     ensures { result ≡ checked paid_warehouse_out (paid_warehouse request.now row.now) }
 {
-    let Some(warehouse_ytd) = YearToDate::new(row.ytd.cents() + u64::from(request.amount.get()))
-    else {
-        return Err(Column::WarehouseYtd);
-    };
-    let mut after = row.copied();
-    after.ytd = warehouse_ytd;
-    Ok(after)
+    match warehouse_ytd_after(row, request) {
+        Ok(warehouse_ytd) => {
+            let mut after = row.copied();
+            after.ytd = warehouse_ytd;
+            Ok(after)
+        }
+        Err(column) => Err(column),
+    }
+}
+
+/// D_YTD after a payment: it rises by the amount. Else D_YTD, which would leave its range.
+pub fn district_ytd_after(row: &District, request: &PaymentRequest) -> Result<YearToDate, Column>
+    ensures { row_with (λ ytd. record row.now { ytd = ytd }) result ≡ checked paid_district_out (paid_district request.now row.now) }
+{
+    match YearToDate::new(row.ytd.cents() + u64::from(request.amount.get())) {
+        Some(ytd) => Ok(ytd),
+        None => Err(Column::DistrictYtd),
+    }
 }
 
 /// The district after a payment: D_YTD rises by the amount. Else D_YTD, which would leave its range.
 pub fn district_after_payment(row: &District, request: &PaymentRequest) -> Result<District, Column>
     ensures { result ≡ checked paid_district_out (paid_district request.now row.now) }
 {
-    let Some(district_ytd) = YearToDate::new(row.ytd.cents() + u64::from(request.amount.get()))
-    else {
-        return Err(Column::DistrictYtd);
+    match district_ytd_after(row, request) {
+        Ok(district_ytd) => {
+            let mut after = row.copied();
+            after.ytd = district_ytd;
+            Ok(after)
+        }
+        Err(column) => Err(column),
+    }
+}
+
+/// What a payment by the customer with that number puts before the data of a bad credit.
+pub fn bad_credit_entry(number: CustomerNumber, request: &PaymentRequest) -> Text<0, 90>
+    ensures { result ≡ credit_entry (record { customer = customer_in request.now.customer_district number; district = request.now.district }) request.now.amount }
+{
+    let ids = CreditIds {
+        customer: request.customer_district.customer(number),
+        district: request.district,
     };
-    let mut after = row.copied();
-    after.ytd = district_ytd;
-    Ok(after)
+    credit_entry(ids, request.amount)
 }
 
 /// C_DATA after a payment by the customer with that number: a bad credit's begins with the payment.
@@ -57,15 +95,10 @@ fn data_after(number: CustomerNumber, row: &Customer, request: &PaymentRequest) 
     }
 }
 
-/// The customer with that number after a payment: C_BALANCE falls and C_YTD_PAYMENT rises by the amount, C_PAYMENT_CNT
-/// rises by 1, and the data of a bad credit begins with the payment. Else the first of these columns that would leave
-/// its range.
-pub fn customer_after_payment(
-    number: CustomerNumber,
-    row: &Customer,
-    request: &PaymentRequest,
-) -> Result<Customer, Column>
-    ensures { result ≡ checked paid_customer_out (paid_customer number request.now row.now) }
+/// A customer's account after a payment: C_BALANCE falls and C_YTD_PAYMENT rises by the amount, C_PAYMENT_CNT rises by 1. Else the
+/// first of these columns that would leave its range.
+pub fn account_after(row: &Customer, request: &PaymentRequest) -> Result<Account, Column>
+    ensures { (c : ℕ) → row_with (paid_with c request.now row.now) result ≡ checked paid_customer_out (paid_customer c request.now row.now) }
 {
     let amount = request.amount.get();
     let Some(balance) = Balance::new(row.account.balance.cents() - i64::from(amount)) else {
@@ -78,12 +111,32 @@ pub fn customer_after_payment(
     let Some(payment_count) = Count::new(row.account.payment_count.get() + 1) else {
         return Err(Column::PaymentCount);
     };
-    let mut after = row.copied();
-    after.account.balance = balance;
-    after.account.ytd_payment = ytd_payment;
-    after.account.payment_count = payment_count;
-    after.data = data_after(number, row, request);
-    Ok(after)
+    Ok(Account {
+        balance,
+        ytd_payment,
+        payment_count,
+        ..row.account
+    })
+}
+
+/// The customer with that number after a payment: the account is that after it, and the data of a bad credit begins with the
+/// payment. Else the first of the account's columns that would leave its range.
+pub fn customer_after_payment(
+    number: CustomerNumber,
+    row: &Customer,
+    request: &PaymentRequest,
+) -> Result<Customer, Column>
+    ensures { result ≡ checked paid_customer_out (paid_customer number request.now row.now) }
+{
+    match account_after(row, request) {
+        Ok(account) => {
+            let mut after = row.copied();
+            after.account = account;
+            after.data = data_after(number, row, request);
+            Ok(after)
+        }
+        Err(column) => Err(column),
+    }
 }
 
 /// H_DATA of a payment: W_NAME, four spaces, D_NAME.
@@ -132,14 +185,21 @@ pub fn history_key(terminal: Terminal, number: TransactionNumber) -> HistoryKey
     }
 }
 
+/// What a payment answers, of the customer with that number before it and the account after it.
+pub fn reply_with_account(number: CustomerNumber, row: &Customer, account: &Account) -> PaymentReply
+    ensures { result ≡ paid_reply number (record row.now { account = account.now }) }
+{
+    PaymentReply {
+        customer: number,
+        last: row.name.last.copied(),
+        credit: row.credit,
+        balance: account.balance,
+    }
+}
+
 /// What a payment answers, of the customer with that number after it.
 pub fn payment_reply(number: CustomerNumber, after: &Customer) -> PaymentReply
     ensures { result ≡ paid_reply number after.now }
 {
-    PaymentReply {
-        customer: number,
-        last: after.name.last.copied(),
-        credit: after.credit,
-        balance: after.account.balance,
-    }
+    reply_with_account(number, after, &after.account)
 }

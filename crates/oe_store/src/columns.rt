@@ -25,8 +25,8 @@ impl Tables {
         ensures rows { (w : Warehouse) → get (rows self.old).warehouses key.now ≡ Some w → rows self.new ≡ changed (UpdateWarehouse key.now (record w { ytd = ytd })) (rows self.old) }
         ensures places { SamePlaces self.old self.new }
     {
-        let row = self.warehouses.row_mut(key).unwrap();
-        row.ytd = ytd;
+        let warehouse = self.warehouses.row_mut(key).unwrap();
+        warehouse.ytd = ytd;
     }
 
     /// Sets D_YTD of the DISTRICT row of a key.
@@ -35,8 +35,8 @@ impl Tables {
         ensures rows { (d : District) → get (rows self.old).districts key.now ≡ Some d → rows self.new ≡ changed (UpdateDistrict key.now (record d { ytd = ytd })) (rows self.old) }
         ensures places { SamePlaces self.old self.new }
     {
-        let row = self.districts.row_mut(key).unwrap();
-        row.ytd = ytd;
+        let district = self.districts.row_mut(key).unwrap();
+        district.ytd = ytd;
     }
 
     /// Sets D_NEXT_O_ID of the DISTRICT row of a key.
@@ -45,8 +45,8 @@ impl Tables {
         ensures rows { (d : District) → get (rows self.old).districts key.now ≡ Some d → rows self.new ≡ changed (UpdateDistrict key.now (record d { next_order = order })) (rows self.old) }
         ensures places { SamePlaces self.old self.new }
     {
-        let row = self.districts.row_mut(key).unwrap();
-        row.next_order = order;
+        let district = self.districts.row_mut(key).unwrap();
+        district.next_order = order;
     }
 
     /// Sets the account of the CUSTOMER row of a key.
@@ -55,8 +55,8 @@ impl Tables {
         ensures rows { (c : Customer) → get (rows self.old).customers key.now ≡ Some c → rows self.new ≡ changed (UpdateCustomer key.now (record c { account = account.now })) (rows self.old) }
         ensures places { SamePlaces self.old self.new }
     {
-        let row = self.customers.row_mut(key).unwrap();
-        row.account = *account;
+        let customer = self.customers.row_mut(key).unwrap();
+        customer.account = *account;
     }
 
     /// Sets the account of the CUSTOMER row of a key, and puts an entry before C_DATA, of which what passes 500 bytes is
@@ -66,9 +66,9 @@ impl Tables {
         ensures rows { (c : Customer) → get (rows self.old).customers key.now ≡ Some c → rows self.new ≡ changed (UpdateCustomer key.now (with_entry account.now entry.now c)) (rows self.old) }
         ensures places { SamePlaces self.old self.new }
     {
-        let row = self.customers.row_mut(key).unwrap();
-        row.account = *account;
-        row.data = entry.before(&row.data);
+        let debtor = self.customers.row_mut(key).unwrap();
+        debtor.account = *account;
+        debtor.data = entry.before(&debtor.data);
     }
 
     /// Sets O_CARRIER_ID of the ORDER row of a key.
@@ -77,8 +77,8 @@ impl Tables {
         ensures rows { (o : Order) → get (rows self.old).orders key.now ≡ Some o → rows self.new ≡ changed (UpdateOrder key.now (record o { carrier = Some carrier })) (rows self.old) }
         ensures places { SamePlaces self.old self.new }
     {
-        let row = self.orders.row_mut(key).unwrap();
-        row.carrier = Some(carrier);
+        let order = self.orders.row_mut(key).unwrap();
+        order.carrier = Some(carrier);
     }
 
     /// Sets OL_DELIVERY_D of the ORDER-LINE row of a key.
@@ -87,8 +87,8 @@ impl Tables {
         ensures rows { (l : OrderLine) → get (rows self.old).order_lines key.now ≡ Some l → rows self.new ≡ changed (UpdateOrderLine key.now (record l { delivery = Some stamp })) (rows self.old) }
         ensures places { SamePlaces self.old self.new }
     {
-        let row = self.order_lines.row_mut(key).unwrap();
-        row.delivery = Some(stamp);
+        let line = self.order_lines.row_mut(key).unwrap();
+        line.delivery = Some(stamp);
     }
 
     /// Sets S_QUANTITY, S_YTD, S_ORDER_CNT and S_REMOTE_CNT of the STOCK row of a key.
@@ -97,10 +97,10 @@ impl Tables {
         ensures rows { (s : Stock) → get (rows self.old).stocks key.now ≡ Some s → rows self.new ≡ changed (UpdateStock key.now (with_counters counters.now s)) (rows self.old) }
         ensures places { SamePlaces self.old self.new }
     {
-        let row = self.stocks.row_mut(key).unwrap();
-        row.quantity = counters.quantity;
-        row.ytd = counters.ytd;
-        row.order_count = counters.order_count;
-        row.remote_count = counters.remote_count;
+        let stock = self.stocks.row_mut(key).unwrap();
+        stock.quantity = counters.quantity;
+        stock.ytd = counters.ytd;
+        stock.order_count = counters.order_count;
+        stock.remote_count = counters.remote_count;
     }
 }
