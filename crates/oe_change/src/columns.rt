@@ -101,9 +101,9 @@ pub(crate) fn set_bad_credit(
     account: &Account,
     entry: &Text<0, 90>,
 ) -> Result<Before, Refusal>
-    ensures applied { IfOk result (λ b. Writes (Write.BadCredit key.now account.now entry.entry) tables.old tables.new (record_of_before b)) }
-    ensures refused { IfErr result (λ e. RefusesWrite (Write.BadCredit key.now account.now entry.entry) tables.old e) }
-    ensures first { IfErr result (λ e. IsFirstOf (Write.BadCredit key.now account.now entry.entry) tables.old e) }
+    ensures applied { IfOk result (λ b. Writes (Write.BadCredit key.now account.now entry.now) tables.old tables.new (record_of_before b)) }
+    ensures refused { IfErr result (λ e. RefusesWrite (Write.BadCredit key.now account.now entry.now) tables.old e) }
+    ensures first { IfErr result (λ e. IsFirstOf (Write.BadCredit key.now account.now entry.now) tables.old e) }
     ensures unchanged { OnErr result (tables.new ≡ tables.old) }
 {
     let Some(row) = tables.customer(*key) else {

@@ -19,7 +19,7 @@ use std::alloc::Global;
 /// `NoSuchRow`: the row that is changed or deleted is absent. `RowExists`: the key of an insert is there. `Reference`: what the
 /// new row refers to is absent (clauses 1.3 and 1.4). `NoMemory`: memory was refused for the new place of an insert that the
 /// tables accept, or for the record of a customer or a stock, which has the row before in memory of its own.
-pub fn write(alloc: Global, tables: &mut Tables, write: &Write<'_>) -> Result<Before, Refusal>
+pub fn write(alloc: Global, tables: &mut Tables, write: &Write) -> Result<Before, Refusal>
     ensures applied { IfOk result (λ b. Writes write.now tables.old tables.new (record_of_before b)) }
 
     // A refusal has its cause, and the tables are as before.

@@ -25,7 +25,7 @@ use oe_values::Terminal;
 impl Engine {
     // Writes to a row, with its undo record. Where there is room for a record, memory is wanted for a place in the tables or
     // for the row before alone.
-    fn put(&mut self, terminal: Terminal, write: &Write<'_>) -> Result<(), Refusal>
+    fn put(&mut self, terminal: Terminal, write: &Write) -> Result<(), Refusal>
         requires open { (view_of self.old).is_open terminal ≡ true }
         requires covered { ForSome (change_written write.now (view_of self.old)) (MayMake ((view_of self.old).held terminal) terminal (suc ((view_of self.old).counts terminal))) }
         ensures there { OnOk result (IsSome (change_written write.now (view_of self.old))) }
@@ -53,12 +53,7 @@ impl Engine {
 
     // Takes a lock and writes; where the write is refused, the name is held as it was. Where the name was held before and there is
     // room for a record, memory is wanted for a place in the tables or for the row before alone.
-    fn take_and_put(
-        &mut self,
-        terminal: Terminal,
-        lock: Lock,
-        write: &Write<'_>,
-    ) -> Result<(), Refusal>
+    fn take_and_put(&mut self, terminal: Terminal, lock: Lock, write: &Write) -> Result<(), Refusal>
         requires open { (view_of self.old).is_open terminal ≡ true }
         requires covered { ForSome (change_written write.now (view_of self.old)) (λ c. IsCovered (view_of self.old) terminal (Take lock.name (mode_of lock.mode)) (Some c)) }
         ensures free { OnOk result (IsFree (view_of self.old) terminal (Take lock.name (mode_of lock.mode))) }
@@ -91,7 +86,7 @@ impl Engine {
     /// held, for a record for which the transaction's segment had no room, for an insert that the tables accept, at a key without a
     /// place, or for the record of a customer or a stock. Else the tables don't accept the insert. After an error nothing has
     /// changed: a lock that was gained is given back, and a mode that rose has fallen again.
-    pub fn write(&mut self, tx: &Tx, write: &Write<'_>) -> Result<(), Refusal>
+    pub fn write(&mut self, tx: &Tx, write: &Write) -> Result<(), Refusal>
         requires own { IsOpen self.old tx.now → IsOwn tx.now.terminal (suc ((view_of self.old).counts tx.now.terminal)) (governs (key_written write.now)) }
         requires order { IsOpen self.old tx.now → WriteHoldsOrder ((view_of self.old).held tx.now.terminal) write.now }
         ensures open { OnOk result (IsOpen self.old tx.now) }

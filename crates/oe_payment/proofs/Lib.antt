@@ -1,2 +1,2 @@
-pub mod CoverFacts
 pub mod StepFacts
+pub mod DeedFacts

@@ -1,76 +1,68 @@
 -- A row that was done, or refused, by the engine is a step of the program.
 use Rattle.std.proofs.Common.{◌≡◌, ℕ, zero, suc, ◌<◌, Option, None, Some, refl, sym, ap, ◌∙◌, subst, inl, inr, ◌⊎◌, arith}
-use Rattle.oe_theory.specs.Machine.{Ask, Stop, Plain, Take, Go, Ready}
+use Rattle.std.specs.Prelude.{IsSome, is_some, option_map}
+use Rattle.std.specs.Option.{option_copied}
+use Rattle.std.specs.Borrow.{Bor}
+use Rattle.oe_theory.specs.Machine.{Ask, Stop, Plain, Take, Go}
 use Rattle.oe_theory.specs.Machine as theory
 use Rattle.oe_theory.specs.Next.{IsNew, GivesWay}
 use Rattle.oe_requests.specs.declared.requests.Request.{Request}
 use Rattle.oe_requests.specs.declared.replies.Reply.{Reply}
+use Rattle.oe_requests.specs.declared.replies.Reply.TheVariants as reply
 use Rattle.oe_requests.specs.declared.refusals.Refusal.{Refusal}
 use Rattle.oe_requests.specs.declared.refusals.Refusal.TheVariants.{BadLine, NoSuchRow, RowExists, Overflow, Reference, KeyColumn, Busy, UndoFull, NoMemory, NotOpen, AlreadyOpen, InvalidItem, NoCustomer, TooOld, Future, NotQuiet, NotPinned}
 use Rattle.oe_keys.specs.declared.locks.Name.{Name}
 use Rattle.oe_model.specs.Changes.{Change}
 use Rattle.oe_requests.specs.declared.requests.PaymentRequest.{PaymentRequest}
 use Rattle.oe_requests.specs.declared.requests.Request.TheVariants as request
-use Rattle.oe_model.specs.Rows.{Rows}
-use Rattle.oe_model.specs.Effects.{Doing}
-use Rattle.oe_model.specs.Places.{Place, PaymentPlace, InPayment}
-use Rattle.oe_model.specs.Payment.{payment_ask, payment_act}
+use Rattle.oe_model.specs.Meets.{Accepts}
+use Rattle.oe_model.specs.Places.{Place, PaymentPlace, PaymentWarehouse, PaymentDistrict, PaymentCustomer, PaymentHistory, PaymentEnd, InPayment}
 use Rattle.oe_model.specs.System.{system, yields}
+use Rattle.oe_records.specs.declared.writes.Write.{Write}
 use Rattle.oe_undo.specs.Undo.{room_at}
 use Rattle.oe_engine.specs.View.{Stored, view_of, Handle, IsOpen}
-use Rattle.oe_engine.specs.Calls.{ask_of, IsFree, row_done, AcceptsAll, RowRefused, WantsPlace}
-use Rattle.oe_engine.specs.declared.rows.Lock.{Lock}
-use Rattle.oe_engine.specs.Programs.{ask_here, act_here, GoesOn, IsReady, WantsMemory, IsRefused}
+use Rattle.oe_engine.specs.Calls.{IsFree, row_done, RowRefused}
+use Rattle.oe_engine.specs.Writes.{ask_of_write, WantsRow}
+use Rattle.oe_engine.specs.Programs.{ask_here, act_here, GoesOn, IsReady, payment_reply, WantsMemory, IsRefused}
+use Rattle.oe_payment.specs.Deeds.{IsDeed}
 
--- what the row at a place does, read off the engine: t, k and r are the terminal, the number and the rows
-asks_here : (s : Stored) (x : Handle) (q : PaymentRequest) (p : PaymentPlace) (r : Rows) (a : Ask Name Refusal) → r ≡ (view_of s).rows
-    → payment_ask q p r ≡ a → ask_here s x (request.Payment q) (InPayment q p) ≡ a
-asks_here s x q p r a rows asks = subst (λ v. payment_ask q p v ≡ a) rows asks
+-- a payment at its end has its reply
+pub is_told : {A B : Type 0} (f : A → B) (o : Option (Bor A)) (p : Option B) → option_map f (option_copied o) ≡ p → IsSome o → IsSome p
+is_told f None p e h = cc
+is_told f (Some x) p e h = sym (ap is_some e)
 
-does_here : (s : Stored) (x : Handle) (q : PaymentRequest) (p : PaymentPlace) (t k : ℕ) (r : Rows) (d : Doing)
-    → t ≡ x.terminal → k ≡ suc ((view_of s).counts x.terminal) → r ≡ (view_of s).rows
-    → payment_act t k q p r ≡ d → act_here s x (request.Payment q) (InPayment q p) ≡ d
-does_here s x q p t k r d terminal number rows does =
-    subst (λ u. payment_act u (suc ((view_of s).counts x.terminal)) q p (view_of s).rows ≡ d) terminal
-    (subst (λ n. payment_act t n q p (view_of s).rows ≡ d) number
-    (subst (λ v. payment_act t k q p v ≡ d) rows does))
+pub is_ready : (s : Stored) (x : Handle) (q : PaymentRequest) (p : PaymentPlace) → IsOpen s x → IsSome (payment_reply p)
+    → (y : Reply) × IsReady s x (request.Payment q) (InPayment q p) y
+is_ready s x q (PaymentEnd y) o h = (reply.Payment y, record { is_open = o; free = tt; does = refl })
+is_ready s x q PaymentWarehouse o h = let no : ⊥ = cc in absurd no
+is_ready s x q (PaymentDistrict w) o h = let no : ⊥ = cc in absurd no
+is_ready s x q (PaymentCustomer w d) o h = let no : ⊥ = cc in absurd no
+is_ready s x q (PaymentHistory d y) o h = let no : ⊥ = cc in absurd no
 
-pub is_ready : (s : Stored) (x : Handle) (q : PaymentRequest) (p : PaymentPlace) (y : Reply) (t k : ℕ) (r : Rows)
-    → t ≡ x.terminal → k ≡ suc ((view_of s).counts x.terminal) → r ≡ (view_of s).rows
-    → payment_ask q p r ≡ Plain → payment_act t k q p r ≡ Ready y → IsOpen s x → IsReady s x (request.Payment q) (InPayment q p) y
-is_ready s x q p y t k r terminal number rows asks does o =
+-- a deed that was done, and one that was refused
+pub goes_on : (s s' : Stored) (x : Handle) (q : PaymentRequest) (p p' : PaymentPlace) (w : Write) (c : Change) → IsDeed q x s p w c p'
+    → IsOpen s x → IsFree (view_of s) x.terminal (ask_of_write w) → Accepts c (view_of s).rows
+    → view_of s' ≡ row_done x.terminal (ask_of_write w) (Some c) (view_of s) → s'.name ≡ s.name
+    → GoesOn s x (request.Payment q) (InPayment q p) s' (InPayment q p')
+goes_on s s' x q p p' w c d o free accepted done same =
     record {
       is_open = o;
-      free = subst (λ b. IsFree (view_of s) x.terminal b) (sym (asks_here s x q p r Plain rows asks)) tt;
-      does = does_here s x q p t k r (Ready y) terminal number rows does;
-    }
-
-pub goes_on : (s s' : Stored) (x : Handle) (q : PaymentRequest) (p : PaymentPlace) (p' : Place) (l : Option Lock) (c : Change) (t k : ℕ) (r : Rows)
-    → t ≡ x.terminal → k ≡ suc ((view_of s).counts x.terminal) → r ≡ (view_of s).rows
-    → payment_ask q p r ≡ ask_of l → payment_act t k q p r ≡ Go (Some c) p'
-    → IsOpen s x → IsFree (view_of s) x.terminal (ask_of l) → AcceptsAll (Some c) (view_of s).rows
-    → view_of s' ≡ row_done x.terminal (ask_of l) (Some c) (view_of s) → s'.name ≡ s.name
-    → GoesOn s x (request.Payment q) (InPayment q p) s' p'
-goes_on s s' x q p p' l c t k r terminal number rows asks does o free accepted done same =
-    let here : ask_here s x (request.Payment q) (InPayment q p) ≡ ask_of l = asks_here s x q p r (ask_of l) rows asks in
-    record {
-      is_open = o;
-      free = subst (λ b. IsFree (view_of s) x.terminal b) (sym here) free;
+      free = subst (λ b. IsFree (view_of s) x.terminal b) (sym d.asks) free;
       change = Some c;
-      does = does_here s x q p t k r (Go (Some c) p') terminal number rows does;
+      does = d.does;
       accepted = accepted;
-      done = done ∙ ap (λ b. row_done x.terminal b (Some c) (view_of s)) (sym here);
+      done = done ∙ ap (λ b. row_done x.terminal b (Some c) (view_of s)) (sym d.asks);
       name = same;
     }
 
 -- where a row with a change is told that memory is wanted, it is so
 module _ (s : Stored) (x : Handle) (c : Change) where
   abbrev pub IsRoom : Ask Name Refusal → Refusal → Type 0
-  IsRoom a e = (IsNew system ((view_of s).held x.terminal) a → ⊥) → 0 < room_at s.undo x.terminal → e ≡ NoMemory → WantsPlace (Some c) s.tables
+  IsRoom a e = (IsNew system ((view_of s).held x.terminal) a → ⊥) → 0 < room_at s.undo x.terminal → e ≡ NoMemory → WantsRow (Some c) s.tables
 
   by_room : IsRoom Plain NoMemory → (n : ℕ) → room_at s.undo x.terminal ≡ n → WantsMemory s x c
   by_room room zero e = inl e
-  by_room room (suc n) e = inr (inl (room (λ h. h) (subst (λ k. 0 < k) (sym e) (omega arith)) refl))
+  by_room room (suc n) e = inr (room (λ h. h) (subst (λ k. 0 < k) (sym e) (omega arith)) refl)
 
   wants : (a : Ask Name Refusal) → IsRoom a NoMemory → IsNew system ((view_of s).held x.terminal) a ⊎ WantsMemory s x c
   wants (Stop e) room = inr (by_room (λ h. room (λ k. k)) (room_at s.undo x.terminal) refl)
@@ -106,11 +98,9 @@ refused_by s x q p p' c does (Future m) room (o, f, why) = (o, inr (inr (f, c, p
 refused_by s x q p p' c does (NotQuiet n) room (o, f, why) = (o, inr (inr (f, c, p', does, why)))
 refused_by s x q p p' c does (NotPinned n) room (o, f, why) = (o, inr (inr (f, c, p', does, why)))
 
-pub is_refused : (s : Stored) (x : Handle) (q : PaymentRequest) (p : PaymentPlace) (p' : Place) (l : Option Lock) (c : Change) (t k : ℕ) (r : Rows)
-    → t ≡ x.terminal → k ≡ suc ((view_of s).counts x.terminal) → r ≡ (view_of s).rows
-    → payment_ask q p r ≡ ask_of l → payment_act t k q p r ≡ Go (Some c) p'
-    → (e : Refusal) → IsRoom s x c (ask_of l) e → RowRefused s x (ask_of l) (Some c) e → IsRefused s x (request.Payment q) (InPayment q p) e
-is_refused s x q p p' l c t k r terminal number rows asks does e room h =
-    refused_by s x (request.Payment q) (InPayment q p) p' c (does_here s x q p t k r (Go (Some c) p') terminal number rows does) e
-    (subst (λ b. IsRoom s x c b e) (sym (asks_here s x q p r (ask_of l) rows asks)) room)
-    (subst (λ b. RowRefused s x b (Some c) e) (sym (asks_here s x q p r (ask_of l) rows asks)) h)
+pub is_refused : (s : Stored) (x : Handle) (q : PaymentRequest) (p p' : PaymentPlace) (w : Write) (c : Change) → IsDeed q x s p w c p'
+    → (e : Refusal) → IsRoom s x c (ask_of_write w) e → RowRefused s x (ask_of_write w) (Some c) e → IsRefused s x (request.Payment q) (InPayment q p) e
+is_refused s x q p p' w c d e room h =
+    refused_by s x (request.Payment q) (InPayment q p) (InPayment q p') c d.does e
+    (subst (λ b. IsRoom s x c b e) (sym d.asks) room)
+    (subst (λ b. RowRefused s x b (Some c) e) (sym d.asks) h)

@@ -1,86 +1,107 @@
-//! What each row of a payment asks for and does (clause 2.5.2.2).
-ghost use Rattle.std.specs.Prelude.{◌≡◌, ℕ};
-ghost use Rattle.oe_store.specs.Stored.{rows};
-ghost use Rattle.oe_model.specs.Keys.{warehouse_of_district, customer_in};
-ghost use Rattle.oe_model.specs.Rows.{Rows};
-ghost use Rattle.oe_model.specs.Places.{PaymentWarehouse, PaymentDistrict, PaymentCustomer, PaymentHistory};
+//! The rows of a payment (clause 2.5.2.2): each takes its lock, writes, and answers where the payment then stands.
+ghost use Rattle.std.specs.Prelude.{◌≡◌, suc, true, None};
+ghost use Rattle.oe_theory.specs.Machine.{Take, Fail, Exclusive};
+ghost use Rattle.oe_requests.specs.declared.requests.Request.{Request};
+ghost use Rattle.oe_model.specs.Changes.{Change};
+ghost use Rattle.oe_model.specs.Locks.{governs};
+ghost use Rattle.oe_model.specs.Places.{PaymentPlace, PaymentWarehouse, PaymentDistrict, PaymentCustomer, PaymentHistory, InPayment};
+ghost use Rattle.oe_records.specs.Writes.{key_written};
+ghost use Rattle.oe_engine.specs.View.{view_of, IsOpen};
+ghost use Rattle.oe_engine.specs.Covered.{IsOwn};
+ghost use Rattle.oe_engine.specs.Writes.{WriteHoldsOrder};
+ghost use Rattle.oe_engine.specs.Programs.{ask_here, act_here, payment_reply};
 ghost use Rattle.oe_payment.specs.Program.{place_in, IsByNumber};
-ghost use Rattle.oe_payment.specs.Deeds.{IsDeed};
+ghost use Rattle.oe_payment.specs.Deeds.{is_failure, IsRefusedHere, Does, IsDeed};
 
 use crate::places::Place;
-use oe_engine::Lock;
+use oe_engine::{Engine, Lock, Tx};
 use oe_formulas::payments::{
-    customer_after_payment, district_after_payment, history_data, history_key, history_row,
-    payment_reply, warehouse_after_payment,
+    account_after, bad_credit_entry, district_ytd_after, history_data, history_key, history_row,
+    reply_with_account, warehouse_ytd_after,
 };
-use oe_keys::{CustomerKey, Key, Mode, Name, WarehouseKey};
-use oe_records::{Boxed, Change};
+use oe_keys::{Key, Mode, Name};
+use oe_records::Write;
 use oe_requests::{CustomerChoice, PaymentReply, PaymentRequest, Refusal};
-use oe_store::Tables;
-use oe_values::{CustomerNumber, Terminal, Text, TransactionNumber};
-use std::alloc::Global;
+use oe_rows::Credit;
+use oe_values::{CustomerNumber, Text};
 
-/// What a row asks for and does.
-#[derive(Drop, Debug)]
-pub enum Deed {
-    /// It stops before its lock, since there is no such customer.
-    Stop,
-    /// It asks for a lock and fails.
-    Fail(Lock, Refusal),
-    /// It asks for a lock, and memory for its change was refused: of the rows only CUSTOMER's takes any here.
-    LacksMemory(Lock),
-    /// It may ask for a lock, makes a change, and the next row is at this place.
-    Go(Option<Lock>, Change, Place),
-    /// All rows are done.
-    Ready,
-}
-
-// The lock of a name that a row changes.
-fn exclusive(name: Name) -> Lock
-    ensures { result ≡ record { name = name; mode = Mode.Exclusive } }
+// Why a row fails: for its own reason, or since another holds the name that it asks for.
+#[inline(never)]
+fn failure(engine: &Engine, tx: &Tx, name: Name, refusal: &Refusal) -> Refusal
+    requires open { IsOpen engine.now tx.now }
+    requires failure { is_failure refusal.now ≡ true }
+    ensures { (q : PaymentRequest) (p : PaymentPlace) → ask_here engine.now tx.now (Request.Payment q) (InPayment q p) ≡ Take name Exclusive → act_here engine.now tx.now (Request.Payment q) (InPayment q p) ≡ Fail refusal.now → IsRefusedHere q tx.now engine.now p result }
 {
-    Lock {
+    let lock = Lock {
         name,
         mode: Mode::Exclusive,
+    };
+    match engine.is_free(tx, lock) {
+        Ok(()) => *refusal,
+        Err(busy) => busy,
+    }
+}
+
+// Writes a row, after which the payment stands at a place.
+fn go(engine: &mut Engine, tx: &Tx, write: &Write, place: Place) -> Result<Place, Refusal>
+    requires open { IsOpen engine.old tx.now }
+    requires own { IsOwn tx.now.terminal (suc ((view_of engine.old).counts tx.now.terminal)) (governs (key_written write.now)) }
+    requires order { WriteHoldsOrder ((view_of engine.old).held tx.now.terminal) write.now }
+    ensures { (q : PaymentRequest) (p : PaymentPlace) (c : Change) → IsDeed q tx.now engine.old p write.now c (place_in place) → Does q tx.now engine.old p result engine.new }
+{
+    match engine.write(tx, write) {
+        Ok(()) => Ok(place),
+        Err(refusal) => Err(refusal),
     }
 }
 
 // W_YTD rises by the amount.
 #[inline(never)]
-fn pay_warehouse(request: &PaymentRequest, key: &WarehouseKey, tables: &Tables) -> Deed
-    requires { key.now ≡ warehouse_of_district request.now.district }
-    ensures { (t k : ℕ) → IsDeed t k request.now PaymentWarehouse (rows tables.now) result }
+fn pay_warehouse(request: &PaymentRequest, engine: &mut Engine, tx: &Tx) -> Result<Place, Refusal>
+    requires { IsOpen engine.old tx.now }
+    ensures { Does request.now tx.now engine.old PaymentWarehouse result engine.new }
 {
-    let lock = exclusive(Name::Warehouse(*key));
-    let Some(row) = tables.warehouse(*key) else {
-        return Deed::Fail(lock, Refusal::NoSuchRow(Key::Warehouse(*key)));
+    let key = &request.district.warehouse_key();
+    let Some(row) = engine.tables().warehouse(*key) else {
+        let absent = Refusal::NoSuchRow(Key::Warehouse(*key));
+        return Err(failure(engine, tx, Name::Warehouse(*key), &absent));
     };
-    match warehouse_after_payment(row, request) {
-        Err(column) => Deed::Fail(lock, Refusal::Overflow(column)),
-        Ok(after) => {
-            let place = Place::District(row.name.copied());
-            Deed::Go(Some(lock), Change::UpdateWarehouse(*key, after), place)
+    let ytd = match warehouse_ytd_after(row, request) {
+        Ok(ytd) => ytd,
+        Err(column) => {
+            let overflow = Refusal::Overflow(column);
+            return Err(failure(engine, tx, Name::Warehouse(*key), &overflow));
         }
-    }
+    };
+    let place = Place::District(row.name.copied());
+    go(engine, tx, &Write::WarehouseYtd(*key, ytd), place)
 }
 
 // D_YTD rises by the amount.
 #[inline(never)]
-fn pay_district(request: &PaymentRequest, warehouse: &Text<0, 10>, tables: &Tables) -> Deed
-    ensures { (t k : ℕ) → IsDeed t k request.now (PaymentDistrict warehouse.now) (rows tables.now) result }
+fn pay_district(
+    request: &PaymentRequest,
+    warehouse: &Text<0, 10>,
+    engine: &mut Engine,
+    tx: &Tx,
+) -> Result<Place, Refusal>
+    requires { IsOpen engine.old tx.now }
+    ensures { Does request.now tx.now engine.old (PaymentDistrict warehouse.now) result engine.new }
 {
     let key = &request.district;
-    let lock = exclusive(Name::District(*key));
-    let Some(row) = tables.district(*key) else {
-        return Deed::Fail(lock, Refusal::NoSuchRow(Key::District(*key)));
+    let Some(row) = engine.tables().district(*key) else {
+        let absent = Refusal::NoSuchRow(Key::District(*key));
+        return Err(failure(engine, tx, Name::District(*key), &absent));
     };
-    match district_after_payment(row, request) {
-        Err(column) => Deed::Fail(lock, Refusal::Overflow(column)),
-        Ok(after) => {
-            let place = Place::Customer(warehouse.copied(), row.name.copied());
-            Deed::Go(Some(lock), Change::UpdateDistrict(*key, after), place)
+    let ytd = match district_ytd_after(row, request) {
+        Ok(ytd) => ytd,
+        Err(column) => {
+            let overflow = Refusal::Overflow(column);
+            return Err(failure(engine, tx, Name::District(*key), &overflow));
         }
-    }
+    };
+    let place = Place::Customer(warehouse.copied(), row.name.copied());
+    go(engine, tx, &Write::DistrictYtd(*key, ytd), place)
 }
 
 // The number of the customer that is meant.
@@ -98,30 +119,35 @@ fn number_of(choice: &CustomerChoice) -> CustomerNumber
 // payment.
 #[inline(never)]
 fn pay_customer(
-    alloc: Global,
     request: &PaymentRequest,
-    key: &CustomerKey,
     warehouse: &Text<0, 10>,
     district: &Text<0, 10>,
-    tables: &Tables,
-) -> Deed
-    requires customer { request.now.customer ≡ CustomerChoice.Number key.now.customer }
-    requires key { key.now ≡ customer_in request.now.customer_district key.now.customer }
-    ensures { (t k : ℕ) → IsDeed t k request.now (PaymentCustomer warehouse.now district.now) (rows tables.now) result }
+    engine: &mut Engine,
+    tx: &Tx,
+) -> Result<Place, Refusal>
+    requires open { IsOpen engine.old tx.now }
+    requires customer { IsByNumber request.now.customer }
+    ensures { Does request.now tx.now engine.old (PaymentCustomer warehouse.now district.now) result engine.new }
 {
-    let Some(row) = tables.customer(*key) else {
-        return Deed::Stop;
+    let number = number_of(&request.customer);
+    let key = &request.customer_district.customer(number);
+    let Some(row) = engine.tables().customer(*key) else {
+        return Err(Refusal::NoCustomer);
     };
-    let lock = exclusive(Name::Customer(*key));
-    match customer_after_payment(key.customer, row, request) {
-        Err(column) => Deed::Fail(lock, Refusal::Overflow(column)),
-        Ok(after) => {
-            let reply = payment_reply(key.customer, &after);
-            let place = Place::History(history_data(warehouse, district), reply);
-            match Boxed::new(alloc, after) {
-                Ok(boxed) => Deed::Go(Some(lock), Change::UpdateCustomer(*key, boxed), place),
-                Err(_) => Deed::LacksMemory(lock),
-            }
+    let account = match account_after(row, request) {
+        Ok(account) => account,
+        Err(column) => {
+            let overflow = Refusal::Overflow(column);
+            return Err(failure(engine, tx, Name::Customer(*key), &overflow));
+        }
+    };
+    let reply = reply_with_account(number, row, &account);
+    let place = Place::History(history_data(warehouse, district), reply);
+    match row.credit {
+        Credit::Good => go(engine, tx, &Write::CustomerAccount(*key, account), place),
+        Credit::Bad => {
+            let entry = bad_credit_entry(number, request);
+            go(engine, tx, &Write::BadCredit(*key, account, entry), place)
         }
     }
 }
@@ -132,43 +158,38 @@ fn note(
     request: &PaymentRequest,
     joined: &Text<0, 24>,
     reply: &PaymentReply,
-    terminal: Terminal,
-    number: TransactionNumber,
-) -> Deed
-    ensures { (r : Rows) → IsDeed terminal number request.now (PaymentHistory joined.now reply.now) r result }
+    engine: &mut Engine,
+    tx: &Tx,
+) -> Result<Place, Refusal>
+    requires { IsOpen engine.old tx.now }
+    ensures { Does request.now tx.now engine.old (PaymentHistory joined.now reply.now) result engine.new }
 {
-    let key = history_key(terminal, number);
+    let key = history_key(tx.terminal(), engine.number(tx));
     let row = history_row(reply.customer, joined, request);
-    Deed::Go(
-        None,
-        Change::InsertHistory(key, row),
-        Place::End(reply.copied()),
-    )
+    let place = Place::End(reply.copied());
+    go(engine, tx, &Write::InsertHistory(key, row), place)
 }
 
-/// What the row at a place asks for and does, in transaction `number` of a terminal. It changes nothing. The row of CUSTOMER
-/// takes memory for the customer after it.
-pub fn row_of(
-    alloc: Global,
+/// Carries out the row at a place before the end, and answers the place after it. A refused row leaves the engine standing for what it
+/// did.
+pub fn carry_out(
     request: &PaymentRequest,
     place: &Place,
-    terminal: Terminal,
-    number: TransactionNumber,
-    tables: &Tables,
-) -> Deed
-    requires { IsByNumber request.now.customer }
-    ensures { IsDeed terminal number request.now (place_in place.now) (rows tables.now) result }
+    engine: &mut Engine,
+    tx: &Tx,
+) -> Result<Place, Refusal>
+    requires open { IsOpen engine.old tx.now }
+    requires customer { IsByNumber request.now.customer }
+    requires underway { payment_reply (place_in place.now) ≡ None }
+    ensures { Does request.now tx.now engine.old (place_in place.now) result engine.new }
 {
     match place {
-        Place::Warehouse => pay_warehouse(request, &request.district.warehouse_key(), tables),
-        Place::District(warehouse) => pay_district(request, warehouse, tables),
+        Place::Warehouse => pay_warehouse(request, engine, tx),
+        Place::District(warehouse) => pay_district(request, warehouse, engine, tx),
         Place::Customer(warehouse, district) => {
-            let key = request
-                .customer_district
-                .customer(number_of(&request.customer));
-            pay_customer(alloc, request, &key, warehouse, district, tables)
+            pay_customer(request, warehouse, district, engine, tx)
         }
-        Place::History(joined, reply) => note(request, joined, reply, terminal, number),
-        Place::End(_) => Deed::Ready,
+        Place::History(joined, reply) => note(request, joined, reply, engine, tx),
+        Place::End(_) => unreachable!(),
     }
 }

@@ -7,7 +7,7 @@ ghost use Rattle.oe_model.specs.Places.{InPayment, PaymentWarehouse};
 ghost use Rattle.oe_engine.specs.Programs.{Progresses, payment_reply};
 ghost use Rattle.oe_payment.specs.Program.{IsByNumber};
 
-use crate::deeds::{Deed, row_of};
+use crate::deeds::carry_out;
 use crate::places::Place;
 use oe_engine::{Engine, Progress, Tx};
 use oe_requests::{PaymentReply, PaymentRequest, Refusal};
@@ -68,33 +68,15 @@ impl Program {
         if !engine.is_open(tx) {
             return Progress::Refused(Refusal::NotOpen);
         }
-        let number = engine.number(tx);
-        let terminal = tx.terminal();
-        match row_of(
-            engine.allocator(),
-            request,
-            &self.place,
-            terminal,
-            number,
-            engine.tables(),
-        ) {
-            Deed::Stop => Progress::Refused(Refusal::NoCustomer),
-            Deed::Ready => Progress::Ready,
-            Deed::Fail(lock, refusal) => match engine.is_free(tx, lock) {
-                Ok(()) => Progress::Refused(refusal),
-                Err(busy) => Progress::Refused(busy),
-            },
-            Deed::LacksMemory(lock) => match engine.is_free(tx, lock) {
-                Ok(()) => Progress::Refused(Refusal::NoMemory),
-                Err(refusal) => Progress::Refused(refusal),
-            },
-            Deed::Go(lock, change, place) => match engine.row(tx, lock, Some(change)) {
-                Ok(()) => {
-                    self.place = place;
-                    Progress::More
-                }
-                Err(refusal) => Progress::Refused(refusal),
-            },
+        if self.reply().is_some() {
+            return Progress::Ready;
+        }
+        match carry_out(request, &self.place, engine, tx) {
+            Ok(place) => {
+                self.place = place;
+                Progress::More
+            }
+            Err(refusal) => Progress::Refused(refusal),
         }
     }
 }

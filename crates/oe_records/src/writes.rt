@@ -14,10 +14,10 @@ use oe_values::stamps::Stamp;
 use oe_values::texts::Text;
 
 /// What a transaction writes to one row (clauses 2.4.2, 2.5.2 and 2.7.4): under its key the columns that an update sets, the
-/// row that is inserted, or nothing but the key of a row that is deleted. Keys and columns go by value, rows and the long
-/// text by reference, so that it is 64 bytes long at most.
-#[derive(Clone, Copy)]
-pub enum Write<'a> {
+/// row that is inserted, or nothing but the key of a row that is deleted. An update has no column that it does not set, so that
+/// it is short; it is passed by reference.
+#[derive(Drop)]
+pub enum Write {
     /// W_YTD.
     WarehouseYtd(WarehouseKey, YearToDate),
     /// D_YTD.
@@ -27,21 +27,21 @@ pub enum Write<'a> {
     /// The account of a customer.
     CustomerAccount(CustomerKey, Account),
     /// The same of one with bad credit, with the entry that goes before C_DATA.
-    BadCredit(CustomerKey, Account, &'a Text<0, 90>),
+    BadCredit(CustomerKey, Account, Text<0, 90>),
     /// S_QUANTITY, S_YTD, S_ORDER_CNT and S_REMOTE_CNT.
     StockCounters(StockKey, StockCounters),
     /// O_CARRIER_ID.
     Carrier(OrderKey, Carrier),
     /// OL_DELIVERY_D.
     DeliveryDate(OrderLineKey, Stamp),
-    InsertHistory(HistoryKey, &'a History),
+    InsertHistory(HistoryKey, History),
     InsertNewOrder(NewOrderKey),
-    InsertOrder(OrderKey, &'a Order),
-    InsertOrderLine(OrderLineKey, &'a OrderLine),
+    InsertOrder(OrderKey, Order),
+    InsertOrderLine(OrderLineKey, OrderLine),
     DeleteNewOrder(NewOrderKey),
 }
 
-impl Write<'_> {
+impl Write {
     ghost use Rattle.oe_records.specs.Writes.{key_written};
 
     /// The key of the row that it changes.
