@@ -1,6 +1,6 @@
 -- What a write asks of its transaction, and why one is refused.
-use Rattle.std.specs.Prelude.{◌≡◌, ◌⊎◌, ℕ, true, Option, Some, IsSome, IfSome}
-use Rattle.std.specs.Option.{IsSomeAnd, ForSome}
+use Rattle.std.specs.Prelude.{◌≡◌, ◌⊎◌, ℕ, true, Option, Some, IsSome}
+use Rattle.std.specs.Option.{IsSomeAnd}
 use Rattle.oe_theory.specs.Machine.{Ask, Take}
 use Rattle.oe_theory.specs.Machine as theory
 use Rattle.oe_keys.specs.declared.keys.Key.{Key}

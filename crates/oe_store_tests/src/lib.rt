@@ -11,3 +11,5 @@ mod changes;
 mod fixtures;
 #[cfg(test)]
 mod undo;
+#[cfg(test)]
+mod writes;
