@@ -24,7 +24,7 @@ use Rattle.oe_engine.specs.View as engine
 use Rattle.oe_engine.specs.Calls.{begun, back_at, rolled_back}
 use Rattle.oe_core.specs.Core.{Stored, IsOf, place_of, in_place, work_of, work_at, slot_of, open_at, store_with, store_of, world_of, IsSound, IsWork, Works, IsOrderly, Moves}
 use Rattle.oe_core.specs.Steps.{HasProgram}
-use Rattle.oe_core.specs.declared.slots.Savepoint.{Savepoint}
+use Rattle.oe_core.specs.declared.slots.Mark.{Mark}
 use Rattle.oe_core.specs.declared.slots.Work.{Work}
 use Rattle.oe_core.specs.declared.programs.Program.{Program}
 use Rattle.oe_core.proofs.PlaceFacts.{place_set, kept_place, get_place, lent_place, set_idle_place}
@@ -260,20 +260,20 @@ pub open_still : (e e' : engine.Stored) (x : Handle) → (view_of e').is_open �
 open_still e e' x b name h = record { engine = h.engine ∙ sym name; terminal = ap (λ (z : ℕ → Bool). z x.terminal) b ∙ h.terminal }
 
 -- and its work is its own at other rows of its program
-pub work_still : (e e' : engine.Stored) (t : ℕ) (x : Handle) (w : Work) (p : Program) (m : Savepoint) → IsWork e t x w → (view_of e').is_open ≡ (view_of e).is_open → e'.name ≡ e.name
+pub work_still : (e e' : engine.Stored) (t : ℕ) (x : Handle) (w : Work) (p : Program) (m : Mark) → IsWork e t x w → (view_of e').is_open ≡ (view_of e).is_open → e'.name ≡ e.name
     → IsOf w.request p → IsOf w.request m.program → IsWork e' t x (record w { program = p; mark = m })
 work_still e e' t x w p m own b name q r =
     record { is_open = open_still e e' x b name own.is_open; terminal = own.terminal; program = q; mark = r }
 
-pub saved : {s : Stored} {t : ℕ} {x : Handle} {w : Work} → HasOpen s t x w → (m : Savepoint) (k : ℕ) (ws : List (Option Work)) → m ≡ record { program = w.program; records = k }
+pub saved : {s : Stored} {t : ℕ} {x : Handle} {w : Work} → HasOpen s t x w → (m : Mark) (k : ℕ) (ws : List (Option Work)) → m ≡ record { program = w.program; records = k }
     → (IsOpen s.engine x → k ≡ length ((view_of s.engine).undo.active x.terminal)) → ws ≡ slice_set s.works t (Some (record w { mark = m }))
     → Moves s (Save t) Saved (record { engine = s.engine; txs = s.txs; works = ws })
 saved {s} {t} {x} {w} h m k ws same count q =
     let v = view_of s.engine in
     let own = own_work h in
     let records : m.records ≡ length (v.undo.active t) =
-    ap (λ (z : Savepoint). z.records) same ∙ (count own.is_open ∙ ap (λ (z : ℕ). length (v.undo.active z)) own.terminal) in
-    let stands : m.program ≡ w.program = ap (λ (z : Savepoint). z.program) same in
+    ap (λ (z : Mark). z.records) same ∙ (count own.is_open ∙ ap (λ (z : ℕ). length (v.undo.active z)) own.terminal) in
+    let stands : m.program ≡ w.program = ap (λ (z : Mark). z.program) same in
     worked h (Save t) Saved (record w { mark = m }) _ s.engine v
     (the_steps.saves (store_of s) t (slot_of v t w) (standing s h.orderly) (slot_here h))
     refl refl (record { counts = λ u n. refl; held = λ u n. refl; is_open = λ u n. refl })
@@ -345,11 +345,11 @@ begun_here s o t l h q g x w e' xs ws known counted shut idle b name tx r c p m 
     let v = view_of s.engine in
     let low : t < 65 = omega (arith, h) in
     let free : v.held t ≡ (λ _. None) = idle shut in
-    let stands : w.mark.program ≡ w.program = ap (λ (z : Savepoint). z.program) m in
+    let stands : w.mark.program ≡ w.program = ap (λ (z : Mark). z.program) m in
     let of_it : IsOf w.request w.program = subst (λ (z : Request). IsOf z w.program) (sym r) c in
     let place : place_of w.request w.program ≡ start_of q = ap (λ (z : Request). place_of z w.program) r ∙ p in
     let mark : place_of w.request w.mark.program ≡ start_of q = ap (place_of w.request) stands ∙ place in
-    let records : w.mark.records ≡ 0 = ap (λ (z : Savepoint). z.records) m in
+    let records : w.mark.records ≡ 0 = ap (λ (z : Mark). z.records) m in
     replaced s o (Begin t q) Begun t low (Some x) (Some w) (Some (first_slot system (store_of s) t q)) e' (begun t v)
     (the_steps.begins (store_of s) t q (standing s o)
     (record { terminal = (l, below_limit t low); valid = valid q g; known = known; closed = is_shut s o t shut; counted = counted }))

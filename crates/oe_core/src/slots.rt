@@ -5,7 +5,7 @@ ghost use Rattle.oe_core.specs.Steps.{HasProgram};
 ghost use Rattle.oe_core.specs.Core.{IsOf, place_of, in_place};
 
 use crate::programs::Program;
-use oe_engine::{Mark, Tx};
+use oe_engine::Tx;
 use oe_requests::Request;
 use oe_values::Terminal;
 use std::alloc::{AllocError, Global};
@@ -15,19 +15,19 @@ use std::alloc::{AllocError, Global};
 pub struct Work {
     pub request: Request,
     pub program: Program,
-    pub mark: Savepoint,
+    pub mark: Mark,
 }
 
 /// Where a transaction stood: its program, and how many records it had made.
 #[derive(Drop)]
-pub struct Savepoint {
+pub struct Mark {
     pub program: Program,
-    pub records: Mark,
+    pub records: oe_engine::Mark,
 }
 
-impl Savepoint {
+impl Mark {
     /// Moves to where a program stands.
-    pub fn set(&mut self, program: &Program, records: Mark)
+    pub fn set(&mut self, program: &Program, records: oe_engine::Mark)
         ensures { self.new ≡ record { program = program.now; records = records } }
     {
         self.program.go_to(program);
@@ -109,9 +109,9 @@ pub fn begun_work(request: &Request) -> Work
     ensures mark { result.mark ≡ record { program = result.program; records = 0 } }
 {
     let program = Program::new(request);
-    let mark = Savepoint {
+    let mark = Mark {
         program: program.copied(),
-        records: Mark::start(),
+        records: oe_engine::Mark::start(),
     };
     Work {
         request: request.copied(),
