@@ -31,6 +31,15 @@ fn is_printable(bytes: &[u8]) -> bool
     bytes.iter().all(|&b| b >= 32 && b <= 126)
 }
 
+/// Printable bytes as a text, which is not tested.
+#[inline]
+fn ascii(bytes: &[u8]) -> &str
+    requires { All IsPrintable bytes.now }
+    ensures { result.now ≡ bytes.now }
+{
+    unsafe { str::from_utf8_unchecked(bytes) }
+}
+
 /// At most `most` bytes of the front of a printable text.
 fn front(text: &str, most: usize) -> &str
     requires { All IsPrintable text.now }
@@ -49,13 +58,7 @@ impl<const LEAST: usize, const MOST: usize> Text<LEAST, MOST> {
         ensures variant { IsSome result ↔ IsText LEAST MOST text.now }
         ensures value { IfSome result (λ t. t ≡ text.now) }
     {
-        if text.len() < LEAST || !is_printable(text.as_bytes()) {
-            return None;
-        }
-        match ArrayString::from(text) {
-            Ok(held) => Some(Text { held }),
-            Err(_) => None,
-        }
+        Text::read_bytes(text.as_bytes())
     }
 
     /// The text of these bytes, where they are printable and their number fits.
@@ -63,13 +66,21 @@ impl<const LEAST: usize, const MOST: usize> Text<LEAST, MOST> {
         ensures variant { IsSome result ↔ IsText LEAST MOST bytes.now }
         ensures value { IfSome result (λ t. t ≡ bytes.now) }
     {
-        if !is_printable(bytes) {
+        if bytes.len() < LEAST || bytes.len() > MOST || !is_printable(bytes) {
             return None;
         }
-        match str::from_utf8(bytes) {
-            Ok(text) => Text::read(text),
-            Err(_) => unreachable!(),
-        }
+        Some(Text::of_printable(bytes))
+    }
+
+    /// The text of these bytes, which are known to be printable and to fit: nothing is tested.
+    #[inline]
+    pub fn of_printable(bytes: &[u8]) -> Self
+        requires { IsText LEAST MOST bytes.now }
+        ensures { result ≡ bytes.now }
+    {
+        let mut held = ArrayString::new();
+        held.push_str(ascii(bytes));
+        Text { held }
     }
 
     /// The text.
