@@ -7,4 +7,4 @@ mod KeyTests
 mod HistoryTests
 mod PopulatedFacts
 mod GroupFacts
-mod DraftFacts
+mod TextFacts

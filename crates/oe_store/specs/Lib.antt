@@ -1,6 +1,6 @@
 -- What the clauses of this crate cite.
 pub mod Stored
-pub mod Draft
+pub mod Printable
 pub mod Fill
 pub mod Group
 pub mod Dump

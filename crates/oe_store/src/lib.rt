@@ -3,7 +3,6 @@
 #![tactic(auto)]
 
 pub mod columns;
-mod drafts;
 pub mod dumps;
 mod fills;
 mod formulas;
