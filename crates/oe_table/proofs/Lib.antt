@@ -2,3 +2,5 @@
 pub mod TableFacts
 mod WalkFacts
 mod SweepFacts
+pub mod ShelfFacts
+pub mod ShelvesFacts

@@ -2,5 +2,7 @@
 #![tactic(auto)]
 
 pub mod keys;
+mod shelf;
+pub mod shelves;
 pub mod tables;
 pub mod walks;

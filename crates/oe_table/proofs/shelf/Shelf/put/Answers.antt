@@ -1,0 +1,7 @@
+use Rattle.std.proofs.Common.{Some}
+use Rattle.oe_table.proofs.ShelfFacts.{put-answer}
+use Rattle.oe_table.proofs.shelf.Shelf.put.Goals as goal
+
+pub returns-in-Ok-clause-ok : goal.returns-in-Ok-clause-ok
+returns-in-Ok-clause-ok g c =
+    rw (← c.self.view_is) (put-answer g.K.Ord.cmp g.met.K.Ord.total c.self.inside.slots.items c.index_mut.result.now c.args.key c.in-Ok.at (Some c.args.row) (rw c.self.view_is c.requires) (rw c.self.view_is c.in-Ok.ensures) c.index_mut.ensures.value)

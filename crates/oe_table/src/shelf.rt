@@ -1,0 +1,189 @@
+//! One shelf of a table: its keys ascend, each with its row or, where it was blanked, none.
+ghost use Rattle.std.specs.Prelude.{◌≡◌, ◌<◌, ◌≤◌, ◌↔◌, Some, None, List, Option, [], Err, IsTrue, OnOk, OnErr, length};
+ghost use Rattle.std.specs.List.{insert};
+ghost use Rattle.std.specs.Option.{option_copied, option_copied_mut};
+ghost use Rattle.std.specs.Borrow.{sem};
+ghost use Rattle.oe_table.specs.Table.{place};
+ghost use Rattle.oe_table.specs.Shelf.{IsAscending, StandsAt, IsFound, put_at};
+
+use crate::keys::ShelvedKey;
+use crate::tables::NoMemory;
+use std::alloc::Global;
+use std::cmp::Ordering;
+use std::marker::Model;
+
+/// A key's place: its row, or none where it was blanked.
+#[derive(Drop)]
+pub(crate) struct Slot<K, R> {
+    key: K,
+    content: Option<R>,
+}
+
+impl<K, R> Model for Slot<K, R> {
+    ghost Value = { K × Option R };
+
+    ghost view = { λ s. (s.key, s.content) };
+}
+
+impl<K, R> Slot<K, R> {
+    ghost use Rattle.oe_table.specs.ShelfLends.{lends_content};
+
+    fn content_mut(&mut self) -> &mut Option<R>
+        ensures* writes_back { sem 𝓛 (lends_content K.row R.row self.entry result) }
+        ensures value { result.now ≡ self.old.1 }
+    {
+        &mut self.content
+    }
+}
+
+/// The slots of a shelf, in their keys' order. That the keys ascend is kept by the table that has the shelf.
+#[derive(Drop)]
+pub(crate) struct Shelf<K, R> {
+    slots: Vec<Slot<K, R>>,
+}
+
+impl<K, R> Model for Shelf<K, R> {
+    ghost Value = { List (K × Option R) };
+
+    ghost view = { λ s. s.slots.items };
+}
+
+impl<K, R> Shelf<K, R> {
+    /// A shelf without a slot, which takes no memory.
+    pub(crate) fn empty(alloc: Global) -> Self
+        ensures { result ≡ [] }
+    {
+        Shelf {
+            slots: Vec::new(alloc),
+        }
+    }
+}
+
+impl<K: ShelvedKey, R> Shelf<K, R> {
+    ghost use Rattle.oe_table.specs.ShelfLends.{lends_slot};
+
+    // Where the key may stand, by the numbers of the first key and of this one.
+    fn hint(&self, key: &K) -> usize {
+        match self.slots.first() {
+            Some(first) => key.place().wrapping_sub(first.key.place()),
+            None => 0,
+        }
+    }
+
+    // Whether the key stands at an index.
+    fn stands_at(&self, at: usize, key: &K) -> bool
+        ensures { IsTrue result ↔ StandsAt K.cmp self.now key.now at }
+    {
+        match self.slots.get(at) {
+            Some(slot) => slot.key.cmp(key).is_eq(),
+            None => false,
+        }
+    }
+
+    // Where a key stands, or would stand.
+    fn find(&self, key: &K) -> Result<usize, usize>
+        requires { IsAscending K.cmp self.now }
+        ensures { IsFound K.cmp self.now key.now result }
+    {
+        let hint = self.hint(key);
+        if self.stands_at(hint, key) {
+            return Ok(hint);
+        }
+        if self.ends_before(key) {
+            return Err(self.slots.len());
+        }
+        self.search(key)
+    }
+
+    // Whether the last key is less than this one.
+    fn ends_before(&self, key: &K) -> bool
+        requires { IsAscending K.cmp self.now }
+        ensures { IsTrue result → IsFound K.cmp self.now key.now (Err (length self.now)) }
+    {
+        match self.slots.last() {
+            Some(last) => last.key.cmp(key).is_lt(),
+            None => true,
+        }
+    }
+
+    fn search(&self, key: &K) -> Result<usize, usize>
+        requires { IsAscending K.cmp self.now }
+        ensures { IsFound K.cmp self.now key.now result }
+    {
+        self.slots.binary_search_by(
+            |slot: &Slot<K, R>| -> Ordering
+                ensures { result ≡ K.cmp slot.now.0 key.entry.now }
+            { slot.key.cmp(key) },
+        )
+    }
+
+    // Where a key stands, or past the last slot.
+    fn position(&self, key: &K) -> usize
+        requires { IsAscending K.cmp self.now }
+        ensures stands { result < length self.now → StandsAt K.cmp self.now key.now result }
+        ensures none { length self.now ≤ result → place K.cmp self.now key.now ≡ None }
+    {
+        match self.find(key) {
+            Ok(at) => at,
+            Err(_) => self.slots.len(),
+        }
+    }
+
+    /// What stands at a key.
+    pub(crate) fn slot(&self, key: &K) -> Option<&Option<R>>
+        requires { IsAscending K.cmp self.now }
+        ensures { option_copied result ≡ place K.cmp self.now key.now }
+    {
+        let at = self.position(key);
+        let slot = self.slots.get(at)?;
+        Some(&slot.content)
+    }
+
+    /// What stands at a key, to be changed there.
+    pub(crate) fn slot_mut(&mut self, key: &K) -> Option<&mut Option<R>>
+        requires { IsAscending K.cmp self.old }
+        ensures* writes_back { sem 𝓛 (lends_slot K.row R.row K.cmp self.entry key.now result) }
+        ensures value { option_copied_mut result ≡ place K.cmp self.old key.now }
+    {
+        let at = self.position(key);
+        Some(self.slots.get_mut(at)?.content_mut())
+    }
+
+    /// Puts a row at a key, into its place or a new one.
+    pub(crate) fn put(&mut self, key: K, row: R) -> Result<(), NoMemory>
+    where
+        K: Drop,
+        R: Drop,
+        requires { IsAscending K.cmp self.old }
+        ensures ok { OnOk result (self.new ≡ put_at K.cmp self.old key (Some row)) }
+        ensures err { OnErr result (self.new ≡ self.old) }
+        ensures no_place { OnErr result (place K.cmp self.old key ≡ None) }
+    {
+        match self.find(&key) {
+            Ok(at) => {
+                *self.slots[at].content_mut() = Some(row);
+                Ok(())
+            }
+            Err(at) => self.put_new(at, key, row),
+        }
+    }
+
+    // Puts a slot before the one at an index.
+    fn put_new(&mut self, at: usize, key: K, row: R) -> Result<(), NoMemory>
+    where
+        K: Drop,
+        R: Drop,
+        requires { at ≤ length self.old }
+        ensures ok { OnOk result (self.new ≡ insert self.old at (key, Some row)) }
+        ensures err { OnErr result (self.new ≡ self.old) }
+    {
+        let slot = Slot {
+            key,
+            content: Some(row),
+        };
+        match self.slots.insert(at, slot) {
+            Ok(()) => Ok(()),
+            Err(_) => Err(NoMemory),
+        }
+    }
+}

@@ -1,0 +1,164 @@
+//! A table whose keys lie by number: shelf by shelf, and on its shelf each key after those that are less.
+ghost use Rattle.std.specs.Prelude.{◌≡◌, ◌<◌, ◌≤◌, ℕ, Some, None, OnOk, OnErr, IsSome, IsTrue, ◌↔◌, List, [], ◌++◌, Option, vec_len, replicate};
+ghost use Rattle.std.specs.Option.{option_copied, option_copied_mut};
+ghost use Rattle.std.specs.Borrow.{sem};
+ghost use Rattle.std.specs.FinMap as map;
+ghost use Rattle.oe_table.specs.Table.{place, rows_of, IsBlanked, SetsPlace};
+ghost use Rattle.oe_table.specs.Shelf.{joined, AreShelves};
+
+use crate::keys::ShelvedKey;
+use crate::shelf::Shelf;
+use crate::tables::NoMemory;
+use std::alloc::Global;
+use std::marker::Model;
+
+/// A map from keys to rows, in which a key whose row was taken keeps its place, blanked, until a sweep.
+///
+/// Only `put_new` may take memory, and only for a key without a place: so each change of a row, and
+/// what undoes it, can be done without memory. Contracts see a table as the list of its places, and its
+/// rows, `rows_of`, as a finite map.
+#[derive(Drop)]
+pub struct Shelves<K: ShelvedKey, R> {
+    shelves: Vec<Shelf<K, R>>,
+    alloc: Global,
+}
+
+impl<K: ShelvedKey, R> Model for Shelves<K, R> {
+    ghost Value = { List (K × Option R) };
+
+    ghost view = { λ t. joined t.shelves.items };
+
+    ghost invariant = { λ t. AreShelves K.cmp K.shelf_of 0 t.shelves.items };
+}
+
+// Puts empty shelves after the others, until there is one of a number.
+fn reach<K: Drop, R: Drop>(
+    shelves: &mut Vec<Shelf<K, R>>,
+    alloc: Global,
+    number: usize,
+) -> Result<(), NoMemory>
+    requires { number < 1024 }
+    ensures padded { (n : ℕ) × (shelves.new.items ≡ shelves.old.items ++ replicate n []) }
+    ensures reached { OnOk result (number < vec_len shelves.new) }
+    ensures short { OnErr result (vec_len shelves.old ≤ number) }
+{
+    while shelves.len() <= number {
+        let shelf = Shelf::empty(alloc);
+        if let Err(_refused) = shelves.push(shelf) {
+            return Err(NoMemory);
+        }
+    }
+    Ok(())
+}
+
+impl<K: ShelvedKey, R> Shelves<K, R> {
+    ghost use Rattle.oe_table.specs.ShelvesLends.{lends_place, lends_row};
+
+    /// A table without a place, which takes no memory.
+    pub fn new(alloc: Global) -> Self
+        ensures places { result ≡ [] }
+        ensures rows { rows_of K.cmp result ≡ map.empty }
+    {
+        Shelves {
+            shelves: Vec::new(alloc),
+            alloc,
+        }
+    }
+
+    // What stands at a key.
+    fn slot(&self, key: &K) -> Option<&Option<R>>
+        ensures { option_copied result ≡ place K.cmp self.now key.now }
+    {
+        let number = key.shelf();
+        self.shelves.get(number)?.slot(key)
+    }
+
+    // What stands at a key, to be changed there.
+    fn slot_mut(&mut self, key: &K) -> Option<&mut Option<R>>
+        ensures* writes_back { sem 𝓛 (lends_place K.row R.row K.ShelvedKey self.entry key.now result) }
+        ensures value { option_copied_mut result ≡ place K.cmp self.old key.now }
+    {
+        let number = key.shelf();
+        self.shelves.get_mut(number)?.slot_mut(key)
+    }
+
+    /// The row at a key; a blanked key and one without a place have none.
+    #[tactic(auto, using(crate::proofs::TableFacts::at_keys))]
+    pub fn get(&self, key: &K) -> Option<&R>
+        ensures { option_copied result ≡ map.get (rows_of K.cmp self.now) key.now }
+    {
+        self.slot(key)?.as_ref()
+    }
+
+    /// Whether a key was blanked: it has a place, and no row.
+    pub fn is_blanked(&self, key: &K) -> bool
+        ensures { IsTrue result ↔ IsBlanked K.cmp self.now key.now }
+    {
+        matches!(self.slot(key), Some(None))
+    }
+
+    /// Puts a row at a key that has none.
+    ///
+    /// A blanked key takes its old place, and the answer is then always `Ok`. `NoMemory` comes only for a
+    /// key without a place; the table is then as before, and the row is dropped.
+    pub fn put_new(&mut self, key: K, row: R) -> Result<(), NoMemory>
+    where
+        K: Drop,
+        R: Drop,
+        requires { map.get (rows_of K.cmp self.old) key ≡ None }
+        ensures ok { OnOk result (SetsPlace K.cmp self.old self.new key (Some row)) }
+        ensures rows { OnOk result (rows_of K.cmp self.new ≡ map.insert (rows_of K.cmp self.old) key row) }
+        ensures err { OnErr result (self.new ≡ self.old) }
+        ensures no_place { OnErr result (place K.cmp self.old key ≡ None) }
+    {
+        let number = key.shelf();
+        if let Err(refusal) = reach(&mut self.shelves, self.alloc, number) {
+            return Err(refusal);
+        }
+        self.shelves[number].put(key, row)
+    }
+
+    /// Puts another row in the place of the one at a key that has a row, and answers that one.
+    #[tactic(auto, using(crate::proofs::TableFacts::at_keys))]
+    pub fn swap(&mut self, key: &K, row: R) -> R
+        requires { IsSome (map.get (rows_of K.cmp self.old) key.now) }
+        ensures before { map.get (rows_of K.cmp self.old) key.now ≡ Some result }
+        ensures places { SetsPlace K.cmp self.old self.new key.now (Some row) }
+        ensures rows { rows_of K.cmp self.new ≡ map.insert (rows_of K.cmp self.old) key.now row }
+    {
+        let slot = self.slot_mut(key).unwrap();
+        slot.replace(row).unwrap()
+    }
+
+    /// The row at a key, to be changed where it stands; a blanked key and one without a place have none.
+    pub fn row_mut(&mut self, key: &K) -> Option<&mut R>
+        ensures* writes_back { sem 𝓛 (lends_row K.row R.row K.ShelvedKey self.entry key.now result) }
+        ensures row { option_copied_mut result ≡ map.get (rows_of K.cmp self.old) key.now }
+    {
+        self.slot_mut(key)?.as_mut()
+    }
+
+    /// Takes the row at a key that has one. The key keeps its place, blanked.
+    #[tactic(auto, using(crate::proofs::TableFacts::at_keys))]
+    pub fn blank(&mut self, key: &K) -> R
+        requires { IsSome (map.get (rows_of K.cmp self.old) key.now) }
+        ensures before { map.get (rows_of K.cmp self.old) key.now ≡ Some result }
+        ensures places { SetsPlace K.cmp self.old self.new key.now None }
+        ensures rows { rows_of K.cmp self.new ≡ map.remove (rows_of K.cmp self.old) key.now }
+    {
+        let slot = self.slot_mut(key).unwrap();
+        slot.take().unwrap()
+    }
+
+    /// Puts a row in the place of a blanked key.
+    pub fn refill(&mut self, key: &K, row: R)
+    where
+        R: Drop,
+        requires { IsBlanked K.cmp self.old key.now }
+        ensures places { SetsPlace K.cmp self.old self.new key.now (Some row) }
+        ensures rows { rows_of K.cmp self.new ≡ map.insert (rows_of K.cmp self.old) key.now row }
+    {
+        let slot = self.slot_mut(key).unwrap();
+        *slot = Some(row);
+    }
+}
