@@ -4,3 +4,4 @@ mod WalkFacts
 mod SweepFacts
 pub mod ShelfFacts
 pub mod ShelvesFacts
+mod RangeFacts

@@ -6,13 +6,13 @@ use Rattle.std.specs.List.{AllByRecursion, HoldsAt, insert}
 use Rattle.std.specs.List.Sorted.{IsStrictlySortedBy, IsPartitionPoint, IsSortedBy, IsBinarySearchResult}
 use Rattle.std.specs.Map.{keys_of, lookup, set_value}
 use Rattle.std.specs.BTreeMap.{is_at}
-use Rattle.std.specs.Ordering.{is_lt, is_eq, ordering_reverse}
+use Rattle.std.specs.Ordering.{is_lt, is_le, is_eq, ordering_reverse}
 use Rattle.std.specs.declared.cmp.Ordering.{Ordering}
 use Rattle.std.specs.declared.cmp.Ordering.TheVariants.{Less, Equal, Greater}
 use Rattle.std.specs.Cmp.{IsTotalOrder, alike_right, tied_back, eq_by_cmp_equiv}
 use Rattle.std.proofs.lemmas.List.Sorted.{searchable_from_sorted}
 use Rattle.std.proofs.lemmas.Map.{lookup-insert, lookup-set_value, none_passes_from_lookup, keys-set_value}
-use Rattle.oe_table.specs.Shelf.{lower, IsAscending, StandsAt, IsFound, put_at}
+use Rattle.oe_table.specs.Shelf.{lower, upper, IsAscending, StandsAt, IsFound, put_at}
 use Rattle.oe_table.proofs.TableFacts.{tied}
 
 all-at : {K X : Type 0} (P : K → Type 0) (s : List (K × X)) → AllByRecursion P (keys_of s) → (i : ℕ) (d : K × X) → i < length s → P (get_or s i d).0
@@ -54,6 +54,10 @@ module _ {K : Type 0} (cmp : K → K → Ordering) (total : IsTotalOrder cmp) wh
   all-less a b [] e h = tt
   all-less a b (k ∷ ks) e h = (total.trans a b k e h.0, all-less a b ks e h.1)
 
+  tied-below : (a b : K) (ks : List K) → cmp a b ≡ Equal → AllByRecursion (λ y. cmp a y ≡ Less) ks → AllByRecursion (λ y. cmp b y ≡ Less) ks
+  tied-below a b [] e h = tt
+  tied-below a b (k ∷ ks) e h = (sym (total.congr a b k e) ∙ h.0, tied-below a b ks e h.1)
+
   same-test : (key x y : K) → is_eq (cmp key x) ≡ true → is_eq (cmp key y) ≡ is_eq (cmp x y)
   same-test key x y e = ap is_eq (total.congr key x y (tied (cmp key x) e))
 
@@ -79,6 +83,40 @@ module _ {K X : Type 0} (cmp : K → K → Ordering) (total : IsTotalOrder cmp) 
   set-at (e ∷ s) key (suc i) up at d w =
       let there : StandsAt cmp s key i = (omega (arith, at.0), at.1) in
       rw (greater cmp total e.0 key (earlier e s key i up.0 there)) (ap (λ t. e ∷ t) (set-at s key i up.1 there d w))
+
+  -- and as many keys are less as stand before it
+  pub lower-at : (s : List (K × X)) (key : K) (i : ℕ) → IsAscending cmp s → StandsAt cmp s key i → i ≡ lower cmp s key
+  unfolding IsStrictlySortedBy
+  lower-at [] key i up at = absurd (omega (arith, at.0))
+  lower-at (e ∷ s) key zero up at = let same : cmp e.0 key ≡ Equal = at.1 e in rw same refl
+  lower-at (e ∷ s) key (suc i) up at =
+      let there : StandsAt cmp s key i = (omega (arith, at.0), at.1) in
+      rw (earlier e s key i up.0 there) (ap suc (lower-at s key i up.1 there))
+
+  upper-none : (s : List (K × X)) (key : K) → AllByRecursion (λ y. cmp key y ≡ Less) (keys_of s) → upper cmp s key ≡ 0
+  upper-none [] key h = refl
+  upper-none (e ∷ s) key h = rw (greater cmp total key e.0 h.0) refl
+
+  pub upper-at : (s : List (K × X)) (key : K) (i : ℕ) → IsAscending cmp s → StandsAt cmp s key i → i + 1 ≡ upper cmp s key
+  unfolding IsStrictlySortedBy
+  upper-at [] key i up at = absurd (omega (arith, at.0))
+  upper-at (e ∷ s) key zero up at = let same : cmp e.0 key ≡ Equal = at.1 e in rw (same, upper-none s key (tied-below cmp total e.0 key (keys_of s) same up.0)) refl
+  upper-at (e ∷ s) key (suc i) up at =
+      let there : StandsAt cmp s key i = (omega (arith, at.0), at.1) in
+      let rest : i + 1 ≡ upper cmp s key = upper-at s key i up.1 there in
+      rw (earlier e s key i up.0 there) (omega (arith, rest))
+
+  same-step : (e : K × X) (s : List (K × X)) (key : K) (r : Ordering) → cmp e.0 key ≡ r → lookup (is_at (cmp key)) (e ∷ s) ≡ None → lower cmp s key ≡ upper cmp s key
+      → cond (is_lt r) (suc (lower cmp s key)) 0 ≡ cond (is_le r) (suc (upper cmp s key)) 0
+  same-step e s key Less is none rest = ap suc rest
+  same-step e s key Equal is none rest = let h = rw (tied_back total e.0 key is) at none in cc
+  same-step e s key Greater is none rest = refl
+
+  -- where the key does not stand, the two are the same
+  pub lower-upper : (s : List (K × X)) (key : K) → lookup (is_at (cmp key)) s ≡ None → lower cmp s key ≡ upper cmp s key
+  lower-upper [] key none = refl
+  lower-upper (e ∷ s) key none =
+      same-step e s key (cmp e.0 key) refl none (lower-upper s key (found-later (is_eq (cmp key e.0)) e.1 (lookup (is_at (cmp key)) s) none))
 
   -- between the lesser keys and the greater ones stands none
   pub between : (s : List (K × X)) (key : K) (i : ℕ) → i ≤ length s → IsPartitionPoint (λ e. cmp e.0 key ≡ Less) (λ e. cmp e.0 key ≡ Greater) s i

@@ -49,11 +49,11 @@ module _ {K X : Type 0} where
   set-left test [] b w none = set-absent test b w none
   set-left test (e ∷ a) b w none = set-step (test e.0) e (e.0, w) (set_value test a w) b (set_value test (a ++ b) w) (set-left test a b w none) a
 
-  keys-append : (P : K → Type 0) (a b : List (K × X)) → AllByRecursion P (keys_of a) → AllByRecursion P (keys_of b) → AllByRecursion P (keys_of (a ++ b))
+  pub keys-append : (P : K → Type 0) (a b : List (K × X)) → AllByRecursion P (keys_of a) → AllByRecursion P (keys_of b) → AllByRecursion P (keys_of (a ++ b))
   keys-append P [] b h k = k
   keys-append P (e ∷ a) b h k = (h.0, keys-append P a b h.1 k)
 
-all-weaker : {K : Type 0} (P Q : K → Type 0) → ((k : K) → P k → Q k) → (ks : List K) → AllByRecursion P ks → AllByRecursion Q ks
+pub all-weaker : {K : Type 0} (P Q : K → Type 0) → ((k : K) → P k → Q k) → (ks : List K) → AllByRecursion P ks → AllByRecursion Q ks
 all-weaker P Q f [] h = tt
 all-weaker P Q f (k ∷ ks) h = (f k h.0, all-weaker P Q f ks h.1)
 

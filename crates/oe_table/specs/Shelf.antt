@@ -1,5 +1,5 @@
 -- A shelf is the list of its places in the keys' order, and shelves stand one after another.
-use Rattle.std.specs.Prelude.{◌≡◌, ℕ, suc, ◌<◌, ◌≤◌, ⊤, Bool, cond, List, [], ◌∷◌, ◌++◌, length, None, is_some, Result, Ok, Err}
+use Rattle.std.specs.Prelude.{◌≡◌, ℕ, suc, ◌<◌, ◌≤◌, ⊤, Bool, cond, List, [], ◌∷◌, ◌++◌, length, None, is_some, Result, Ok, Err, ◌+◌, ◌==◌, take, drop, slice_index_or}
 use Rattle.std.specs.List.{AllByRecursion, HoldsAt, insert}
 use Rattle.std.specs.List.Sorted.{IsStrictlySortedBy}
 use Rattle.std.specs.Map.{keys_of, lookup, set_value}
@@ -12,6 +12,11 @@ use Rattle.std.specs.declared.cmp.Ordering.TheVariants.{Equal}
 abbrev pub joined : {A : Type 0} → List (List A) → List A
 joined [] = []
 joined (s ∷ ss) = s ++ joined ss
+
+-- what stands from the i-th element of the a-th list on and before the j-th of the b-th
+abbrev pub cut_between : {A : Type 0} → List (List A) → ℕ → ℕ → ℕ → ℕ → List A
+cut_between ss a i b j =
+    cond (a == b) (drop i (take j (slice_index_or ss a []))) (drop i (slice_index_or ss a []) ++ (joined (drop (a + 1) (take b ss)) ++ take j (slice_index_or ss b [])))
 
 -- how many elements stand before the first that fails
 abbrev pub front : {A : Type 0} → (A → Bool) → List A → ℕ

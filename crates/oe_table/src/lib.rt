@@ -3,6 +3,7 @@
 
 pub mod keys;
 mod shelf;
+pub mod shelf_walks;
 pub mod shelves;
 pub mod tables;
 pub mod walks;

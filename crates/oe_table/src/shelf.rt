@@ -1,10 +1,10 @@
 //! One shelf of a table: its keys ascend, each with its row or, where it was blanked, none.
-ghost use Rattle.std.specs.Prelude.{◌≡◌, ◌<◌, ◌≤◌, ◌↔◌, Some, None, List, Option, [], Err, IsTrue, OnOk, OnErr, length};
+ghost use Rattle.std.specs.Prelude.{◌≡◌, ◌+◌, ◌<◌, ◌≤◌, ◌↔◌, Some, None, List, Option, [], Err, IsTrue, OnOk, OnErr, length};
 ghost use Rattle.std.specs.List.{insert};
 ghost use Rattle.std.specs.Option.{option_copied, option_copied_mut};
 ghost use Rattle.std.specs.Borrow.{sem};
 ghost use Rattle.oe_table.specs.Table.{place};
-ghost use Rattle.oe_table.specs.Shelf.{IsAscending, StandsAt, IsFound, put_at};
+ghost use Rattle.oe_table.specs.Shelf.{IsAscending, StandsAt, IsFound, put_at, lower, upper};
 
 use crate::keys::ShelvedKey;
 use crate::tables::NoMemory;
@@ -27,6 +27,13 @@ impl<K, R> Model for Slot<K, R> {
 
 impl<K, R> Slot<K, R> {
     ghost use Rattle.oe_table.specs.ShelfLends.{lends_content};
+
+    /// The key and what stands at it.
+    pub(crate) fn parts(&self) -> (&K, &Option<R>)
+        ensures { (result.0.now, result.1.now) ≡ self.now }
+    {
+        (&self.key, &self.content)
+    }
 
     fn content_mut(&mut self) -> &mut Option<R>
         ensures* writes_back { sem 𝓛 (lends_content K.row R.row self.entry result) }
@@ -56,6 +63,15 @@ impl<K, R> Shelf<K, R> {
         Shelf {
             slots: Vec::new(alloc),
         }
+    }
+}
+
+impl<K, R> Shelf<K, R> {
+    /// The slots, in their keys' order.
+    pub(crate) fn slots(&self) -> &[Slot<K, R>]
+        ensures { result.now ≡ self.now }
+    {
+        &self.slots
     }
 }
 
@@ -126,6 +142,29 @@ impl<K: ShelvedKey, R> Shelf<K, R> {
         match self.find(key) {
             Ok(at) => at,
             Err(_) => self.slots.len(),
+        }
+    }
+
+    /// How many keys are less than a key.
+    pub(crate) fn lower(&self, key: &K) -> usize
+        requires { IsAscending K.cmp self.now }
+        ensures { result ≡ lower K.cmp self.now key.now }
+    {
+        match self.find(key) {
+            Ok(at) => at,
+            Err(at) => at,
+        }
+    }
+
+    /// How many keys are not greater than a key.
+    pub(crate) fn upper(&self, key: &K) -> usize
+        requires { IsAscending K.cmp self.now }
+        ensures { result ≡ upper K.cmp self.now key.now }
+    {
+        let _known = self.slots.len();
+        match self.find(key) {
+            Ok(at) => at + 1,
+            Err(at) => at,
         }
     }
 

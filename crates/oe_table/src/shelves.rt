@@ -1,13 +1,19 @@
 //! A table whose keys lie by number: shelf by shelf, and on its shelf each key after those that are less.
-ghost use Rattle.std.specs.Prelude.{◌≡◌, ◌<◌, ◌≤◌, ℕ, Some, None, OnOk, OnErr, IsSome, IsTrue, ◌↔◌, List, [], ◌++◌, Option, vec_len, replicate};
+ghost use Rattle.std.specs.Prelude.{◌≡◌, ◌+◌, ◌<◌, ◌≤◌, ℕ, Some, None, OnOk, OnErr, IsSome, IsTrue, ◌↔◌, List, [], ◌++◌, Option, vec_len, replicate, length, slice_index_or, take, drop};
+ghost use Rattle.std.specs.List.Sorted.{IsStrictlySortedBy};
+ghost use Rattle.std.specs.Map.{keys_of};
+ghost use Rattle.std.specs.BTreeMap.Range.{IsLeBy, entries_between};
+ghost use Rattle.std.specs.declared.ops.Bound.TheVariants.{Included, Excluded};
+ghost use Rattle.std.specs.FinMap.{entries};
 ghost use Rattle.std.specs.Option.{option_copied, option_copied_mut};
 ghost use Rattle.std.specs.Borrow.{sem};
 ghost use Rattle.std.specs.FinMap as map;
 ghost use Rattle.oe_table.specs.Table.{place, rows_of, IsBlanked, SetsPlace};
-ghost use Rattle.oe_table.specs.Shelf.{joined, AreShelves};
+ghost use Rattle.oe_table.specs.Shelf.{joined, AreShelves, lower, upper, cut_between};
 
 use crate::keys::ShelvedKey;
-use crate::shelf::Shelf;
+use crate::shelf::{Shelf, Slot};
+use crate::shelf_walks::{Candidates, Rows, Slots};
 use crate::tables::NoMemory;
 use std::alloc::Global;
 use std::marker::Model;
@@ -49,6 +55,99 @@ fn reach<K: Drop, R: Drop>(
         }
     }
     Ok(())
+}
+
+// A place between two slots: a shelf, and how many of its slots stand before.
+#[derive(Clone, Copy)]
+struct Cut {
+    shelf: usize,
+    slot: usize,
+}
+
+// No slots.
+fn no_slots<'a, K, R>() -> &'a [Slot<K, R>]
+    ensures { result.now ≡ [] }
+{
+    &[]
+}
+
+// The slots of a shelf, of which there are none where there is no such shelf.
+fn slots_on<K, R>(shelves: &[Shelf<K, R>], number: usize) -> &[Slot<K, R>]
+    ensures { result.now ≡ slice_index_or shelves.now number [] }
+{
+    match shelves.get(number) {
+        Some(shelf) => shelf.slots(),
+        None => &[],
+    }
+}
+
+// The cut before a key.
+fn cut_before<K: ShelvedKey, R>(shelves: &[Shelf<K, R>], key: &K) -> Cut
+    requires { AreShelves K.cmp K.shelf_of 0 shelves.now }
+    ensures shelf { result.shelf ≡ K.shelf_of key.now }
+    ensures slot { result.slot ≡ lower K.cmp (slice_index_or shelves.now (K.shelf_of key.now) []) key.now }
+{
+    let number = key.shelf();
+    let slot = match shelves.get(number) {
+        Some(shelf) => shelf.lower(key),
+        None => 0,
+    };
+    Cut {
+        shelf: number,
+        slot,
+    }
+}
+
+// The cut after a key.
+fn cut_after<K: ShelvedKey, R>(shelves: &[Shelf<K, R>], key: &K) -> Cut
+    requires { AreShelves K.cmp K.shelf_of 0 shelves.now }
+    ensures shelf { result.shelf ≡ K.shelf_of key.now }
+    ensures slot { result.slot ≡ upper K.cmp (slice_index_or shelves.now (K.shelf_of key.now) []) key.now }
+{
+    let number = key.shelf();
+    let slot = match shelves.get(number) {
+        Some(shelf) => shelf.upper(key),
+        None => 0,
+    };
+    Cut {
+        shelf: number,
+        slot,
+    }
+}
+
+// The shelves after one and before another.
+fn shelves_between<K, R>(shelves: &[Shelf<K, R>], after: usize, before: usize) -> &[Shelf<K, R>]
+    requires { after < before }
+    ensures { result.now ≡ drop (after + 1) (take before shelves.now) }
+{
+    let end = before.min(shelves.len());
+    let start = (after + 1).min(end);
+    &shelves[start..end]
+}
+
+// The slots between two cuts.
+fn slots_between<K, R>(shelves: &[Shelf<K, R>], from: Cut, to: Cut) -> Slots<'_, K, R>
+    requires forward { from.shelf ≤ to.shelf }
+    requires within { from.slot ≤ length (slice_index_or shelves.now from.shelf []) }
+    requires ends { to.slot ≤ length (slice_index_or shelves.now to.shelf []) }
+    requires same { from.shelf ≡ to.shelf → from.slot ≤ to.slot }
+    ensures { result ≡ cut_between shelves.now from.shelf from.slot to.shelf to.slot }
+{
+    let first = slots_on(shelves, from.shelf);
+    if from.shelf == to.shelf {
+        return Slots {
+            front: first[from.slot..to.slot].iter(),
+            shelves: shelves[..0].iter(),
+            back: first[..0].iter(),
+        };
+    }
+    let between = shelves_between(shelves, from.shelf, to.shelf);
+    let last = slots_on(shelves, to.shelf);
+    Slots {
+        front: first[from.slot..].iter(),
+        shelves: between.iter(),
+        back: last[..to.slot].iter(),
+    }
 }
 
 impl<K: ShelvedKey, R> Shelves<K, R> {
@@ -160,5 +259,97 @@ impl<K: ShelvedKey, R> Shelves<K, R> {
     {
         let slot = self.slot_mut(key).unwrap();
         *slot = Some(row);
+    }
+
+    /// The rows with their keys, in the keys' order.
+    pub fn iter(&self) -> Rows<'_, K, R>
+        ensures rows { result ≡ entries (rows_of K.cmp self.now) }
+        ensures ordered { IsStrictlySortedBy K.cmp (keys_of result) }
+    {
+        let slots = self.all_slots();
+        Rows { slots }
+    }
+
+    /// The rows whose keys lie from `from` on and before `to`, in the keys' order. The two may be equal:
+    /// there is then none.
+    pub fn range(&self, from: K, to: K) -> Rows<'_, K, R>
+    where
+        K: Drop,
+        requires { IsLeBy K.cmp from to }
+        ensures { result ≡ entries_between K.cmp (Included from) (Excluded to) (entries (rows_of K.cmp self.now)) }
+    {
+        let slots = self.slots_before(&from, &to);
+        Rows { slots }
+    }
+
+    /// The rows whose keys lie from `from` up to `to`, both included, in the keys' order.
+    pub fn range_inclusive(&self, from: K, to: K) -> Rows<'_, K, R>
+    where
+        K: Drop,
+        requires { IsLeBy K.cmp from to }
+        ensures { result ≡ entries_between K.cmp (Included from) (Included to) (entries (rows_of K.cmp self.now)) }
+    {
+        let slots = self.slots_up_to(&from, &to);
+        Rows { slots }
+    }
+
+    /// The keys from `from` on and before `to` that have a place, in their order, each with its row or,
+    /// where it was blanked, `None`.
+    pub fn candidates(&self, from: K, to: K) -> Candidates<'_, K, R>
+    where
+        K: Drop,
+        requires { IsLeBy K.cmp from to }
+        ensures places { result ≡ entries_between K.cmp (Included from) (Excluded to) self.now }
+        ensures ordered { IsStrictlySortedBy K.cmp (keys_of self.now) }
+    {
+        let slots = self.slots_before(&from, &to);
+        Candidates { slots }
+    }
+
+    /// The keys from `from` up to `to`, both included, that have a place, in their order, each with its row or,
+    /// where it was blanked, `None`.
+    pub fn candidates_inclusive(&self, from: K, to: K) -> Candidates<'_, K, R>
+    where
+        K: Drop,
+        requires { IsLeBy K.cmp from to }
+        ensures places { result ≡ entries_between K.cmp (Included from) (Included to) self.now }
+        ensures ordered { IsStrictlySortedBy K.cmp (keys_of self.now) }
+    {
+        let slots = self.slots_up_to(&from, &to);
+        Candidates { slots }
+    }
+
+    // All slots.
+    fn all_slots(&self) -> Slots<'_, K, R>
+        ensures places { result ≡ self.now }
+        ensures ordered { IsStrictlySortedBy K.cmp (keys_of self.now) }
+    {
+        Slots {
+            front: no_slots().iter(),
+            shelves: self.shelves.iter(),
+            back: no_slots().iter(),
+        }
+    }
+
+    // The slots from a key on and before another.
+    fn slots_before(&self, from: &K, to: &K) -> Slots<'_, K, R>
+        requires { IsLeBy K.cmp from.now to.now }
+        ensures places { result ≡ entries_between K.cmp (Included from.now) (Excluded to.now) self.now }
+        ensures ordered { IsStrictlySortedBy K.cmp (keys_of self.now) }
+    {
+        let start = cut_before(&self.shelves, from);
+        let end = cut_before(&self.shelves, to);
+        slots_between(&self.shelves, start, end)
+    }
+
+    // The slots from a key up to another.
+    fn slots_up_to(&self, from: &K, to: &K) -> Slots<'_, K, R>
+        requires { IsLeBy K.cmp from.now to.now }
+        ensures places { result ≡ entries_between K.cmp (Included from.now) (Included to.now) self.now }
+        ensures ordered { IsStrictlySortedBy K.cmp (keys_of self.now) }
+    {
+        let start = cut_before(&self.shelves, from);
+        let end = cut_after(&self.shelves, to);
+        slots_between(&self.shelves, start, end)
     }
 }
