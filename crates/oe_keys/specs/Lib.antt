@@ -2,3 +2,4 @@
 pub mod ExactKeys
 pub mod Key
 pub mod Lock
+pub mod KeyShelves
