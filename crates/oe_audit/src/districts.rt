@@ -7,7 +7,7 @@ ghost use Rattle.oe_audit.specs.Tests.{are_counted, follows, lines_agree};
 use oe_keys::{DistrictKey, OrderLineKey};
 use oe_rows::{District, OrderLine};
 use oe_store::Tables;
-use oe_table::walks::Rows;
+use oe_table::shelf_walks::Rows;
 
 /// The greatest O_ID of a district.
 fn last_order(tables: &Tables, key: DistrictKey) -> Option<u32>

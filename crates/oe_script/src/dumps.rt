@@ -15,7 +15,7 @@ use oe_keys::{
 };
 use oe_rows::{Customer, District, History, Item, NewOrder, Order, OrderLine, Stock, Warehouse};
 use oe_store::Tables;
-use oe_table::walks::Rows;
+use oe_table::shelf_walks::Rows;
 use oe_texts::{LONGEST, Pending, SIZE};
 
 /// A row that is dumped as one line.

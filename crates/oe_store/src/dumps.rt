@@ -11,7 +11,7 @@ use oe_keys::{
     Table, WarehouseKey,
 };
 use oe_rows::{Customer, District, History, Item, NewOrder, Order, OrderLine, Stock, Warehouse};
-use oe_table::walks::Rows;
+use oe_table::shelf_walks::Rows;
 use std::marker::Model;
 
 /// A row of any table, with its key.

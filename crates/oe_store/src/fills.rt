@@ -19,7 +19,8 @@ use oe_keys::{
 use oe_rows::{
     Customer, District, History, Item, NewOrder, Order, OrderLine, Scale, Stock, Warehouse,
 };
-use oe_table::tables::{NoMemory, Table};
+use oe_table::shelves::Shelves;
+use oe_table::tables::NoMemory;
 use oe_values::{CustomerNumber, WarehouseNumber};
 use std::alloc::Global;
 
@@ -27,10 +28,10 @@ use std::alloc::Global;
 pub(crate) fn warehouses(
     alloc: Global,
     scale: &Scale,
-) -> Result<Table<WarehouseKey, Warehouse>, NoMemory>
+) -> Result<Shelves<WarehouseKey, Warehouse>, NoMemory>
     ensures { IfOk result (λ t. Fills (has_warehouse scale.now) (λ k. warehouse_of scale.now k.warehouse) empty (rows_of warehouse_cmp t)) }
 {
-    let mut table = Table::new(alloc);
+    let mut table = Shelves::new(alloc);
     for before in 0..scale.warehouses.get() {
         let key = WarehouseKey {
             warehouse: number(before + 1),
@@ -55,10 +56,10 @@ fn district_at(place: u32) -> DistrictKey
 pub(crate) fn districts(
     alloc: Global,
     scale: &Scale,
-) -> Result<Table<DistrictKey, District>, NoMemory>
+) -> Result<Shelves<DistrictKey, District>, NoMemory>
     ensures { IfOk result (λ t. Fills (has_district scale.now) (λ k. district_of scale.now k.district) empty (rows_of district_cmp t)) }
 {
-    let mut table = Table::new(alloc);
+    let mut table = Shelves::new(alloc);
     for place in 0..10 * scale.warehouses.get() {
         let key = district_at(place);
         table.put_new(key, district_row(scale, key.district))?;
@@ -68,7 +69,7 @@ pub(crate) fn districts(
 
 /// Puts the customers of a district.
 fn fill_customers(
-    table: &mut Table<CustomerKey, Customer>,
+    table: &mut Shelves<CustomerKey, Customer>,
     scale: &Scale,
     district: DistrictKey,
 ) -> Result<(), NoMemory>
@@ -90,10 +91,10 @@ fn fill_customers(
 pub(crate) fn customers(
     alloc: Global,
     scale: &Scale,
-) -> Result<Table<CustomerKey, Customer>, NoMemory>
+) -> Result<Shelves<CustomerKey, Customer>, NoMemory>
     ensures { IfOk result (λ t. Fills (has_customer scale.now) (λ k. customer_of k.customer) empty (rows_of customer_cmp t)) }
 {
-    let mut table = Table::new(alloc);
+    let mut table = Shelves::new(alloc);
     for place in 0..10 * scale.warehouses.get() {
         fill_customers(&mut table, scale, district_at(place))?;
     }
@@ -102,7 +103,7 @@ pub(crate) fn customers(
 
 /// Puts the histories of a district's customers.
 fn fill_histories(
-    table: &mut Table<HistoryKey, History>,
+    table: &mut Shelves<HistoryKey, History>,
     scale: &Scale,
     district: DistrictKey,
 ) -> Result<(), NoMemory>
@@ -125,10 +126,10 @@ fn fill_histories(
 pub(crate) fn histories(
     alloc: Global,
     scale: &Scale,
-) -> Result<Table<HistoryKey, History>, NoMemory>
+) -> Result<Shelves<HistoryKey, History>, NoMemory>
     ensures { IfOk result (λ t. Fills (has_history scale.now) (λ k. history_of (counted_customer scale.now k.number)) empty (rows_of history_cmp t)) }
 {
-    let mut table = Table::new(alloc);
+    let mut table = Shelves::new(alloc);
     for place in 0..10 * scale.warehouses.get() {
         fill_histories(&mut table, scale, district_at(place))?;
     }
@@ -137,7 +138,7 @@ pub(crate) fn histories(
 
 /// Puts a NEW-ORDER row, where the order is not delivered.
 fn put_undelivered(
-    table: &mut Table<NewOrderKey, NewOrder>,
+    table: &mut Shelves<NewOrderKey, NewOrder>,
     scale: &Scale,
     key: NewOrderKey,
 ) -> Result<(), NoMemory>
@@ -152,7 +153,7 @@ fn put_undelivered(
 
 /// Puts the NEW-ORDER rows of a district.
 fn fill_new_orders(
-    table: &mut Table<NewOrderKey, NewOrder>,
+    table: &mut Shelves<NewOrderKey, NewOrder>,
     scale: &Scale,
     district: DistrictKey,
 ) -> Result<(), NoMemory>
@@ -174,10 +175,10 @@ fn fill_new_orders(
 pub(crate) fn new_orders(
     alloc: Global,
     scale: &Scale,
-) -> Result<Table<NewOrderKey, NewOrder>, NoMemory>
+) -> Result<Shelves<NewOrderKey, NewOrder>, NoMemory>
     ensures { IfOk result (λ t. Fills (has_new_order scale.now) (λ k. no_columns) empty (rows_of new_order_cmp t)) }
 {
-    let mut table = Table::new(alloc);
+    let mut table = Shelves::new(alloc);
     for place in 0..10 * scale.warehouses.get() {
         fill_new_orders(&mut table, scale, district_at(place))?;
     }
@@ -186,7 +187,7 @@ pub(crate) fn new_orders(
 
 /// Puts the orders of a district.
 fn fill_orders(
-    table: &mut Table<OrderKey, Order>,
+    table: &mut Shelves<OrderKey, Order>,
     scale: &Scale,
     district: DistrictKey,
 ) -> Result<(), NoMemory>
@@ -200,16 +201,18 @@ fn fill_orders(
             district: district.district,
             order: number(before + 1),
         };
-        table.put_new(key, order_row(scale, customer))?;
+        let row = order_row(scale, customer);
+        let _carrier = row.carrier;
+        table.put_new(key, row)?;
     }
     Ok(())
 }
 
 /// As many orders of each district as it has customers.
-pub(crate) fn orders(alloc: Global, scale: &Scale) -> Result<Table<OrderKey, Order>, NoMemory>
+pub(crate) fn orders(alloc: Global, scale: &Scale) -> Result<Shelves<OrderKey, Order>, NoMemory>
     ensures { IfOk result (λ t. Fills (has_order scale.now) (λ k. order_of scale.now k.order) empty (rows_of order_cmp t)) }
 {
-    let mut table = Table::new(alloc);
+    let mut table = Shelves::new(alloc);
     for place in 0..10 * scale.warehouses.get() {
         fill_orders(&mut table, scale, district_at(place))?;
     }
@@ -218,7 +221,7 @@ pub(crate) fn orders(alloc: Global, scale: &Scale) -> Result<Table<OrderKey, Ord
 
 /// Puts the lines of an order.
 fn fill_order_lines(
-    table: &mut Table<OrderLineKey, OrderLine>,
+    table: &mut Shelves<OrderLineKey, OrderLine>,
     scale: &Scale,
     order: OrderKey,
 ) -> Result<(), NoMemory>
@@ -239,7 +242,7 @@ fn fill_order_lines(
 
 /// Puts the lines of a district's orders.
 fn fill_lines(
-    table: &mut Table<OrderLineKey, OrderLine>,
+    table: &mut Shelves<OrderLineKey, OrderLine>,
     scale: &Scale,
     district: DistrictKey,
 ) -> Result<(), NoMemory>
@@ -261,10 +264,10 @@ fn fill_lines(
 pub(crate) fn order_lines(
     alloc: Global,
     scale: &Scale,
-) -> Result<Table<OrderLineKey, OrderLine>, NoMemory>
+) -> Result<Shelves<OrderLineKey, OrderLine>, NoMemory>
     ensures { IfOk result (λ t. Fills (has_line scale.now) (line_of scale.now) empty (rows_of order_line_cmp t)) }
 {
-    let mut table = Table::new(alloc);
+    let mut table = Shelves::new(alloc);
     for place in 0..10 * scale.warehouses.get() {
         fill_lines(&mut table, scale, district_at(place))?;
     }
@@ -272,10 +275,10 @@ pub(crate) fn order_lines(
 }
 
 /// The items.
-pub(crate) fn items(alloc: Global, scale: &Scale) -> Result<Table<ItemKey, Item>, NoMemory>
+pub(crate) fn items(alloc: Global, scale: &Scale) -> Result<Shelves<ItemKey, Item>, NoMemory>
     ensures { IfOk result (λ t. Fills (has_item scale.now) (λ k. item_of k.item) empty (rows_of item_cmp t)) }
 {
-    let mut table = Table::new(alloc);
+    let mut table = Shelves::new(alloc);
     for before in 0..scale.items.get() {
         let key = ItemKey {
             item: number(before + 1),
@@ -287,7 +290,7 @@ pub(crate) fn items(alloc: Global, scale: &Scale) -> Result<Table<ItemKey, Item>
 
 /// Puts the stocks of a warehouse.
 fn fill_stocks(
-    table: &mut Table<StockKey, Stock>,
+    table: &mut Shelves<StockKey, Stock>,
     scale: &Scale,
     warehouse: WarehouseNumber,
 ) -> Result<(), NoMemory>
@@ -305,10 +308,10 @@ fn fill_stocks(
 }
 
 /// A stock of each item in each warehouse.
-pub(crate) fn stocks(alloc: Global, scale: &Scale) -> Result<Table<StockKey, Stock>, NoMemory>
+pub(crate) fn stocks(alloc: Global, scale: &Scale) -> Result<Shelves<StockKey, Stock>, NoMemory>
     ensures { IfOk result (λ t. Fills (has_stock scale.now) (λ k. stock_of k.warehouse k.item) empty (rows_of stock_cmp t)) }
 {
-    let mut table = Table::new(alloc);
+    let mut table = Shelves::new(alloc);
     for before in 0..scale.warehouses.get() {
         fill_stocks(&mut table, scale, number(before + 1))?;
     }

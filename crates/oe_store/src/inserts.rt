@@ -42,6 +42,7 @@ impl Tables {
         ensures err { OnErr result (self.new ≡ self.old) }
     {
         let _number = key.order.get();
+        let _carrier = row.carrier;
         self.orders.put_new(key, row)
     }
 

@@ -10,7 +10,7 @@ use oe_keys::{
     WarehouseKey,
 };
 use oe_rows::{Customer, District, History, Item, NewOrder, Order, OrderLine, Stock, Warehouse};
-use oe_table::tables::Table;
+use oe_table::shelves::Shelves;
 use std::alloc::Global;
 use std::marker::Model;
 
@@ -22,15 +22,15 @@ use std::marker::Model;
 /// tables, kept by the same calls.
 #[derive(Drop)]
 pub struct Tables {
-    pub(crate) warehouses: Table<WarehouseKey, Warehouse>,
-    pub(crate) districts: Table<DistrictKey, District>,
-    pub(crate) customers: Table<CustomerKey, Customer>,
-    pub(crate) histories: Table<HistoryKey, History>,
-    pub(crate) new_orders: Table<NewOrderKey, NewOrder>,
-    pub(crate) orders: Table<OrderKey, Order>,
-    pub(crate) order_lines: Table<OrderLineKey, OrderLine>,
-    pub(crate) items: Table<ItemKey, Item>,
-    pub(crate) stocks: Table<StockKey, Stock>,
+    pub(crate) warehouses: Shelves<WarehouseKey, Warehouse>,
+    pub(crate) districts: Shelves<DistrictKey, District>,
+    pub(crate) customers: Shelves<CustomerKey, Customer>,
+    pub(crate) histories: Shelves<HistoryKey, History>,
+    pub(crate) new_orders: Shelves<NewOrderKey, NewOrder>,
+    pub(crate) orders: Shelves<OrderKey, Order>,
+    pub(crate) order_lines: Shelves<OrderLineKey, OrderLine>,
+    pub(crate) items: Shelves<ItemKey, Item>,
+    pub(crate) stocks: Shelves<StockKey, Stock>,
 }
 
 impl Model for Tables {
@@ -51,15 +51,15 @@ impl Tables {
         ensures { rows result ≡ no_rows }
     {
         Tables {
-            warehouses: Table::new(alloc),
-            districts: Table::new(alloc),
-            customers: Table::new(alloc),
-            histories: Table::new(alloc),
-            new_orders: Table::new(alloc),
-            orders: Table::new(alloc),
-            order_lines: Table::new(alloc),
-            items: Table::new(alloc),
-            stocks: Table::new(alloc),
+            warehouses: Shelves::new(alloc),
+            districts: Shelves::new(alloc),
+            customers: Shelves::new(alloc),
+            histories: Shelves::new(alloc),
+            new_orders: Shelves::new(alloc),
+            orders: Shelves::new(alloc),
+            order_lines: Shelves::new(alloc),
+            items: Shelves::new(alloc),
+            stocks: Shelves::new(alloc),
         }
     }
 

@@ -100,6 +100,7 @@ impl Tables {
         ensures places { SamePlaces self.old self.new }
     {
         let _customer = row.customer.get();
+        let _carrier = row.carrier;
         self.orders.swap(&key, row)
     }
 

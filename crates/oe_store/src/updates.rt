@@ -50,6 +50,7 @@ impl Tables {
         ensures places { SamePlaces self.old self.new }
     {
         let _customer = row.customer.get();
+        let _carrier = row.carrier;
         self.orders.swap(&key, row)
     }
 
