@@ -1,2 +1,3 @@
+pub mod ColumnFacts
 pub mod KeyFacts
 pub mod NameFacts

@@ -2,6 +2,7 @@
 ghost use Rattle.std.specs.Prelude.{◌≡◌};
 ghost use Rattle.oe_keys.specs.Key.{table_of, table_name, warehouse_cmp, district_cmp, customer_cmp, history_cmp, new_order_cmp, order_cmp, order_line_cmp, item_cmp, stock_cmp, IsDistrictKey, IsCustomerKey};
 
+use crate::texts::write_key;
 use oe_values::numbers::{
     CustomerNumber, DistrictNumber, HistoryPlace, HistoryTerminal, ItemNumber, LineNumber,
     OrderNumber, TransactionNumber, WarehouseNumber,
@@ -407,57 +408,33 @@ impl fmt::Display for Key {
     ghost output = { λ k. Some (key_text k) };
 
     fn fmt<W: fmt::Write>(&self, f: &mut fmt::Formatter<W>) -> fmt::Result {
-        f.write_str(self.table().name())?;
+        let table = self.table().name();
         match *self {
-            Key::Warehouse(k) => write!(f, " {}", k.warehouse.get()),
-            Key::District(k) => write!(f, " {} {}", k.warehouse.get(), k.district.get()),
+            Key::Warehouse(k) => write_key(f, table, &[k.warehouse.get()]),
+            Key::District(k) => write_key(f, table, &[k.warehouse.get(), k.district.get()]),
             Key::Customer(k) => {
-                write!(
-                    f,
-                    " {} {} {}",
-                    k.warehouse.get(),
-                    k.district.get(),
-                    k.customer.get()
-                )
+                let columns = [k.warehouse.get(), k.district.get(), k.customer.get()];
+                write_key(f, table, &columns)
             }
             Key::History(k) => {
-                write!(
-                    f,
-                    " {} {} {}",
-                    k.terminal.get(),
-                    k.number.get(),
-                    k.place.get()
-                )
+                let columns = [k.terminal.get(), k.number.get(), k.place.get()];
+                write_key(f, table, &columns)
             }
             Key::NewOrder(k) => {
-                write!(
-                    f,
-                    " {} {} {}",
-                    k.warehouse.get(),
-                    k.district.get(),
-                    k.order.get()
-                )
+                let columns = [k.warehouse.get(), k.district.get(), k.order.get()];
+                write_key(f, table, &columns)
             }
             Key::Order(k) => {
-                write!(
-                    f,
-                    " {} {} {}",
-                    k.warehouse.get(),
-                    k.district.get(),
-                    k.order.get()
-                )
+                let columns = [k.warehouse.get(), k.district.get(), k.order.get()];
+                write_key(f, table, &columns)
             }
             Key::OrderLine(k) => {
                 let (warehouse, district) = (k.warehouse.get(), k.district.get());
-                write!(
-                    f,
-                    " {warehouse} {district} {} {}",
-                    k.order.get(),
-                    k.number.get()
-                )
+                let columns = [warehouse, district, k.order.get(), k.number.get()];
+                write_key(f, table, &columns)
             }
-            Key::Item(k) => write!(f, " {}", k.item.get()),
-            Key::Stock(k) => write!(f, " {} {}", k.warehouse.get(), k.item.get()),
+            Key::Item(k) => write_key(f, table, &[k.item.get()]),
+            Key::Stock(k) => write_key(f, table, &[k.warehouse.get(), k.item.get()]),
         }
     }
 }

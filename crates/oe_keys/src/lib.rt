@@ -5,6 +5,7 @@
 pub mod keys;
 pub mod locks;
 pub mod table_keys;
+mod texts;
 
 pub use keys::{
     CustomerKey, DistrictKey, HistoryKey, ItemKey, Key, NewOrderKey, OrderKey, OrderLineKey,

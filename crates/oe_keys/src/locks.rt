@@ -3,6 +3,7 @@ ghost use Rattle.std.specs.Prelude.{◌≡◌};
 ghost use Rattle.oe_keys.specs.Lock.{name_cmp};
 
 use crate::keys::{CustomerKey, DistrictKey, OrderKey, StockKey, WarehouseKey};
+use crate::texts::write_name;
 use std::cmp::Ordering;
 use std::fmt;
 
@@ -41,30 +42,20 @@ impl fmt::Display for Name {
 
     fn fmt<W: fmt::Write>(&self, f: &mut fmt::Formatter<W>) -> fmt::Result {
         match *self {
-            Name::Warehouse(k) => write!(f, "Warehouse({})", k.warehouse.get()),
+            Name::Warehouse(k) => write_name(f, "Warehouse", k.warehouse.get(), &[]),
             Name::District(k) => {
-                write!(f, "District({},{})", k.warehouse.get(), k.district.get())
+                write_name(f, "District", k.warehouse.get(), &[k.district.get()])
             }
             Name::Customer(k) => {
-                write!(
-                    f,
-                    "Customer({},{},{})",
-                    k.warehouse.get(),
-                    k.district.get(),
-                    k.customer.get()
-                )
+                let others = [k.district.get(), k.customer.get()];
+                write_name(f, "Customer", k.warehouse.get(), &others)
             }
             Name::Order(k) => {
-                write!(
-                    f,
-                    "Order({},{},{})",
-                    k.warehouse.get(),
-                    k.district.get(),
-                    k.order.get()
-                )
+                let others = [k.district.get(), k.order.get()];
+                write_name(f, "Order", k.warehouse.get(), &others)
             }
-            Name::Queue(k) => write!(f, "Queue({},{})", k.warehouse.get(), k.district.get()),
-            Name::Stock(k) => write!(f, "Stock({},{})", k.warehouse.get(), k.item.get()),
+            Name::Queue(k) => write_name(f, "Queue", k.warehouse.get(), &[k.district.get()]),
+            Name::Stock(k) => write_name(f, "Stock", k.warehouse.get(), &[k.item.get()]),
         }
     }
 }
