@@ -33,7 +33,7 @@ pub struct CustomerKey {
 
 /// The key of a HISTORY row, which the standard leaves without one: the terminal, the place of the transaction among
 /// the terminal's, and the row's place in the transaction.
-#[derive(Clone, Copy, Debug, PartialEq, Eq, PartialOrd, Ord, Hash)]
+#[derive(Clone, Copy, Debug, PartialEq, Eq, PartialOrd, Ord)]
 pub struct HistoryKey {
     pub terminal: HistoryTerminal,
     pub number: TransactionNumber,
@@ -41,7 +41,7 @@ pub struct HistoryKey {
 }
 
 /// The key of a NEW-ORDER row: NO_W_ID, NO_D_ID, NO_O_ID.
-#[derive(Clone, Copy, Debug, PartialEq, Eq, PartialOrd, Ord, Hash)]
+#[derive(Clone, Copy, Debug, PartialEq, Eq, PartialOrd, Ord)]
 pub struct NewOrderKey {
     pub warehouse: WarehouseNumber,
     pub district: DistrictNumber,
@@ -57,7 +57,7 @@ pub struct OrderKey {
 }
 
 /// The key of an ORDER-LINE row: OL_W_ID, OL_D_ID, OL_O_ID, OL_NUMBER.
-#[derive(Clone, Copy, Debug, PartialEq, Eq, PartialOrd, Ord, Hash)]
+#[derive(Clone, Copy, Debug, PartialEq, Eq, PartialOrd, Ord)]
 pub struct OrderLineKey {
     pub warehouse: WarehouseNumber,
     pub district: DistrictNumber,
@@ -66,7 +66,7 @@ pub struct OrderLineKey {
 }
 
 /// The key of an ITEM row: I_ID.
-#[derive(Clone, Copy, Debug, PartialEq, Eq, PartialOrd, Ord, Hash)]
+#[derive(Clone, Copy, Debug, PartialEq, Eq, PartialOrd, Ord)]
 pub struct ItemKey {
     pub item: ItemNumber,
 }
@@ -79,7 +79,7 @@ pub struct StockKey {
 }
 
 /// The key of a row of any table.
-#[derive(Clone, Copy, Debug, PartialEq, Eq, PartialOrd, Ord, Hash)]
+#[derive(Clone, Copy, Debug, PartialEq, Eq)]
 pub enum Key {
     Warehouse(WarehouseKey),
     District(DistrictKey),
@@ -93,7 +93,7 @@ pub enum Key {
 }
 
 /// The nine tables (clause 1.2.1).
-#[derive(Clone, Copy, Debug, PartialEq, Eq, PartialOrd, Ord, Hash)]
+#[derive(Clone, Copy, Debug, PartialEq, Eq)]
 pub enum Table {
     Warehouse,
     District,

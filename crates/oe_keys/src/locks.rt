@@ -19,7 +19,7 @@ pub enum Name {
 }
 
 /// How a name is held: with others, or alone.
-#[derive(Clone, Copy, Debug, PartialEq, Eq, PartialOrd, Ord, Hash)]
+#[derive(Clone, Copy, Debug, PartialEq, Eq, PartialOrd, Ord)]
 pub enum Mode {
     Shared,
     Exclusive,
