@@ -7,7 +7,7 @@ use oe_values::stamps::Stamp;
 use oe_values::texts::Text;
 
 /// C_FIRST, C_MIDDLE and C_LAST (clause 1.3.1).
-#[derive(Drop, Clone, Debug, PartialEq, Eq)]
+#[derive(Drop, Debug)]
 pub struct CustomerName {
     pub first: Text<0, 16>,
     pub middle: Text<2, 2>,
@@ -23,7 +23,7 @@ pub enum Credit {
 
 /// A customer's money and counts: C_CREDIT_LIM, C_DISCOUNT, C_BALANCE, C_YTD_PAYMENT, C_PAYMENT_CNT and C_DELIVERY_CNT
 /// (clause 1.3.1).
-#[derive(Clone, Copy, Debug, PartialEq, Eq)]
+#[derive(Clone, Copy, Debug)]
 pub struct Account {
     pub credit_limit: YearToDate,
     pub discount: Rate,
@@ -34,7 +34,7 @@ pub struct Account {
 }
 
 /// A CUSTOMER row without its key (clause 1.3.1).
-#[derive(Drop, Clone, Debug, PartialEq, Eq)]
+#[derive(Drop, Debug)]
 pub struct Customer {
     pub name: CustomerName,
     pub address: Address,

@@ -7,7 +7,7 @@ use oe_values::numbers::{Count, DistrictNumber, ImageNumber, Price, StockYtd};
 use oe_values::texts::Text;
 
 /// An ITEM row without its key (clause 1.3.1).
-#[derive(Drop, Clone, Debug, PartialEq, Eq)]
+#[derive(Drop, Debug)]
 pub struct Item {
     pub image: ImageNumber,
     pub name: Text<0, 24>,
@@ -16,7 +16,7 @@ pub struct Item {
 }
 
 /// A STOCK row without its key (clause 1.3.1). `dist_info` has S_DIST_01 to S_DIST_10.
-#[derive(Drop, Clone, Debug, PartialEq, Eq)]
+#[derive(Drop, Debug)]
 pub struct Stock {
     pub quantity: Count,
     pub dist_info: [Text<24, 24>; 10],

@@ -12,7 +12,7 @@ use oe_values::texts::Text;
 pub struct NewOrder;
 
 /// An ORDER row without its key (clause 1.3.1). The carrier is null until the order is delivered.
-#[derive(Clone, Copy, Debug, PartialEq, Eq)]
+#[derive(Clone, Copy, Debug)]
 pub struct Order {
     pub customer: CustomerNumber,
     pub entry: Stamp,
@@ -22,7 +22,7 @@ pub struct Order {
 }
 
 /// An ORDER-LINE row without its key (clause 1.3.1). The delivery date is null until the order is delivered.
-#[derive(Drop, Clone, Debug, PartialEq, Eq)]
+#[derive(Drop, Debug)]
 pub struct OrderLine {
     pub item: ItemNumber,
     pub supply: WarehouseNumber,

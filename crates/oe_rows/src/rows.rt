@@ -11,7 +11,7 @@ use crate::warehouses::Warehouse;
 use oe_keys::keys::Table;
 
 /// A row of any table, without its key.
-#[derive(Drop, Clone, Debug, PartialEq, Eq)]
+#[derive(Drop, Debug)]
 pub enum Row {
     Warehouse(Warehouse),
     District(District),
