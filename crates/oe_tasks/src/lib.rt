@@ -4,9 +4,6 @@ ghost use Rattle.std.specs.Prelude.{◌≡◌, ◌↔◌, ◌==◌, IsFalse, cod
 ghost use Rattle.oe_tasks.specs.Words.{Asks};
 ghost use Rattle.oe_tasks.specs.declared.Task.{Task};
 
-#[cfg(test)]
-mod tests;
-
 use clap::error::ErrorKind;
 use clap::{Arg, Command, Error};
 use std::alloc::Global;
