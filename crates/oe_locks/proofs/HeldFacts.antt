@@ -1,118 +1,271 @@
--- What is held, seen in the maps of the terminals.
-use Rattle.std.proofs.Common.{◌≡◌, ◌≢◌, ℕ, suc, zero, ◌+◌, ◌<◌, ◌≤◌, ◌⊎◌, inl, inr, Bool, true, false, cond, if◌then◌else◌, List, [], ◌∷◌, map, length, get_or, set, Option, None, Some, IsSome, refl, sym, ap, ◌∙◌, subst, arith, add-one}
-use Rattle.std.proofs.lemmas.Bool.{cases_eq}
-use Rattle.std.proofs.lemmas.List.{nil_from_length, length-set, get_or-map, length-map, map-set, get_or_past, get_or-set_same, get_or-set_other}
-use Rattle.std.proofs.lemmas.List.Elements.{recursion_from_All}
-use Rattle.std.proofs.Math.Seq.{map-set_same}
-use Rattle.std.specs.List.{All, AllByRecursion}
-use Rattle.std.specs.HashMap.{HashMap}
+-- What is held, by the map from names to holders, and what stands on the terminals' lists.
+use Rattle.std.proofs.Common.{◌≡◌, ◌≢◌, ℕ, suc, ◌+◌, ◌<◌, ◌==◌, inl, inr, Bool, true, false, not, ◌||◌, cond, if◌then◌else◌, List, [], ◌∷◌, ◌++◌, map, length, get_or, set, Option, None, Some, IsSome, is_some, refl, sym, ap, ◌∙◌, subst, arith, add-one}
+use Rattle.std.proofs.lemmas.Bool.{cases_eq, cond-true, cond-false, eq-eqb, ne_eqb, false≢true}
+use Rattle.std.proofs.lemmas.List.{length-map, map-set, get_or-map, get_or-set_same, get_or-set_other}
+use Rattle.std.specs.Prelude.{MatchOption, OnOk, OnErr, IfErr}
+use Rattle.std.specs.declared.result.Result.{Result}
+use Rattle.std.specs.declared.result.Result.TheVariants.{Ok, Err}
+use Rattle.std.specs.List.{filter}
 use Rattle.std.specs.Map.{lookup}
+use Rattle.std.specs.Global.{Vec}
 use Rattle.oe_keys.specs.declared.locks.Name.{Name}
 use Rattle.oe_keys.specs.declared.locks.Mode.{Mode}
 use Rattle.oe_keys.specs.declared.locks.Mode.TheVariants.{Shared, Exclusive}
 use Rattle.oe_keys.specs.contracts.locks.NamePartialEq.TheImpl.{ghosts}
-use Rattle.oe_locks.specs.Held.{is_name, held, by_terminal, risen, IsIdle, IsIdleAfter, OthersKeep, IsBelow}
-use Rattle.oe_locks.proofs.NameFacts.{eq_is_name, lookup_is_name, name_true, name_sym}
+use Rattle.oe_requests.specs.declared.refusals.Refusal.{Refusal}
+use Rattle.oe_requests.specs.declared.refusals.Refusal.TheVariants.{NoMemory}
+use Rattle.oe_locks.specs.declared.holders.Holders.{Holders}
+use Rattle.oe_locks.specs.declared.holders.Holders.TheVariants.{Alone, Together}
+use Rattle.oe_locks.specs.Held.{Holdings, held, is_name, go_together, risen, IsIdle, IsFree, IsFreeFor, IsFirstInTheWay, IsInTheWay, Takes, GivesBack, OthersKeep, IsBelow, IsCause}
+use Rattle.oe_locks.specs.Holders.{has, mode_among, mode_by}
+use Rattle.oe_locks.specs.Listed.{stands, IsListed, AreListed}
+use Rattle.oe_locks.proofs.NameFacts.{eq_is_name, name_true, name_sym}
 
-module _ {S : Type 0} where
-  -- the names of the terminal whose map is at i
-  entries-at : (xs : List (HashMap Name Mode S)) (i t : ℕ) (m : HashMap Name Mode S) → i + 1 ≡ t → i < length xs → m ≡ get_or xs i m
-      → get_or ([] ∷ map (λ m. m.entries) xs) t [] ≡ m.entries
-  entries-at xs i t m e l is =
-      ap (λ n. get_or ([] ∷ map (λ m. m.entries) xs) n []) (sym e ∙ add-one i) ∙ (get_or-map (λ m. m.entries) xs i m [] l ∙ ap (λ m. m.entries) (sym is))
+-- an empty map holds nothing
+pub idle-empty : (locks : Holdings) → locks ≡ [] → IsIdle locks
+unfolding held
+idle-empty locks e t q = ap (λ es. mode_by (lookup (ghosts.eq q) es) t) e
 
-  -- a terminal holds what its map has
-  pub held-at : (xs : List (HashMap Name Mode S)) (i t : ℕ) (m : HashMap Name Mode S) (q : Name) → i + 1 ≡ t → i < length xs → m ≡ get_or xs i m
-      → lookup (ghosts.eq q) m.entries ≡ held (by_terminal xs) t q
-  unfolding held by_terminal
-  held-at xs i t m q e l is = lookup_is_name q m.entries ∙ ap (λ es. lookup (is_name q) es) (sym (entries-at xs i t m e l is))
+-- a name's holders are those of the map
+module _ (locks : Holdings) (n : Name) (o : Option Holders) (is : lookup (ghosts.eq n) locks ≡ o) where
+  pub held-is : (u : ℕ) → held locks u n ≡ mode_by o u
+  unfolding held
+  held-is u = ap (λ z. mode_by z u) is
 
-  -- a terminal whose map is empty holds nothing
-  pub held-empty : (xs : List (HashMap Name Mode S)) (i t : ℕ) (m : HashMap Name Mode S) (q : Name) → i + 1 ≡ t → i < length xs → m ≡ get_or xs i m
-      → length m.entries ≡ 0 → None ≡ held (by_terminal xs) t q
-  held-empty xs i t m q e l is none =
-      sym (ap (λ es. lookup (ghosts.eq q) es) (nil_from_length m.entries none)) ∙ held-at xs i t m q e l is
+  pub free-is : (t : ℕ) (m : Mode) → IsFree (mode_by o) t m → IsFreeFor locks t n m
+  free-is t m free u ne = ap (go_together m) (held-is u) ∙ free u ne
 
-  -- no terminal is 0
-  pub held-none : (xs : List (HashMap Name Mode S)) (q : Name) → held (by_terminal xs) 0 q ≡ None
-  unfolding held by_terminal
-  held-none xs q = refl
+  pub first-is : (t : ℕ) (m : Mode) (u : ℕ) → IsFirstInTheWay (mode_by o) t m u → IsInTheWay locks t n m u
+  first-is t m u h = record {
+    other = h.other;
+    conflicts = ap (go_together m) (held-is u) ∙ h.conflicts;
+    least = λ v b ne. ap (go_together m) (held-is v) ∙ h.least v b ne;
+  }
 
-  -- no terminal past the last one holds a name
-  pub held-past : (xs : List (HashMap Name Mode S)) (u : ℕ) (q : Name) → length xs < u → held (by_terminal xs) u q ≡ None
-  unfolding held by_terminal
-  held-past xs u q h = ap (λ es. lookup (is_name q) es) (get_or_past ([] ∷ map (λ m. m.entries) xs) u [] (omega (arith, length-map xs (λ m. m.entries))))
+  pub way-is : (t : ℕ) (m : Mode) (r : Option ℕ) → MatchOption r (IsFree (mode_by o) t m) (IsFirstInTheWay (mode_by o) t m) → MatchOption r (IsFreeFor locks t n m) (IsInTheWay locks t n m)
+  way-is t m None h = free-is t m h
+  way-is t m (Some u) h = first-is t m u h
 
-  -- a write of one terminal's map leaves what the others hold
-  pub held-set_other : (xs : List (HashMap Name Mode S)) (i t : ℕ) (m : HashMap Name Mode S) → i + 1 ≡ t
-      → OthersKeep (by_terminal xs) (by_terminal (set xs i m)) t
-  unfolding held by_terminal
-  held-set_other xs i t m e u ne q =
-      let apart : u ≢ suc i = omega (arith, add-one i) in
-      ap (λ es. lookup (is_name q) es) (ap (λ es. get_or ([] ∷ es) u []) (map-set (λ m. m.entries) xs i m) ∙ get_or-set_other ([] ∷ map (λ m. m.entries) xs) (suc i) u m.entries [] apart)
-
-  -- and the terminal holds what the new map has
-  pub held-set_same : (xs : List (HashMap Name Mode S)) (i t : ℕ) (m : HashMap Name Mode S) → i + 1 ≡ t → i < length xs
-      → (q : Name) → held (by_terminal (set xs i m)) t q ≡ lookup (ghosts.eq q) m.entries
-  held-set_same xs i t m e l q =
-      sym (held-at (set xs i m) i t m q e (subst (λ n. i < n) (sym (length-set xs i m)) l) (sym (get_or-set_same xs i m m l)))
-
-  -- what the terminal holds after its map has changed at one name
-  pub held-changed : (xs : List (HashMap Name Mode S)) (i t : ℕ) (old new : HashMap Name Mode S) (name : Name) (w : Option Mode)
-      → i + 1 ≡ t → i < length xs → old ≡ get_or xs i old
-      → ((q : Name) → lookup (ghosts.eq q) new.entries ≡ cond (ghosts.eq name q) w (lookup (ghosts.eq q) old.entries))
-      → (q : Name) → held (by_terminal (set xs i new)) t q ≡ (if is_name q name then w else held (by_terminal xs) t q)
-  held-changed xs i t old new name w e l is h q =
-      held-set_same xs i t new e l q ∙ h q
-      ∙ ap (λ b. cond b w (lookup (ghosts.eq q) old.entries)) (eq_is_name name q ∙ name_sym name q)
-      ∙ ap (λ o. cond (is_name q name) w o) (held-at xs i t old q e l is)
-
-  -- a map with the entries of the one in whose place it comes changes nothing
-  pub by_terminal-set_same : (xs : List (HashMap Name Mode S)) (i : ℕ) (old new : HashMap Name Mode S) → old ≡ get_or xs i old
-      → new.entries ≡ old.entries → by_terminal (set xs i new) ≡ by_terminal xs
-  unfolding by_terminal
-  by_terminal-set_same xs i old new is e = ap (λ es. [] ∷ es) (map-set_same (λ m. m.entries) xs i new old (e ∙ ap (λ m. m.entries) is))
-
-  empty-at : (xs : List (HashMap Name Mode S)) → AllByRecursion (λ m. m.entries ≡ []) xs → (i : ℕ) → get_or (map (λ m. m.entries) xs) i [] ≡ []
-  empty-at [] h i = refl
-  empty-at (x ∷ xs) h zero = h.0
-  empty-at (x ∷ xs) h (suc i) = empty-at xs h.1 i
-
-  -- maps without entries hold nothing
-  pub IsIdle-empty : (xs : List (HashMap Name Mode S)) → All (λ m. m.entries ≡ []) xs → IsIdle (by_terminal xs)
-  unfolding held by_terminal
-  IsIdle-empty xs h zero q = refl
-  IsIdle-empty xs h (suc i) q = ap (λ es. lookup (is_name q) es) (empty-at xs (recursion_from_All (λ m. m.entries ≡ []) xs h) i)
-
-  -- a write of one terminal's map leaves those after a last one idle
-  pub idle-set : (xs : List (HashMap Name Mode S)) (i t last last' : ℕ) (m : HashMap Name Mode S) → i + 1 ≡ t → i < length xs → last ≤ last'
-      → ((q : Name) → last' < t → lookup (ghosts.eq q) m.entries ≡ None)
-      → IsIdleAfter (by_terminal xs) last → IsIdleAfter (by_terminal (set xs i m)) last'
-  idle-set xs i t last last' m e l le none idle u b q = go (cases_eq u t)
-    where
-      go : (u ≡ t) ⊎ (u ≢ t) → held (by_terminal (set xs i m)) u q ≡ None
-      go (inl s) = ap (λ n. held (by_terminal (set xs i m)) n q) s ∙ (held-set_same xs i t m e l q ∙ none q (subst (λ n. last' < n) s b))
-      go (inr ne) = held-set_other xs i t m e u ne q ∙ idle u (omega (arith, le, b)) q
-
--- where the test passes, the name is that one
-pub risen-at : (f : Name → Option Mode) (q n : Name) (m : Mode)
-    → (if is_name q n then Some (risen m (f n)) else f q) ≡ (if is_name q n then Some (risen m (f q)) else f q)
-risen-at f q n m = go (is_name q n) refl
+-- a name that is held is in the map
+pub in_map : (locks : Holdings) (t : ℕ) (n : Name) → IsSome (held locks t n) → IsSome (lookup (ghosts.eq n) locks)
+unfolding held
+in_map locks t n h = go (lookup (ghosts.eq n) locks) h
   where
-    go : (b : Bool) → is_name q n ≡ b → (if b then Some (risen m (f n)) else f q) ≡ (if b then Some (risen m (f q)) else f q)
-    go true e = ap (λ k. Some (risen m (f k))) (sym (name_true q n e))
+    go : (o : Option Holders) → IsSome (mode_by o t) → IsSome o
+    go None s = s
+    go (Some x) s = refl
+
+-- the map has changed at one name
+module _ (old new : Holdings) (n : Name) (o : Option Holders) (is : (q : Name) → lookup (ghosts.eq q) new ≡ cond (ghosts.eq n q) o (lookup (ghosts.eq q) old)) where
+  pub own-changed : (u : ℕ) → GivesBack old new u n (mode_by o u)
+  unfolding held
+  own-changed u q =
+      ap (λ z. mode_by z u) (is q ∙ ap (λ b. cond b o (lookup (ghosts.eq q) old)) (eq_is_name n q ∙ name_sym n q)) ∙ go (is_name q n)
+    where
+      go : (b : Bool) → mode_by (cond b o (lookup (ghosts.eq q) old)) u ≡ cond b (mode_by o u) (mode_by (lookup (ghosts.eq q) old) u)
+      go true = refl
+      go false = refl
+
+  pub others-changed : (t : ℕ) → ((u : ℕ) → u ≢ t → mode_by o u ≡ held old u n) → OthersKeep old new t
+  others-changed t same u ne q = own-changed u q ∙ go (is_name q n) refl
+    where
+      go : (b : Bool) → is_name q n ≡ b → cond b (mode_by o u) (held old u q) ≡ held old u q
+      go true e = same u ne ∙ ap (held old u) (sym (name_true q n e))
+      go false e = refl
+
+-- a terminal rises among the name's holders
+module _ (locks : Holdings) (n : Name) (o : Option Holders) (is : lookup (ghosts.eq n) locks ≡ o) (t : ℕ) (m : Mode) (h : Holders)
+    (rise : (u : ℕ) → mode_among h u ≡ (if u == t then Some (risen m (mode_by o u)) else mode_by o u)) where
+  pub risen-own : mode_among h t ≡ Some (risen m (held locks t n))
+  risen-own =
+      rise t ∙ (cond-true (t == t) (Some (risen m (mode_by o t))) (mode_by o t) (eq-eqb t t refl) ∙ ap (λ z. Some (risen m z)) (sym (held-is locks n o is t)))
+
+  pub risen-others : (u : ℕ) → u ≢ t → mode_among h u ≡ held locks u n
+  risen-others u ne =
+      rise u ∙ (cond-false (u == t) (Some (risen m (mode_by o u))) (mode_by o u) (ne_eqb u t ne) ∙ sym (held-is locks n o is u))
+
+-- where nobody holds the name, it is held in the mode asked for
+pub risen-none : (m : Mode) → m ≡ risen m None
+risen-none Shared = refl
+risen-none Exclusive = refl
+
+-- why a name is refused that nobody is in the way of
+pub cause-is : (locks : Holdings) (t : ℕ) (n : Name) (m : Mode) {T : Type 0} (r : Result T Refusal) → IfErr r (λ e. e ≡ NoMemory) → IsFreeFor locks t n m → held locks t n ≡ None
+    → IfErr r (IsCause locks t n m)
+cause-is locks t n m (Ok x) h free none = tt
+cause-is locks t n m (Err e) h free none = subst (IsCause locks t n m) (sym h) (free, none)
+
+-- a terminal has left the name's holders
+module _ (old new : Holdings) (t : ℕ) (n : Name) (h : Holders) (o : Option Holders) (rest : (u : ℕ) → mode_by o u ≡ (if u == t then None else mode_among h u))
+    (is : (q : Name) → lookup (ghosts.eq q) new ≡ cond (ghosts.eq n q) o (lookup (ghosts.eq q) old)) where
+  pub left-own : GivesBack old new t n None
+  left-own q =
+      own-changed old new n o is t q
+      ∙ ap (λ z. if is_name q n then z else held old t q) (rest t ∙ cond-true (t == t) None (mode_among h t) (eq-eqb t t refl))
+
+  pub left-others : lookup (ghosts.eq n) old ≡ Some h → OthersKeep old new t
+  left-others found =
+      others-changed old new n o is t
+      (λ u ne. rest u ∙ (cond-false (u == t) None (mode_among h u) (ne_eqb u t ne) ∙ sym (held-is old n (Some h) found u)))
+
+-- nothing is to be given back where nobody holds the name
+pub given-absent : (locks : Holdings) (t : ℕ) (n : Name) → lookup (ghosts.eq n) locks ≡ None → GivesBack locks locks t n None
+given-absent locks t n none q = go (is_name q n) refl
+  where
+    go : (b : Bool) → is_name q n ≡ b → held locks t q ≡ cond b None (held locks t q)
+    go true e = ap (held locks t) (name_true q n e) ∙ held-is locks n None none t
     go false e = refl
 
--- what is above a mode is held
-pub held-above : (m h : Option Mode) → IsBelow m h → IsSome h
-held-above None None h = absurd h
-held-above (Some Shared) None h = absurd h
-held-above (Some Exclusive) None h = absurd h
-held-above _ (Some n) h = refl
+-- a name that was put into the mode that it rises to is taken
+pub takes-is : (old new : Holdings) (t : ℕ) (n : Name) (m : Mode) (o : Option Mode) → GivesBack old new t n o → o ≡ Some (risen m (held old t n)) → Takes old new t n m
+takes-is old new t n m o own e q = own q ∙ go (is_name q n) refl
+  where
+    go : (b : Bool) → is_name q n ≡ b → cond b o (held old t q) ≡ cond b (Some (risen m (held old t q))) (held old t q)
+    go true s = e ∙ ap (λ k. Some (risen m (held old t k))) (sym (name_true q n s))
+    go false s = refl
 
--- and not none
-pub not-below-none : (m h : Option Mode) → IsBelow m h → h ≡ None → ⊥
-not-below-none None None b e = absurd b
-not-below-none (Some Shared) None b e = absurd b
-not-below-none (Some Exclusive) None b e = absurd b
-not-below-none _ (Some n) b e = let none : ⊥ = cc in none
+-- a name that is not held stays so where it is given back
+pub none-given : (old new : Holdings) (t : ℕ) (n : Name) → GivesBack old new t n None → (q : Name) → held old t q ≡ None → held new t q ≡ None
+none-given old new t n own q e = own q ∙ go (is_name q n)
+  where
+    go : (b : Bool) → cond b None (held old t q) ≡ None
+    go true = refl
+    go false = e
+
+-- or where a name that is held changes its mode
+pub none-changed : (old new : Holdings) (t : ℕ) (n : Name) (o : Option Mode) → GivesBack old new t n o → IsSome (held old t n) → (q : Name) → held old t q ≡ None → held new t q ≡ None
+none-changed old new t n o own some q e = own q ∙ go (is_name q n) refl
+  where
+    go : (b : Bool) → is_name q n ≡ b → cond b o (held old t q) ≡ None
+    go false s = e
+    go true s =
+        let none : held old t n ≡ None = ap (held old t) (sym (name_true q n s)) ∙ e in
+        let never : false ≡ true = ap is_some (sym none) ∙ some in
+        absurd (false≢true never)
+
+-- only an exclusive mode is above another
+above-shared : (m : Mode) (o : Option Mode) → IsBelow (Some m) o → o ≡ Some Exclusive
+above-shared Shared (Some Exclusive) b = refl
+above-shared Shared (Some Shared) b = absurd b
+above-shared Shared None b = absurd b
+above-shared Exclusive (Some Exclusive) b = absurd b
+above-shared Exclusive (Some Shared) b = absurd b
+above-shared Exclusive None b = absurd b
+
+-- beside one that holds a name as exclusive nobody holds it
+pub alone-below : (locks : Holdings) (t u : ℕ) (n : Name) (m : Mode) → u ≢ t → IsBelow (Some m) (held locks t n) → held locks u n ≡ None
+unfolding held
+alone-below locks t u n m ne below = go (lookup (ghosts.eq n) locks) (above-shared m (held locks t n) below)
+  where
+    go : (o : Option Holders) → mode_by o t ≡ Some Exclusive → mode_by o u ≡ None
+    go None e = refl
+    go (Some (Alone h)) e = elim (cases_eq t h) [
+      | inl s ↦ cond-false (u == h) (Some Exclusive) None (ne_eqb u h (λ r. ne (r ∙ sym s)))
+      | inr other ↦
+          let never : None ≡ Some Exclusive = sym (cond-false (t == h) (Some Exclusive) None (ne_eqb t h other)) ∙ e in
+          cc
+    ]
+    go (Some (Together s)) e = absurd (sharer (has s t) e)
+      where
+        sharer : (b : Bool) → (if b then Some Shared else None) ≡ Some Exclusive → ⊥
+        sharer true f = cc
+        sharer false f = cc
+
+-- lists
+
+or_false : (a b : Bool) → (a || b) ≡ false → (a ≡ false) × (b ≡ false)
+or_false false b h = (refl, h)
+or_false true b h = absurd (false≢true (sym h))
+
+-- a list with one more name at its end
+pub stands-push : (xs : List Name) (x q : Name) → stands (xs ++ x ∷ []) q ≡ false → (is_name q x ≡ false) × (stands xs q ≡ false)
+stands-push [] x q h = or_false (is_name q x) false h
+stands-push (y ∷ ys) x q h =
+    let p = or_false (is_name q y) (stands (ys ++ x ∷ []) q) h in
+    let r = stands-push ys x q p.1 in
+    (r.0, ap (λ b. b || stands ys q) p.0 ∙ r.1)
+
+pub stands-popped : (xs : List Name) (x q : Name) → is_name q x ≡ false → stands xs q ≡ false → stands (xs ++ x ∷ []) q ≡ false
+stands-popped [] x q e h = ap (λ b. b || false) e
+stands-popped (y ∷ ys) x q e h =
+    let p = or_false (is_name q y) (stands ys q) h in
+    ap (λ b. b || stands (ys ++ x ∷ []) q) p.0 ∙ stands-popped ys x q e p.1
+
+-- a list without a name
+pub stands-filter : (xs : List Name) (n q : Name) → is_name q n ≡ false → stands (filter (λ x. not (is_name x n)) xs) q ≡ stands xs q
+stands-filter [] n q e = refl
+stands-filter (x ∷ xs) n q e = go (is_name x n) refl (stands-filter xs n q e)
+  where
+    rest : List Name
+    rest = filter (λ x. not (is_name x n)) xs
+
+    go : (b : Bool) → is_name x n ≡ b → stands rest q ≡ stands xs q → stands (cond (not b) (x ∷ rest) rest) q ≡ (is_name q x || stands xs q)
+    go false s ih = ap (λ z. is_name q x || z) ih
+    go true s ih = ih ∙ sym (ap (λ z. z || stands xs q) (ap (is_name q) (name_true x n s) ∙ e))
+
+-- the lists of all terminals
+module _ (xs : List (Vec Name)) (i t : ℕ) (v : Vec Name) (place : i + 1 ≡ t) (within : i < length xs) where
+  abbrev names : List (Vec Name) → List (List Name)
+  names ys = map (λ w. w.items) ys
+
+  -- a terminal's list
+  pub listed-at : (locks : Holdings) → v ≡ get_or xs i v → AreListed locks xs → IsListed locks t v.items
+  listed-at locks is all q h =
+      let here : get_or (names xs) i [] ≡ v.items = get_or-map (λ w. w.items) xs i v [] within ∙ ap (λ w. w.items) (sym is) in
+      ap (λ u. held locks u q) (sym place ∙ add-one i) ∙ all i q (ap (λ l. stands l q) here ∙ h)
+
+  -- one terminal's list and names have changed
+  pub listed-set : (old new : Holdings) → AreListed old xs → OthersKeep old new t → IsListed new t v.items → AreListed new (set xs i v)
+  listed-set old new all others own j q h = elim (cases_eq j i) [
+    | inl e ↦
+        let room : i < length (names xs) = subst (λ n. i < n) (sym (length-map xs (λ w. w.items))) within in
+        let here : get_or (names (set xs i v)) j [] ≡ v.items =
+        ap (λ k. get_or (names (set xs i v)) k []) e
+        ∙ (ap (λ l. get_or l i []) (map-set (λ w. w.items) xs i v) ∙ get_or-set_same (names xs) i v.items [] room)
+        in
+        let at : suc j ≡ t = omega arith in
+        ap (λ u. held new u q) at ∙ own q (sym (ap (λ l. stands l q) here) ∙ h)
+    | inr ne ↦
+        let there : get_or (names (set xs i v)) j [] ≡ get_or (names xs) j [] = ap (λ l. get_or l j []) (map-set (λ w. w.items) xs i v) ∙ get_or-set_other (names xs) i j v.items [] ne in
+        let apart : suc j ≢ t = omega arith in
+        others (suc j) apart q ∙ all j q (sym (ap (λ l. stands l q) there) ∙ h)
+  ]
+
+-- names that stay on their lists
+pub listed-kept : (xs : List (Vec Name)) (old new : Holdings) (t : ℕ) → OthersKeep old new t → ((q : Name) → held old t q ≡ None → held new t q ≡ None) → AreListed old xs → AreListed new xs
+listed-kept xs old new t others own all j q h = elim (cases_eq (suc j) t) [
+  | inl e ↦ ap (λ u. held new u q) e ∙ own q (ap (λ u. held old u q) (sym e) ∙ all j q h)
+  | inr ne ↦ others (suc j) ne q ∙ all j q h
+]
+
+-- a name that was given back is off the list
+pub struck : (old new : Holdings) (t : ℕ) (n : Name) (before after : List Name) → GivesBack old new t n None → after ≡ filter (λ x. not (is_name x n)) before → IsListed old t before
+    → IsListed new t after
+struck old new t n before after own is listed q h = own q ∙ go (is_name q n) refl
+  where
+    go : (b : Bool) → is_name q n ≡ b → cond b None (held old t q) ≡ None
+    go true e = refl
+    go false e = listed q (sym (stands-filter before n q e) ∙ (ap (λ l. stands l q) (sym is) ∙ h))
+
+-- a name that was taken is on the list, and all is as before where it was refused
+pub entered : (old new : Holdings) (t : ℕ) (n : Name) (o : Option Holders) (before after : List Name) {T E : Type 0} (r : Result T E)
+    → OnOk r ((q : Name) → lookup (ghosts.eq q) new ≡ cond (ghosts.eq n q) o (lookup (ghosts.eq q) old)) → OnOk r (after ≡ before ++ n ∷ []) → OnErr r ((new ≡ old) × (after ≡ before))
+    → ((u : ℕ) → u ≢ t → mode_by o u ≡ held old u n) → IsListed old t before → OthersKeep old new t × IsListed new t after
+entered old new t n o before after (Ok x) is list err same listed = (others-changed old new n o is t same, own)
+  where
+    own : IsListed new t after
+    own q h =
+        let p = stands-push before n q (ap (λ l. stands l q) (sym list) ∙ h) in
+        own-changed old new n o is t q ∙ ap (λ b. cond b (mode_by o t) (held old t q)) p.0 ∙ listed q p.1
+entered old new t n o before after (Err e) is list err same listed = (
+  λ u ne q. ap (λ z. held z u q) err.0,
+  λ q h. ap (λ z. held z t q) err.0 ∙ listed q (ap (λ l. stands l q) (sym err.1) ∙ h),
+)
+
+-- a name that was taken off the end and given back
+pub popped : (old new : Holdings) (t : ℕ) (n : Name) (before after : List Name) → GivesBack old new t n None → before ≡ after ++ n ∷ [] → IsListed old t before → IsListed new t after
+popped old new t n before after own is listed q h = own q ∙ go (is_name q n) refl
+  where
+    go : (b : Bool) → is_name q n ≡ b → cond b None (held old t q) ≡ None
+    go true e = refl
+    go false e = listed q (ap (λ l. stands l q) is ∙ stands-popped after n q e h)

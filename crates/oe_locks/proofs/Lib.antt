@@ -1,2 +1,4 @@
 pub mod HeldFacts
+pub mod HolderFacts
 pub mod NameFacts
+pub mod SetFacts

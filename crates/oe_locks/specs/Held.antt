@@ -1,13 +1,15 @@
 -- Names that are held by terminals, and the modes in which they are held.
-use Rattle.std.specs.Prelude.{◌≡◌, ◌≢◌, ℕ, ◌<◌, ◌==◌, ◌&&◌, Bool, true, false, Option, None, Some, List, [], ◌∷◌, map, slice_index_or, if◌then◌else◌}
+use Rattle.std.specs.Prelude.{◌≡◌, ◌≢◌, ℕ, ◌<◌, ◌==◌, ◌&&◌, Bool, true, false, Option, None, Some, List, if◌then◌else◌}
 use Rattle.std.specs.Map.{lookup}
-use Rattle.std.specs.HashMap.{HashMap}
+use Rattle.oe_keys.specs.contracts.locks.NamePartialEq.TheImpl.{ghosts}
 use Rattle.oe_keys.specs.declared.locks.Name.{Name}
 use Rattle.oe_keys.specs.declared.locks.Name.TheVariants.{Warehouse, District, Customer, Order, Queue, Stock}
 use Rattle.oe_keys.specs.declared.locks.Mode.{Mode}
 use Rattle.oe_keys.specs.declared.locks.Mode.TheVariants.{Shared, Exclusive}
 use Rattle.oe_requests.specs.declared.refusals.Refusal.{Refusal}
 use Rattle.oe_requests.specs.declared.refusals.Refusal.TheVariants.{Busy, NoMemory}
+use Rattle.oe_locks.specs.declared.holders.Holders.{Holders}
+use Rattle.oe_locks.specs.Holders.{mode_by}
 
 -- the two are one name: of one kind, with the same columns
 abbrev pub is_name : Name → Name → Bool
@@ -38,17 +40,13 @@ IsBelow None (Some m) = Unit {0}
 IsBelow (Some Shared) (Some Exclusive) = Unit {0}
 IsBelow _ _ = ⊥
 
--- the names that each terminal holds, with their modes, by the terminal's number; 0 is no terminal's
+-- the names that are held, each with its holders
 abbrev pub Holdings : Type 0
-Holdings = List (List (Name × Mode))
+Holdings = List (Name × Holders)
 
--- the mode in which a terminal holds a name
+-- the mode in which a terminal holds a name. 0 is no terminal's number
 unfoldable pub held : Holdings → ℕ → Name → Option Mode
-held locks t q = lookup (is_name q) (slice_index_or locks t [])
-
--- the holdings that stand in the maps of the terminals from 1 on
-unfoldable pub by_terminal : {S : Type 0} → List (HashMap Name Mode S) → Holdings
-by_terminal maps = [] ∷ map (λ m. m.entries) maps
+held locks t q = mode_by (lookup (ghosts.eq q) locks) t
 
 -- the terminal holds no name
 abbrev pub HoldsNothing : Holdings → ℕ → Type 0
@@ -58,9 +56,15 @@ HoldsNothing locks t = (q : Name) → held locks t q ≡ None
 abbrev pub IsIdle : Holdings → Type 0
 IsIdle locks = (t : ℕ) → HoldsNothing locks t
 
--- no terminal after that one holds a name
-abbrev pub IsIdleAfter : Holdings → ℕ → Type 0
-IsIdleAfter locks last = (u : ℕ) → last < u → HoldsNothing locks u
+-- of the modes in which the terminals hold one name, no other's conflicts with the mode
+abbrev pub IsFree : (ℕ → Option Mode) → ℕ → Mode → Type 0
+IsFree modes t m = (u : ℕ) → u ≢ t → go_together m (modes u) ≡ true
+
+-- the least other terminal whose mode conflicts
+pub record IsFirstInTheWay (modes : ℕ → Option Mode) (t : ℕ) (m : Mode) (u : ℕ) : Type 0 where
+  pub other : u ≢ t
+  pub conflicts : go_together m (modes u) ≡ false
+  pub least : (v : ℕ) → v < u → v ≢ t → go_together m (modes v) ≡ true
 
 -- no other terminal holds the name in a mode that conflicts
 abbrev pub IsFreeFor : Holdings → ℕ → Name → Mode → Type 0

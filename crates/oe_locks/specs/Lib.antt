@@ -1,1 +1,3 @@
 pub mod Held
+pub mod Holders
+pub mod Listed

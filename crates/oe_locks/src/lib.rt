@@ -1,21 +1,31 @@
 //! A lock manager that never waits. A terminal has at most one transaction, so the holders of a name are terminals. Two
 //! of them conflict on a name where at least one of their modes is exclusive.
+//!
+//! One map goes from each name that is held to its holders, and it alone says who holds what. Beside it each terminal has a list
+//! on which all names stand that it holds: so a terminal lets go of its names without a look at the others'. Memory is wanted
+//! only for a name that a terminal does not hold yet.
 #![tactic(auto)]
 
-ghost use Rattle.std.specs.Prelude.{◌≡◌, ◌+◌, ◌<◌, ◌≤◌, MatchOption, OnOk, OnErr, IfOk, IfErr, IsSome, not, None, if◌then◌else◌};
+ghost use Rattle.std.specs.Prelude.{◌≡◌, ◌≢◌, ◌+◌, ◌<◌, [], ◌++◌, ◌∷◌, ℕ, not, MatchOption, OnOk, OnErr, IfOk, IfErr, IsSome, Some, None, if◌then◌else◌};
+ghost use Rattle.std.specs.List.{filter};
+ghost use Rattle.std.specs.HashMap.{get};
 ghost use Rattle.oe_keys.specs.declared.locks.Name.{Name as LockName};
-ghost use Rattle.oe_requests.specs.declared.refusals.Refusal.TheVariants.{NoMemory};
 ghost use Rattle.oe_keys.specs.contracts.locks.NamePartialEq.TheImpl.{ghosts};
-ghost use Rattle.indexmap.specs.IndexMap.{get};
-ghost use Rattle.oe_locks.specs.Held.{go_together, held, IsIdle, IsFreeFor, IsInTheWay, Takes, GivesBack, HoldsNothing, OthersKeep, IsCause, IsBelow};
+ghost use Rattle.oe_requests.specs.declared.refusals.Refusal.TheVariants.{NoMemory};
+ghost use Rattle.oe_locks.specs.Held.{held, is_name, IsIdle, IsFreeFor, IsInTheWay, Takes, GivesBack, HoldsNothing, OthersKeep, IsCause, IsBelow};
+ghost use Rattle.oe_locks.specs.Holders.{mode_among};
+ghost use Rattle.oe_locks.specs.Listed.{IsListed};
 
+mod holders;
 mod modes;
+mod sets;
 
-use indexmap::IndexMap;
+use holders::Holders;
 use oe_keys::{Mode, Name};
 use oe_requests::Refusal;
 use oe_values::Terminal;
 use std::alloc::{AllocError, Global};
+use std::collections::HashMap;
 use std::marker::Model;
 
 /// How many terminals there are.
@@ -24,21 +34,22 @@ const TERMINALS: u32 = 64;
 /// Which terminals hold which names, each in a mode: shared or exclusive.
 #[derive(Debug, Drop)]
 pub struct Locks {
-    // The names that each terminal holds, from the first terminal on.
-    names: Vec<IndexMap<Name, Mode>>,
-    // The terminals after this one have never taken a name, so nobody has to ask them.
-    last: u32,
+    // Who holds each name that is held. At most 64 transactions' names are keys, so nobody can make many of them collide.
+    holders: HashMap<Name, Holders>,
+    // Lists on which all names stand that a terminal holds, from the first terminal on.
+    names: Vec<Vec<Name>>,
 }
 
 impl Model for Locks {
-    ghost use Rattle.std.specs.Prelude.{◌≡◌, ◌≤◌, vec_len};
-    ghost use Rattle.oe_locks.specs.Held.{Holdings, by_terminal, IsIdleAfter};
+    ghost use Rattle.std.specs.Prelude.{◌≡◌, vec_len};
+    ghost use Rattle.oe_locks.specs.Held.{Holdings};
+    ghost use Rattle.oe_locks.specs.Listed.{AreListed};
 
     ghost Value = { Holdings };
 
-    ghost view = { λ s. by_terminal s.names.items };
+    ghost view = { λ s. s.holders.entries };
 
-    ghost invariant = { λ s. (vec_len s.names ≡ 64) × ((s.last ≤ 64) × IsIdleAfter (by_terminal s.names.items) s.last) };
+    ghost invariant = { λ s. (vec_len s.names ≡ 64) × AreListed s.holders.entries s.names.items };
 }
 
 // Where the terminal's names are.
@@ -49,103 +60,130 @@ fn place(terminal: Terminal) -> usize
     terminal.get() as usize - 1
 }
 
-// The greater of the two.
-fn later(last: u32, terminal: Terminal) -> u32
-    ensures last { last ≤ result }
-    ensures terminal { terminal ≤ result }
-    ensures most { last ≤ 64 → result ≤ 64 }
+// Puts other holders in the place of a name's.
+fn replace(holders: &mut HashMap<Name, Holders>, name: &Name, after: Holders)
+    requires { IsSome (get ghosts.eq holders.old name.now) }
+    ensures { (q : LockName) → get ghosts.eq holders.new q ≡ (if ghosts.eq name.now q then Some after else get ghosts.eq holders.old q) }
 {
-    last.max(terminal.get())
+    if let Some(before) = holders.get_mut(name) {
+        *before = after;
+    }
 }
 
-// The mode in which a name is held. It stays a call, so that asking an idle terminal is short.
-#[inline(never)]
-fn mode_in(names: &IndexMap<Name, Mode>, name: &Name) -> Option<Mode>
-    ensures { result ≡ get ghosts.eq names.now name.now }
+// The terminal is no longer among the holders of the name. A name that nobody holds leaves the map.
+fn leave(holders: &mut HashMap<Name, Holders>, name: &Name, terminal: Terminal)
+    ensures own { GivesBack holders.old.entries holders.new.entries terminal name.now None }
+    ensures others { OthersKeep holders.old.entries holders.new.entries terminal }
 {
-    names.get(name).copied()
-}
-
-// Puts a name that is held into that mode, or takes it out.
-fn change(names: &mut IndexMap<Name, Mode>, name: &Name, mode: Option<Mode>)
-    requires { IsSome (get ghosts.eq names.old name.now) }
-    ensures { (q : LockName) → get ghosts.eq names.new q ≡ (if ghosts.eq name.now q then mode else get ghosts.eq names.old q) }
-{
-    match mode {
-        Some(mode) => {
-            if let Some(held) = names.get_mut(name) {
-                *held = mode;
-            }
-        }
+    let Some(before) = holders.get(name) else {
+        return;
+    };
+    match before.without(terminal) {
+        Some(rest) => replace(holders, name, rest),
         None => {
-            names.swap_remove(name);
+            holders.remove(name);
         }
     }
 }
 
+// The same with each name of the terminal's list, from the last one on. The list keeps its room.
+fn leave_all(holders: &mut HashMap<Name, Holders>, names: &mut Vec<Name>, terminal: Terminal)
+    requires { IsListed holders.old.entries terminal names.old.items }
+    ensures own { HoldsNothing holders.new.entries terminal }
+    ensures others { OthersKeep holders.old.entries holders.new.entries terminal }
+    ensures names { names.new.items ≡ [] }
+{
+    while let Some(name) = names.pop() {
+        leave(holders, &name, terminal);
+    }
+}
+
+// Gives a name the holders that it has once the list's terminal has taken it, and puts it on that list.
+fn enter(
+    holders: &mut HashMap<Name, Holders>,
+    names: &mut Vec<Name>,
+    name: &Name,
+    after: Holders,
+) -> Result<(), Refusal>
+    ensures map { OnOk result ((q : LockName) → get ghosts.eq holders.new q ≡ (if ghosts.eq name.now q then Some after else get ghosts.eq holders.old q)) }
+    ensures list { OnOk result (names.new.items ≡ names.old.items ++ name.now ∷ []) }
+    ensures cause { IfErr result (λ e. e ≡ NoMemory) }
+    ensures err { OnErr result ((holders.new.entries ≡ holders.old.entries) × (names.new.items ≡ names.old.items)) }
+{
+    let Ok(_) = names.push(*name) else {
+        return Err(Refusal::NoMemory);
+    };
+    let Ok(_) = holders.insert(*name, after) else {
+        names.pop();
+        return Err(Refusal::NoMemory);
+    };
+    Ok(())
+}
+
+// Takes a name off a terminal's list.
+fn strike(names: &mut Vec<Name>, name: &Name)
+    ensures { names.new.items ≡ filter (λ q. not (is_name q name.now)) names.old.items }
+{
+    names.retain(|held| held != name);
+}
+
 impl Locks {
-    /// No name is held. The places of all terminals are made here, and memory is the only error.
+    /// No name is held. The lists of all terminals are made here, and memory is the only error.
     pub fn new(alloc: Global) -> Result<Self, AllocError>
         ensures { IfOk result IsIdle }
     {
         let mut names = Vec::with_capacity(alloc, TERMINALS as usize)?;
         for _ in 0..TERMINALS {
-            names.push(IndexMap::new(alloc))?;
+            names.push(Vec::new(alloc))?;
         }
-        Ok(Locks { names, last: 0 })
+        Ok(Locks {
+            holders: HashMap::new(alloc),
+            names,
+        })
     }
 
     /// The mode in which the terminal holds the name, or `None` where it does not hold it.
-    #[inline]
     pub fn holds(&self, name: &Name, terminal: Terminal) -> Option<Mode>
         ensures { result ≡ held self.now terminal name.now }
     {
-        let names = &self.names[place(terminal)];
-        // Spares idle terminals the hash of the name.
-        if names.is_empty() {
-            return None;
-        }
-        mode_in(names, name)
-    }
-
-    // Whether the terminal holds the name in a mode that conflicts.
-    #[inline]
-    fn conflicts(&self, name: &Name, terminal: Terminal, mode: Mode) -> bool
-        ensures { result ≡ not (go_together mode (held self.now terminal name.now)) }
-    {
-        !modes::go_together(mode, self.holds(name, terminal))
+        self.holders.get(name)?.mode(terminal)
     }
 
     /// The least other terminal that holds the name in a mode that conflicts. Takes no memory.
     pub fn in_the_way(&self, name: &Name, terminal: Terminal, mode: Mode) -> Option<Terminal>
         ensures { MatchOption result (IsFreeFor self.now terminal name.now mode) (IsInTheWay self.now terminal name.now mode) }
     {
-        for number in 1..self.last + 1 {
-            let other = Terminal::new(number).unwrap();
-            if other != terminal && self.conflicts(name, other, mode) {
-                return Some(other);
-            }
-        }
-        None
+        self.holders.get(name)?.in_the_way(terminal, mode)
     }
 
-    // Puts the name into the greater of the mode held and the mode asked for, whoever else holds it.
-    fn take(&mut self, name: Name, terminal: Terminal, mode: Mode) -> Result<(), Refusal>
-        ensures own { OnOk result (Takes self.old self.new terminal name mode) }
+    // Gives a name that the terminal holds the holders that it has once the terminal's mode has changed.
+    fn change(&mut self, name: &Name, terminal: Terminal, after: Holders)
+        requires held { IsSome (held self.old terminal name.now) }
+        requires others { (u : ℕ) → u ≢ terminal → mode_among after u ≡ held self.old u name.now }
+        ensures own { GivesBack self.old self.new terminal name.now (mode_among after terminal) }
+        ensures others { OthersKeep self.old self.new terminal }
+    {
+        replace(&mut self.holders, name, after);
+    }
+
+    // Gives a name the holders that it has once the terminal has taken it.
+    fn take(&mut self, name: &Name, terminal: Terminal, after: Holders) -> Result<(), Refusal>
+        requires { (u : ℕ) → u ≢ terminal → mode_among after u ≡ held self.old u name.now }
+        ensures own { OnOk result (GivesBack self.old self.new terminal name.now (mode_among after terminal)) }
         ensures others { OnOk result (OthersKeep self.old self.new terminal) }
-        ensures cause { IfErr result (λ e. (e ≡ NoMemory) × (held self.old terminal name ≡ None)) }
+        ensures cause { IfErr result (λ e. e ≡ NoMemory) }
         ensures err { OnErr result (self.new ≡ self.old) }
     {
-        let mode = modes::risen(mode, self.holds(&name, terminal));
-        self.last = later(self.last, terminal);
-        let Ok(_) = self.names[place(terminal)].insert(name, mode) else {
-            return Err(Refusal::NoMemory);
-        };
-        Ok(())
+        enter(
+            &mut self.holders,
+            &mut self.names[place(terminal)],
+            name,
+            after,
+        )
     }
 
     /// Takes the name for the terminal, or raises the mode in which the terminal holds it, where nobody is in the way. A
-    /// mode is never lowered. Looks the name up once at each other terminal that holds anything, and twice at its own.
+    /// mode is never lowered. Looks the name up twice, however many names are held.
     ///
     /// `Busy` names the least other terminal that holds the name in a mode that conflicts. `NoMemory` comes only where
     /// nobody does, and the terminal does not hold the name yet in any mode. After an error nothing has changed.
@@ -156,9 +194,19 @@ impl Locks {
         ensures cause { IfErr result (IsCause self.old terminal name mode) }
         ensures err { OnErr result (self.new ≡ self.old) }
     {
-        match self.in_the_way(&name, terminal, mode) {
-            Some(holder) => Err(Refusal::Busy(name, holder)),
-            None => self.take(name, terminal, mode),
+        let Some(before) = self.holders.get(&name).copied() else {
+            return self.take(&name, terminal, Holders::one(terminal, mode));
+        };
+        if let Some(holder) = before.in_the_way(terminal, mode) {
+            return Err(Refusal::Busy(name, holder));
+        }
+        let after = before.risen(terminal, mode);
+        match before.mode(terminal) {
+            None => self.take(&name, terminal, after),
+            Some(_) => {
+                self.change(&name, terminal, after);
+                Ok(())
+            }
         }
     }
 
@@ -168,14 +216,25 @@ impl Locks {
         ensures own { GivesBack self.old self.new terminal name mode }
         ensures others { OthersKeep self.old self.new terminal }
     {
-        change(&mut self.names[place(terminal)], &name, mode);
+        match mode {
+            Some(mode) => self.change(&name, terminal, Holders::one(terminal, mode)),
+            None => {
+                leave(&mut self.holders, &name, terminal);
+                strike(&mut self.names[place(terminal)], &name);
+            }
+        }
     }
 
-    /// The terminal lets go of all its names. Takes no memory, and keeps their room for the terminal's next names.
+    /// The terminal lets go of all its names. Takes no memory, and keeps their room for next names. What it costs grows with
+    /// the names that the terminal holds alone.
     pub fn release_all(&mut self, terminal: Terminal)
         ensures own { HoldsNothing self.new terminal }
         ensures others { OthersKeep self.old self.new terminal }
     {
-        self.names[place(terminal)].clear();
+        leave_all(
+            &mut self.holders,
+            &mut self.names[place(terminal)],
+            terminal,
+        );
     }
 }

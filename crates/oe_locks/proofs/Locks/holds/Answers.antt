@@ -1,15 +1,11 @@
-use Rattle.std.proofs.Common.{◌<◌, length, ◌∙◌, arith}
-use Rattle.oe_locks.proofs.HeldFacts.{held-at, held-empty}
+use Rattle.std.proofs.Common.{None, Some, sym, ◌∙◌}
+use Rattle.oe_locks.proofs.HeldFacts.{held-is}
 use Rattle.oe_locks.proofs.Locks.holds.Goals as goal
 
-pub returns-then-is_empty : goal.returns-then-is_empty
-returns-then-is_empty c =
-    let room : c.place.result < length c.self.inside.names.items = omega arith in
-    rw (← c.self.view_is)
-    (held-empty c.self.inside.names.items c.place.result c.args.terminal c.index-names.result.now c.args.name.now c.place.ensures.value room c.index-names.ensures (c.is_empty.ensures.0 c.if-is_empty.true))
+pub returns-in_err-get : goal.returns-in_err-get
+returns-in_err-get c =
+    rw (← c.self.view_is) (c.from_residual.ensures ∙ sym (held-is c.self.inside.holders.entries c.args.name.now None (sym c.in_err-get.ensures.value) c.args.terminal))
 
 pub returns : goal.returns
 returns c =
-    let room : c.place.result < length c.self.inside.names.items = omega arith in
-    rw (← c.self.view_is)
-    (c.mode_in.ensures ∙ held-at c.self.inside.names.items c.place.result c.args.terminal c.index-names.result.now c.args.name.now c.place.ensures.value room c.index-names.ensures)
+    rw (← c.self.view_is) (c.mode.ensures ∙ sym (held-is c.self.inside.holders.entries c.args.name.now (Some c.in_ok-get.field-0.now) (sym c.in_ok-get.ensures.value) c.args.terminal))

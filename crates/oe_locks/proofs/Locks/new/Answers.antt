@@ -1,9 +1,9 @@
-use Rattle.std.proofs.Common.{arith}
-use Rattle.oe_locks.proofs.HeldFacts.{IsIdle-empty}
+use Rattle.std.proofs.Common.{suc, arith}
+use Rattle.oe_locks.proofs.HeldFacts.{idle-empty}
 use Rattle.oe_locks.proofs.Locks.new.Goals as goal
 
 pub invariant_of-result : goal.invariant_of-result
-invariant_of-result c = (omega (arith, c.loop.invariant.count), (omega arith, λ u b. IsIdle-empty c.loop.names.items c.loop.invariant.empty u))
+invariant_of-result c = (omega (arith, c.loop.invariant), λ i q s. idle-empty _ c.new-2.ensures.empty (suc i) q)
 
 pub returns : goal.returns
-returns c = IsIdle-empty c.loop.names.items c.loop.invariant.empty
+returns c = idle-empty _ c.new-2.ensures.empty

@@ -1,25 +1,16 @@
-use Rattle.std.proofs.Common.{◌<◌, length, ◌∙◌, ap, arith}
-use Rattle.std.specs.Map.{lookup}
-use Rattle.oe_keys.specs.contracts.locks.NamePartialEq.TheImpl.{ghosts}
-use Rattle.oe_locks.proofs.HeldFacts.{held-set_same, held-set_other, idle-set}
+use Rattle.std.proofs.Common.{◌<◌, length, arith}
+use Rattle.oe_locks.proofs.HeldFacts.{listed-at, listed-set}
 use Rattle.oe_locks.proofs.Locks.release_all.Goals as goal
+
+pub leave_all-requires : goal.leave_all-requires
+leave_all-requires c =
+    let room : c.place.result < length c.self.inside.names.items = omega (arith, c.self.invariant.0) in
+    listed-at c.self.inside.names.items c.place.result c.args.terminal c.index_mut.result.now c.place.ensures.value room c.self.inside.holders.entries c.index_mut.ensures.value c.self.invariant.1
 
 pub invariant_of-self : goal.invariant_of-self
 invariant_of-self c =
     let room : c.place.result < length c.self.inside.names.items = omega (arith, c.self.invariant.0) in (
       c.self.invariant.0,
-      (
-        c.self.invariant.1.0,
-        idle-set c.self.inside.names.items c.place.result c.args.terminal c.self.inside.last c.self.inside.last c.clear.new.self c.place.ensures.value room (omega arith)
-            (λ q b. ap (λ es. lookup (ghosts.eq q) es) c.clear.ensures.empty) c.self.invariant.1.1,
-      ),
+      listed-set c.self.inside.names.items c.place.result c.args.terminal c.leave_all.new.names c.place.ensures.value room c.self.inside.holders.entries c.leave_all.new.holders.entries c.self.invariant.1
+          c.leave_all.ensures.others (λ q h. c.leave_all.ensures.own q),
     )
-
-pub returns-clause-own : goal.returns-clause-own
-returns-clause-own c q =
-    let room : c.place.result < length c.self.inside.names.items = omega (arith, c.self.invariant.0) in
-    held-set_same c.self.inside.names.items c.place.result c.args.terminal c.clear.new.self c.place.ensures.value room q
-    ∙ ap (λ es. lookup (ghosts.eq q) es) c.clear.ensures.empty
-
-pub returns-clause-others : goal.returns-clause-others
-returns-clause-others c = rw (← c.self.view_is) (held-set_other c.self.inside.names.items c.place.result c.args.terminal c.clear.new.self c.place.ensures.value)

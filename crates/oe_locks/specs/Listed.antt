@@ -1,0 +1,18 @@
+-- The names that each terminal holds stand on its list.
+use Rattle.std.specs.Prelude.{◌≡◌, ℕ, suc, Bool, false, None, List, [], ◌∷◌, ◌||◌, get_or, map}
+use Rattle.std.specs.Global.{Vec}
+use Rattle.oe_keys.specs.declared.locks.Name.{Name}
+use Rattle.oe_locks.specs.Held.{Holdings, held, is_name}
+
+-- the name stands on the list
+abbrev pub stands : List Name → Name → Bool
+stands [] q = false
+stands (x ∷ xs) q = is_name q x || stands xs q
+
+-- the terminal holds no name but those of the list
+abbrev pub IsListed : Holdings → ℕ → List Name → Type 0
+IsListed locks t names = (q : Name) → stands names q ≡ false → held locks t q ≡ None
+
+-- each terminal, from the first on, holds no name but those of its list
+abbrev pub AreListed : Holdings → List (Vec Name) → Type 0
+AreListed locks lists = (i : ℕ) → IsListed locks (suc i) (get_or (map (λ v. v.items) lists) i [])

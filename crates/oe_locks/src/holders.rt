@@ -1,0 +1,83 @@
+//! The terminals that hold one name: one alone, or some together.
+ghost use Rattle.std.specs.Prelude.{◌≡◌, ◌≢◌, ◌==◌, ℕ, Some, None, MatchOption, if◌then◌else◌};
+ghost use Rattle.oe_locks.specs.Held.{risen, IsFree, IsFirstInTheWay};
+ghost use Rattle.oe_locks.specs.Holders.{mode_among, mode_by};
+
+use crate::sets::TerminalSet;
+use oe_keys::Mode;
+use oe_values::Terminal;
+
+/// Who holds a name, and so in which mode: one terminal alone, exclusively, or some terminals, each as shared.
+#[derive(Clone, Copy, Debug)]
+pub enum Holders {
+    Alone(Terminal),
+    Together(TerminalSet),
+}
+
+impl Holders {
+    /// One terminal, in that mode.
+    pub fn one(terminal: Terminal, mode: Mode) -> Holders
+        ensures { (u : ℕ) → mode_among result u ≡ (if u == terminal then Some mode else None) }
+    {
+        match mode {
+            Mode::Shared => Holders::Together(TerminalSet::empty().with(terminal)),
+            Mode::Exclusive => Holders::Alone(terminal),
+        }
+    }
+
+    /// The mode in which the terminal holds the name, if it does.
+    pub fn mode(&self, terminal: Terminal) -> Option<Mode>
+        ensures { result ≡ mode_among self.now terminal }
+    {
+        match self {
+            Holders::Alone(holder) if *holder == terminal => Some(Mode::Exclusive),
+            Holders::Together(sharers) if sharers.has(terminal) => Some(Mode::Shared),
+            _ => None,
+        }
+    }
+
+    /// The least other terminal that holds the name in a mode that conflicts.
+    pub fn in_the_way(&self, terminal: Terminal, mode: Mode) -> Option<Terminal>
+        ensures { MatchOption result (IsFree (mode_among self.now) terminal mode) (IsFirstInTheWay (mode_among self.now) terminal mode) }
+    {
+        match (self, mode) {
+            (Holders::Alone(holder), _) if *holder != terminal => Some(*holder),
+            (Holders::Together(sharers), Mode::Exclusive) => sharers.without(terminal).least(),
+            _ => None,
+        }
+    }
+
+    /// The holders once the terminal holds the name in the greater of the mode held and the mode asked for, where nobody is in
+    /// the way.
+    pub fn risen(&self, terminal: Terminal, mode: Mode) -> Holders
+        requires { IsFree (mode_among self.now) terminal mode }
+        ensures { (u : ℕ) → mode_among result u ≡ (if u == terminal then Some (risen mode (mode_among self.now u)) else mode_among self.now u) }
+    {
+        match mode {
+            Mode::Exclusive => Holders::Alone(terminal),
+            Mode::Shared => match self {
+                Holders::Alone(holder) => Holders::Alone(*holder),
+                Holders::Together(sharers) => Holders::Together(sharers.with(terminal)),
+            },
+        }
+    }
+
+    /// The holders once the terminal has let go of the name, if any are left.
+    pub fn without(&self, terminal: Terminal) -> Option<Holders>
+        ensures rest { (u : ℕ) → mode_by result u ≡ (if u == terminal then None else mode_among self.now u) }
+        ensures last { ((u : ℕ) → u ≢ terminal → mode_among self.now u ≡ None) → result ≡ None }
+    {
+        match self {
+            Holders::Alone(holder) => if *holder == terminal {
+                None
+            } else {
+                Some(*self)
+            },
+            Holders::Together(sharers) => {
+                let rest = sharers.without(terminal);
+                rest.least()?;
+                Some(Holders::Together(rest))
+            }
+        }
+    }
+}

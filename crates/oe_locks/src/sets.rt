@@ -1,0 +1,66 @@
+//! Sets of terminals.
+ghost use Rattle.std.specs.Prelude.{◌≡◌, ◌==◌, ℕ, true, false, MatchOption, if◌then◌else◌};
+ghost use Rattle.oe_locks.specs.Holders.{has, IsLeast};
+
+use oe_values::Terminal;
+use std::marker::Model;
+
+/// A set of terminals: a bit for each, from the first terminal on.
+#[derive(Clone, Copy, Debug)]
+pub struct TerminalSet {
+    bits: u64,
+}
+
+impl Model for TerminalSet {
+    ghost use Rattle.std.specs.Prelude.{ℕ};
+
+    ghost Value = { ℕ };
+
+    ghost view = { λ s. s.bits };
+
+    ghost inverse = { λ n. record { bits = n } };
+}
+
+impl TerminalSet {
+    /// No terminal.
+    pub fn empty() -> TerminalSet
+        ensures { (u : ℕ) → has result u ≡ false }
+    {
+        TerminalSet { bits: 0 }
+    }
+
+    /// Whether the terminal is in the set.
+    pub fn has(&self, terminal: Terminal) -> bool
+        ensures { result ≡ has self.now terminal }
+    {
+        self.bits >> (terminal.get() - 1) & 1 == 1
+    }
+
+    /// The set with the terminal.
+    pub fn with(&self, terminal: Terminal) -> TerminalSet
+        ensures { (u : ℕ) → has result u ≡ (if u == terminal then true else has self.now u) }
+    {
+        TerminalSet {
+            bits: self.bits | 1 << (terminal.get() - 1),
+        }
+    }
+
+    /// The set without the terminal.
+    pub fn without(&self, terminal: Terminal) -> TerminalSet
+        ensures { (u : ℕ) → has result u ≡ (if u == terminal then false else has self.now u) }
+    {
+        TerminalSet {
+            bits: self.bits & !(1 << (terminal.get() - 1)),
+        }
+    }
+
+    /// The least terminal of the set, if it has any.
+    pub fn least(&self) -> Option<Terminal>
+        ensures { MatchOption result ((u : ℕ) → has self.now u ≡ false) (IsLeast self.now) }
+    {
+        if self.bits == 0 {
+            return None;
+        }
+        Terminal::new(self.bits.trailing_zeros() + 1)
+    }
+}
