@@ -68,11 +68,8 @@ impl Holders {
         ensures last { ((u : ℕ) → u ≢ terminal → mode_among self.now u ≡ None) → result ≡ None }
     {
         match self {
-            Holders::Alone(holder) => if *holder == terminal {
-                None
-            } else {
-                Some(*self)
-            },
+            Holders::Alone(holder) if *holder == terminal => None,
+            Holders::Alone(_) => Some(*self),
             Holders::Together(sharers) => {
                 let rest = sharers.without(terminal);
                 rest.least()?;

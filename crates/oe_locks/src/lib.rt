@@ -17,7 +17,6 @@ ghost use Rattle.oe_locks.specs.Holders.{mode_among};
 ghost use Rattle.oe_locks.specs.Listed.{IsListed};
 
 mod holders;
-mod modes;
 mod sets;
 
 use holders::Holders;
@@ -174,12 +173,8 @@ impl Locks {
         ensures cause { IfErr result (λ e. e ≡ NoMemory) }
         ensures err { OnErr result (self.new ≡ self.old) }
     {
-        enter(
-            &mut self.holders,
-            &mut self.names[place(terminal)],
-            name,
-            after,
-        )
+        let names = &mut self.names[place(terminal)];
+        enter(&mut self.holders, names, name, after)
     }
 
     /// Takes the name for the terminal, or raises the mode in which the terminal holds it, where nobody is in the way. A
@@ -231,10 +226,7 @@ impl Locks {
         ensures own { HoldsNothing self.new terminal }
         ensures others { OthersKeep self.old self.new terminal }
     {
-        leave_all(
-            &mut self.holders,
-            &mut self.names[place(terminal)],
-            terminal,
-        );
+        let names = &mut self.names[place(terminal)];
+        leave_all(&mut self.holders, names, terminal);
     }
 }

@@ -1,8 +1,4 @@
-use Rattle.std.proofs.Common.{◌≡◌, ◌≢◌, ℕ, None, Some, if◌then◌else◌, Option, refl, sym, ap, ◌∙◌}
-use Rattle.std.specs.Map.{lookup}
-use Rattle.oe_keys.specs.contracts.locks.NamePartialEq.TheImpl.{ghosts}
-use Rattle.oe_locks.specs.declared.holders.Holders.{Holders}
-use Rattle.oe_locks.specs.Held.{Holdings, GivesBack, OthersKeep}
+use Rattle.std.proofs.Common.{None, Some, sym}
 use Rattle.oe_locks.proofs.HeldFacts.{given-absent, left-own, left-others}
 use Rattle.oe_locks.proofs.leave.Goals as goal
 

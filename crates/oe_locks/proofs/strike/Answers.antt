@@ -1,6 +1,5 @@
-use Rattle.std.proofs.Common.{rules, not, arith}
+use Rattle.std.proofs.Common.{rules, not}
 use Rattle.std.proofs.lemmas.Fn.{filter_same}
-use Rattle.oe_keys.specs.contracts.locks.NamePartialEq.TheImpl.{ghosts}
 use Rattle.oe_locks.specs.Held.{is_name}
 use Rattle.oe_locks.proofs.NameFacts.{eq_is_name}
 use Rattle.oe_locks.proofs.strike.Goals as goal

@@ -1,4 +1,4 @@
-use Rattle.std.proofs.Common.{◌≡◌, ◌<◌, ◌==◌, length, Some, None, arith, sym, ◌∙◌}
+use Rattle.std.proofs.Common.{◌<◌, ◌==◌, length, Some, None, arith, sym, ◌∙◌}
 use Rattle.std.proofs.lemmas.Bool.{cond-false, ne_eqb}
 use Rattle.oe_locks.proofs.HeldFacts.{alone-below, struck, listed-at, listed-set}
 use Rattle.oe_locks.proofs.Locks.give_back.Goals as goal

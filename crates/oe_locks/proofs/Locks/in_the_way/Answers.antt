@@ -1,4 +1,4 @@
-use Rattle.std.proofs.Common.{None, Some, true, refl, sym}
+use Rattle.std.proofs.Common.{None, Some, refl, sym}
 use Rattle.oe_locks.proofs.HeldFacts.{free-is, way-is}
 use Rattle.oe_locks.proofs.Locks.in_the_way.Goals as goal
 

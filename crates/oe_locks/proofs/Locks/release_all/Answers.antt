@@ -5,7 +5,7 @@ use Rattle.oe_locks.proofs.Locks.release_all.Goals as goal
 pub leave_all-requires : goal.leave_all-requires
 leave_all-requires c =
     let room : c.place.result < length c.self.inside.names.items = omega (arith, c.self.invariant.0) in
-    listed-at c.self.inside.names.items c.place.result c.args.terminal c.index_mut.result.now c.place.ensures.value room c.self.inside.holders.entries c.index_mut.ensures.value c.self.invariant.1
+    listed-at c.self.inside.names.items c.place.result c.args.terminal c.index_mut-names.result.now c.place.ensures.value room c.self.inside.holders.entries c.index_mut-names.ensures.value c.self.invariant.1
 
 pub invariant_of-self : goal.invariant_of-self
 invariant_of-self c =

@@ -1,21 +1,15 @@
-use Rattle.std.proofs.Common.{◌≡◌, ◌≢◌, ◌<◌, ℕ, length, Some, arith}
+use Rattle.std.proofs.Common.{◌<◌, length, Some, arith}
 use Rattle.std.proofs.lemmas.Result.{on_ok_weaker}
-use Rattle.oe_locks.specs.Held.{held}
-use Rattle.oe_locks.specs.Holders.{mode_among}
 use Rattle.oe_locks.proofs.HeldFacts.{own-changed, others-changed, entered, listed-at, listed-set}
-use Rattle.oe_locks.proofs.Locks.take.Goals.{After-self-1}
 use Rattle.oe_locks.proofs.Locks.take.Goals as goal
-
-others : (c : After-self-1) (u : ℕ) → u ≢ c.args.terminal → mode_among c.args.after u ≡ held c.self.inside.holders.entries u c.args.name.now
-others c = rw c.self.view_is c.requires
 
 pub invariant_of-self : goal.invariant_of-self
 invariant_of-self c =
     let room : c.place.result < length c.self.inside.names.items = omega (arith, c.self.invariant.0) in
     let kept =
-    entered c.self.inside.holders.entries c.enter.new.holders.entries c.args.terminal c.args.name.now (Some c.args.after) c.index_mut.result.now.items c.enter.new.names.items c.enter.result
-    c.enter.ensures.map c.enter.ensures.list c.enter.ensures.err (others c)
-    (listed-at c.self.inside.names.items c.place.result c.args.terminal c.index_mut.result.now c.place.ensures.value room c.self.inside.holders.entries c.index_mut.ensures.value c.self.invariant.1)
+    entered c.self.inside.holders.entries c.enter.new.holders.entries c.args.terminal c.args.name.now (Some c.args.after) c.index_mut-names.result.now.items c.enter.new.names.items c.enter.result
+    c.enter.ensures.map c.enter.ensures.list c.enter.ensures.err (rw c.self.view_is c.requires)
+    (listed-at c.self.inside.names.items c.place.result c.args.terminal c.index_mut-names.result.now c.place.ensures.value room c.self.inside.holders.entries c.index_mut-names.ensures.value c.self.invariant.1)
     in (
       c.self.invariant.0,
       listed-set c.self.inside.names.items c.place.result c.args.terminal c.enter.new.names c.place.ensures.value room c.self.inside.holders.entries c.enter.new.holders.entries c.self.invariant.1 kept.0 kept.1,
@@ -29,4 +23,4 @@ returns-clause-own c =
 pub returns-clause-others : goal.returns-clause-others
 returns-clause-others c =
     rw (← c.self.view_is)
-    (on_ok_weaker c.enter.result (λ is. others-changed c.self.inside.holders.entries c.enter.new.holders.entries c.args.name.now (Some c.args.after) is c.args.terminal (others c)) c.enter.ensures.map)
+    (on_ok_weaker c.enter.result (λ is. others-changed c.self.inside.holders.entries c.enter.new.holders.entries c.args.name.now (Some c.args.after) is c.args.terminal (rw c.self.view_is c.requires)) c.enter.ensures.map)

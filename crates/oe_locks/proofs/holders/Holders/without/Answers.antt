@@ -2,8 +2,8 @@ use Rattle.std.proofs.Common.{sym, ◌∙◌}
 use Rattle.oe_locks.proofs.HolderFacts.{other_alone, other_together}
 use Rattle.oe_locks.proofs.holders.Holders.without.Goals as goal
 
-pub returns-else-eq-clause-last : goal.returns-else-eq-clause-last
-returns-else-eq-clause-last c = rw c.in-Alone.is (λ none. absurd (other_alone c.in-Alone.holder c.args.terminal (sym c.eq.ensures ∙ c.if-eq.false) none))
+pub returns-in-Alone-2-clause-last : goal.returns-in-Alone-2-clause-last
+returns-in-Alone-2-clause-last c = rw c.in-Alone.is (λ none. absurd (other_alone c.in-Alone.holder c.args.terminal (sym c.eq.ensures ∙ c.if-eq.false) none))
 
 pub returns-in_ok-least-in-Together-clause-last : goal.returns-in_ok-least-in-Together-clause-last
 returns-in_ok-least-in-Together-clause-last c =

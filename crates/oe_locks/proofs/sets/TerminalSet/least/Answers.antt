@@ -1,4 +1,4 @@
-use Rattle.std.proofs.Common.{◌≡◌, ◌<◌, ◌^◌, arith, refl}
+use Rattle.std.proofs.Common.{◌<◌, ◌^◌, arith, refl}
 use Rattle.oe_locks.proofs.SetFacts.{least_is}
 use Rattle.oe_locks.proofs.sets.TerminalSet.least.Goals as goal
 
