@@ -2,7 +2,7 @@
 use Rattle.std.proofs.Common.{◌≡◌, ◌≢◌, ℕ, suc, ◌+◌, ◌<◌, ◌==◌, inl, inr, Bool, true, false, not, ◌||◌, cond, if◌then◌else◌, List, [], ◌∷◌, ◌++◌, map, length, get_or, set, Option, None, Some, IsSome, is_some, refl, sym, ap, ◌∙◌, subst, arith, add-one}
 use Rattle.std.proofs.lemmas.Bool.{cases_eq, cond-true, cond-false, eq-eqb, ne_eqb, false≢true}
 use Rattle.std.proofs.lemmas.List.{length-map, map-set, get_or-map, get_or-set_same, get_or-set_other}
-use Rattle.std.specs.Prelude.{MatchOption, OnOk, OnErr, IfErr}
+use Rattle.std.specs.Prelude.{MatchOption, OnOk, OnErr, IfOk, IfErr, IfNone}
 use Rattle.std.specs.declared.result.Result.{Result}
 use Rattle.std.specs.declared.result.Result.TheVariants.{Ok, Err}
 use Rattle.std.specs.List.{filter}
@@ -73,28 +73,6 @@ module _ (old new : Holdings) (n : Name) (o : Option Holders) (is : (q : Name) �
       go true e = same u ne ∙ ap (held old u) (sym (name_true q n e))
       go false e = refl
 
--- a terminal rises among the name's holders
-module _ (locks : Holdings) (n : Name) (o : Option Holders) (is : lookup (ghosts.eq n) locks ≡ o) (t : ℕ) (m : Mode) (h : Holders)
-    (rise : (u : ℕ) → mode_among h u ≡ (if u == t then Some (risen m (mode_by o u)) else mode_by o u)) where
-  pub risen-own : mode_among h t ≡ Some (risen m (held locks t n))
-  risen-own =
-      rise t ∙ (cond-true (t == t) (Some (risen m (mode_by o t))) (mode_by o t) (eq-eqb t t refl) ∙ ap (λ z. Some (risen m z)) (sym (held-is locks n o is t)))
-
-  pub risen-others : (u : ℕ) → u ≢ t → mode_among h u ≡ held locks u n
-  risen-others u ne =
-      rise u ∙ (cond-false (u == t) (Some (risen m (mode_by o u))) (mode_by o u) (ne_eqb u t ne) ∙ sym (held-is locks n o is u))
-
--- where nobody holds the name, it is held in the mode asked for
-pub risen-none : (m : Mode) → m ≡ risen m None
-risen-none Shared = refl
-risen-none Exclusive = refl
-
--- why a name is refused that nobody is in the way of
-pub cause-is : (locks : Holdings) (t : ℕ) (n : Name) (m : Mode) {T : Type 0} (r : Result T Refusal) → IfErr r (λ e. e ≡ NoMemory) → IsFreeFor locks t n m → held locks t n ≡ None
-    → IfErr r (IsCause locks t n m)
-cause-is locks t n m (Ok x) h free none = tt
-cause-is locks t n m (Err e) h free none = subst (IsCause locks t n m) (sym h) (free, none)
-
 -- a terminal has left the name's holders
 module _ (old new : Holdings) (t : ℕ) (n : Name) (h : Holders) (o : Option Holders) (rest : (u : ℕ) → mode_by o u ≡ (if u == t then None else mode_among h u))
     (is : (q : Name) → lookup (ghosts.eq q) new ≡ cond (ghosts.eq n q) o (lookup (ghosts.eq q) old)) where
@@ -116,23 +94,7 @@ given-absent locks t n none q = go (is_name q n) refl
     go true e = ap (held locks t) (name_true q n e) ∙ held-is locks n None none t
     go false e = refl
 
--- a name that was put into the mode that it rises to is taken
-pub takes-is : (old new : Holdings) (t : ℕ) (n : Name) (m : Mode) (o : Option Mode) → GivesBack old new t n o → o ≡ Some (risen m (held old t n)) → Takes old new t n m
-takes-is old new t n m o own e q = own q ∙ go (is_name q n) refl
-  where
-    go : (b : Bool) → is_name q n ≡ b → cond b o (held old t q) ≡ cond b (Some (risen m (held old t q))) (held old t q)
-    go true s = e ∙ ap (λ k. Some (risen m (held old t k))) (sym (name_true q n s))
-    go false s = refl
-
--- a name that is not held stays so where it is given back
-pub none-given : (old new : Holdings) (t : ℕ) (n : Name) → GivesBack old new t n None → (q : Name) → held old t q ≡ None → held new t q ≡ None
-none-given old new t n own q e = own q ∙ go (is_name q n)
-  where
-    go : (b : Bool) → cond b None (held old t q) ≡ None
-    go true = refl
-    go false = e
-
--- or where a name that is held changes its mode
+-- what a terminal does not hold stays so where a name that it holds changes its mode
 pub none-changed : (old new : Holdings) (t : ℕ) (n : Name) (o : Option Mode) → GivesBack old new t n o → IsSome (held old t n) → (q : Name) → held old t q ≡ None → held new t q ≡ None
 none-changed old new t n o own some q e = own q ∙ go (is_name q n) refl
   where
@@ -247,6 +209,13 @@ struck old new t n before after own is listed q h = own q ∙ go (is_name q n) r
     go true e = refl
     go false e = listed q (sym (stands-filter before n q e) ∙ (ap (λ l. stands l q) (sym is) ∙ h))
 
+-- where nothing changes, names stay on their list
+stays : (old new : Holdings) (t : ℕ) (before after : List Name) → (new ≡ old) × (after ≡ before) → IsListed old t before → OthersKeep old new t × IsListed new t after
+stays old new t before after same listed = (
+  λ u ne q. ap (λ z. held z u q) same.0,
+  λ q h. ap (λ z. held z t q) same.0 ∙ listed q (ap (λ l. stands l q) (sym same.1) ∙ h),
+)
+
 -- a name that was taken is on the list, and all is as before where it was refused
 pub entered : (old new : Holdings) (t : ℕ) (n : Name) (o : Option Holders) (before after : List Name) {T E : Type 0} (r : Result T E)
     → OnOk r ((q : Name) → lookup (ghosts.eq q) new ≡ cond (ghosts.eq n q) o (lookup (ghosts.eq q) old)) → OnOk r (after ≡ before ++ n ∷ []) → OnErr r ((new ≡ old) × (after ≡ before))
@@ -257,10 +226,7 @@ entered old new t n o before after (Ok x) is list err same listed = (others-chan
     own q h =
         let p = stands-push before n q (ap (λ l. stands l q) (sym list) ∙ h) in
         own-changed old new n o is t q ∙ ap (λ b. cond b (mode_by o t) (held old t q)) p.0 ∙ listed q p.1
-entered old new t n o before after (Err e) is list err same listed = (
-  λ u ne q. ap (λ z. held z u q) err.0,
-  λ q h. ap (λ z. held z t q) err.0 ∙ listed q (ap (λ l. stands l q) (sym err.1) ∙ h),
-)
+entered old new t n o before after (Err e) is list err same listed = stays old new t before after err listed
 
 -- a name that was taken off the end and given back
 pub popped : (old new : Holdings) (t : ℕ) (n : Name) (before after : List Name) → GivesBack old new t n None → before ≡ after ++ n ∷ [] → IsListed old t before → IsListed new t after
@@ -269,3 +235,53 @@ popped old new t n before after own is listed q h = own q ∙ go (is_name q n) r
     go : (b : Bool) → is_name q n ≡ b → cond b None (held old t q) ≡ None
     go true e = refl
     go false e = listed q (ap (λ l. stands l q) is ∙ stands-popped after n q e h)
+
+-- a name that nobody held has its first holders, or all is as before
+module _ (old new : Holdings) (t : ℕ) (n : Name) (h : Holders) (m : Mode) (before after : List Name) (one : (u : ℕ) → mode_among h u ≡ (if u == t then Some m else None))
+    (r : Result (Option Holders) Refusal) (found : IfOk r (λ o. o ≡ lookup (ghosts.eq n) old)) where
+  abbrev IsEntered : Type 0
+  IsEntered = ((q : Name) → lookup (ghosts.eq q) new ≡ cond (ghosts.eq n q) (Some h) (lookup (ghosts.eq q) old)) × (after ≡ before ++ n ∷ [])
+
+  first-others : lookup (ghosts.eq n) old ≡ None → (u : ℕ) → u ≢ t → mode_among h u ≡ held old u n
+  first-others none u ne = one u ∙ (cond-false (u == t) (Some m) None (ne_eqb u t ne) ∙ sym (held-is old n None none u))
+
+  pub begun-before : IfOk r (λ o. (u : ℕ) → held old u n ≡ mode_by o u)
+  begun-before = go r found
+    where
+      go : (r : Result (Option Holders) Refusal) → IfOk r (λ o. o ≡ lookup (ghosts.eq n) old) → IfOk r (λ o. (u : ℕ) → held old u n ≡ mode_by o u)
+      go (Ok o) f = held-is old n o (sym f)
+      go (Err e) f = tt
+
+  pub begun-own : IfOk r (λ o. IfNone o IsEntered) → IfOk r (λ o. IfNone o (GivesBack old new t n (Some m)))
+  begun-own entry = go r entry
+    where
+      own : IsEntered → GivesBack old new t n (Some m)
+      own e = subst (λ z. GivesBack old new t n z) (one t ∙ cond-true (t == t) (Some m) None (eq-eqb t t refl)) (own-changed old new n (Some h) e.0 t)
+
+      go : (r : Result (Option Holders) Refusal) → IfOk r (λ o. IfNone o IsEntered) → IfOk r (λ o. IfNone o (GivesBack old new t n (Some m)))
+      go (Ok None) e = own e
+      go (Ok (Some x)) e = tt
+      go (Err x) e = tt
+
+  pub begun-others : IfOk r (λ o. IfNone o IsEntered) → IfOk r (λ o. IfNone o (OthersKeep old new t))
+  begun-others entry = go r found entry
+    where
+      go : (r : Result (Option Holders) Refusal) → IfOk r (λ o. o ≡ lookup (ghosts.eq n) old) → IfOk r (λ o. IfNone o IsEntered) → IfOk r (λ o. IfNone o (OthersKeep old new t))
+      go (Ok None) f e = others-changed old new n (Some h) e.0 t (first-others (sym f))
+      go (Ok (Some x)) f e = tt
+      go (Err x) f e = tt
+
+  pub begun-listed : IfOk r (λ o. IfNone o IsEntered) → IfOk r (λ o. IsSome o → (new ≡ old) × (after ≡ before)) → OnErr r ((new ≡ old) × (after ≡ before)) → IsListed old t before
+      → OthersKeep old new t × IsListed new t after
+  begun-listed entry same err listed = go r found entry same err
+    where
+      go : (r : Result (Option Holders) Refusal) → IfOk r (λ o. o ≡ lookup (ghosts.eq n) old) → IfOk r (λ o. IfNone o IsEntered) → IfOk r (λ o. IsSome o → (new ≡ old) × (after ≡ before))
+          → OnErr r ((new ≡ old) × (after ≡ before)) → OthersKeep old new t × IsListed new t after
+      go (Ok None) f e s x = entered old new t n (Some h) before after {T = Unit {0}} {E = Unit {0}} (Ok tt) e.0 e.1 tt (first-others (sym f)) listed
+      go (Ok (Some o)) f e s x = stays old new t before after (s refl) listed
+      go (Err k) f e s x = stays old new t before after x listed
+
+-- where it was refused, nobody held it
+pub begun-absent : (old : Holdings) (n : Name) {T : Type 0} (r : Result T Refusal) → OnErr r (lookup (ghosts.eq n) old ≡ None) → OnErr r ((u : ℕ) → held old u n ≡ None)
+begun-absent old n (Ok x) h = tt
+begun-absent old n (Err e) h = held-is old n None h

@@ -6,15 +6,15 @@
 //! only for a name that a terminal does not hold yet.
 #![tactic(auto)]
 
-ghost use Rattle.std.specs.Prelude.{◌≡◌, ◌≢◌, ◌+◌, ◌<◌, [], ◌++◌, ◌∷◌, ℕ, not, MatchOption, OnOk, OnErr, IfOk, IfErr, IsSome, Some, None, if◌then◌else◌};
+ghost use Rattle.std.specs.Prelude.{◌≡◌, ◌≢◌, ◌+◌, ◌<◌, [], ◌++◌, ◌∷◌, ℕ, not, MatchOption, OnOk, OnErr, IfOk, IfErr, IfNone, IsSome, Some, None, if◌then◌else◌};
 ghost use Rattle.std.specs.List.{filter};
 ghost use Rattle.std.specs.HashMap.{get};
 ghost use Rattle.oe_keys.specs.declared.locks.Name.{Name as LockName};
 ghost use Rattle.oe_keys.specs.contracts.locks.NamePartialEq.TheImpl.{ghosts};
 ghost use Rattle.oe_requests.specs.declared.refusals.Refusal.TheVariants.{NoMemory};
 ghost use Rattle.oe_locks.specs.Held.{held, is_name, IsIdle, IsFreeFor, IsInTheWay, Takes, GivesBack, HoldsNothing, OthersKeep, IsCause, IsBelow};
-ghost use Rattle.oe_locks.specs.Holders.{mode_among};
-ghost use Rattle.oe_locks.specs.Listed.{IsListed};
+ghost use Rattle.oe_locks.specs.Holders.{mode_among, mode_by};
+ghost use Rattle.oe_locks.specs.Listed.{IsListed, Enters};
 
 mod holders;
 mod sets;
@@ -25,6 +25,7 @@ use oe_requests::Refusal;
 use oe_values::Terminal;
 use std::alloc::{AllocError, Global};
 use std::collections::HashMap;
+use std::collections::hash_map::Entry;
 use std::marker::Model;
 
 /// How many terminals there are.
@@ -97,8 +98,38 @@ fn leave_all(holders: &mut HashMap<Name, Holders>, names: &mut Vec<Name>, termin
     }
 }
 
-// Gives a name the holders that it has once the list's terminal has taken it, and puts it on that list.
+// Puts a name that nobody holds into the map, with its first holders, and on their terminal's list. A name that somebody holds
+// stays as it is, and its holders are answered.
 fn enter(
+    holders: &mut HashMap<Name, Holders>,
+    names: &mut Vec<Name>,
+    name: &Name,
+    first: Holders,
+) -> Result<Option<Holders>, Refusal>
+    ensures before { IfOk result (λ before. before ≡ get ghosts.eq holders.old name.now) }
+    ensures entered { IfOk result (λ before. IfNone before (Enters holders.old holders.new names.old.items names.new.items name.now first)) }
+    ensures held { IfOk result (λ before. IsSome before → (holders.new.entries ≡ holders.old.entries) × (names.new.items ≡ names.old.items)) }
+    ensures cause { IfErr result (λ e. e ≡ NoMemory) }
+    ensures absent { OnErr result (get ghosts.eq holders.old name.now ≡ None) }
+    ensures err { OnErr result ((holders.new.entries ≡ holders.old.entries) × (names.new.items ≡ names.old.items)) }
+{
+    let Ok(entry) = holders.entry(*name) else {
+        return Err(Refusal::NoMemory);
+    };
+    match entry {
+        Entry::Occupied(held) => Ok(Some(*held.get())),
+        Entry::Vacant(room) => {
+            let Ok(_) = names.push(*name) else {
+                return Err(Refusal::NoMemory);
+            };
+            room.insert(first);
+            Ok(None)
+        }
+    }
+}
+
+// Gives a name the holders that it has once the list's terminal has joined them, and puts it on that list.
+fn join(
     holders: &mut HashMap<Name, Holders>,
     names: &mut Vec<Name>,
     name: &Name,
@@ -165,7 +196,7 @@ impl Locks {
         replace(&mut self.holders, name, after);
     }
 
-    // Gives a name the holders that it has once the terminal has taken it.
+    // Gives a name the holders that it has once the terminal has joined them.
     fn take(&mut self, name: &Name, terminal: Terminal, after: Holders) -> Result<(), Refusal>
         requires { (u : ℕ) → u ≢ terminal → mode_among after u ≡ held self.old u name.now }
         ensures own { OnOk result (GivesBack self.old self.new terminal name.now (mode_among after terminal)) }
@@ -174,11 +205,58 @@ impl Locks {
         ensures err { OnErr result (self.new ≡ self.old) }
     {
         let names = &mut self.names[place(terminal)];
-        enter(&mut self.holders, names, name, after)
+        join(&mut self.holders, names, name, after)
+    }
+
+    // Takes a name that nobody holds, and answers who holds it otherwise.
+    fn begin(
+        &mut self,
+        name: &Name,
+        terminal: Terminal,
+        mode: Mode,
+    ) -> Result<Option<Holders>, Refusal>
+        ensures before { IfOk result (λ before. (u : ℕ) → held self.old u name.now ≡ mode_by before u) }
+        ensures own { IfOk result (λ before. IfNone before (GivesBack self.old self.new terminal name.now (Some mode))) }
+        ensures others { IfOk result (λ before. IfNone before (OthersKeep self.old self.new terminal)) }
+        ensures held { IfOk result (λ before. IsSome before → self.new ≡ self.old) }
+        ensures cause { IfErr result (λ e. e ≡ NoMemory) }
+        ensures absent { OnErr result ((u : ℕ) → held self.old u name.now ≡ None) }
+        ensures err { OnErr result (self.new ≡ self.old) }
+    {
+        let names = &mut self.names[place(terminal)];
+        enter(&mut self.holders, names, name, Holders::one(terminal, mode))
+    }
+
+    // Takes a name that those hold, or raises the mode in which the terminal holds it, where nobody is in the way.
+    fn rise(
+        &mut self,
+        name: &Name,
+        terminal: Terminal,
+        mode: Mode,
+        before: &Holders,
+    ) -> Result<(), Refusal>
+        requires { (u : ℕ) → held self.old u name.now ≡ mode_among before.now u }
+        ensures free { OnOk result (IsFreeFor self.old terminal name.now mode) }
+        ensures own { OnOk result (Takes self.old self.new terminal name.now mode) }
+        ensures others { OnOk result (OthersKeep self.old self.new terminal) }
+        ensures cause { IfErr result (IsCause self.old terminal name.now mode) }
+        ensures err { OnErr result (self.new ≡ self.old) }
+    {
+        if let Some(holder) = before.in_the_way(terminal, mode) {
+            return Err(Refusal::Busy(*name, holder));
+        }
+        let after = before.risen(terminal, mode);
+        match before.mode(terminal) {
+            None => self.take(name, terminal, after),
+            Some(_) => {
+                self.change(name, terminal, after);
+                Ok(())
+            }
+        }
     }
 
     /// Takes the name for the terminal, or raises the mode in which the terminal holds it, where nobody is in the way. A
-    /// mode is never lowered. Looks the name up twice, however many names are held.
+    /// mode is never lowered. A name that nobody holds is looked up once, and any other twice, however many names are held.
     ///
     /// `Busy` names the least other terminal that holds the name in a mode that conflicts. `NoMemory` comes only where
     /// nobody does, and the terminal does not hold the name yet in any mode. After an error nothing has changed.
@@ -189,19 +267,10 @@ impl Locks {
         ensures cause { IfErr result (IsCause self.old terminal name mode) }
         ensures err { OnErr result (self.new ≡ self.old) }
     {
-        let Some(before) = self.holders.get(&name).copied() else {
-            return self.take(&name, terminal, Holders::one(terminal, mode));
-        };
-        if let Some(holder) = before.in_the_way(terminal, mode) {
-            return Err(Refusal::Busy(name, holder));
-        }
-        let after = before.risen(terminal, mode);
-        match before.mode(terminal) {
-            None => self.take(&name, terminal, after),
-            Some(_) => {
-                self.change(&name, terminal, after);
-                Ok(())
-            }
+        match self.begin(&name, terminal, mode) {
+            Err(refusal) => Err(refusal),
+            Ok(None) => Ok(()),
+            Ok(Some(before)) => self.rise(&name, terminal, mode, &before),
         }
     }
 
