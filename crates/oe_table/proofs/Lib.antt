@@ -5,3 +5,4 @@ mod SweepFacts
 pub mod ShelfFacts
 pub mod ShelvesFacts
 mod RangeFacts
+mod ShelfSweepFacts

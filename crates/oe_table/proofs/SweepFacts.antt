@@ -30,7 +30,7 @@ module _ {K R : Type 0} (cmp : K → K → Ordering) (exact : IsAntisymmetric cm
   apart key q p true t differ = rw differ refl
   apart key q p false t differ = refl
 
-  step : (key q : K) (p : Option R) (kept : Bool) (old new : List (K × Option R)) (b : Bool) → is_eq (cmp q key) ≡ b → Judges (Answers key) p kept
+  pub step : (key q : K) (p : Option R) (kept : Bool) (old new : List (K × Option R)) (b : Bool) → is_eq (cmp q key) ≡ b → Judges (Answers key) p kept
       → place cmp old key ≡ None → ((other : K) → Sweeps (Answers other) (place cmp old other) (place cmp new other))
       → Sweeps (Answers q) (cond b (Some p) (place cmp old q)) (place cmp (cond kept ((key, p) ∷ new) new) q)
   step key q p kept old new true at judged none rest =

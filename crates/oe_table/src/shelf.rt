@@ -3,7 +3,9 @@ ghost use Rattle.std.specs.Prelude.{◌≡◌, ◌+◌, ◌<◌, ◌≤◌, ◌�
 ghost use Rattle.std.specs.List.{insert};
 ghost use Rattle.std.specs.Option.{option_copied, option_copied_mut};
 ghost use Rattle.std.specs.Borrow.{sem};
-ghost use Rattle.oe_table.specs.Table.{place};
+ghost use Rattle.std.specs.Fn.{FnReturnsAt};
+ghost use Rattle.oe_table.specs.Table.{place, Judges};
+ghost use Rattle.oe_table.specs.ShelfSweep.{SweepsShelf};
 ghost use Rattle.oe_table.specs.Shelf.{IsAscending, StandsAt, IsFound, put_at, lower, upper};
 
 use crate::keys::ShelvedKey;
@@ -224,5 +226,26 @@ impl<K: ShelvedKey, R> Shelf<K, R> {
             Ok(()) => Ok(()),
             Err(_) => Err(NoMemory),
         }
+    }
+
+    /// Gives up the places of exactly those blanked keys that the test does not keep.
+    pub(crate) fn sweep<F: Fn(&K) -> bool>(&mut self, keeps: &F)
+    where
+        K: Drop,
+        R: Drop,
+        requires { F.IsAlwaysCallable keeps.now }
+        ensures { SweepsShelf (FnReturnsAt F.Fn keeps.now) self.old self.new }
+    {
+        self.slots.retain(
+            |slot: &Slot<K, R>| -> bool
+                requires { F.IsAlwaysCallable keeps.now }
+                ensures { Judges (FnReturnsAt F.Fn keeps.entry.now slot.now.0) slot.now.1 result }
+            {
+                match slot.content {
+                    Some(_) => true,
+                    None => keeps(&slot.key),
+                }
+            },
+        );
     }
 }

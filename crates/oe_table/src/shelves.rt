@@ -8,7 +8,9 @@ ghost use Rattle.std.specs.FinMap.{entries};
 ghost use Rattle.std.specs.Option.{option_copied, option_copied_mut};
 ghost use Rattle.std.specs.Borrow.{sem};
 ghost use Rattle.std.specs.FinMap as map;
-ghost use Rattle.oe_table.specs.Table.{place, rows_of, IsBlanked, SetsPlace};
+ghost use Rattle.std.specs.Fn.{FnReturnsAt};
+ghost use Rattle.oe_table.specs.Table.{place, rows_of, IsBlanked, SetsPlace, Sweeps};
+ghost use Rattle.oe_table.specs.ShelfSweep.{SweepsShelves};
 ghost use Rattle.oe_table.specs.Shelf.{joined, AreShelves, lower, upper, cut_between};
 
 use crate::keys::ShelvedKey;
@@ -55,6 +57,19 @@ fn reach<K: Drop, R: Drop>(
         }
     }
     Ok(())
+}
+
+// Sweeps each shelf.
+fn sweep_each<K: ShelvedKey + Drop, R: Drop, F: Fn(&K) -> bool>(
+    shelves: &mut Vec<Shelf<K, R>>,
+    keeps: &F,
+)
+    requires { F.IsAlwaysCallable keeps.now }
+    ensures { SweepsShelves (FnReturnsAt F.Fn keeps.now) shelves.old.items shelves.new.items }
+{
+    for number in 0..shelves.len() {
+        shelves[number].sweep(keeps);
+    }
 }
 
 // A place between two slots: a shelf, and how many of its slots stand before.
@@ -261,6 +276,21 @@ impl<K: ShelvedKey, R> Shelves<K, R> {
         *slot = Some(row);
     }
 
+    /// Gives up the places of exactly those blanked keys that the test does not keep.
+    ///
+    /// The rows are as before, and so is each blanked place that the test keeps.
+    pub fn sweep<F: Fn(&K) -> bool>(&mut self, keeps: F)
+    where
+        K: Drop,
+        R: Drop,
+        F: Drop,
+        requires { F.IsAlwaysCallable keeps }
+        ensures places { (key : K) → Sweeps (FnReturnsAt F.Fn keeps key) (place K.cmp self.old key) (place K.cmp self.new key) }
+        ensures rows { rows_of K.cmp self.new ≡ rows_of K.cmp self.old }
+    {
+        sweep_each(&mut self.shelves, &keeps);
+    }
+
     /// The rows with their keys, in the keys' order.
     pub fn iter(&self) -> Rows<'_, K, R>
         ensures rows { result ≡ entries (rows_of K.cmp self.now) }
@@ -302,8 +332,8 @@ impl<K: ShelvedKey, R> Shelves<K, R> {
         ensures places { result ≡ entries_between K.cmp (Included from) (Excluded to) self.now }
         ensures ordered { IsStrictlySortedBy K.cmp (keys_of self.now) }
     {
-        let slots = self.slots_before(&from, &to);
-        Candidates { slots }
+        let places = self.slots_before(&from, &to);
+        Candidates { slots: places }
     }
 
     /// The keys from `from` up to `to`, both included, that have a place, in their order, each with its row or,
@@ -315,8 +345,8 @@ impl<K: ShelvedKey, R> Shelves<K, R> {
         ensures places { result ≡ entries_between K.cmp (Included from) (Included to) self.now }
         ensures ordered { IsStrictlySortedBy K.cmp (keys_of self.now) }
     {
-        let slots = self.slots_up_to(&from, &to);
-        Candidates { slots }
+        let places = self.slots_up_to(&from, &to);
+        Candidates { slots: places }
     }
 
     // All slots.
