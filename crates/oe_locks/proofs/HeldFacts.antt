@@ -2,7 +2,7 @@
 use Rattle.std.proofs.Common.{◌≡◌, ◌≢◌, ℕ, suc, ◌+◌, ◌<◌, ◌==◌, inl, inr, Bool, true, false, not, ◌||◌, cond, if◌then◌else◌, List, [], ◌∷◌, ◌++◌, map, length, get_or, set, Option, None, Some, IsSome, is_some, refl, sym, ap, ◌∙◌, subst, arith, add-one}
 use Rattle.std.proofs.lemmas.Bool.{cases_eq, cond-true, cond-false, eq-eqb, ne_eqb, false≢true}
 use Rattle.std.proofs.lemmas.List.{length-map, map-set, get_or-map, get_or-set_same, get_or-set_other}
-use Rattle.std.specs.Prelude.{MatchOption, OnOk, OnErr, IfOk, IfErr, IfNone}
+use Rattle.std.specs.Prelude.{MatchOption, OnOk, OnErr, IfOk, IfNone}
 use Rattle.std.specs.declared.result.Result.{Result}
 use Rattle.std.specs.declared.result.Result.TheVariants.{Ok, Err}
 use Rattle.std.specs.List.{filter}
@@ -13,10 +13,9 @@ use Rattle.oe_keys.specs.declared.locks.Mode.{Mode}
 use Rattle.oe_keys.specs.declared.locks.Mode.TheVariants.{Shared, Exclusive}
 use Rattle.oe_keys.specs.contracts.locks.NamePartialEq.TheImpl.{ghosts}
 use Rattle.oe_requests.specs.declared.refusals.Refusal.{Refusal}
-use Rattle.oe_requests.specs.declared.refusals.Refusal.TheVariants.{NoMemory}
 use Rattle.oe_locks.specs.declared.holders.Holders.{Holders}
 use Rattle.oe_locks.specs.declared.holders.Holders.TheVariants.{Alone, Together}
-use Rattle.oe_locks.specs.Held.{Holdings, held, is_name, go_together, risen, IsIdle, IsFree, IsFreeFor, IsFirstInTheWay, IsInTheWay, Takes, GivesBack, OthersKeep, IsBelow, IsCause}
+use Rattle.oe_locks.specs.Held.{Holdings, held, is_name, go_together, IsIdle, IsFree, IsFreeFor, IsFirstInTheWay, IsInTheWay, GivesBack, OthersKeep, IsBelow}
 use Rattle.oe_locks.specs.Holders.{has, mode_among, mode_by}
 use Rattle.oe_locks.specs.Listed.{stands, IsListed, AreListed}
 use Rattle.oe_locks.proofs.NameFacts.{eq_is_name, name_true, name_sym}
