@@ -20,7 +20,7 @@ use Rattle.oe_keys.proofs.KeyFacts.{warehouse_total, exact_warehouse, district_t
 use Rattle.oe_model.specs.Keys.{supply_of_line}
 use Rattle.oe_model.specs.Rows.{as_warehouse, as_district, as_customer, as_order, as_order_line, as_stock}
 use Rattle.oe_model.specs.Meets.{Meets}
-use Rattle.oe_model.specs.Changes.{Change, changed, UpdateWarehouse, UpdateDistrict, UpdateCustomer, UpdateOrder, UpdateOrderLine, UpdateStock, Record, UpdatedWarehouse, UpdatedDistrict, UpdatedCustomer, UpdatedOrder, UpdatedOrderLine, UpdatedStock}
+use Rattle.oe_model.specs.Changes.{changed, UpdateWarehouse, UpdateDistrict, UpdateCustomer, UpdateOrder, UpdateOrderLine, UpdateStock, UpdatedWarehouse, UpdatedDistrict, UpdatedCustomer, UpdatedOrder, UpdatedOrderLine, UpdatedStock}
 use Rattle.oe_store.specs.Stored.{Stored, rows, SamePlaces}
 use Rattle.oe_store.proofs.PlaceFacts.{place_of_row}
 use Rattle.oe_change.specs.Applies.{Applies}
