@@ -1,2 +1,3 @@
+pub mod FrontFacts
 pub mod StampFacts
 pub mod TextFacts

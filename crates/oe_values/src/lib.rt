@@ -2,6 +2,7 @@
 //! of the standard are those of TPC Benchmark C 5.11.
 #![tactic(auto)]
 
+pub mod fronts;
 pub mod lines;
 pub mod numbers;
 pub mod stamps;

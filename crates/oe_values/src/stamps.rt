@@ -1,106 +1,107 @@
 //! Stamps.
-ghost use Rattle.std.specs.Prelude.{◌≡◌, ◌+◌, ◌*◌, ◌/◌, ◌%◌, ◌<◌, ◌≤◌, ◌∷◌, ◌++◌, ◌↔◌, ℕ, List, length, IsSome, IsNone, IfSome, Some, pos, ◌+ℤ◌, ◌≤ℤ◌, unsigned_abs};
+ghost use Rattle.std.specs.Prelude.{◌≡◌, ◌+◌, ◌*◌, ◌<◌, ◌≤◌, ◌∷◌, ◌++◌, ◌↔◌, ℕ, List, IsSome, IsNone, IfSome, Some, pos, ◌+ℤ◌, ◌≤ℤ◌, unsigned_abs};
 ghost use Rattle.std.specs.List.{All};
-ghost use Rattle.jiff.specs.Words.{IsDate, IsTime, IsYmd, IsHms};
+ghost use Rattle.std.specs.Option.{option_map};
 ghost use Rattle.jiff_core.specs.DateTime.{civil_seconds};
+ghost use Rattle.oe_values.specs.Reading.{date_of, time_of, numbers_of, IsDay, IsSecond};
 ghost use Rattle.oe_values.specs.Stamp.{date_text, time_text, IsCounted, SaysStamp};
 ghost use Rattle.oe_values.specs.Text.{IsPrintable};
 
+use crate::fronts::{after, pair};
 use crate::texts::Text;
-use jiff::civil::DateTime;
 use jiff_core::civil;
 use std::marker::Model;
 
-/// The number that two digits say.
-fn two(tens: u8, ones: u8) -> Option<u8>
-    ensures some { IfSome result (λ n. (n < 100) × (tens ≡ 48 + n / 10) × (ones ≡ 48 + n % 10)) }
-    ensures none { IsNone result → (n : ℕ) → n < 100 → tens ≡ 48 + n / 10 → ones ≡ 48 + n % 10 → ⊥ }
+/// The days from -9999-01-01, the first of the calendar's dates, to 1900-01-01.
+const BEFORE_1900: u32 = 4_346_020;
+
+/// The days from 1900-01-01 to 2101-01-01.
+const DAYS: u32 = 73_414;
+
+/// The year, month and day of `YYYY-MM-DD` at the front, and what follows it.
+#[inline]
+#[tactic(auto, unfolding(crate::specs::Reading::date_of))]
+fn date(text: &[u8]) -> Option<((u16, u8, u8), &[u8])>
+    ensures { option_map (λ p. (p.0, p.1.now)) result ≡ date_of text.now }
 {
-    if tens < b'0' || tens > b'9' || ones < b'0' || ones > b'9' {
+    let (century, rest) = pair(text)?;
+    let (of_century, rest) = pair(rest)?;
+    let (month, rest) = pair(after(rest, b"-")?)?;
+    let (day, rest) = pair(after(rest, b"-")?)?;
+    let year = u16::from(century) * 100 + u16::from(of_century);
+    Some(((year, month, day), rest))
+}
+
+/// The hour, minute and second of `HH:MM:SS` at the front, and what follows it.
+#[inline]
+#[tactic(auto, unfolding(crate::specs::Reading::time_of))]
+fn time(text: &[u8]) -> Option<((u8, u8, u8), &[u8])>
+    ensures { option_map (λ p. (p.0, p.1.now)) result ≡ time_of text.now }
+{
+    let (hour, rest) = pair(text)?;
+    let (minute, rest) = pair(after(rest, b":")?)?;
+    let (second, rest) = pair(after(rest, b":")?)?;
+    Some(((hour, minute, second), rest))
+}
+
+/// The numbers of `YYYY-MM-DDTHH:MM:SS`.
+#[inline]
+#[tactic(auto, unfolding(crate::specs::Reading::numbers_of))]
+fn numbers(text: &[u8]) -> Option<((u16, u8, u8), (u8, u8, u8))>
+    ensures { result ≡ numbers_of text.now }
+{
+    let (date, rest) = date(text)?;
+    let (time, rest) = time(after(rest, b"T")?)?;
+    if rest.is_empty() {
+        Some((date, time))
+    } else {
+        None
+    }
+}
+
+/// The days from 1900-01-01 to a date, where the calendar has it and it lies before 2101.
+#[inline]
+fn days_at(date: (u16, u8, u8)) -> Option<u32>
+    ensures some { IfSome result (IsDay date.0 date.1 date.2) }
+    ensures none { IsNone result → (n : ℕ) → IsDay date.0 date.1 date.2 n → ⊥ }
+{
+    let (year, month, day) = date;
+    if year > 9_999 || month < 1 || month > 12 || day < 1 {
         return None;
     }
-    Some((tens - b'0') * 10 + (ones - b'0'))
-}
-
-/// The hour, minute and second of `HH:MM:SS`, each in two digits.
-fn read_time(text: &[u8]) -> Option<(u8, u8, u8)>
-    ensures some { IfSome result (λ p. (p.0 < 100) × (p.1 < 100) × (p.2 < 100) × (text.now ≡ time_text p.0 p.1 p.2)) }
-    ensures none { IsNone result → (h m s : ℕ) → h < 100 → m < 100 → s < 100 → text.now ≡ time_text h m s → ⊥ }
-{
-    let &[h1, h2, b':', m1, m2, b':', s1, s2] = text else {
-        return None;
-    };
-    Some((two(h1, h2)?, two(m1, m2)?, two(s1, s2)?))
-}
-
-/// The number that four digits say.
-fn four(a: u8, b: u8, c: u8, d: u8) -> Option<u16>
-    ensures some { IfSome result (λ n. (n < 10_000) × (a ≡ 48 + n / 100 / 10) × (b ≡ 48 + n / 100 % 10) × (c ≡ 48 + n % 100 / 10) × (d ≡ 48 + n % 100 % 10)) }
-    ensures none { IsNone result → (n : ℕ) → n < 10_000 → a ≡ 48 + n / 100 / 10 → b ≡ 48 + n / 100 % 10 → c ≡ 48 + n % 100 / 10 → d ≡ 48 + n % 100 % 10 → ⊥ }
-{
-    let high = two(a, b)?;
-    let low = two(c, d)?;
-    Some(u16::from(high) * 100 + u16::from(low))
-}
-
-/// The year, month and day of `YYYY-MM-DD`.
-fn read_date(text: &[u8]) -> Option<(u16, u8, u8)>
-    ensures some { IfSome result (λ p. (p.0 < 10_000) × (p.1 < 100) × (p.2 < 100) × (text.now ≡ date_text p.0 p.1 p.2)) }
-    ensures none { IsNone result → (y m d : ℕ) → y < 10_000 → m < 100 → d < 100 → text.now ≡ date_text y m d → ⊥ }
-{
-    let &[c1, c2, y1, y2, b'-', m1, m2, b'-', d1, d2] = text else {
-        return None;
-    };
-    Some((four(c1, c2, y1, y2)?, two(m1, m2)?, two(d1, d2)?))
-}
-
-/// The date and time with these numbers, where the calendar and the clock have them.
-fn moment(date: (u16, u8, u8), time: (u8, u8, u8)) -> Option<DateTime>
-    requires year { date.0 < 10_000 }
-    requires month { date.1 < 100 }
-    requires day { date.2 < 100 }
-    requires hour { time.0 < 100 }
-    requires minute { time.1 < 100 }
-    requires second { time.2 < 100 }
-    ensures variant { IsSome result ↔ (IsDate (pos date.0) (pos date.1) (pos date.2) × IsTime (pos time.0) (pos time.1) (pos time.2) (pos 0)) }
-    ensures value { IfSome result (λ m. IsYmd (pos date.0) (pos date.1) (pos date.2) m.date × IsHms (pos time.0) (pos time.1) (pos time.2) (pos 0) m.time) }
-{
-    DateTime::new(
-        date.0 as i16,
-        date.1 as i8,
-        date.2 as i8,
-        time.0 as i8,
-        time.1 as i8,
-        time.2 as i8,
-        0,
-    )
-    .ok()
-}
-
-/// The seconds after 1900-01-01T00:00:00 at a date and time, where there are such and they lie before 2101.
-fn seconds_at(moment: DateTime) -> Option<u64>
-    ensures some { IfSome result (λ n. (pos n ≡ civil_seconds moment +ℤ pos 2_208_988_800) × (n < 6_342_969_600)) }
-    ensures none { IsNone result → (n : ℕ) → n < 6_342_969_600 → pos n ≡ civil_seconds moment +ℤ pos 2_208_988_800 → ⊥ }
-{
-    let seconds = moment.to_plain().to_second();
-    if seconds < -2_208_988_800 || seconds >= 4_133_980_800 {
+    let year = year as i16;
+    if day > civil::days_in_month(year, month) {
         return None;
     }
-    Some((seconds + 2_208_988_800) as u64)
+    let days = civil::Date { year, month, day }.days_since_min();
+    if days < BEFORE_1900 || days >= BEFORE_1900 + DAYS {
+        return None;
+    }
+    Some(days - BEFORE_1900)
 }
 
-/// The same, of the numbers.
+/// The seconds from midnight to a time that the clock shows.
+#[inline]
+fn seconds_at(time: (u8, u8, u8)) -> Option<u32>
+    ensures some { IfSome result (IsSecond time.0 time.1 time.2) }
+    ensures none { IsNone result → (n : ℕ) → IsSecond time.0 time.1 time.2 n → ⊥ }
+{
+    let (hour, minute, second) = time;
+    if hour > 23 || minute > 59 || second > 59 {
+        return None;
+    }
+    Some(u32::from(hour) * 3600 + u32::from(minute) * 60 + u32::from(second))
+}
+
+/// The seconds after 1900-01-01T00:00:00 at which the calendar and the clock have these numbers, before 2101.
+#[inline]
 fn count(date: (u16, u8, u8), time: (u8, u8, u8)) -> Option<u64>
-    requires year { date.0 < 10_000 }
-    requires month { date.1 < 100 }
-    requires day { date.2 < 100 }
-    requires hour { time.0 < 100 }
-    requires minute { time.1 < 100 }
-    requires second { time.2 < 100 }
     ensures some { IfSome result (IsCounted date.0 date.1 date.2 time.0 time.1 time.2) }
     ensures none { IsNone result → (n : ℕ) → IsCounted date.0 date.1 date.2 time.0 time.1 time.2 n → ⊥ }
 {
-    seconds_at(moment(date, time)?)
+    let days = days_at(date)?;
+    let seconds = seconds_at(time)?;
+    Some(u64::from(days) * 86_400 + u64::from(seconds))
 }
 
 /// The seconds after 1900-01-01T00:00:00 that `YYYY-MM-DDTHH:MM:SS` says.
@@ -108,11 +109,7 @@ fn read_seconds(text: &[u8]) -> Option<u64>
     ensures some { IfSome result (SaysStamp text.now) }
     ensures none { IsNone result → (n : ℕ) → SaysStamp text.now n → ⊥ }
 {
-    if text.len() != 19 || text[10] != b'T' {
-        return None;
-    }
-    let date = read_date(&text[..10])?;
-    let time = read_time(&text[11..])?;
+    let (date, time) = numbers(text)?;
     count(date, time)
 }
 
@@ -122,7 +119,10 @@ fn moment_at(seconds: u64) -> civil::DateTime
     ensures seconds { pos seconds ≡ civil_seconds result +ℤ pos 2_208_988_800 }
     ensures since_1900 { pos 1900 ≤ℤ result.date.year }
 {
-    civil::DateTime::from_nanosecond_in_range((i128::from(seconds) - 2_208_988_800) * 1_000_000_000)
+    civil::DateTime {
+        date: civil::Date::from_days_since_min(BEFORE_1900 + (seconds / 86_400) as u32),
+        time: civil::Time::from_second((seconds % 86_400) as u32, 0),
+    }
 }
 
 /// `YYYY-MM-DDTHH:MM:SS` at a date from the year 0 on.
@@ -179,7 +179,16 @@ impl Stamp {
         ensures some { IfSome result (SaysStamp text.now) }
         ensures reads { (n : ℕ) → SaysStamp text.now n → result ≡ Some n }
     {
-        let since_1900 = read_seconds(text.as_bytes())?;
+        Stamp::read_bytes(text.as_bytes())
+    }
+
+    /// The same, of the text's bytes.
+    #[inline]
+    pub fn read_bytes(text: &[u8]) -> Option<Stamp>
+        ensures some { IfSome result (SaysStamp text.now) }
+        ensures reads { (n : ℕ) → SaysStamp text.now n → result ≡ Some n }
+    {
+        let since_1900 = read_seconds(text)?;
         Some(Stamp { since_1900 })
     }
 
@@ -188,11 +197,21 @@ impl Stamp {
         ensures says { SaysStamp result self }
         ensures only { (text : List ℕ) → SaysStamp text self → text ≡ result }
     {
-        let moment = moment_at(self.seconds());
-        match Text::read_bytes(&spelled(moment.date, moment.time)) {
+        match Text::read_bytes(&self.bytes()) {
             Some(text) => text,
             None => unreachable!(),
         }
+    }
+
+    /// The bytes of that text.
+    #[inline]
+    pub fn bytes(self) -> [u8; 19]
+        ensures says { SaysStamp result self }
+        ensures only { (text : List ℕ) → SaysStamp text self → text ≡ result }
+        ensures printable { All IsPrintable result }
+    {
+        let moment = moment_at(self.seconds());
+        spelled(moment.date, moment.time)
     }
 
     /// The seconds after 1900-01-01T00:00:00, where a stamp has so many: to 2100-12-31T23:59:59.

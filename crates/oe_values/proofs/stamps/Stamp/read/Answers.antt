@@ -1,9 +1,4 @@
-use Rattle.std.proofs.Common.{refl, ap, Some}
-use Rattle.oe_values.proofs.StampFacts.{says_one}
 use Rattle.oe_values.proofs.stamps.Stamp.read.Goals as goal
 
-pub returns-in_err-since_1900-clause-reads : goal.returns-in_err-since_1900-clause-reads
-returns-in_err-since_1900-clause-reads c n r = absurd (c.in_err-since_1900.ensures.none refl n (rw c.as_bytes.ensures.value r))
-
 pub returns-clause-reads : goal.returns-clause-reads
-returns-clause-reads c n r = ap Some (says_one _ _ _ (rw c.as_bytes.ensures.value at c.in_ok-since_1900.ensures.some) r)
+returns-clause-reads c n r = c.read_bytes.ensures.reads n (rw c.as_bytes.ensures.value r)

@@ -1,15 +1,5 @@
-use Rattle.std.proofs.Common.{◌∙◌}
-use Rattle.oe_values.specs.Stamp.{SaysStamp}
-use Rattle.oe_values.proofs.StampFacts.{SaysStamp-moment, says_alone}
+use Rattle.std.proofs.Common.{sym, ◌∙◌}
 use Rattle.oe_values.proofs.stamps.Stamp.text.Goals as goal
 
-said : (c : goal.In-Some) → SaysStamp c.in-Some.text c.args.self
-said c =
-    rw (← c.seconds.ensures.value)
-    (SaysStamp-moment c.moment_at-moment.result _ _ c.moment_at-moment.ensures.seconds c.moment_at-moment.ensures.since_1900 c.seconds.ensures.high (c.in-Some.ensures.value ∙ c.spelled.ensures.value))
-
-pub returns-clause-says : goal.returns-clause-says
-returns-clause-says c = said c
-
 pub returns-clause-only : goal.returns-clause-only
-returns-clause-only c text says = says_alone _ _ _ says (said c)
+returns-clause-only c text says = c.bytes.ensures.only text says ∙ sym c.in-Some.ensures.value
