@@ -1,2 +1,3 @@
 pub mod ColumnFacts
+pub mod DigitFacts
 pub mod StampFacts

@@ -7,31 +7,11 @@ ghost use Rattle.oe_texts.specs.Column.{balance_text, rate_text, credit_text, fl
 ghost use Rattle.oe_texts.specs.Stamp.{stamp_text};
 
 use crate::pending::{Pending, SIZE, text};
-use itoa::Buffer;
 use oe_rows::Credit;
 use oe_values::{Balance, Carrier, Rate, Stamp};
 
-/// A number.
-pub(crate) fn number(out: &mut Pending, n: u64)
-    requires { array_vec_len out.old + 20 ≤ SIZE }
-    ensures items { out.new.items ≡ out.old.items ++ decimal n }
-    ensures len { array_vec_len out.new ≤ array_vec_len out.old + 20 }
-{
-    let mut buffer = Buffer::new();
-    text(out, buffer.format(n).as_bytes());
-}
-
-/// A number of a column.
-pub(crate) fn small(out: &mut Pending, n: u32)
-    requires { array_vec_len out.old + 10 ≤ SIZE }
-    ensures items { out.new.items ≡ out.old.items ++ decimal n }
-    ensures len { array_vec_len out.new ≤ array_vec_len out.old + 10 }
-{
-    let mut buffer = Buffer::new();
-    text(out, buffer.format(n).as_bytes());
-}
-
 /// Two digits.
+#[inline]
 fn two(out: &mut Pending, n: u8)
     requires room { array_vec_len out.old + 2 ≤ SIZE }
     requires small { n < 100 }
@@ -40,6 +20,42 @@ fn two(out: &mut Pending, n: u8)
 {
     out.push(b'0' + n / 10);
     out.push(b'0' + n % 10);
+}
+
+/// A number, two digits at a time from the left.
+fn digits(out: &mut Pending, n: u64)
+    requires { array_vec_len out.old + length (decimal n) ≤ SIZE }
+    ensures items { out.new.items ≡ out.old.items ++ decimal n }
+    ensures len { array_vec_len out.new ≡ array_vec_len out.old + length (decimal n) }
+{
+    if n < 10 {
+        out.push(b'0' + n as u8);
+    } else if n < 100 {
+        two(out, n as u8);
+    } else {
+        digits(out, n / 100);
+        two(out, (n % 100) as u8);
+    }
+}
+
+/// A number.
+#[tactic(auto, using(crate::proofs::DigitFacts::length_of_u64))]
+pub(crate) fn number(out: &mut Pending, n: u64)
+    requires { array_vec_len out.old + 20 ≤ SIZE }
+    ensures items { out.new.items ≡ out.old.items ++ decimal n }
+    ensures len { array_vec_len out.new ≤ array_vec_len out.old + 20 }
+{
+    digits(out, n);
+}
+
+/// A number of a column.
+#[tactic(auto, using(crate::proofs::DigitFacts::length_of_u32))]
+pub(crate) fn small(out: &mut Pending, n: u32)
+    requires { array_vec_len out.old + 10 ≤ SIZE }
+    ensures items { out.new.items ≡ out.old.items ++ decimal n }
+    ensures len { array_vec_len out.new ≤ array_vec_len out.old + 10 }
+{
+    digits(out, u64::from(n));
 }
 
 /// Money with two decimals.
@@ -84,7 +100,7 @@ pub(crate) fn stamp(out: &mut Pending, stamp: Stamp)
     ensures items { out.new.items ≡ out.old.items ++ stamp_text stamp }
     ensures len { array_vec_len out.new ≡ array_vec_len out.old + 19 }
 {
-    text(out, stamp.text().as_str().as_bytes());
+    text(out, &stamp.bytes());
 }
 
 /// A stamp, or `-` for a null.
