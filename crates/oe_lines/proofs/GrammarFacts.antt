@@ -1,9 +1,9 @@
 -- What is read is said, and what is said is read.
-use Rattle.std.proofs.Common.{◌≡◌, ℕ, ◌^◌, ◌<◌, ◌⊎◌, inl, inr, List, ◌∷◌, ◌++◌, Bool, true, false, cond, Option, Some, None, IfSome, decimal, codes, sym, ap, ◌∙◌, refl, arith, lit<}
+use Rattle.std.proofs.Common.{◌≡◌, ℕ, ◌^◌, ◌<◌, ◌⊎◌, inl, inr, List, [], ◌∷◌, ◌++◌, Bool, true, false, cond, Option, Some, None, IfSome, decimal, codes, sym, ap, ◌∙◌, refl, append-nil, arith, lit<}
+use Rattle.std.specs.Option.{option_map}
 use Rattle.std.specs.Int.{IsInRange}
 use Rattle.std.specs.List.{join_with_byte}
-use Rattle.std.specs.Str.{all_ascii_digits}
-use Rattle.std.proofs.lemmas.Fmt.{decimal_digit, digits_decimal}
+use Rattle.std.proofs.lemmas.Fmt.{decimal_digit}
 use Rattle.oe_rows.specs.Credit.{money_text}
 use Rattle.oe_keys.specs.Key.{table_name, IsDistrictKey}
 use Rattle.oe_keys.specs.declared.keys.DistrictKey.{DistrictKey}
@@ -24,11 +24,12 @@ use Rattle.oe_lines.specs.declared.commands.MomentChoice.{MomentChoice}
 use Rattle.oe_lines.specs.declared.commands.MomentChoice.TheVariants as moment
 use Rattle.oe_lines.specs.declared.commands.Scale.{Scale}
 use Rattle.oe_lines.specs.Grammar.{Says, HasForm, IsScale, IsRequest, IsPayment, IsCustomer, IsAudited, IsMoment, words_of, customer_word, moment_word}
-use Rattle.oe_lines.specs.Reading.{table_of, condition_of, moment_of, audit_of, scale_of, opening_of, district_of, payment_of, beginning_of, terminal_verb_of, verb_of, command_of}
-use Rattle.oe_lines.specs.Words.{is_word, parted, number_of, amount_of, stamp_of}
-use Rattle.oe_lines.proofs.DigitFacts.{own}
+use Rattle.oe_lines.specs.Reading.{begun, table_of, moment_of, audit_of, opening_of, district_of, payment_of, beginning_of, terminal_of, rare_command_of, command_of}
+use Rattle.oe_lines.specs.Words.{is_word, within, number_before, last_number, amount_before, stamp_of}
 use Rattle.oe_lines.proofs.StampFacts.{stamp_found, stamp_only}
-use Rattle.oe_lines.proofs.WordFacts.{bind_some, map_some, chosen, guarded, some_same, word_is, joined, parted_found, parted_only, lacks_decimal, lacks_money, number_found, number_only, amount_found, amount_only}
+use Rattle.oe_values.specs.Front.{after_of, decimal_of, alone}
+use Rattle.oe_values.proofs.FrontFacts.{bind_some, some_same, chosen, alone_found, after_found, decimal_found, decimal_only}
+use Rattle.oe_lines.proofs.WordFacts.{map_some, word_is, within_found, within_only, before_found, before_only, last_found, last_only, amount_found, amount_only}
 
 -- the next link of a chain of tests on a word
 named : {A : Type 0} (s w : List ℕ) (x z : A) (rest : Option A) → cond (is_word s w) (Some x) rest ≡ Some z
@@ -72,6 +73,16 @@ table_only table.OrderLine = refl
 table_only table.Item = refl
 table_only table.Stock = refl
 
+-- words at the front of a line
+
+begun_some : {A : Type 0} (o : Option (List ℕ)) (read : List ℕ → Option A) (other : Option A) (x : A) → begun o read other ≡ Some x
+    → ((r : List ℕ) × (o ≡ Some r) × (read r ≡ Some x)) ⊎ (other ≡ Some x)
+begun_some None read other x e = inr e
+begun_some (Some r) read other x e = inl (r, refl, e)
+
+says_at : (s t : List ℕ) (c d : Command) → s ≡ t → d ≡ c → Says t d → Says s c
+says_at s t c d e f h = rw (e, ← f) h
+
 -- audits
 
 one : decimal 1 ≡ codes "1"
@@ -80,125 +91,95 @@ one = decimal_digit 1 (lit< tt)
 two : decimal 2 ≡ codes "2"
 two = decimal_digit 2 (lit< tt)
 
-condition_found : (s : List ℕ) (c : Condition) → condition_of s ≡ Some c → (s ≡ decimal (condition_number c)) × IsAudited c
-unfolding condition_of
-condition_found s c e = elim (named s (codes "1") condition.First c _ e) [
-  | inl h ↦ (rw (← h.1) (h.0 ∙ sym one), rw (← h.1) tt)
-  | inr h ↦ elim (named s (codes "2") condition.Second c None h) [
-    | inl k ↦ (rw (← k.1) (k.0 ∙ sym two), rw (← k.1) tt)
-    | inr k ↦ cc
-  ]
-]
-
-condition_only : (c : Condition) → IsAudited c → condition_of (decimal (condition_number c)) ≡ Some c
-unfolding condition_of is_word
-condition_only condition.First h = rw one refl
-condition_only condition.Second h = rw two refl
-condition_only condition.Third h = elim h [ ]
-condition_only condition.Fourth h = elim h [ ]
-
 moment_found : (s : List ℕ) (m : MomentChoice) → moment_of s ≡ Some m → (s ≡ moment_word m) × IsMoment m
 unfolding moment_of
-moment_found s m e = elim (named s (codes "now") moment.Now m _ e) [
-  | inl h ↦ (rw (← h.1) h.0, rw (← h.1) tt)
+moment_found s m e = elim (chosen (is_word s (codes "now")) _ _ (Some m) e) [
+  | inl h ↦
+      let same = some_same moment.Now m h.1 in
+      (word_is s _ h.0 ∙ ap moment_word same, rw (← same) tt)
   | inr h ↦
-      let n = map_some (λ n. moment.At n) (number_of 0 999_999_999_999 s) m h in
-      let f = number_found 0 999_999_999_999 s n.0 n.1 in
-      (rw (← n.2) f.0, rw (← n.2) f.2)
+      let p = bind_some (decimal_of s) _ m h.1 in
+      let a = bind_some (alone p.0.0 p.0.1) _ m p.2 in
+      let w = bind_some (within 0 999_999_999_999 a.0) _ m a.2 in
+      let f = decimal_found s p.0.0 p.0.1 p.1 in
+      let end = alone_found p.0.0 a.0 p.0.1 a.1 in
+      let range = within_found 0 999_999_999_999 a.0 w.0 w.1 in
+      let same = some_same (moment.At w.0) m w.2 in (
+        f.0 ∙ ap (λ z. decimal p.0.0 ++ z) end.0 ∙ append-nil (decimal p.0.0) ∙ ap decimal (end.1 ∙ range.0) ∙ ap moment_word same,
+        rw (← same) range.2,
+      )
 ]
 
-no_word : (n : ℕ) → n < 2 ^ 64 → (b : Bool) → is_word (decimal n) (codes "now") ≡ b → b ≡ false
+no_word : (n : ℕ) → n < 10 ^ 15 → (b : Bool) → is_word (decimal n) (codes "now") ≡ b → b ≡ false
+unfolding decimal_of
 no_word n h false e = refl
 no_word n h true e =
-    let digits = digits_decimal own n h in
-    let wrong : all_ascii_digits (codes "now") ≡ true = rw (word_is (decimal n) (codes "now") e) at digits in
+    let read : decimal_of (codes "now" ++ []) ≡ Some (n, []) = rw (word_is (decimal n) (codes "now") e) at (decimal_only n [] h refl) in
     cc
 
 moment_only : (m : MomentChoice) → IsMoment m → moment_of (moment_word m) ≡ Some m
 unfolding moment_of
 moment_only moment.Now h = unfold is_word in refl
-moment_only (moment.At n) h = rw (no_word n (omega arith) _ refl, number_only 0 999_999_999_999 n (omega arith) (omega arith, h)) refl
+moment_only (moment.At n) h =
+    rw (no_word n (omega arith) _ refl, ← append-nil (decimal n), decimal_only n [] (omega arith) refl, within_only 0 999_999_999_999 n (omega arith) h)
+    refl
 
-says_at : (s : List ℕ) (c d : Command) → d ≡ c → Says s d → Says s c
-says_at s c d e h = rw (← e) h
+audited_found : (c : Condition) (w s : List ℕ) (d : Command) → w ≡ decimal (condition_number c) → IsAudited c → option_map (λ m. command.Audit c m) (moment_of s) ≡ Some d
+    → Says (codes "audit" ++ 32 ∷ (w ++ 32 ∷ s)) d
+audited_found c w s d e h f =
+    let m = map_some (λ m. command.Audit c m) (moment_of s) d f in
+    let g = moment_found s m.0 m.1 in
+    says_at _ _ d (command.Audit c m.0) (ap (λ z. codes "audit" ++ 32 ∷ z) (ap (λ z. z ++ 32 ∷ s) e ∙ ap (λ z. decimal (condition_number c) ++ 32 ∷ z) g.0)) m.2
+    (record { form = (h, g.1); spelled = refl })
 
-audit_found : (s : List ℕ) (c : Command) → audit_of s ≡ Some c → Says (codes "audit" ++ 32 ∷ s) c
+audit_found : (s : List ℕ) (d : Command) → audit_of s ≡ Some d → Says (codes "audit" ++ 32 ∷ s) d
 unfolding audit_of
-audit_found s c e =
-    let p = bind_some (parted 32 s) _ c e in
-    let k = bind_some (condition_of p.0.0) _ c p.2 in
-    let m = bind_some (moment_of p.0.1) _ c k.2 in
-    let f = condition_found p.0.0 k.0 k.1 in
-    let g = moment_found p.0.1 m.0 m.1 in
-    says_at _ c (command.Audit k.0 m.0) (some_same _ c m.2)
-    (record {
-      form = (f.1, g.1);
-      spelled = ap (λ z. codes "audit" ++ 32 ∷ z) (joined s p.0.0 p.0.1 (decimal (condition_number k.0)) (moment_word m.0) 32 (parted_found 32 s p.0.0 p.0.1 p.1) f.0 g.0);
-    })
-
-small : (c : Condition) → condition_number c < 2 ^ 64
-small condition.First = omega arith
-small condition.Second = omega arith
-small condition.Third = omega arith
-small condition.Fourth = omega arith
+audit_found s d e = elim (begun_some (after_of (codes "1 ") s) _ _ d e) [
+  | inl h ↦ rw (after_found (codes "1 ") s h.0 h.1) (audited_found condition.First (codes "1") h.0 d (sym one) tt h.2)
+  | inr e ↦ elim (begun_some (after_of (codes "2 ") s) _ None d e) [
+    | inl h ↦ rw (after_found (codes "2 ") s h.0 h.1) (audited_found condition.Second (codes "2") h.0 d (sym two) tt h.2)
+    | inr e ↦ cc
+  ]
+]
 
 audit_only : (c : Condition) (m : MomentChoice) → IsAudited c → IsMoment m → audit_of (decimal (condition_number c) ++ 32 ∷ moment_word m) ≡ Some (command.Audit c m)
 unfolding audit_of
-audit_only c m h k =
-    rw (parted_only 32 (decimal (condition_number c)) (moment_word m) (lacks_decimal 32 (condition_number c) (omega arith) (small c)), condition_only c h, moment_only m k)
-    refl
+audit_only condition.First m h k = rw (one, moment_only m k) refl
+audit_only condition.Second m h k = rw (two, moment_only m k) refl
+audit_only condition.Third m h k = elim h [ ]
+audit_only condition.Fourth m h k = elim h [ ]
 
 -- openings
 
 abbrev scale_words : Scale → List ℕ → List ℕ
 scale_words s rest = decimal s.warehouses ++ 32 ∷ (decimal s.customers ++ 32 ∷ (decimal s.items ++ 32 ∷ rest))
 
-scale_found : (s : List ℕ) (p : Scale × List ℕ) → scale_of s ≡ Some p → (s ≡ scale_words p.0 p.1) × IsScale p.0
-unfolding scale_of
-scale_found s p e =
-    let a = bind_some (parted 32 s) _ p e in
-    let w = bind_some (number_of 1 16 a.0.0) _ p a.2 in
-    let b = bind_some (parted 32 a.0.1) _ p w.2 in
-    let c = bind_some (number_of 1 3_000 b.0.0) _ p b.2 in
-    let d = bind_some (parted 32 b.0.1) _ p c.2 in
-    let i = bind_some (number_of 1 100_000 d.0.0) _ p d.2 in
-    let f = number_found 1 16 a.0.0 w.0 w.1 in
-    let g = number_found 1 3_000 b.0.0 c.0 c.1 in
-    let h = number_found 1 100_000 d.0.0 i.0 i.1 in
-    let last = joined b.0.1 d.0.0 d.0.1 (decimal i.0) d.0.1 32 (parted_found 32 b.0.1 d.0.0 d.0.1 d.1) h.0 refl in
-    let middle = joined a.0.1 b.0.0 b.0.1 (decimal c.0) (decimal i.0 ++ 32 ∷ d.0.1) 32 (parted_found 32 a.0.1 b.0.0 b.0.1 b.1) g.0 last in
-    let whole = joined s a.0.0 a.0.1 (decimal w.0) (decimal c.0 ++ 32 ∷ (decimal i.0 ++ 32 ∷ d.0.1)) 32 (parted_found 32 s a.0.0 a.0.1 a.1) f.0 middle in
-    rw (← some_same (record { warehouses = w.0; customers = c.0; items = i.0 }, d.0.1) p i.2) (whole, record { warehouses = (f.1, f.2); customers = (g.1, g.2); items = (h.1, h.2) })
-
-scale_only : (s : Scale) (rest : List ℕ) → IsScale s → scale_of (scale_words s rest) ≡ Some (s, rest)
-unfolding scale_of
-scale_only s rest h =
-    rw (
-      parted_only 32 (decimal s.warehouses) _ (lacks_decimal 32 s.warehouses (omega arith) (omega (arith, h.warehouses))),
-      number_only 1 16 s.warehouses (omega arith) h.warehouses,
-      parted_only 32 (decimal s.customers) _ (lacks_decimal 32 s.customers (omega arith) (omega (arith, h.customers))),
-      number_only 1 3_000 s.customers (omega arith) h.customers,
-      parted_only 32 (decimal s.items) rest (lacks_decimal 32 s.items (omega arith) (omega (arith, h.items))),
-      number_only 1 100_000 s.items (omega arith) h.items,
-    )
-    refl
-
 opening_found : (s : List ℕ) (c : Command) → opening_of s ≡ Some c → Says (codes "open" ++ 32 ∷ s) c
 unfolding opening_of
 opening_found s c e =
-    let p = bind_some (scale_of s) _ c e in
-    let x = bind_some (number_of 2 4_096 p.0.1) _ c p.2 in
-    let f = scale_found s p.0 p.1 in
-    let g = number_found 2 4_096 p.0.1 x.0 x.1 in
-    says_at _ c (command.Open p.0.0 x.0) (some_same _ c x.2)
-    (record {
-      form = (f.1, (g.1, g.2));
-      spelled = ap (λ z. codes "open" ++ 32 ∷ z) (f.0 ∙ ap (scale_words p.0.0) g.0);
-    })
+    let a = bind_some (number_before 1 16 s) _ c e in
+    let b = bind_some (number_before 1 3_000 a.0.1) _ c a.2 in
+    let d = bind_some (number_before 1 100_000 b.0.1) _ c b.2 in
+    let x = bind_some (last_number 2 4_096 d.0.1) _ c d.2 in
+    let f = before_found 1 16 s a.0.0 a.0.1 a.1 in
+    let g = before_found 1 3_000 a.0.1 b.0.0 b.0.1 b.1 in
+    let h = before_found 1 100_000 b.0.1 d.0.0 d.0.1 d.1 in
+    let i = last_found 2 4_096 d.0.1 x.0 x.1 in
+    let spelled =
+    f.0 ∙ ap (λ z. decimal a.0.0 ++ 32 ∷ z) (g.0 ∙ ap (λ z. decimal b.0.0 ++ 32 ∷ z) (h.0 ∙ ap (λ z. decimal d.0.0 ++ 32 ∷ z) i.0)) in
+    says_at _ _ c (command.Open (record { warehouses = a.0.0; customers = b.0.0; items = d.0.0 }) x.0) (ap (λ z. codes "open" ++ 32 ∷ z) spelled) (some_same _ c x.2)
+    (record { form = (record { warehouses = (f.1, f.2); customers = (g.1, g.2); items = (h.1, h.2) }, (i.1, i.2)); spelled = refl })
 
 opening_only : (s : Scale) (x : ℕ) → IsScale s → IsInRange 2 4_096 x → opening_of (scale_words s (decimal x)) ≡ Some (command.Open s x)
 unfolding opening_of
-opening_only s x h k = rw (scale_only s (decimal x) h, number_only 2 4_096 x (omega arith) k) refl
+opening_only s x h k =
+    rw (
+      before_only 1 16 s.warehouses _ (omega arith) h.warehouses,
+      before_only 1 3_000 s.customers _ (omega arith) h.customers,
+      before_only 1 100_000 s.items _ (omega arith) h.items,
+      last_only 2 4_096 x (omega arith) k,
+    )
+    refl
 
 -- payments
 
@@ -208,26 +189,17 @@ district_words d rest = decimal d.warehouse ++ 32 ∷ (decimal d.district ++ 32 
 district_found : (s : List ℕ) (p : DistrictKey × List ℕ) → district_of s ≡ Some p → (s ≡ district_words p.0 p.1) × IsDistrictKey p.0
 unfolding district_of
 district_found s p e =
-    let a = bind_some (parted 32 s) _ p e in
-    let w = bind_some (number_of 1 16 a.0.0) _ p a.2 in
-    let b = bind_some (parted 32 a.0.1) _ p w.2 in
-    let d = bind_some (number_of 1 10 b.0.0) _ p b.2 in
-    let f = number_found 1 16 a.0.0 w.0 w.1 in
-    let g = number_found 1 10 b.0.0 d.0 d.1 in
-    let last = joined a.0.1 b.0.0 b.0.1 (decimal d.0) b.0.1 32 (parted_found 32 a.0.1 b.0.0 b.0.1 b.1) g.0 refl in
-    let whole = joined s a.0.0 a.0.1 (decimal w.0) (decimal d.0 ++ 32 ∷ b.0.1) 32 (parted_found 32 s a.0.0 a.0.1 a.1) f.0 last in
-    rw (← some_same (record { warehouse = w.0; district = d.0 }, b.0.1) p d.2) (whole, record { warehouse = (f.1, f.2); district = (g.1, g.2) })
+    let a = bind_some (number_before 1 16 s) _ p e in
+    let b = bind_some (number_before 1 10 a.0.1) _ p a.2 in
+    let f = before_found 1 16 s a.0.0 a.0.1 a.1 in
+    let g = before_found 1 10 a.0.1 b.0.0 b.0.1 b.1 in
+    rw (← some_same (record { warehouse = a.0.0; district = b.0.0 }, b.0.1) p b.2)
+    (f.0 ∙ ap (λ z. decimal a.0.0 ++ 32 ∷ z) g.0, record { warehouse = (f.1, f.2); district = (g.1, g.2) })
 
 district_only : (d : DistrictKey) (rest : List ℕ) → IsDistrictKey d → district_of (district_words d rest) ≡ Some (d, rest)
 unfolding district_of
 district_only d rest h =
-    rw (
-      parted_only 32 (decimal d.warehouse) _ (lacks_decimal 32 d.warehouse (omega arith) (omega (arith, h.warehouse))),
-      number_only 1 16 d.warehouse (omega arith) h.warehouse,
-      parted_only 32 (decimal d.district) rest (lacks_decimal 32 d.district (omega arith) (omega (arith, h.district))),
-      number_only 1 10 d.district (omega arith) h.district,
-    )
-    refl
+    rw (before_only 1 16 d.warehouse _ (omega arith) h.warehouse, before_only 1 10 d.district rest (omega arith) h.district) refl
 
 abbrev payment_words : PaymentRequest → List ℕ
 payment_words p =
@@ -239,21 +211,18 @@ unfolding payment_of
 payment_found s p e =
     let a = bind_some (district_of s) _ p e in
     let b = bind_some (district_of a.0.1) _ p a.2 in
-    let c = bind_some (parted 32 b.0.1) _ p b.2 in
-    let n = bind_some (number_of 1 3_000 c.0.0) _ p c.2 in
-    let d = bind_some (parted 32 c.0.1) _ p n.2 in
-    let m = bind_some (amount_of 100 500_000 d.0.0) _ p d.2 in
-    let t = bind_some (stamp_of d.0.1) _ p m.2 in
+    let c = bind_some (number_before 1 3_000 b.0.1) _ p b.2 in
+    let d = bind_some (amount_before 100 500_000 c.0.1) _ p c.2 in
+    let t = bind_some (stamp_of d.0.1) _ p d.2 in
     let f = district_found s a.0 a.1 in
     let g = district_found a.0.1 b.0 b.1 in
-    let h = number_found 1 3_000 c.0.0 n.0 n.1 in
-    let i = amount_found 100 500_000 d.0.0 m.0 m.1 in
+    let h = before_found 1 3_000 b.0.1 c.0.0 c.0.1 c.1 in
+    let i = amount_found 100 500_000 c.0.1 d.0.0 d.0.1 d.1 in
     let j = stamp_found d.0.1 t.0 t.1 in
-    let last = joined c.0.1 d.0.0 d.0.1 (money_text m.0) (stamp_text t.0) 32 (parted_found 32 c.0.1 d.0.0 d.0.1 d.1) i.0 j.0 in
-    let middle = joined b.0.1 c.0.0 c.0.1 (decimal n.0) (money_text m.0 ++ 32 ∷ stamp_text t.0) 32 (parted_found 32 b.0.1 c.0.0 c.0.1 c.1) h.0 last in
-    let same = some_same (record { district = a.0.0; customer_district = b.0.0; customer = choice.Number n.0; amount = m.0; stamp = t.0 }) p t.2 in
+    let last = h.0 ∙ ap (λ z. decimal c.0.0 ++ 32 ∷ z) (i.0 ∙ ap (λ z. money_text d.0.0 ++ 32 ∷ z) j.0) in
+    let same = some_same (record { district = a.0.0; customer_district = b.0.0; customer = choice.Number c.0.0; amount = d.0.0; stamp = t.0 }) p t.2 in
     rw (← same) (
-      f.0 ∙ ap (district_words a.0.0) (g.0 ∙ ap (district_words b.0.0) middle),
+      f.0 ∙ ap (district_words a.0.0) (g.0 ∙ ap (district_words b.0.0) last),
       record { district = f.1; customer_district = g.1; customer = (h.1, h.2); amount = (i.1, i.2); stamp = j.1 },
     )
 
@@ -265,10 +234,8 @@ payment_numbered at home n amount stamp p q r s t =
     rw (
       district_only at _ p,
       district_only home _ q,
-      parted_only 32 (decimal n) _ (lacks_decimal 32 n (omega arith) (omega (arith, r))),
-      number_only 1 3_000 n (omega arith) r,
-      parted_only 32 (money_text amount) _ (lacks_money amount (omega (arith, s))),
-      amount_only 100 500_000 amount (omega arith) s,
+      before_only 1 3_000 n _ (omega arith) r,
+      amount_only 100 500_000 amount _ (omega arith) s,
       stamp_only stamp t,
     )
     refl
@@ -282,71 +249,58 @@ payment_only at home (choice.LastName name) amount stamp p q r s t = elim r [ ]
 beginning_found : (s : List ℕ) (c : Command) → beginning_of s ≡ Some c → Says (codes "begin" ++ 32 ∷ s) c
 unfolding beginning_of
 beginning_found s c e =
-    let a = bind_some (parted 32 s) _ c e in
-    let t = bind_some (number_of 1 64 a.0.0) _ c a.2 in
-    let v = bind_some (parted 32 a.0.1) _ c t.2 in
-    let w = guarded (is_word v.0.0 (codes "payment")) _ c v.2 in
-    let m = map_some (λ p. command.Begin t.0 (request.Payment p)) (payment_of v.0.1) c w.1 in
-    let f = number_found 1 64 a.0.0 t.0 t.1 in
-    let g = payment_found v.0.1 m.0 m.1 in
-    let last = joined a.0.1 v.0.0 v.0.1 (codes "payment") (payment_words m.0) 32 (parted_found 32 a.0.1 v.0.0 v.0.1 v.1) (word_is v.0.0 (codes "payment") w.0) g.0 in
-    says_at _ c (command.Begin t.0 (request.Payment m.0)) m.2
-    (record {
-      form = ((f.1, f.2), g.1);
-      spelled = ap (λ z. codes "begin" ++ 32 ∷ z) (joined s a.0.0 a.0.1 (decimal t.0) (codes "payment" ++ 32 ∷ payment_words m.0) 32 (parted_found 32 s a.0.0 a.0.1 a.1) f.0 last);
-    })
+    let t = bind_some (number_before 1 64 s) _ c e in
+    let a = bind_some (after_of (codes "payment ") t.0.1) _ c t.2 in
+    let p = bind_some (payment_of a.0) _ c a.2 in
+    let f = before_found 1 64 s t.0.0 t.0.1 t.1 in
+    let g = payment_found a.0 p.0 p.1 in
+    let spelled =
+    f.0 ∙ ap (λ z. decimal t.0.0 ++ 32 ∷ z) (after_found (codes "payment ") t.0.1 a.0 a.1 ∙ ap (λ z. codes "payment" ++ 32 ∷ z) g.0) in
+    says_at _ _ c (command.Begin t.0.0 (request.Payment p.0)) (ap (λ z. codes "begin" ++ 32 ∷ z) spelled) (some_same _ c p.2)
+    (record { form = ((f.1, f.2), g.1); spelled = refl })
 
 beginning_only : (t : ℕ) (p : PaymentRequest) → IsInRange 1 64 t → IsPayment p
     → beginning_of (decimal t ++ 32 ∷ (codes "payment" ++ 32 ∷ payment_words p)) ≡ Some (command.Begin t (request.Payment p))
-unfolding beginning_of is_word
+unfolding beginning_of
 beginning_only t p h k =
     rw (
-      parted_only 32 (decimal t) _ (lacks_decimal 32 t (omega arith) (omega (arith, h))),
-      number_only 1 64 t (omega arith) h,
+      before_only 1 64 t _ (omega arith) h,
       payment_only p.district p.customer_district p.customer p.amount p.stamp k.district k.customer_district k.customer k.amount k.stamp,
     )
     refl
 
 -- lines
 
-said : (v w s u : List ℕ) (c d : Command) → v ≡ w → s ≡ u → d ≡ c → Says (w ++ 32 ∷ u) d → Says (v ++ 32 ∷ s) c
-said v w s u c d e f g h = rw (e, f, ← g) h
+-- a line of a word and a terminal
+terminal_found : (made : ℕ → Command) (word line rest : List ℕ) (c : Command) → line ≡ word ++ 32 ∷ rest → ((t : ℕ) → IsInRange 1 64 t → Says (word ++ 32 ∷ decimal t) (made t))
+    → terminal_of made rest ≡ Some c → Says line c
+terminal_found made word line rest c e says f =
+    let t = map_some made (last_number 1 64 rest) c f in
+    let g = last_found 1 64 rest t.0 t.1 in
+    says_at line _ c (made t.0) (e ∙ ap (λ z. word ++ 32 ∷ z) g.0) t.2 (says t.0 (g.1, g.2))
 
-terminal_verb_found : (v s : List ℕ) (c : Command) → terminal_verb_of v s ≡ Some c → Says (v ++ 32 ∷ s) c
-unfolding terminal_verb_of
-terminal_verb_found v s c e =
-    let t = bind_some (number_of 1 64 s) _ c e in
-    let f = number_found 1 64 s t.0 t.1 in
-    elim (named v (codes "next") (command.Next t.0) c _ t.2) [
-      | inl h ↦ said v _ s _ c _ h.0 f.0 h.1 (record { form = (f.1, f.2); spelled = refl })
-      | inr e ↦ elim (named v (codes "run") (command.Run t.0) c _ e) [
-        | inl h ↦ said v _ s _ c _ h.0 f.0 h.1 (record { form = (f.1, f.2); spelled = refl })
-        | inr e ↦ elim (named v (codes "save") (command.Save t.0) c _ e) [
-          | inl h ↦ said v _ s _ c _ h.0 f.0 h.1 (record { form = (f.1, f.2); spelled = refl })
-          | inr e ↦ elim (named v (codes "back") (command.Back t.0) c _ e) [
-            | inl h ↦ said v _ s _ c _ h.0 f.0 h.1 (record { form = (f.1, f.2); spelled = refl })
-            | inr e ↦ elim (named v (codes "rollback") (command.Rollback t.0) c None e) [
-              | inl h ↦ said v _ s _ c _ h.0 f.0 h.1 (record { form = (f.1, f.2); spelled = refl })
-              | inr e ↦ cc
-            ]
+dumped_found : (s : List ℕ) (c : Command) → option_map (λ t. command.Dump t) (table_of s) ≡ Some c → Says (codes "dump" ++ 32 ∷ s) c
+dumped_found s c e =
+    let t = map_some (λ t. command.Dump t) (table_of s) c e in
+    says_at _ _ c (command.Dump t.0) (ap (λ z. codes "dump" ++ 32 ∷ z) (table_found s t.0 t.1)) t.2 (record { form = tt; spelled = refl })
+
+rare_found : (s : List ℕ) (c : Command) → rare_command_of s ≡ Some c → Says s c
+unfolding rare_command_of
+rare_found s c e = elim (begun_some (after_of (codes "save ") s) _ _ c e) [
+  | inl h ↦ terminal_found (λ t. command.Save t) (codes "save") s h.0 c (after_found (codes "save ") s h.0 h.1) (λ t r. record { form = r; spelled = refl }) h.2
+  | inr e ↦ elim (begun_some (after_of (codes "back ") s) _ _ c e) [
+    | inl h ↦ terminal_found (λ t. command.Back t) (codes "back") s h.0 c (after_found (codes "back ") s h.0 h.1) (λ t r. record { form = r; spelled = refl }) h.2
+    | inr e ↦ elim (begun_some (after_of (codes "rollback ") s) _ _ c e) [
+      | inl h ↦ terminal_found (λ t. command.Rollback t) (codes "rollback") s h.0 c (after_found (codes "rollback ") s h.0 h.1) (λ t r. record { form = r; spelled = refl }) h.2
+      | inr e ↦ elim (begun_some (after_of (codes "open ") s) _ _ c e) [
+        | inl h ↦ rw (after_found (codes "open ") s h.0 h.1) (opening_found h.0 c h.2)
+        | inr e ↦ elim (begun_some (after_of (codes "dump ") s) _ _ c e) [
+          | inl h ↦ rw (after_found (codes "dump ") s h.0 h.1) (dumped_found h.0 c h.2)
+          | inr e ↦ elim (begun_some (after_of (codes "audit ") s) _ None c e) [
+            | inl h ↦ rw (after_found (codes "audit ") s h.0 h.1) (audit_found h.0 c h.2)
+            | inr e ↦ cc
           ]
         ]
-      ]
-    ]
-
-verb_found : (v s : List ℕ) (c : Command) → verb_of v s ≡ Some c → Says (v ++ 32 ∷ s) c
-unfolding verb_of
-verb_found v s c e = elim (chosen (is_word v (codes "begin")) _ _ (Some c) e) [
-  | inl h ↦ said v _ s s c c (word_is v _ h.0) refl refl (beginning_found s c h.1)
-  | inr h ↦ elim (chosen (is_word v (codes "open")) _ _ (Some c) h.1) [
-    | inl h ↦ said v _ s s c c (word_is v _ h.0) refl refl (opening_found s c h.1)
-    | inr h ↦ elim (chosen (is_word v (codes "dump")) _ _ (Some c) h.1) [
-      | inl h ↦
-          let m = map_some (λ t. command.Dump t) (table_of s) c h.1 in
-          said v _ s _ c _ (word_is v _ h.0) (table_found s m.0 m.1) m.2 (record { form = tt; spelled = refl })
-      | inr h ↦ elim (chosen (is_word v (codes "audit")) _ _ (Some c) h.1) [
-        | inl h ↦ said v _ s s c c (word_is v _ h.0) refl refl (audit_found s c h.1)
-        | inr h ↦ terminal_verb_found v s c h.1
       ]
     ]
   ]
@@ -354,17 +308,23 @@ verb_found v s c e = elim (chosen (is_word v (codes "begin")) _ _ (Some c) e) [
 
 found : (s : List ℕ) (c : Command) → command_of s ≡ Some c → Says s c
 unfolding command_of
-found s c e =
-    let p = bind_some (parted 32 s) _ c e in
-    let f = verb_found p.0.0 p.0.1 c p.2 in
-    rw (parted_found 32 s p.0.0 p.0.1 p.1) f
+found s c e = elim (begun_some (after_of (codes "begin ") s) _ _ c e) [
+  | inl h ↦ rw (after_found (codes "begin ") s h.0 h.1) (beginning_found h.0 c h.2)
+  | inr e ↦ elim (begun_some (after_of (codes "run ") s) _ _ c e) [
+    | inl h ↦ terminal_found (λ t. command.Run t) (codes "run") s h.0 c (after_found (codes "run ") s h.0 h.1) (λ t r. record { form = r; spelled = refl }) h.2
+    | inr e ↦ elim (begun_some (after_of (codes "next ") s) _ _ c e) [
+      | inl h ↦ terminal_found (λ t. command.Next t) (codes "next") s h.0 c (after_found (codes "next ") s h.0 h.1) (λ t r. record { form = r; spelled = refl }) h.2
+      | inr e ↦ rare_found s c e
+    ]
+  ]
+]
 
-terminal : (t : ℕ) → IsInRange 1 64 t → number_of 1 64 (decimal t) ≡ Some t
-terminal t h = number_only 1 64 t (omega arith) h
+terminal : (t : ℕ) → IsInRange 1 64 t → last_number 1 64 (decimal t) ≡ Some t
+terminal t h = last_only 1 64 t (omega arith) h
 
 request_only : (t : ℕ) (r : Request) → IsInRange 1 64 t → IsRequest r
     → command_of (join_with_byte 32 (words_of (command.Begin t r))) ≡ Some (command.Begin t r)
-unfolding command_of verb_of is_word
+unfolding command_of
 request_only t (request.Payment p) h k = beginning_only t p h k
 request_only t (request.NewOrder r) h k = elim k [ ]
 request_only t (request.Delivery r) h k = elim k [ ]
@@ -372,7 +332,7 @@ request_only t (request.Deliveries r) h k = elim k [ ]
 request_only t (request.Rename r) h k = elim k [ ]
 
 spelled : (c : Command) → HasForm c → command_of (join_with_byte 32 (words_of c)) ≡ Some c
-unfolding command_of verb_of terminal_verb_of is_word
+unfolding command_of rare_command_of
 spelled (command.Open s x) h = opening_only s x h.0 h.1
 spelled (command.Begin t r) h = request_only t r h.0 h.1
 spelled (command.Next t) h = rw (terminal t h) refl

@@ -1,4 +1,3 @@
-pub mod DigitFacts
 pub mod GrammarFacts
 pub mod StampFacts
 pub mod WordFacts

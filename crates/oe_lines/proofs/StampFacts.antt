@@ -1,12 +1,8 @@
 -- A stamp's text is read, and no other.
-use Rattle.std.proofs.Common.{◌≡◌, refl, sym, ◌∙◌, ap, ℕ, ◌+◌, ◌-◌, ◌*◌, ◌/◌, ◌%◌, ◌<◌, List, [], ◌∷◌, ◌++◌, IfSome, Bool, true, false, ◌&&◌, cond, Option, Some, None, nat_lt, arith, lt-ltb, ltb-true}
-use Rattle.std.specs.List.{All}
-use Rattle.std.specs.Str.{IsUtf8, bytes_eq}
-use Rattle.std.proofs.lemmas.List.Elements.{All-nil, All-cons}
+use Rattle.std.proofs.Common.{◌≡◌, refl, sym, ◌∙◌, ap, ℕ, ◌+◌, ◌-◌, ◌*◌, ◌/◌, ◌%◌, ◌<◌, List, IfSome, Bool, true, false, ◌&&◌, cond, Option, Some, None, nat_lt, arith, lt-ltb, ltb-true}
+use Rattle.std.specs.Str.{bytes_eq}
 use Rattle.std.proofs.lemmas.Slice.Eq.{bytes_eq-Decides}
-use Rattle.std.proofs.lemmas.Str.{IsUtf8-from_ascii}
-use Rattle.std.proofs.lemmas.Str.Ascii.{IsAscii-from_all}
-use Rattle.oe_values.specs.Stamp.{two_digits, date_text, time_text, SaysStamp}
+use Rattle.oe_values.specs.Stamp.{SaysStamp}
 use Rattle.oe_values.proofs.StampFacts.{clock_small, year_small, month_small, day_small, says_alone}
 use Rattle.oe_texts.specs.Stamp.{stamp_text}
 use Rattle.oe_texts.proofs.StampFacts.{stamp_text_says}
@@ -46,43 +42,6 @@ stamp_found s n e =
 
 pub stamp_only : (n : ℕ) → n < 6_342_969_600 → stamp_of (stamp_text n) ≡ Some n
 stamp_only n h = stamp_of-says (stamp_text n) n (stamp_text_says n h)
-
--- bytes below 128
-record IsLow (bs : List ℕ) : Type 0 where
-  pub all : All (λ b. b < 128) bs
-
-low_text : (bs : List ℕ) → IsLow bs → IsUtf8 bs
-low_text bs h = IsUtf8-from_ascii bs (IsAscii-from_all bs h.all)
-
-low : (b : ℕ) (bs : List ℕ) → b < 128 → IsLow bs → IsLow (b ∷ bs)
-low b bs h rest = record { all = All-cons (λ c. c < 128) b bs h rest.all }
-
-low_pair : (n : ℕ) (bs : List ℕ) → n < 100 → IsLow bs → IsLow (two_digits n ++ bs)
-low_pair n bs h rest = low (48 + n / 10) ((48 + n % 10) ∷ bs) (omega arith) (low (48 + n % 10) bs (omega arith) rest)
-
-low_stamp : (y m d h i e : ℕ) → y < 10000 → m < 100 → d < 100 → h < 100 → i < 100 → e < 100 → IsLow (date_text y m d ++ 84 ∷ time_text h i e)
-low_stamp y m d h i e p q r s t u =
-    low_pair (y / 100) _ (omega arith)
-    (low_pair (y % 100) _ (omega arith)
-    (low 45 _ (omega arith)
-    (low_pair m _ q
-    (low 45 _ (omega arith)
-    (low_pair d _ r
-    (low 84 _ (omega arith)
-    (low_pair h _ s
-    (low 58 _ (omega arith)
-    (low_pair i _ t
-    (low 58 _ (omega arith)
-    (low_pair e [] u (record { all = All-nil (λ b. b < 128) }))))))))))))
-
--- what says a stamp is text
-pub SaysStamp-text : (s : List ℕ) (n : ℕ) → SaysStamp s n → IsUtf8 s
-SaysStamp-text s n r =
-    let clock = clock_small r.hour r.minute r.second r.counted.is_time in
-    let years = year_small r.year r.month r.day r.counted.is_date in
-    let months = month_small r.year r.month r.day r.counted.is_date in
-    let days = day_small r.year r.month r.day r.counted.is_date in
-    rw r.spelled (low_text _ (low_stamp r.year r.month r.day r.hour r.minute r.second years months days clock.0 clock.1 clock.2))
 
 none_is : (o : Option ℕ) → ((n : ℕ) → o ≡ Some n → ⊥) → o ≡ None
 none_is None h = refl

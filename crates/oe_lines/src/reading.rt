@@ -3,14 +3,15 @@ ghost use Rattle.std.specs.Prelude.{◌≡◌, IfSome, Some};
 ghost use Rattle.std.specs.Option.{option_map};
 ghost use Rattle.oe_lines.specs.declared.commands.Command.{Command};
 ghost use Rattle.oe_lines.specs.Grammar.{Says};
-ghost use Rattle.oe_lines.specs.Reading.{command_of, verb_of, terminal_verb_of, scale_of, opening_of, beginning_of, district_of, payment_of, table_of, condition_of, moment_of, audit_of};
+ghost use Rattle.oe_lines.specs.Reading.{command_of, rare_command_of, opening_of, beginning_of, district_of, payment_of, table_of, moment_of, audit_of};
 
 use crate::commands::{Command, MomentChoice, Scale};
-use crate::words::{amount, decimal, is_word, number, part, stamp};
+use crate::words::{amount_before, is_word, last_number, number_before, stamp};
 use oe_keys::{DistrictKey, Table};
 use oe_requests::{CustomerChoice, PaymentRequest, Request};
 use oe_steps::Condition;
 use oe_values::Moment;
+use oe_values::fronts::{after, decimal};
 
 /// What a line asks for, where it is one of the forms. The line stands without its end, which is byte 10.
 pub fn command(line: &[u8]) -> Option<Command>
@@ -22,47 +23,41 @@ pub fn command(line: &[u8]) -> Option<Command>
     read_command(line)
 }
 
+/// The lines of which a script has most come first.
 #[tactic(auto, unfolding(crate::specs::Reading::command_of))]
 fn read_command(line: &[u8]) -> Option<Command>
     ensures { result ≡ command_of line.now }
 {
-    let (verb, rest) = part(line, b' ')?;
-    after_verb(verb, rest)
-}
-
-#[tactic(auto, unfolding(crate::specs::Reading::verb_of))]
-fn after_verb(verb: &[u8], rest: &[u8]) -> Option<Command>
-    ensures { result ≡ verb_of verb.now rest.now }
-{
-    if is_word(verb, b"begin") {
-        beginning(rest)
-    } else if is_word(verb, b"open") {
-        opening(rest)
-    } else if is_word(verb, b"dump") {
-        Some(Command::Dump(table(rest)?))
-    } else if is_word(verb, b"audit") {
-        audit(rest)
-    } else {
-        terminal_verb(verb, rest)
+    if let Some(rest) = after(line, b"begin ") {
+        return beginning(rest);
     }
+    if let Some(rest) = after(line, b"run ") {
+        return Some(Command::Run(last_number(rest)?));
+    }
+    if let Some(rest) = after(line, b"next ") {
+        return Some(Command::Next(last_number(rest)?));
+    }
+    rare_command(line)
 }
 
-/// A command of which the rest is a terminal.
-#[tactic(auto, unfolding(crate::specs::Reading::terminal_verb_of))]
-fn terminal_verb(verb: &[u8], rest: &[u8]) -> Option<Command>
-    ensures { result ≡ terminal_verb_of verb.now rest.now }
+/// The other lines.
+#[inline(never)]
+#[tactic(auto, unfolding(crate::specs::Reading::rare_command_of))]
+fn rare_command(line: &[u8]) -> Option<Command>
+    ensures { result ≡ rare_command_of line.now }
 {
-    let terminal = number(rest)?;
-    if is_word(verb, b"next") {
-        Some(Command::Next(terminal))
-    } else if is_word(verb, b"run") {
-        Some(Command::Run(terminal))
-    } else if is_word(verb, b"save") {
-        Some(Command::Save(terminal))
-    } else if is_word(verb, b"back") {
-        Some(Command::Back(terminal))
-    } else if is_word(verb, b"rollback") {
-        Some(Command::Rollback(terminal))
+    if let Some(rest) = after(line, b"save ") {
+        Some(Command::Save(last_number(rest)?))
+    } else if let Some(rest) = after(line, b"back ") {
+        Some(Command::Back(last_number(rest)?))
+    } else if let Some(rest) = after(line, b"rollback ") {
+        Some(Command::Rollback(last_number(rest)?))
+    } else if let Some(rest) = after(line, b"open ") {
+        opening(rest)
+    } else if let Some(rest) = after(line, b"dump ") {
+        Some(Command::Dump(table(rest)?))
+    } else if let Some(rest) = after(line, b"audit ") {
+        audit(rest)
     } else {
         None
     }
@@ -73,30 +68,22 @@ fn terminal_verb(verb: &[u8], rest: &[u8]) -> Option<Command>
 fn opening(text: &[u8]) -> Option<Command>
     ensures { result ≡ opening_of text.now }
 {
-    let Some((scale, rest)) = scale(text) else {
+    let Some((warehouses, rest)) = number_before(text) else {
         return None;
     };
-    let extents = number(rest)?;
-    Some(Command::Open(scale, extents))
-}
-
-/// `W C I`, and the rest after a space.
-#[tactic(auto, unfolding(crate::specs::Reading::scale_of))]
-fn scale(text: &[u8]) -> Option<(Scale, &[u8])>
-    ensures { option_map (λ p. (p.0, p.1.now)) result ≡ scale_of text.now }
-{
-    let (word, rest) = part(text, b' ')?;
-    let warehouses = number(word)?;
-    let (word, rest) = part(rest, b' ')?;
-    let customers = number(word)?;
-    let (word, rest) = part(rest, b' ')?;
-    let items = number(word)?;
+    let Some((customers, rest)) = number_before(rest) else {
+        return None;
+    };
+    let Some((items, rest)) = number_before(rest) else {
+        return None;
+    };
+    let extents = last_number(rest)?;
     let scale = Scale {
         warehouses,
         customers,
         items,
     };
-    Some((scale, rest))
+    Some(Command::Open(scale, extents))
 }
 
 /// `T payment ..`.
@@ -104,25 +91,26 @@ fn scale(text: &[u8]) -> Option<(Scale, &[u8])>
 fn beginning(text: &[u8]) -> Option<Command>
     ensures { result ≡ beginning_of text.now }
 {
-    let (word, rest) = part(text, b' ')?;
-    let terminal = number(word)?;
-    let (verb, rest) = part(rest, b' ')?;
-    if is_word(verb, b"payment") {
-        Some(Command::Begin(terminal, Request::Payment(payment(rest)?)))
-    } else {
-        None
-    }
+    let Some((terminal, rest)) = number_before(text) else {
+        return None;
+    };
+    let rest = after(rest, b"payment ")?;
+    let payment = payment(rest)?;
+    Some(Command::Begin(terminal, Request::Payment(payment)))
 }
 
-/// `w d`, and the rest after a space.
+/// `w d`, and what follows the space after it.
+#[inline]
 #[tactic(auto, unfolding(crate::specs::Reading::district_of))]
 fn district(text: &[u8]) -> Option<(DistrictKey, &[u8])>
     ensures { option_map (λ p. (p.0, p.1.now)) result ≡ district_of text.now }
 {
-    let (word, rest) = part(text, b' ')?;
-    let warehouse = number(word)?;
-    let (word, rest) = part(rest, b' ')?;
-    let district = number(word)?;
+    let Some((warehouse, rest)) = number_before(text) else {
+        return None;
+    };
+    let Some((district, rest)) = number_before(rest) else {
+        return None;
+    };
     let key = DistrictKey {
         warehouse,
         district,
@@ -141,10 +129,12 @@ fn payment(text: &[u8]) -> Option<PaymentRequest>
     let Some((customer_district, rest)) = district(rest) else {
         return None;
     };
-    let (word, rest) = part(rest, b' ')?;
-    let customer = number(word)?;
-    let (word, rest) = part(rest, b' ')?;
-    let amount = amount(word)?;
+    let Some((customer, rest)) = number_before(rest) else {
+        return None;
+    };
+    let Some((amount, rest)) = amount_before(rest) else {
+        return None;
+    };
     let stamp = stamp(rest)?;
     Some(PaymentRequest {
         district: at,
@@ -183,39 +173,31 @@ fn table(text: &[u8]) -> Option<Table>
     }
 }
 
-/// The number of a condition that has an audit.
-#[tactic(auto, unfolding(crate::specs::Reading::condition_of))]
-fn condition(text: &[u8]) -> Option<Condition>
-    ensures { result ≡ condition_of text.now }
+/// `N M`.
+#[tactic(auto, unfolding(crate::specs::Reading::audit_of))]
+fn audit(text: &[u8]) -> Option<Command>
+    ensures { result ≡ audit_of text.now }
 {
-    if is_word(text, b"1") {
-        Some(Condition::First)
-    } else if is_word(text, b"2") {
-        Some(Condition::Second)
+    if let Some(rest) = after(text, b"1 ") {
+        Some(Command::Audit(Condition::First, moment(rest)?))
+    } else if let Some(rest) = after(text, b"2 ") {
+        Some(Command::Audit(Condition::Second, moment(rest)?))
     } else {
         None
     }
 }
 
 /// `now`, or the number of a moment.
-#[tactic(auto, unfolding(crate::specs::Reading::moment_of, crate::specs::Words::number_of))]
+#[tactic(auto, unfolding(crate::specs::Reading::moment_of))]
 fn moment(text: &[u8]) -> Option<MomentChoice>
     ensures { result ≡ moment_of text.now }
 {
     if is_word(text, b"now") {
         return Some(MomentChoice::Now);
     }
-    let commits = decimal(text)?;
+    let (commits, rest) = decimal(text)?;
+    if !rest.is_empty() {
+        return None;
+    }
     Some(MomentChoice::At(Moment::new(commits)?))
-}
-
-/// `N M`.
-#[tactic(auto, unfolding(crate::specs::Reading::audit_of))]
-fn audit(text: &[u8]) -> Option<Command>
-    ensures { result ≡ audit_of text.now }
-{
-    let (word, rest) = part(text, b' ')?;
-    let condition = condition(word)?;
-    let moment = moment(rest)?;
-    Some(Command::Audit(condition, moment))
 }

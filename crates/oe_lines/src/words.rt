@@ -1,13 +1,10 @@
-//! Words of a line: numbers, money and stamps.
-ghost use Rattle.std.specs.Prelude.{◌≡◌, ◌<◌, ◌≤◌, ◌^◌, length, true, IfSome};
+//! Words of a line, each with what follows it: numbers, money and stamps.
+ghost use Rattle.std.specs.Prelude.{◌≡◌};
 ghost use Rattle.std.specs.Option.{option_map};
-ghost use Rattle.std.specs.Str.{all_ascii_digits};
-ghost use Rattle.std.specs.Str.Parse.{digits_value};
-ghost use Rattle.oe_lines.specs.Words.{is_word, parted, decimal_of, within, number_of, digit_pair_of, cents_of, amount_of, stamp_of};
+ghost use Rattle.oe_lines.specs.Words.{is_word, within, number_of, number_before, last_number, amount_before, stamp_of};
 
-use itoa::Buffer;
+use oe_values::fronts::{after, decimal, pair};
 use oe_values::{Number, Stamp};
-use std::str;
 
 /// Whether two texts are one.
 #[tactic(auto, unfolding(crate::specs::Words::is_word))]
@@ -17,117 +14,69 @@ pub(crate) fn is_word(text: &[u8], word: &[u8]) -> bool
     text == word
 }
 
-/// The bytes before the first such byte, and those after it.
-pub(crate) fn part(text: &[u8], at: u8) -> Option<(&[u8], &[u8])>
-    ensures { option_map (λ p. (p.0.now, p.1.now)) result ≡ parted at text.now }
-{
-    for (i, b) in text.iter().enumerate() {
-        if *b == at {
-            return Some((&text[..i], &text[i + 1..]));
-        }
-    }
-    None
-}
-
-fn is_digits(text: &[u8]) -> bool
-    ensures { result ≡ all_ascii_digits text.now }
-{
-    for b in text {
-        if *b < b'0' || *b > b'9' {
-            return false;
-        }
-    }
-    true
-}
-
-/// The value of at most 15 digits.
-fn value_of(digits: &[u8]) -> u64
-    requires few { length digits.now ≤ 15 }
-    requires each { all_ascii_digits digits.now ≡ true }
-    ensures value { result ≡ digits_value 10 digits.now }
-    ensures small { result < 10 ^ 15 }
-{
-    let mut value = 0;
-    for b in digits {
-        value = value * 10 + u64::from(*b - b'0');
-    }
-    value
-}
-
-/// A number of at most 15 digits without a leading zero.
-#[tactic(auto, unfolding(crate::specs::Words::decimal_of))]
-pub(crate) fn decimal(text: &[u8]) -> Option<u64>
-    ensures value { result ≡ decimal_of text.now }
-    ensures small { IfSome result (λ n. n < 10 ^ 15) }
-{
-    if text.len() > 15 || !is_digits(text) {
-        return None;
-    }
-    let n = value_of(text);
-    let mut buffer = Buffer::new();
-    if buffer.format(n).as_bytes() == text {
-        Some(n)
-    } else {
-        None
-    }
-}
-
 /// That number, where it is in the range of its type.
+#[inline]
 fn in_range<const LOW: u32, const HIGH: u32>(n: u64) -> Option<Number<LOW, HIGH>>
     ensures { result ≡ within LOW HIGH n }
 {
     Number::new(u32::try_from(n).ok()?)
 }
 
-/// A number without a leading zero, in the range of its type.
+/// A number without a leading zero, in the range of its type, and what follows it.
+#[inline]
 #[tactic(auto, unfolding(crate::specs::Words::number_of))]
-pub(crate) fn number<const LOW: u32, const HIGH: u32>(text: &[u8]) -> Option<Number<LOW, HIGH>>
-    ensures { result ≡ number_of LOW HIGH text.now }
+fn number<const LOW: u32, const HIGH: u32>(text: &[u8]) -> Option<(Number<LOW, HIGH>, &[u8])>
+    ensures { option_map (λ p. (p.0, p.1.now)) result ≡ number_of LOW HIGH text.now }
 {
-    in_range(decimal(text)?)
+    let (n, rest) = decimal(text)?;
+    let number = in_range(n)?;
+    Some((number, rest))
 }
 
-/// A number below 100 in two digits.
-#[tactic(auto, unfolding(crate::specs::Words::digit_pair_of))]
-fn digit_pair(text: &[u8]) -> Option<u64>
-    ensures value { result ≡ digit_pair_of text.now }
-    ensures small { IfSome result (λ n. n < 100) }
+/// The same before a space, and what follows the space.
+#[inline]
+#[tactic(auto, unfolding(crate::specs::Words::number_before))]
+pub(crate) fn number_before<const LOW: u32, const HIGH: u32>(
+    text: &[u8],
+) -> Option<(Number<LOW, HIGH>, &[u8])>
+    ensures { option_map (λ p. (p.0, p.1.now)) result ≡ number_before LOW HIGH text.now }
 {
-    let &[tens, ones] = text else {
+    let Some((number, rest)) = number(text) else {
         return None;
     };
-    if is_digits(text) {
-        Some(u64::from(tens - b'0') * 10 + u64::from(ones - b'0'))
-    } else {
-        None
-    }
+    Some((number, after(rest, b" ")?))
 }
 
-/// Money with two decimals, in cents.
-#[tactic(auto, unfolding(crate::specs::Words::cents_of))]
-fn cents(text: &[u8]) -> Option<u64>
-    ensures { result ≡ cents_of text.now }
+/// The same at the line's end.
+#[inline]
+#[tactic(auto, unfolding(crate::specs::Words::last_number))]
+pub(crate) fn last_number<const LOW: u32, const HIGH: u32>(text: &[u8]) -> Option<Number<LOW, HIGH>>
+    ensures { result ≡ last_number LOW HIGH text.now }
 {
-    let (whole, rest) = part(text, b'.')?;
-    let whole = decimal(whole)?;
-    let rest = digit_pair(rest)?;
-    Some(whole * 100 + rest)
+    let Some((number, rest)) = number(text) else {
+        return None;
+    };
+    if rest.is_empty() { Some(number) } else { None }
 }
 
-/// Money with two decimals, in cents in the range of its type.
-#[tactic(auto, unfolding(crate::specs::Words::amount_of))]
-pub(crate) fn amount<const LOW: u32, const HIGH: u32>(text: &[u8]) -> Option<Number<LOW, HIGH>>
-    ensures { result ≡ amount_of LOW HIGH text.now }
+/// Money with two decimals before a space, in cents in the range of its type, and what follows the space.
+#[inline]
+#[tactic(auto, unfolding(crate::specs::Words::amount_before))]
+pub(crate) fn amount_before<const LOW: u32, const HIGH: u32>(
+    text: &[u8],
+) -> Option<(Number<LOW, HIGH>, &[u8])>
+    ensures { option_map (λ p. (p.0, p.1.now)) result ≡ amount_before LOW HIGH text.now }
 {
-    in_range(cents(text)?)
+    let (whole, rest) = decimal(text)?;
+    let (cents, rest) = pair(after(rest, b".")?)?;
+    let amount = in_range(whole * 100 + u64::from(cents))?;
+    Some((amount, after(rest, b" ")?))
 }
 
-/// A stamp.
+/// A stamp at the line's end.
+#[inline]
 pub(crate) fn stamp(text: &[u8]) -> Option<Stamp>
     ensures { result ≡ stamp_of text.now }
 {
-    match str::from_utf8(text) {
-        Ok(text) => Stamp::read(text),
-        Err(_) => None,
-    }
+    Stamp::read_bytes(text)
 }
