@@ -14,6 +14,8 @@ mod made;
 #[cfg(test)]
 mod refusals;
 #[cfg(test)]
+mod shelves;
+#[cfg(test)]
 mod tables;
 #[cfg(test)]
 mod values;
