@@ -1,0 +1,9 @@
+//! Numbers and runs of bytes, written at an offset of a buffer and read from the front of bytes. No call takes memory.
+#![tactic(auto)]
+
+pub mod laws;
+pub mod numbers;
+pub mod runs;
+pub mod written;
+
+pub use written::Written;
