@@ -1,0 +1,3 @@
+pub mod PackedFacts
+pub mod PoolFacts
+pub mod SegmentFacts

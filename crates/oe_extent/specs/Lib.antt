@@ -1,0 +1,4 @@
+-- What the clauses of this crate cite.
+pub mod Strings
+pub mod Segments
+pub mod Free

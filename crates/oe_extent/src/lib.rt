@@ -1,0 +1,9 @@
+//! Extents of byte strings: all made at once, taken and given back by number, and linked to segments without memory.
+#![tactic(auto)]
+
+pub mod packed;
+pub mod pools;
+pub mod segments;
+
+pub use pools::Pool;
+pub use segments::{Address, Extent, Segment};

@@ -1,0 +1,127 @@
+//! The bytes of an extent, as strings.
+ghost use Rattle.std.specs.Prelude.{◌≡◌, ◌<◌, ◌≤◌, ◌+◌, [], ◌∷◌, length, drop};
+ghost use Rattle.oe_extent.specs.Strings.{last_length, joined, IsFramed, HasStringAt, IsStringAt};
+
+use byteorder::{BigEndian, ByteOrder};
+use oe_bytes::Written;
+use std::marker::Model;
+
+/// How many bytes an extent has.
+const SIZE: usize = 4_096;
+
+/// Byte strings packed from byte 0 of an extent on, which clauses see as their list, the newest first. Each string is framed: its
+/// length stands in its first two bytes and in its last two. No call takes memory.
+#[derive(Drop)]
+pub struct PackedStrings {
+    bytes: [u8; SIZE],
+    // How many bytes from the front on the strings fill, and how many strings these are.
+    fill: usize,
+    count: usize,
+}
+
+impl Model for PackedStrings {
+    ghost use Rattle.std.specs.Prelude.{ℕ, List, take};
+    ghost use Rattle.oe_extent.specs.Strings.{cut, IsPacked};
+
+    ghost Value = { List (List ℕ) };
+
+    ghost view = { λ p. cut p.count (take p.fill p.bytes) };
+
+    ghost invariant = { λ p. IsPacked p.count p.fill p.bytes };
+}
+
+/// The number in the last two of some bytes.
+#[tactic(auto, using(crate::proofs::PackedFacts::last_is))]
+fn last_size(bytes: &[u8]) -> usize
+    requires { 2 ≤ length bytes.now }
+    ensures { result ≡ last_length bytes.now }
+{
+    BigEndian::read_u16(&bytes[bytes.len() - 2..]) as usize
+}
+
+/// As many zeros as an extent has bytes.
+fn zeros() -> [u8; SIZE]
+    ensures { length result ≡ 4096 }
+{
+    [0; SIZE]
+}
+
+impl PackedStrings {
+    /// No strings.
+    pub fn new() -> Self
+        ensures { result ≡ [] }
+    {
+        PackedStrings {
+            bytes: zeros(),
+            fill: 0,
+            count: 0,
+        }
+    }
+
+    /// How many bytes are left behind the strings: 0 to 4,096.
+    pub fn rest(&self) -> usize
+        ensures { result + length (joined self.now) ≡ 4096 }
+    {
+        SIZE - self.fill
+    }
+
+    /// The offset at which the next string begins: 0 to 4,096.
+    pub fn end(&self) -> usize
+        ensures value { result ≡ length (joined self.now) }
+        ensures most { result ≤ 4096 }
+    {
+        self.fill
+    }
+
+    /// How many strings there are.
+    pub fn len(&self) -> usize
+        ensures { result ≡ length self.now }
+    {
+        self.count
+    }
+
+    /// Appends a string, which is written where it is to stand.
+    pub fn push<S: Written>(&mut self, string: &S)
+        requires framed { IsFramed (S.spelling string.now) }
+        requires room { length (joined self.old) + length (S.spelling string.now) ≤ 4096 }
+        ensures { self.new ≡ S.spelling string.now ∷ self.old }
+    {
+        self.fill = string.write(&mut self.bytes, self.fill);
+        self.count += 1;
+    }
+
+    /// The newest string, where it stands.
+    pub fn newest(&self) -> &[u8]
+        requires { 0 < length self.now }
+        ensures { self.now ≡ result.now ∷ drop 1 self.now }
+    {
+        let size = last_size(&self.bytes[..self.fill]);
+        &self.bytes[self.fill - size..self.fill]
+    }
+
+    /// Takes the newest string off.
+    pub fn pop(&mut self)
+        requires { 0 < length self.old }
+        ensures { self.new ≡ drop 1 self.old }
+    {
+        self.fill -= last_size(&self.bytes[..self.fill]);
+        self.count -= 1;
+    }
+
+    /// Gives up all strings.
+    pub fn clear(&mut self)
+        ensures { self.new ≡ [] }
+    {
+        self.fill = 0;
+        self.count = 0;
+    }
+
+    /// The string that begins at that offset, where it stands.
+    pub fn at(&self, offset: usize) -> &[u8]
+        requires { HasStringAt self.now offset }
+        ensures { IsStringAt self.now offset result.now }
+    {
+        let size = BigEndian::read_u16(&self.bytes[offset..]) as usize;
+        &self.bytes[offset..offset + size]
+    }
+}

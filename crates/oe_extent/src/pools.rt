@@ -1,0 +1,121 @@
+//! The extents that no segment has.
+//!
+//! All extents are made with the pool. A free one lies at its number, and one that was taken leaves `None` there; by the invariant
+//! they are counted, so that a pool without a free one is seen at once. Only `new` takes memory, and may be refused it; that no
+//! extent is free is no error, and changes nothing.
+ghost use Rattle.std.specs.Prelude.{◌≡◌, ◌<◌, ◌≤◌, ℕ, true, length, map, is_some, replicate, set, IfOk, IfSome, IfNone};
+ghost use Rattle.std.specs.List.{AllByRecursion};
+ghost use Rattle.oe_extent.specs.Free.{AllTaken, IsFirstFree, IsNextFree, taken_at, given_at, all_given};
+ghost use Rattle.oe_extent.specs.Segments.{number_of, numbers_of, IsFreshAt};
+
+use crate::segments::{Extent, Segment};
+use std::alloc::{AllocError, Global};
+use std::marker::Model;
+
+/// The extents that are free, by number, and where the search for the next one begins.
+#[derive(Drop)]
+pub struct Pool {
+    extents: Vec<Option<Box<Extent>>>,
+    free_count: usize,
+    cursor: usize,
+}
+
+impl Model for Pool {
+    ghost use Rattle.std.specs.Prelude.{map, is_some};
+    ghost use Rattle.oe_extent.specs.Free.{FreeExtents, IsPool};
+
+    ghost Value = { FreeExtents };
+
+    ghost view = { λ p. record { is_free = map is_some p.extents.items; cursor = p.cursor } };
+
+    ghost invariant = { λ p. IsPool (map is_some p.extents.items) p.free_count p.cursor };
+}
+
+/// The least number from `from` up to `to` of a free extent, where there is one.
+#[tactic(auto, using(crate::proofs::PoolFacts::some_at, crate::proofs::PoolFacts::taken_more))]
+fn first_free(extents: &[Option<Box<Extent>>], from: usize, to: usize) -> Option<usize>
+    requires { to ≤ length extents.now }
+    ensures some { IfSome result (IsFirstFree (map is_some extents.now) from to) }
+    ensures none { IfNone result (AllTaken (map is_some extents.now) from to) }
+{
+    for i in from..to {
+        if extents[i].is_some() {
+            return Some(i);
+        }
+    }
+    None
+}
+
+/// The number of the next free extent from the cursor on, and behind the last from 0 on; `None` where none is free.
+fn next_free(extents: &[Option<Box<Extent>>], cursor: usize) -> Option<usize>
+    requires { cursor ≤ length extents.now }
+    ensures next { IfSome result (IsNextFree (map is_some extents.now) cursor) }
+    ensures within { IfSome result (λ n. n < length extents.now) }
+    ensures none { IfNone result (AllTaken (map is_some extents.now) 0 (length extents.now)) }
+{
+    match first_free(extents, cursor, extents.len()) {
+        Some(number) => Some(number),
+        None => first_free(extents, 0, cursor),
+    }
+}
+
+impl Pool {
+    /// So many extents, all free, numbered from 0; an error where memory is refused.
+    pub fn new(alloc: Global, count: usize) -> Result<Pool, AllocError>
+        ensures free { IfOk result (λ p. p.is_free ≡ replicate count true) }
+        ensures cursor { IfOk result (λ p. p.cursor ≡ 0) }
+    {
+        let mut extents = Vec::with_capacity(alloc, count)?;
+        for number in 0..count {
+            extents.push_reserved(Some(Extent::new(alloc, number)?));
+        }
+        Ok(Pool {
+            extents,
+            free_count: count,
+            cursor: 0,
+        })
+    }
+
+    /// Takes the next free extent from the cursor on, and behind the last from 0 on, and answers it with its number. `None` where
+    /// none is free.
+    pub fn take(&mut self) -> Option<(usize, Box<Extent>)>
+        ensures next { IfSome result (λ e. IsNextFree self.old.is_free self.old.cursor e.0) }
+        ensures fresh { IfSome result (λ e. IsFreshAt e.0 e.1.value) }
+        ensures taken { IfSome result (λ e. self.new ≡ taken_at self.old e.0) }
+        ensures none { IfNone result (AllTaken self.old.is_free 0 (length self.old.is_free)) }
+        ensures same { IfNone result (self.new ≡ self.old) }
+    {
+        if self.free_count == 0 {
+            return None;
+        }
+        let found = next_free(self.extents.as_slice(), self.cursor)?;
+        let taken = self.extents[found].take();
+        let Some(extent) = taken else { unreachable!() };
+        self.free_count -= 1;
+        self.cursor = found + 1;
+        Some((found, extent.cleared(found)))
+    }
+
+    /// Gives an extent back.
+    pub fn give(&mut self, extent: Box<Extent>)
+        requires { number_of extent.value < length self.old.is_free }
+        ensures { self.new ≡ given_at self.old (number_of extent.value) }
+    {
+        let number = extent.number();
+        let before = self.extents[number].replace(extent);
+        if before.is_none() {
+            self.free_count += 1;
+        }
+    }
+
+    /// Gives all extents of a segment back.
+    pub fn give_all(&mut self, segment: Segment)
+        requires { AllByRecursion (λ e. e < length self.old.is_free) (numbers_of segment) }
+        ensures { self.new ≡ all_given self.old (numbers_of segment) }
+    {
+        let mut segment = segment;
+        while let Some(extent) = segment.take_newest() {
+            self.give(extent);
+        }
+    }
+}
