@@ -1,0 +1,5 @@
+pub mod HeldFacts
+pub mod PackingFacts
+pub mod ChangeFacts
+pub mod SlotFacts
+pub mod CommitFacts

@@ -1,0 +1,72 @@
+-- The segments of a ring, and what each call makes of them.
+use Rattle.std.specs.Prelude.{◌<◌, ◌≤◌, ◌+◌, ◌-◌, ℕ, suc, nat_le, cond, List, [], ◌∷◌, length, map, take, drop, get_or, set, replicate}
+use Rattle.std.specs.List.{sum_by}
+use Rattle.oe_extent.specs.declared.segments.Address.{Address}
+
+-- a string with its address
+pub record Addressed : Type 0 where
+  pub address : Address
+  pub bytes : List ℕ
+
+-- How many extents there are, the strings of each slot's open segment and of each commit, newest first, and for how many commits
+-- more there is memory. Commits are newest first too.
+pub record Segments : Type 0 where
+  pub extents : ℕ
+  pub active : List (List Addressed)
+  pub committed : List (List Addressed)
+  pub room : ℕ
+
+-- how many extents strings of these lengths, the newest first, fill in order, and how many bytes are left of the last
+abbrev pub filled : List ℕ → ℕ × ℕ
+filled [] = (0, 0)
+filled (l ∷ ls) = let f = filled ls in cond (nat_le l f.1) (f.0, f.1 - l) (suc f.0, 4096 - l)
+
+abbrev pub lengths_of : List Addressed → List ℕ
+lengths_of ss = map (λ s. length s.bytes) ss
+
+-- how many extents all segments fill
+abbrev pub used_of : Segments → ℕ
+used_of v =
+    sum_by (λ ss. (filled (lengths_of ss)).0) v.active + sum_by (λ ss. (filled (lengths_of ss)).0) v.committed
+
+-- for how many commits there is memory, those that are there included
+abbrev pub capacity_of : Segments → ℕ
+capacity_of v = length v.committed + v.room
+
+-- a string of that length fits neither the rest of the slot's last extent nor a free one
+abbrev pub IsFull : Segments → ℕ → ℕ → Type 0
+IsFull v slot length =
+    ((filled (lengths_of (get_or v.active slot []))).1 < length) × (v.extents ≤ used_of v)
+
+-- a slot has a string more
+abbrev pub pushed_at : Segments → ℕ → Address → List ℕ → Segments
+pushed_at v slot a bytes =
+    let s : Addressed = record { address = a; bytes = bytes } in
+    record v { active = set v.active slot (s ∷ get_or v.active slot []) }
+
+-- a slot has a string less
+abbrev pub popped_at : Segments → ℕ → Segments
+popped_at v slot = record v { active = set v.active slot (drop 1 (get_or v.active slot [])) }
+
+-- the bytes of the newest of these strings
+abbrev pub newest_bytes : List Addressed → List ℕ
+newest_bytes [] = []
+newest_bytes (s ∷ ss) = s.bytes
+
+-- a slot's strings are those of the newest commit, and it has none
+abbrev pub sealed_at : Segments → ℕ → Segments
+sealed_at v slot =
+    record v { active = set v.active slot []; committed = get_or v.active slot [] ∷ v.committed }
+
+-- other commits
+abbrev pub with_commits : Segments → List (List Addressed) → ℕ → Segments
+with_commits v committed room = record v { committed = committed; room = room }
+
+-- all but the last, which is the oldest
+abbrev pub without_last : List (List Addressed) → List (List Addressed)
+without_last ss = take (length ss - 1) ss
+
+-- no strings
+abbrev pub no_segments : ℕ → ℕ → Segments
+no_segments extents slots =
+    record { extents = extents; active = replicate slots []; committed = []; room = 0 }

@@ -1,0 +1,7 @@
+//! The segments of byte strings in a ring of extents: the open one of each slot, and those of commits, the newest first.
+#![tactic(auto)]
+
+pub mod ring;
+
+pub use oe_extent::Address;
+pub use ring::{Full, Ring};

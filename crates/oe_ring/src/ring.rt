@@ -1,0 +1,161 @@
+//! The ring: a pool of extents, and the segments that were filled from it.
+//!
+//! Strings are packed: each stands behind the one before it, or, where the rest of its extent is too short, begins another extent. By
+//! the invariant each extent is free or in one segment, and the extents of a segment are as many as its strings fill in order; so
+//! whether a string has room follows from the lengths of strings alone. All memory for strings is taken by `new`, and room for the
+//! segments of commits by `reserve`; these two may be refused memory. `push` is refused exactly where the ring is full, and changes
+//! nothing then. No other call can be refused.
+ghost use Rattle.std.specs.Prelude.{◌≡◌, ◌<◌, ◌≤◌, ◌+◌, ◌↔◌, [], length, get_or, drop, replicate, IsErr, IfOk, OnOk, OnErr};
+ghost use Rattle.oe_extent.specs.Strings.{IsFramed};
+ghost use Rattle.oe_ring.specs.Segments.{IsFull, no_segments, pushed_at, popped_at, sealed_at, newest_bytes, without_last, with_commits, capacity_of};
+
+use oe_bytes::Written;
+use oe_extent::{Address, Pool, Segment};
+use std::alloc::{AllocError, Global};
+use std::collections::VecDeque;
+use std::marker::Model;
+
+/// The string fits neither the rest of its segment's newest extent nor a free extent.
+#[derive(Clone, Copy, Debug, PartialEq, Eq)]
+pub struct Full;
+
+/// Segments of byte strings in extents of 4,096 bytes: the open one of each slot, and those of commits.
+#[derive(Drop)]
+pub struct Ring {
+    pool: Pool,
+    // By slot.
+    active: Vec<Segment>,
+    // The newest first.
+    committed: VecDeque<Segment>,
+}
+
+impl Model for Ring {
+    ghost use Rattle.std.specs.Prelude.{◌-◌, length, map};
+    ghost use Rattle.std.specs.VecDeque.{deque_len, deque_capacity};
+    ghost use Rattle.oe_ring.specs.Segments.{Segments};
+    ghost use Rattle.oe_ring.specs.Kept.{addressed_of, IsRing};
+
+    ghost Value = { Segments };
+
+    ghost view = { λ r. record {
+      extents = length r.pool.is_free;
+      active = map addressed_of r.active.items;
+      committed = map addressed_of r.committed.items;
+      room = deque_capacity r.committed - deque_len r.committed;
+    } };
+
+    ghost invariant = { λ r. IsRing r.pool.is_free r.active.items r.committed.items };
+}
+
+/// So many segments without extents.
+fn empty_segments(alloc: Global, count: usize) -> Result<Vec<Segment>, AllocError>
+    ensures { IfOk result (λ v. v.items ≡ replicate count []) }
+{
+    let mut segments = Vec::with_capacity(alloc, count)?;
+    for _ in 0..count {
+        segments.push_reserved(Segment::new());
+    }
+    Ok(segments)
+}
+
+impl Ring {
+    /// A ring of so many extents and slots, whose open segments have no strings; an error where memory is refused.
+    pub fn new(alloc: Global, extents: usize, slots: usize) -> Result<Ring, AllocError>
+        ensures { IfOk result (λ r. r ≡ record (no_segments extents slots) { room = r.room }) }
+    {
+        let pool = Pool::new(alloc, extents)?;
+        let active = empty_segments(alloc, slots)?;
+        Ok(Ring {
+            pool,
+            active,
+            committed: VecDeque::new(alloc),
+        })
+    }
+
+    /// Makes room for so many commits more; an error where memory is refused.
+    pub fn reserve(&mut self, additional: usize) -> Result<(), AllocError>
+        ensures same { self.new ≡ record self.old { room = self.new.room } }
+        ensures room { OnOk result (additional ≤ self.new.room) }
+    {
+        self.committed.reserve(additional)
+    }
+
+    /// Makes a slot's open segment that of the newest commit, and leaves the slot one without strings.
+    pub fn seal(&mut self, slot: usize)
+        requires slot { slot < length self.old.active }
+        requires room { 0 < self.old.room }
+        ensures sealed { self.new ≡ record (sealed_at self.old slot) { room = self.new.room } }
+        ensures room { self.new.room + 1 ≡ self.old.room }
+    {
+        let segment = std::mem::replace(&mut self.active[slot], Segment::new());
+        self.committed.push_front_reserved(segment);
+    }
+
+    /// Appends a string of 4 to 4,096 bytes to a slot's open segment, and answers its address.
+    pub fn push<S: Written>(&mut self, slot: usize, string: &S) -> Result<Address, Full>
+        requires slot { slot < length self.old.active }
+        requires framed { IsFramed (S.spelling string.now) }
+        requires small { length (S.spelling string.now) ≤ 4096 }
+        ensures pushed { IfOk result (λ a.
+            self.new ≡ pushed_at self.old slot a (S.spelling string.now)) }
+        ensures same { OnErr result (self.new ≡ self.old) }
+        ensures full { IsErr result ↔ IsFull self.old slot (length (S.spelling string.now)) }
+    {
+        if string.size() <= self.active[slot].rest() {
+            let address = self.active[slot].end();
+            self.active[slot].push(string);
+            return Ok(address);
+        }
+        let Some((number, extent)) = self.pool.take() else {
+            return Err(Full);
+        };
+        self.active[slot].push_new(number, extent, string);
+        Ok(Address {
+            extent: number,
+            offset: 0,
+        })
+    }
+
+    /// The newest string of a slot's open segment, where it stands.
+    pub fn newest(&self, slot: usize) -> &[u8]
+        requires slot { slot < length self.now.active }
+        requires some { 0 < length (get_or self.now.active slot []) }
+        ensures { newest_bytes (get_or self.now.active slot []) ≡ result.now }
+    {
+        self.active[slot].newest()
+    }
+
+    /// Takes the newest string of a slot's open segment off. Where it was the only one of its extent, that is free again.
+    pub fn pop(&mut self, slot: usize)
+        requires slot { slot < length self.old.active }
+        requires some { 0 < length (get_or self.old.active slot []) }
+        ensures { self.new ≡ popped_at self.old slot }
+    {
+        let emptied = self.active[slot].pop();
+        if let Some(extent) = emptied {
+            self.pool.give(extent);
+        }
+    }
+
+    /// Gives up the oldest commit's segment, where there is one. Its extents are free again, and there is room for a commit more.
+    pub fn drop_oldest(&mut self)
+        ensures left { self.new ≡ with_commits self.old (without_last self.old.committed) self.new.room }
+        ensures room { capacity_of self.new ≡ capacity_of self.old }
+    {
+        let taken = self.committed.pop_back();
+        if let Some(segment) = taken {
+            self.pool.give_all(segment);
+        }
+    }
+
+    /// Gives up the newest commit's segment, where there is one. Its extents are free again, and there is room for a commit more.
+    pub fn drop_newest(&mut self)
+        ensures left { self.new ≡ with_commits self.old (drop 1 self.old.committed) self.new.room }
+        ensures room { capacity_of self.new ≡ capacity_of self.old }
+    {
+        let taken = self.committed.pop_front();
+        if let Some(segment) = taken {
+            self.pool.give_all(segment);
+        }
+    }
+}
