@@ -1,10 +1,9 @@
 -- Which extents of a pool are free, and how many.
-use Rattle.std.proofs.Common.{◌≡◌, ℕ, suc, ◌+◌, ◌-◌, ◌<◌, inl, inr, Bool, true, false, cond, List, length, map, get_or, set, replicate, Option, None, is_some, refl, sym, ap, subst, ◌∙◌, arith}
+use Rattle.std.proofs.Common.{◌≡◌, ℕ, suc, ◌+◌, ◌-◌, ◌<◌, inl, inr, Bool, true, false, cond, List, length, map, get_or, set, Option, None, is_some, refl, sym, ap, subst, ◌∙◌, arith}
 use Rattle.std.proofs.lemmas.List.{get_or-map, get_or_default, length-map, length-set, map-set}
 use Rattle.std.proofs.lemmas.List.Sums.{sum_by-set}
-use Rattle.std.proofs.lemmas.List.Folds.{sum_by-replicate}
 use Rattle.std.proofs.lemmas.Bool.{cases_eq}
-use Rattle.oe_extent.specs.Free.{AllTaken, count_of_free, IsPool}
+use Rattle.oe_extent.specs.Free.{AllTaken, IsPool}
 
 pub some_at : {X : Type 0} (xs : List (Option X)) (i : ℕ) → i < length xs → get_or (map is_some xs) i false ≡ is_some (get_or xs i None)
 some_at xs i lt = get_or-map is_some xs i None false lt
