@@ -8,13 +8,13 @@ use Rattle.std.proofs.lemmas.List.Sums.{sum_by-set}
 use Rattle.oe_extent.specs.Free.{freed}
 use Rattle.oe_ring.specs.Kept.{times, AreHeld}
 
-times-self : (e : ℕ) → times e (e ∷ []) ≡ 1
+pub times-self : (e : ℕ) → times e (e ∷ []) ≡ 1
 times-self e = grind (arith, nat_tests)
 
 times-other : (x e : ℕ) → x ≢ e → times x (e ∷ []) ≡ 0
 times-other x e h = grind (arith, nat_tests)
 
-times-cons : (x e : ℕ) (es : List ℕ) → times x (e ∷ es) ≡ times x (e ∷ []) + times x es
+pub times-cons : (x e : ℕ) (es : List ℕ) → times x (e ∷ es) ≡ times x (e ∷ []) + times x es
 times-cons x e es = omega arith
 
 pub same_held : (free : List Bool) (u v : ℕ → ℕ) (m n : ℕ) → AreHeld free u m → ((x : ℕ) → v x ≡ u x) → n ≡ m → AreHeld free v n

@@ -3,3 +3,4 @@ pub mod PackingFacts
 pub mod ChangeFacts
 pub mod SlotFacts
 pub mod CommitFacts
+pub mod AddressFacts

@@ -1,5 +1,5 @@
 -- The segments of a ring, and what each call makes of them.
-use Rattle.std.specs.Prelude.{◌<◌, ◌≤◌, ◌+◌, ◌-◌, ℕ, suc, nat_le, cond, List, [], ◌∷◌, length, map, take, drop, get_or, set, replicate}
+use Rattle.std.specs.Prelude.{◌≡◌, ◌<◌, ◌≤◌, ◌⊎◌, ◌+◌, ◌-◌, ℕ, suc, nat_le, cond, List, [], ◌∷◌, length, map, take, drop, get_or, set, replicate}
 use Rattle.std.specs.List.{sum_by}
 use Rattle.oe_extent.specs.declared.segments.Address.{Address}
 
@@ -52,6 +52,20 @@ popped_at v slot = record v { active = set v.active slot (drop 1 (get_or v.activ
 abbrev pub newest_bytes : List Addressed → List ℕ
 newest_bytes [] = []
 newest_bytes (s ∷ ss) = s.bytes
+
+-- the string with these bytes is one of those, at that address
+abbrev pub StandsAt : Address → List ℕ → List Addressed → Type 0
+StandsAt a bytes [] = ⊥
+StandsAt a bytes (s ∷ ss) = (s ≡ record { address = a; bytes = bytes }) ⊎ StandsAt a bytes ss
+
+-- one of these strings is at that address
+pub record HasAddress (ss : List Addressed) (a : Address) : Type 0 where
+  pub bytes : List ℕ
+  pub stands : StandsAt a bytes ss
+
+-- the bytes are those of the string at that address
+abbrev pub IsStringAt : List Addressed → Address → List ℕ → Type 0
+IsStringAt ss a bytes = (s : List ℕ) → StandsAt a s ss → bytes ≡ s
 
 -- a slot's strings are those of the newest commit, and it has none
 abbrev pub sealed_at : Segments → ℕ → Segments

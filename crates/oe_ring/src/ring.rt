@@ -7,7 +7,7 @@
 //! nothing then. No other call can be refused.
 ghost use Rattle.std.specs.Prelude.{◌≡◌, ◌<◌, ◌≤◌, ◌+◌, ◌↔◌, [], length, get_or, drop, replicate, IsErr, IfOk, OnOk, OnErr};
 ghost use Rattle.oe_extent.specs.Strings.{IsFramed};
-ghost use Rattle.oe_ring.specs.Segments.{IsFull, no_segments, pushed_at, popped_at, sealed_at, newest_bytes, without_last, with_commits, capacity_of};
+ghost use Rattle.oe_ring.specs.Segments.{IsFull, no_segments, pushed_at, popped_at, sealed_at, newest_bytes, without_last, with_commits, capacity_of, HasAddress, IsStringAt};
 
 use oe_bytes::Written;
 use oe_extent::{Address, Pool, Segment};
@@ -123,6 +123,25 @@ impl Ring {
         ensures { newest_bytes (get_or self.now.active slot []) ≡ result.now }
     {
         self.active[slot].newest()
+    }
+
+    /// The string at that address of a slot's open segment, where it stands.
+    pub fn at(&self, slot: usize, address: Address) -> &[u8]
+        requires slot { slot < length self.now.active }
+        requires some { HasAddress (get_or self.now.active slot []) address }
+        ensures { IsStringAt (get_or self.now.active slot []) address result.now }
+    {
+        self.active[slot].at(address)
+    }
+
+    /// The string at that address of a commit's segment, where it stands. The newest commit has number 0, and each older one the
+    /// next number.
+    pub fn committed_at(&self, commit: usize, address: Address) -> &[u8]
+        requires commit { commit < length self.now.committed }
+        requires some { HasAddress (get_or self.now.committed commit []) address }
+        ensures { IsStringAt (get_or self.now.committed commit []) address result.now }
+    {
+        self.committed[commit].at(address)
     }
 
     /// Takes the newest string of a slot's open segment off. Where it was the only one of its extent, that is free again.
