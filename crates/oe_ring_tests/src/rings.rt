@@ -1,7 +1,7 @@
 //! Rings that are filled, emptied and filled again.
-ghost use Rattle.std.specs.Prelude.{◌≡◌, ◌<◌, ◌≤◌, length, get_or, []};
+ghost use Rattle.std.specs.Prelude.{◌≡◌, ◌<◌, ◌≤◌, ◌+◌, length, get_or, []};
 
-use crate::made::{at, push, ring};
+use crate::made::{Framed, at, push, ring};
 use oe_ring::{Address, Ring};
 
 /// The bytes of the greatest string, without its lengths.
@@ -120,4 +120,33 @@ fn two_slots_in_turn(rt: HostRuntime) {
     let first = Some([(13, b's'), (7, b'o')]);
     let second = Some([(10, b'e'), (9, b't')]);
     assert!(rt; in_turn(&mut ring) == [first, second, Some([(7, b't'), (4, 0)])]);
+}
+
+/// A string told at its address: while its segment is open, and as the newest commit's.
+#[tactic(auto, using(crate::proofs::FramedFacts::framed_is, crate::proofs::FramedFacts::is_pushed, crate::proofs::FramedFacts::is_sealed))]
+fn told(ring: &mut Ring, slot: usize, inside: &[u8]) -> Option<[(usize, u8); 2]>
+    requires slot { slot < length ring.old.active }
+    requires room { 0 < ring.old.room }
+    ensures slots { length ring.new.active ≡ length ring.old.active }
+    ensures room { ring.old.room ≤ ring.new.room + 1 }
+{
+    let string = Framed::new(inside)?;
+    let Ok(address) = ring.push(slot, &string) else {
+        return None;
+    };
+    let open = seen(ring.at(slot, address));
+    ring.seal(slot);
+    Some([open, seen(ring.committed_at(0, address))])
+}
+
+#[test]
+fn told_at_addresses(rt: HostRuntime) {
+    let Some(mut ring) = ring(rt.alloc(), 2) else {
+        assert!(rt; false);
+        return;
+    };
+    let first = told(&mut ring, 1, b"one");
+    assert!(rt;
+        [first, told(&mut ring, 1, b"eleven")] == [Some([(7, b'o'); 2]), Some([(10, b'e'); 2])]
+    );
 }
