@@ -248,7 +248,8 @@ impl Core {
 
     /// One row of the terminal's transaction; where none is left the transaction commits.
     ///
-    /// `Busy` and `NoMemory` have changed nothing. After another refusal the transaction is rolled back.
+    /// `NotOpen`, `Busy` and `NoMemory` have changed nothing. After another refusal the transaction is rolled back. The reply of a
+    /// commit is that of `newest_reply`.
     pub fn advance(&mut self, terminal: Terminal) -> Advanced
         ensures { Advances (world_of self.old) terminal result (world_of self.new) }
     {
