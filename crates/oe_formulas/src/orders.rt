@@ -1,31 +1,46 @@
-//! The rows after a new order (clause 2.4.2.2).
+//! The rows after a new order (clause 2.4.2.2), and the columns that it sets.
 ghost use Rattle.std.specs.Prelude.{◌≡◌, ◌==◌, ◌≤◌, ◌+◌, ◌-◌, ◌*◌, cond, nat_le, ◌↔◌, ℕ, length, map, codes, IsSome, IfSome};
 ghost use Rattle.std.specs.List.{list_all};
 ghost use Rattle.oe_rows.specs.Credit.{order_total};
+ghost use Rattle.oe_rows.specs.Item.{with_counters};
 ghost use Rattle.oe_formulas.specs.Orders.{seen_by};
-ghost use Rattle.oe_formulas.specs.Checks.{checked};
+ghost use Rattle.oe_formulas.specs.Checks.{checked, row_with};
 ghost use Rattle.oe_model.specs.NewOrder.{supplied, stock_of, stock_out, occurs_in, brand, fill, order_row, with_next, next_out, seen, ordered_reply};
 
 use oe_keys::StockKey;
 use oe_requests::{
     Brand, Column, LineReplies, LineReply, NewOrderReply, NewOrderRequest, RequestLine,
 };
-use oe_rows::{Credit, Customer, District, Item, Order, OrderLine, Stock, Warehouse, total};
+use oe_rows::{
+    Credit, Customer, District, Item, Order, OrderLine, Stock, StockCounters, Warehouse, total,
+};
 use oe_values::{
     Cents, Count, ItemNumber, LineAmount, LineCount, LineQuantity, OrderNumber, Quantity, Rate,
     StockYtd, Text, WarehouseNumber,
 };
 
+/// D_NEXT_O_ID after a new order: it rises by 1. Else D_NEXT_O_ID, which would leave its range.
+pub fn next_order_after(row: &District) -> Result<OrderNumber, Column>
+    ensures { row_with (λ n. record row.now { next_order = n }) result ≡ checked next_out (with_next row.now) }
+{
+    match OrderNumber::new(row.next_order.get() + 1) {
+        Some(next_order) => Ok(next_order),
+        None => Err(Column::NextOrder),
+    }
+}
+
 /// The district after a new order: D_NEXT_O_ID rises by 1. Else D_NEXT_O_ID, which would leave its range.
 pub fn district_after_order(row: &District) -> Result<District, Column>
     ensures { result ≡ checked next_out (with_next row.now) }
 {
-    let Some(next_order) = OrderNumber::new(row.next_order.get() + 1) else {
-        return Err(Column::NextOrder);
-    };
-    let mut after = row.copied();
-    after.next_order = next_order;
-    Ok(after)
+    match next_order_after(row) {
+        Ok(next_order) => {
+            let mut after = row.copied();
+            after.next_order = next_order;
+            Ok(after)
+        }
+        Err(column) => Err(column),
+    }
 }
 
 /// Whether the warehouse supplies every line.
@@ -93,16 +108,16 @@ fn remote_count_after(home: WarehouseNumber, key: StockKey, row: &Stock) -> u32
     }
 }
 
-/// The stock of a key after a line of that quantity for a district of the home warehouse: S_QUANTITY by the stock rule,
-/// S_YTD rises by the quantity, S_ORDER_CNT by 1, and S_REMOTE_CNT by 1 where the stock is another warehouse's. Else the
-/// first of S_YTD, S_ORDER_CNT and S_REMOTE_CNT that would leave its range.
-pub fn stock_after_line(
+/// The columns that a line of that quantity for a district of the home warehouse sets in the stock of a key: S_QUANTITY by the
+/// stock rule, S_YTD rises by the quantity, S_ORDER_CNT by 1, and S_REMOTE_CNT by 1 where the stock is another warehouse's.
+/// Else the first of S_YTD, S_ORDER_CNT and S_REMOTE_CNT that would leave its range.
+pub fn counters_after_line(
     home: WarehouseNumber,
     key: StockKey,
     row: &Stock,
     quantity: Quantity,
-) -> Result<Stock, Column>
-    ensures { result ≡ checked stock_out (supplied home key row.now quantity) }
+) -> Result<StockCounters, Column>
+    ensures { row_with (λ n. with_counters n row.now) result ≡ checked stock_out (supplied home key row.now quantity) }
 {
     let Some(ytd) = StockYtd::new(row.ytd.get() + quantity.get()) else {
         return Err(Column::StockYtd);
@@ -113,12 +128,35 @@ pub fn stock_after_line(
     let Some(remote_count) = Count::new(remote_count_after(home, key, row)) else {
         return Err(Column::RemoteCount);
     };
-    let mut after = row.copied();
-    after.quantity = quantity_after(row, quantity);
-    after.ytd = ytd;
-    after.order_count = order_count;
-    after.remote_count = remote_count;
-    Ok(after)
+    Ok(StockCounters {
+        quantity: quantity_after(row, quantity),
+        ytd,
+        order_count,
+        remote_count,
+    })
+}
+
+/// The stock of a key after a line of that quantity for a district of the home warehouse: the columns that the line sets are
+/// those after it. Else the first of them that would leave its range.
+pub fn stock_after_line(
+    home: WarehouseNumber,
+    key: StockKey,
+    row: &Stock,
+    quantity: Quantity,
+) -> Result<Stock, Column>
+    ensures { result ≡ checked stock_out (supplied home key row.now quantity) }
+{
+    match counters_after_line(home, key, row, quantity) {
+        Ok(counters) => {
+            let mut after = row.copied();
+            after.quantity = counters.quantity;
+            after.ytd = counters.ytd;
+            after.order_count = counters.order_count;
+            after.remote_count = counters.remote_count;
+            Ok(after)
+        }
+        Err(column) => Err(column),
+    }
 }
 
 /// Whether a text has `ORIGINAL` in it.
@@ -169,15 +207,27 @@ pub fn order_line(
     }
 }
 
+/// What a new order answers of a line, of its item, of its stock, and of S_QUANTITY after the line.
+pub fn reply_with_quantity(
+    line: RequestLine,
+    item: &Item,
+    stock: &Stock,
+    quantity: Count,
+) -> LineReply
+    ensures { (q : NewOrderRequest) (n : ℕ) → result ≡ (fill q n line item.now (record stock.now { quantity = quantity })).reply }
+{
+    LineReply {
+        brand: brand(item, stock),
+        quantity,
+        amount: amount(line, item),
+    }
+}
+
 /// What a new order answers of a line, of its item and of its stock after the line.
 pub fn line_reply(line: RequestLine, item: &Item, stock: &Stock) -> LineReply
     ensures { (q : NewOrderRequest) (n : ℕ) → result ≡ (fill q n line item.now stock.now).reply }
 {
-    LineReply {
-        brand: brand(item, stock),
-        quantity: stock.quantity,
-        amount: amount(line, item),
-    }
+    reply_with_quantity(line, item, stock, stock.quantity)
 }
 
 /// What a new order has read before its lines: O_ID, W_TAX, D_TAX, C_DISCOUNT, C_LAST and C_CREDIT.
@@ -203,6 +253,20 @@ impl Seen {
             discount: customer.account.discount,
             last: customer.name.last.copied(),
             credit: customer.credit,
+        }
+    }
+
+    /// A copy, which takes no memory.
+    pub fn copied(&self) -> Self
+        ensures { result ≡ self.now }
+    {
+        Seen {
+            order: self.order,
+            warehouse_tax: self.warehouse_tax,
+            district_tax: self.district_tax,
+            discount: self.discount,
+            last: self.last.copied(),
+            credit: self.credit,
         }
     }
 
