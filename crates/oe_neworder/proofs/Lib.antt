@@ -1,0 +1,3 @@
+pub mod StepFacts
+mod LookFacts
+mod LineFacts

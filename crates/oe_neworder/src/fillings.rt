@@ -1,0 +1,221 @@
+//! The lines of an order, two rows a line.
+ghost use Rattle.std.specs.Prelude.{◌≡◌, ◌+◌, ◌<◌, length, slice_get, Some, None, IsSome, OnErr, option_map};
+ghost use Rattle.oe_theory.specs.Machine.{Plain};
+ghost use Rattle.oe_theory.specs.Machine as theory;
+ghost use Rattle.oe_keys.specs.declared.locks.Name.TheVariants as name;
+ghost use Rattle.oe_requests.specs.declared.replies.Reply.{Reply};
+ghost use Rattle.oe_model.specs.Keys.{order_in, line_in};
+ghost use Rattle.oe_model.specs.Changes.{InsertOrderLine};
+ghost use Rattle.oe_model.specs.NewOrder.{new_order_taken};
+ghost use Rattle.oe_engine.specs.View.{view_of, IsOpen};
+ghost use Rattle.oe_engine.specs.Programs.{new_order_reply};
+ghost use Rattle.oe_neworder.specs.Steps.{Does, HoldsAll};
+ghost use Rattle.oe_neworder.specs.Program.{line_place};
+ghost use Rattle.oe_neworder.specs.Rows.{Advances, Fills};
+
+use crate::looks::{Supply, supply_of};
+use crate::steps::{add, failed, put};
+use oe_engine::{Engine, Lock, Progress, Tx};
+use oe_formulas::orders::Seen;
+use oe_keys::{Mode, Name};
+use oe_records::{Change, Write};
+use oe_requests::{LineReplies, LineReply, NewOrderReply, NewOrderRequest, Refusal, RequestLine};
+use oe_rows::OrderLine;
+use oe_values::{LineNumber, OrderNumber};
+
+/// A line whose stock has been taken: its OL_NUMBER, its ORDER-LINE row, which is still to be inserted, and its reply.
+#[derive(Drop, Debug)]
+pub struct Filled {
+    pub number: LineNumber,
+    pub row: OrderLine,
+    pub reply: LineReply,
+}
+
+/// The lines of an order while they are filled: the replies of those that are done, and the next one, once its stock has been
+/// taken. The lines themselves lie in the request.
+#[derive(Drop, Debug)]
+pub struct Filling {
+    pub seen: Seen,
+    pub done: LineReplies,
+    pub filled: Option<Filled>,
+}
+
+impl Filled {
+    /// A copy, which takes no memory.
+    pub fn copied(&self) -> Self
+        ensures { result ≡ self.now }
+    {
+        Filled {
+            number: self.number,
+            row: self.row.copied(),
+            reply: self.reply,
+        }
+    }
+}
+
+impl Filling {
+    /// A copy, which takes no memory.
+    pub fn copied(&self) -> Self
+        ensures { result ≡ self.now }
+    {
+        let filled = match &self.filled {
+            Some(filled) => Some(filled.copied()),
+            None => None,
+        };
+        Filling {
+            seen: self.seen.copied(),
+            done: self.done.copied(),
+            filled,
+        }
+    }
+}
+
+/// STOCK: its name is taken alone, and its counters are set. `InvalidItem` stops before that.
+fn fill(
+    request: &NewOrderRequest,
+    line: &RequestLine,
+    number: LineNumber,
+    engine: &mut Engine,
+    tx: &Tx,
+) -> Result<Filled, Refusal>
+    requires { IsOpen engine.old tx.now }
+    ensures { Fills request.now tx.now engine.old line.now number result engine.new }
+{
+    match supply_of(request, line, number, engine.tables()) {
+        Supply::Unused => Err(Refusal::InvalidItem),
+        Supply::Fails(key, refusal) => {
+            let lock = Lock {
+                name: Name::Stock(key),
+                mode: Mode::Exclusive,
+            };
+            Err(failed(engine, tx, lock, refusal))
+        }
+        Supply::Fills(key, counters, filled) => {
+            let write = Write::StockCounters(key, counters);
+            match put(engine, tx, &write) {
+                Ok(()) => Ok(filled),
+                Err(refusal) => Err(refusal),
+            }
+        }
+    }
+}
+
+/// ORDER-LINE: the row is inserted under its order's name, which is held.
+fn insert(
+    request: &NewOrderRequest,
+    order: OrderNumber,
+    filled: &Filled,
+    engine: &mut Engine,
+    tx: &Tx,
+) -> Result<(), Refusal>
+    requires { IsOpen engine.old tx.now → (view_of engine.old).held tx.now.terminal (name.Order (order_in request.now.district order)) ≡ Some theory.Exclusive }
+    ensures does { Does engine.old tx.now Plain (Some (InsertOrderLine (line_in (order_in request.now.district order) filled.now.number) filled.now.row)) result engine.new }
+    ensures name { engine.new.name ≡ engine.old.name }
+    ensures err { OnErr result (view_of engine.new ≡ view_of engine.old) }
+{
+    let key = request.district.order(order).line(filled.number);
+    add(
+        engine,
+        tx,
+        Change::InsertOrderLine(key, filled.row.copied()),
+    )
+}
+
+/// The number of the line after those that are done.
+fn number_after(done: &LineReplies) -> LineNumber
+    requires { length done.now < 15 }
+    ensures { result ≡ length done.now + 1 }
+{
+    LineNumber::new(done.as_slice().len() as u32 + 1).unwrap()
+}
+
+impl Filling {
+    // The first line that is not done.
+    fn next_line(&self, request: &NewOrderRequest) -> Option<RequestLine>
+        ensures value { result ≡ slice_get request.now.lines (length self.now.done) }
+        ensures room { IsSome result → length self.now.done < 15 }
+    {
+        match request.lines.as_slice().get(self.done.as_slice().len()) {
+            Some(line) => Some(*line),
+            None => None,
+        }
+    }
+
+    // The STOCK row of the next line, after which it is filled.
+    fn fill_next(
+        &mut self,
+        line: &RequestLine,
+        request: &NewOrderRequest,
+        engine: &mut Engine,
+        tx: &Tx,
+    ) -> Progress
+        requires open { IsOpen engine.old tx.now }
+        requires next { slice_get request.now.lines (length self.old.done) ≡ Some line.now }
+        requires none { self.old.filled ≡ None }
+        requires room { length self.old.done < 15 }
+        ensures { Advances request.now tx.now engine.old (line_place request.now self.old) result engine.new (line_place request.now self.new) }
+    {
+        match fill(request, line, number_after(&self.done), engine, tx) {
+            Ok(filled) => {
+                self.filled = Some(filled);
+                Progress::More
+            }
+            Err(refusal) => Progress::Refused(refusal),
+        }
+    }
+
+    // The ORDER-LINE row of the line that is filled, after which the line is done.
+    fn end_next(
+        &mut self,
+        line: &RequestLine,
+        request: &NewOrderRequest,
+        engine: &mut Engine,
+        tx: &Tx,
+    ) -> Progress
+        requires open { IsOpen engine.old tx.now }
+        requires next { slice_get request.now.lines (length self.old.done) ≡ Some line.now }
+        requires some { IsSome self.old.filled }
+        requires room { length self.old.done < 15 }
+        requires held { HoldsAll (view_of engine.old) tx.now.terminal (new_order_taken request.now (line_place request.now self.old)) }
+        ensures { Advances request.now tx.now engine.old (line_place request.now self.old) result engine.new (line_place request.now self.new) }
+    {
+        let Some(filled) = &self.filled else {
+            unreachable!();
+        };
+        match insert(request, self.seen.order, filled, engine, tx) {
+            Ok(()) => {
+                let reply = filled.reply;
+                self.done.push(reply);
+                self.filled = None;
+                Progress::More
+            }
+            Err(refusal) => Progress::Refused(refusal),
+        }
+    }
+
+    /// One row of the lines, of STOCK or of ORDER-LINE; ready after the last.
+    pub fn next(&mut self, request: &NewOrderRequest, engine: &mut Engine, tx: &Tx) -> Progress
+        requires open { IsOpen engine.old tx.now }
+        requires held { HoldsAll (view_of engine.old) tx.now.terminal (new_order_taken request.now (line_place request.now self.old)) }
+        ensures { Advances request.now tx.now engine.old (line_place request.now self.old) result engine.new (line_place request.now self.new) }
+    {
+        let Some(line) = self.next_line(request) else {
+            return Progress::Ready;
+        };
+        if self.filled.is_none() {
+            self.fill_next(&line, request, engine, tx)
+        } else {
+            self.end_next(&line, request, engine, tx)
+        }
+    }
+
+    /// The reply, once all lines of the request are done; none before that.
+    pub fn reply(&self, request: &NewOrderRequest) -> Option<NewOrderReply>
+        ensures { option_map Reply.NewOrder result ≡ new_order_reply (line_place request.now self.now) }
+    {
+        match self.next_line(request) {
+            Some(_) => None,
+            None => Some(self.seen.reply(&self.done)),
+        }
+    }
+}

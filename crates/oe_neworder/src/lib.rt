@@ -1,0 +1,11 @@
+//! The New-Order transaction (clause 2.4), a row at a time. Clauses of the standard are those of TPC Benchmark C 5.11.
+#![tactic(auto)]
+
+pub mod fillings;
+pub mod looks;
+pub mod programs;
+pub mod rows;
+pub mod steps;
+
+pub use fillings::{Filled, Filling};
+pub use programs::Program;

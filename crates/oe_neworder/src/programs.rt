@@ -1,0 +1,116 @@
+//! The program.
+ghost use Rattle.std.specs.Prelude.{◌≡◌, option_map};
+ghost use Rattle.oe_requests.specs.declared.requests.Request.{Request};
+ghost use Rattle.oe_requests.specs.declared.replies.Reply.{Reply};
+ghost use Rattle.oe_model.specs.Places.{InNewOrder};
+ghost use Rattle.oe_model.specs.NewOrder.{new_order_taken};
+ghost use Rattle.oe_engine.specs.View.{view_of, IsOpen};
+ghost use Rattle.oe_engine.specs.Programs.{Progresses, new_order_reply};
+ghost use Rattle.oe_neworder.specs.Steps.{HoldsAll};
+ghost use Rattle.oe_neworder.specs.Program.{place_of, IsBeforeLines};
+ghost use Rattle.oe_neworder.specs.Rows.{Steps};
+
+use crate::fillings::Filling;
+use crate::rows::{insert_new_order, insert_order, read_customer, read_warehouse, take_number};
+use oe_engine::{Engine, Progress, Tx};
+use oe_formulas::orders::Seen;
+use oe_requests::{NewOrderReply, NewOrderRequest, Refusal};
+use oe_values::{OrderNumber, Rate};
+
+/// Where a New-Order stands: the row that it comes to next, with what the rows before have read. Its request lies with whoever
+/// carries it out. It is of fixed size, and any value of it is a place of any request.
+#[derive(Drop, Debug)]
+pub enum Program {
+    Warehouse,
+    /// With W_TAX.
+    District(Rate),
+    /// With O_ID, W_TAX and D_TAX.
+    Customer(OrderNumber, Rate, Rate),
+    Order(Seen),
+    Queue(Seen),
+    Lines(Filling),
+}
+
+impl Program {
+    /// At its first row.
+    pub fn new() -> Self
+        ensures { result ≡ Program.Warehouse }
+    {
+        Self::Warehouse
+    }
+
+    /// A copy, which takes no memory.
+    pub fn copied(&self) -> Self
+        ensures { result ≡ self.now }
+    {
+        match self {
+            Program::Warehouse => Program::Warehouse,
+            Program::District(tax) => Program::District(*tax),
+            Program::Customer(order, warehouse, district) => {
+                Program::Customer(*order, *warehouse, *district)
+            }
+            Program::Order(seen) => Program::Order(seen.copied()),
+            Program::Queue(seen) => Program::Queue(seen.copied()),
+            Program::Lines(filling) => Program::Lines(filling.copied()),
+        }
+    }
+
+    /// The reply, once all rows of the request are done; none before that.
+    pub fn reply(&self, request: &NewOrderRequest) -> Option<NewOrderReply>
+        ensures { option_map Reply.NewOrder result ≡ new_order_reply (place_of request.now self.now) }
+    {
+        match self {
+            Program::Lines(filling) => filling.reply(request),
+            _ => None,
+        }
+    }
+
+    // One row before the lines.
+    fn row(
+        &self,
+        request: &NewOrderRequest,
+        engine: &mut Engine,
+        tx: &Tx,
+    ) -> Result<Program, Refusal>
+        requires place { IsBeforeLines self.now }
+        requires open { IsOpen engine.old tx.now }
+        requires held { HoldsAll (view_of engine.old) tx.now.terminal (new_order_taken request.now (place_of request.now self.now)) }
+        ensures { Steps request.now tx.now engine.old (place_of request.now self.now) result engine.new }
+    {
+        match self {
+            Program::Warehouse => read_warehouse(request, engine, tx),
+            Program::District(tax) => take_number(request, *tax, engine, tx),
+            Program::Customer(order, warehouse, district) => {
+                read_customer(request, *order, *warehouse, *district, engine, tx)
+            }
+            Program::Order(seen) => insert_order(request, seen, engine, tx),
+            Program::Queue(seen) => insert_new_order(request, seen, engine, tx),
+            Program::Lines(_) => unreachable!(),
+        }
+    }
+
+    /// One row of the order: its lock and its one change. The names that the rows before have taken are held: the order's for
+    /// its NEW-ORDER row and its lines.
+    ///
+    /// The order of refusals is `NoCustomer` or `InvalidItem`, which stop before the lock, `Busy`, `Overflow`, and `NoMemory`
+    /// where memory was refused. A refused row leaves the program, the tables and the locks as they were. Each row of an order is
+    /// told the same request.
+    pub fn next(&mut self, request: &NewOrderRequest, engine: &mut Engine, tx: &Tx) -> Progress
+        requires { IsOpen engine.old tx.now → HoldsAll (view_of engine.old) tx.now.terminal (new_order_taken request.now (place_of request.now self.old)) }
+        ensures { Progresses (Request.NewOrder request.now) tx.now engine.old (InNewOrder request.now (place_of request.now self.old)) result engine.new (InNewOrder request.now (place_of request.now self.new)) }
+    {
+        if !engine.is_open(tx) {
+            return Progress::Refused(Refusal::NotOpen);
+        }
+        if let Program::Lines(filling) = self {
+            return filling.next(request, engine, tx);
+        }
+        match self.row(request, engine, tx) {
+            Ok(after) => {
+                *self = after;
+                Progress::More
+            }
+            Err(refusal) => Progress::Refused(refusal),
+        }
+    }
+}
