@@ -6,9 +6,11 @@ use Rattle.oe_requests.specs.declared.requests.NewOrderRequest.{NewOrderRequest}
 use Rattle.oe_requests.specs.declared.replies.LineReply.{LineReply}
 use Rattle.oe_requests.specs.declared.refusals.Refusal.{Refusal}
 use Rattle.oe_model.specs.Places.{Seen, NewOrderPlace, NewOrderStock, NewOrderLine, InNewOrder}
+use Rattle.oe_model.specs.NewOrder.{new_order_taken}
 use Rattle.oe_engine.specs.View.{Stored, view_of, Handle}
 use Rattle.oe_engine.specs.Programs.{GoesOn, IsRefused, Progresses}
 use Rattle.oe_engine.specs.declared.rows.Progress.{Progress}
+use Rattle.oe_neworder.specs.Steps.{HoldsAll}
 use Rattle.oe_neworder.specs.Program.{filled_by, place_of}
 use Rattle.oe_neworder.specs.declared.fillings.Filled.{Filled}
 use Rattle.oe_neworder.specs.declared.programs.Program.{Program}
@@ -16,6 +18,10 @@ use Rattle.oe_neworder.specs.declared.programs.Program.{Program}
 -- one step, from one place to another
 abbrev pub Advances : NewOrderRequest → Handle → Stored → NewOrderPlace → Progress → Stored → NewOrderPlace → Type 0
 Advances q x s p y s' p' = Progresses (request.NewOrder q) x s (InNewOrder q p) y s' (InNewOrder q p')
+
+-- the names that are taken on the way to this place are held
+abbrev pub HoldsTaken : NewOrderRequest → Handle → Stored → NewOrderPlace → Type 0
+HoldsTaken q x s p = HoldsAll (view_of s) x.terminal (new_order_taken q p)
 
 -- a row before the lines: the program after it, or its refusal
 abbrev pub Steps : NewOrderRequest → Handle → Stored → NewOrderPlace → Result Program Refusal → Stored → Type 0

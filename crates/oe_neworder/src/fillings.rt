@@ -6,12 +6,11 @@ ghost use Rattle.oe_keys.specs.declared.locks.Name.TheVariants as name;
 ghost use Rattle.oe_requests.specs.declared.replies.Reply.{Reply};
 ghost use Rattle.oe_model.specs.Keys.{order_in, line_in};
 ghost use Rattle.oe_model.specs.Changes.{InsertOrderLine};
-ghost use Rattle.oe_model.specs.NewOrder.{new_order_taken};
 ghost use Rattle.oe_engine.specs.View.{view_of, IsOpen};
 ghost use Rattle.oe_engine.specs.Programs.{new_order_reply};
-ghost use Rattle.oe_neworder.specs.Steps.{Does, HoldsAll};
+ghost use Rattle.oe_neworder.specs.Steps.{Does};
 ghost use Rattle.oe_neworder.specs.Program.{line_place};
-ghost use Rattle.oe_neworder.specs.Rows.{Advances, Fills};
+ghost use Rattle.oe_neworder.specs.Rows.{Advances, HoldsTaken, Fills};
 
 use crate::looks::{Supply, supply_of};
 use crate::steps::{add, failed, put};
@@ -176,7 +175,7 @@ impl Filling {
         requires next { slice_get request.now.lines (length self.old.done) ≡ Some line.now }
         requires some { IsSome self.old.filled }
         requires room { length self.old.done < 15 }
-        requires held { HoldsAll (view_of engine.old) tx.now.terminal (new_order_taken request.now (line_place request.now self.old)) }
+        requires held { HoldsTaken request.now tx.now engine.old (line_place request.now self.old) }
         ensures { Advances request.now tx.now engine.old (line_place request.now self.old) result engine.new (line_place request.now self.new) }
     {
         let Some(filled) = &self.filled else {
@@ -196,7 +195,7 @@ impl Filling {
     /// One row of the lines, of STOCK or of ORDER-LINE; ready after the last.
     pub fn next(&mut self, request: &NewOrderRequest, engine: &mut Engine, tx: &Tx) -> Progress
         requires open { IsOpen engine.old tx.now }
-        requires held { HoldsAll (view_of engine.old) tx.now.terminal (new_order_taken request.now (line_place request.now self.old)) }
+        requires held { HoldsTaken request.now tx.now engine.old (line_place request.now self.old) }
         ensures { Advances request.now tx.now engine.old (line_place request.now self.old) result engine.new (line_place request.now self.new) }
     {
         let Some(line) = self.next_line(request) else {

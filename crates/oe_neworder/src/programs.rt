@@ -3,12 +3,10 @@ ghost use Rattle.std.specs.Prelude.{◌≡◌, option_map};
 ghost use Rattle.oe_requests.specs.declared.requests.Request.{Request};
 ghost use Rattle.oe_requests.specs.declared.replies.Reply.{Reply};
 ghost use Rattle.oe_model.specs.Places.{InNewOrder};
-ghost use Rattle.oe_model.specs.NewOrder.{new_order_taken};
-ghost use Rattle.oe_engine.specs.View.{view_of, IsOpen};
+ghost use Rattle.oe_engine.specs.View.{IsOpen};
 ghost use Rattle.oe_engine.specs.Programs.{Progresses, new_order_reply};
-ghost use Rattle.oe_neworder.specs.Steps.{HoldsAll};
 ghost use Rattle.oe_neworder.specs.Program.{place_of, IsBeforeLines};
-ghost use Rattle.oe_neworder.specs.Rows.{Steps};
+ghost use Rattle.oe_neworder.specs.Rows.{HoldsTaken, Steps};
 
 use crate::fillings::Filling;
 use crate::rows::{insert_new_order, insert_order, read_customer, read_warehouse, take_number};
@@ -74,7 +72,7 @@ impl Program {
     ) -> Result<Program, Refusal>
         requires place { IsBeforeLines self.now }
         requires open { IsOpen engine.old tx.now }
-        requires held { HoldsAll (view_of engine.old) tx.now.terminal (new_order_taken request.now (place_of request.now self.now)) }
+        requires held { HoldsTaken request.now tx.now engine.old (place_of request.now self.now) }
         ensures { Steps request.now tx.now engine.old (place_of request.now self.now) result engine.new }
     {
         match self {
@@ -96,7 +94,7 @@ impl Program {
     /// where memory was refused. A refused row leaves the program, the tables and the locks as they were. Each row of an order is
     /// told the same request.
     pub fn next(&mut self, request: &NewOrderRequest, engine: &mut Engine, tx: &Tx) -> Progress
-        requires { IsOpen engine.old tx.now → HoldsAll (view_of engine.old) tx.now.terminal (new_order_taken request.now (place_of request.now self.old)) }
+        requires { IsOpen engine.old tx.now → HoldsTaken request.now tx.now engine.old (place_of request.now self.old) }
         ensures { Progresses (Request.NewOrder request.now) tx.now engine.old (InNewOrder request.now (place_of request.now self.old)) result engine.new (InNewOrder request.now (place_of request.now self.new)) }
     {
         if !engine.is_open(tx) {

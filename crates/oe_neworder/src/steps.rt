@@ -1,9 +1,7 @@
 //! A row of a program of any kind, done on an engine or refused by it.
 ghost use Rattle.std.specs.Prelude.{◌≡◌, true, suc, Some, None, OnErr};
-ghost use Rattle.oe_theory.specs.Machine.{Plain, Take, Fail};
-ghost use Rattle.oe_requests.specs.declared.requests.Request.{Request};
+ghost use Rattle.oe_theory.specs.Machine.{Plain, Take};
 ghost use Rattle.oe_model.specs.Changes as model;
-ghost use Rattle.oe_model.specs.Places.{Place};
 ghost use Rattle.oe_model.specs.Locks.{mode_of, governs};
 ghost use Rattle.oe_records.specs.Changes.{change_of};
 ghost use Rattle.oe_records.specs.Writes.{key_written};
@@ -11,8 +9,7 @@ ghost use Rattle.oe_engine.specs.View.{view_of, IsOpen};
 ghost use Rattle.oe_engine.specs.Covered.{IsOwn};
 ghost use Rattle.oe_engine.specs.Calls.{IsCovered};
 ghost use Rattle.oe_engine.specs.Writes.{ask_of_write, change_written, WriteHoldsOrder};
-ghost use Rattle.oe_engine.specs.Programs.{ask_here, act_here, IsRefused};
-ghost use Rattle.oe_neworder.specs.Steps.{is_failure, Does};
+ghost use Rattle.oe_neworder.specs.Steps.{is_failure, IsFailure, Does};
 
 use oe_engine::{Engine, Lock, Tx};
 use oe_records::{Change, Write};
@@ -22,7 +19,7 @@ use oe_requests::Refusal;
 pub fn failed(engine: &Engine, tx: &Tx, lock: Lock, refusal: Refusal) -> Refusal
     requires open { IsOpen engine.now tx.now }
     requires failure { is_failure refusal ≡ true }
-    ensures { (q : Request) (p : Place) → ask_here engine.now tx.now q p ≡ Take lock.name (mode_of lock.mode) → act_here engine.now tx.now q p ≡ Fail refusal → IsRefused engine.now tx.now q p result }
+    ensures { IsFailure engine.now tx.now lock refusal result }
 {
     match engine.is_free(tx, lock) {
         Ok(()) => refusal,
