@@ -1,30 +1,38 @@
 -- A row of a transaction, and its commit.
-use Rattle.std.proofs.Common.{◌≡◌, ℕ, suc, inl, inr, true, false, List, Option, Some, None, length, slice_get, slice_set, sym, ap, ◌∙◌, subst, refl}
+use Rattle.std.proofs.Common.{◌≡◌, ℕ, suc, inl, inr, true, false, List, [], ◌∷◌, Option, Some, None, length, slice_get, slice_set, sym, ap, ◌∙◌, subst, refl}
 use Rattle.std.specs.Prelude.{◌⊎◌}
+use Rattle.std.specs.FinMap.{get}
 use Rattle.oe_theory.specs.Machine.{Mode, Ask, Stop, Plain, Take, Fail, Go, Tx}
-use Rattle.oe_theory.specs.World.{World, total, go_together}
+use Rattle.oe_theory.specs.World.{Open, World, total, go_together, latest}
 use Rattle.oe_theory.specs.Next.{Next, Step, Answer, Advance, More, Committed, Aborted, commits, IsNew, GivesWay, held_after}
 use Rattle.oe_theory.specs.Store.{Slot, Store, tx_in, opened_by, slot_after, dropped, IsGrantedIn, IsInTheWayIn, MayLackMemoryIn, TakesNoRoom}
 use Rattle.oe_theory.specs.Store as theory
 use Rattle.oe_theory.specs.StoreTheorems.{Leads}
+use Rattle.oe_theory.specs.Laws.{Holds, held_of}
+use Rattle.oe_theory.proofs.Replay.{taken_held}
 use Rattle.oe_theory.proofs.Sets.{set_same, set_other, set_idle}
 use Rattle.oe_theory.proofs.StoreSteps.{tables_here, is_open_in, granted_here, acts_here}
-use Rattle.oe_theory.proofs.Theorems.{changes_are_accepted, abort_is_its_own}
+use Rattle.oe_theory.proofs.Theorems.{reached_sound, changes_are_accepted, abort_is_its_own}
 use Rattle.oe_requests.specs.declared.requests.PaymentRequest.{PaymentRequest}
+use Rattle.oe_requests.specs.declared.requests.NewOrderRequest.{NewOrderRequest}
+use Rattle.oe_requests.specs.declared.requests.DeliveryRequest.{DeliveryRequest}
 use Rattle.oe_requests.specs.declared.requests.Request.{Request}
 use Rattle.oe_requests.specs.declared.requests.Request.TheVariants as request
 use Rattle.oe_requests.specs.declared.replies.Reply.{Reply}
+use Rattle.oe_keys.specs.declared.keys.Key.TheVariants as key
 use Rattle.oe_keys.specs.declared.locks.Name.{Name}
 use Rattle.oe_requests.specs.declared.refusals.Refusal.{Refusal}
 use Rattle.oe_requests.specs.declared.refusals.Refusal.TheVariants.{BadLine, NoSuchRow, RowExists, Overflow, Reference, KeyColumn, Busy, UndoFull, NoMemory, NotOpen, AlreadyOpen, InvalidItem, NoCustomer, TooOld, Future, NotQuiet, NotPinned}
 use Rattle.oe_steps.specs.declared.steps.Step.TheVariants as step
 use Rattle.oe_steps.specs.declared.answers.Answer.TheVariants as answer
+use Rattle.oe_model.specs.Keys.{warehouse_of_district, customer_in}
 use Rattle.oe_model.specs.Rows.{Rows}
 use Rattle.oe_model.specs.Changes.{Change}
 use Rattle.oe_model.specs.Meets.{Accepts}
+use Rattle.oe_model.specs.Effects.{Doing, given}
 use Rattle.oe_model.specs.Places as model
 use Rattle.oe_model.specs.Requests.{MayRefuse}
-use Rattle.oe_model.specs.System.{system, ask, act, yields, may_allocate, record_length, terminal_limit}
+use Rattle.oe_model.specs.System.{system, ask, act, taken, yields, may_allocate, record_length, terminal_limit}
 use Rattle.oe_model.proofs.ChangeFacts.{not_both}
 use Rattle.oe_model.proofs.SystemLaws.{laws}
 use Rattle.oe_engine.specs.View.{View, view_of, Handle, IsOpen}
@@ -32,11 +40,10 @@ use Rattle.oe_engine.specs.View as engine
 use Rattle.oe_engine.specs.Calls.{IsFree, IsInTheWay, row_done, committed, rolled_back}
 use Rattle.oe_engine.specs.Programs.{reply_at, tx_of, ask_here, act_here, IsFreeHere, GoesOn, IsReady, Ends, WantsMemory, IsRefused}
 use Rattle.oe_engine.proofs.ReplyFacts.{ready_at}
-use Rattle.oe_core.specs.Core.{Stored, IsOf, place_of, reply_of, in_place, work_at, slot_of, open_at, store_of, world_of, IsOrderly, Moves, keeps_open}
+use Rattle.oe_core.specs.Core.{Stored, IsOf, place_of, reply_of, HoldsTaken, in_place, work_at, slot_of, open_at, store_of, world_of, IsOrderly, Moves, keeps_open}
 use Rattle.oe_core.specs.Steps.{refusal_in, Carries, newest_reply}
 use Rattle.oe_core.specs.declared.slots.Work.{Work}
 use Rattle.oe_core.specs.declared.programs.Program.{Program}
-use Rattle.oe_core.specs.declared.programs.Program.TheVariants as program
 use Rattle.oe_core.proofs.PlaceFacts.{get_place}
 use Rattle.oe_core.proofs.MoveFacts.{standing, carries, the_steps, has_work, HasOpen, slot_here, own_work, worked, emptied, open_still, work_still, dropped_here}
 
@@ -126,6 +133,17 @@ module _ (s : Stored) (t : ℕ) (x : Handle) (w : Work) (h : HasOpen s t x w) wh
       let it = abort_is_its_own system laws (theory.world_of system (store_of s)) _ t e (standing s h.orderly).reached (leads_end e d).next in
       (it.was.request, it.cause)
 
+-- the names that are taken on the way to its row are held
+pub holds_taken : {s : Stored} {t : ℕ} {x : Handle} {w : Work} → HasOpen s t x w → HoldsTaken s.engine x w.request w.program
+holds_taken {s} {t} {x} {w} h n m g =
+    let p : Slot system = here s t x w h in
+    let o : Open system = opened_by system ((store_of s).undo.active t) (store_of s).tables p in
+    let w' : World system = theory.world_of system (store_of s) in
+    let course = (reached_sound system laws w' (standing s h.orderly).reached).each t o (is_open_in system laws (store_of s) t p (slot_here h)) in
+    subst (λ (k : ℕ). held_of system ((view_of s.engine).held k) n m) (sym (own_work h).terminal)
+    (taken_held system laws ((view_of s.engine).held t) (tx_in system t p) (latest system w') o.now course.now n m
+    (subst (λ (z : Tx Request). Holds system (taken z (place_of w.request w.program)) n m) (same_tx s t x w h) g))
+
 -- what no program ends with
 never_UndoFull : (q : Request) → MayRefuse q UndoFull → ⊥
 never_UndoFull (request.Payment q) h = h
@@ -162,6 +180,14 @@ never_NotQuiet n (request.Delivery q) h = h
 never_NotQuiet n (request.Deliveries q) h = h
 never_NotQuiet n (request.Rename q) h = h
 
+-- a row that reads a row first, where it makes a change
+given_goes : {A : Type 0} (e : Refusal) (o : Option A) (f : A → Doing) (c : Change) (z : model.Place) → given e o f ≡ Go (Some c) z → (a : A) × (f a ≡ Go (Some c) z)
+given_goes e None f c z h = let no : ⊥ = cc in absurd no
+given_goes e (Some a) f c z h = (a, h)
+
+only_reads : (p : model.Place) (c : Change) (z : model.Place) → ◌≡◌ {A = Doing} (Go None p) (Go (Some c) z) → ⊥
+only_reads p c z h = cc
+
 -- a row's change may need memory
 payment_allocates : (x : Tx Request) (q : PaymentRequest) (p : model.PaymentPlace) (r : Rows) (c : Change) (z : model.Place) → act x (model.InPayment q p) r ≡ Go (Some c) z → may_allocate (model.InPayment q p) ≡ true
 payment_allocates x q model.PaymentWarehouse r c z e = refl
@@ -170,12 +196,30 @@ payment_allocates x q (model.PaymentCustomer n d) r c z e = refl
 payment_allocates x q (model.PaymentHistory d y) r c z e = refl
 payment_allocates x q (model.PaymentEnd y) r c z e = let no : ⊥ = cc in absurd no
 
-allocates : (x : Tx Request) (q : Request) (p : Program) (r : Rows) (c : Change) (z : model.Place) → act x (place_of q p) r ≡ Go (Some c) z → may_allocate (place_of q p) ≡ true
-allocates x (request.Payment q) (program.Payment p) r c z e = payment_allocates x q p r c z e
-allocates x (request.NewOrder q) p r c z e = let no : ⊥ = cc in absurd no
-allocates x (request.Delivery q) p r c z e = let no : ⊥ = cc in absurd no
-allocates x (request.Deliveries q) p r c z e = let no : ⊥ = cc in absurd no
-allocates x (request.Rename q) p r c z e = let no : ⊥ = cc in absurd no
+new_order_allocates : (x : Tx Request) (q : NewOrderRequest) (p : model.NewOrderPlace) (r : Rows) (c : Change) (z : model.Place) → act x (model.InNewOrder q p) r ≡ Go (Some c) z → may_allocate (model.InNewOrder q p) ≡ true
+new_order_allocates x q model.NewOrderWarehouse r c z e =
+    let (y, f) = given_goes (NoSuchRow (key.Warehouse (warehouse_of_district q.district))) (get r.warehouses (warehouse_of_district q.district)) _ c z e in absurd (only_reads _ c z f)
+new_order_allocates x q (model.NewOrderDistrict w) r c z e = refl
+new_order_allocates x q (model.NewOrderCustomer o w d) r c z e =
+    let (y, f) = given_goes NoCustomer (get r.customers (customer_in q.district q.customer)) _ c z e in absurd (only_reads _ c z f)
+new_order_allocates x q (model.NewOrderOrder y) r c z e = refl
+new_order_allocates x q (model.NewOrderQueue y) r c z e = refl
+new_order_allocates x q (model.NewOrderStock y before done []) r c z e = let no : ⊥ = cc in absurd no
+new_order_allocates x q (model.NewOrderStock y before done (l ∷ ls)) r c z e = refl
+new_order_allocates x q (model.NewOrderLine y before done l f ls) r c z e = refl
+
+delivery_allocates : (x : Tx Request) (q : DeliveryRequest) (p : model.DeliveryPlace) (r : Rows) (c : Change) (z : model.Place) → act x (model.InDelivery q p) r ≡ Go (Some c) z → may_allocate (model.InDelivery q p) ≡ true
+delivery_allocates x q model.DeliveryQueue r c z e = refl
+delivery_allocates x q model.DeliveryNothing r c z e = let no : ⊥ = cc in absurd no
+delivery_allocates x q (model.DeliveryOrder o) r c z e = refl
+delivery_allocates x q (model.DeliveryLine o k ns sum) r c z e = refl
+delivery_allocates x q (model.DeliveryEnd o k sum) r c z e = let no : ⊥ = cc in absurd no
+
+allocates : (x : Tx Request) (p : model.Place) (r : Rows) (c : Change) (z : model.Place) → act x p r ≡ Go (Some c) z → may_allocate p ≡ true
+allocates x (model.InPayment q p) r c z e = payment_allocates x q p r c z e
+allocates x (model.InNewOrder q p) r c z e = new_order_allocates x q p r c z e
+allocates x (model.InDelivery q p) r c z e = delivery_allocates x q p r c z e
+allocates x model.NoProgram r c z e = let no : ⊥ = cc in absurd no
 
 lacks : (s : Store system) (t : ℕ) (p : Slot system) (a : Ask Name Refusal) → IsGrantedIn system s.slots t a → (IsNew system p.held a ⊎ (may_allocate p.place ≡ true))
     → GivesWay system (yields p.place) (act (tx_in system t p) p.place s.tables) → MayLackMemoryIn system s t p a
@@ -224,17 +268,9 @@ taken_is_open {s} {t} {x} h out e e' b name =
     subst (λ (z : Handle). IsOpen e' z) (sym (taken_is h out e)) (open_still s.engine e' x (ap (λ (z : View). z.is_open) b) name (own_work h).is_open)
 
 -- a program that is ready has its reply
-reply_here : (q : Request) (p : Program) → IsOf q p → reply_at (place_of q p) ≡ reply_of p
-reply_here (request.Payment q) (program.Payment p) h = refl
-reply_here (request.NewOrder q) p h = absurd h
-reply_here (request.Delivery q) p h = absurd h
-reply_here (request.Deliveries q) p h = absurd h
-reply_here (request.Rename q) p h = absurd h
-
-pub has_reply : {s : Stored} {t : ℕ} {x : Handle} {w : Work} → HasOpen s t x w → (p : Program) → IsOf w.request p → place_of w.request p ≡ place_of w.request w.program
-    → (y : Reply) → IsReady s.engine x w.request (place_of w.request w.program) y → reply_of p ≡ Some y
-has_reply {s} {t} {x} {w} h p of_it same y g =
-    sym (reply_here w.request p of_it) ∙ (ap reply_at same ∙ ready_at (tx_of s.engine x w.request) (place_of w.request w.program) (view_of s.engine).rows y g.does)
+pub has_reply : {s : Stored} {t : ℕ} {x : Handle} {w : Work} → HasOpen s t x w → (p : Program) → place_of w.request p ≡ place_of w.request w.program
+    → (y : Reply) → IsReady s.engine x w.request (place_of w.request w.program) y → reply_of w.request p ≡ Some y
+has_reply {s} {t} {x} {w} h p same y g = ap reply_at same ∙ ready_at (tx_of s.engine x w.request) (place_of w.request w.program) (view_of s.engine).rows y g.does
 
 -- it was ready, and its transaction committed
 pub committed_here : {s : Stored} {t : ℕ} {x : Handle} {w : Work} → HasOpen s t x w → (out : Handle) → out ≡ x → (y : Reply) (n : ℕ) (e₀ e' : engine.Stored) (xs : List (Option Handle)) (ws : List (Option Work)) (z : Option Work)
@@ -289,7 +325,7 @@ kept_lead s t y w o NoMemory kp h =
         ⊎ ((c : Change) × (p' : model.Place) × (act_here s.engine y w.request (place_of w.request w.program) ≡ Go (Some c) p') × WantsMemory s.engine y c)
         → IsNew system ((view_of s.engine).held t) (ask (tx_in system t (here s t y w o)) (place_of w.request w.program) (view_of s.engine).rows) ⊎ (may_allocate (place_of w.request w.program) ≡ true)
     new (inl a) = inl (subst (λ z. IsNew system z (ask (tx_in system t (here s t y w o)) (place_of w.request w.program) (view_of s.engine).rows)) own (subst (IsNew system ((view_of s.engine).held y.terminal)) (asked_here s t y w o) a))
-    new (inr a) = inr (allocates (tx_of s.engine y w.request) w.request w.program (view_of s.engine).rows a.0 a.1 a.2)
+    new (inr a) = inr (allocates (tx_of s.engine y w.request) (place_of w.request w.program) (view_of s.engine).rows a.0 a.1 a.2)
 kept_lead s t y w o NotOpen kp h = let no : ⊥ = cc in absurd no
 kept_lead s t y w o AlreadyOpen kp h = let no : ⊥ = cc in absurd no
 kept_lead s t y w o InvalidItem kp h = let no : ⊥ = cc in absurd no

@@ -2,10 +2,9 @@
 use Rattle.std.proofs.Common.{◌≡◌, ◌≢◌, ℕ, zero, suc, ◌<◌, inl, inr, List, [], ◌∷◌, Option, Some, None, length, slice_get, slice_set, get_or, replicate, sym, ap, ◌∙◌, refl, arith}
 use Rattle.std.specs.Prelude.{◌⊎◌}
 use Rattle.std.proofs.lemmas.Bool.{cases_eq}
-use Rattle.std.proofs.lemmas.List.{set-set}
 use mathlib.Core.Path.{fun_ext}
 use Rattle.oe_theory.specs.World.{set}
-use Rattle.oe_theory.proofs.Sets.{set_same, set_other, some_inj}
+use Rattle.oe_theory.proofs.Sets.{set_same, set_other}
 
 get_or_same : {X : Type 0} (xs : List X) (i : ℕ) (x d : X) → i < length xs → get_or (slice_set xs i x) i d ≡ x
 get_or_same [] i x d h = absurd (omega arith)

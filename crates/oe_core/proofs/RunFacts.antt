@@ -10,7 +10,6 @@ use Rattle.oe_theory.proofs.StepTheorems.{endings_are_whole, audit_ends_none}
 use Rattle.oe_steps.specs.declared.steps.Step.{Step}
 use Rattle.oe_steps.specs.declared.answers.Answer.{Answer}
 use Rattle.oe_model.specs.Audits as model
-use Rattle.oe_model.specs.Rows.{Rows}
 use Rattle.oe_model.specs.System.{system}
 use Rattle.oe_model.proofs.SystemLaws.{laws}
 use Rattle.oe_model.proofs.ConsistencyFacts.{consistent}

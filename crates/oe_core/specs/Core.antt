@@ -10,12 +10,14 @@ use Rattle.oe_requests.specs.declared.requests.Request.TheVariants as request
 use Rattle.oe_requests.specs.declared.refusals.Refusal.{Refusal}
 use Rattle.oe_requests.specs.declared.refusals.Refusal.TheVariants as refusal
 use Rattle.oe_requests.specs.declared.replies.Reply.{Reply}
-use Rattle.oe_model.specs.Places.{Place, InPayment, NoProgram}
-use Rattle.oe_model.specs.System.{system}
+use Rattle.oe_model.specs.Places.{Place, InPayment, InNewOrder, NoProgram}
+use Rattle.oe_model.specs.System.{system, taken}
 use Rattle.oe_engine.specs.View.{View, view_of, Handle, IsOpen}
 use Rattle.oe_engine.specs.View as engine
 use Rattle.oe_engine.specs.Calls.{rolled_back}
-use Rattle.oe_engine.specs.Programs.{payment_reply}
+use Rattle.oe_engine.specs.Programs.{tx_of, reply_at}
+use Rattle.oe_neworder.specs.Program as neworder
+use Rattle.oe_neworder.specs.Steps.{HoldsAll}
 use Rattle.oe_core.specs.Steps.{IsNumber}
 use Rattle.oe_core.specs.declared.programs.Program.{Program}
 use Rattle.oe_core.specs.declared.programs.Program.TheVariants as program
@@ -30,22 +32,30 @@ pub record Stored : Type 0 where
 -- the program is one of this request
 abbrev pub IsOf : Request → Program → Type 0
 IsOf (request.Payment q) (program.Payment p) = IsNumber q.customer
-IsOf (request.NewOrder q) p = ⊥
-IsOf (request.Delivery q) p = ⊥
-IsOf (request.Deliveries q) p = ⊥
-IsOf (request.Rename q) p = ⊥
+IsOf (request.Payment q) _ = ⊥
+IsOf (request.NewOrder q) (program.NewOrder p) = Unit {0}
+IsOf (request.NewOrder q) _ = ⊥
+IsOf (request.Delivery q) _ = ⊥
+IsOf (request.Deliveries q) _ = ⊥
+IsOf (request.Rename q) _ = ⊥
 
 -- the row that it comes to next
 abbrev pub place_of : Request → Program → Place
 place_of (request.Payment q) (program.Payment p) = InPayment q p
-place_of (request.NewOrder q) p = NoProgram
-place_of (request.Delivery q) p = NoProgram
-place_of (request.Deliveries q) p = NoProgram
-place_of (request.Rename q) p = NoProgram
+place_of (request.Payment q) _ = NoProgram
+place_of (request.NewOrder q) (program.NewOrder p) = InNewOrder q (neworder.place_of q p)
+place_of (request.NewOrder q) _ = NoProgram
+place_of (request.Delivery q) _ = NoProgram
+place_of (request.Deliveries q) _ = NoProgram
+place_of (request.Rename q) _ = NoProgram
 
 -- its reply, at its end
-abbrev pub reply_of : Program → Option Reply
-reply_of (program.Payment p) = payment_reply p
+abbrev pub reply_of : Request → Program → Option Reply
+reply_of q p = reply_at (place_of q p)
+
+-- the names that are taken on the way to that row are held
+abbrev pub HoldsTaken : engine.Stored → Handle → Request → Program → Type 0
+HoldsTaken s x q p = HoldsAll (view_of s) x.terminal (taken (tx_of s x q) (place_of q p))
 
 -- what stands in a terminal's place
 abbrev pub in_place : {X : Type 0} → List (Option X) → ℕ → Option X

@@ -292,12 +292,12 @@ fn keeps_open(refusal: &Refusal) -> bool
 #[inline(never)]
 fn commit(engine: &mut Engine, tx: Tx, request: &Request, program: &Program) -> Moment
     requires open { IsOpen engine.old tx }
-    requires ready { IsSome (reply_of program.now) }
+    requires ready { IsSome (reply_of request.now program.now) }
     ensures moment { result ≡ suc (total terminal_limit (view_of engine.old).counts) }
-    ensures committed { IfSome (reply_of program.now) (λ y. view_of engine.new ≡ committed tx.terminal request.now y (view_of engine.old)) }
+    ensures committed { IfSome (reply_of request.now program.now) (λ y. view_of engine.new ≡ committed tx.terminal request.now y (view_of engine.old)) }
     ensures name { engine.new.name ≡ engine.old.name }
 {
-    match engine.commit(tx, request.copied(), program.reply()) {
+    match engine.commit(tx, request.copied(), program.reply(request)) {
         Ok(moment) => moment,
         Err(_) => unreachable!(),
     }

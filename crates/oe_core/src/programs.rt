@@ -1,9 +1,10 @@
 //! The programs of transactions.
 ghost use Rattle.std.specs.Prelude.{◌≡◌, Some, IsSome};
 ghost use Rattle.oe_model.specs.System.{start_of};
+ghost use Rattle.oe_engine.specs.View.{IsOpen};
 ghost use Rattle.oe_engine.specs.Programs.{Progresses};
 ghost use Rattle.oe_core.specs.Steps.{HasProgram};
-ghost use Rattle.oe_core.specs.Core.{IsOf, place_of, reply_of};
+ghost use Rattle.oe_core.specs.Core.{IsOf, place_of, reply_of, HoldsTaken};
 
 use oe_engine::{Engine, Progress, Tx};
 use oe_requests::{Reply, Request};
@@ -12,6 +13,7 @@ use oe_requests::{Reply, Request};
 #[derive(Drop)]
 pub enum Program {
     Payment(oe_payment::Program),
+    NewOrder(oe_neworder::Program),
 }
 
 impl Program {
@@ -23,6 +25,7 @@ impl Program {
     {
         match request {
             Request::Payment(_) => Program::Payment(oe_payment::Program::new()),
+            Request::NewOrder(_) => Program::NewOrder(oe_neworder::Program::new()),
             _ => unreachable!(),
         }
     }
@@ -33,6 +36,7 @@ impl Program {
     {
         match self {
             Program::Payment(program) => Program::Payment(program.copied()),
+            Program::NewOrder(program) => Program::NewOrder(program.copied()),
         }
     }
 
@@ -43,28 +47,40 @@ impl Program {
         *self = other.copied();
     }
 
-    /// A copy of the reply, at the end. It takes no memory.
-    pub fn reply(&self) -> Reply
-        requires { IsSome (reply_of self.now) }
-        ensures { reply_of self.now ≡ Some result }
+    /// The reply to this request, whose program is at its end. It takes no memory.
+    pub fn reply(&self, request: &Request) -> Reply
+        requires { IsSome (reply_of request.now self.now) }
+        ensures { reply_of request.now self.now ≡ Some result }
     {
         match self {
             Program::Payment(program) => match program.reply() {
                 Some(reply) => Reply::Payment(reply.copied()),
                 None => unreachable!(),
             },
+            Program::NewOrder(program) => match request {
+                Request::NewOrder(order) => match program.reply(order) {
+                    Some(reply) => Reply::NewOrder(reply),
+                    None => unreachable!(),
+                },
+                _ => unreachable!(),
+            },
         }
     }
 
     /// One row of the program of this request: its lock and its change. `Refused` leaves all as it was.
     pub fn next(&mut self, request: &Request, engine: &mut Engine, tx: &Tx) -> Progress
-        requires { IsOf request.now self.old }
+        requires of { IsOf request.now self.old }
+        requires held { IsOpen engine.old tx.now → HoldsTaken engine.old tx.now request.now self.old }
         ensures progresses { Progresses request.now tx.now engine.old (place_of request.now self.old) result engine.new (place_of request.now self.new) }
         ensures of { IsOf request.now self.new }
     {
         match self {
             Program::Payment(program) => match request {
                 Request::Payment(payment) => program.next(payment, engine, tx),
+                _ => unreachable!(),
+            },
+            Program::NewOrder(program) => match request {
+                Request::NewOrder(order) => program.next(order, engine, tx),
                 _ => unreachable!(),
             },
         }

@@ -1,12 +1,12 @@
 //! Why a request is turned away before anything else is looked at (clause 2.1.1 has warehouses 1 to W).
-ghost use Rattle.std.specs.Prelude.{◌≡◌, [], ◌∷◌};
+ghost use Rattle.std.specs.Prelude.{◌≡◌, [], ◌∷◌, map};
 ghost use Rattle.oe_model.specs.Requests.{first_absent};
 ghost use Rattle.oe_model.specs.Requests as model;
 ghost use Rattle.oe_store.specs.Stored.{rows};
 ghost use Rattle.oe_core.specs.Steps.{HasProgram};
 
 use oe_keys::{Key, WarehouseKey};
-use oe_requests::{Refusal, Request};
+use oe_requests::{Refusal, Request, RequestLine};
 use oe_store::Tables;
 use oe_values::WarehouseNumber;
 
@@ -20,6 +20,18 @@ fn absent(tables: &Tables, warehouse: WarehouseNumber) -> Option<Refusal>
     }
 }
 
+/// `NoSuchRow` of the first warehouse, in line order, that is to supply an item and isn't there.
+fn absent_supply(tables: &Tables, lines: &[RequestLine]) -> Option<Refusal>
+    ensures { result ≡ first_absent (map (λ l. l.supply) lines.now) (rows tables.now) }
+{
+    for line in lines {
+        if let Some(refusal) = absent(tables, line.supply) {
+            return Some(refusal);
+        }
+    }
+    None
+}
+
 /// `NoSuchRow` of the first warehouse, from the left, that the request names and that isn't there.
 pub fn rejection(tables: &Tables, request: &Request) -> Option<Refusal>
     requires { HasProgram request.now }
@@ -29,6 +41,10 @@ pub fn rejection(tables: &Tables, request: &Request) -> Option<Refusal>
         Request::Payment(payment) => match absent(tables, payment.district.warehouse) {
             Some(refusal) => Some(refusal),
             None => absent(tables, payment.customer_district.warehouse),
+        },
+        Request::NewOrder(order) => match absent(tables, order.district.warehouse) {
+            Some(refusal) => Some(refusal),
+            None => absent_supply(tables, order.lines.as_slice()),
         },
         _ => unreachable!(),
     }

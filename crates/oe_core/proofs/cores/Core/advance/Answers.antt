@@ -1,6 +1,5 @@
 use Rattle.std.proofs.Common.{Some, refl, sym, ap, subst, ◌∙◌, ◌≡◌, ℕ, slice_set}
 use Rattle.std.specs.Prelude.{IsSome, IfSome}
-use Rattle.oe_requests.specs.declared.replies.Reply.{Reply}
 use Rattle.oe_theory.specs.Next.{Advance, More, Committed}
 use Rattle.oe_engine.specs.View.{view_of}
 use Rattle.oe_engine.specs.View as engine
@@ -9,7 +8,7 @@ use Rattle.oe_steps.specs.declared.steps.Step.TheVariants as step
 use Rattle.oe_core.specs.Core.{Moves, reply_of}
 use Rattle.oe_core.specs.Steps.{refusal_in}
 use Rattle.oe_core.proofs.MoveFacts.{carries, nothing_open, HasOpen, lent_tx, lent_here, own_work}
-use Rattle.oe_core.proofs.AdvanceFacts.{went_on_here, taken_is, taken_is_open, has_reply, committed_here, told_newest, kept_here, given_up_here}
+use Rattle.oe_core.proofs.AdvanceFacts.{holds_taken, went_on_here, taken_is, taken_is_open, has_reply, committed_here, told_newest, kept_here, given_up_here}
 use Rattle.oe_core.proofs.cores.Core.advance.Goals.{In-Some-index_mut, In-Ready, After-self-in-More-1, After-self-in-Ready-1, Then-keeps_open, After-roll_back}
 use Rattle.oe_core.proofs.cores.Core.advance.Goals as goal
 
@@ -24,8 +23,11 @@ is_there : (c : In-Some-index_mut) → HasOpen (record { engine = c.self.inside.
 is_there c =
     lent_here c.self.invariant c.place.ensures.value c.place.ensures.high c.index.ensures c.in-Some.is c.place-2.ensures.value c.place-2.ensures.high c.index_mut.ensures.value c.in-Some-index_mut.is
 
-pub next-requires : goal.next-requires
-next-requires c = (own_work (is_there (goal.at.next-requires c).In-Some-index_mut)).program
+pub next-requires-clause-of : goal.next-requires-clause-of
+next-requires-clause-of c = (own_work (is_there (goal.at.next-requires-clause-of c).In-Some-index_mut)).program
+
+pub next-requires-clause-held : goal.next-requires-clause-held
+next-requires-clause-held c = λ o. holds_taken (is_there (goal.at.next-requires-clause-held c).In-Some-index_mut)
 
 -- the row went on
 went_on : (c : After-self-in-More-1) → Moves (record { engine = c.self.inside.engine; txs = c.self.inside.txs.items; works = c.self.inside.works.items }) (Advance c.args.terminal) More
@@ -42,10 +44,10 @@ returns-in-More c = rw (← c.self.view_is) (carries (went_on c))
 
 -- it was ready: its program has its reply, and its transaction commits
 has_its_reply : (c : In-Ready) → HasOpen (record { engine = c.self.inside.engine; txs = c.self.inside.txs.items; works = c.self.inside.works.items }) c.args.terminal c.in-Some.tx c.in-Some-index_mut.work
-    → reply_of c.next.new.self ≡ Some c.in-Ready.ensures.progresses.0.0
+    → reply_of c.in-Some-index_mut.work.request c.next.new.self ≡ Some c.in-Ready.ensures.progresses.0.0
 has_its_reply c here =
     let ready = c.in-Ready.ensures.progresses in
-    has_reply here c.next.new.self c.in-Ready.ensures.of ready.2 ready.0.0 ready.0.1
+    has_reply here c.next.new.self ready.2 ready.0.0 ready.0.1
 
 pub commit-requires-clause-open : goal.commit-requires-clause-open
 commit-requires-clause-open c =
@@ -63,7 +65,7 @@ committed_now : (c : After-self-in-Ready-1) → Moves (record { engine = c.self.
 committed_now c =
     let here = is_there (goal.at.returns-in-Ready c).In-Some-index_mut in
     let ready = c.in-Ready.ensures.progresses in
-    let reply : reply_of c.next.new.self ≡ Some ready.0.0 = has_its_reply (goal.at.returns-in-Ready c).In-Ready here in
+    let reply : reply_of c.in-Some-index_mut.work.request c.next.new.self ≡ Some ready.0.0 = has_its_reply (goal.at.returns-in-Ready c).In-Ready here in
     committed_here here c.open_tx-open.result (taken_is here c.open_tx-open.result c.open_tx-open.ensures.value) ready.0.0 c.commit.result c.next.new.engine c.commit.new.engine _ _ (Some (record c.in-Some-index_mut.work { program = c.next.new.self }))
     ready.0.1 ready.1 c.commit.ensures.moment
     (subst (λ o. IfSome o (λ y. view_of c.commit.new.engine ≡ committed c.open_tx-open.result.terminal c.in-Some-index_mut.work.request y (view_of c.next.new.engine))) reply c.commit.ensures.committed)
