@@ -1,17 +1,21 @@
 -- What is read is said, and what is said is read.
-use Rattle.std.proofs.Common.{◌≡◌, ℕ, ◌^◌, ◌<◌, ◌⊎◌, inl, inr, List, [], ◌∷◌, ◌++◌, Bool, true, false, cond, Option, Some, None, IfSome, decimal, codes, sym, ap, ◌∙◌, refl, append-nil, arith, lit<}
+use Rattle.std.proofs.Common.{◌≡◌, ℕ, zero, suc, ◌^◌, ◌<◌, ◌≤◌, ◌⊎◌, inl, inr, List, [], ◌∷◌, ◌++◌, map, length, Bool, true, false, cond, Option, Some, None, IfSome, decimal, codes, nat_le, sym, ap, ◌∙◌, refl, append-nil, append_assoc, le-leb, arith, lit<}
 use Rattle.std.specs.Option.{option_map}
 use Rattle.std.specs.Int.{IsInRange}
-use Rattle.std.specs.List.{join_with_byte}
+use Rattle.std.specs.List.{All, join_with_byte}
+use Rattle.std.proofs.lemmas.Bool.{leb-true}
+use Rattle.std.proofs.lemmas.List.Elements.{All-nil, All-cons, All-head, All-tail}
 use Rattle.std.proofs.lemmas.Fmt.{decimal_digit}
 use Rattle.oe_rows.specs.Credit.{money_text}
-use Rattle.oe_keys.specs.Key.{table_name, IsDistrictKey}
+use Rattle.oe_keys.specs.Key.{table_name}
 use Rattle.oe_keys.specs.declared.keys.DistrictKey.{DistrictKey}
 use Rattle.oe_keys.specs.declared.keys.Table.{Table}
 use Rattle.oe_keys.specs.declared.keys.Table.TheVariants as table
 use Rattle.oe_requests.specs.declared.requests.CustomerChoice.{CustomerChoice}
 use Rattle.oe_requests.specs.declared.requests.CustomerChoice.TheVariants as choice
 use Rattle.oe_requests.specs.declared.requests.PaymentRequest.{PaymentRequest}
+use Rattle.oe_requests.specs.declared.requests.RequestLine.{RequestLine}
+use Rattle.oe_requests.specs.declared.requests.NewOrderRequest.{NewOrderRequest}
 use Rattle.oe_requests.specs.declared.requests.Request.{Request}
 use Rattle.oe_requests.specs.declared.requests.Request.TheVariants as request
 use Rattle.oe_steps.specs.Condition.{condition_number}
@@ -23,13 +27,14 @@ use Rattle.oe_lines.specs.declared.commands.Command.TheVariants as command
 use Rattle.oe_lines.specs.declared.commands.MomentChoice.{MomentChoice}
 use Rattle.oe_lines.specs.declared.commands.MomentChoice.TheVariants as moment
 use Rattle.oe_lines.specs.declared.commands.Scale.{Scale}
-use Rattle.oe_lines.specs.Grammar.{Says, HasForm, IsScale, IsRequest, IsPayment, IsCustomer, IsAudited, IsMoment, words_of, customer_word, moment_word}
-use Rattle.oe_lines.specs.Reading.{begun, table_of, moment_of, audit_of, opening_of, district_of, payment_of, beginning_of, terminal_of, rare_command_of, command_of}
-use Rattle.oe_lines.specs.Words.{is_word, within, number_before, last_number, amount_before, stamp_of}
-use Rattle.oe_lines.proofs.StampFacts.{stamp_found, stamp_only}
+use Rattle.oe_model.specs.Requests.{IsDistrict, IsChoice, IsPayment, IsRequestLine, IsNewOrder}
+use Rattle.oe_lines.specs.Grammar.{Says, HasForm, IsScale, IsRequest, IsNumbered, IsMoment, words_of, request_words, customer_word, line_word, moment_word}
+use Rattle.oe_lines.specs.Reading.{begun, table_of, moment_of, audit_of, opening_of, district_of, payment_of, line_of, line_and, lines_within, lines_of, new_order_of, request_of, beginning_of, terminal_of, rare_command_of, command_of}
+use Rattle.oe_lines.specs.Words.{is_word, within, number_of, number_then, number_before, last_number, amount_before, stamp_of, stamp_before}
+use Rattle.oe_lines.proofs.StampFacts.{stamp_found, stamp_only, stamp_before_found, stamp_before_only}
 use Rattle.oe_values.specs.Front.{after_of, decimal_of, alone}
-use Rattle.oe_values.proofs.FrontFacts.{bind_some, some_same, chosen, alone_found, after_found, decimal_found, decimal_only}
-use Rattle.oe_lines.proofs.WordFacts.{map_some, word_is, within_found, within_only, before_found, before_only, last_found, last_only, amount_found, amount_only}
+use Rattle.oe_values.proofs.FrontFacts.{bind_some, some_same, chosen, guarded, ends, alone_found, after_found, after_only, decimal_found, decimal_only}
+use Rattle.oe_lines.proofs.WordFacts.{map_some, word_is, within_found, within_only, number_found, number_only, then_found, then_only, before_found, before_only, last_found, last_only, amount_found, amount_only}
 
 -- the next link of a chain of tests on a word
 named : {A : Type 0} (s w : List ℕ) (x z : A) (rest : Option A) → cond (is_word s w) (Some x) rest ≡ Some z
@@ -91,6 +96,12 @@ one = decimal_digit 1 (lit< tt)
 two : decimal 2 ≡ codes "2"
 two = decimal_digit 2 (lit< tt)
 
+three : decimal 3 ≡ codes "3"
+three = decimal_digit 3 (lit< tt)
+
+four : decimal 4 ≡ codes "4"
+four = decimal_digit 4 (lit< tt)
+
 moment_found : (s : List ℕ) (m : MomentChoice) → moment_of s ≡ Some m → (s ≡ moment_word m) × IsMoment m
 unfolding moment_of
 moment_found s m e = elim (chosen (is_word s (codes "now")) _ _ (Some m) e) [
@@ -124,30 +135,36 @@ moment_only (moment.At n) h =
     rw (no_word n (omega arith) _ refl, ← append-nil (decimal n), decimal_only n [] (omega arith) refl, within_only 0 999_999_999_999 n (omega arith) h)
     refl
 
-audited_found : (c : Condition) (w s : List ℕ) (d : Command) → w ≡ decimal (condition_number c) → IsAudited c → option_map (λ m. command.Audit c m) (moment_of s) ≡ Some d
+audited_found : (c : Condition) (w s : List ℕ) (d : Command) → w ≡ decimal (condition_number c) → option_map (λ m. command.Audit c m) (moment_of s) ≡ Some d
     → Says (codes "audit" ++ 32 ∷ (w ++ 32 ∷ s)) d
-audited_found c w s d e h f =
+audited_found c w s d e f =
     let m = map_some (λ m. command.Audit c m) (moment_of s) d f in
     let g = moment_found s m.0 m.1 in
     says_at _ _ d (command.Audit c m.0) (ap (λ z. codes "audit" ++ 32 ∷ z) (ap (λ z. z ++ 32 ∷ s) e ∙ ap (λ z. decimal (condition_number c) ++ 32 ∷ z) g.0)) m.2
-    (record { form = (h, g.1); spelled = refl })
+    (record { form = g.1; spelled = refl })
 
 audit_found : (s : List ℕ) (d : Command) → audit_of s ≡ Some d → Says (codes "audit" ++ 32 ∷ s) d
 unfolding audit_of
 audit_found s d e = elim (begun_some (after_of (codes "1 ") s) _ _ d e) [
-  | inl h ↦ rw (after_found (codes "1 ") s h.0 h.1) (audited_found condition.First (codes "1") h.0 d (sym one) tt h.2)
-  | inr e ↦ elim (begun_some (after_of (codes "2 ") s) _ None d e) [
-    | inl h ↦ rw (after_found (codes "2 ") s h.0 h.1) (audited_found condition.Second (codes "2") h.0 d (sym two) tt h.2)
-    | inr e ↦ cc
+  | inl h ↦ rw (after_found (codes "1 ") s h.0 h.1) (audited_found condition.First (codes "1") h.0 d (sym one) h.2)
+  | inr e ↦ elim (begun_some (after_of (codes "2 ") s) _ _ d e) [
+    | inl h ↦ rw (after_found (codes "2 ") s h.0 h.1) (audited_found condition.Second (codes "2") h.0 d (sym two) h.2)
+    | inr e ↦ elim (begun_some (after_of (codes "3 ") s) _ _ d e) [
+      | inl h ↦ rw (after_found (codes "3 ") s h.0 h.1) (audited_found condition.Third (codes "3") h.0 d (sym three) h.2)
+      | inr e ↦ elim (begun_some (after_of (codes "4 ") s) _ None d e) [
+        | inl h ↦ rw (after_found (codes "4 ") s h.0 h.1) (audited_found condition.Fourth (codes "4") h.0 d (sym four) h.2)
+        | inr e ↦ cc
+      ]
+    ]
   ]
 ]
 
-audit_only : (c : Condition) (m : MomentChoice) → IsAudited c → IsMoment m → audit_of (decimal (condition_number c) ++ 32 ∷ moment_word m) ≡ Some (command.Audit c m)
+audit_only : (c : Condition) (m : MomentChoice) → IsMoment m → audit_of (decimal (condition_number c) ++ 32 ∷ moment_word m) ≡ Some (command.Audit c m)
 unfolding audit_of
-audit_only condition.First m h k = rw (one, moment_only m k) refl
-audit_only condition.Second m h k = rw (two, moment_only m k) refl
-audit_only condition.Third m h k = elim h [ ]
-audit_only condition.Fourth m h k = elim h [ ]
+audit_only condition.First m k = rw (one, moment_only m k) refl
+audit_only condition.Second m k = rw (two, moment_only m k) refl
+audit_only condition.Third m k = rw (three, moment_only m k) refl
+audit_only condition.Fourth m k = rw (four, moment_only m k) refl
 
 -- openings
 
@@ -186,7 +203,7 @@ opening_only s x h k =
 abbrev district_words : DistrictKey → List ℕ → List ℕ
 district_words d rest = decimal d.warehouse ++ 32 ∷ (decimal d.district ++ 32 ∷ rest)
 
-district_found : (s : List ℕ) (p : DistrictKey × List ℕ) → district_of s ≡ Some p → (s ≡ district_words p.0 p.1) × IsDistrictKey p.0
+district_found : (s : List ℕ) (p : DistrictKey × List ℕ) → district_of s ≡ Some p → (s ≡ district_words p.0 p.1) × IsDistrict p.0
 unfolding district_of
 district_found s p e =
     let a = bind_some (number_before 1 16 s) _ p e in
@@ -194,19 +211,19 @@ district_found s p e =
     let f = before_found 1 16 s a.0.0 a.0.1 a.1 in
     let g = before_found 1 10 a.0.1 b.0.0 b.0.1 b.1 in
     rw (← some_same (record { warehouse = a.0.0; district = b.0.0 }, b.0.1) p b.2)
-    (f.0 ∙ ap (λ z. decimal a.0.0 ++ 32 ∷ z) g.0, record { warehouse = (f.1, f.2); district = (g.1, g.2) })
+    (f.0 ∙ ap (λ z. decimal a.0.0 ++ 32 ∷ z) g.0, ((f.1, f.2), (g.1, g.2)))
 
-district_only : (d : DistrictKey) (rest : List ℕ) → IsDistrictKey d → district_of (district_words d rest) ≡ Some (d, rest)
+district_only : (d : DistrictKey) (rest : List ℕ) → IsDistrict d → district_of (district_words d rest) ≡ Some (d, rest)
 unfolding district_of
 district_only d rest h =
-    rw (before_only 1 16 d.warehouse _ (omega arith) h.warehouse, before_only 1 10 d.district rest (omega arith) h.district) refl
+    rw (before_only 1 16 d.warehouse _ (omega arith) h.0, before_only 1 10 d.district rest (omega arith) h.1) refl
 
 abbrev payment_words : PaymentRequest → List ℕ
 payment_words p =
     district_words p.district (district_words p.customer_district
     (customer_word p.customer ++ 32 ∷ (money_text p.amount ++ 32 ∷ stamp_text p.stamp)))
 
-payment_found : (s : List ℕ) (p : PaymentRequest) → payment_of s ≡ Some p → (s ≡ payment_words p) × IsPayment p
+payment_found : (s : List ℕ) (p : PaymentRequest) → payment_of s ≡ Some p → (s ≡ payment_words p) × IsPayment p × IsNumbered p.customer
 unfolding payment_of
 payment_found s p e =
     let a = bind_some (district_of s) _ p e in
@@ -224,9 +241,10 @@ payment_found s p e =
     rw (← same) (
       f.0 ∙ ap (district_words a.0.0) (g.0 ∙ ap (district_words b.0.0) last),
       record { district = f.1; customer_district = g.1; customer = (h.1, h.2); amount = (i.1, i.2); stamp = j.1 },
+      tt,
     )
 
-payment_numbered : (at home : DistrictKey) (n amount stamp : ℕ) → IsDistrictKey at → IsDistrictKey home → IsInRange 1 3_000 n → IsInRange 100 500_000 amount → stamp < 6_342_969_600
+payment_numbered : (at home : DistrictKey) (n amount stamp : ℕ) → IsDistrict at → IsDistrict home → IsInRange 1 3_000 n → IsInRange 100 500_000 amount → stamp < 6_342_969_600
     → payment_of (district_words at (district_words home (decimal n ++ 32 ∷ (money_text amount ++ 32 ∷ stamp_text stamp))))
     ≡ Some (record { district = at; customer_district = home; customer = choice.Number n; amount = amount; stamp = stamp })
 unfolding payment_of
@@ -240,34 +258,189 @@ payment_numbered at home n amount stamp p q r s t =
     )
     refl
 
-payment_only : (at home : DistrictKey) (c : CustomerChoice) (amount stamp : ℕ) → IsDistrictKey at → IsDistrictKey home → IsCustomer c → IsInRange 100 500_000 amount → stamp < 6_342_969_600
+payment_only : (at home : DistrictKey) (c : CustomerChoice) (amount stamp : ℕ) → IsDistrict at → IsDistrict home → IsChoice c → IsNumbered c → IsInRange 100 500_000 amount → stamp < 6_342_969_600
     → payment_of (district_words at (district_words home (customer_word c ++ 32 ∷ (money_text amount ++ 32 ∷ stamp_text stamp))))
     ≡ Some (record { district = at; customer_district = home; customer = c; amount = amount; stamp = stamp })
-payment_only at home (choice.Number n) amount stamp p q r s t = payment_numbered at home n amount stamp p q r s t
-payment_only at home (choice.LastName name) amount stamp p q r s t = elim r [ ]
+payment_only at home (choice.Number n) amount stamp p q r b s t = payment_numbered at home n amount stamp p q r s t
+payment_only at home (choice.LastName name) amount stamp p q r b s t = elim b [ ]
+
+-- orders
+
+line_found : (s : List ℕ) (p : RequestLine × List ℕ) → line_of s ≡ Some p → (s ≡ line_word p.0 ++ p.1) × IsRequestLine p.0
+unfolding line_of
+line_found s p e =
+    let a = bind_some (number_then 58 1 16 s) _ p e in
+    let b = bind_some (number_then 58 1 999_999 a.0.1) _ p a.2 in
+    let c = bind_some (number_of 1 10 b.0.1) _ p b.2 in
+    let f = then_found 58 1 16 s a.0.0 a.0.1 a.1 in
+    let g = then_found 58 1 999_999 a.0.1 b.0.0 b.0.1 b.1 in
+    let h = number_found 1 10 b.0.1 c.0.0 c.0.1 c.1 in
+    let item : a.0.1 ≡ (decimal b.0.0 ++ 58 ∷ decimal c.0.0) ++ c.0.1 =
+    g.0 ∙ ap (λ z. decimal b.0.0 ++ 58 ∷ z) h.0 ∙ sym (append_assoc (decimal b.0.0) (58 ∷ decimal c.0.0) c.0.1) in
+    rw (← some_same (record { supply = a.0.0; item = b.0.0; quantity = c.0.0 }, c.0.1) p c.2) (
+      f.0 ∙ ap (λ z. decimal a.0.0 ++ 58 ∷ z) item ∙ sym (append_assoc (decimal a.0.0) (58 ∷ (decimal b.0.0 ++ 58 ∷ decimal c.0.0)) c.0.1),
+      record { supply = (f.1, f.2); item = (g.1, g.2); quantity = (h.1, h.2) },
+    )
+
+line_only : (l : RequestLine) (rest : List ℕ) → IsRequestLine l → ends rest ≡ true → line_of (line_word l ++ rest) ≡ Some (l, rest)
+unfolding line_of
+line_only l rest h e =
+    rw (
+      append_assoc (decimal l.supply) (58 ∷ (decimal l.item ++ 58 ∷ decimal l.quantity)) rest,
+      append_assoc (decimal l.item) (58 ∷ decimal l.quantity) rest,
+      then_only 58 1 16 l.supply _ (omega arith) h.supply refl,
+      then_only 58 1 999_999 l.item _ (omega arith) h.item refl,
+      number_only 1 10 l.quantity rest (omega arith) h.quantity e,
+    )
+    refl
+
+abbrev lines_text : List RequestLine → List ℕ
+lines_text ls = join_with_byte 32 (map line_word ls)
+
+-- the lines that were found
+abbrev AreLines : List ℕ → ℕ → List RequestLine → Type 0
+AreLines s n ls = (s ≡ lines_text ls) × All IsRequestLine ls × (length ls ≤ n) × (0 < length ls)
+
+and_found : (n : ℕ) (l : RequestLine) (s : List ℕ) (ls : List RequestLine) → IsRequestLine l
+    → ((t : List ℕ) (ks : List RequestLine) → lines_within n t ≡ Some ks → AreLines t n ks)
+    → line_and l (lines_within n) s ≡ Some ls → AreLines (line_word l ++ s) (suc n) ls
+and_found n l [] ls h more e =
+    rw (← some_same (l ∷ []) ls e) (append-nil (line_word l), All-cons IsRequestLine l [] h (All-nil IsRequestLine), omega arith, omega arith)
+and_found n l (b ∷ s) ls h more e =
+    let a = bind_some (after_of (codes " ") (b ∷ s)) _ ls e in
+    let m = bind_some (lines_within n a.0) _ ls a.2 in
+    let f = more a.0 m.0 m.1 in
+    let spaced : b ∷ s ≡ 32 ∷ a.0 = after_found (codes " ") (b ∷ s) a.0 a.1 in
+    let one : line_word l ++ b ∷ s ≡ lines_text (l ∷ m.0) = ap (λ z. line_word l ++ z) spaced ∙ joined l m.0 a.0 f.0 f.3 in
+    rw (← some_same (l ∷ m.0) ls m.2) (one, All-cons IsRequestLine l m.0 h f.1, omega (arith, f.2), omega arith)
+  where
+    joined : (l : RequestLine) (ks : List RequestLine) (t : List ℕ) → t ≡ lines_text ks → 0 < length ks → line_word l ++ 32 ∷ t ≡ lines_text (l ∷ ks)
+    joined l [] t e h = absurd (omega (arith, h))
+    joined l (k ∷ ks) t e h = ap (λ z. line_word l ++ 32 ∷ z) e
+
+within_lines_found : (n : ℕ) (s : List ℕ) (ls : List RequestLine) → lines_within n s ≡ Some ls → AreLines s n ls
+within_lines_found zero s ls e = cc
+within_lines_found (suc n) s ls e =
+    let a = bind_some (line_of s) _ ls e in
+    let f = line_found s a.0 a.1 in
+    let g = and_found n a.0.0 a.0.1 ls f.1 (within_lines_found n) a.2 in
+    (f.0 ∙ g.0, g.1, g.2, g.3)
+
+within_lines_only : (n : ℕ) (l : RequestLine) (ls : List RequestLine) → length (l ∷ ls) ≤ n → All IsRequestLine (l ∷ ls) → lines_within n (lines_text (l ∷ ls)) ≡ Some (l ∷ ls)
+within_lines_only zero l ls h k = absurd (omega (arith, h))
+within_lines_only (suc n) l [] h k =
+    rw (← append-nil (line_word l), line_only l [] (All-head IsRequestLine l [] k) refl) refl
+within_lines_only (suc n) l (m ∷ ms) h k =
+    rw (line_only l (32 ∷ lines_text (m ∷ ms)) (All-head IsRequestLine l (m ∷ ms) k) refl, within_lines_only n m ms (omega (arith, h)) (All-tail IsRequestLine l (m ∷ ms) k)) refl
+
+lines_found : (s : List ℕ) (ls : List RequestLine) → lines_of s ≡ Some ls → (s ≡ lines_text ls) × All IsRequestLine ls × IsInRange 5 15 (length ls)
+unfolding lines_of
+lines_found s ls e =
+    let a = bind_some (lines_within 15 s) _ ls e in
+    let g = guarded (nat_le 5 (length a.0)) (Some a.0) ls a.2 in
+    let f = within_lines_found 15 s a.0 a.1 in
+    rw (← some_same a.0 ls g.1) (f.0, f.1, (leb-true 5 (length a.0) g.0, f.2))
+
+lines_only : (ls : List RequestLine) → All IsRequestLine ls → IsInRange 5 15 (length ls) → lines_of (lines_text ls) ≡ Some ls
+unfolding lines_of
+lines_only [] h k = absurd (omega (arith, k.0))
+lines_only (l ∷ ls) h k = rw (within_lines_only 15 l ls k.1 h, le-leb 5 (length (l ∷ ls)) k.0) refl
+
+abbrev new_order_words : NewOrderRequest → List ℕ
+new_order_words q = district_words q.district (decimal q.customer ++ 32 ∷ (stamp_text q.stamp ++ 32 ∷ lines_text q.lines))
+
+new_order_found : (s : List ℕ) (q : NewOrderRequest) → new_order_of s ≡ Some q → (s ≡ new_order_words q) × IsNewOrder q
+unfolding new_order_of
+new_order_found s q e =
+    let a = bind_some (district_of s) _ q e in
+    let b = bind_some (number_before 1 3_000 a.0.1) _ q a.2 in
+    let c = bind_some (stamp_before b.0.1) _ q b.2 in
+    let d = bind_some (lines_of c.0.1) _ q c.2 in
+    let f = district_found s a.0 a.1 in
+    let g = before_found 1 3_000 a.0.1 b.0.0 b.0.1 b.1 in
+    let h = stamp_before_found b.0.1 c.0.0 c.0.1 c.1 in
+    let i = lines_found c.0.1 d.0 d.1 in
+    let last = g.0 ∙ ap (λ z. decimal b.0.0 ++ 32 ∷ z) (h.0 ∙ ap (λ z. stamp_text c.0.0 ++ 32 ∷ z) i.0) in
+    let same = some_same (record { district = a.0.0; customer = b.0.0; stamp = c.0.0; lines = d.0 }) q d.2 in
+    rw (← same) (
+      f.0 ∙ ap (district_words a.0.0) last,
+      record { district = f.1; customer = (g.1, g.2); stamp = h.1; count = i.2; lines = i.1 },
+    )
+
+new_order_only : (q : NewOrderRequest) → IsNewOrder q → new_order_of (new_order_words q) ≡ Some q
+unfolding new_order_of
+new_order_only q h =
+    rw (
+      district_only q.district _ h.district,
+      before_only 1 3_000 q.customer _ (omega arith) h.customer,
+      stamp_before_only q.stamp _ h.stamp,
+      lines_only q.lines h.lines h.count,
+    )
+    refl
+
+-- requests
+
+-- the words are spelled with a space between each two
+spelled_order : (q : NewOrderRequest) → 0 < length q.lines → join_with_byte 32 (request_words (request.NewOrder q)) ≡ codes "neworder" ++ 32 ∷ new_order_words q
+spelled_order q h = by_lines q.lines h
+  where
+    by_lines : (ls : List RequestLine) → 0 < length ls
+        → join_with_byte 32 (request_words (request.NewOrder (record { district = q.district; customer = q.customer; stamp = q.stamp; lines = ls })))
+        ≡ codes "neworder" ++ 32 ∷ district_words q.district (decimal q.customer ++ 32 ∷ (stamp_text q.stamp ++ 32 ∷ lines_text ls))
+    by_lines [] h = absurd (omega (arith, h))
+    by_lines (l ∷ ls) h = refl
+
+request_found : (s : List ℕ) (r : Request) → request_of s ≡ Some r → (s ≡ join_with_byte 32 (request_words r)) × IsRequest r
+unfolding request_of
+request_found s r e = elim (begun_some (after_of (codes "payment ") s) _ _ r e) [
+  | inl h ↦
+      let p = map_some (λ p. request.Payment p) (payment_of h.0) r h.2 in
+      let f = payment_found h.0 p.0 p.1 in
+      rw (← p.2) (after_found (codes "payment ") s h.0 h.1 ∙ ap (λ z. codes "payment" ++ 32 ∷ z) f.0, (f.1, f.2))
+  | inr e ↦ elim (begun_some (after_of (codes "neworder ") s) _ None r e) [
+    | inl h ↦
+        let q = map_some (λ q. request.NewOrder q) (new_order_of h.0) r h.2 in
+        let f = new_order_found h.0 q.0 q.1 in
+        let count = f.1.count in
+        rw (← q.2) (after_found (codes "neworder ") s h.0 h.1 ∙ ap (λ z. codes "neworder" ++ 32 ∷ z) f.0 ∙ sym (spelled_order q.0 (omega (arith, count.0))), f.1)
+    | inr e ↦ cc
+  ]
+]
+
+request_only : (r : Request) → IsRequest r → request_of (join_with_byte 32 (request_words r)) ≡ Some r
+unfolding request_of
+request_only (request.Payment p) h =
+    let k = h.0 in
+    rw (payment_only p.district p.customer_district p.customer p.amount p.stamp k.district k.customer_district k.customer h.1 k.amount k.stamp) refl
+request_only (request.NewOrder q) h =
+    let count = h.count in
+    ap request_of (spelled_order q (omega (arith, count.0))) ∙ rw (new_order_only q h) refl
+request_only (request.Delivery q) h = elim h [ ]
+request_only (request.Deliveries q) h = elim h [ ]
+request_only (request.Rename q) h = elim h [ ]
+
+-- a request's words stand behind the terminal
+begun_words : (t : ℕ) (r : Request) → IsRequest r → join_with_byte 32 (words_of (command.Begin t r)) ≡ codes "begin" ++ 32 ∷ (decimal t ++ 32 ∷ join_with_byte 32 (request_words r))
+begun_words t (request.Payment p) h = refl
+begun_words t (request.NewOrder q) h = refl
+begun_words t (request.Delivery q) h = elim h [ ]
+begun_words t (request.Deliveries q) h = elim h [ ]
+begun_words t (request.Rename q) h = elim h [ ]
 
 beginning_found : (s : List ℕ) (c : Command) → beginning_of s ≡ Some c → Says (codes "begin" ++ 32 ∷ s) c
 unfolding beginning_of
 beginning_found s c e =
     let t = bind_some (number_before 1 64 s) _ c e in
-    let a = bind_some (after_of (codes "payment ") t.0.1) _ c t.2 in
-    let p = bind_some (payment_of a.0) _ c a.2 in
+    let r = bind_some (request_of t.0.1) _ c t.2 in
     let f = before_found 1 64 s t.0.0 t.0.1 t.1 in
-    let g = payment_found a.0 p.0 p.1 in
-    let spelled =
-    f.0 ∙ ap (λ z. decimal t.0.0 ++ 32 ∷ z) (after_found (codes "payment ") t.0.1 a.0 a.1 ∙ ap (λ z. codes "payment" ++ 32 ∷ z) g.0) in
-    says_at _ _ c (command.Begin t.0.0 (request.Payment p.0)) (ap (λ z. codes "begin" ++ 32 ∷ z) spelled) (some_same _ c p.2)
+    let g = request_found t.0.1 r.0 r.1 in
+    let spelled = f.0 ∙ ap (λ z. decimal t.0.0 ++ 32 ∷ z) g.0 in
+    says_at _ _ c (command.Begin t.0.0 r.0) (ap (λ z. codes "begin" ++ 32 ∷ z) spelled ∙ sym (begun_words t.0.0 r.0 g.1)) (some_same _ c r.2)
     (record { form = ((f.1, f.2), g.1); spelled = refl })
 
-beginning_only : (t : ℕ) (p : PaymentRequest) → IsInRange 1 64 t → IsPayment p
-    → beginning_of (decimal t ++ 32 ∷ (codes "payment" ++ 32 ∷ payment_words p)) ≡ Some (command.Begin t (request.Payment p))
+beginning_only : (t : ℕ) (r : Request) → IsInRange 1 64 t → IsRequest r → beginning_of (decimal t ++ 32 ∷ join_with_byte 32 (request_words r)) ≡ Some (command.Begin t r)
 unfolding beginning_of
-beginning_only t p h k =
-    rw (
-      before_only 1 64 t _ (omega arith) h,
-      payment_only p.district p.customer_district p.customer p.amount p.stamp k.district k.customer_district k.customer k.amount k.stamp,
-    )
-    refl
+beginning_only t r h k = rw (before_only 1 64 t _ (omega arith) h, request_only r k) refl
 
 -- lines
 
@@ -322,26 +495,22 @@ found s c e = elim (begun_some (after_of (codes "begin ") s) _ _ c e) [
 terminal : (t : ℕ) → IsInRange 1 64 t → last_number 1 64 (decimal t) ≡ Some t
 terminal t h = last_only 1 64 t (omega arith) h
 
-request_only : (t : ℕ) (r : Request) → IsInRange 1 64 t → IsRequest r
+begin_only : (t : ℕ) (r : Request) → IsInRange 1 64 t → IsRequest r
     → command_of (join_with_byte 32 (words_of (command.Begin t r))) ≡ Some (command.Begin t r)
 unfolding command_of
-request_only t (request.Payment p) h k = beginning_only t p h k
-request_only t (request.NewOrder r) h k = elim k [ ]
-request_only t (request.Delivery r) h k = elim k [ ]
-request_only t (request.Deliveries r) h k = elim k [ ]
-request_only t (request.Rename r) h k = elim k [ ]
+begin_only t r h k = ap command_of (begun_words t r k) ∙ rw (beginning_only t r h k) refl
 
 spelled : (c : Command) → HasForm c → command_of (join_with_byte 32 (words_of c)) ≡ Some c
 unfolding command_of rare_command_of
 spelled (command.Open s x) h = opening_only s x h.0 h.1
-spelled (command.Begin t r) h = request_only t r h.0 h.1
+spelled (command.Begin t r) h = begin_only t r h.0 h.1
 spelled (command.Next t) h = rw (terminal t h) refl
 spelled (command.Run t) h = rw (terminal t h) refl
 spelled (command.Save t) h = rw (terminal t h) refl
 spelled (command.Back t) h = rw (terminal t h) refl
 spelled (command.Rollback t) h = rw (terminal t h) refl
 spelled (command.Dump t) h = rw (table_only t) refl
-spelled (command.Audit c m) h = audit_only c m h.0 h.1
+spelled (command.Audit c m) h = audit_only c m h
 
 -- a reading is what a line says
 pub read_is_said : (o : Option Command) (s : List ℕ) → o ≡ command_of s → IfSome o (λ c. Says s c)

@@ -1,3 +1,4 @@
 pub mod GrammarFacts
+pub mod OrderFacts
 pub mod StampFacts
 pub mod WordFacts

@@ -1,12 +1,16 @@
 -- A stamp's text is read, and no other.
-use Rattle.std.proofs.Common.{◌≡◌, refl, sym, ◌∙◌, ap, ℕ, ◌+◌, ◌-◌, ◌*◌, ◌/◌, ◌%◌, ◌<◌, List, IfSome, Bool, true, false, ◌&&◌, cond, Option, Some, None, nat_lt, arith, lt-ltb, ltb-true}
+use Rattle.std.proofs.Common.{◌≡◌, refl, sym, ◌∙◌, ap, ℕ, ◌+◌, ◌-◌, ◌*◌, ◌/◌, ◌%◌, ◌<◌, ◌≤◌, List, ◌∷◌, ◌++◌, length, take, drop, codes, IfSome, ◌⊎◌, inl, inr, Bool, true, false, ◌&&◌, cond, Option, Some, None, nat_lt, arith, lt-ltb, ltb-true, length-append}
 use Rattle.std.specs.Str.{bytes_eq}
 use Rattle.std.proofs.lemmas.Slice.Eq.{bytes_eq-Decides}
+use Rattle.oe_values.specs.Front.{after_of}
 use Rattle.oe_values.specs.Stamp.{SaysStamp}
+use Rattle.oe_values.proofs.FrontFacts.{bind_some, some_same, chosen, after_found}
 use Rattle.oe_values.proofs.StampFacts.{clock_small, year_small, month_small, day_small, says_alone}
 use Rattle.oe_texts.specs.Stamp.{stamp_text}
 use Rattle.oe_texts.proofs.StampFacts.{stamp_text_says}
-use Rattle.oe_lines.specs.Words.{counted, stamp_of}
+use Rattle.std.proofs.lemmas.List.{take-append-drop}
+use Rattle.std.proofs.lemmas.Bool.Decides.{nat_tests}
+use Rattle.oe_lines.specs.Words.{counted, stamp_of, stamp_before}
 
 pair : (n : ℕ) → n < 100 → (48 + n / 10 - 48) * 10 + (48 + n % 10 - 48) ≡ n
 pair n h = omega arith
@@ -56,3 +60,38 @@ stamp_of-none s h =
 pub stamp_of-read : (s : List ℕ) (o : Option ℕ) → IfSome o (SaysStamp s) → ((n : ℕ) → SaysStamp s n → o ≡ Some n) → o ≡ stamp_of s
 stamp_of-read s None some reads = sym (stamp_of-none s (λ n r. cc (reads n r)))
 stamp_of-read s (Some n) some reads = sym (stamp_of-says s n some)
+
+-- before a space
+
+pub stamp_before_found : (s : List ℕ) (n : ℕ) (r : List ℕ) → stamp_before s ≡ Some (n, r) → (s ≡ stamp_text n ++ 32 ∷ r) × (n < 6_342_969_600)
+unfolding stamp_before
+stamp_before_found s n r e = elim (chosen (nat_lt (length s) 19) None _ (Some (n, r)) e) [
+  | inl h ↦ cc
+  | inr h ↦
+      let t = bind_some (stamp_of (take 19 s)) _ (n, r) h.1 in
+      let a = bind_some (after_of (codes " ") (drop 19 s)) _ (n, r) t.2 in
+      let f = stamp_found (take 19 s) t.0 t.1 in
+      let pair = some_same (t.0, a.0) (n, r) a.2 in
+      let same : t.0 ≡ n = ap (λ (x : ℕ × List ℕ). x.0) pair in (
+        sym (take-append-drop 19 s) ∙ ap (λ z. z ++ drop 19 s) f.0 ∙ ap (λ z. stamp_text t.0 ++ z) (after_found (codes " ") (drop 19 s) a.0 a.1)
+            ∙ ap (λ (x : ℕ × List ℕ). stamp_text x.0 ++ 32 ∷ x.1) pair,
+        omega (arith, same, f.1),
+      )
+]
+
+-- a stamp's text has 19 bytes
+abbrev IsOf19 : List ℕ → Type 0
+IsOf19 t = (length t ≡ 19) × ((r : List ℕ) → (take 19 (t ++ r) ≡ t) × (drop 19 (t ++ r) ≡ r))
+
+says_19 : (s : List ℕ) (n : ℕ) → SaysStamp s n → IsOf19 s
+says_19 s n h = rw h.spelled (refl, λ r. (refl, refl))
+
+long : (n : ℕ) → 19 ≤ n → nat_lt n 19 ≡ false
+long n h = grind (arith, nat_tests)
+
+pub stamp_before_only : (n : ℕ) (r : List ℕ) → n < 6_342_969_600 → stamp_before (stamp_text n ++ 32 ∷ r) ≡ Some (n, r)
+unfolding stamp_before
+stamp_before_only n r h =
+    let f = says_19 (stamp_text n) n (stamp_text_says n h) in
+    let whole = f.1 (32 ∷ r) in
+    rw (long (length (stamp_text n ++ 32 ∷ r)) (omega (arith, f.0, length-append (stamp_text n) (32 ∷ r))), whole.0, whole.1, stamp_only n h) refl

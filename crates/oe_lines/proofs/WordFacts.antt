@@ -6,8 +6,8 @@ use Rattle.std.proofs.lemmas.Slice.Eq.{bytes_eq-Decides}
 use Rattle.oe_rows.specs.Credit.{money_text}
 use Rattle.oe_values.specs.Front.{after_of, pair_of, decimal_of}
 use Rattle.oe_values.specs.Stamp.{two_digits}
-use Rattle.oe_values.proofs.FrontFacts.{bind_some, some_same, guarded, both, alone_found, after_found, pair_found, pair_only, ends, decimal_found, decimal_only}
-use Rattle.oe_lines.specs.Words.{is_word, within, number_of, number_before, last_number, amount_before}
+use Rattle.oe_values.proofs.FrontFacts.{bind_some, some_same, guarded, both, alone_found, after_found, after_only, pair_found, pair_only, ends, decimal_found, decimal_only}
+use Rattle.oe_lines.specs.Words.{is_word, within, number_of, number_then, number_before, last_number, amount_before}
 
 pub map_some : {A B : Type 0} (f : A → B) (o : Option A) (y : B) → option_map f o ≡ Some y → (x : A) × (o ≡ Some x) × (f x ≡ y)
 map_some f None y e = cc
@@ -31,7 +31,7 @@ within_found low high m n e =
 pub within_only : (low high n : ℕ) → low ≤ n → n ≤ high → within low high n ≡ Some n
 within_only low high n l u = rw (le-leb low n l, le-leb n high u) refl
 
-number_found : (low high : ℕ) (s : List ℕ) (n : ℕ) (r : List ℕ) → number_of low high s ≡ Some (n, r) → (s ≡ decimal n ++ r) × (low ≤ n) × (n ≤ high)
+pub number_found : (low high : ℕ) (s : List ℕ) (n : ℕ) (r : List ℕ) → number_of low high s ≡ Some (n, r) → (s ≡ decimal n ++ r) × (low ≤ n) × (n ≤ high)
 unfolding number_of
 number_found low high s n r e =
     let p = bind_some (decimal_of s) _ (n, r) e in
@@ -45,26 +45,32 @@ number_found low high s n r e =
       omega (arith, same, w.2),
     )
 
-number_only : (low high n : ℕ) (r : List ℕ) → high < 10 ^ 15 → (low ≤ n) × (n ≤ high) → ends r ≡ true → number_of low high (decimal n ++ r) ≡ Some (n, r)
+pub number_only : (low high n : ℕ) (r : List ℕ) → high < 10 ^ 15 → (low ≤ n) × (n ≤ high) → ends r ≡ true → number_of low high (decimal n ++ r) ≡ Some (n, r)
 unfolding number_of
 number_only low high n r h range end = rw (decimal_only n r (omega arith) end, within_only low high n range.0 range.1) refl
 
-pub before_found : (low high : ℕ) (s : List ℕ) (n : ℕ) (r : List ℕ) → number_before low high s ≡ Some (n, r) → (s ≡ decimal n ++ 32 ∷ r) × (low ≤ n) × (n ≤ high)
-unfolding number_before
-before_found low high s n r e =
+pub then_found : (mark low high : ℕ) (s : List ℕ) (n : ℕ) (r : List ℕ) → number_then mark low high s ≡ Some (n, r) → (s ≡ decimal n ++ mark ∷ r) × (low ≤ n) × (n ≤ high)
+unfolding number_then
+then_found mark low high s n r e =
     let p = bind_some (number_of low high s) _ (n, r) e in
-    let a = bind_some (after_of (codes " ") p.0.1) _ (n, r) p.2 in
+    let a = bind_some (after_of (mark ∷ []) p.0.1) _ (n, r) p.2 in
     let f = number_found low high s p.0.0 p.0.1 p.1 in
     let pair = some_same (p.0.0, a.0) (n, r) a.2 in
     let same : p.0.0 ≡ n = ap (λ (x : ℕ × List ℕ). x.0) pair in (
-      f.0 ∙ ap (λ z. decimal p.0.0 ++ z) (after_found (codes " ") p.0.1 a.0 a.1) ∙ ap (λ (x : ℕ × List ℕ). decimal x.0 ++ 32 ∷ x.1) pair,
+      f.0 ∙ ap (λ z. decimal p.0.0 ++ z) (after_found (mark ∷ []) p.0.1 a.0 a.1) ∙ ap (λ (x : ℕ × List ℕ). decimal x.0 ++ mark ∷ x.1) pair,
       omega (arith, same, f.1),
       omega (arith, same, f.2),
     )
 
+pub then_only : (mark low high n : ℕ) (r : List ℕ) → high < 10 ^ 15 → (low ≤ n) × (n ≤ high) → ends (mark ∷ r) ≡ true → number_then mark low high (decimal n ++ mark ∷ r) ≡ Some (n, r)
+unfolding number_then
+then_only mark low high n r h range end = rw (number_only low high n (mark ∷ r) h range end, after_only (mark ∷ []) r) refl
+
+pub before_found : (low high : ℕ) (s : List ℕ) (n : ℕ) (r : List ℕ) → number_before low high s ≡ Some (n, r) → (s ≡ decimal n ++ 32 ∷ r) × (low ≤ n) × (n ≤ high)
+before_found low high s n r e = then_found 32 low high s n r e
+
 pub before_only : (low high n : ℕ) (r : List ℕ) → high < 10 ^ 15 → (low ≤ n) × (n ≤ high) → number_before low high (decimal n ++ 32 ∷ r) ≡ Some (n, r)
-unfolding number_before
-before_only low high n r h range = rw (number_only low high n (32 ∷ r) h range refl) refl
+before_only low high n r h range = then_only 32 low high n r h range refl
 
 pub last_found : (low high : ℕ) (s : List ℕ) (n : ℕ) → last_number low high s ≡ Some n → (s ≡ decimal n) × (low ≤ n) × (n ≤ high)
 unfolding last_number

@@ -1,18 +1,19 @@
 -- The grammar of a script's lines: each command has one spelling.
-use Rattle.std.specs.Prelude.{◌≡◌, ℕ, ◌<◌, ◌≤◌, List, [], ◌∷◌, codes, decimal}
+use Rattle.std.specs.Prelude.{◌≡◌, ℕ, ◌≤◌, List, [], ◌∷◌, map, codes, decimal}
 use Rattle.std.specs.Int.{IsInRange}
 use Rattle.std.specs.List.{join_with_byte}
 use Rattle.oe_rows.specs.Credit.{money_text}
-use Rattle.oe_keys.specs.Key.{table_name, IsDistrictKey}
+use Rattle.oe_keys.specs.Key.{table_name}
 use Rattle.oe_requests.specs.declared.requests.CustomerChoice.{CustomerChoice}
 use Rattle.oe_requests.specs.declared.requests.CustomerChoice.TheVariants as choice
-use Rattle.oe_requests.specs.declared.requests.PaymentRequest.{PaymentRequest}
+use Rattle.oe_requests.specs.declared.requests.RequestLine.{RequestLine}
 use Rattle.oe_requests.specs.declared.requests.Request.{Request}
 use Rattle.oe_requests.specs.declared.requests.Request.TheVariants as request
 use Rattle.oe_steps.specs.Condition.{condition_number}
 use Rattle.oe_steps.specs.declared.audits.Condition.{Condition}
 use Rattle.oe_steps.specs.declared.audits.Condition.TheVariants as condition
 use Rattle.oe_texts.specs.Stamp.{stamp_text}
+use Rattle.oe_model.specs.Requests as model
 use Rattle.oe_lines.specs.declared.commands.Command.{Command}
 use Rattle.oe_lines.specs.declared.commands.Command.TheVariants as command
 use Rattle.oe_lines.specs.declared.commands.MomentChoice.{MomentChoice}
@@ -27,13 +28,19 @@ abbrev pub moment_word : MomentChoice → List ℕ
 moment_word moment.Now = codes "now"
 moment_word (moment.At m) = decimal m
 
+-- an item of an order: its supply warehouse, its number and the quantity, parted by colons
+abbrev pub line_word : RequestLine → List ℕ
+line_word l = join_with_byte 58 (decimal l.supply ∷ decimal l.item ∷ decimal l.quantity ∷ [])
+
 -- the words of a request; requests of other kinds have none yet
 abbrev pub request_words : Request → List (List ℕ)
 request_words (request.Payment p) =
     codes "payment" ∷ decimal p.district.warehouse ∷ decimal p.district.district
     ∷ decimal p.customer_district.warehouse ∷ decimal p.customer_district.district
     ∷ customer_word p.customer ∷ money_text p.amount ∷ stamp_text p.stamp ∷ []
-request_words (request.NewOrder r) = []
+request_words (request.NewOrder q) =
+    codes "neworder" ∷ decimal q.district.warehouse ∷ decimal q.district.district ∷ decimal q.customer
+    ∷ stamp_text q.stamp ∷ map line_word q.lines
 request_words (request.Delivery r) = []
 request_words (request.Deliveries r) = []
 request_words (request.Rename r) = []
@@ -52,22 +59,14 @@ words_of (command.Dump table) = codes "dump" ∷ table_name table ∷ []
 words_of (command.Audit c m) = codes "audit" ∷ decimal (condition_number c) ∷ moment_word m ∷ []
 
 -- a customer by number; one by name has no form yet
-abbrev pub IsCustomer : CustomerChoice → Type 0
-IsCustomer (choice.Number n) = IsInRange 1 3_000 n
-IsCustomer (choice.LastName name) = ⊥
+abbrev pub IsNumbered : CustomerChoice → Type 0
+IsNumbered (choice.Number n) = Unit {0}
+IsNumbered (choice.LastName name) = ⊥
 
--- a payment of 1.00 to 5000.00 (clause 2.5.1.3)
-pub record IsPayment (p : PaymentRequest) : Type 0 where
-  pub district : IsDistrictKey p.district
-  pub customer_district : IsDistrictKey p.customer_district
-  pub customer : IsCustomer p.customer
-  pub amount : IsInRange 100 500_000 p.amount
-  pub stamp : p.stamp < 6_342_969_600
-
--- a payment; other requests have no form yet
+-- payments and orders in the model's ranges; other requests have no form yet
 abbrev pub IsRequest : Request → Type 0
-IsRequest (request.Payment p) = IsPayment p
-IsRequest (request.NewOrder r) = ⊥
+IsRequest (request.Payment p) = model.IsPayment p × IsNumbered p.customer
+IsRequest (request.NewOrder q) = model.IsNewOrder q
 IsRequest (request.Delivery r) = ⊥
 IsRequest (request.Deliveries r) = ⊥
 IsRequest (request.Rename r) = ⊥
@@ -76,13 +75,6 @@ pub record IsScale (s : Scale) : Type 0 where
   pub warehouses : IsInRange 1 16 s.warehouses
   pub customers : IsInRange 1 3_000 s.customers
   pub items : IsInRange 1 100_000 s.items
-
--- the first two conditions; the others have no form yet
-abbrev pub IsAudited : Condition → Type 0
-IsAudited condition.First = Unit {0}
-IsAudited condition.Second = Unit {0}
-IsAudited condition.Third = ⊥
-IsAudited condition.Fourth = ⊥
 
 abbrev pub IsMoment : MomentChoice → Type 0
 IsMoment moment.Now = Unit {0}
@@ -98,7 +90,7 @@ HasForm (command.Save terminal) = IsInRange 1 64 terminal
 HasForm (command.Back terminal) = IsInRange 1 64 terminal
 HasForm (command.Rollback terminal) = IsInRange 1 64 terminal
 HasForm (command.Dump table) = Unit {0}
-HasForm (command.Audit c m) = IsAudited c × IsMoment m
+HasForm (command.Audit c m) = IsMoment m
 
 -- The line, without its end, is the command's words parted by one space.
 pub record Says (line : List ℕ) (c : Command) : Type 0 where

@@ -1,11 +1,14 @@
 -- Reading a line from its front, as functions on lists.
-use Rattle.std.specs.Prelude.{ℕ, List, Option, Some, None, codes, if◌then◌else◌}
+use Rattle.std.specs.Prelude.{ℕ, zero, suc, nat_le, List, [], ◌∷◌, length, Option, Some, None, codes, if◌then◌else◌}
 use Rattle.std.specs.Option.{option_map}
 use Rattle.oe_keys.specs.declared.keys.DistrictKey.{DistrictKey}
 use Rattle.oe_keys.specs.declared.keys.Table.{Table}
 use Rattle.oe_keys.specs.declared.keys.Table.TheVariants as table
 use Rattle.oe_requests.specs.declared.requests.CustomerChoice.TheVariants as choice
 use Rattle.oe_requests.specs.declared.requests.PaymentRequest.{PaymentRequest}
+use Rattle.oe_requests.specs.declared.requests.RequestLine.{RequestLine}
+use Rattle.oe_requests.specs.declared.requests.NewOrderRequest.{NewOrderRequest}
+use Rattle.oe_requests.specs.declared.requests.Request.{Request}
 use Rattle.oe_requests.specs.declared.requests.Request.TheVariants as request
 use Rattle.oe_steps.specs.declared.audits.Condition.TheVariants as condition
 use Rattle.oe_lines.specs.declared.commands.Command.{Command}
@@ -13,7 +16,7 @@ use Rattle.oe_lines.specs.declared.commands.Command.TheVariants as command
 use Rattle.oe_lines.specs.declared.commands.MomentChoice.{MomentChoice}
 use Rattle.oe_lines.specs.declared.commands.MomentChoice.TheVariants as moment
 use Rattle.oe_values.specs.Front.{◌>>=◌, after_of, decimal_of, alone}
-use Rattle.oe_lines.specs.Words.{is_word, within, number_before, last_number, amount_before, stamp_of}
+use Rattle.oe_lines.specs.Words.{is_word, within, number_of, number_then, number_before, last_number, amount_before, stamp_of, stamp_before}
 
 unfoldable pub table_of : List ℕ → Option Table
 table_of s =
@@ -45,7 +48,10 @@ moment_of s =
 unfoldable pub audit_of : List ℕ → Option Command
 audit_of s =
     begun (after_of (codes "1 ") s) (λ r. option_map (λ m. command.Audit condition.First m) (moment_of r))
-    (begun (after_of (codes "2 ") s) (λ r. option_map (λ m. command.Audit condition.Second m) (moment_of r)) None)
+    (begun (after_of (codes "2 ") s) (λ r. option_map (λ m. command.Audit condition.Second m) (moment_of r))
+    (begun (after_of (codes "3 ") s) (λ r. option_map (λ m. command.Audit condition.Third m) (moment_of r))
+    (begun (after_of (codes "4 ") s) (λ r. option_map (λ m. command.Audit condition.Fourth m) (moment_of r))
+    None)))
 
 unfoldable pub opening_of : List ℕ → Option Command
 opening_of s = do
@@ -76,12 +82,54 @@ payment_of s = do
     stamp = stamp;
   })
 
+-- `sw:i:q` at the front
+unfoldable pub line_of : List ℕ → Option (RequestLine × List ℕ)
+line_of s = do
+  w ← number_then 58 1 16 s
+  i ← number_then 58 1 999_999 w.1
+  q ← number_of 1 10 i.1
+  Some (record { supply = w.0; item = i.0; quantity = q.0 }, q.1)
+
+-- a line alone, or before a space and the lines that `more` reads
+abbrev pub line_and : RequestLine → (List ℕ → Option (List RequestLine)) → List ℕ → Option (List RequestLine)
+line_and l more [] = Some (l ∷ [])
+line_and l more (b ∷ s) = do
+  r ← after_of (codes " ") (b ∷ s)
+  ls ← more r
+  Some (l ∷ ls)
+
+-- one to n lines, up to the end
+abbrev pub lines_within : ℕ → List ℕ → Option (List RequestLine)
+lines_within zero s = None
+lines_within (suc n) s = do
+  l ← line_of s
+  line_and l.0 (lines_within n) l.1
+
+-- five to fifteen
+unfoldable pub lines_of : List ℕ → Option (List RequestLine)
+lines_of s = do
+  ls ← lines_within 15 s
+  if nat_le 5 (length ls) then Some ls else None
+
+unfoldable pub new_order_of : List ℕ → Option NewOrderRequest
+new_order_of s = do
+  at ← district_of s
+  c ← number_before 1 3_000 at.1
+  stamp ← stamp_before c.1
+  ls ← lines_of stamp.1
+  Some (record { district = at.0; customer = c.0; stamp = stamp.0; lines = ls })
+
+unfoldable pub request_of : List ℕ → Option Request
+request_of s =
+    begun (after_of (codes "payment ") s) (λ r. option_map (λ p. request.Payment p) (payment_of r))
+    (begun (after_of (codes "neworder ") s) (λ r. option_map (λ q. request.NewOrder q) (new_order_of r))
+    None)
+
 unfoldable pub beginning_of : List ℕ → Option Command
 beginning_of s = do
   t ← number_before 1 64 s
-  r ← after_of (codes "payment ") t.1
-  p ← payment_of r
-  Some (command.Begin t.0 (request.Payment p))
+  r ← request_of t.1
+  Some (command.Begin t.0 r)
 
 -- a command whose one word is a terminal
 abbrev pub terminal_of : (ℕ → Command) → List ℕ → Option Command

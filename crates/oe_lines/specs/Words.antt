@@ -1,5 +1,5 @@
 -- Reading a word from the front, as functions on lists: what the word says, and what follows it.
-use Rattle.std.specs.Prelude.{ℕ, ◌+◌, ◌-◌, ◌*◌, ◌&&◌, Bool, nat_le, nat_lt, List, Option, Some, None, slice_index, codes, if◌then◌else◌, pos, ◌+ℤ◌, ◌*ℤ◌, unsigned_abs}
+use Rattle.std.specs.Prelude.{ℕ, ◌+◌, ◌-◌, ◌*◌, ◌&&◌, Bool, nat_le, nat_lt, List, [], ◌∷◌, length, take, drop, Option, Some, None, slice_index, codes, if◌then◌else◌, pos, ◌+ℤ◌, ◌*ℤ◌, unsigned_abs}
 use Rattle.std.specs.Str.{bytes_eq}
 use Rattle.jiff_core.specs.Calendar.{days_from_civil}
 use Rattle.oe_texts.specs.Stamp.{stamp_text}
@@ -19,12 +19,16 @@ number_of low high s = do
   n ← within low high p.0
   Some (n, p.1)
 
--- the same before a space, which is passed over
-unfoldable pub number_before : ℕ → ℕ → List ℕ → Option (ℕ × List ℕ)
-number_before low high s = do
+-- the same before a byte, which is passed over
+unfoldable pub number_then : ℕ → ℕ → ℕ → List ℕ → Option (ℕ × List ℕ)
+number_then mark low high s = do
   p ← number_of low high s
-  r ← after_of (codes " ") p.1
+  r ← after_of (mark ∷ []) p.1
   Some (p.0, r)
+
+-- before a space
+abbrev pub number_before : ℕ → ℕ → List ℕ → Option (ℕ × List ℕ)
+number_before low high s = number_then 32 low high s
 
 -- the same at the end
 unfoldable pub last_number : ℕ → ℕ → List ℕ → Option ℕ
@@ -56,3 +60,12 @@ counted s =
 -- the stamp whose text this is
 unfoldable pub stamp_of : List ℕ → Option ℕ
 stamp_of s = let n = counted s in if nat_lt n 6_342_969_600 && bytes_eq (stamp_text n) s then Some n else None
+
+-- the same of the first 19 bytes before a space, which is passed over
+unfoldable pub stamp_before : List ℕ → Option (ℕ × List ℕ)
+stamp_before s =
+    if nat_lt (length s) 19 then None
+    else do
+      n ← stamp_of (take 19 s)
+      r ← after_of (codes " ") (drop 19 s)
+      Some (n, r)

@@ -3,15 +3,19 @@ ghost use Rattle.std.specs.Prelude.{◌≡◌, IfSome, Some};
 ghost use Rattle.std.specs.Option.{option_map};
 ghost use Rattle.oe_lines.specs.declared.commands.Command.{Command};
 ghost use Rattle.oe_lines.specs.Grammar.{Says};
-ghost use Rattle.oe_lines.specs.Reading.{command_of, rare_command_of, opening_of, beginning_of, district_of, payment_of, table_of, moment_of, audit_of};
+ghost use Rattle.oe_lines.specs.Reading.{command_of, rare_command_of, opening_of, beginning_of, request_of, district_of, payment_of, new_order_of, line_of, lines_of, table_of, moment_of, audit_of};
 
 use crate::commands::{Command, MomentChoice, Scale};
-use crate::words::{amount_before, is_word, last_number, number_before, stamp};
+use crate::words::{
+    amount_before, is_word, last_number, number, number_before, number_then, stamp, stamp_before,
+};
 use oe_keys::{DistrictKey, Table};
-use oe_requests::{CustomerChoice, PaymentRequest, Request};
+use oe_requests::{
+    CustomerChoice, NewOrderRequest, PaymentRequest, Request, RequestLine, RequestLines,
+};
 use oe_steps::Condition;
-use oe_values::Moment;
 use oe_values::fronts::{after, decimal};
+use oe_values::{Lines, Moment};
 
 /// What a line asks for, where it is one of the forms. The line stands without its end, which is byte 10.
 pub fn command(line: &[u8]) -> Option<Command>
@@ -86,7 +90,7 @@ fn opening(text: &[u8]) -> Option<Command>
     Some(Command::Open(scale, extents))
 }
 
-/// `T payment ..`.
+/// `T`, and the request.
 #[tactic(auto, unfolding(crate::specs::Reading::beginning_of))]
 fn beginning(text: &[u8]) -> Option<Command>
     ensures { result ≡ beginning_of text.now }
@@ -94,9 +98,23 @@ fn beginning(text: &[u8]) -> Option<Command>
     let Some((terminal, rest)) = number_before(text) else {
         return None;
     };
-    let rest = after(rest, b"payment ")?;
-    let payment = payment(rest)?;
-    Some(Command::Begin(terminal, Request::Payment(payment)))
+    let request = request(rest)?;
+    Some(Command::Begin(terminal, request))
+}
+
+/// `payment ..` or `neworder ..`.
+#[inline]
+#[tactic(auto, unfolding(crate::specs::Reading::request_of))]
+fn request(text: &[u8]) -> Option<Request>
+    ensures { result ≡ request_of text.now }
+{
+    if let Some(rest) = after(text, b"payment ") {
+        return Some(Request::Payment(payment(rest)?));
+    }
+    if let Some(rest) = after(text, b"neworder ") {
+        return Some(Request::NewOrder(new_order(rest)?));
+    }
+    None
 }
 
 /// `w d`, and what follows the space after it.
@@ -145,6 +163,74 @@ fn payment(text: &[u8]) -> Option<PaymentRequest>
     })
 }
 
+/// `w d c stamp sw:i:q ..`.
+#[tactic(auto, unfolding(crate::specs::Reading::new_order_of))]
+fn new_order(text: &[u8]) -> Option<NewOrderRequest>
+    ensures { result ≡ new_order_of text.now }
+{
+    let Some((district, rest)) = district(text) else {
+        return None;
+    };
+    let Some((customer, rest)) = number_before(rest) else {
+        return None;
+    };
+    let Some((stamp, rest)) = stamp_before(rest) else {
+        return None;
+    };
+    let lines = lines(rest)?;
+    Some(NewOrderRequest {
+        district,
+        customer,
+        stamp,
+        lines,
+    })
+}
+
+/// `sw:i:q`, and what follows it.
+#[inline]
+#[tactic(auto, unfolding(crate::specs::Reading::line_of))]
+fn line(text: &[u8]) -> Option<(RequestLine, &[u8])>
+    ensures { option_map (λ p. (p.0, p.1.now)) result ≡ line_of text.now }
+{
+    let Some((supply, rest)) = number_then(text, b':') else {
+        return None;
+    };
+    let Some((item, rest)) = number_then(rest, b':') else {
+        return None;
+    };
+    let Some((quantity, rest)) = number(rest) else {
+        return None;
+    };
+    let line = RequestLine {
+        supply,
+        item,
+        quantity,
+    };
+    Some((line, rest))
+}
+
+/// The lines of an order, parted by one space.
+fn lines(text: &[u8]) -> Option<RequestLines>
+    ensures { result ≡ lines_of text.now }
+{
+    let mut read: Lines<RequestLine, 0, 15> = Lines::new();
+    let mut left = text;
+    while read.as_slice().len() < 15 {
+        let Some((line, rest)) = line(left) else {
+            return None;
+        };
+        read.push(line);
+        if rest.is_empty() {
+            return Lines::read(read.as_slice());
+        }
+        let Some(next) = after(rest, b" ") else {
+            return None;
+        };
+        left = next;
+    }
+    None
+}
+
 /// A table's name.
 #[tactic(auto, unfolding(crate::specs::Reading::table_of))]
 fn table(text: &[u8]) -> Option<Table>
@@ -182,6 +268,10 @@ fn audit(text: &[u8]) -> Option<Command>
         Some(Command::Audit(Condition::First, moment(rest)?))
     } else if let Some(rest) = after(text, b"2 ") {
         Some(Command::Audit(Condition::Second, moment(rest)?))
+    } else if let Some(rest) = after(text, b"3 ") {
+        Some(Command::Audit(Condition::Third, moment(rest)?))
+    } else if let Some(rest) = after(text, b"4 ") {
+        Some(Command::Audit(Condition::Fourth, moment(rest)?))
     } else {
         None
     }

@@ -1,7 +1,7 @@
 //! Words of a line, each with what follows it: numbers, money and stamps.
 ghost use Rattle.std.specs.Prelude.{◌≡◌};
 ghost use Rattle.std.specs.Option.{option_map};
-ghost use Rattle.oe_lines.specs.Words.{is_word, within, number_of, number_before, last_number, amount_before, stamp_of};
+ghost use Rattle.oe_lines.specs.Words.{is_word, within, number_of, number_then, number_before, last_number, amount_before, stamp_of, stamp_before};
 
 use oe_values::fronts::{after, decimal, pair};
 use oe_values::{Number, Stamp};
@@ -25,7 +25,9 @@ fn in_range<const LOW: u32, const HIGH: u32>(n: u64) -> Option<Number<LOW, HIGH>
 /// A number without a leading zero, in the range of its type, and what follows it.
 #[inline]
 #[tactic(auto, unfolding(crate::specs::Words::number_of))]
-fn number<const LOW: u32, const HIGH: u32>(text: &[u8]) -> Option<(Number<LOW, HIGH>, &[u8])>
+pub(crate) fn number<const LOW: u32, const HIGH: u32>(
+    text: &[u8],
+) -> Option<(Number<LOW, HIGH>, &[u8])>
     ensures { option_map (λ p. (p.0, p.1.now)) result ≡ number_of LOW HIGH text.now }
 {
     let (n, rest) = decimal(text)?;
@@ -33,18 +35,29 @@ fn number<const LOW: u32, const HIGH: u32>(text: &[u8]) -> Option<(Number<LOW, H
     Some((number, rest))
 }
 
+/// The same before that byte, and what follows the byte.
+#[inline]
+#[tactic(auto, unfolding(crate::specs::Words::number_then))]
+pub(crate) fn number_then<const LOW: u32, const HIGH: u32>(
+    text: &[u8],
+    mark: u8,
+) -> Option<(Number<LOW, HIGH>, &[u8])>
+    ensures { option_map (λ p. (p.0, p.1.now)) result ≡ number_then mark LOW HIGH text.now }
+{
+    let Some((number, rest)) = number(text) else {
+        return None;
+    };
+    Some((number, after(rest, &[mark])?))
+}
+
 /// The same before a space, and what follows the space.
 #[inline]
-#[tactic(auto, unfolding(crate::specs::Words::number_before))]
 pub(crate) fn number_before<const LOW: u32, const HIGH: u32>(
     text: &[u8],
 ) -> Option<(Number<LOW, HIGH>, &[u8])>
     ensures { option_map (λ p. (p.0, p.1.now)) result ≡ number_before LOW HIGH text.now }
 {
-    let Some((number, rest)) = number(text) else {
-        return None;
-    };
-    Some((number, after(rest, b" ")?))
+    number_then(text, b' ')
 }
 
 /// The same at the line's end.
@@ -79,4 +92,18 @@ pub(crate) fn stamp(text: &[u8]) -> Option<Stamp>
     ensures { result ≡ stamp_of text.now }
 {
     Stamp::read_bytes(text)
+}
+
+/// A stamp before a space, and what follows the space.
+#[inline]
+#[tactic(auto, unfolding(crate::specs::Words::stamp_before))]
+pub(crate) fn stamp_before(text: &[u8]) -> Option<(Stamp, &[u8])>
+    ensures { option_map (λ p. (p.0, p.1.now)) result ≡ stamp_before text.now }
+{
+    if text.len() < 19 {
+        return None;
+    }
+    let (front, rest) = text.split_at(19);
+    let stamp = stamp(front)?;
+    Some((stamp, after(rest, b" ")?))
 }
