@@ -2,9 +2,9 @@
 use crate::made::district_key;
 use oe_keys::Table;
 use oe_lines::{Command, MomentChoice, Scale, command};
-use oe_requests::{CustomerChoice, PaymentRequest, Request};
+use oe_requests::{CustomerChoice, NewOrderRequest, PaymentRequest, Request, RequestLine};
 use oe_steps::Condition;
-use oe_values::{Moment, Number, Stamp};
+use oe_values::{Lines, Moment, Number, Stamp};
 use std::process::Abort;
 
 /// The line is read as that command, which could be made.
@@ -33,6 +33,38 @@ fn payment() -> Option<Command> {
     Some(Command::Begin(Number::new(64)?, Request::Payment(request)))
 }
 
+fn order_line(supply: u32, item: u32, quantity: u32) -> Option<RequestLine> {
+    Some(RequestLine {
+        supply: Number::new(supply)?,
+        item: Number::new(item)?,
+        quantity: Number::new(quantity)?,
+    })
+}
+
+/// An order whose last line alone is of another warehouse.
+fn new_order(count: usize) -> Option<Command> {
+    let mut lines = [order_line(16, 999_999, 10)?; 15];
+    lines[count.min(15).max(1) - 1] = order_line(2, 1, 1)?;
+    let request = NewOrderRequest {
+        district: district_key(16, 10)?,
+        customer: Number::new(2_999)?,
+        stamp: Stamp::read("2100-12-31T23:59:59")?,
+        lines: Lines::read(&lines[..count.min(15)])?,
+    };
+    Some(Command::Begin(Number::new(64)?, Request::NewOrder(request)))
+}
+
+/// Five lines, and fifteen.
+#[test]
+fn orders_are_read(rt: HostRuntime) {
+    let five =
+        "begin 64 neworder 16 10 2999 2100-12-31T23:59:59 16:999999:10 16:999999:10 16:999999:10 16:999999:10 2:1:1";
+    assert_said(&rt, five, new_order(5));
+    let fifteen =
+        "begin 64 neworder 16 10 2999 2100-12-31T23:59:59 16:999999:10 16:999999:10 16:999999:10 16:999999:10 16:999999:10 16:999999:10 16:999999:10 16:999999:10 16:999999:10 16:999999:10 16:999999:10 16:999999:10 16:999999:10 16:999999:10 2:1:1";
+    assert_said(&rt, fifteen, new_order(15));
+}
+
 #[test]
 fn lines_are_read(rt: HostRuntime) {
     assert_said(&rt, "open 16 3000 100000 4096", opening());
@@ -55,6 +87,14 @@ fn lines_are_read(rt: HostRuntime) {
             "audit 2 999999999999",
             Command::Audit(Condition::Second, MomentChoice::At(last)),
         ),
+        (
+            "audit 3 now",
+            Command::Audit(Condition::Third, MomentChoice::Now),
+        ),
+        (
+            "audit 4 999999999999",
+            Command::Audit(Condition::Fourth, MomentChoice::At(last)),
+        ),
     ] {
         assert_said(&rt, line, Some(want));
     }
@@ -71,6 +111,24 @@ fn other_lines_are_none(rt: HostRuntime) {
         "audit 1 00",
         "begin 1 payment 1 1 1 1 1 1,000.00 2001-01-01T00:00:00",
         "begin 1 payment 1 1 1 1 1 1.00 2001-01-01T00:00:0\u{e9}",
+    ] {
+        assert!(rt; command(line.as_bytes()).is_none(), "{line}");
+    }
+}
+
+/// Orders of four and of sixteen lines, and with a line that is none.
+#[test]
+fn other_orders_are_none(rt: HostRuntime) {
+    for line in [
+        "begin 1 neworder 1 1 1 2001-01-01T00:00:00 1:1:1 1:2:1 1:3:1 1:4:1",
+        "begin 1 neworder 1 1 1 2001-01-01T00:00:00 1:1:1 1:2:1 1:3:1 1:4:1 ",
+        "begin 1 neworder 1 1 1 2001-01-01T00:00:00 1:1:1 1:2:1 1:3:1 1:4:1 1:5:1 ",
+        "begin 1 neworder 1 1 1 2001-01-01T00:00:00 1:1:1 1:2:1 1:3:1 1:4:1 1:5:1 1:6:1 1:7:1 1:8:1 1:9:1 1:1:1 1:1:1 1:1:1 1:1:1 1:1:1 1:1:1 1:1:1",
+        "begin 1 neworder 1 1 1 2001-01-01T00:00:00 1:1:1 1:2:1 1:3:1 1:4:1 1:5:0",
+        "begin 1 neworder 1 1 1 2001-01-01T00:00:00 1:1:11 1:2:1 1:3:1 1:4:1 1:5:1",
+        "begin 1 neworder 1 1 1 2001-01-01T00:00:00 17:1:1 1:2:1 1:3:1 1:4:1 1:5:1",
+        "begin 1 neworder 1 1 1 2001-01-01T00:00:00 1:1000000:1 1:2:1 1:3:1 1:4:1 1:5:1",
+        "begin 1 neworder 1 1 BARBARBAR 2001-01-01T00:00:00 1:1:1 1:2:1 1:3:1 1:4:1 1:5:1",
     ] {
         assert!(rt; command(line.as_bytes()).is_none(), "{line}");
     }
