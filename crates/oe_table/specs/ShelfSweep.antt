@@ -1,5 +1,5 @@
 -- What a sweep leaves of shelves, where `Answers key b` says that the test may answer b at a key.
-use Rattle.std.specs.Prelude.{◌≡◌, ⊤, Bool, cond, List, [], ◌∷◌, Option}
+use Rattle.std.specs.Prelude.{◌≡◌, Bool, cond, List, [], ◌∷◌, Option}
 use Rattle.oe_table.specs.Table.{Judges}
 
 module _ {K R : Type 0} (Answers : K → Bool → Type 0) where

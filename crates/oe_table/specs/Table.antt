@@ -21,7 +21,8 @@ abbrev pub Judges : {R : Type 0} → (Bool → Type 0) → Option R → Bool →
 Judges Answers None kept = Answers kept
 Judges Answers (Some row) kept = kept ≡ true
 
--- what a sweep leaves of a place, where `Answers b` says that the test may answer b: of a blanked one nothing, unless the test keeps it
+-- what a sweep leaves of a place, where `Answers b` says that the test may answer b: of a blanked one nothing, unless the test
+-- keeps it
 abbrev pub Sweeps : {R : Type 0} → (Bool → Type 0) → Option (Option R) → Option (Option R) → Type 0
 Sweeps Answers None new = new ≡ None
 Sweeps Answers (Some None) new = (keeps : Bool) × Answers keeps × (new ≡ cond keeps (Some None) None)
@@ -43,6 +44,10 @@ module _ {K R : Type 0} (cmp : K → K → Ordering) where
   -- the place at `key` is now `p`, and each other key's is as before
   abbrev pub SetsPlace : List (K × Option R) → List (K × Option R) → K → Option R → Type 0
   SetsPlace old new key p = (other : K) → place new other ≡ cond (is_at (cmp key) other) (Some p) (place old other)
+
+  -- each place is what a sweep leaves of it, where `Answers key b` says that the test may answer b at a key
+  abbrev pub SweepsPlaces : (K → Bool → Type 0) → List (K × Option R) → List (K × Option R) → Type 0
+  SweepsPlaces Answers old new = (key : K) → Sweeps (Answers key) (place old key) (place new key)
 
   -- the rows, as a finite map
   abbrev pub rows_of : List (K × Option R) → FinMap cmp R

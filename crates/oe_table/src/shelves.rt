@@ -9,7 +9,7 @@ ghost use Rattle.std.specs.Option.{option_copied, option_copied_mut};
 ghost use Rattle.std.specs.Borrow.{sem};
 ghost use Rattle.std.specs.FinMap as map;
 ghost use Rattle.std.specs.Fn.{FnReturnsAt};
-ghost use Rattle.oe_table.specs.Table.{place, rows_of, IsBlanked, SetsPlace, Sweeps};
+ghost use Rattle.oe_table.specs.Table.{place, rows_of, IsBlanked, SetsPlace, SweepsPlaces};
 ghost use Rattle.oe_table.specs.ShelfSweep.{SweepsShelves};
 ghost use Rattle.oe_table.specs.Shelf.{joined, AreShelves, lower, upper, cut_between};
 
@@ -100,7 +100,8 @@ fn slots_on<K, R>(shelves: &[Shelf<K, R>], number: usize) -> &[Slot<K, R>]
 fn cut_before<K: ShelvedKey, R>(shelves: &[Shelf<K, R>], key: &K) -> Cut
     requires { AreShelves K.cmp K.shelf_of 0 shelves.now }
     ensures shelf { result.shelf ≡ K.shelf_of key.now }
-    ensures slot { result.slot ≡ lower K.cmp (slice_index_or shelves.now (K.shelf_of key.now) []) key.now }
+    ensures slot { result.slot
+        ≡ lower K.cmp (slice_index_or shelves.now (K.shelf_of key.now) []) key.now }
 {
     let number = key.shelf();
     let slot = match shelves.get(number) {
@@ -117,7 +118,8 @@ fn cut_before<K: ShelvedKey, R>(shelves: &[Shelf<K, R>], key: &K) -> Cut
 fn cut_after<K: ShelvedKey, R>(shelves: &[Shelf<K, R>], key: &K) -> Cut
     requires { AreShelves K.cmp K.shelf_of 0 shelves.now }
     ensures shelf { result.shelf ≡ K.shelf_of key.now }
-    ensures slot { result.slot ≡ upper K.cmp (slice_index_or shelves.now (K.shelf_of key.now) []) key.now }
+    ensures slot { result.slot
+        ≡ upper K.cmp (slice_index_or shelves.now (K.shelf_of key.now) []) key.now }
 {
     let number = key.shelf();
     let slot = match shelves.get(number) {
@@ -189,7 +191,8 @@ impl<K: ShelvedKey, R> Shelves<K, R> {
 
     // What stands at a key, to be changed there.
     fn slot_mut(&mut self, key: &K) -> Option<&mut Option<R>>
-        ensures* writes_back { sem 𝓛 (lends_place K.row R.row K.ShelvedKey self.entry key.now result) }
+        ensures* writes_back { sem 𝓛
+            (lends_place K.row R.row K.ShelvedKey self.entry key.now result) }
         ensures value { option_copied_mut result ≡ place K.cmp self.old key.now }
     {
         let number = key.shelf();
@@ -221,7 +224,8 @@ impl<K: ShelvedKey, R> Shelves<K, R> {
         R: Drop,
         requires { map.get (rows_of K.cmp self.old) key ≡ None }
         ensures ok { OnOk result (SetsPlace K.cmp self.old self.new key (Some row)) }
-        ensures rows { OnOk result (rows_of K.cmp self.new ≡ map.insert (rows_of K.cmp self.old) key row) }
+        ensures rows { OnOk result
+            (rows_of K.cmp self.new ≡ map.insert (rows_of K.cmp self.old) key row) }
         ensures err { OnErr result (self.new ≡ self.old) }
         ensures no_place { OnErr result (place K.cmp self.old key ≡ None) }
     {
@@ -246,7 +250,8 @@ impl<K: ShelvedKey, R> Shelves<K, R> {
 
     /// The row at a key, to be changed where it stands; a blanked key and one without a place have none.
     pub fn row_mut(&mut self, key: &K) -> Option<&mut R>
-        ensures* writes_back { sem 𝓛 (lends_row K.row R.row K.ShelvedKey self.entry key.now result) }
+        ensures* writes_back { sem 𝓛
+            (lends_row K.row R.row K.ShelvedKey self.entry key.now result) }
         ensures row { option_copied_mut result ≡ map.get (rows_of K.cmp self.old) key.now }
     {
         self.slot_mut(key)?.as_mut()
@@ -285,7 +290,7 @@ impl<K: ShelvedKey, R> Shelves<K, R> {
         R: Drop,
         F: Drop,
         requires { F.IsAlwaysCallable keeps }
-        ensures places { (key : K) → Sweeps (FnReturnsAt F.Fn keeps key) (place K.cmp self.old key) (place K.cmp self.new key) }
+        ensures places { SweepsPlaces K.cmp (FnReturnsAt F.Fn keeps) self.old self.new }
         ensures rows { rows_of K.cmp self.new ≡ rows_of K.cmp self.old }
     {
         sweep_each(&mut self.shelves, &keeps);
@@ -306,7 +311,8 @@ impl<K: ShelvedKey, R> Shelves<K, R> {
     where
         K: Drop,
         requires { IsLeBy K.cmp from to }
-        ensures { result ≡ entries_between K.cmp (Included from) (Excluded to) (entries (rows_of K.cmp self.now)) }
+        ensures { result
+            ≡ entries_between K.cmp (Included from) (Excluded to) (entries (rows_of K.cmp self.now)) }
     {
         let slots = self.slots_before(&from, &to);
         Rows { slots }
@@ -317,7 +323,8 @@ impl<K: ShelvedKey, R> Shelves<K, R> {
     where
         K: Drop,
         requires { IsLeBy K.cmp from to }
-        ensures { result ≡ entries_between K.cmp (Included from) (Included to) (entries (rows_of K.cmp self.now)) }
+        ensures { result
+            ≡ entries_between K.cmp (Included from) (Included to) (entries (rows_of K.cmp self.now)) }
     {
         let slots = self.slots_up_to(&from, &to);
         Rows { slots }
@@ -364,7 +371,8 @@ impl<K: ShelvedKey, R> Shelves<K, R> {
     // The slots from a key on and before another.
     fn slots_before(&self, from: &K, to: &K) -> Slots<'_, K, R>
         requires { IsLeBy K.cmp from.now to.now }
-        ensures places { result ≡ entries_between K.cmp (Included from.now) (Excluded to.now) self.now }
+        ensures places { result
+            ≡ entries_between K.cmp (Included from.now) (Excluded to.now) self.now }
         ensures ordered { IsStrictlySortedBy K.cmp (keys_of self.now) }
     {
         let start = cut_before(&self.shelves, from);
@@ -375,7 +383,8 @@ impl<K: ShelvedKey, R> Shelves<K, R> {
     // The slots from a key up to another.
     fn slots_up_to(&self, from: &K, to: &K) -> Slots<'_, K, R>
         requires { IsLeBy K.cmp from.now to.now }
-        ensures places { result ≡ entries_between K.cmp (Included from.now) (Included to.now) self.now }
+        ensures places { result
+            ≡ entries_between K.cmp (Included from.now) (Included to.now) self.now }
         ensures ordered { IsStrictlySortedBy K.cmp (keys_of self.now) }
     {
         let start = cut_before(&self.shelves, from);

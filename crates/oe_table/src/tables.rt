@@ -9,7 +9,7 @@ ghost use Rattle.std.specs.List.Sorted.{IsStrictlySortedBy};
 ghost use Rattle.std.specs.Map.{keys_of};
 ghost use Rattle.std.specs.BTreeMap.Range.{IsLeBy, IsLtBy, entries_between};
 ghost use Rattle.std.specs.declared.ops.Bound.TheVariants.{Included, Excluded};
-ghost use Rattle.oe_table.specs.Table.{place, rows_of, IsBlanked, SetsPlace, Judges, Sweeps};
+ghost use Rattle.oe_table.specs.Table.{place, rows_of, IsBlanked, SetsPlace, Judges, SweepsPlaces};
 
 use crate::keys::TableKey;
 use crate::walks::{Candidates, Rows};
@@ -76,7 +76,8 @@ impl<K: TableKey, R> Table<K, R> {
         R: Drop,
         requires { map.get (rows_of K.cmp self.old) key ≡ None }
         ensures ok { OnOk result (SetsPlace K.cmp self.old self.new key (Some row)) }
-        ensures rows { OnOk result (rows_of K.cmp self.new ≡ map.insert (rows_of K.cmp self.old) key row) }
+        ensures rows { OnOk result
+            (rows_of K.cmp self.new ≡ map.insert (rows_of K.cmp self.old) key row) }
         ensures err { OnErr result (self.new ≡ self.old) }
         ensures no_place { OnErr result (place K.cmp self.old key ≡ None) }
     {
@@ -139,7 +140,7 @@ impl<K: TableKey, R> Table<K, R> {
         R: Drop,
         F: Drop,
         requires { F.IsAlwaysCallable keeps }
-        ensures places { (key : K) → Sweeps (FnReturnsAt F.Fn keeps key) (place K.cmp self.old key) (place K.cmp self.new key) }
+        ensures places { SweepsPlaces K.cmp (FnReturnsAt F.Fn keeps) self.old self.new }
         ensures rows { rows_of K.cmp self.new ≡ rows_of K.cmp self.old }
     {
         self.slots.retain(
@@ -171,7 +172,8 @@ impl<K: TableKey, R> Table<K, R> {
     where
         K: Drop,
         requires { IsLeBy K.cmp from to }
-        ensures { result ≡ entries_between K.cmp (Included from) (Excluded to) (entries (rows_of K.cmp self.now)) }
+        ensures { result
+            ≡ entries_between K.cmp (Included from) (Excluded to) (entries (rows_of K.cmp self.now)) }
     {
         self.between(from..to)
     }
@@ -181,7 +183,8 @@ impl<K: TableKey, R> Table<K, R> {
     where
         K: Drop,
         requires { IsLeBy K.cmp from to }
-        ensures { result ≡ entries_between K.cmp (Included from) (Included to) (entries (rows_of K.cmp self.now)) }
+        ensures { result
+            ≡ entries_between K.cmp (Included from) (Included to) (entries (rows_of K.cmp self.now)) }
     {
         self.between(from..=to)
     }
@@ -189,7 +192,9 @@ impl<K: TableKey, R> Table<K, R> {
     // The rows whose keys lie between two bounds.
     fn between<B: RangeBounds<K> + Drop>(&self, bounds: B) -> Rows<'_, K, R>
         requires { B.is_forward bounds (IsLeBy K.cmp) (IsLtBy K.cmp) }
-        ensures { B.has_bounds bounds → result ≡ entries_between K.cmp (B.start_bound bounds) (B.end_bound bounds) (entries (rows_of K.cmp self.now)) }
+        ensures { B.has_bounds bounds → result
+            ≡ entries_between K.cmp (B.start_bound bounds) (B.end_bound bounds)
+            (entries (rows_of K.cmp self.now)) }
     {
         let slots = self.slots.range(bounds);
         Rows { slots }

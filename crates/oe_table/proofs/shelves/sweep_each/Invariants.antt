@@ -1,4 +1,3 @@
-use Rattle.std.proofs.Common.{◌≡◌}
 use Rattle.std.specs.Fn.{FnReturnsAt}
 use Rattle.oe_table.proofs.ShelfSweepFacts.{SweptUpTo}
 use Rattle.oe_table.proofs.shelves.sweep_each.Given as goal
