@@ -97,7 +97,8 @@ fn seconds_at(time: (u8, u8, u8)) -> Option<u32>
 #[inline]
 fn count(date: (u16, u8, u8), time: (u8, u8, u8)) -> Option<u64>
     ensures some { IfSome result (IsCounted date.0 date.1 date.2 time.0 time.1 time.2) }
-    ensures none { IsNone result → (n : ℕ) → IsCounted date.0 date.1 date.2 time.0 time.1 time.2 n → ⊥ }
+    ensures none { IsNone result
+        → (n : ℕ) → IsCounted date.0 date.1 date.2 time.0 time.1 time.2 n → ⊥ }
 {
     let days = days_at(date)?;
     let seconds = seconds_at(time)?;
@@ -128,7 +129,8 @@ fn moment_at(seconds: u64) -> civil::DateTime
 /// `YYYY-MM-DDTHH:MM:SS` at a date from the year 0 on.
 fn spelled(date: civil::Date, time: civil::Time) -> [u8; 19]
     requires { pos 0 ≤ℤ date.year }
-    ensures value { result ≡ date_text (unsigned_abs date.year) date.month date.day ++ 84 ∷ time_text time.hour time.minute time.second }
+    ensures value { result ≡ date_text (unsigned_abs date.year) date.month date.day
+        ++ 84 ∷ time_text time.hour time.minute time.second }
     ensures printable { All IsPrintable result }
 {
     let year = date.year as u16;
