@@ -80,6 +80,14 @@ with_commits v committed room = record v { committed = committed; room = room }
 abbrev pub without_last : List (List Addressed) → List (List Addressed)
 without_last ss = take (length ss - 1) ss
 
+-- the oldest commit is gone, where there is one
+abbrev pub without_oldest : Segments → ℕ → Segments
+without_oldest v room = with_commits v (without_last v.committed) room
+
+-- the newest commit is gone, where there is one
+abbrev pub without_newest : Segments → ℕ → Segments
+without_newest v room = with_commits v (drop 1 v.committed) room
+
 -- no strings
 abbrev pub no_segments : ℕ → ℕ → Segments
 no_segments extents slots =

@@ -5,9 +5,9 @@
 //! whether a string has room follows from the lengths of strings alone. All memory for strings is taken by `new`, and room for the
 //! segments of commits by `reserve`; these two may be refused memory. `push` is refused exactly where the ring is full, and changes
 //! nothing then. No other call can be refused.
-ghost use Rattle.std.specs.Prelude.{◌≡◌, ◌<◌, ◌≤◌, ◌+◌, ◌↔◌, [], length, get_or, drop, replicate, IsErr, IfOk, OnOk, OnErr};
+ghost use Rattle.std.specs.Prelude.{◌≡◌, ◌<◌, ◌≤◌, ◌+◌, ◌↔◌, [], length, get_or, replicate, IsErr, IfOk, OnOk, OnErr};
 ghost use Rattle.oe_extent.specs.Strings.{IsFramed};
-ghost use Rattle.oe_ring.specs.Segments.{IsFull, no_segments, pushed_at, popped_at, sealed_at, newest_bytes, without_last, with_commits, capacity_of, HasAddress, IsStringAt};
+ghost use Rattle.oe_ring.specs.Segments.{IsFull, no_segments, pushed_at, popped_at, sealed_at, newest_bytes, without_oldest, without_newest, capacity_of, HasAddress, IsStringAt};
 
 use oe_bytes::Written;
 use oe_extent::{Address, Pool, Segment};
@@ -158,7 +158,7 @@ impl Ring {
 
     /// Gives up the oldest commit's segment, where there is one. Its extents are free again, and there is room for a commit more.
     pub fn drop_oldest(&mut self)
-        ensures left { self.new ≡ with_commits self.old (without_last self.old.committed) self.new.room }
+        ensures left { self.new ≡ without_oldest self.old self.new.room }
         ensures room { capacity_of self.new ≡ capacity_of self.old }
     {
         let taken = self.committed.pop_back();
@@ -169,7 +169,7 @@ impl Ring {
 
     /// Gives up the newest commit's segment, where there is one. Its extents are free again, and there is room for a commit more.
     pub fn drop_newest(&mut self)
-        ensures left { self.new ≡ with_commits self.old (drop 1 self.old.committed) self.new.room }
+        ensures left { self.new ≡ without_newest self.old self.new.room }
         ensures room { capacity_of self.new ≡ capacity_of self.old }
     {
         let taken = self.committed.pop_front();
