@@ -12,4 +12,5 @@ module _ (K R : RattleType) (key : OrdMembers K.Denot) where
 
   -- the key has the row last written through r, and without r the table stays as it is
   abbrev pub lends_row : MutBor (List (K.Denot × Option R.Denot)) → K.Denot → Option (MutBor R.Denot) → Fml
-  lends_row t at r = LendsSo table_row R t r (λ new row. OnSome r (RewritesRow key.cmp t.now new at row)) (λ new. new ≡ t.now)
+  lends_row t at r =
+      LendsSo table_row R t r (λ new row. OnSome r (RewritesRow key.cmp t.now new at row)) (λ new. new ≡ t.now)

@@ -16,7 +16,8 @@ joined (s ∷ ss) = s ++ joined ss
 -- what stands from the i-th element of the a-th list on and before the j-th of the b-th
 abbrev pub cut_between : {A : Type 0} → List (List A) → ℕ → ℕ → ℕ → ℕ → List A
 cut_between ss a i b j =
-    cond (a == b) (drop i (take j (slice_index_or ss a []))) (drop i (slice_index_or ss a []) ++ (joined (drop (a + 1) (take b ss)) ++ take j (slice_index_or ss b [])))
+    cond (a == b) (drop i (take j (slice_index_or ss a [])))
+    (drop i (slice_index_or ss a []) ++ (joined (drop (a + 1) (take b ss)) ++ take j (slice_index_or ss b [])))
 
 -- how many elements stand before the first that fails
 abbrev pub front : {A : Type 0} → (A → Bool) → List A → ℕ
@@ -47,9 +48,11 @@ module _ {K X : Type 0} (cmp : K → K → Ordering) where
 
   -- the shelf with `v` at the key, in its place or in a new one
   abbrev pub put_at : List (K × X) → K → X → List (K × X)
-  put_at s key v = cond (is_some (lookup (is_at (cmp key)) s)) (set_value (is_at (cmp key)) s v) (insert s (lower s key) (key, v))
+  put_at s key v =
+      cond (is_some (lookup (is_at (cmp key)) s)) (set_value (is_at (cmp key)) s v) (insert s (lower s key) (key, v))
 
   -- the shelves ascend, and from the n-th on each has the keys of its number
   unfoldable pub AreShelves : (K → ℕ) → ℕ → List (List (K × X)) → Type 0
   AreShelves shelf_of n [] = ⊤
-  AreShelves shelf_of n (s ∷ ss) = IsAscending s × AllByRecursion (λ k. shelf_of k ≡ n) (keys_of s) × AreShelves shelf_of (suc n) ss
+  AreShelves shelf_of n (s ∷ ss) =
+      IsAscending s × AllByRecursion (λ k. shelf_of k ≡ n) (keys_of s) × AreShelves shelf_of (suc n) ss

@@ -14,5 +14,7 @@ module _ (K R : RattleType) where
   lends_content s r = Lends (slot_row K R) (option_row R) s r (λ w. (s.now.0, w))
 
   -- the shelf has at the key what was last written through r, and without r it stays as it is
-  abbrev pub lends_slot : (K.Denot → K.Denot → Ordering) → MutBor (List (K.Denot × Option R.Denot)) → K.Denot → Option (MutBor (Option R.Denot)) → Fml
-  lends_slot cmp s at r = LendsSo (shelf_row K R) (option_row R) s r (λ new w. new ≡ set_value (is_at (cmp at)) s.now w) (λ new. new ≡ s.now)
+  abbrev pub lends_slot : (K.Denot → K.Denot → Ordering) → MutBor (List (K.Denot × Option R.Denot)) → K.Denot
+      → Option (MutBor (Option R.Denot)) → Fml
+  lends_slot cmp s at r =
+      LendsSo (shelf_row K R) (option_row R) s r (λ new w. new ≡ set_value (is_at (cmp at)) s.now w) (λ new. new ≡ s.now)

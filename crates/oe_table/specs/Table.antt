@@ -21,8 +21,8 @@ abbrev pub Judges : {R : Type 0} → (Bool → Type 0) → Option R → Bool →
 Judges Answers None kept = Answers kept
 Judges Answers (Some row) kept = kept ≡ true
 
--- what a sweep leaves of a place, where `Answers b` says that the test may answer b: of a blanked one nothing, unless the test
--- keeps it
+-- what a sweep leaves of a place, where `Answers b` says that the test may answer b: of a blanked one nothing, unless the
+-- test keeps it
 abbrev pub Sweeps : {R : Type 0} → (Bool → Type 0) → Option (Option R) → Option (Option R) → Type 0
 Sweeps Answers None new = new ≡ None
 Sweeps Answers (Some None) new = (keeps : Bool) × Answers keeps × (new ≡ cond keeps (Some None) None)

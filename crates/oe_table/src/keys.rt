@@ -1,4 +1,7 @@
 //! The keys of a table.
+//!
+//! A key's order tells any two keys apart (`exact`). A shelved key lies on the shelf that its numbers name, and all keys of a lower
+//! shelf are less (`ascends`). Nothing can fail.
 ghost use Rattle.std.specs.Prelude.{◌≡◌, ◌<◌, ℕ};
 ghost use Rattle.std.specs.FinMap.{IsAntisymmetric, nat_cmp-IsAntisymmetric};
 ghost use Rattle.std.specs.declared.cmp.Ordering.TheVariants.{Less};

@@ -1,4 +1,7 @@
 //! One shelf of a table: its keys ascend, each with its row or, where it was blanked, none.
+//!
+//! That the keys ascend is asked of each call and is the invariant of the table that has the shelf. Only `put` takes memory, for a
+//! key without a place; where that is refused the shelf is as before.
 ghost use Rattle.std.specs.Prelude.{◌≡◌, ◌+◌, ◌<◌, ◌≤◌, ◌↔◌, Some, None, List, Option, [], Err, IsTrue, OnOk, OnErr, length};
 ghost use Rattle.std.specs.List.{insert};
 ghost use Rattle.std.specs.Option.{option_copied, option_copied_mut};

@@ -1,4 +1,7 @@
 //! Walks over a table of shelves in the keys' order, which take no memory.
+//!
+//! A walk is seen as the list of what is left of it: `Slots` of all places, `Rows` of those that have a row, `Candidates` of all
+//! places with their rows. Nothing can fail.
 ghost use Rattle.std.specs.Prelude.{Option, List, ◌++◌};
 ghost use Rattle.std.specs.Iterator.{YieldsFirstBy, item_count};
 ghost use Rattle.std.specs.Slice.Iter.{iter_rest};

@@ -1,4 +1,8 @@
 //! A table whose keys lie by number: shelf by shelf, and on its shelf each key after those that are less.
+//!
+//! By the invariant the keys of the n-th shelf are those that name it, and ascend; so all keys ascend from shelf to shelf. A `Cut`
+//! is a place between two slots, from which walks begin and at which they end. Only `put_new` takes memory, for a key without a
+//! place and for the shelves up to its own; where that is refused the table is as before.
 ghost use Rattle.std.specs.Prelude.{◌≡◌, ◌+◌, ◌<◌, ◌≤◌, ℕ, Some, None, OnOk, OnErr, IsSome, IsTrue, ◌↔◌, List, [], ◌++◌, Option, vec_len, replicate, length, slice_index_or, take, drop};
 ghost use Rattle.std.specs.List.Sorted.{IsStrictlySortedBy};
 ghost use Rattle.std.specs.Map.{keys_of};

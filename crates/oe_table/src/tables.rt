@@ -1,4 +1,7 @@
 //! A table: an ordered map from keys to rows, in which a blanked key keeps its place.
+//!
+//! The keys ascend, as those of the tree that it keeps them in. Only `put_new` takes memory, for a key without a place, and may be
+//! refused it (`NoMemory`); the table is then as before.
 ghost use Rattle.std.specs.Prelude.{◌≡◌, Some, None, OnOk, OnErr, IsSome, IsTrue, ◌↔◌, List, [], Option};
 ghost use Rattle.std.specs.Option.{option_copied, option_copied_mut};
 ghost use Rattle.std.specs.Borrow.{sem};
