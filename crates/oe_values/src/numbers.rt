@@ -1,4 +1,8 @@
 //! Numbers, money and moments in their ranges.
+//!
+//! Each type keeps its range by its invariant, and is seen as its number: money as cents, a rate as ten-thousandths. `new` gives
+//! `None` exactly where the number is out of the range. Nothing else can fail, and nothing takes memory. A clause beside a type
+//! says which column or input is meant; which of the ranges are the standard's is in docs/MODEL.md.
 ghost use Rattle.std.specs.Prelude.{◌≡◌, ◌↔◌, ◌≤◌, ℕ, ℤ, IsSome, IfSome};
 ghost use Rattle.oe_values.specs.Number.{IsWithin};
 
@@ -62,7 +66,7 @@ pub type ItemNumber = Number<1, 100_000>;
 /// O_ID and D_NEXT_O_ID (clause 1.3.1).
 pub type OrderNumber = Number<1, 10_000_000>;
 
-/// OL_NUMBER, a line's place in its order (clause 1.3.1).
+/// OL_NUMBER, a line's number in its order (clause 1.3.1).
 pub type LineNumber = Number<1, 15>;
 
 /// O_CARRIER_ID, where it is not null (clause 1.3.1).
@@ -95,10 +99,10 @@ pub type TerminalCount = Number<1, 64>;
 /// The terminal in a history row's key; 0 is the population's.
 pub type HistoryTerminal = Number<0, 64>;
 
-/// The place of a transaction among its terminal's, in a history row's key.
+/// The number of a transaction among its terminal's, from 1 on, in a history row's key. The population's begin at 1 too.
 pub type TransactionNumber = Number<0, 4_294_967_295>;
 
-/// The place of a history row in its transaction, which inserts one.
+/// The ordinal of a history row in its transaction, which inserts one.
 pub type HistoryPlace = Number<1, 1>;
 
 /// An item as a request names it, which may be none of the table's (clause 2.4.1.5).
