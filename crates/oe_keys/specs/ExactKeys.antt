@@ -15,10 +15,12 @@ triple a b c x y z e =
     exact_pairs nat_cmp (λ p q. ordering_then (nat_cmp p.0 q.0) (nat_cmp p.1 q.1)) exact_unsigned
     (exact_pairs nat_cmp nat_cmp exact_unsigned exact_unsigned) (a, (b, c)) (x, (y, z)) e
 
-quadruple : (a b c d x y z w : ℕ) → ordering_then (nat_cmp a x) (ordering_then (nat_cmp b y) (ordering_then (nat_cmp c z) (nat_cmp d w))) ≡ Equal
+quadruple : (a b c d x y z w : ℕ)
+    → ordering_then (nat_cmp a x) (ordering_then (nat_cmp b y) (ordering_then (nat_cmp c z) (nat_cmp d w))) ≡ Equal
     → ◌≡◌ {A = ℕ × (ℕ × (ℕ × ℕ))} (a, (b, (c, d))) (x, (y, (z, w)))
 quadruple a b c d x y z w e =
-    exact_pairs nat_cmp (λ p q. ordering_then (nat_cmp p.0 q.0) (ordering_then (nat_cmp p.1.0 q.1.0) (nat_cmp p.1.1 q.1.1))) exact_unsigned
+    exact_pairs nat_cmp
+    (λ p q. ordering_then (nat_cmp p.0 q.0) (ordering_then (nat_cmp p.1.0 q.1.0) (nat_cmp p.1.1 q.1.1))) exact_unsigned
     (λ p q. triple p.0 p.1.0 p.1.1 q.0 q.1.0 q.1.1) (a, (b, (c, d))) (x, (y, (z, w))) e
 
 pub exact_warehouse : IsAntisymmetric warehouse_cmp

@@ -26,7 +26,8 @@ district_cmp a b = ordering_then (nat_cmp a.warehouse b.warehouse) (nat_cmp a.di
 
 abbrev pub customer_cmp : CustomerKey → CustomerKey → Ordering
 customer_cmp a b =
-    ordering_then (nat_cmp a.warehouse b.warehouse) (ordering_then (nat_cmp a.district b.district) (nat_cmp a.customer b.customer))
+    ordering_then (nat_cmp a.warehouse b.warehouse)
+    (ordering_then (nat_cmp a.district b.district) (nat_cmp a.customer b.customer))
 
 abbrev pub history_cmp : HistoryKey → HistoryKey → Ordering
 history_cmp a b =
@@ -34,11 +35,13 @@ history_cmp a b =
 
 abbrev pub new_order_cmp : NewOrderKey → NewOrderKey → Ordering
 new_order_cmp a b =
-    ordering_then (nat_cmp a.warehouse b.warehouse) (ordering_then (nat_cmp a.district b.district) (nat_cmp a.order b.order))
+    ordering_then (nat_cmp a.warehouse b.warehouse)
+    (ordering_then (nat_cmp a.district b.district) (nat_cmp a.order b.order))
 
 abbrev pub order_cmp : OrderKey → OrderKey → Ordering
 order_cmp a b =
-    ordering_then (nat_cmp a.warehouse b.warehouse) (ordering_then (nat_cmp a.district b.district) (nat_cmp a.order b.order))
+    ordering_then (nat_cmp a.warehouse b.warehouse)
+    (ordering_then (nat_cmp a.district b.district) (nat_cmp a.order b.order))
 
 abbrev pub order_line_cmp : OrderLineKey → OrderLineKey → Ordering
 order_line_cmp a b =

@@ -1,4 +1,7 @@
 //! Keys of rows, and the names of tables (clause 1.3.1).
+//!
+//! A key has the columns of its table's primary key, in their order, each in its range by its type; its order is theirs from the
+//! left. Nothing can fail, and nothing takes memory.
 ghost use Rattle.std.specs.Prelude.{◌≡◌};
 ghost use Rattle.oe_keys.specs.Key.{table_of, table_name, warehouse_cmp, district_cmp, customer_cmp, history_cmp, new_order_cmp, order_cmp, order_line_cmp, item_cmp, stock_cmp, IsDistrictKey, IsCustomerKey};
 
@@ -31,8 +34,8 @@ pub struct CustomerKey {
     pub customer: CustomerNumber,
 }
 
-/// The key of a HISTORY row, which the standard leaves without one: the terminal, the place of the transaction among
-/// the terminal's, and the row's place in the transaction.
+/// The key of a HISTORY row, which the standard leaves without one: the terminal, the number of the transaction among
+/// the terminal's, and the row's ordinal in the transaction, here `place`.
 #[derive(Clone, Copy, Debug, PartialEq, Eq, PartialOrd, Ord)]
 pub struct HistoryKey {
     pub terminal: HistoryTerminal,
@@ -128,7 +131,8 @@ impl DistrictKey {
     /// The district's customer with that number.
     #[inline]
     pub fn customer(self, customer: CustomerNumber) -> CustomerKey
-        ensures { result ≡ record { warehouse = self.warehouse; district = self.district; customer = customer } }
+        ensures { result
+            ≡ record { warehouse = self.warehouse; district = self.district; customer = customer } }
     {
         CustomerKey {
             warehouse: self.warehouse,
@@ -140,7 +144,8 @@ impl DistrictKey {
     /// The district's order with that number.
     #[inline]
     pub fn order(self, order: OrderNumber) -> OrderKey
-        ensures { result ≡ record { warehouse = self.warehouse; district = self.district; order = order } }
+        ensures { result
+            ≡ record { warehouse = self.warehouse; district = self.district; order = order } }
     {
         OrderKey {
             warehouse: self.warehouse,
@@ -149,10 +154,11 @@ impl DistrictKey {
         }
     }
 
-    /// The place of the district's order with that number among those not yet delivered.
+    /// The key of the district's order with that number among those not yet delivered.
     #[inline]
     pub fn new_order(self, order: OrderNumber) -> NewOrderKey
-        ensures { result ≡ record { warehouse = self.warehouse; district = self.district; order = order } }
+        ensures { result
+            ≡ record { warehouse = self.warehouse; district = self.district; order = order } }
     {
         NewOrderKey {
             warehouse: self.warehouse,
@@ -202,7 +208,13 @@ impl OrderKey {
     /// The order's line with that number.
     #[inline]
     pub fn line(self, number: LineNumber) -> OrderLineKey
-        ensures { result ≡ record { warehouse = self.warehouse; district = self.district; order = self.order; number = number } }
+        ensures { result
+            ≡ record {
+              warehouse = self.warehouse;
+              district = self.district;
+              order = self.order;
+              number = number;
+            } }
     {
         OrderLineKey {
             warehouse: self.warehouse,
@@ -212,10 +224,11 @@ impl OrderKey {
         }
     }
 
-    /// The order's place among those not yet delivered.
+    /// The order's key among those not yet delivered.
     #[inline]
     pub fn new_order_key(self) -> NewOrderKey
-        ensures { result ≡ record { warehouse = self.warehouse; district = self.district; order = self.order } }
+        ensures { result
+            ≡ record { warehouse = self.warehouse; district = self.district; order = self.order } }
     {
         NewOrderKey {
             warehouse: self.warehouse,
@@ -229,7 +242,8 @@ impl OrderLineKey {
     /// The order that the line is of.
     #[inline]
     pub fn order_key(self) -> OrderKey
-        ensures { result ≡ record { warehouse = self.warehouse; district = self.district; order = self.order } }
+        ensures { result
+            ≡ record { warehouse = self.warehouse; district = self.district; order = self.order } }
     {
         OrderKey {
             warehouse: self.warehouse,
@@ -243,7 +257,8 @@ impl NewOrderKey {
     /// The order that is not yet delivered.
     #[inline]
     pub fn order_key(self) -> OrderKey
-        ensures { result ≡ record { warehouse = self.warehouse; district = self.district; order = self.order } }
+        ensures { result
+            ≡ record { warehouse = self.warehouse; district = self.district; order = self.order } }
     {
         OrderKey {
             warehouse: self.warehouse,

@@ -1,4 +1,7 @@
 //! Names of locks, and the modes in which they are held.
+//!
+//! A name has the key of what it names; no two rows of the tables that it governs have one name, but for an order and its lines,
+//! and for the NEW-ORDER rows of a district. Nothing can fail, and nothing takes memory.
 ghost use Rattle.std.specs.Prelude.{◌≡◌};
 ghost use Rattle.oe_keys.specs.Lock.{name_cmp};
 
