@@ -1,4 +1,7 @@
 //! Customers.
+//!
+//! A row's columns are in their ranges by type. Columns that are written or told together stand in a group of their own: the name,
+//! the address, the account. Nothing can fail, and nothing takes memory.
 ghost use Rattle.std.specs.Prelude.{◌≡◌, ◌↔◌, ◌∷◌, [], map, IsTrue};
 
 use crate::warehouses::Address;
@@ -51,7 +54,8 @@ impl CustomerName {
     /// C_FIRST, C_MIDDLE and C_LAST.
     pub fn parts(&self) -> [&str; 3]
         ensures ranges { IsCustomerName self.now }
-        ensures value { map (λ s. s.now) result ≡ self.now.first ∷ self.now.middle ∷ self.now.last ∷ [] }
+        ensures value { map (λ s. s.now) result
+            ≡ self.now.first ∷ self.now.middle ∷ self.now.last ∷ [] }
     {
         [
             self.first.as_str(),
@@ -85,7 +89,8 @@ impl Account {
     /// C_DISCOUNT, C_PAYMENT_CNT and C_DELIVERY_CNT.
     pub fn figures(&self) -> (u32, u32, u32)
         ensures ranges { IsAccount self.now }
-        ensures value { result ≡ (self.now.discount, self.now.payment_count, self.now.delivery_count) }
+        ensures value { result
+            ≡ (self.now.discount, self.now.payment_count, self.now.delivery_count) }
     {
         let _limit = self.credit_limit.cents();
         let _balance = self.balance.cents();

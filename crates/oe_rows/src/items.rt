@@ -1,4 +1,6 @@
 //! Items, and their stock.
+//!
+//! A row's columns are in their ranges by type. Nothing can fail, and nothing takes memory.
 ghost use Rattle.std.specs.Prelude.{◌≡◌, ◌↔◌, ◌-◌, length, map, slice_get, Some, IsTrue};
 ghost use Rattle.std.specs.List.{All};
 ghost use Rattle.oe_values.specs.Text.{IsText};
@@ -138,7 +140,8 @@ impl Stock {
     /// S_QUANTITY, S_YTD, S_ORDER_CNT and S_REMOTE_CNT.
     pub fn figures(&self) -> (u32, u32, u32, u32)
         ensures ranges { IsStock self.now }
-        ensures value { result ≡ (self.now.quantity, self.now.ytd, self.now.order_count, self.now.remote_count) }
+        ensures value { result
+            ≡ (self.now.quantity, self.now.ytd, self.now.order_count, self.now.remote_count) }
     {
         let _infos = self.dist_infos();
         let _data = self.data.as_str();

@@ -1,4 +1,6 @@
 //! Orders, their lines, and the orders not yet delivered.
+//!
+//! A row's columns are in their ranges by type. Nothing can fail, and nothing takes memory.
 ghost use Rattle.std.specs.Prelude.{◌≡◌, ◌↔◌, IsTrue};
 
 use oe_values::numbers::{
@@ -82,7 +84,13 @@ impl OrderLine {
     /// OL_I_ID, OL_SUPPLY_W_ID, OL_DELIVERY_D in seconds, OL_QUANTITY and OL_AMOUNT in cents.
     pub fn figures(&self) -> (u32, u32, Option<u64>, u32, u64)
         ensures ranges { IsOrderLine self.now }
-        ensures value { result ≡ (self.now.item, self.now.supply, self.now.delivery, self.now.quantity, self.now.amount) }
+        ensures value { result ≡ (
+          self.now.item,
+          self.now.supply,
+          self.now.delivery,
+          self.now.quantity,
+          self.now.amount,
+        ) }
     {
         let _info = self.dist_info.as_str();
         (

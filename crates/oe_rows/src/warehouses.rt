@@ -1,4 +1,6 @@
 //! Warehouses, and addresses.
+//!
+//! A row's columns are in their ranges by type. Nothing can fail, and nothing takes memory.
 ghost use Rattle.std.specs.Prelude.{◌≡◌, ◌↔◌, ◌∷◌, [], map, IsTrue};
 
 use oe_values::numbers::{Rate, YearToDate};
@@ -29,7 +31,8 @@ impl Address {
     /// The first street line, the second, the city, the state and the zip.
     pub fn lines(&self) -> [&str; 5]
         ensures ranges { IsAddress self.now }
-        ensures value { map (λ s. s.now) result ≡ self.now.street_1 ∷ self.now.street_2 ∷ self.now.city ∷ self.now.state ∷ self.now.zip ∷ [] }
+        ensures value { map (λ s. s.now) result ≡ self.now.street_1 ∷ self.now.street_2
+            ∷ self.now.city ∷ self.now.state ∷ self.now.zip ∷ [] }
     {
         [
             self.street_1.as_str(),
