@@ -1,4 +1,6 @@
-//! Refusals.
+//! Refusals, and the columns whose range a result may leave.
+//!
+//! There are seventeen refusals, numbered from 1. Each says its cause; what has changed then is said where it is answered.
 ghost use Rattle.std.specs.Prelude.{◌≡◌};
 ghost use Rattle.oe_requests.specs.Refusal.{refusal_number, column_name};
 

@@ -1,4 +1,6 @@
 //! Replies to requests and queries (clauses 2.4.3 to 2.8.3).
+//!
+//! A reply is a plain value whose parts are in their ranges by type. Nothing can fail, and nothing takes memory.
 ghost use Rattle.std.specs.Prelude.{◌≡◌};
 
 use oe_rows::customers::Credit;
