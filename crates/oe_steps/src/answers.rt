@@ -9,7 +9,7 @@ use oe_values::Moment;
 #[derive(Drop, Debug, PartialEq, Eq)]
 pub enum Answer {
     Begun,
-    /// The transaction is open, and has a step left.
+    /// The transaction is open, and has a stage left.
     More,
     /// The transaction committed and made that moment.
     Committed(Moment, Reply),
