@@ -35,34 +35,34 @@ pub data Refusal : Type 0 where
   Overflow : Refusal
   Present : Refusal
 
--- places of a payment, with the balance that is left
+-- positions of a payment, with the balance that is left
 pub data Pay_place : Type 0 where
   At_account : Pay_place
   At_entry : ℕ → Pay_place
   At_slip : ℕ → Pay_place
   At_end : ℕ → Pay_place
 
--- places of serving, with the entry that was taken
+-- positions of serving, with the entry that was taken
 pub data Serve_place : Type 0 where
   At_queue : Serve_place
   At_target : ℕ × ℕ → Entry → Serve_place
   At_served : ℕ × ℕ → Serve_place
   At_skip : Serve_place
 
--- places of a renaming, with the old owner
+-- positions of a renaming, with the old owner
 pub data Rename_place : Type 0 where
   To_read : Rename_place
   To_leave : ℕ → Rename_place
   To_set : ℕ → Rename_place
   To_close : Rename_place
 
--- places of a visit, with the account that was found
+-- positions of a visit, with the account that was found
 pub data Visit_place : Type 0 where
   To_find : Visit_place
   To_visit : ℕ → Visit_place
   To_end : ℕ → Visit_place
 
--- a program with its request and its place
+-- a program with its request and its position
 pub data Program : Type 0 where
   Paying : Payment → Pay_place → Program
   Serving : ℕ → Serve_place → Program
@@ -90,7 +90,7 @@ MayRefuse (Serve d) NoAccount = Unit {0}
 MayRefuse (Visit n) NoAccount = Unit {0}
 MayRefuse _ _ = ⊥
 
--- what a program does at a place
+-- what a program does at a position
 abbrev pub Action : Type 0
 Action = Act Change Program Reply Refusal
 
@@ -125,7 +125,7 @@ debited q a = record a { balance = a.balance - q.amount }
 abbrev pub entry_of : Payment → Entry
 entry_of q = record { account = q.target; amount = q.amount }
 
--- the locks that a payment asks for, place by place
+-- the locks that a payment asks for, position by position
 abbrev pub pay_ask : Payment → Pay_place → Tables → Ask Name Refusal
 pay_ask q At_account r = take_account q.account r
 pay_ask q (At_entry b) r = Take (OfQueue q.entry.0) Exclusive
@@ -152,7 +152,7 @@ pay_taken q (At_end b) = alone (OfQueue q.entry.0) ∷ alone (OfAccount q.accoun
 abbrev pub credited : Entry → Account → Account
 credited e a = record a { balance = a.balance + e.amount }
 
--- the locks that serving asks for, place by place
+-- the locks that serving asks for, position by position
 abbrev pub serve_ask : ℕ → Serve_place → Tables → Ask Name Refusal
 serve_ask d At_queue r = Take (OfQueue d) Exclusive
 serve_ask d (At_target k e) r = Take (OfAccount e.account) Exclusive
@@ -171,7 +171,7 @@ serve_act d (At_target k e) r = given NoAccount (get r.accounts e.account) (λ a
 serve_act d (At_served k) r = Ready (Served k.1)
 serve_act d At_skip r = Ready Skipped
 
--- the locks that were taken on the way, as far as later places need them
+-- the locks that were taken on the way, as far as later positions need them
 abbrev pub serve_taken : ℕ → Serve_place → List (Hold Name)
 serve_taken d At_queue = []
 serve_taken d (At_target k e) = alone (OfQueue d) ∷ []
@@ -182,7 +182,7 @@ serve_taken d At_skip = []
 abbrev pub renamed : ℕ → Account → Account
 renamed n a = record a { owner = n }
 
--- the locks that a renaming asks for, place by place: the old and the new owner's names are held when the owner changes
+-- the locks that a renaming asks for, position by position: the old and the new owner's names are held when the owner changes
 abbrev pub rename_ask : ℕ → ℕ → Rename_place → Tables → Ask Name Refusal
 rename_ask k n To_read r = take_account k r
 rename_ask k n (To_leave old) r = Take (OfOwner old) Exclusive
@@ -196,7 +196,7 @@ rename_act k n (To_leave old) r = Go None (Renaming k n (To_set old))
 rename_act k n (To_set old) r = given NoAccount (get r.accounts k) (λ a. Go (Some (SetAccount k (Some (renamed n a)))) (Renaming k n To_close))
 rename_act k n To_close r = Ready (Renamed n)
 
--- the locks that were taken on the way, as far as later places need them
+-- the locks that were taken on the way, as far as later positions need them
 abbrev pub rename_taken : ℕ → Rename_place → List (Hold Name)
 rename_taken k To_read = []
 rename_taken k (To_leave old) = alone (OfAccount k) ∷ []
@@ -207,7 +207,7 @@ rename_taken k To_close = []
 abbrev pub visited : Account → Account
 visited a = record a { visits = suc a.visits }
 
--- the locks that a visit asks for, place by place: the owner's name is held when its accounts are looked up
+-- the locks that a visit asks for, position by position: the owner's name is held when its accounts are looked up
 abbrev pub visit_ask : ℕ → Visit_place → Tables → Ask Name Refusal
 visit_ask n To_find r = Take (OfOwner n) Shared
 visit_ask n (To_visit k) r = Take (OfAccount k) Exclusive
@@ -219,27 +219,27 @@ visit_act n To_find r = given NoAccount (first_owned n r) (λ k. Go None (Visiti
 visit_act n (To_visit k) r = given NoAccount (get r.accounts k) (λ a. Go (Some (SetAccount k (Some (visited a)))) (Visiting n (To_end k)))
 visit_act n (To_end k) r = Ready (Visited k)
 
--- the locks that were taken on the way, as far as later places need them
+-- the locks that were taken on the way, as far as later positions need them
 abbrev pub visit_taken : ℕ → Visit_place → List (Hold Name)
 visit_taken n To_find = []
 visit_taken n (To_visit k) = record { name = OfOwner n; mode = Shared } ∷ []
 visit_taken n (To_end k) = []
 
--- the lock that a program asks for at its place
+-- the lock that a program asks for at its position
 abbrev pub ask : Tx Request → Program → Tables → Ask Name Refusal
 ask x (Paying q p) r = pay_ask q p r
 ask x (Serving d p) r = serve_ask d p r
 ask x (Renaming k n p) r = rename_ask k n p r
 ask x (Visiting n p) r = visit_ask n p r
 
--- what a program does at its place
+-- what a program does at its position
 abbrev pub act : Tx Request → Program → Tables → Action
 act x (Paying q p) r = pay_act x q p r
 act x (Serving d p) r = serve_act d p r
 act x (Renaming k n p) r = rename_act k n p r
 act x (Visiting n p) r = visit_act n p r
 
--- the locks that a program took on the way to its place
+-- the locks that a program took on the way to its position
 abbrev pub taken : Tx Request → Program → List (Hold Name)
 taken x (Paying q p) = pay_taken q p
 taken x (Serving d p) = serve_taken d p
