@@ -43,31 +43,21 @@ use Rattle.oe_script.proofs.AnswerFacts.{IsTold, told_advance, told_save, told_b
 
 -- THE FORMS OF LINES
 
-by_number : (c : CustomerChoice) → grammar.IsCustomer c → model.IsChoice c × IsNumber c
-by_number (choice.Number n) h = (h, tt)
+by_number : (c : CustomerChoice) → grammar.IsNumbered c → IsNumber c
+by_number (choice.Number n) h = h
 by_number (choice.LastName last) h = absurd h
 
 -- a request that a line spells has a program
 pub has_program : (q : Request) → grammar.IsRequest q → HasProgram q
-has_program (request.Payment q) h =
-    let b = by_number q.customer h.customer in (
-      record {
-        district = (h.district.warehouse, h.district.district);
-        customer_district = (h.customer_district.warehouse, h.customer_district.district);
-        customer = b.0;
-        amount = h.amount;
-        stamp = h.stamp;
-      },
-      b.1,
-    )
-has_program (request.NewOrder q) h = absurd h
+has_program (request.Payment q) h = (h.0, by_number q.customer h.1)
+has_program (request.NewOrder q) h = h
 has_program (request.Delivery q) h = absurd h
 has_program (request.Deliveries q) h = absurd h
 has_program (request.Rename q) h = absurd h
 
 is_request : (q : Request) → HasProgram q → model.IsRequest q
 is_request (request.Payment q) h = h.0
-is_request (request.NewOrder q) h = absurd h
+is_request (request.NewOrder q) h = h
 is_request (request.Delivery q) h = absurd h
 is_request (request.Deliveries q) h = absurd h
 is_request (request.Rename q) h = absurd h

@@ -1,5 +1,5 @@
 -- What the steps of today keep of a world, that each of them is answered, and that a run of them ends.
-use Rattle.std.proofs.Common.{◌≡◌, ℕ, zero, suc, ◌<◌, ◌==◌, cond, Bool, true, false, Option, None, Some, [], ◌∷◌, refl, sym, ap, subst, arith}
+use Rattle.std.proofs.Common.{◌≡◌, ℕ, zero, suc, ◌+◌, ◌*◌, ◌<◌, ◌==◌, cond, Bool, true, false, Option, None, Some, [], ◌∷◌, length, refl, sym, ap, subst, arith}
 use Rattle.std.specs.FinMap.{get}
 use Rattle.oe_theory.specs.Machine.{Go, Tx}
 use Rattle.oe_theory.specs.World.{World, Open, set, tx_of, tables}
@@ -9,6 +9,7 @@ use Rattle.oe_theory.proofs.Sets.{set_same}
 use Rattle.oe_theory.proofs.Theorems.{run_is_reached}
 use Rattle.oe_keys.specs.declared.keys.Key.TheVariants as key
 use Rattle.oe_requests.specs.declared.requests.PaymentRequest.{PaymentRequest}
+use Rattle.oe_requests.specs.declared.requests.NewOrderRequest.{NewOrderRequest}
 use Rattle.oe_requests.specs.declared.requests.Request.{Request}
 use Rattle.oe_requests.specs.declared.requests.Request.TheVariants as request
 use Rattle.oe_requests.specs.declared.refusals.Refusal.TheVariants as refusal
@@ -20,21 +21,29 @@ use Rattle.oe_model.specs.Rows.{Rows}
 use Rattle.oe_model.specs.Changes.{Change}
 use Rattle.oe_model.specs.Choice.{chosen}
 use Rattle.oe_model.specs.Effects.{Doing}
-use Rattle.oe_model.specs.Places.{Place, InPayment, InNewOrder, InDelivery, NoProgram, PaymentPlace, PaymentWarehouse, PaymentDistrict, PaymentCustomer, PaymentHistory, PaymentEnd}
+use Rattle.oe_model.specs.Places.{Place, InPayment, InNewOrder, InDelivery, NoProgram, PaymentPlace, PaymentWarehouse, PaymentDistrict, PaymentCustomer, PaymentHistory, PaymentEnd, NewOrderPlace, NewOrderWarehouse, NewOrderDistrict, NewOrderCustomer, NewOrderOrder, NewOrderQueue, NewOrderStock, NewOrderLine}
+use Rattle.oe_model.specs.NewOrder.{item_at, stock_of}
 use Rattle.oe_model.specs.System.{system, ask, act, start_of}
 use Rattle.oe_model.proofs.LawFacts.{given_goes, within_goes}
 use Rattle.oe_model.proofs.SystemLaws.{laws}
 use Rattle.oe_core.specs.Steps.{step_in, Serves, HasProgram, IsStep}
 use Rattle.oe_script.specs.Script.{RunsIn}
-use Rattle.oe_script.specs.Session.{IsOfPayment, IsPaying, HasPayments, IsLive}
+use Rattle.oe_script.specs.Session.{IsServed, IsServing, AreServing, IsLive}
 
--- how many rows of its program a payment has left before its commit
+-- how many rows of its program a payment or an order has left before its commit
 abbrev pub rank : Place → ℕ
 rank (InPayment q PaymentWarehouse) = 4
 rank (InPayment q (PaymentDistrict w)) = 3
 rank (InPayment q (PaymentCustomer w d)) = 2
 rank (InPayment q (PaymentHistory d y)) = 1
 rank (InPayment q (PaymentEnd y)) = 0
+rank (InNewOrder q NewOrderWarehouse) = 5 + 2 * length q.lines
+rank (InNewOrder q (NewOrderDistrict w)) = 4 + 2 * length q.lines
+rank (InNewOrder q (NewOrderCustomer o w d)) = 3 + 2 * length q.lines
+rank (InNewOrder q (NewOrderOrder s)) = 2 + 2 * length q.lines
+rank (InNewOrder q (NewOrderQueue s)) = 1 + 2 * length q.lines
+rank (InNewOrder q (NewOrderStock s before done ls)) = 2 * length ls
+rank (InNewOrder q (NewOrderLine s before done l f ls)) = 1 + 2 * length ls
 rank p = 0
 
 abbrev pub rank_of : Option (Open system) → ℕ
@@ -44,11 +53,11 @@ rank_of (Some o) = rank o.now.place
 abbrev pub left : World system → ℕ → ℕ
 left w t = rank_of (w.active t)
 
-lands : (d c : Option Change) (p z : Place) (n : ℕ) → ◌≡◌ {A = Doing} (Go d p) (Go c z) → IsOfPayment p → rank p < n → IsOfPayment z × (rank z < n)
-lands d c p z n e a b = let same : p ≡ z = cc in subst (λ (v : Place). IsOfPayment v × (rank v < n)) same (a, b)
+lands : (d c : Option Change) (p z : Place) (n : ℕ) → ◌≡◌ {A = Doing} (Go d p) (Go c z) → IsServed p → rank p < n → IsServed z × (rank z < n)
+lands d c p z n e a b = let same : p ≡ z = cc in subst (λ (v : Place). IsServed v × (rank v < n)) same (a, b)
 
 payment_goes : (x : Tx Request) (q : PaymentRequest) (p : PaymentPlace) (r : Rows) (c : Option Change) (z : Place) → act x (InPayment q p) r ≡ Go c z
-    → IsOfPayment z × (rank z < rank (InPayment q p))
+    → IsServed z × (rank z < rank (InPayment q p))
 payment_goes x q PaymentWarehouse r c z e =
     let (y, here, e1) = given_goes (refusal.NoSuchRow (key.Warehouse (warehouse_of_district q.district))) (get r.warehouses (warehouse_of_district q.district)) _ c z e in
     let less : 3 < 4 = omega arith in
@@ -67,68 +76,98 @@ payment_goes x q (PaymentHistory d y) r c z e =
     lands _ c _ z 1 e tt less
 payment_goes x q (PaymentEnd y) r c z e = let no : ⊥ = cc in absurd no
 
-goes : (x : Tx Request) (p : Place) (r : Rows) (c : Option Change) (z : Place) → IsOfPayment p → act x p r ≡ Go c z → IsOfPayment z × (rank z < rank p)
+new_order_goes : (x : Tx Request) (q : NewOrderRequest) (p : NewOrderPlace) (r : Rows) (c : Option Change) (z : Place) → act x (InNewOrder q p) r ≡ Go c z
+    → IsServed z × (rank z < rank (InNewOrder q p))
+new_order_goes x q NewOrderWarehouse r c z e =
+    let (y, here, e1) = given_goes (refusal.NoSuchRow (key.Warehouse (warehouse_of_district q.district))) (get r.warehouses (warehouse_of_district q.district)) _ c z e in
+    let less : 4 + 2 * length q.lines < 5 + 2 * length q.lines = omega arith in
+    lands _ c _ z (5 + 2 * length q.lines) e1 tt less
+new_order_goes x q (NewOrderDistrict w) r c z e =
+    let (y, here, e1) = given_goes (refusal.NoSuchRow (key.District q.district)) (get r.districts q.district) _ c z e in
+    let less : 3 + 2 * length q.lines < 4 + 2 * length q.lines = omega arith in
+    lands _ c _ z (4 + 2 * length q.lines) (within_goes _ _ c z e1) tt less
+new_order_goes x q (NewOrderCustomer o w d) r c z e =
+    let (y, here, e1) = given_goes refusal.NoCustomer (get r.customers (customer_in q.district q.customer)) _ c z e in
+    let less : 2 + 2 * length q.lines < 3 + 2 * length q.lines = omega arith in
+    lands _ c _ z (3 + 2 * length q.lines) e1 tt less
+new_order_goes x q (NewOrderOrder s) r c z e =
+    let less : 1 + 2 * length q.lines < 2 + 2 * length q.lines = omega arith in
+    lands _ c _ z (2 + 2 * length q.lines) e tt less
+new_order_goes x q (NewOrderQueue s) r c z e =
+    let less : 2 * length q.lines < 1 + 2 * length q.lines = omega arith in
+    lands _ c _ z (1 + 2 * length q.lines) e tt less
+new_order_goes x q (NewOrderStock s before done []) r c z e = let no : ⊥ = cc in absurd no
+new_order_goes x q (NewOrderStock s before done (l ∷ ls)) r c z e =
+    let (item, found, e1) = given_goes refusal.InvalidItem (item_at l.item r.items) _ c z e in
+    let (y, here, e2) = given_goes (refusal.NoSuchRow (key.Stock (stock_of l))) (get r.stocks (stock_of l)) _ c z e1 in
+    let less : 1 + 2 * length ls < 2 * length (l ∷ ls) = omega arith in
+    lands _ c _ z (2 * length (l ∷ ls)) (within_goes _ _ c z e2) tt less
+new_order_goes x q (NewOrderLine s before done l f ls) r c z e =
+    let less : 2 * length ls < 1 + 2 * length ls = omega arith in
+    lands _ c _ z (1 + 2 * length ls) e tt less
+
+goes : (x : Tx Request) (p : Place) (r : Rows) (c : Option Change) (z : Place) → IsServed p → act x p r ≡ Go c z → IsServed z × (rank z < rank p)
 goes x (InPayment q p) r c z h e = payment_goes x q p r c z e
-goes x (InNewOrder q p) r c z h e = absurd h
+goes x (InNewOrder q p) r c z h e = new_order_goes x q p r c z e
 goes x (InDelivery q p) r c z h e = absurd h
 goes x NoProgram r c z h e = absurd h
 
--- PAYMENTS STAY PAYMENTS
+-- WHAT IS SERVED STAYS SO
 
-one_of : (b : Bool) (v u : Option (Open system)) → IsPaying v → IsPaying u → IsPaying (cond b v u)
+one_of : (b : Bool) (v u : Option (Open system)) → IsServing v → IsServing u → IsServing (cond b v u)
 one_of true v u h k = h
 one_of false v u h k = k
 
-placed : (t : ℕ) (v : Option (Open system)) (f : ℕ → Option (Open system)) → ((u : ℕ) → IsPaying (f u)) → IsPaying v → (u : ℕ) → IsPaying (set t v f u)
+placed : (t : ℕ) (v : Option (Open system)) (f : ℕ → Option (Open system)) → ((u : ℕ) → IsServing (f u)) → IsServing v → (u : ℕ) → IsServing (set t v f u)
 placed t v f h k u = one_of (u == t) v (f u) k (h u)
 
-here : (w : World system) → HasPayments w → (t : ℕ) (o : Open system) → w.active t ≡ Some o → IsPaying (Some o)
-here w h t o e = subst IsPaying e (h t)
+here : (w : World system) → AreServing w → (t : ℕ) (o : Open system) → w.active t ≡ Some o → IsServing (Some o)
+here w h t o e = subst IsServing e (h t)
 
--- a transaction that begins is a payment
+-- a transaction that begins has a program of today
 abbrev IsBegun : theory.Step system → Type 0
 IsBegun (Begin t q) = HasProgram q
 IsBegun i = Unit {0}
 
-starts : (q : Request) → HasProgram q → IsOfPayment (start_of q)
+starts : (q : Request) → HasProgram q → IsServed (start_of q)
 starts (request.Payment q) h = tt
-starts (request.NewOrder q) h = absurd h
+starts (request.NewOrder q) h = tt
 starts (request.Delivery q) h = absurd h
 starts (request.Deliveries q) h = absurd h
 starts (request.Rename q) h = absurd h
 
-payments_stay : (w : World system) (i : theory.Step system) (a : theory.Answer system) (w' : World system) → IsBegun i → HasPayments w → Next system w i a w' → HasPayments w'
-payments_stay w _ _ _ b h (begins t q m) = placed t (Some (begun system w t q)) w.active h (starts q b, starts q b)
-payments_stay w _ _ _ b h (goes_on t o c p e g r room) =
+served_stay : (w : World system) (i : theory.Step system) (a : theory.Answer system) (w' : World system) → IsBegun i → AreServing w → Next system w i a w' → AreServing w'
+served_stay w _ _ _ b h (begins t q m) = placed t (Some (begun system w t q)) w.active h (starts q b, starts q b)
+served_stay w _ _ _ b h (goes_on t o c p e g r room) =
     placed t (Some (moved system o _ c p (tables system w))) w.active h ((goes (tx_of system t o) o.now.place (tables system w) c p (here w h t o e).0 r).0, (here w h t o e).1)
-payments_stay w _ _ _ b h (commits t o reply e g r) = placed t None w.active h tt
-payments_stay w _ _ _ b h (saves t o e) = placed t (Some (record o { mark = o.now; mark_lengths = o.lengths })) w.active h ((here w h t o e).0, (here w h t o e).0)
-payments_stay w _ _ _ b h (goes_back t o e) = placed t (Some (record o { now = o.mark; lengths = o.mark_lengths })) w.active h ((here w h t o e).1, (here w h t o e).1)
-payments_stay w _ _ _ b h (rolls_back t o e) = placed t None w.active h tt
-payments_stay w _ _ _ b h (reads m q f a l u k) = h
-payments_stay w _ _ _ b h (audits m c l u) = h
-payments_stay w _ _ _ b h (purges m l u) = h
-payments_stay w _ _ _ b h (rewinds m q l u) = h
-payments_stay w _ _ _ b h (stops t o e f r) = placed t None w.active h tt
-payments_stay w _ _ _ b h (fails t o e f g r) = placed t None w.active h tt
-payments_stay w _ _ _ b h (is_busy t o n m u e r g) = h
-payments_stay w _ _ _ b h (is_full t o c p e g r f) = h
-payments_stay w _ _ _ b h (is_rejected t q e r) = h
-payments_stay w _ _ _ b h (is_open t q o r e) = h
-payments_stay w _ _ _ b h (number_is_rejected t q e r c k) = h
-payments_stay w _ _ _ b h (query_is_rejected m q e r) = h
-payments_stay w _ _ _ b h (misses m q e r l u k) = h
-payments_stay w _ _ _ b h (not_open s t e f) = h
-payments_stay w _ _ _ b h (too_old s m e p l) = h
-payments_stay w _ _ _ b h (future s m e p l) = h
-payments_stay w _ _ _ b h (not_quiet m n e) = h
-payments_stay w _ _ _ b h (lacks_memory_at_begin t q m) = h
-payments_stay w _ _ _ b h (lacks_memory t o e m) = h
+served_stay w _ _ _ b h (commits t o reply e g r) = placed t None w.active h tt
+served_stay w _ _ _ b h (saves t o e) = placed t (Some (record o { mark = o.now; mark_lengths = o.lengths })) w.active h ((here w h t o e).0, (here w h t o e).0)
+served_stay w _ _ _ b h (goes_back t o e) = placed t (Some (record o { now = o.mark; lengths = o.mark_lengths })) w.active h ((here w h t o e).1, (here w h t o e).1)
+served_stay w _ _ _ b h (rolls_back t o e) = placed t None w.active h tt
+served_stay w _ _ _ b h (reads m q f a l u k) = h
+served_stay w _ _ _ b h (audits m c l u) = h
+served_stay w _ _ _ b h (purges m l u) = h
+served_stay w _ _ _ b h (rewinds m q l u) = h
+served_stay w _ _ _ b h (stops t o e f r) = placed t None w.active h tt
+served_stay w _ _ _ b h (fails t o e f g r) = placed t None w.active h tt
+served_stay w _ _ _ b h (is_busy t o n m u e r g) = h
+served_stay w _ _ _ b h (is_full t o c p e g r f) = h
+served_stay w _ _ _ b h (is_rejected t q e r) = h
+served_stay w _ _ _ b h (is_open t q o r e) = h
+served_stay w _ _ _ b h (number_is_rejected t q e r c k) = h
+served_stay w _ _ _ b h (query_is_rejected m q e r) = h
+served_stay w _ _ _ b h (misses m q e r l u k) = h
+served_stay w _ _ _ b h (not_open s t e f) = h
+served_stay w _ _ _ b h (too_old s m e p l) = h
+served_stay w _ _ _ b h (future s m e p l) = h
+served_stay w _ _ _ b h (not_quiet m n e) = h
+served_stay w _ _ _ b h (lacks_memory_at_begin t q m) = h
+served_stay w _ _ _ b h (lacks_memory t o e m) = h
 
 -- WORLDS STAY REACHED
 
 next_live : (w : World system) (i : theory.Step system) (a : theory.Answer system) (w' : World system) → IsBegun i → IsLive (Some w) → Next system w i a w' → IsLive (Some w')
-next_live w i a w' b l n = (run_is_reached system laws w w' (i ∷ []) (a ∷ []) l.0 (w', n, refl), payments_stay w i a w' b l.1 n)
+next_live w i a w' b l n = (run_is_reached system laws w w' (i ∷ []) (a ∷ []) l.0 (w', n, refl), served_stay w i a w' b l.1 n)
 
 pub live_step : (w : World system) (j : Step) (a : theory.Answer system) (w' : World system) → IsStep j → IsLive (Some w) → Serves w (step_in j) a w' → IsLive (Some w')
 live_step w (step.Begin t q) a w' b l n = next_live w _ a w' b l n
@@ -147,7 +186,7 @@ live_runs (suc n) w t x w' l r = live_runs n r.0 t x w' (live_step w (step.Advan
 
 -- A RUN ENDS
 
-falls_by : (w : World system) (i : theory.Step system) (a : theory.Answer system) (w' : World system) (t : ℕ) → HasPayments w → Next system w i a w' → i ≡ Advance t → a ≡ More → left w' t < left w t
+falls_by : (w : World system) (i : theory.Step system) (a : theory.Answer system) (w' : World system) (t : ℕ) → AreServing w → Next system w i a w' → i ≡ Advance t → a ≡ More → left w' t < left w t
 falls_by w _ _ _ t h (goes_on u o c p e g r room) i a =
     let same : u ≡ t = cc in
     let next : Open system = moved system o (ask (tx_of system u o) o.now.place (tables system w)) c p (tables system w) in
@@ -158,5 +197,5 @@ falls_by w _ _ _ t h (goes_on u o c p e g r room) i a =
     subst (λ (v : ℕ). left (theory.put_active system u (Some next) w) v < left w v) same own
 falls_by w _ _ _ t h n i a = cc
 
-pub falls : (w w' : World system) (t : ℕ) → HasPayments w → Next system w (Advance t) More w' → left w' t < left w t
+pub falls : (w w' : World system) (t : ℕ) → AreServing w → Next system w (Advance t) More w' → left w' t < left w t
 falls w w' t h n = falls_by w _ _ w' t h n refl refl

@@ -2,7 +2,7 @@
 use Rattle.std.specs.Prelude.{◌≡◌, ℕ, ◌+◌, ◌^◌, ◌<◌, ◌≤◌, ◌⊎◌, Bool, List, [], ◌++◌, length, ⊤, Option, Some, None, Result, Ok, Err, MatchResult}
 use Rattle.oe_theory.specs.World.{Open, World}
 use Rattle.oe_theory.specs.Theorems.{IsReached}
-use Rattle.oe_model.specs.Places.{Place, InPayment}
+use Rattle.oe_model.specs.Places.{Place, InPayment, InNewOrder}
 use Rattle.oe_model.specs.System.{system}
 use Rattle.oe_core.specs.Core.{Stored, world_of}
 use Rattle.oe_script.specs.declared.session.Fault.{Fault}
@@ -15,24 +15,25 @@ abbrev pub state_of : Option Stored → State
 state_of None = None
 state_of (Some c) = Some (world_of c)
 
--- a place of a payment's program
-abbrev pub IsOfPayment : Place → Type 0
-IsOfPayment (InPayment q p) = Unit {0}
-IsOfPayment p = ⊥
+-- a place of a program that steps of today run: a payment's, or an order's
+abbrev pub IsServed : Place → Type 0
+IsServed (InPayment q p) = Unit {0}
+IsServed (InNewOrder q p) = Unit {0}
+IsServed p = ⊥
 
--- an open transaction is a payment, here and at its mark
-abbrev pub IsPaying : Option (Open system) → Type 0
-IsPaying None = Unit {0}
-IsPaying (Some o) = IsOfPayment o.now.place × IsOfPayment o.mark.place
+-- an open transaction runs one of them, here and at its mark
+abbrev pub IsServing : Option (Open system) → Type 0
+IsServing None = Unit {0}
+IsServing (Some o) = IsServed o.now.place × IsServed o.mark.place
 
--- each of them is
-abbrev pub HasPayments : World system → Type 0
-HasPayments w = (t : ℕ) → IsPaying (w.active t)
+-- each of them does
+abbrev pub AreServing : World system → Type 0
+AreServing w = (t : ℕ) → IsServing (w.active t)
 
 -- nothing is open, or a world that steps of today led to
 abbrev pub IsLive : State → Type 0
 IsLive None = Unit {0}
-IsLive (Some w) = IsReached system w × HasPayments w
+IsLive (Some w) = IsReached system w × AreServing w
 
 -- The session stands behind this input: what it has written or holds back is the output so far.
 abbrev pub Standing : Option Sink → List ℕ → Option Sink → List ℕ → State → ℕ → List ℕ → Bool → Type 0

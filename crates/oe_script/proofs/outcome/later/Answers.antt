@@ -1,6 +1,4 @@
-use Rattle.std.proofs.Common.{Some, refl, ap, sym, ◌∙◌}
-use Rattle.oe_theory.specs.World.{tables}
-use Rattle.oe_model.specs.System.{system}
+use Rattle.std.proofs.Common.{Some, refl, ap}
 use Rattle.oe_lines.specs.declared.commands.Command.TheVariants as command
 use Rattle.oe_core.specs.Core.{world_of}
 use Rattle.oe_script.specs.Dump.{dump_text}
