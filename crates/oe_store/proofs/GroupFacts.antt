@@ -35,7 +35,7 @@ module _ {K X : Type 0} {R : K → K → Ordering} (total : IsTotalOrder R) (exa
   by_row false false None h = refl
 
   -- two tests that agree at each key with a row keep the same rows
-  kept_alike : (m : FinMap R X) (p q : K → Bool) → ((k : K) (x : X) → get m k ≡ Some x → p k ≡ q k) → filter (λ e. p e.0) (entries m) ≡ entries (retain_keys m q)
+  pub kept_alike : (m : FinMap R X) (p q : K → Bool) → ((k : K) (x : X) → get m k ≡ Some x → p k ≡ q k) → filter (λ e. p e.0) (entries m) ≡ entries (retain_keys m q)
   kept_alike m p q agree =
       same_entries R total exact _ _ (is_sorted-where_key R p (entries m) (entries_sorted m)) (entries_sorted (retain_keys m q)) (λ k.
       find-where_key R p k (λ x e. ap p (sym (exact k x e))) (entries m)

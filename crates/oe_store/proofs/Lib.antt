@@ -6,5 +6,6 @@ mod FillFacts
 mod KeyTests
 mod HistoryTests
 mod PopulatedFacts
+mod ChoiceFacts
 mod GroupFacts
 mod TextFacts

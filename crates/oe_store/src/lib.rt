@@ -2,6 +2,7 @@
 //! Benchmark C 5.11.
 #![tactic(auto)]
 
+pub mod choices;
 pub mod columns;
 pub mod dumps;
 mod fills;

@@ -1,0 +1,123 @@
+//! Rows that a transaction chooses by more than their key: the oldest order that is not delivered, a customer by last name, and a
+//! customer's last order. None takes memory.
+ghost use Rattle.std.specs.Prelude.{◌≡◌, ◌==◌, ◌≤◌, ◌&&◌, ◌+◌, ◌/◌, option_map, count_by, length};
+ghost use Rattle.std.specs.Ordering.{eq_by_cmp, nat_cmp};
+ghost use Rattle.std.specs.Cmp.Lexicographic.{slice_cmp};
+ghost use Rattle.oe_keys.specs.Key.{district_cmp};
+ghost use Rattle.oe_model.specs.Keys.{district_of_customer};
+ghost use Rattle.oe_model.specs.Choice.{namesakes, comes_before, middle};
+ghost use Rattle.oe_model.specs.Delivery.{oldest};
+ghost use Rattle.oe_model.specs.Queries.{last_order};
+ghost use Rattle.oe_store.specs.Stored.{rows};
+
+use crate::tables::Tables;
+use oe_keys::{CustomerKey, DistrictKey};
+use oe_rows::CustomerName;
+use oe_values::{CustomerNumber, OrderNumber, Text};
+use std::cmp::Ordering;
+
+/// Whether a customer of that key and name is of the district and has the last name.
+fn is_named(
+    key: &CustomerKey,
+    name: &CustomerName,
+    district: &DistrictKey,
+    last: &Text<0, 16>,
+) -> bool
+    ensures { result ≡ (eq_by_cmp district_cmp (district_of_customer key.now) district.now && eq_by_cmp (slice_cmp nat_cmp) name.now.last last.now) }
+{
+    key.district_key().compare(*district) == Ordering::Equal
+        && name.last.as_str().cmp(last.as_str()) == Ordering::Equal
+}
+
+/// Whether a customer comes before another, by C_FIRST, and where that ties by C_ID.
+fn is_before(
+    first: &Text<0, 16>,
+    customer: CustomerNumber,
+    own_first: &Text<0, 16>,
+    own: CustomerNumber,
+) -> bool
+    ensures { result ≡ comes_before (first.now, customer) (own_first.now, own) }
+{
+    first
+        .as_str()
+        .cmp(own_first.as_str())
+        .then(customer.cmp(&own))
+        == Ordering::Less
+}
+
+impl Tables {
+    /// The least NO_O_ID of a district's orders that are not delivered (clause 2.7.4.2).
+    pub fn oldest(&self, district: &DistrictKey) -> Option<OrderNumber>
+        ensures { result ≡ oldest district.now (rows self.now).new_orders }
+    {
+        let mut waiting = self.new_orders_of(*district);
+        let (key, _) = waiting.next()?;
+        Some(key.order)
+    }
+
+    /// How many customers of a district with that C_LAST there are.
+    fn namesakes(&self, district: &DistrictKey, last: &Text<0, 16>) -> u32
+        ensures count { result ≡ length (namesakes district.now last.now (rows self.now).customers) }
+        ensures few { result ≤ 3_000 }
+    {
+        let _known = &self.customers;
+        let mut count = 0u32;
+        for (key, customer) in self.customers_of(*district) {
+            if is_named(key, &customer.name, district, last) {
+                count += 1;
+            }
+        }
+        count
+    }
+
+    /// How many of them come before that one.
+    fn rank(
+        &self,
+        district: &DistrictKey,
+        last: &Text<0, 16>,
+        first: &Text<0, 16>,
+        own: CustomerNumber,
+    ) -> u32
+        ensures count { result ≡ count_by (λ y. comes_before y (first.now, own)) (namesakes district.now last.now (rows self.now).customers) }
+        ensures few { result ≤ 3_000 }
+    {
+        let _known = &self.customers;
+        let mut before = 0u32;
+        for (key, customer) in self.customers_of(*district) {
+            if is_named(key, &customer.name, district, last)
+                && is_before(&customer.name.first, key.customer, first, own)
+            {
+                before += 1;
+            }
+        }
+        before
+    }
+
+    /// Whether that one is in the middle of them, rounded up.
+    fn is_middle(
+        &self,
+        district: &DistrictKey,
+        last: &Text<0, 16>,
+        first: &Text<0, 16>,
+        own: CustomerNumber,
+    ) -> bool
+        ensures { result ≡ (count_by (λ y. comes_before y (first.now, own)) (namesakes district.now last.now (rows self.now).customers) + 1 == (length (namesakes district.now last.now (rows self.now).customers) + 1) / 2) }
+    {
+        self.rank(district, last, first, own) + 1 == (self.namesakes(district, last) + 1) / 2
+    }
+
+    /// C_ID of the customer of a district and last name in position n / 2, rounded up, of n, by C_FIRST and where that ties
+    /// by C_ID (clauses 2.5.2.2 and 2.6.2.2).
+    pub fn middle(&self, district: &DistrictKey, last: &Text<0, 16>) -> Option<CustomerNumber>
+        ensures { result ≡ middle (namesakes district.now last.now (rows self.now).customers) }
+    {
+        for (key, customer) in self.customers_of(*district) {
+            if is_named(key, &customer.name, district, last)
+                && self.is_middle(district, last, &customer.name.first, key.customer)
+            {
+                return Some(key.customer);
+            }
+        }
+        None
+    }
+}
