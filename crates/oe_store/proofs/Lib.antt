@@ -9,3 +9,4 @@ mod PopulatedFacts
 mod ChoiceFacts
 mod GroupFacts
 mod TextFacts
+mod NewestFacts

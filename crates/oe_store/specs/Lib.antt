@@ -5,3 +5,4 @@ pub mod Fill
 pub mod Group
 pub mod Dump
 pub mod Walk
+pub mod Newest

@@ -3,16 +3,16 @@
 ghost use Rattle.std.specs.Prelude.{◌≡◌, ◌==◌, ◌≤◌, ◌&&◌, ◌+◌, ◌/◌, option_map, count_by, length};
 ghost use Rattle.std.specs.Ordering.{eq_by_cmp, nat_cmp};
 ghost use Rattle.std.specs.Cmp.Lexicographic.{slice_cmp};
-ghost use Rattle.oe_keys.specs.Key.{district_cmp};
-ghost use Rattle.oe_model.specs.Keys.{district_of_customer};
+ghost use Rattle.oe_keys.specs.Key.{district_cmp, customer_cmp};
+ghost use Rattle.oe_model.specs.Keys.{district_of_customer, customer_of_order};
 ghost use Rattle.oe_model.specs.Choice.{namesakes, comes_before, middle};
 ghost use Rattle.oe_model.specs.Delivery.{oldest};
 ghost use Rattle.oe_model.specs.Queries.{last_order};
 ghost use Rattle.oe_store.specs.Stored.{rows};
 
 use crate::tables::Tables;
-use oe_keys::{CustomerKey, DistrictKey};
-use oe_rows::CustomerName;
+use oe_keys::{CustomerKey, DistrictKey, OrderKey};
+use oe_rows::{CustomerName, Order};
 use oe_values::{CustomerNumber, OrderNumber, Text};
 use std::cmp::Ordering;
 
@@ -43,6 +43,14 @@ fn is_before(
         .cmp(own_first.as_str())
         .then(customer.cmp(&own))
         == Ordering::Less
+}
+
+/// Whether the order is the customer's.
+fn is_own(key: &OrderKey, order: &Order, customer: &CustomerKey) -> bool
+    ensures { result ≡ eq_by_cmp customer_cmp (customer_of_order key.now order.now) customer.now }
+{
+    let owner = key.district_key().customer(order.customer);
+    owner.compare(*customer) == Ordering::Equal
 }
 
 impl Tables {
@@ -119,5 +127,18 @@ impl Tables {
             }
         }
         None
+    }
+
+    /// O_ID of a customer's last order, which is the greatest (clause 2.6.2.2).
+    pub fn last_order(&self, customer: &CustomerKey) -> Option<OrderNumber>
+        ensures { result ≡ option_map (λ e. e.0.order) (last_order customer.now (rows self.now).orders) }
+    {
+        let mut last = None;
+        for (key, order) in self.orders_of(customer.district_key()) {
+            if is_own(key, order, customer) {
+                last = Some(key.order);
+            }
+        }
+        last
     }
 }
