@@ -1,11 +1,11 @@
 //! The rows after the delivery of an order (clause 2.7.4.2).
 ghost use Rattle.std.specs.Prelude.{◌≡◌, ◌↔◌, ◌+ℤ◌, pos, IsTrue, IsSome, IfSome};
-ghost use Rattle.oe_formulas.specs.Checks.{checked};
+ghost use Rattle.oe_formulas.specs.Checks.{checked, row_with};
 ghost use Rattle.oe_model.specs.Delivery.{carried, dated, delivered_to, delivered_out};
 ghost use Rattle.oe_model.specs.Payment.{is_balance};
 
 use oe_requests::Column;
-use oe_rows::{Customer, Order, OrderLine};
+use oe_rows::{Account, Customer, Order, OrderLine};
 use oe_values::{Balance, Carrier, Cents, Count, Stamp};
 
 /// The order after its delivery: O_CARRIER_ID is the carrier.
@@ -37,10 +37,10 @@ fn balance_after(balance: Balance, sum: Cents) -> Option<Balance>
     Balance::new(balance.cents() + sum.cents() as i64)
 }
 
-/// The customer after the delivery: C_BALANCE rises by the sum of the order's OL_AMOUNTs, C_DELIVERY_CNT by 1. Else the
+/// A customer's account after the delivery: C_BALANCE rises by the sum of the order's OL_AMOUNTs, C_DELIVERY_CNT by 1. Else the
 /// first of these columns that would leave its range.
-pub fn customer_after_delivery(row: &Customer, sum: Cents) -> Result<Customer, Column>
-    ensures { result ≡ checked delivered_out (delivered_to sum row.now) }
+pub fn account_after_delivery(row: &Customer, sum: Cents) -> Result<Account, Column>
+    ensures { row_with (λ a. record row.now { account = a }) result ≡ checked delivered_out (delivered_to sum row.now) }
 {
     let Some(balance) = balance_after(row.account.balance, sum) else {
         return Err(Column::Balance);
@@ -48,8 +48,23 @@ pub fn customer_after_delivery(row: &Customer, sum: Cents) -> Result<Customer, C
     let Some(delivery_count) = Count::new(row.account.delivery_count.get() + 1) else {
         return Err(Column::DeliveryCount);
     };
-    let mut after = row.copied();
-    after.account.balance = balance;
-    after.account.delivery_count = delivery_count;
-    Ok(after)
+    Ok(Account {
+        balance,
+        delivery_count,
+        ..row.account
+    })
+}
+
+/// The customer after the delivery, with that account. Else the first of its columns that would leave its range.
+pub fn customer_after_delivery(row: &Customer, sum: Cents) -> Result<Customer, Column>
+    ensures { result ≡ checked delivered_out (delivered_to sum row.now) }
+{
+    match account_after_delivery(row, sum) {
+        Ok(account) => {
+            let mut after = row.copied();
+            after.account = account;
+            Ok(after)
+        }
+        Err(column) => Err(column),
+    }
 }
