@@ -1,4 +1,5 @@
 pub mod CoveredFacts
+pub mod DeedFacts
 pub mod EndFacts
 pub mod KeptFacts
 pub mod LockFacts

@@ -7,3 +7,4 @@ pub mod Calls
 pub mod Writes
 pub mod Unwinds
 pub mod Programs
+pub mod Deeds

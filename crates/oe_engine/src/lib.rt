@@ -2,6 +2,8 @@
 #![tactic(auto)]
 
 pub mod access;
+pub mod choices;
+pub mod deeds;
 pub mod engine;
 pub mod lent;
 pub mod rows;
