@@ -1,0 +1,30 @@
+use Rattle.std.proofs.Common.{◌≡◌, Some, sym, ap, subst}
+use Rattle.std.specs.Prelude.{option_map}
+use Rattle.std.specs.FinMap.{get}
+use Rattle.oe_requests.specs.declared.requests.Request.TheVariants as request
+use Rattle.oe_model.specs.Places.{DeliveryOrder, InDelivery}
+use Rattle.oe_delivery.specs.Remainder.{remainder_of}
+use Rattle.oe_delivery.specs.Program.{line_place}
+use Rattle.oe_delivery.proofs.RowFacts.{CarrierDeed, carrier_deed}
+use Rattle.oe_delivery.proofs.rows.set_carrier.Goals.{After-put}
+use Rattle.oe_delivery.proofs.rows.set_carrier.Goals as goal
+
+deed : (c : After-put) → CarrierDeed c.args.engine.now c.args.tx.now c.args.request.now c.args.order c.order.result c.in-Some.remainder
+deed c =
+    carrier_deed c.args.engine.now c.args.tx.now c.args.request.now c.args.order c.in-Some.remainder c.order.result c.order.ensures
+    (subst (λ r. Some c.in-Some.remainder ≡ option_map (remainder_of c.order.result r) (get r.orders c.order.result)) c.tables.ensures c.in-Some.ensures)
+
+pub returns-in-Ok : goal.returns-in-Ok
+returns-in-Ok c =
+    let d = deed (goal.at.returns-in-Ok c).After-put in
+    c.in-Ok.ensures.does d.0 d.1 (request.Delivery c.args.request.now) (InDelivery c.args.request.now (DeliveryOrder c.args.order))
+    (InDelivery c.args.request.now (line_place c.in-Some.remainder)) d.2 d.3
+
+pub returns-in-Err : goal.returns-in-Err
+returns-in-Err c =
+    let d = deed (goal.at.returns-in-Err c).After-put in (
+      c.in-Err.ensures.does d.0 d.1 (request.Delivery c.args.request.now) (InDelivery c.args.request.now (DeliveryOrder c.args.order))
+          (InDelivery c.args.request.now (line_place c.in-Some.remainder)) d.2 d.3,
+      c.in-Err.ensures.err,
+      c.in-Err.ensures.name,
+    )

@@ -1,0 +1,10 @@
+//! The Delivery transaction of one district (clause 2.7), a row at a time. Clauses of the standard are those of TPC Benchmark C 5.11.
+#![tactic(auto)]
+
+pub mod looks;
+pub mod programs;
+pub mod remainders;
+pub mod rows;
+
+pub use programs::Program;
+pub use remainders::Remainder;

@@ -1,0 +1,141 @@
+//! The program.
+ghost use Rattle.std.specs.Prelude.{◌≡◌, None, option_map};
+ghost use Rattle.std.specs.Option.{MatchOption};
+ghost use Rattle.oe_requests.specs.declared.requests.Request.{Request};
+ghost use Rattle.oe_requests.specs.declared.replies.Reply.{Reply};
+ghost use Rattle.oe_model.specs.Places.{InDelivery};
+ghost use Rattle.oe_engine.specs.View.{IsOpen};
+ghost use Rattle.oe_engine.specs.Programs.{Progresses, delivery_reply};
+ghost use Rattle.oe_delivery.specs.Program.{place_of, HasLine, HasNoLine};
+ghost use Rattle.oe_delivery.specs.Rows.{Advances, HoldsTaken, Steps};
+
+use crate::remainders::Remainder;
+use crate::rows::{credit_customer, date_line, set_carrier, take_oldest};
+use oe_engine::{Engine, Progress, Tx};
+use oe_requests::{DeliveredOrder, DeliveryRequest, DistrictDelivery, Refusal};
+use oe_values::{LineNumber, OrderNumber};
+
+/// Where the delivery of a district stands: the row that it comes to next, with what the rows before have read. Its request lies
+/// with whoever carries it out. It is of fixed size, and any value of it is a place of any request.
+#[derive(Drop, Debug)]
+pub enum Program {
+    Queue,
+    /// No order waits in the district.
+    Nothing,
+    /// With O_ID.
+    Order(OrderNumber),
+    /// Before the next line, or the customer where all lines are dated.
+    Lines(Remainder),
+    /// With the reply.
+    End(DeliveredOrder),
+}
+
+impl Program {
+    /// At its first row.
+    pub fn new() -> Self
+        ensures { result ≡ Program.Queue }
+    {
+        Self::Queue
+    }
+
+    /// A copy, which takes no memory.
+    pub fn copied(&self) -> Self
+        ensures { result ≡ self.now }
+    {
+        match self {
+            Program::Queue => Program::Queue,
+            Program::Nothing => Program::Nothing,
+            Program::Order(order) => Program::Order(*order),
+            Program::Lines(remainder) => Program::Lines(remainder.copied()),
+            Program::End(reply) => Program::End(*reply),
+        }
+    }
+
+    /// The reply, once all rows are done; none before that.
+    pub fn reply(&self) -> Option<DistrictDelivery>
+        ensures { option_map Reply.Delivery result ≡ delivery_reply (place_of self.now) }
+    {
+        match self {
+            Program::Nothing => Some(DistrictDelivery::Skipped),
+            Program::End(reply) => Some(DistrictDelivery::Delivered(*reply)),
+            _ => None,
+        }
+    }
+
+    // OL_NUMBER of the line whose row is next; none at another row.
+    fn next_number(&self) -> Option<LineNumber>
+        ensures { MatchOption result (HasNoLine self.now) (HasLine self.now) }
+    {
+        match self {
+            Program::Lines(remainder) => remainder.next_number(),
+            _ => None,
+        }
+    }
+
+    // The row of the next line, which has that number.
+    fn date(
+        &mut self,
+        number: LineNumber,
+        request: &DeliveryRequest,
+        engine: &mut Engine,
+        tx: &Tx,
+    ) -> Progress
+        requires line { HasLine self.old number }
+        requires open { IsOpen engine.old tx.now }
+        requires held { HoldsTaken request.now tx.now engine.old (place_of self.old) }
+        ensures { Advances request.now tx.now engine.old (place_of self.old) result engine.new (place_of self.new) }
+    {
+        let Program::Lines(remainder) = self else {
+            unreachable!();
+        };
+        date_line(request, remainder, number, engine, tx)
+    }
+
+    // Another row, before the end.
+    fn row(
+        &self,
+        request: &DeliveryRequest,
+        engine: &mut Engine,
+        tx: &Tx,
+    ) -> Result<Program, Refusal>
+        requires line { HasNoLine self.now }
+        requires underway { delivery_reply (place_of self.now) ≡ None }
+        requires open { IsOpen engine.old tx.now }
+        ensures { Steps request.now tx.now engine.old (place_of self.now) result engine.new }
+    {
+        match self {
+            Program::Queue => take_oldest(request, engine, tx),
+            Program::Order(order) => set_carrier(request, *order, engine, tx),
+            Program::Lines(remainder) => credit_customer(request, remainder, engine, tx),
+            Program::Nothing | Program::End(_) => unreachable!(),
+        }
+    }
+
+    /// One row of the delivery: its lock and its one change. The names that the rows before have taken are held: the order's for
+    /// its lines.
+    ///
+    /// A district in which no order waits has two rows: the first takes the name of its queue, the second is ready. The order of
+    /// refusals is `Busy`, `Overflow`, and `NoMemory` where memory was refused. A refused row leaves the program, the tables and
+    /// the locks as they were. Each row of a delivery is told the same request.
+    pub fn next(&mut self, request: &DeliveryRequest, engine: &mut Engine, tx: &Tx) -> Progress
+        requires { IsOpen engine.old tx.now → HoldsTaken request.now tx.now engine.old (place_of self.old) }
+        ensures { Progresses (Request.Delivery request.now) tx.now engine.old (InDelivery request.now (place_of self.old)) result engine.new (InDelivery request.now (place_of self.new)) }
+    {
+        if !engine.is_open(tx) {
+            return Progress::Refused(Refusal::NotOpen);
+        }
+        if self.reply().is_some() {
+            return Progress::Ready;
+        }
+        if let Some(number) = self.next_number() {
+            return self.date(number, request, engine, tx);
+        }
+        match self.row(request, engine, tx) {
+            Ok(after) => {
+                *self = after;
+                Progress::More
+            }
+            Err(refusal) => Progress::Refused(refusal),
+        }
+    }
+}
