@@ -23,7 +23,8 @@ use Rattle.oe_model.specs.Delivery.{lines_of, worth}
 -- the stock rule (clause 2.4.2.2)
 pub record Stock_is_refilled : Type 0 where
   -- 91 come in exactly where less than 10 would be left
-  pub exactly : (home n : ℕ) (k : StockKey) (x : Stock) → n ≤ 10 → ((supplied home k x n).quantity + n ≡ x.quantity + 91) ↔ (x.quantity < n + 10)
+  pub exactly : (home n : ℕ) (k : StockKey) (x : Stock)
+      → n ≤ 10 → ((supplied home k x n).quantity + n ≡ x.quantity + 91) ↔ (x.quantity < n + 10)
   -- a quantity from 10 to 100 stays there, whatever the lines of an order ask for
   pub stays : (home : ℕ) (ls : List RequestLine) (k : StockKey) (x : Stock) → AreSmall (asked k ls)
       → IsInRange 10 100 x.quantity → IsInRange 10 100 (after_lines home ls k x).quantity
@@ -53,22 +54,27 @@ AreLines n (l ∷ ls) [] = ⊥
 
 -- an order has a line for each line of its request, numbered from 1
 abbrev pub Lines_are_numbered : Type 0
-Lines_are_numbered = (q : NewOrderRequest) (r : Rows) (fs : List Filled) → all_filled q r [] q.lines ≡ Some fs → AreLines 1 q.lines fs
+Lines_are_numbered =
+    (q : NewOrderRequest) (r : Rows) (fs : List Filled) → all_filled q r [] q.lines ≡ Some fs → AreLines 1 q.lines fs
 
 -- a line costs its quantity times I_PRICE, and has the stock's text for the order's district
 pub record Line_has_columns : Type 0 where
-  pub amount : (q : NewOrderRequest) (n : ℕ) (l : RequestLine) (item : Item) (stock : Stock) → (fill q n l item stock).row.amount ≡ l.quantity * item.price
+  pub amount : (q : NewOrderRequest) (n : ℕ) (l : RequestLine) (item : Item) (stock : Stock)
+      → (fill q n l item stock).row.amount ≡ l.quantity * item.price
   pub dist_info : (q : NewOrderRequest) (n : ℕ) (l : RequestLine) (item : Item) (stock : Stock) (info : List ℕ)
       → slice_get stock.dist_info (q.district.district - 1) ≡ Some info → (fill q n l item stock).row.dist_info ≡ info
 
 -- what an order costs in hundred-millionths of a cent
 abbrev pub exact_total : List ℕ → ℕ → ℕ → ℕ → ℕ
-exact_total amounts discount warehouse_tax district_tax = sum amounts * (10000 - discount) * (10000 + warehouse_tax + district_tax)
+exact_total amounts discount warehouse_tax district_tax =
+    sum amounts * (10000 - discount) * (10000 + warehouse_tax + district_tax)
 
--- the total is the nearest whole number of cents: it is not more than half a cent above, and less than half a cent below
+-- the total is the nearest whole number of cents: not more than half a cent above, and less than half a cent below
 pub record Total_is_nearest : Type 0 where
-  pub above : (amounts : List ℕ) (c w d : ℕ) → order_total amounts c w d * 100_000_000 ≤ exact_total amounts c w d + 50_000_000
-  pub below : (amounts : List ℕ) (c w d : ℕ) → exact_total amounts c w d < order_total amounts c w d * 100_000_000 + 50_000_000
+  pub above : (amounts : List ℕ) (c w d : ℕ)
+      → order_total amounts c w d * 100_000_000 ≤ exact_total amounts c w d + 50_000_000
+  pub below : (amounts : List ℕ) (c w d : ℕ)
+      → exact_total amounts c w d < order_total amounts c w d * 100_000_000 + 50_000_000
 
 -- a delivery's sum is that of the OL_AMOUNTs of all ORDER-LINE rows of the order (clause 2.7.4.2)
 abbrev pub Delivery_sums_lines : Type 0

@@ -1,7 +1,14 @@
--- What a new order has read before its lines, as the model has it.
+-- What a new order has read, as the model has it.
+use Rattle.std.specs.Prelude.{ℕ}
+use Rattle.oe_rows.specs.declared.items.Stock.{Stock}
 use Rattle.oe_model.specs.Places as model
 use Rattle.oe_formulas.specs.declared.orders.Seen.{Seen}
 
+-- the STOCK row with this S_QUANTITY
+abbrev pub with_quantity : Stock → ℕ → Stock
+with_quantity x n = record x { quantity = n }
+
+-- what it has read before its lines
 abbrev pub seen_by : Seen → model.Seen
 seen_by s = record {
   order = s.order;

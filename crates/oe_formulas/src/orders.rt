@@ -1,10 +1,9 @@
 //! The rows after a new order (clause 2.4.2.2), and the columns that it sets.
-ghost use Rattle.std.specs.Prelude.{◌≡◌, ◌==◌, ◌≤◌, ◌+◌, ◌-◌, ◌*◌, cond, nat_le, ◌↔◌, ℕ, length, map, codes, IsSome, IfSome};
+ghost use Rattle.std.specs.Prelude.{◌≡◌, ◌==◌, ◌≤◌, ◌+◌, ◌-◌, ◌*◌, cond, nat_le, ◌↔◌, ℕ, length, codes, IsSome, IfSome};
 ghost use Rattle.std.specs.List.{list_all};
-ghost use Rattle.oe_rows.specs.Credit.{order_total};
 ghost use Rattle.oe_rows.specs.Item.{with_counters};
-ghost use Rattle.oe_formulas.specs.Orders.{seen_by};
-ghost use Rattle.oe_formulas.specs.Checks.{checked, row_with};
+ghost use Rattle.oe_formulas.specs.Orders.{with_quantity, seen_by};
+ghost use Rattle.oe_formulas.specs.Checks.{checked, row_with, with_next_order};
 ghost use Rattle.oe_model.specs.NewOrder.{supplied, stock_of, stock_out, occurs_in, brand, fill, order_row, with_next, next_out, seen, ordered_reply};
 
 use oe_keys::StockKey;
@@ -21,7 +20,7 @@ use oe_values::{
 
 /// D_NEXT_O_ID after a new order: it rises by 1. Else D_NEXT_O_ID, which would leave its range.
 pub fn next_order_after(row: &District) -> Result<OrderNumber, Column>
-    ensures { row_with (λ n. record row.now { next_order = n }) result ≡ checked next_out (with_next row.now) }
+    ensures { row_with (with_next_order row.now) result ≡ checked next_out (with_next row.now) }
 {
     match OrderNumber::new(row.next_order.get() + 1) {
         Some(next_order) => Ok(next_order),
@@ -82,7 +81,8 @@ pub fn stock_key(line: RequestLine) -> Option<StockKey>
 
 /// S_QUANTITY after a line of that quantity: 10 or more are left, or 91 come in.
 fn quantity_after(row: &Stock, quantity: Quantity) -> Count
-    ensures { result ≡ cond (nat_le (quantity + 10) row.now.quantity) (row.now.quantity - quantity) (row.now.quantity + 91 - quantity) }
+    ensures { result ≡ cond (nat_le (quantity + 10) row.now.quantity)
+        (row.now.quantity - quantity) (row.now.quantity + 91 - quantity) }
 {
     let in_stock = row.quantity.get();
     let asked = quantity.get();
@@ -99,7 +99,8 @@ fn quantity_after(row: &Stock, quantity: Quantity) -> Count
 
 /// S_REMOTE_CNT after a line for a district of the home warehouse: it rises by 1 where the stock is another warehouse's.
 fn remote_count_after(home: WarehouseNumber, key: StockKey, row: &Stock) -> u32
-    ensures { result ≡ cond (key.warehouse == home) row.now.remote_count (row.now.remote_count + 1) }
+    ensures { result
+        ≡ cond (key.warehouse == home) row.now.remote_count (row.now.remote_count + 1) }
 {
     if key.warehouse == home {
         row.remote_count.get()
@@ -117,7 +118,8 @@ pub fn counters_after_line(
     row: &Stock,
     quantity: Quantity,
 ) -> Result<StockCounters, Column>
-    ensures { row_with (λ n. with_counters n row.now) result ≡ checked stock_out (supplied home key row.now quantity) }
+    ensures { row_with (λ n. with_counters n row.now) result
+        ≡ checked stock_out (supplied home key row.now quantity) }
 {
     let Some(ytd) = StockYtd::new(row.ytd.get() + quantity.get()) else {
         return Err(Column::StockYtd);
@@ -214,7 +216,8 @@ pub fn reply_with_quantity(
     stock: &Stock,
     quantity: Count,
 ) -> LineReply
-    ensures { (q : NewOrderRequest) (n : ℕ) → result ≡ (fill q n line item.now (record stock.now { quantity = quantity })).reply }
+    ensures { (q : NewOrderRequest) (n : ℕ)
+        → result ≡ (fill q n line item.now (with_quantity stock.now quantity)).reply }
 {
     LineReply {
         brand: brand(item, stock),
@@ -273,11 +276,11 @@ impl Seen {
     /// The total of an order of these lines.
     fn total(&self, lines: &[LineReply]) -> Cents
         requires { length lines.now ≤ 15 }
-        ensures { result ≡ order_total (map (λ l. l.amount) lines.now) self.now.discount self.now.warehouse_tax self.now.district_tax }
+        ensures { result ≡ (ordered_reply (seen_by self.now) lines.now).total }
     {
         let mut amounts = [LineAmount::new(0).unwrap(); 15];
-        for (place, line) in lines.iter().enumerate() {
-            amounts[place] = line.amount;
+        for (index, line) in lines.iter().enumerate() {
+            amounts[index] = line.amount;
         }
         total(
             &amounts[..lines.len()],

@@ -1,8 +1,7 @@
 //! The rows after a payment (clause 2.5.2.2), and the columns that it sets.
 ghost use Rattle.std.specs.Prelude.{◌≡◌, ℕ};
 ghost use Rattle.oe_rows.specs.Credit.{credit_entry};
-ghost use Rattle.oe_formulas.specs.Checks.{checked, row_with, paid_with};
-ghost use Rattle.oe_model.specs.Keys.{customer_in};
+ghost use Rattle.oe_formulas.specs.Checks.{checked, row_with, with_warehouse_ytd, with_district_ytd, paid_with, credit_ids};
 ghost use Rattle.oe_model.specs.Payment.{paid_warehouse, paid_warehouse_out, paid_district, paid_district_out, paid_data, paid_customer, paid_customer_out, history_data, history_row, history_key, paid_reply};
 
 use arrayvec::ArrayString;
@@ -19,7 +18,8 @@ use oe_values::{
 
 /// W_YTD after a payment: it rises by the amount. Else W_YTD, which would leave its range.
 pub fn warehouse_ytd_after(row: &Warehouse, request: &PaymentRequest) -> Result<YearToDate, Column>
-    ensures { row_with (λ ytd. record row.now { ytd = ytd }) result ≡ checked paid_warehouse_out (paid_warehouse request.now row.now) }
+    ensures { row_with (with_warehouse_ytd row.now) result
+        ≡ checked paid_warehouse_out (paid_warehouse request.now row.now) }
 {
     match YearToDate::new(row.ytd.cents() + u64::from(request.amount.get())) {
         Some(ytd) => Ok(ytd),
@@ -46,7 +46,8 @@ pub fn warehouse_after_payment(
 
 /// D_YTD after a payment: it rises by the amount. Else D_YTD, which would leave its range.
 pub fn district_ytd_after(row: &District, request: &PaymentRequest) -> Result<YearToDate, Column>
-    ensures { row_with (λ ytd. record row.now { ytd = ytd }) result ≡ checked paid_district_out (paid_district request.now row.now) }
+    ensures { row_with (with_district_ytd row.now) result
+        ≡ checked paid_district_out (paid_district request.now row.now) }
 {
     match YearToDate::new(row.ytd.cents() + u64::from(request.amount.get())) {
         Some(ytd) => Ok(ytd),
@@ -68,15 +69,21 @@ pub fn district_after_payment(row: &District, request: &PaymentRequest) -> Resul
     }
 }
 
-/// What a payment by the customer with that number puts before the data of a bad credit.
-pub fn bad_credit_entry(number: CustomerNumber, request: &PaymentRequest) -> Text<0, 90>
-    ensures { result ≡ credit_entry (record { customer = customer_in request.now.customer_district number; district = request.now.district }) request.now.amount }
+/// The keys that a payment by the customer with that number puts before the data of a bad credit.
+fn credit_ids(number: CustomerNumber, request: &PaymentRequest) -> CreditIds
+    ensures { result ≡ credit_ids number request.now }
 {
-    let ids = CreditIds {
+    CreditIds {
         customer: request.customer_district.customer(number),
         district: request.district,
-    };
-    credit_entry(ids, request.amount)
+    }
+}
+
+/// What a payment by the customer with that number puts before the data of a bad credit.
+pub fn bad_credit_entry(number: CustomerNumber, request: &PaymentRequest) -> Text<0, 90>
+    ensures { result ≡ credit_entry (credit_ids number request.now) request.now.amount }
+{
+    credit_entry(credit_ids(number, request), request.amount)
 }
 
 /// C_DATA after a payment by the customer with that number: a bad credit's begins with the payment.
@@ -85,20 +92,15 @@ fn data_after(number: CustomerNumber, row: &Customer, request: &PaymentRequest) 
 {
     match row.credit {
         Credit::Good => row.data.copied(),
-        Credit::Bad => {
-            let ids = CreditIds {
-                customer: request.customer_district.customer(number),
-                district: request.district,
-            };
-            bad_credit_data(&row.data, ids, request.amount)
-        }
+        Credit::Bad => bad_credit_data(&row.data, credit_ids(number, request), request.amount),
     }
 }
 
 /// A customer's account after a payment: C_BALANCE falls and C_YTD_PAYMENT rises by the amount, C_PAYMENT_CNT rises by 1. Else the
 /// first of these columns that would leave its range.
 pub fn account_after(row: &Customer, request: &PaymentRequest) -> Result<Account, Column>
-    ensures { (c : ℕ) → row_with (paid_with c request.now row.now) result ≡ checked paid_customer_out (paid_customer c request.now row.now) }
+    ensures { (c : ℕ) → row_with (paid_with c request.now row.now) result
+        ≡ checked paid_customer_out (paid_customer c request.now row.now) }
 {
     let amount = request.amount.get();
     let Some(balance) = Balance::new(row.account.balance.cents() - i64::from(amount)) else {
