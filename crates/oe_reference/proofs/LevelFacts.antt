@@ -23,9 +23,9 @@ use Rattle.oe_model.specs.Effects.{in_range}
 use Rattle.oe_model.specs.Payment.{is_balance, is_count}
 use Rattle.oe_model.specs.Delivery.{delivered_to, delivered_out}
 use Rattle.oe_model.specs.Queries.{found, is_low, recent_lines, stock_level}
-use Rattle.oe_reference.specs.Levels.{low_of}
+use Rattle.oe_reference.specs.Queries.{low_before}
 
-pub level_told : (q : LevelQuery) (r : Rows) (x : District) (items : List ℕ) → Some x ≡ get r.districts q.district → items ≡ low_of q r x → stock_level q r ≡ Here (told.Level (length items))
+pub level_told : (q : LevelQuery) (r : Rows) (x : District) (items : List ℕ) → Some x ≡ get r.districts q.district → items ≡ low_before q x.next_order r → stock_level q r ≡ Here (told.Level (length items))
 level_told q r x items at is =
     let low = λ (y : District). filter (is_low q (recent_lines q.district y.next_order r.order_lines)) (entries r.stocks) in
     let count : length items ≡ length (low x) = ap length is ∙ length-map (low x) (λ e. e.0.item) in

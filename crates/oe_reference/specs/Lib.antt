@@ -1,3 +1,4 @@
 -- What the clauses of this crate cite.
 pub mod After
-pub mod Levels
+pub mod Choices
+pub mod Queries

@@ -1,11 +1,8 @@
 //! The customer that a request means (clauses 2.5.2.2 and 2.6.2.2).
-ghost use Rattle.std.specs.Prelude.{◌≡◌, ◌==◌, ◌+◌, ◌/◌, ◌&&◌, length, count_by, IfOk};
-ghost use Rattle.std.specs.Ordering.{eq_by_cmp, nat_cmp};
-ghost use Rattle.std.specs.Cmp.Lexicographic.{slice_cmp};
-ghost use Rattle.oe_keys.specs.Key.{district_cmp};
-ghost use Rattle.oe_model.specs.Keys.{district_of_customer};
-ghost use Rattle.oe_model.specs.Choice.{namesakes, comes_before, middle, chosen};
+ghost use Rattle.std.specs.Prelude.{◌≡◌, IfOk};
+ghost use Rattle.oe_model.specs.Choice.{comes_before, middle, chosen};
 ghost use Rattle.oe_store.specs.Stored.{rows};
+ghost use Rattle.oe_reference.specs.Choices.{is_named, namesakes_in, rank, is_middle};
 
 use oe_keys::{CustomerKey, DistrictKey};
 use oe_requests::CustomerChoice;
@@ -20,7 +17,7 @@ pub type Namesake = (Text<0, 16>, CustomerNumber);
 
 /// Whether a customer of that key and name is of the district and has the last name.
 fn is_named(key: &CustomerKey, name: &CustomerName, district: &DistrictKey, last: &LastName) -> bool
-    ensures { result ≡ (eq_by_cmp district_cmp (district_of_customer key.now) district.now && eq_by_cmp (slice_cmp nat_cmp) name.now.last last.now) }
+    ensures { result ≡ is_named district.now last.now key.now name.now }
 {
     key.district_key().compare(*district) == Ordering::Equal
         && name.last.as_str().cmp(last.as_str()) == Ordering::Equal
@@ -33,7 +30,7 @@ pub fn namesakes(
     district: &DistrictKey,
     last: &LastName,
 ) -> Result<Vec<Namesake>, AllocError>
-    ensures { IfOk result (λ v. v.items ≡ namesakes district.now last.now (rows tables.now).customers) }
+    ensures { IfOk result (λ v. v.items ≡ namesakes_in district.now last.now (rows tables.now)) }
 {
     let mut found = Vec::new(alloc);
     for (key, customer) in tables.customers() {
@@ -58,7 +55,7 @@ fn comes_before(first: &Namesake, second: &Namesake) -> bool
 
 /// How many of them come before this one.
 fn rank(namesakes: &[Namesake], own: &Namesake) -> usize
-    ensures { result ≡ count_by (λ y. comes_before y own.now) namesakes.now }
+    ensures { result ≡ rank namesakes.now own.now }
 {
     namesakes
         .iter()
@@ -68,7 +65,7 @@ fn rank(namesakes: &[Namesake], own: &Namesake) -> usize
 
 /// Whether this is the one in the middle of them, rounded up.
 fn is_middle(namesakes: &[Namesake], own: &Namesake) -> bool
-    ensures { result ≡ (count_by (λ y. comes_before y own.now) namesakes.now + 1 == (length namesakes.now + 1) / 2) }
+    ensures { result ≡ is_middle namesakes.now own.now }
 {
     rank(namesakes, own) + 1 == (namesakes.len() + 1) / 2
 }

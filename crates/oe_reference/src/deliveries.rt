@@ -1,9 +1,12 @@
 //! Delivery of one district (clause 2.7).
-ghost use Rattle.std.specs.Prelude.{◌≡◌, ◌<◌, IfOk, MatchOption, option_map, map};
+//!
+//! What it answers is that of tables that stay as they are. There is none where the model has none, and an error only where memory
+//! is refused.
+ghost use Rattle.std.specs.Prelude.{◌≡◌, IfOk};
 ghost use Rattle.oe_model.specs.Effects.{in_range};
-ghost use Rattle.oe_model.specs.Delivery.{oldest, lines_of, worth, dated, delivered_to, delivered_out, delivery_effect};
+ghost use Rattle.oe_model.specs.Delivery.{oldest, delivered_to, delivered_out};
 ghost use Rattle.oe_store.specs.Stored.{rows};
-ghost use Rattle.oe_reference.specs.After.{after_delivery, HasDatedLines};
+ghost use Rattle.oe_reference.specs.After.{worth_of, IsUpTo, dated_lines, with_sum, IsDeliveryEffect, HasDatedLines};
 
 use oe_formulas::deliveries::{customer_after_delivery, line_after_delivery, order_after_delivery};
 use oe_keys::{DistrictKey, OrderKey, OrderLineKey};
@@ -24,7 +27,7 @@ pub fn oldest(tables: &Tables, district: DistrictKey) -> Option<OrderNumber>
 
 /// The sum of the OL_AMOUNTs of an order's lines, where it is no more than from the least balance to the greatest.
 fn worth(tables: &Tables, order: &OrderKey) -> Option<Cents>
-    ensures { MatchOption result (1_999_999_999_998 < worth (lines_of order.now (rows tables.now).order_lines)) (λ s. s ≡ worth (lines_of order.now (rows tables.now).order_lines)) }
+    ensures { IsUpTo 1_999_999_999_998 (worth_of order.now (rows tables.now)) result }
 {
     let mut sum = 0u64;
     for (_, line) in tables.order_lines_of(*order) {
@@ -43,7 +46,7 @@ fn dated_lines(
     order: &OrderKey,
     stamp: Stamp,
 ) -> Result<Vec<(OrderLineKey, OrderLine)>, AllocError>
-    ensures { IfOk result (λ v. v.items ≡ map (λ e. (e.0, dated stamp e.1)) (lines_of order.now (rows tables.now).order_lines)) }
+    ensures { IfOk result (λ v. v.items ≡ dated_lines order.now stamp (rows tables.now)) }
 {
     let mut lines = Vec::new(alloc);
     for (key, line) in tables.order_lines_of(*order) {
@@ -64,7 +67,7 @@ fn customer_after(row: &Customer, sum: Cents) -> Option<Customer>
 
 /// The sum, and the customer after the delivery, where its columns stay in their ranges.
 fn with_sum(row: &Customer, sum: Cents) -> Option<(Cents, Customer)>
-    ensures { result ≡ option_map (λ y. (sum, y)) (in_range delivered_out (delivered_to sum row.now)) }
+    ensures { result ≡ with_sum sum row.now }
 {
     match customer_after(row, sum) {
         Some(after) => Some((sum, after)),
@@ -74,7 +77,7 @@ fn with_sum(row: &Customer, sum: Cents) -> Option<(Cents, Customer)>
 
 /// The sum of the order's OL_AMOUNTs, and the customer after its delivery, where its columns stay in their ranges.
 fn sum_and_customer(tables: &Tables, order: &OrderKey, row: &Customer) -> Option<(Cents, Customer)>
-    ensures { let sum = worth (lines_of order.now (rows tables.now).order_lines) in result ≡ option_map (λ y. (sum, y)) (in_range delivered_out (delivered_to sum row.now)) }
+    ensures { result ≡ with_sum (worth_of order.now (rows tables.now)) row.now }
 {
     let _balance = row.account.balance.cents();
     match worth(tables, order) {
@@ -105,8 +108,8 @@ pub fn delivery(
     tables: &Tables,
     request: &DeliveryRequest,
 ) -> Result<Option<DistrictEffect>, AllocError>
-    ensures effect { IfOk result (λ d. delivery_effect request.now (rows tables.now) ≡ option_map (after_delivery request.now (rows tables.now)) d) }
-    ensures lines { IfOk result (λ d. HasDatedLines request.now (rows tables.now) d) }
+    ensures effect { IfOk result (IsDeliveryEffect request.now (rows tables.now)) }
+    ensures lines { IfOk result (HasDatedLines request.now (rows tables.now)) }
 {
     let Some(number) = oldest(tables, request.district) else {
         return Ok(Some(DistrictEffect::Skipped));

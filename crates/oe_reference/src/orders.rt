@@ -1,11 +1,14 @@
 //! New-Order (clause 2.4).
-ghost use Rattle.std.specs.Prelude.{◌≡◌, ◌<◌, ◌≤◌, ◌∷◌, ◌++◌, [], IfOk, IfSome, Some, None, MatchOption, option_map, map, take, length, slice_index_or, vec_len};
+//!
+//! What it answers is that of tables that stay as they are. There is none where the model has none, and an error only where memory
+//! is refused.
+ghost use Rattle.std.specs.Prelude.{◌≡◌, ◌<◌, ◌≤◌, ◌∷◌, [], IfOk, IfSome, map, take, length, slice_index_or, vec_len};
 ghost use Rattle.std.specs.Ordering.{eq_by_cmp};
 ghost use Rattle.oe_keys.specs.Key.{stock_cmp};
 ghost use Rattle.oe_model.specs.Effects.{in_range};
-ghost use Rattle.oe_model.specs.NewOrder.{stock_of, after_lines, stock_out, next_out, with_next, filled, all_filled, replies_of, new_order_effect};
+ghost use Rattle.oe_model.specs.NewOrder.{stock_of, after_lines, stock_out, next_out, with_next, replies_of};
 ghost use Rattle.oe_store.specs.Stored.{rows};
-ghost use Rattle.oe_reference.specs.After.{filled_by, AreFilled, after_order};
+ghost use Rattle.oe_reference.specs.After.{stock_after, filled_by, IsFilled, AreFilled, IsNextFilled, AreAllFilled, IsOrderEffect, HasFilledLines};
 
 use oe_formulas::orders::{
     Seen, district_after_order, line_reply, order_line, order_row, stock_after_line, stock_key,
@@ -78,7 +81,7 @@ fn stock_after(
     row: &Stock,
 ) -> Option<Stock>
     requires { key.now ≡ stock_of line.now }
-    ensures { result ≡ in_range stock_out (after_lines home (before.now ++ line.now ∷ []) (stock_of line.now) row.now) }
+    ensures { result ≡ stock_after home before.now line.now row.now }
 {
     match stock_after_lines(home, before, key, row) {
         Some(so_far) => stock_after_one(home, line, key, &so_far),
@@ -103,7 +106,7 @@ fn filled(
     line: &RequestLine,
 ) -> Option<FilledLine>
     requires { length before.now < 15 }
-    ensures { option_map filled_by result ≡ filled request.now (rows tables.now) before.now line.now }
+    ensures { IsFilled request.now (rows tables.now) before.now line.now result }
 {
     let Some(key) = stock_key(*line) else {
         return None;
@@ -141,7 +144,7 @@ fn next_filled(
     requires room { length done.now < length request.now.lines }
     requires before { before.now ≡ take (length done.now) request.now.lines }
     requires line { line.now ≡ slice_index_or request.now.lines (length done.now) line.now }
-    ensures { MatchOption result (all_filled request.now (rows tables.now) [] request.now.lines ≡ None) (λ f. AreFilled request.now (rows tables.now) (done.now ++ f ∷ [])) }
+    ensures { IsNextFilled request.now (rows tables.now) done.now result }
 {
     let _lines = request.lines.as_slice();
     filled(tables, request, before, line)
@@ -153,13 +156,13 @@ fn all_filled(
     tables: &Tables,
     request: &NewOrderRequest,
 ) -> Result<Option<Vec<FilledLine>>, AllocError>
-    ensures lines { IfOk result (λ fs. option_map (λ v. map filled_by v.items) fs ≡ all_filled request.now (rows tables.now) [] request.now.lines) }
+    ensures lines { IfOk result (AreAllFilled request.now (rows tables.now)) }
     ensures count { IfOk result (λ fs. IfSome fs (λ v. vec_len v ≡ length request.now.lines)) }
 {
     let mut done = Vec::new(alloc);
     let lines = request.lines.as_slice();
-    for (place, line) in lines.iter().enumerate() {
-        match next_filled(tables, request, &lines[..place], line, &done) {
+    for (index, line) in lines.iter().enumerate() {
+        match next_filled(tables, request, &lines[..index], line, &done) {
             Some(one) => done.push(one)?,
             None => return Ok(None),
         }
@@ -213,8 +216,8 @@ pub fn new_order(
     tables: &Tables,
     request: &NewOrderRequest,
 ) -> Result<Option<Ordered>, AllocError>
-    ensures effect { IfOk result (λ o. new_order_effect request.now (rows tables.now) ≡ option_map (after_order request.now (rows tables.now)) o) }
-    ensures lines { IfOk result (λ o. IfSome o (λ x. all_filled request.now (rows tables.now) [] request.now.lines ≡ Some (map filled_by x.lines.items))) }
+    ensures effect { IfOk result (IsOrderEffect request.now (rows tables.now)) }
+    ensures lines { IfOk result (HasFilledLines request.now (rows tables.now)) }
 {
     let Some(warehouse) = tables.warehouse(request.district.warehouse_key()) else {
         return Ok(None);

@@ -1,9 +1,9 @@
 //! Payment (clause 2.5).
-ghost use Rattle.std.specs.Prelude.{◌≡◌, IfOk, option_map};
+ghost use Rattle.std.specs.Prelude.{◌≡◌, IfOk};
 ghost use Rattle.oe_model.specs.Effects.{in_range};
-ghost use Rattle.oe_model.specs.Payment.{paid_warehouse, paid_warehouse_out, paid_district, paid_district_out, paid_customer, paid_customer_out, payment_effect};
+ghost use Rattle.oe_model.specs.Payment.{paid_warehouse, paid_warehouse_out, paid_district, paid_district_out, paid_customer, paid_customer_out};
 ghost use Rattle.oe_store.specs.Stored.{rows};
-ghost use Rattle.oe_reference.specs.After.{after_payment};
+ghost use Rattle.oe_reference.specs.After.{IsPaymentEffect};
 
 use crate::choices::chosen;
 use oe_formulas::payments::{
@@ -70,7 +70,7 @@ pub fn payment(
     number: TransactionNumber,
     request: &PaymentRequest,
 ) -> Result<Option<Paid>, AllocError>
-    ensures { IfOk result (λ p. payment_effect terminal number request.now (rows tables.now) ≡ option_map (after_payment terminal number request.now (rows tables.now)) p) }
+    ensures { IfOk result (IsPaymentEffect terminal number request.now (rows tables.now)) }
 {
     let Some(warehouse) = tables.warehouse(request.district.warehouse_key()) else {
         return Ok(None);

@@ -1,20 +1,18 @@
 //! Order-Status (clause 2.6) and Stock-Level (clause 2.8).
-ghost use Rattle.std.specs.Prelude.{◌≡◌, ◌==◌, IfOk, MatchOption, option_map, map, nat_le, suc, length, filter};
-ghost use Rattle.std.specs.List.{list_any};
+//!
+//! What they answer is that of tables that stay as they are. There is none where the model answers a refusal, and an error only
+//! where memory is refused.
+ghost use Rattle.std.specs.Prelude.{◌≡◌, IfOk};
 ghost use Rattle.std.specs.Ordering.{eq_by_cmp};
-ghost use Rattle.std.specs.FinMap.{get, entries};
-ghost use Rattle.oe_theory.specs.Machine.{Here, Missing};
 ghost use Rattle.oe_keys.specs.Key.{customer_cmp};
 ghost use Rattle.oe_model.specs.Keys.{customer_of_order};
-ghost use Rattle.oe_model.specs.Delivery.{lines_of};
-ghost use Rattle.oe_model.specs.Queries.{orders_of, last_order, status_line, status_of, order_status, is_recent, recent_lines, is_low, stock_level};
+ghost use Rattle.oe_model.specs.Queries.{last_order, is_recent};
 ghost use Rattle.oe_store.specs.Stored.{rows};
-ghost use Rattle.oe_reference.specs.After.{order_told, status_told};
-ghost use Rattle.oe_reference.specs.Levels.{low_of};
+ghost use Rattle.oe_reference.specs.Queries.{has_newer, status_lines, IsNewest, IsStatus, is_recently_sold, is_low_before, low_before, IsLevel, AreLow};
 
 use crate::choices::chosen;
-use oe_keys::{CustomerKey, DistrictKey, Key, OrderKey, OrderLineKey, StockKey};
-use oe_requests::{LevelQuery, QueryReply, Refusal, StatusLine, StatusQuery};
+use oe_keys::{CustomerKey, DistrictKey, OrderKey, OrderLineKey, StockKey};
+use oe_requests::{LevelQuery, StatusLine, StatusQuery};
 use oe_rows::{Order, OrderLine, Stock};
 use oe_store::Tables;
 use oe_values::{Balance, Carrier, CustomerNumber, ItemNumber, OrderNumber, Stamp};
@@ -48,7 +46,7 @@ fn is_own(key: &OrderKey, order: &Order, customer: &CustomerKey) -> bool
 
 /// Whether an order of the customer has a larger O_ID.
 fn has_newer(tables: &Tables, customer: &CustomerKey, number: OrderNumber) -> bool
-    ensures { result ≡ list_any (λ e. nat_le (suc number) e.0.order) (orders_of customer.now (rows tables.now).orders) }
+    ensures { result ≡ has_newer customer.now number (rows tables.now) }
 {
     for (key, order) in tables.orders() {
         if is_own(key, order, customer) && key.order > number {
@@ -76,7 +74,7 @@ fn status_lines(
     tables: &Tables,
     order: &OrderKey,
 ) -> Result<Vec<StatusLine>, AllocError>
-    ensures { IfOk result (λ v. v.items ≡ map (λ e. status_line e.1) (lines_of order.now (rows tables.now).order_lines)) }
+    ensures { IfOk result (λ v. v.items ≡ status_lines order.now (rows tables.now)) }
 {
     let mut lines = Vec::new(alloc);
     for (_, line) in tables.order_lines_of(*order) {
@@ -97,7 +95,7 @@ fn newest_order(
     tables: &Tables,
     customer: &CustomerKey,
 ) -> Result<Option<NewestOrder>, AllocError>
-    ensures { IfOk result (λ o. option_map order_told o ≡ status_of (rows tables.now).order_lines (last_order customer.now (rows tables.now).orders)) }
+    ensures { IfOk result (IsNewest customer.now (rows tables.now)) }
 {
     let Some((key, order)) = last_order(tables, customer) else {
         return Ok(None);
@@ -116,7 +114,7 @@ pub fn order_status(
     tables: &Tables,
     query: &StatusQuery,
 ) -> Result<Option<Status>, AllocError>
-    ensures { IfOk result (λ s. MatchOption s (order_status query.now (rows tables.now) ≡ Missing Refusal.NoCustomer) (λ x. order_status query.now (rows tables.now) ≡ Here (QueryReply.Status (status_told x)))) }
+    ensures { IfOk result (IsStatus query.now (rows tables.now)) }
 {
     let Some(number) = chosen(alloc, tables, &query.district, &query.customer)? else {
         return Ok(None);
@@ -148,7 +146,7 @@ fn is_recently_sold(
     next: OrderNumber,
     item: ItemNumber,
 ) -> bool
-    ensures { result ≡ list_any (λ e. e.1.item == item) (recent_lines district.now next (rows tables.now).order_lines) }
+    ensures { result ≡ is_recently_sold district.now next item (rows tables.now) }
 {
     for (key, line) in tables.order_lines() {
         if is_recent(district, next, key) && line.item == item {
@@ -166,7 +164,7 @@ fn is_low(
     key: &StockKey,
     stock: &Stock,
 ) -> bool
-    ensures { result ≡ is_low query.now (recent_lines query.now.district next (rows tables.now).order_lines) (key.now, stock.now) }
+    ensures { result ≡ is_low_before query.now next (rows tables.now) (key.now, stock.now) }
 {
     key.warehouse == query.district.warehouse
         && stock.quantity.get() < query.threshold.get()
@@ -180,7 +178,7 @@ fn low_stocks(
     query: &LevelQuery,
     next: OrderNumber,
 ) -> Result<Vec<ItemNumber>, AllocError>
-    ensures { IfOk result (λ v. v.items ≡ map (λ e. e.0.item) (filter (is_low query.now (recent_lines query.now.district next (rows tables.now).order_lines)) (entries (rows tables.now).stocks))) }
+    ensures { IfOk result (λ v. v.items ≡ low_before query.now next (rows tables.now)) }
 {
     let mut items = Vec::new(alloc);
     for (key, stock) in tables.stocks() {
@@ -198,8 +196,8 @@ pub fn low_items(
     tables: &Tables,
     query: &LevelQuery,
 ) -> Result<Option<Vec<ItemNumber>>, AllocError>
-    ensures level { IfOk result (λ v. MatchOption v (stock_level query.now (rows tables.now) ≡ Missing (Refusal.NoSuchRow (Key.District query.now.district))) (λ items. stock_level query.now (rows tables.now) ≡ Here (QueryReply.Level (length items.items)))) }
-    ensures items { IfOk result (λ v. option_map (λ items. items.items) v ≡ option_map (low_of query.now (rows tables.now)) (get (rows tables.now).districts query.now.district)) }
+    ensures level { IfOk result (IsLevel query.now (rows tables.now)) }
+    ensures items { IfOk result (AreLow query.now (rows tables.now)) }
 {
     let Some(district) = tables.district(query.district) else {
         return Ok(None);

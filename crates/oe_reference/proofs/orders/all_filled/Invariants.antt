@@ -3,5 +3,5 @@ use Rattle.oe_store.specs.Stored.{rows}
 use Rattle.oe_reference.specs.After.{AreFilled}
 use Rattle.oe_reference.proofs.orders.all_filled.Given as goal
 
-abbrev pub invariant-loop-place : goal.invariant-loop-place
-invariant-loop-place l = record { filled : AreFilled l.request (rows l.tables) l.done.items; count : vec_len l.done ≡ l.place }
+abbrev pub invariant-loop-index : goal.invariant-loop-index
+invariant-loop-index l = record { filled : AreFilled l.request (rows l.tables) l.done.items; count : vec_len l.done ≡ l.index }
