@@ -1,8 +1,11 @@
 -- Tests of a row that read none of its columns but the key's, and what they go by.
-use Rattle.std.specs.Prelude.{ℕ, ◌+◌, ◌-◌, ◌==◌, Bool, true, Option, None, Some}
+use Rattle.std.specs.Prelude.{ℕ, ◌+◌, ◌-◌, ◌==◌, Bool, true, Option, None, Some, is_some}
+use Rattle.std.specs.FinMap.{get}
+use Rattle.oe_keys.specs.declared.keys.WarehouseKey.{WarehouseKey}
 use Rattle.oe_keys.specs.declared.keys.DistrictKey.{DistrictKey}
 use Rattle.oe_model.specs.Rows.{Rows}
 use Rattle.oe_model.specs.Conditions.{new_orders_of, lines_asked, lines_there}
+use Rattle.oe_model.specs.PopulationTest.{each_row}
 use Rattle.oe_model.specs.Audits.{greatest, least, none_or, new_order_numbers}
 
 -- where a district has a NEW-ORDER row, the greatest NO_O_ID less the least, and 1, is their number (clause 3.3.2.3)
@@ -14,6 +17,11 @@ are_counted r h =
 -- the sum of a district's O_OL_CNT is the number of its ORDER-LINE rows (clause 3.3.2.4)
 unfoldable pub lines_agree : Rows → DistrictKey → Bool
 lines_agree r h = lines_asked r h == lines_there r h
+
+-- the warehouse has a STOCK row for each ITEM row
+abbrev pub stocks_each_item : Rows → WarehouseKey → Bool
+stocks_each_item r w =
+    each_row (λ i y. is_some (get r.stocks (record { warehouse = w.warehouse; item = i.item }))) r.items
 
 -- this number is one more than the one before it, where there is one
 abbrev pub follows : Option ℕ → ℕ → Bool

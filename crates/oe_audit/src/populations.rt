@@ -6,6 +6,7 @@ ghost use Rattle.oe_model.specs.PopulationTest.{each_row, has_stocks};
 ghost use Rattle.oe_model.specs.Verdicts.{IsMet};
 ghost use Rattle.oe_store.specs.Stored.{rows};
 ghost use Rattle.oe_audit.specs.Verdict.{AreMet, condition_of};
+ghost use Rattle.oe_audit.specs.Tests.{stocks_each_item};
 
 use crate::conditions::condition;
 use oe_keys::{StockKey, WarehouseKey};
@@ -41,7 +42,7 @@ fn has_stock(tables: &Tables, key: StockKey) -> bool
 
 /// Whether a warehouse has a STOCK row for each ITEM row.
 fn is_stocked(tables: &Tables, key: WarehouseKey) -> bool
-    ensures { result ≡ each_row (λ i y. is_some (get (rows tables.now).stocks (record { warehouse = key.warehouse; item = i.item }))) (rows tables.now).items }
+    ensures { result ≡ stocks_each_item (rows tables.now) key }
 {
     tables.items().all(|(item, _)| {
         let stock = StockKey {
