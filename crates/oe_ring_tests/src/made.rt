@@ -72,7 +72,8 @@ pub(crate) fn push(ring: &mut Ring, slot: usize, inside: &[u8]) -> Option<Addres
     requires { slot < length ring.old.active }
     ensures slots { length ring.new.active ≡ length ring.old.active }
     ensures room { ring.new.room ≡ ring.old.room }
-    ensures more { IfSome result (λ _. length (get_or ring.new.active slot []) ≡ length (get_or ring.old.active slot []) + 1) }
+    ensures more { IfSome result (λ _.
+        length (get_or ring.new.active slot []) ≡ length (get_or ring.old.active slot []) + 1) }
 {
     let string = Framed::new(inside)?;
     ring.push(slot, &string).ok()
