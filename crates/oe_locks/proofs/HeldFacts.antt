@@ -2,7 +2,7 @@
 use Rattle.std.proofs.Common.{◌≡◌, ◌≢◌, ℕ, suc, ◌+◌, ◌<◌, ◌==◌, inl, inr, Bool, true, false, not, ◌||◌, cond, if◌then◌else◌, List, [], ◌∷◌, ◌++◌, map, length, get_or, set, Option, None, Some, IsSome, is_some, refl, sym, ap, ◌∙◌, subst, arith, add-one}
 use Rattle.std.proofs.lemmas.Bool.{cases_eq, cond-true, cond-false, eq-eqb, ne_eqb, false≢true}
 use Rattle.std.proofs.lemmas.List.{length-map, map-set, get_or-map, get_or-set_same, get_or-set_other}
-use Rattle.std.specs.Prelude.{MatchOption, OnOk, OnErr, IfOk, IfNone}
+use Rattle.std.specs.Prelude.{MatchOption, OnOk, OnErr, IfOk, IfNone, IfSome}
 use Rattle.std.specs.declared.result.Result.{Result}
 use Rattle.std.specs.declared.result.Result.TheVariants.{Ok, Err}
 use Rattle.std.specs.List.{filter}
@@ -92,6 +92,22 @@ given-absent locks t n none q = go (is_name q n) refl
     go : (b : Bool) → is_name q n ≡ b → held locks t q ≡ cond b None (held locks t q)
     go true e = ap (held locks t) (name_true q n e) ∙ held-is locks n None none t
     go false e = refl
+
+-- a terminal has left the name's holders, if anybody held it
+pub departed : (old new : Holdings) (t : ℕ) (n : Name) (o : Option Holders)
+    → IfSome (lookup (ghosts.eq n) old) (λ h. (u : ℕ) → mode_by o u ≡ (if u == t then None else mode_among h u))
+    → (IsSome (lookup (ghosts.eq n) old) → (q : Name) → lookup (ghosts.eq q) new ≡ cond (ghosts.eq n q) o (lookup (ghosts.eq q) old))
+    → (lookup (ghosts.eq n) old ≡ None → new ≡ old) → GivesBack old new t n None × OthersKeep old new t
+departed old new t n o left changes absent = go (lookup (ghosts.eq n) old) refl left changes absent
+  where
+    go : (before : Option Holders) → lookup (ghosts.eq n) old ≡ before → IfSome before (λ h. (u : ℕ) → mode_by o u ≡ (if u == t then None else mode_among h u))
+        → (IsSome before → (q : Name) → lookup (ghosts.eq q) new ≡ cond (ghosts.eq n q) o (lookup (ghosts.eq q) old))
+        → (before ≡ None → new ≡ old) → GivesBack old new t n None × OthersKeep old new t
+    go None e l c a = (
+      subst (λ z. GivesBack old z t n None) (sym (a refl)) (given-absent old t n e),
+      λ u ne q. ap (λ z. held z u q) (a refl),
+    )
+    go (Some h) e l c a = (left-own old new t n h o l (c refl), left-others old new t n h o l (c refl) e)
 
 -- what a terminal does not hold stays so where a name that it holds changes its mode
 pub none-changed : (old new : Holdings) (t : ℕ) (n : Name) (o : Option Mode) → GivesBack old new t n o → IsSome (held old t n) → (q : Name) → held old t q ≡ None → held new t q ≡ None

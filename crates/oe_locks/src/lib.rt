@@ -6,7 +6,7 @@
 //! only for a name that a terminal does not hold yet.
 #![tactic(auto)]
 
-ghost use Rattle.std.specs.Prelude.{◌≡◌, ◌≢◌, ◌+◌, ◌<◌, [], ◌++◌, ◌∷◌, ℕ, not, MatchOption, OnOk, OnErr, IfOk, IfErr, IfNone, IsSome, Some, None, if◌then◌else◌};
+ghost use Rattle.std.specs.Prelude.{◌≡◌, ◌≢◌, ◌==◌, ◌+◌, ◌<◌, [], ◌++◌, ◌∷◌, ℕ, not, MatchOption, OnOk, OnErr, IfOk, IfErr, IfNone, IfSome, IsSome, Some, None, if◌then◌else◌};
 ghost use Rattle.std.specs.List.{filter};
 ghost use Rattle.std.specs.HashMap.{get};
 ghost use Rattle.oe_keys.specs.declared.locks.Name.{Name as LockName};
@@ -70,20 +70,34 @@ fn replace(holders: &mut HashMap<Name, Holders>, name: &Name, after: Holders)
     }
 }
 
-// The terminal is no longer among the holders of the name. A name that nobody holds leaves the map.
+// The terminal is no longer among the holders of the name. A name that nobody holds leaves the map. It is looked up once.
+fn depart(holders: &mut HashMap<Name, Holders>, name: &Name, terminal: Terminal)
+    ensures left { IfSome (get ghosts.eq holders.old name.now) (λ before. (u : ℕ) → mode_by (get ghosts.eq holders.new name.now) u ≡ (if u == terminal then None else mode_among before u)) }
+    ensures map { IsSome (get ghosts.eq holders.old name.now) → (q : LockName) → get ghosts.eq holders.new q ≡ (if ghosts.eq name.now q then get ghosts.eq holders.new name.now else get ghosts.eq holders.old q) }
+    ensures absent { get ghosts.eq holders.old name.now ≡ None → holders.new.entries ≡ holders.old.entries }
+{
+    let Ok(found) = holders.entry(*name) else {
+        return;
+    };
+    let Entry::Occupied(held) = found else {
+        return;
+    };
+    match held.get().without(terminal) {
+        Some(rest) => {
+            *held.into_mut() = rest;
+        }
+        None => {
+            held.remove();
+        }
+    }
+}
+
+// The same, in the words of what is held.
 fn leave(holders: &mut HashMap<Name, Holders>, name: &Name, terminal: Terminal)
     ensures own { GivesBack holders.old.entries holders.new.entries terminal name.now None }
     ensures others { OthersKeep holders.old.entries holders.new.entries terminal }
 {
-    let Some(before) = holders.get(name) else {
-        return;
-    };
-    match before.without(terminal) {
-        Some(rest) => replace(holders, name, rest),
-        None => {
-            holders.remove(name);
-        }
-    }
+    depart(holders, name, terminal);
 }
 
 // The same with each name of the terminal's list, from the last one on. The list keeps its room.
