@@ -12,13 +12,14 @@ ghost use Rattle.oe_store.specs.Stored.{rows};
 ghost use Rattle.oe_undo.specs.Undo.{room_at};
 ghost use Rattle.oe_engine.specs.View.{view_of, IsOpen};
 ghost use Rattle.oe_engine.specs.Covered.{IsOwn, HoldsOrder, IsUnused};
+ghost use Rattle.oe_engine.specs.Writes.{ask_of_write};
 ghost use Rattle.oe_engine.specs.Calls.{ask_of, ask_to_write, IsFree, IsBelow, MayRead, locked, put_mode, row_done, RowRefused, WantsPlace};
 
 use crate::engine::{Engine, Tx};
 use crate::rows::Lock;
 use oe_keys::{Key, Mode, Name};
 use oe_locks::Locks;
-use oe_records::Change;
+use oe_records::{Change, Write};
 use oe_requests::Refusal;
 use oe_rows::Row;
 use oe_store::Tables;
@@ -43,7 +44,7 @@ fn exclusive(name: Name) -> Option<Lock>
 
 // The lock under which a row of that key is changed: none for a HISTORY row, which is its own transaction's, and for an ITEM
 // row, which never changes.
-pub(crate) fn lock_to_write(key: Key) -> Option<Lock>
+fn lock_to_write(key: Key) -> Option<Lock>
     ensures { ask_of result ≡ ask_to_write (governs key) }
 {
     match key {
@@ -55,6 +56,27 @@ pub(crate) fn lock_to_write(key: Key) -> Option<Lock>
         Key::OrderLine(key) => exclusive(Name::Order(key.order_key())),
         Key::Stock(key) => exclusive(Name::Stock(key)),
         Key::History(_) | Key::Item(_) => None,
+    }
+}
+
+// The same of the row that is written, without its key.
+pub(crate) fn lock_of_write(write: &Write) -> Option<Lock>
+    ensures { ask_of result ≡ ask_of_write write.now }
+{
+    match write {
+        Write::WarehouseYtd(key, _) => exclusive(Name::Warehouse(*key)),
+        Write::DistrictYtd(key, _) => exclusive(Name::District(*key)),
+        Write::NextOrder(key, _) => exclusive(Name::District(*key)),
+        Write::CustomerAccount(key, _) => exclusive(Name::Customer(*key)),
+        Write::BadCredit(key, _, _) => exclusive(Name::Customer(*key)),
+        Write::StockCounters(key, _) => exclusive(Name::Stock(*key)),
+        Write::Carrier(key, _) => exclusive(Name::Order(*key)),
+        Write::DeliveryDate(key, _) => exclusive(Name::Order(key.order_key())),
+        Write::InsertHistory(_, _) => None,
+        Write::InsertNewOrder(key) => exclusive(Name::Queue(key.order_key().district_key())),
+        Write::InsertOrder(key, _) => exclusive(Name::Order(*key)),
+        Write::InsertOrderLine(key, _) => exclusive(Name::Order(key.order_key())),
+        Write::DeleteNewOrder(key) => exclusive(Name::Queue(key.order_key().district_key())),
     }
 }
 

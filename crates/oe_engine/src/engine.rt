@@ -250,9 +250,11 @@ impl Engine {
 }
 
 impl Engine {
-    // Takes a lock, or raises the mode in which its name is held. Tables and undo log stay as they are.
-    pub(crate) fn take(&mut self, terminal: Terminal, lock: Lock) -> Result<(), Refusal>
+    // Takes a lock, or raises the mode in which its name is held, and answers the mode before. Tables and undo log stay as they
+    // are.
+    pub(crate) fn take(&mut self, terminal: Terminal, lock: Lock) -> Result<Option<Mode>, Refusal>
         requires { (view_of self.old).is_open terminal ≡ true }
+        ensures before { IfOk result (λ was. option_map mode_of was ≡ (view_of self.old).held terminal lock.name) }
         ensures free { OnOk result (IsFree (view_of self.old) terminal (Take lock.name (mode_of lock.mode))) }
         ensures locked { OnOk result (view_of self.new ≡ locked terminal lock.name (mode_of lock.mode) (view_of self.old)) }
         ensures tables { self.new.tables ≡ self.old.tables }
@@ -366,7 +368,10 @@ impl Engine {
         match (lock, change) {
             (None, None) => Ok(()),
             (None, Some(change)) => self.make(terminal, change),
-            (Some(lock), None) => self.take(terminal, lock),
+            (Some(lock), None) => match self.take(terminal, lock) {
+                Ok(_) => Ok(()),
+                Err(refusal) => Err(refusal),
+            },
             (Some(lock), Some(change)) => self.take_and_make(terminal, lock, change),
         }
     }

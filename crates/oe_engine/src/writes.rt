@@ -14,7 +14,7 @@ ghost use Rattle.oe_engine.specs.Covered.{MayMake, IsOwn};
 ghost use Rattle.oe_engine.specs.Calls.{IsFree, locked, made, ChangeRefused, PairRefused, row_done, RowRefused, IsCovered};
 ghost use Rattle.oe_engine.specs.Writes.{ask_of_write, change_written, WriteHoldsOrder, AbsentRefused, AbsentPairRefused, AbsentRowRefused, WantsRow};
 
-use crate::access::lock_to_write;
+use crate::access::lock_of_write;
 use crate::engine::{Engine, Tx};
 use crate::rows::Lock;
 use oe_records::Write;
@@ -104,7 +104,7 @@ impl Engine {
             return Err(Refusal::NotOpen);
         }
         let terminal = tx.terminal();
-        match lock_to_write(write.key()) {
+        match lock_of_write(write) {
             None => self.put(terminal, write),
             Some(lock) => self.take_and_put(terminal, lock, write),
         }

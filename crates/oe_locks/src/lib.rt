@@ -248,8 +248,9 @@ impl Locks {
         terminal: Terminal,
         mode: Mode,
         before: &Holders,
-    ) -> Result<(), Refusal>
+    ) -> Result<Option<Mode>, Refusal>
         requires { (u : ℕ) → held self.old u name.now ≡ mode_among before.now u }
+        ensures before { IfOk result (λ was. was ≡ held self.old terminal name.now) }
         ensures free { OnOk result (IsFreeFor self.old terminal name.now mode) }
         ensures own { OnOk result (Takes self.old self.new terminal name.now mode) }
         ensures others { OnOk result (OthersKeep self.old self.new terminal) }
@@ -261,20 +262,32 @@ impl Locks {
         }
         let after = before.risen(terminal, mode);
         match before.mode(terminal) {
-            None => self.take(name, terminal, after),
-            Some(_) => {
+            None => {
+                if let Err(want) = self.take(name, terminal, after) {
+                    return Err(want);
+                }
+                Ok(None)
+            }
+            Some(was) => {
                 self.change(name, terminal, after);
-                Ok(())
+                Ok(Some(was))
             }
         }
     }
 
-    /// Takes the name for the terminal, or raises the mode in which the terminal holds it, where nobody is in the way. A
-    /// mode is never lowered. A name that nobody holds is looked up once, and any other twice, however many names are held.
+    /// Takes the name for the terminal, or raises the mode in which the terminal holds it, where nobody is in the way, and
+    /// answers the mode in which the terminal held it before, or `None` where it did not hold it. A mode is never lowered. A
+    /// name that nobody holds is looked up once, and any other twice, however many names are held.
     ///
     /// `Busy` names the least other terminal that holds the name in a mode that conflicts. `NoMemory` comes only where
     /// nobody does, and the terminal does not hold the name yet in any mode. After an error nothing has changed.
-    pub fn acquire(&mut self, name: Name, terminal: Terminal, mode: Mode) -> Result<(), Refusal>
+    pub fn acquire(
+        &mut self,
+        name: Name,
+        terminal: Terminal,
+        mode: Mode,
+    ) -> Result<Option<Mode>, Refusal>
+        ensures before { IfOk result (λ was. was ≡ held self.old terminal name) }
         ensures free { OnOk result (IsFreeFor self.old terminal name mode) }
         ensures own { OnOk result (Takes self.old self.new terminal name mode) }
         ensures others { OnOk result (OthersKeep self.old self.new terminal) }
@@ -283,7 +296,7 @@ impl Locks {
     {
         match self.begin(&name, terminal, mode) {
             Err(refusal) => Err(refusal),
-            Ok(None) => Ok(()),
+            Ok(None) => Ok(None),
             Ok(Some(before)) => self.rise(&name, terminal, mode, &before),
         }
     }

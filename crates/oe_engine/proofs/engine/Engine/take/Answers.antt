@@ -1,9 +1,11 @@
-use Rattle.std.proofs.Common.{◌≡◌, true, is_some}
+use Rattle.std.proofs.Common.{◌≡◌, true, is_some, ap}
+use Rattle.std.specs.Prelude.{option_map}
+use Rattle.oe_model.specs.Locks.{mode_of}
 use Rattle.oe_undo.specs.Undo.{active_at}
 use Rattle.oe_engine.specs.View.{view_of, view_from}
 use Rattle.oe_engine.proofs.KeptFacts.{asked_kept}
 use Rattle.oe_engine.proofs.SafeFacts.{asked_safe}
-use Rattle.oe_engine.proofs.RowFacts.{on_ok, on_both, if_err, free_is, locked_is, lock_cause}
+use Rattle.oe_engine.proofs.RowFacts.{on_ok, on_both, if_ok, if_err, free_is, locked_is, lock_cause}
 use Rattle.oe_engine.proofs.engine.Engine.take.Goals as goal
 
 pub invariant_of-self : goal.invariant_of-self
@@ -16,6 +18,10 @@ invariant_of-self c =
       safe = asked_safe c.acquire.result c.self.inside.tables c.self.inside.undo c.self.inside.locks c.acquire.new.self c.args.terminal c.args.lock.name c.args.lock.mode
           c.acquire.ensures.free c.acquire.ensures.own c.acquire.ensures.others c.acquire.ensures.err c.self.invariant.safe;
     }
+
+pub returns-clause-before : goal.returns-clause-before
+unfolding view_of view_from
+returns-clause-before c = rw (← c.self.view_is) (if_ok c.acquire.result (λ was h. ap (option_map mode_of) h) c.acquire.ensures.before)
 
 pub returns-clause-free : goal.returns-clause-free
 unfolding view_of
