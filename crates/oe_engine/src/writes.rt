@@ -53,23 +53,29 @@ impl Engine {
 
     // Takes a lock and writes; where the write is refused, the name is held as it was. Where the name was held before and there is
     // room for a record, memory is wanted for a place in the tables or for the row before alone.
-    fn take_and_put(&mut self, terminal: Terminal, lock: Lock, write: &Write) -> Result<(), Refusal>
+    fn take_and_put(
+        &mut self,
+        terminal: Terminal,
+        lock: &Lock,
+        write: &Write,
+    ) -> Result<(), Refusal>
         requires open { (view_of self.old).is_open terminal ≡ true }
-        requires covered { ForSome (change_written write.now (view_of self.old)) (λ c. IsCovered (view_of self.old) terminal (Take lock.name (mode_of lock.mode)) (Some c)) }
-        ensures free { OnOk result (IsFree (view_of self.old) terminal (Take lock.name (mode_of lock.mode))) }
+        requires covered { ForSome (change_written write.now (view_of self.old)) (λ c. IsCovered (view_of self.old) terminal (Take lock.now.name (mode_of lock.now.mode)) (Some c)) }
+        ensures free { OnOk result (IsFree (view_of self.old) terminal (Take lock.now.name (mode_of lock.now.mode))) }
         ensures there { OnOk result (IsSome (change_written write.now (view_of self.old))) }
         ensures accepted { ForSome (change_written write.now (view_of self.old)) (λ c. OnOk result (Accepts c (view_of self.old).rows)) }
-        ensures done { ForSome (change_written write.now (view_of self.old)) (λ c. OnOk result (view_of self.new ≡ made terminal c (locked terminal lock.name (mode_of lock.mode) (view_of self.old)))) }
+        ensures done { ForSome (change_written write.now (view_of self.old)) (λ c. OnOk result (view_of self.new ≡ made terminal c (locked terminal lock.now.name (mode_of lock.now.mode) (view_of self.old)))) }
         ensures name { self.new.name ≡ self.old.name }
-        ensures cause { ForSome (change_written write.now (view_of self.old)) (λ c. IfErr result (PairRefused (view_of self.old) terminal lock.name (mode_of lock.mode) c)) }
-        ensures absent { change_written write.now (view_of self.old) ≡ None → IfErr result (AbsentPairRefused (view_of self.old) terminal lock.name (mode_of lock.mode) (key_written write.now)) }
-        ensures room { (IsNew system ((view_of self.old).held terminal) (Take lock.name (mode_of lock.mode)) → ⊥) → 0 < room_at self.old.undo terminal → IfErr result (λ e. e ≡ Refusal.NoMemory → WantsRow (change_written write.now (view_of self.old)) self.old.tables) }
+        ensures cause { ForSome (change_written write.now (view_of self.old)) (λ c. IfErr result (PairRefused (view_of self.old) terminal lock.now.name (mode_of lock.now.mode) c)) }
+        ensures absent { change_written write.now (view_of self.old) ≡ None → IfErr result (AbsentPairRefused (view_of self.old) terminal lock.now.name (mode_of lock.now.mode) (key_written write.now)) }
+        ensures room { (IsNew system ((view_of self.old).held terminal) (Take lock.now.name (mode_of lock.now.mode)) → ⊥) → 0 < room_at self.old.undo terminal → IfErr result (λ e. e ≡ Refusal.NoMemory → WantsRow (change_written write.now (view_of self.old)) self.old.tables) }
         ensures err { OnErr result (view_of self.new ≡ view_of self.old) }
     {
-        let before = self.locks.holds(&lock.name, terminal);
-        if let Err(refusal) = self.take(terminal, lock) {
-            return Err(refusal);
-        }
+        self.is_safe();
+        let before = match self.take(terminal, *lock) {
+            Ok(before) => before,
+            Err(refusal) => return Err(refusal),
+        };
         if let Err(refusal) = self.put(terminal, write) {
             self.restore(terminal, lock.name, before);
             return Err(refusal);
@@ -106,7 +112,7 @@ impl Engine {
         let terminal = tx.terminal();
         match lock_of_write(write) {
             None => self.put(terminal, write),
-            Some(lock) => self.take_and_put(terminal, lock, write),
+            Some(lock) => self.take_and_put(terminal, &lock, write),
         }
     }
 }

@@ -16,37 +16,37 @@ pub restore-requires-clause-unused : goal.restore-requires-clause-unused
 unfolding view_of view_from
 restore-requires-clause-unused c = λ h.
     let v = view_of c.args.self.now in
-    let safe : IsSafe v = rw (← c.self.view_is) c.self.invariant.safe in
-    let before : option_map mode_of c.holds-before.result ≡ v.held c.args.terminal c.args.lock.name = rw (← c.self.view_is) (ap (option_map mode_of) c.holds-before.ensures) in
-    let now : view_of c.put.new.self ≡ locked c.args.terminal c.args.lock.name (mode_of c.args.lock.mode) v = c.in-Err-put.ensures.err ∙ c.in_default.ensures.locked in
-    let below : IsBelow (v.held c.args.terminal c.args.lock.name) ((view_of c.put.new.self).held c.args.terminal c.args.lock.name) =
-    subst (λ o. IsBelow o ((view_of c.put.new.self).held c.args.terminal c.args.lock.name)) before h in
-    subst (λ (z : View). IsUnused c.args.lock.name (z.undo.active c.args.terminal)) (sym now)
-    (unused_if_lower (v.held c.args.terminal) c.args.lock.name c.args.terminal (suc (v.counts c.args.terminal)) (not_exclusive _ _ below) (v.undo.active c.args.terminal) (safe.owned c.args.terminal))
+    let safe : IsSafe v = c.is_safe.ensures.safe in
+    let before : option_map mode_of c.in-Ok.before ≡ v.held c.args.terminal c.args.lock.now.name = c.in-Ok.ensures.before in
+    let now : view_of c.put.new.self ≡ locked c.args.terminal c.args.lock.now.name (mode_of c.args.lock.now.mode) v = c.in-Err-put.ensures.err ∙ c.in-Ok.ensures.locked in
+    let below : IsBelow (v.held c.args.terminal c.args.lock.now.name) ((view_of c.put.new.self).held c.args.terminal c.args.lock.now.name) =
+    subst (λ o. IsBelow o ((view_of c.put.new.self).held c.args.terminal c.args.lock.now.name)) before h in
+    subst (λ (z : View). IsUnused c.args.lock.now.name (z.undo.active c.args.terminal)) (sym now)
+    (unused_if_lower (v.held c.args.terminal) c.args.lock.now.name c.args.terminal (suc (v.counts c.args.terminal)) (not_exclusive _ _ below) (v.undo.active c.args.terminal) (safe.owned c.args.terminal))
 
 pub restore-requires-clause-below : goal.restore-requires-clause-below
 unfolding view_of view_from
 restore-requires-clause-below c =
-    let before : option_map mode_of c.holds-before.result ≡ (view_of c.args.self.now).held c.args.terminal c.args.lock.name = rw (← c.self.view_is) (ap (option_map mode_of) c.holds-before.ensures) in
-    let now : view_of c.put.new.self ≡ locked c.args.terminal c.args.lock.name (mode_of c.args.lock.mode) (view_of c.args.self.now) = c.in-Err-put.ensures.err ∙ c.in_default.ensures.locked in
-    subst (λ (v : View). (option_map mode_of c.holds-before.result ≡ v.held c.args.terminal c.args.lock.name) ⊎ IsBelow (option_map mode_of c.holds-before.result) (v.held c.args.terminal c.args.lock.name)) (sym now)
-    (subst (λ o. (o ≡ (locked c.args.terminal c.args.lock.name (mode_of c.args.lock.mode) (view_of c.args.self.now)).held c.args.terminal c.args.lock.name)
-    ⊎ IsBelow o ((locked c.args.terminal c.args.lock.name (mode_of c.args.lock.mode) (view_of c.args.self.now)).held c.args.terminal c.args.lock.name)) (sym before)
-    (can_restore c.args.terminal c.args.lock.name (mode_of c.args.lock.mode) (view_of c.args.self.now)))
+    let before : option_map mode_of c.in-Ok.before ≡ (view_of c.args.self.now).held c.args.terminal c.args.lock.now.name = c.in-Ok.ensures.before in
+    let now : view_of c.put.new.self ≡ locked c.args.terminal c.args.lock.now.name (mode_of c.args.lock.now.mode) (view_of c.args.self.now) = c.in-Err-put.ensures.err ∙ c.in-Ok.ensures.locked in
+    subst (λ (v : View). (option_map mode_of c.in-Ok.before ≡ v.held c.args.terminal c.args.lock.now.name) ⊎ IsBelow (option_map mode_of c.in-Ok.before) (v.held c.args.terminal c.args.lock.now.name)) (sym now)
+    (subst (λ o. (o ≡ (locked c.args.terminal c.args.lock.now.name (mode_of c.args.lock.now.mode) (view_of c.args.self.now)).held c.args.terminal c.args.lock.now.name)
+    ⊎ IsBelow o ((locked c.args.terminal c.args.lock.now.name (mode_of c.args.lock.now.mode) (view_of c.args.self.now)).held c.args.terminal c.args.lock.now.name)) (sym before)
+    (can_restore c.args.terminal c.args.lock.now.name (mode_of c.args.lock.now.mode) (view_of c.args.self.now)))
 
 pub returns-in-Err-put-clause-err : goal.returns-in-Err-put-clause-err
 unfolding view_of view_from
 returns-in-Err-put-clause-err c =
-    let before : option_map mode_of c.holds-before.result ≡ (view_of c.args.self.now).held c.args.terminal c.args.lock.name = rw (← c.self.view_is) (ap (option_map mode_of) c.holds-before.ensures) in
-    let now : view_of c.put.new.self ≡ locked c.args.terminal c.args.lock.name (mode_of c.args.lock.mode) (view_of c.args.self.now) = c.in-Err-put.ensures.err ∙ c.in_default.ensures.locked in
+    let before : option_map mode_of c.in-Ok.before ≡ (view_of c.args.self.now).held c.args.terminal c.args.lock.now.name = c.in-Ok.ensures.before in
+    let now : view_of c.put.new.self ≡ locked c.args.terminal c.args.lock.now.name (mode_of c.args.lock.now.mode) (view_of c.args.self.now) = c.in-Err-put.ensures.err ∙ c.in-Ok.ensures.locked in
     c.restore.ensures.put
-    ∙ ap (λ (v : View). put_mode c.args.terminal c.args.lock.name (option_map mode_of c.holds-before.result) v) now
-    ∙ ap (λ o. put_mode c.args.terminal c.args.lock.name o (locked c.args.terminal c.args.lock.name (mode_of c.args.lock.mode) (view_of c.args.self.now))) before
-    ∙ restored c.args.terminal c.args.lock.name (mode_of c.args.lock.mode) (view_of c.args.self.now)
+    ∙ ap (λ (v : View). put_mode c.args.terminal c.args.lock.now.name (option_map mode_of c.in-Ok.before) v) now
+    ∙ ap (λ o. put_mode c.args.terminal c.args.lock.now.name o (locked c.args.terminal c.args.lock.now.name (mode_of c.args.lock.now.mode) (view_of c.args.self.now))) before
+    ∙ restored c.args.terminal c.args.lock.now.name (mode_of c.args.lock.now.mode) (view_of c.args.self.now)
 
 pub returns-in-Err-put-clause-room : goal.returns-in-Err-put-clause-room
 unfolding view_of view_from
 returns-in-Err-put-clause-room c = λ held room same.
-    let refused = c.in-Err-put.ensures.room (subst (λ u. 0 < room_at u c.args.terminal) (sym c.in_default.ensures.undo) room) in
+    let refused = c.in-Err-put.ensures.room (subst (λ u. 0 < room_at u c.args.terminal) (sym c.in-Ok.ensures.undo) room) in
     wants_row c.args.write.now c.args.self.now.tables c.in-Err-put.refusal
-    (subst (λ ts. RefusesWrite c.args.write.now ts c.in-Err-put.refusal) c.in_default.ensures.tables refused) same
+    (subst (λ ts. RefusesWrite c.args.write.now ts c.in-Err-put.refusal) c.in-Ok.ensures.tables refused) same
