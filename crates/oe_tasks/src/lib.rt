@@ -41,22 +41,29 @@ to 64. What stands behind the colon is the answer:
                      terminal T begins a payment by customer number: warehouses are 1 to
                      16, districts 1 to 10, customers 1 to 3000, amounts 1.00 to 5000.00,
                      stamps YYYY-MM-DDTHH:MM:SS of the years 1900 to 2100: begun
+  begin T neworder WAREHOUSE DISTRICT CUSTOMER STAMP SUPPLY_WAREHOUSE:ITEM:QUANTITY ..
+                     terminal T begins an order of 5 to 15 items: items are 1 to 999999,
+                     and valid up to I, quantities 1 to 10: begun
   next T             carries out the next step of T's transaction: more, or, at its end,
-                     commit MOMENT payment CUSTOMER LAST_NAME CREDIT BALANCE
+                     commit MOMENT payment CUSTOMER LAST_NAME CREDIT BALANCE, or
+                     commit MOMENT neworder ORDER LAST_NAME CREDIT TOTAL and for each item
+                     B:STOCK:AMOUNT (B where item and stock are both original) or
+                     G:STOCK:AMOUNT
   run T              carries out its steps up to the first that is not answered more: that
                      step's answer alone
   save T             marks where T's transaction stands: saved
   back T             undoes its steps since the mark: back
   rollback T         undoes all its steps, and ends it: rolled back
-  audit N M          audits condition N (1 or 2) of the newest moment, while nothing is
+  audit N M          audits condition N (1 to 4) of the newest moment, while nothing is
                      open; M is now, or its number (0 to 999999999999): condition N holds,
                      or condition N fails at, and the key of the first row at which it does
   dump TABLE         shows warehouse, district, customer, history, neworder, order,
                      orderline, item or stock: a line for each row, and rows COUNT
 
 A step that is refused is answered error NUMBER CAUSE. It changes nothing, but that an
-Overflow at a step and NoCustomer roll their transaction back; the next line is answered as
-ever. Any other line is answered error 1 BadLine and its number from 1.
+Overflow at a step, NoCustomer and an item that is not valid roll their transaction back;
+the next line is answered as ever. Any other line is answered error 1 BadLine and its
+number from 1.
 
 The status is 0 at the end of the input, whatever the answers; 1 after a fault, which
 standard error names (fault: read, fault: write, fault: output closed, fault: no memory),
