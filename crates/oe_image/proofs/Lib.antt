@@ -1,0 +1,6 @@
+-- Lemmas.
+pub mod NumberFacts
+pub mod FrontFacts
+pub mod KeyFacts
+pub mod ColumnFacts
+pub mod RowFacts
