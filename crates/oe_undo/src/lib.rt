@@ -3,6 +3,7 @@
 #![tactic(auto)]
 
 pub mod laws;
+mod reads;
 pub mod records;
 pub mod segments;
 pub mod undo;
