@@ -1,0 +1,13 @@
+//! Rows as they stood at a moment, read from the tables and the undo log alone. Clauses of the standard are those of TPC
+//! Benchmark C 5.11.
+#![tactic(auto)]
+
+pub mod last;
+pub mod laws;
+pub mod lines;
+mod records;
+pub mod rows;
+
+pub use last::last_order_at;
+pub use lines::lines_at;
+pub use rows::{customer_at, district_at, order_at, order_line_at, row_at, stock_at};
