@@ -1,12 +1,12 @@
 -- A customer's last order is the last of the customer's orders in their district, which stand by O_ID.
-use Rattle.std.proofs.Common.{◌≡◌, ℕ, suc, ◌<◌, ◌≤◌, refl, sym, ◌∙◌, ap, subst, Bool, true, false, cond, List, [], ◌∷◌, Option, Some, None, arith}
+use Rattle.std.proofs.Common.{◌≡◌, ℕ, suc, ◌<◌, ◌≤◌, refl, sym, ◌∙◌, ap, subst, Bool, true, false, cond, List, [], ◌∷◌, Some, None, arith}
 use Rattle.std.specs.Prelude.{T, ◌&&◌, ◌||◌, not, nat_le, filter, find, option_map}
 use Rattle.std.specs.List.{list_any}
 use Rattle.std.specs.Ordering.{eq_by_cmp, is_lt, nat_cmp, ordering_then}
 use Rattle.std.specs.declared.cmp.Ordering.{Ordering}
 use Rattle.std.specs.declared.cmp.Ordering.TheVariants.{Less, Equal, Greater}
 use Rattle.std.specs.Cmp.{tied_itself, nat_cmp_total, ranked}
-use Rattle.std.specs.FinMap.{FinMap, entries, entries_sorted, retain_keys}
+use Rattle.std.specs.FinMap.{FinMap, entries, entries_sorted}
 use Rattle.std.specs.FinMap.Entries.{is_sorted, below_all}
 use Rattle.std.proofs.lemmas.Bool.Decides.{nat_tests}
 use Rattle.oe_keys.specs.Key.{district_cmp, customer_cmp, order_cmp}
@@ -16,7 +16,7 @@ use Rattle.oe_keys.specs.declared.keys.OrderKey.{OrderKey}
 use Rattle.oe_rows.specs.declared.orders.Order.{Order}
 use Rattle.oe_keys.proofs.KeyFacts.{district_total, exact_district, customer_total, exact_customer, order_total, exact_order}
 use Rattle.oe_model.specs.Keys.{district_of_customer, district_of_order, customer_of_order}
-use Rattle.oe_model.specs.Queries.{orders_of, last_order}
+use Rattle.oe_model.specs.Queries.{last_order}
 use Rattle.oe_model.proofs.MapFacts.{is_same, is_self}
 use Rattle.oe_model.proofs.EntryFacts.{EachOf, each_of}
 use Rattle.oe_store.specs.Stored.{entries_of}

@@ -1,7 +1,6 @@
 use Rattle.std.proofs.Common.{◌≡◌, ◌+◌, ◌≤◌, length}
-use Rattle.std.specs.Prelude.{count_by}
 use Rattle.std.specs.List.{filter_map}
-use Rattle.oe_model.specs.Choice.{named, namesakes, comes_before}
+use Rattle.oe_model.specs.Choice.{named, namesakes}
 use Rattle.oe_store.specs.Stored.{rows}
 use Rattle.oe_store.proofs.tables.Tables.namesakes.Given as goal
 
