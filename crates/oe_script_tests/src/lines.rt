@@ -54,7 +54,7 @@ fn sum_of(tables: &Tables) -> Result<u64, Failed> {
 }
 
 /// The sum of all dumps of what is open.
-pub fn standing(session: &Session) -> Option<u64> {
+pub(crate) fn standing(session: &Session) -> Option<u64> {
     match &session.core {
         Some(core) => sum_of(core.tables()).ok(),
         None => None,
@@ -74,7 +74,13 @@ fn say(session: &mut Session, alloc: Global, line: &[u8]) -> Result<(), Failed>
 }
 
 /// Says a line, and once more where memory was refused; it had then changed nothing, but for the steps that a run had made.
-pub fn assert_said(rt: &impl Abort, session: &mut Session, alloc: Global, line: &[u8], answer: &str)
+pub(crate) fn assert_said(
+    rt: &impl Abort,
+    session: &mut Session,
+    alloc: Global,
+    line: &[u8],
+    answer: &str,
+)
     requires { IsLive (state_of session.old.core) }
     ensures { IsLive (state_of session.new.core) }
 {
@@ -87,9 +93,9 @@ pub fn assert_said(rt: &impl Abort, session: &mut Session, alloc: Global, line: 
     assert_eq!(rt; session.out.as_slice(), answer.as_bytes());
 }
 
-/// Lines and their answers: a payment, one that is rolled back, one of a customer with bad credit, and two terminals with a
-/// savepoint.
-const SAID: [&[(&str, &str)]; 4] = [
+/// Lines and their answers: a payment, one that is rolled back, one of a customer with bad credit, two terminals with a
+/// savepoint, an order of an unused item before one that commits, and an order with a savepoint beside a payment.
+const SAID: [&[(&str, &str)]; 6] = [
     &[
         ("open 1 10 20 64", "opened\n"),
         (
@@ -151,6 +157,70 @@ const SAID: [&[(&str, &str)]; 4] = [
         ("run 2", "commit 1 payment 1 BARBARBAR GC -260.00\n"),
         ("back 1", "back\n"),
         ("run 1", "commit 2 payment 1 BARBARBAR GC -260.00\n"),
+    ],
+    &[
+        ("open 1 10 20 64", "opened\n"),
+        (
+            "begin 1 neworder 1 1 1 2001-01-01T00:00:00 1:1:1 1:2:1 1:3:1 1:4:1 1:21:1",
+            "begun\n",
+        ),
+        ("next 1", "more\n"),
+        ("next 1", "more\n"),
+        ("next 1", "more\n"),
+        ("next 1", "more\n"),
+        ("next 1", "more\n"),
+        ("next 1", "more\n"),
+        ("next 1", "more\n"),
+        ("next 1", "more\n"),
+        ("next 1", "more\n"),
+        ("next 1", "more\n"),
+        ("next 1", "more\n"),
+        ("next 1", "more\n"),
+        ("next 1", "more\n"),
+        ("next 1", "error 12 Item number is not valid\n"),
+        (
+            "begin 1 neworder 1 1 1 2001-01-01T00:00:00 1:1:1 1:2:1 1:3:1 1:4:1 1:5:1",
+            "begun\n",
+        ),
+        (
+            "run 1",
+            "commit 1 neworder 11 BARBARBAR GC 10.70 G:23:1.37 G:36:1.74 G:49:2.11 G:62:2.48 G:75:2.85\n",
+        ),
+        ("audit 3 now", "condition 3 holds\n"),
+        ("audit 4 now", "condition 4 holds\n"),
+    ],
+    &[
+        ("open 2 10 20 64", "opened\n"),
+        (
+            "begin 1 neworder 1 1 1 2001-01-01T00:00:00 1:1:1 1:2:1 1:3:1 1:4:1 1:5:1",
+            "begun\n",
+        ),
+        ("next 1", "more\n"),
+        ("next 1", "more\n"),
+        ("next 1", "more\n"),
+        ("next 1", "more\n"),
+        ("next 1", "more\n"),
+        ("next 1", "more\n"),
+        ("next 1", "more\n"),
+        ("next 1", "more\n"),
+        ("next 1", "more\n"),
+        ("save 1", "saved\n"),
+        ("next 1", "more\n"),
+        ("next 1", "more\n"),
+        ("next 1", "more\n"),
+        ("next 1", "more\n"),
+        (
+            "begin 2 payment 2 1 2 1 1 250.00 2001-01-01T00:00:00",
+            "begun\n",
+        ),
+        ("run 2", "commit 1 payment 1 BARBARBAR GC -260.00\n"),
+        ("back 1", "back\n"),
+        (
+            "run 1",
+            "commit 2 neworder 11 BARBARBAR GC 10.70 G:23:1.37 G:36:1.74 G:49:2.11 G:62:2.48 G:75:2.85\n",
+        ),
+        ("audit 2 now", "condition 2 holds\n"),
+        ("audit 3 now", "condition 3 holds\n"),
     ],
 ];
 

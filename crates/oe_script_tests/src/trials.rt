@@ -24,7 +24,7 @@ pub struct Trace {
     pub written: Vec<u8>,
 }
 
-pub fn run_once(alloc: Global, trial: &Trial<'_>) -> Trace {
+pub(crate) fn run_once(alloc: Global, trial: &Trial<'_>) -> Trace {
     let mut reader = MemoryIntake {
         bytes: trial.script,
         piece: trial.given,
@@ -54,7 +54,7 @@ fn lacks_memory(trial: &Trial<'_>, trace: &Trace) -> bool {
     text.contains(NO_MEMORY) || trial.writes == u64::MAX && trace.ended == Err(Fault::Write)
 }
 
-pub fn run(alloc: Global, trial: &Trial<'_>) -> Trace {
+pub(crate) fn run(alloc: Global, trial: &Trial<'_>) -> Trace {
     let trace = run_once(alloc, trial);
     if lacks_memory(trial, &trace) {
         return run_once(alloc, trial);
@@ -63,7 +63,7 @@ pub fn run(alloc: Global, trial: &Trial<'_>) -> Trace {
 }
 
 /// What a script is answered.
-pub fn answered(alloc: Global, script: &[u8], piece: usize) -> Result<Vec<u8>, Fault> {
+pub(crate) fn answered(alloc: Global, script: &[u8], piece: usize) -> Result<Vec<u8>, Fault> {
     let trial = Trial {
         script,
         given: piece,
@@ -82,7 +82,7 @@ pub const ROLLED_BACK: &str =
 pub const ROLLED_BACK_ANSWERS: &str =
     "opened\nbegun\nmore\nmore\nmore\nmore\nrolled back\n1\tWARE01\tSTREET1\tSTREET2\tCITY\tST\t000111111\t0.0100\t100.00\nrows 1\n";
 
-pub fn newlines(text: &[u8]) -> usize {
+pub(crate) fn newlines(text: &[u8]) -> usize {
     let mut count = 0usize;
     for b in text {
         count = count.saturating_add(usize::from(*b == b'\n'));
@@ -103,7 +103,7 @@ fn first_lines(text: &[u8], count: usize) -> &[u8] {
 }
 
 /// What the whole lines of a front of the script are answered.
-pub fn whole_answers(front: &[u8]) -> &'static [u8] {
+pub(crate) fn whole_answers(front: &[u8]) -> &'static [u8] {
     let answers = ROLLED_BACK_ANSWERS.as_bytes();
     if front.len() == ROLLED_BACK.len() {
         return answers;
