@@ -1,25 +1,44 @@
 //! What terminals do and what they are told, in short.
 ghost use Rattle.std.specs.Prelude.{IfSome};
-ghost use Rattle.oe_core.specs.Steps.{IsStep};
+ghost use Rattle.std.specs.List.{All};
+ghost use Rattle.oe_model.specs.Requests.{IsNewOrder, IsRequestLine};
+ghost use Rattle.oe_core.specs.Steps.{HasProgram, IsStep};
 
-use crate::openings::{district, money};
+use crate::openings::{customer, district, is_filled, money, quantity};
 use oe_core::Core;
-use oe_requests::{Column, CustomerChoice, PaymentRequest, Refusal, Reply, Request};
+use oe_keys::CustomerKey;
+use oe_requests::{
+    Column, CustomerChoice, NewOrderReply, NewOrderRequest, PaymentRequest, Refusal, Reply,
+    Request, RequestLine, RequestLines,
+};
 use oe_steps::{Answer, Condition, Step, Verdict};
-use oe_values::{CustomerNumber, Moment, PaymentAmount, Stamp, Terminal};
+use oe_store::Tables;
+use oe_values::{
+    CustomerNumber, Moment, PaymentAmount, Quantity, RequestedItem, Stamp, Terminal,
+    WarehouseNumber,
+};
 use std::process::Abort;
 
-/// An act of a terminal, an audit of the moment 0, or a look at the tables.
+/// An act of a terminal, an audit of a moment, or a look at the tables.
 pub(crate) enum Act {
     /// The terminal begins a payment of 250.00 in district 1 of that warehouse, by that customer.
     Begin(u32, u32, u32),
+    /// The terminal begins an order of one each of the items 1 to 5, by the customer of that warehouse, district and number.
+    /// That warehouse supplies the last item, and the district's own the others.
+    Order(u32, (u32, u32, u32), u32),
     Advance(u32),
+    /// So many advances, one after another, as long as a further row is there.
+    Rows(u32, u32),
     Save(u32),
     Back(u32),
     Rollback(u32),
-    Audit(Condition),
+    Audit(Condition, u32),
     /// At that warehouse, its district 1, and that customer of it.
     Look(u32, u32),
+    /// At the stock of that item in that warehouse.
+    Stock(u32, u32),
+    /// At that line of order 11 of that district of that warehouse.
+    Line(u32, u32, u32),
 }
 
 /// What was answered.
@@ -29,12 +48,18 @@ pub(crate) enum Said {
     More,
     /// The customer that paid, and the new balance.
     Paid(u32, i64),
+    /// The order's number, its total in cents, and S_QUANTITY of the last line.
+    Ordered(u32, u64, u32),
     Saved,
     Back,
     RolledBack,
     Holds,
     /// W_YTD, D_YTD and C_BALANCE.
     Money(u64, u64, i64),
+    /// S_QUANTITY.
+    InStock(u32),
+    There,
+    Absent,
     /// By that terminal.
     Busy(u32),
     /// So many are open.
@@ -42,6 +67,7 @@ pub(crate) enum Said {
     /// Of C_PAYMENT_CNT.
     Overflow,
     Refused,
+    NoMemory,
     NotOpen,
     AlreadyOpen,
 }
@@ -61,6 +87,78 @@ fn begin(terminal: Terminal, warehouse: u32, customer: u32) -> Option<Step>
     Some(Step::Begin(terminal, Request::Payment(payment)))
 }
 
+// One of an item.
+fn line(supply: WarehouseNumber, item: u32) -> Option<RequestLine>
+    ensures { IfSome result IsRequestLine }
+{
+    Some(RequestLine {
+        supply,
+        item: RequestedItem::new(item)?,
+        quantity: Quantity::new(1)?,
+    })
+}
+
+// These lines, where they are as many as an order has.
+#[tactic(auto, using(crate::proofs::StepFacts::all_read))]
+fn read(lines: &[RequestLine]) -> Option<RequestLines>
+    requires { All IsRequestLine lines.now }
+    ensures { IfSome result (λ ls. All IsRequestLine ls) }
+{
+    RequestLines::read(lines)
+}
+
+// One each of the items 1 to 5.
+#[tactic(auto, using(crate::proofs::StepFacts::all_five))]
+fn lines(home: WarehouseNumber, supply: WarehouseNumber) -> Option<RequestLines>
+    ensures { IfSome result (λ ls. All IsRequestLine ls) }
+{
+    let lines = [
+        line(home, 1)?,
+        line(home, 2)?,
+        line(home, 3)?,
+        line(home, 4)?,
+        line(supply, 5)?,
+    ];
+    read(&lines)
+}
+
+// An order of these lines.
+fn order_of(customer: &CustomerKey, stamp: Stamp, lines: RequestLines) -> NewOrderRequest
+    requires { All IsRequestLine lines }
+    ensures { IsNewOrder result }
+{
+    // The proof takes the ranges from what these two ensure.
+    let _count = lines.as_slice();
+    let _number = customer.customer.get();
+    NewOrderRequest {
+        district: customer.district_key(),
+        customer: customer.customer,
+        stamp,
+        lines,
+    }
+}
+
+// An order of one each of the items 1 to 5.
+fn order(customer: &CustomerKey, supply: WarehouseNumber) -> Option<Request>
+    ensures { IfSome result HasProgram }
+{
+    let stamp = Stamp::read("2001-01-01T00:00:00")?;
+    match lines(customer.warehouse, supply) {
+        Some(lines) => Some(Request::NewOrder(order_of(customer, stamp, lines))),
+        None => None,
+    }
+}
+
+// The beginning of an order.
+fn begin_order(terminal: Terminal, customer: &CustomerKey, supply: u32) -> Option<Step>
+    ensures { IfSome result IsStep }
+{
+    match order(customer, WarehouseNumber::new(supply)?) {
+        Some(request) => Some(Step::Begin(terminal, request)),
+        None => None,
+    }
+}
+
 /// The step of an act.
 pub(crate) fn step_of(act: &Act) -> Option<Step>
     ensures { IfSome result IsStep }
@@ -69,12 +167,18 @@ pub(crate) fn step_of(act: &Act) -> Option<Step>
         Act::Begin(terminal, warehouse, customer) => {
             begin(Terminal::new(*terminal)?, *warehouse, *customer)
         }
+        Act::Order(terminal, (warehouse, district, number), supply) => {
+            let customer = &customer(*warehouse, *district, *number)?;
+            begin_order(Terminal::new(*terminal)?, customer, *supply)
+        }
         Act::Advance(terminal) => Some(Step::Advance(Terminal::new(*terminal)?)),
         Act::Save(terminal) => Some(Step::Save(Terminal::new(*terminal)?)),
         Act::Back(terminal) => Some(Step::Back(Terminal::new(*terminal)?)),
         Act::Rollback(terminal) => Some(Step::Rollback(Terminal::new(*terminal)?)),
-        Act::Audit(condition) => Some(Step::Audit(*condition, Moment::new(0)?)),
-        Act::Look(_, _) => None,
+        Act::Audit(condition, moment) => {
+            Some(Step::Audit(*condition, Moment::new(*moment as u64)?))
+        }
+        Act::Rows(_, _) | Act::Look(_, _) | Act::Stock(_, _) | Act::Line(_, _, _) => None,
     }
 }
 
@@ -84,9 +188,18 @@ fn refused(refusal: &Refusal) -> Said {
         Refusal::Busy(_, terminal) => Said::Busy(terminal.get()),
         Refusal::NotQuiet(count) => Said::NotQuiet(count.get()),
         Refusal::Overflow(Column::PaymentCount) => Said::Overflow,
+        Refusal::NoMemory => Said::NoMemory,
         Refusal::NotOpen => Said::NotOpen,
         Refusal::AlreadyOpen => Said::AlreadyOpen,
         _ => Said::Refused,
+    }
+}
+
+// An order's commit.
+fn ordered(reply: &NewOrderReply) -> Said {
+    match reply.lines.as_slice().last() {
+        Some(line) => Said::Ordered(reply.order.get(), reply.total.cents(), line.quantity.get()),
+        None => Said::Refused,
     }
 }
 
@@ -94,6 +207,7 @@ fn refused(refusal: &Refusal) -> Said {
 fn committed(reply: &Reply) -> Said {
     match reply {
         Reply::Payment(payment) => { Said::Paid(payment.customer.get(), payment.balance.cents()) }
+        Reply::NewOrder(order) => ordered(order),
         _ => Said::Refused,
     }
 }
@@ -113,14 +227,45 @@ pub(crate) fn in_short(answer: &Answer) -> Said {
     }
 }
 
-/// What an act is answered.
-fn told(core: &mut Core, act: &Act) -> Option<Said> {
-    if let Act::Look(warehouse, customer) = act {
-        let (warehouse, district, customer) = money(core.tables(), *warehouse, *customer)?;
-        return Some(Said::Money(warehouse, district, customer));
+// Rows of a transaction; the answer of the last that was said.
+fn rows(core: &mut Core, terminal: Terminal, count: u32) -> Said {
+    for _ in 0..count {
+        let said = in_short(&core.step(Step::Advance(terminal)));
+        if said != Said::More {
+            return said;
+        }
     }
-    let step = step_of(act)?;
-    Some(in_short(&core.step(step)))
+    Said::More
+}
+
+// What the tables have.
+fn seen(tables: &Tables, act: &Act) -> Option<Said> {
+    match act {
+        Act::Look(warehouse, customer) => {
+            let (warehouse, district, customer) = money(tables, *warehouse, *customer)?;
+            Some(Said::Money(warehouse, district, customer))
+        }
+        Act::Stock(warehouse, item) => Some(Said::InStock(quantity(tables, *warehouse, *item)?)),
+        Act::Line(warehouse, district, number) => {
+            if is_filled(tables, *warehouse, *district, *number)? {
+                Some(Said::There)
+            } else {
+                Some(Said::Absent)
+            }
+        }
+        _ => None,
+    }
+}
+
+/// What an act is answered.
+pub(crate) fn told(core: &mut Core, act: &Act) -> Option<Said> {
+    if let Act::Rows(terminal, count) = act {
+        return Some(rows(core, Terminal::new(*terminal)?, *count));
+    }
+    match step_of(act) {
+        Some(step) => Some(in_short(&core.step(step))),
+        None => seen(core.tables(), act),
+    }
 }
 
 /// Carries out the acts one after another, each of which is to be answered so.

@@ -9,6 +9,8 @@ mod locks;
 #[cfg(test)]
 mod openings;
 #[cfg(test)]
+mod orders;
+#[cfg(test)]
 mod payments;
 #[cfg(test)]
 mod runs;

@@ -3,11 +3,14 @@
 use oe_audit::is_population;
 use oe_change::apply;
 use oe_core::Core;
-use oe_keys::DistrictKey;
+use oe_keys::{CustomerKey, DistrictKey, OrderLineKey, StockKey};
 use oe_records::{Boxed, Change};
 use oe_rows::Scale;
 use oe_store::{Tables, populate};
-use oe_values::{Count, CustomerNumber, DistrictNumber, ItemNumber, Text, WarehouseNumber};
+use oe_values::{
+    Count, CustomerNumber, DistrictNumber, ItemNumber, LineNumber, OrderNumber, Text,
+    WarehouseNumber,
+};
 use std::alloc::Global;
 use std::process::Abort;
 
@@ -55,6 +58,18 @@ fn opened(rt: &impl Abort, alloc: Global) -> Option<Core> {
     Core::open(alloc, tables, 64).ok()
 }
 
+/// A core on the population, or none where memory was refused.
+pub(crate) fn fresh(alloc: Global) -> Option<Core> {
+    let scale = scale()?;
+    let Ok(tables) = populate(alloc, scale) else {
+        return None;
+    };
+    if !is_population(&tables) {
+        return None;
+    }
+    Core::open(alloc, tables, 64).ok()
+}
+
 /// A core on the population in which customer 2 of warehouse 1 has made 9,999 payments.
 pub(crate) fn open(rt: &impl Abort, alloc: Global) -> Core {
     opened(rt, alloc).expect(rt, "a core")
@@ -69,6 +84,35 @@ pub(crate) fn money(tables: &Tables, warehouse: u32, customer: u32) -> Option<(u
         tables.district(*district)?.ytd.cents(),
         tables.customer(*customer)?.account.balance.cents(),
     ))
+}
+
+/// A customer of any district.
+pub(crate) fn customer(warehouse: u32, district: u32, customer: u32) -> Option<CustomerKey> {
+    Some(CustomerKey {
+        warehouse: WarehouseNumber::new(warehouse)?,
+        district: DistrictNumber::new(district)?,
+        customer: CustomerNumber::new(customer)?,
+    })
+}
+
+/// S_QUANTITY.
+pub(crate) fn quantity(tables: &Tables, warehouse: u32, item: u32) -> Option<u32> {
+    let key = &StockKey {
+        warehouse: WarehouseNumber::new(warehouse)?,
+        item: ItemNumber::new(item)?,
+    };
+    Some(tables.stock(*key)?.quantity.get())
+}
+
+/// Whether order 11 of a district has that line.
+pub(crate) fn is_filled(tables: &Tables, warehouse: u32, district: u32, line: u32) -> Option<bool> {
+    let key = &OrderLineKey {
+        warehouse: WarehouseNumber::new(warehouse)?,
+        district: DistrictNumber::new(district)?,
+        order: OrderNumber::new(11)?,
+        number: LineNumber::new(line)?,
+    };
+    Some(tables.order_line(*key).is_some())
 }
 
 /// C_DATA of a customer of district 1 of warehouse 1.
