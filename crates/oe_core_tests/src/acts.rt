@@ -20,6 +20,7 @@ use oe_values::{
 use std::process::Abort;
 
 /// An act of a terminal, an audit of a moment, or a look at the tables.
+#[derive(Drop)]
 pub(crate) enum Act {
     /// The terminal begins a payment of 250.00 in district 1 of that warehouse, by that customer.
     Begin(u32, u32, u32),
@@ -64,8 +65,8 @@ pub(crate) enum Said {
     Busy(u32),
     /// So many are open.
     NotQuiet(u32),
-    /// Of C_PAYMENT_CNT.
-    Overflow,
+    /// A column would leave its range.
+    Overflow(Column),
     Refused,
     NoMemory,
     NotOpen,
@@ -187,7 +188,7 @@ fn refused(refusal: &Refusal) -> Said {
     match refusal {
         Refusal::Busy(_, terminal) => Said::Busy(terminal.get()),
         Refusal::NotQuiet(count) => Said::NotQuiet(count.get()),
-        Refusal::Overflow(Column::PaymentCount) => Said::Overflow,
+        Refusal::Overflow(column) => Said::Overflow(*column),
         Refusal::NoMemory => Said::NoMemory,
         Refusal::NotOpen => Said::NotOpen,
         Refusal::AlreadyOpen => Said::AlreadyOpen,

@@ -14,7 +14,8 @@ use oe_values::{
 use std::alloc::Global;
 use std::process::Abort;
 
-fn scale() -> Option<Scale> {
+/// 2 warehouses, 10 customers a district and 20 items.
+pub(crate) fn scale() -> Option<Scale> {
     Some(Scale {
         warehouses: WarehouseNumber::new(2)?,
         customers: CustomerNumber::new(10)?,

@@ -3,6 +3,7 @@
 use crate::acts::{Act, Said, play};
 use crate::openings::{data_of, open};
 use oe_core::Core;
+use oe_requests::Column;
 use std::process::Abort;
 
 /// Terminal 1 makes the four changes of a payment, and rolls them back.
@@ -39,7 +40,7 @@ const PAY_ONCE_TOO_OFTEN: [(Act, Said); 6] = [
     (Act::Begin(1, 1, 2), Said::Begun),
     (Act::Advance(1), Said::More),
     (Act::Advance(1), Said::More),
-    (Act::Advance(1), Said::Overflow),
+    (Act::Advance(1), Said::Overflow(Column::PaymentCount)),
     (Act::Advance(1), Said::NotOpen),
     (Act::Look(1, 2), Said::Money(100_000, 10_000, -1_000)),
 ];

@@ -6,6 +6,7 @@ ghost use Rattle.oe_core.specs.Steps.{IsStep};
 use crate::acts::{Act, Said, in_short, step_of};
 use crate::openings::{money, open};
 use oe_core::{Core, run};
+use oe_requests::Column;
 use oe_steps::{Answer, Step};
 use std::alloc::Global;
 use std::process::Abort;
@@ -17,7 +18,7 @@ const WAIT_AND_OVERFLOW: [(Act, Said); 6] = [
     (Act::Advance(1), Said::More),
     (Act::Advance(2), Said::Busy(1)),
     (Act::Advance(1), Said::More),
-    (Act::Advance(1), Said::Overflow),
+    (Act::Advance(1), Said::Overflow(Column::PaymentCount)),
 ];
 
 /// It goes back to its mark, and on to its commit.
