@@ -10,12 +10,13 @@ use Rattle.oe_requests.specs.declared.requests.Request.TheVariants as request
 use Rattle.oe_requests.specs.declared.refusals.Refusal.{Refusal}
 use Rattle.oe_requests.specs.declared.refusals.Refusal.TheVariants as refusal
 use Rattle.oe_requests.specs.declared.replies.Reply.{Reply}
-use Rattle.oe_model.specs.Places.{Place, InPayment, InNewOrder, NoProgram}
+use Rattle.oe_model.specs.Places.{Place, InPayment, InNewOrder, InDelivery, NoProgram}
 use Rattle.oe_model.specs.System.{system, taken}
 use Rattle.oe_engine.specs.View.{View, view_of, Handle, IsOpen}
 use Rattle.oe_engine.specs.View as engine
 use Rattle.oe_engine.specs.Calls.{rolled_back}
 use Rattle.oe_engine.specs.Programs.{tx_of, reply_at}
+use Rattle.oe_delivery.specs.Program as delivery
 use Rattle.oe_neworder.specs.Program as neworder
 use Rattle.oe_neworder.specs.Steps.{HoldsAll}
 use Rattle.oe_core.specs.Steps.{IsNumber}
@@ -35,6 +36,7 @@ IsOf (request.Payment q) (program.Payment p) = IsNumber q.customer
 IsOf (request.Payment q) _ = ⊥
 IsOf (request.NewOrder q) (program.NewOrder p) = Unit {0}
 IsOf (request.NewOrder q) _ = ⊥
+IsOf (request.Delivery q) (program.Delivery p) = Unit {0}
 IsOf (request.Delivery q) _ = ⊥
 IsOf (request.Deliveries q) _ = ⊥
 IsOf (request.Rename q) _ = ⊥
@@ -45,6 +47,7 @@ place_of (request.Payment q) (program.Payment p) = InPayment q p
 place_of (request.Payment q) _ = NoProgram
 place_of (request.NewOrder q) (program.NewOrder p) = InNewOrder q (neworder.place_of q p)
 place_of (request.NewOrder q) _ = NoProgram
+place_of (request.Delivery q) (program.Delivery p) = InDelivery q (delivery.place_of p)
 place_of (request.Delivery q) _ = NoProgram
 place_of (request.Deliveries q) _ = NoProgram
 place_of (request.Rename q) _ = NoProgram

@@ -100,7 +100,7 @@ Advances w t advanced.More w' = Carries w (step.Advance t) answer.More w'
 Advances w t (advanced.Committed m) w' = (y : Reply) × (newest_reply w' ≡ Some y) × Carries w (step.Advance t) (answer.Committed m y) w'
 Advances w t (advanced.Refused e) w' = Carries w (step.Advance t) (answer.Refused e) w'
 
--- the requests that have a program today, in their ranges: payments by customer number, and orders
+-- the requests that have a program today, in their ranges: payments by customer number, orders, and deliveries of one district
 abbrev pub IsNumber : CustomerChoice → Type 0
 IsNumber (choice.Number c) = Unit {0}
 IsNumber (choice.LastName last) = ⊥
@@ -108,6 +108,7 @@ IsNumber (choice.LastName last) = ⊥
 abbrev pub HasProgram : Request → Type 0
 HasProgram (request.Payment q) = IsRequest (request.Payment q) × IsNumber q.customer
 HasProgram (request.NewOrder q) = IsRequest (request.NewOrder q)
+HasProgram (request.Delivery q) = IsRequest (request.Delivery q)
 HasProgram q = ⊥
 
 -- the steps of today

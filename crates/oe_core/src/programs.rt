@@ -14,6 +14,7 @@ use oe_requests::{Reply, Request};
 pub enum Program {
     Payment(oe_payment::Program),
     NewOrder(oe_neworder::Program),
+    Delivery(oe_delivery::Program),
 }
 
 impl Program {
@@ -26,6 +27,7 @@ impl Program {
         match request {
             Request::Payment(_) => Program::Payment(oe_payment::Program::new()),
             Request::NewOrder(_) => Program::NewOrder(oe_neworder::Program::new()),
+            Request::Delivery(_) => Program::Delivery(oe_delivery::Program::new()),
             _ => unreachable!(),
         }
     }
@@ -37,6 +39,7 @@ impl Program {
         match self {
             Program::Payment(program) => Program::Payment(program.copied()),
             Program::NewOrder(program) => Program::NewOrder(program.copied()),
+            Program::Delivery(program) => Program::Delivery(program.copied()),
         }
     }
 
@@ -64,6 +67,10 @@ impl Program {
                 },
                 _ => unreachable!(),
             },
+            Program::Delivery(program) => match program.reply() {
+                Some(reply) => Reply::Delivery(reply),
+                None => unreachable!(),
+            },
         }
     }
 
@@ -81,6 +88,10 @@ impl Program {
             },
             Program::NewOrder(program) => match request {
                 Request::NewOrder(order) => program.next(order, engine, tx),
+                _ => unreachable!(),
+            },
+            Program::Delivery(program) => match request {
+                Request::Delivery(delivery) => program.next(delivery, engine, tx),
                 _ => unreachable!(),
             },
         }

@@ -46,6 +46,7 @@ pub fn rejection(tables: &Tables, request: &Request) -> Option<Refusal>
             Some(refusal) => Some(refusal),
             None => absent_supply(tables, order.lines.as_slice()),
         },
+        Request::Delivery(delivery) => absent(tables, delivery.district.warehouse),
         _ => unreachable!(),
     }
 }
