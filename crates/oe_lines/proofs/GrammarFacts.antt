@@ -16,6 +16,7 @@ use Rattle.oe_requests.specs.declared.requests.CustomerChoice.TheVariants as cho
 use Rattle.oe_requests.specs.declared.requests.PaymentRequest.{PaymentRequest}
 use Rattle.oe_requests.specs.declared.requests.RequestLine.{RequestLine}
 use Rattle.oe_requests.specs.declared.requests.NewOrderRequest.{NewOrderRequest}
+use Rattle.oe_requests.specs.declared.requests.DeliveryRequest.{DeliveryRequest}
 use Rattle.oe_requests.specs.declared.requests.Request.{Request}
 use Rattle.oe_requests.specs.declared.requests.Request.TheVariants as request
 use Rattle.oe_steps.specs.Condition.{condition_number}
@@ -27,9 +28,9 @@ use Rattle.oe_lines.specs.declared.commands.Command.TheVariants as command
 use Rattle.oe_lines.specs.declared.commands.MomentChoice.{MomentChoice}
 use Rattle.oe_lines.specs.declared.commands.MomentChoice.TheVariants as moment
 use Rattle.oe_lines.specs.declared.commands.Scale.{Scale}
-use Rattle.oe_model.specs.Requests.{IsDistrict, IsChoice, IsPayment, IsRequestLine, IsNewOrder}
+use Rattle.oe_model.specs.Requests.{IsDistrict, IsChoice, IsPayment, IsRequestLine, IsNewOrder, IsDelivery}
 use Rattle.oe_lines.specs.Grammar.{Says, HasForm, IsScale, IsRequest, IsNumbered, IsMoment, words_of, request_words, customer_word, line_word, moment_word}
-use Rattle.oe_lines.specs.Reading.{begun, table_of, moment_of, audit_of, opening_of, district_of, payment_of, line_of, line_and, lines_within, lines_of, new_order_of, request_of, beginning_of, terminal_of, rare_command_of, command_of}
+use Rattle.oe_lines.specs.Reading.{begun, table_of, moment_of, audit_of, opening_of, district_of, payment_of, line_of, line_and, lines_within, lines_of, new_order_of, delivery_of, request_of, beginning_of, terminal_of, rare_command_of, command_of}
 use Rattle.oe_lines.specs.Words.{is_word, within, number_of, number_then, number_before, last_number, amount_before, stamp_of, stamp_before}
 use Rattle.oe_lines.proofs.StampFacts.{stamp_found, stamp_only, stamp_before_found, stamp_before_only}
 use Rattle.oe_values.specs.Front.{after_of, decimal_of, alone}
@@ -378,6 +379,29 @@ new_order_only q h =
     )
     refl
 
+-- deliveries
+
+abbrev delivery_words : DeliveryRequest → List ℕ
+delivery_words q = district_words q.district (decimal q.carrier ++ 32 ∷ stamp_text q.stamp)
+
+delivery_found : (s : List ℕ) (q : DeliveryRequest) → delivery_of s ≡ Some q → (s ≡ delivery_words q) × IsDelivery q
+unfolding delivery_of
+delivery_found s q e =
+    let a = bind_some (district_of s) _ q e in
+    let b = bind_some (number_before 1 10 a.0.1) _ q a.2 in
+    let t = bind_some (stamp_of b.0.1) _ q b.2 in
+    let f = district_found s a.0 a.1 in
+    let g = before_found 1 10 a.0.1 b.0.0 b.0.1 b.1 in
+    let h = stamp_found b.0.1 t.0 t.1 in
+    let last = g.0 ∙ ap (λ z. decimal b.0.0 ++ 32 ∷ z) h.0 in
+    let same = some_same (record { district = a.0.0; carrier = b.0.0; stamp = t.0 }) q t.2 in
+    rw (← same) (f.0 ∙ ap (district_words a.0.0) last, record { district = f.1; carrier = (g.1, g.2); stamp = h.1 })
+
+delivery_only : (q : DeliveryRequest) → IsDelivery q → delivery_of (delivery_words q) ≡ Some q
+unfolding delivery_of
+delivery_only q h =
+    rw (district_only q.district _ h.district, before_only 1 10 q.carrier _ (omega arith) h.carrier, stamp_only q.stamp h.stamp) refl
+
 -- requests
 
 -- the words are spelled with a space between each two
@@ -397,13 +421,19 @@ request_found s r e = elim (begun_some (after_of (codes "payment ") s) _ _ r e) 
       let p = map_some (λ p. request.Payment p) (payment_of h.0) r h.2 in
       let f = payment_found h.0 p.0 p.1 in
       rw (← p.2) (after_found (codes "payment ") s h.0 h.1 ∙ ap (λ z. codes "payment" ++ 32 ∷ z) f.0, (f.1, f.2))
-  | inr e ↦ elim (begun_some (after_of (codes "neworder ") s) _ None r e) [
+  | inr e ↦ elim (begun_some (after_of (codes "neworder ") s) _ _ r e) [
     | inl h ↦
         let q = map_some (λ q. request.NewOrder q) (new_order_of h.0) r h.2 in
         let f = new_order_found h.0 q.0 q.1 in
         let count = f.1.count in
         rw (← q.2) (after_found (codes "neworder ") s h.0 h.1 ∙ ap (λ z. codes "neworder" ++ 32 ∷ z) f.0 ∙ sym (spelled_order q.0 (omega (arith, count.0))), f.1)
-    | inr e ↦ cc
+    | inr e ↦ elim (begun_some (after_of (codes "delivery ") s) _ None r e) [
+      | inl h ↦
+          let q = map_some (λ q. request.Delivery q) (delivery_of h.0) r h.2 in
+          let f = delivery_found h.0 q.0 q.1 in
+          rw (← q.2) (after_found (codes "delivery ") s h.0 h.1 ∙ ap (λ z. codes "delivery" ++ 32 ∷ z) f.0, f.1)
+      | inr e ↦ cc
+    ]
   ]
 ]
 
@@ -415,7 +445,7 @@ request_only (request.Payment p) h =
 request_only (request.NewOrder q) h =
     let count = h.count in
     ap request_of (spelled_order q (omega (arith, count.0))) ∙ rw (new_order_only q h) refl
-request_only (request.Delivery q) h = elim h [ ]
+request_only (request.Delivery q) h = rw (delivery_only q h) refl
 request_only (request.Deliveries q) h = elim h [ ]
 request_only (request.Rename q) h = elim h [ ]
 
@@ -423,7 +453,7 @@ request_only (request.Rename q) h = elim h [ ]
 begun_words : (t : ℕ) (r : Request) → IsRequest r → join_with_byte 32 (words_of (command.Begin t r)) ≡ codes "begin" ++ 32 ∷ (decimal t ++ 32 ∷ join_with_byte 32 (request_words r))
 begun_words t (request.Payment p) h = refl
 begun_words t (request.NewOrder q) h = refl
-begun_words t (request.Delivery q) h = elim h [ ]
+begun_words t (request.Delivery q) h = refl
 begun_words t (request.Deliveries q) h = elim h [ ]
 begun_words t (request.Rename q) h = elim h [ ]
 

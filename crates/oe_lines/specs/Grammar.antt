@@ -41,7 +41,8 @@ request_words (request.Payment p) =
 request_words (request.NewOrder q) =
     codes "neworder" ∷ decimal q.district.warehouse ∷ decimal q.district.district ∷ decimal q.customer
     ∷ stamp_text q.stamp ∷ map line_word q.lines
-request_words (request.Delivery r) = []
+request_words (request.Delivery q) =
+    codes "delivery" ∷ decimal q.district.warehouse ∷ decimal q.district.district ∷ decimal q.carrier ∷ stamp_text q.stamp ∷ []
 request_words (request.Deliveries r) = []
 request_words (request.Rename r) = []
 
@@ -63,11 +64,11 @@ abbrev pub IsNumbered : CustomerChoice → Type 0
 IsNumbered (choice.Number n) = Unit {0}
 IsNumbered (choice.LastName name) = ⊥
 
--- payments and orders in the model's ranges; other requests have no form yet
+-- payments, orders and deliveries of one district in the model's ranges; other requests have no form yet
 abbrev pub IsRequest : Request → Type 0
 IsRequest (request.Payment p) = model.IsPayment p × IsNumbered p.customer
 IsRequest (request.NewOrder q) = model.IsNewOrder q
-IsRequest (request.Delivery r) = ⊥
+IsRequest (request.Delivery q) = model.IsDelivery q
 IsRequest (request.Deliveries r) = ⊥
 IsRequest (request.Rename r) = ⊥
 

@@ -8,6 +8,7 @@ use Rattle.oe_requests.specs.declared.requests.CustomerChoice.TheVariants as cho
 use Rattle.oe_requests.specs.declared.requests.PaymentRequest.{PaymentRequest}
 use Rattle.oe_requests.specs.declared.requests.RequestLine.{RequestLine}
 use Rattle.oe_requests.specs.declared.requests.NewOrderRequest.{NewOrderRequest}
+use Rattle.oe_requests.specs.declared.requests.DeliveryRequest.{DeliveryRequest}
 use Rattle.oe_requests.specs.declared.requests.Request.{Request}
 use Rattle.oe_requests.specs.declared.requests.Request.TheVariants as request
 use Rattle.oe_steps.specs.declared.audits.Condition.TheVariants as condition
@@ -119,11 +120,19 @@ new_order_of s = do
   ls ← lines_of stamp.1
   Some (record { district = at.0; customer = c.0; stamp = stamp.0; lines = ls })
 
+unfoldable pub delivery_of : List ℕ → Option DeliveryRequest
+delivery_of s = do
+  at ← district_of s
+  carrier ← number_before 1 10 at.1
+  stamp ← stamp_of carrier.1
+  Some (record { district = at.0; carrier = carrier.0; stamp = stamp })
+
 unfoldable pub request_of : List ℕ → Option Request
 request_of s =
     begun (after_of (codes "payment ") s) (λ r. option_map (λ p. request.Payment p) (payment_of r))
     (begun (after_of (codes "neworder ") s) (λ r. option_map (λ q. request.NewOrder q) (new_order_of r))
-    None)
+    (begun (after_of (codes "delivery ") s) (λ r. option_map (λ q. request.Delivery q) (delivery_of r))
+    None))
 
 unfoldable pub beginning_of : List ℕ → Option Command
 beginning_of s = do

@@ -3,7 +3,7 @@ ghost use Rattle.std.specs.Prelude.{◌≡◌, IfSome, Some};
 ghost use Rattle.std.specs.Option.{option_map};
 ghost use Rattle.oe_lines.specs.declared.commands.Command.{Command};
 ghost use Rattle.oe_lines.specs.Grammar.{Says};
-ghost use Rattle.oe_lines.specs.Reading.{command_of, rare_command_of, opening_of, beginning_of, request_of, district_of, payment_of, new_order_of, line_of, lines_of, table_of, moment_of, audit_of};
+ghost use Rattle.oe_lines.specs.Reading.{command_of, rare_command_of, opening_of, beginning_of, request_of, district_of, payment_of, new_order_of, delivery_of, line_of, lines_of, table_of, moment_of, audit_of};
 
 use crate::commands::{Command, MomentChoice, Scale};
 use crate::words::{
@@ -11,7 +11,8 @@ use crate::words::{
 };
 use oe_keys::{DistrictKey, Table};
 use oe_requests::{
-    CustomerChoice, NewOrderRequest, PaymentRequest, Request, RequestLine, RequestLines,
+    CustomerChoice, DeliveryRequest, NewOrderRequest, PaymentRequest, Request, RequestLine,
+    RequestLines,
 };
 use oe_steps::Condition;
 use oe_values::fronts::{after, decimal};
@@ -102,7 +103,7 @@ fn beginning(text: &[u8]) -> Option<Command>
     Some(Command::Begin(terminal, request))
 }
 
-/// `payment ..` or `neworder ..`.
+/// `payment ..`, `neworder ..` or `delivery ..`.
 #[inline]
 #[tactic(auto, unfolding(crate::specs::Reading::request_of))]
 fn request(text: &[u8]) -> Option<Request>
@@ -113,6 +114,9 @@ fn request(text: &[u8]) -> Option<Request>
     }
     if let Some(rest) = after(text, b"neworder ") {
         return Some(Request::NewOrder(new_order(rest)?));
+    }
+    if let Some(rest) = after(text, b"delivery ") {
+        return Some(Request::Delivery(delivery(rest)?));
     }
     None
 }
@@ -183,6 +187,25 @@ fn new_order(text: &[u8]) -> Option<NewOrderRequest>
         customer,
         stamp,
         lines,
+    })
+}
+
+/// `w d carrier stamp`.
+#[tactic(auto, unfolding(crate::specs::Reading::delivery_of))]
+fn delivery(text: &[u8]) -> Option<DeliveryRequest>
+    ensures { result ≡ delivery_of text.now }
+{
+    let Some((district, rest)) = district(text) else {
+        return None;
+    };
+    let Some((carrier, rest)) = number_before(rest) else {
+        return None;
+    };
+    let stamp = stamp(rest)?;
+    Some(DeliveryRequest {
+        district,
+        carrier,
+        stamp,
     })
 }
 
