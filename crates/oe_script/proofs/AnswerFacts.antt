@@ -229,7 +229,7 @@ told_run_within (suc k) w t h l = by_answer (told_advance w t l.0) (told_run_wit
         by_test (inr other) = (0, x, v, (other, s))
         by_test (inl e) =
             let more : Next system w (Advance t) theory.More v = subst (λ (z : Answer). Next system w (Advance t) (answer_in (step.Advance t) z) v) e s in
-            let less = falls w v t l.1 more in
+            let less = falls w v t l more in
             let fewer : left v t < k = omega (arith, less, h) in
             let r = rest v t fewer (live_step w (step.Advance t) theory.More v tt l more) in
             (suc r.0, r.1, r.2, (v, more, r.3))

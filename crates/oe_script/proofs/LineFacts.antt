@@ -51,14 +51,14 @@ by_number (choice.LastName last) h = absurd h
 pub has_program : (q : Request) → grammar.IsRequest q → HasProgram q
 has_program (request.Payment q) h = (h.0, by_number q.customer h.1)
 has_program (request.NewOrder q) h = h
-has_program (request.Delivery q) h = absurd h
+has_program (request.Delivery q) h = h
 has_program (request.Deliveries q) h = absurd h
 has_program (request.Rename q) h = absurd h
 
 is_request : (q : Request) → HasProgram q → model.IsRequest q
 is_request (request.Payment q) h = h.0
 is_request (request.NewOrder q) h = h
-is_request (request.Delivery q) h = absurd h
+is_request (request.Delivery q) h = h
 is_request (request.Deliveries q) h = absurd h
 is_request (request.Rename q) h = absurd h
 

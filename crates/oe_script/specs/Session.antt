@@ -2,7 +2,7 @@
 use Rattle.std.specs.Prelude.{◌≡◌, ℕ, ◌+◌, ◌^◌, ◌<◌, ◌≤◌, ◌⊎◌, Bool, List, [], ◌++◌, length, ⊤, Option, Some, None, Result, Ok, Err, MatchResult}
 use Rattle.oe_theory.specs.World.{Open, World}
 use Rattle.oe_theory.specs.Theorems.{IsReached}
-use Rattle.oe_model.specs.Places.{Place, InPayment, InNewOrder}
+use Rattle.oe_model.specs.Places.{Place, InPayment, InNewOrder, InDelivery}
 use Rattle.oe_model.specs.System.{system}
 use Rattle.oe_core.specs.Core.{Stored, world_of}
 use Rattle.oe_script.specs.declared.session.Fault.{Fault}
@@ -15,10 +15,11 @@ abbrev pub state_of : Option Stored → State
 state_of None = None
 state_of (Some c) = Some (world_of c)
 
--- a place of a program that steps of today run: a payment's, or an order's
+-- a place of a program that steps of today run: a payment's, an order's, or a delivery's
 abbrev pub IsServed : Place → Type 0
 IsServed (InPayment q p) = Unit {0}
 IsServed (InNewOrder q p) = Unit {0}
+IsServed (InDelivery q p) = Unit {0}
 IsServed p = ⊥
 
 -- an open transaction runs one of them, here and at its mark

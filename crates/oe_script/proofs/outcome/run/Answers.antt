@@ -8,7 +8,7 @@ use Rattle.oe_script.proofs.LineFacts.{answer_of, not_more}
 use Rattle.oe_script.proofs.outcome.run.Goals as goal
 
 pub loop-ended-smaller : goal.loop-ended-smaller
-loop-ended-smaller c = falls (world_of c.loop-ended.core) (world_of c.advance.new.self) c.args.terminal c.loop-ended.invariant.live.1 c.in-More.ensures.0
+loop-ended-smaller c = falls (world_of c.loop-ended.core) (world_of c.advance.new.self) c.args.terminal c.loop-ended.invariant.live c.in-More.ensures.0
 
 pub loop-ended-preserved : goal.loop-ended-preserved
 loop-ended-preserved c =
