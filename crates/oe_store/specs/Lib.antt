@@ -6,3 +6,4 @@ pub mod Group
 pub mod Dump
 pub mod Walk
 pub mod Newest
+pub mod Numbered

@@ -2,6 +2,7 @@
 ghost use Rattle.std.specs.Prelude.{◌≡◌};
 ghost use Rattle.std.specs.Option.{option_copied};
 ghost use Rattle.std.specs.FinMap.{get, empty};
+ghost use Rattle.oe_store.specs.Numbered.{AreNumbered};
 ghost use Rattle.oe_store.specs.Stored.{rows, HasPlace};
 ghost use Rattle.oe_model.specs.Meets.{Meets};
 
@@ -129,6 +130,13 @@ impl Tables {
     /// The rows meet the schema (clauses 1.3 and 1.4). It does nothing: it is for proofs above, which see the rows alone.
     pub fn schema_holds(&self)
         ensures { Meets (rows self.now) }
+    {
+        let _known = &self.warehouses;
+    }
+
+    /// The numbers in the keys of rows are in their ranges (clause 1.3.1). It does nothing, as `schema_holds`.
+    pub fn numbers_hold(&self)
+        ensures { AreNumbered (rows self.now) }
     {
         let _known = &self.warehouses;
     }

@@ -5,9 +5,11 @@
 pub mod last;
 pub mod laws;
 pub mod lines;
+pub mod names;
 mod records;
 pub mod rows;
 
 pub use last::last_order_at;
 pub use lines::lines_at;
+pub use names::names_at;
 pub use rows::{customer_at, district_at, order_at, order_line_at, row_at, stock_at};
