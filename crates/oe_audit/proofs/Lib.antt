@@ -4,3 +4,6 @@ mod SumFacts
 mod NumberFacts
 mod DistrictFacts
 mod PopulationFacts
+mod PastFacts
+mod WalkFacts
+mod QuietFacts

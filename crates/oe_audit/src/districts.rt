@@ -30,7 +30,7 @@ fn last_new_order(tables: &Tables, key: DistrictKey) -> Option<u32>
 }
 
 /// Whether there is such a number, and it is the last.
-fn is_last(number: Option<u32>, last: u32) -> bool
+pub(crate) fn is_last(number: Option<u32>, last: u32) -> bool
     ensures { result ≡ some_and number (λ n. n == last) }
 {
     match number {
@@ -40,7 +40,7 @@ fn is_last(number: Option<u32>, last: u32) -> bool
 }
 
 /// Whether there is no such number, or it is the last.
-fn is_last_or_none(number: Option<u32>, last: u32) -> bool
+pub(crate) fn is_last_or_none(number: Option<u32>, last: u32) -> bool
     ensures { result ≡ none_or number (λ n. n == last) }
 {
     match number {
@@ -62,7 +62,7 @@ pub(crate) fn passes_second(tables: &Tables, key: &DistrictKey, row: &District) 
 }
 
 /// Whether a number is one more than the one before it, where there is one.
-fn follows_number(before: Option<u32>, number: u32) -> bool
+pub(crate) fn follows_number(before: Option<u32>, number: u32) -> bool
     requires { 1 ≤ number }
     ensures { result ≡ follows before number }
 {

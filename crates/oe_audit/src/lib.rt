@@ -1,11 +1,16 @@
-//! Audits of the tables: the verdict of each consistency condition, and the test of a population. No memory is taken.
+//! Audits of the tables as they stand or stood at a moment: the verdict of each consistency condition, and the test of a population.
+//! No memory is taken.
 //! Clauses of the standard are those of TPC Benchmark C 5.11.
 #![tactic(auto)]
 
 pub mod conditions;
 mod districts;
+pub mod moments;
+mod past_districts;
+mod past_warehouses;
 pub mod populations;
 mod warehouses;
 
 pub use conditions::condition;
+pub use moments::condition_at;
 pub use populations::is_population;

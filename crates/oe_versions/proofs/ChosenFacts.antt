@@ -68,6 +68,43 @@ module _ {K X Y : Type 0} {R : K → K → Ordering} (m : FinMap R X) where
       go false t None h rest = rest
       go false t (Some x) h rest = ap (λ b. cond b (Some x) (find R q (rows_at es))) t ∙ rest
 
+  -- the row at the first of a list's keys is the first, where there is one
+  pub rows_some : (e : K × Y) (es : List (K × Y)) (x : X) → get m e.0 ≡ Some x → rows_at (e ∷ es) ≡ (e.0, x) ∷ rows_at es
+  rows_some e es x at = ap (λ v. cons_option (option_map (λ y. (e.0, y)) v) (rows_at es)) at
+
+  pub rows_none : (e : K × Y) (es : List (K × Y)) → get m e.0 ≡ None → rows_at (e ∷ es) ≡ rows_at es
+  rows_none e es at = ap (λ v. cons_option (option_map (λ y. (e.0, y)) v) (rows_at es)) at
+
+  -- a map's rows of some keys are those at a rising list's keys, where this has all of those keys and no others
+  pub kept_among : IsTotalOrder R → IsAntisymmetric R → (p : K → Bool) (es : List (K × Y)) → T (is_sorted R es)
+      → ((q : K) → p q ≡ true → IsSome (get m q) → IsSome (find R q es)) → ((q : K) → IsSome (find R q es) → p q ≡ true)
+      → entries (retain_keys m p) ≡ rows_at es
+  kept_among total exact p es sorted all only =
+      same_entries R total exact (entries (retain_keys m p)) (rows_at es) (entries_sorted (retain_keys m p)) (sorted_kept es sorted) (λ q.
+      sym (get-entries (retain_keys m p) q) ∙ get-retain_keys m p q (λ x e. ap p (sym (exact q x e)))
+      ∙ agree (p q) (get m q) (find R q es) (all q) (only q) ∙ sym (find_kept exact q es))
+    where
+      agree : (b : Bool) (v : Option X) (w : Option Y) → (b ≡ true → IsSome v → IsSome w) → (IsSome w → b ≡ true) → cond b v None ≡ cond (is_some w) v None
+      agree true None None a o = refl
+      agree true None (Some y) a o = refl
+      agree true (Some x) None a o = let e : false ≡ true = a refl refl in let no : ⊥ = cc in absurd no
+      agree true (Some x) (Some y) a o = refl
+      agree false v None a o = refl
+      agree false v (Some y) a o = let e : false ≡ true = o refl in let no : ⊥ = cc in absurd no
+
+  -- a map whose keys another has: its rows are those at the keys of the other's
+  pub all_is : IsTotalOrder R → IsAntisymmetric R → (n : FinMap R Y) → ((q : K) → IsSome (get m q) → IsSome (get n q)) → entries m ≡ rows_at (entries n)
+  all_is total exact n has =
+      same_entries R total exact (entries m) (rows_at (entries n)) (entries_sorted m) (sorted_kept (entries n) (entries_sorted n)) (λ q.
+      sym (get-entries m q) ∙ agree (get m q) (get n q) (has q)
+      ∙ sym (find_kept exact q (entries n) ∙ ap (λ v. cond (is_some v) (get m q) None) (sym (get-entries n q))))
+    where
+      agree : (v : Option X) (w : Option Y) → (IsSome v → IsSome w) → v ≡ cond (is_some w) v None
+      agree None None h = refl
+      agree None (Some y) h = refl
+      agree (Some x) None h = let e : false ≡ true = h refl in let no : ⊥ = cc in absurd no
+      agree (Some x) (Some y) h = refl
+
   -- a map whose keys another has: its rows of some keys are those at the keys of the other's
   pub kept_is : IsTotalOrder R → IsAntisymmetric R → (n : FinMap R Y) (p : K → Bool) → ((q : K) → IsSome (get m q) → IsSome (get n q))
       → entries (retain_keys m p) ≡ rows_at (entries (retain_keys n p))

@@ -30,7 +30,7 @@ use Rattle.oe_model.proofs.NamesFacts.{same_namesakes}
 use Rattle.oe_model.proofs.PresenceFacts.{some-map}
 use Rattle.oe_model.proofs.RowFacts.{key_true, at_put_back, record_key_of, before}
 use Rattle.oe_model.proofs.SystemLaws.{laws}
-use Rattle.oe_versions.specs.Lasting.{names_of, Lasts, Rows_last, Names_last}
+use Rattle.oe_versions.specs.Lasting.{names_of, Lasts, Rows_last, Names_last, Versions_meet}
 
 itself : (k : Key) (v : Option Row) → Lasts k v v
 itself (key.Warehouse k) v = refl
@@ -159,3 +159,6 @@ names_last s m h last stands =
     λ k. by_names (get (version_of system s m).customers k) (get s.tables.customers k) (rows_last s m (key.Customer k) stands)
     in
     same_namesakes h last (version_of system s m).customers s.tables.customers (λ k. (each k).0) (λ k. (each k).1 last)
+
+pub versions_meet : Versions_meet
+versions_meet s m h = ((store_is_orderly system laws s h).good m).meets

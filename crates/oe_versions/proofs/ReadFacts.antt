@@ -1,9 +1,11 @@
 -- The row that a record has, as one of its table's, is the row of the version.
 use Rattle.std.proofs.Common.{◌≡◌, ℕ, Option, None, Some, refl, sym, ap, ◌∙◌}
-use Rattle.std.specs.Prelude.{option_map, option_and_then}
+use Rattle.std.specs.Prelude.{is_some, option_map, option_and_then}
 use Rattle.std.specs.FinMap.{get}
+use Rattle.oe_keys.specs.declared.keys.WarehouseKey.{WarehouseKey}
 use Rattle.oe_keys.specs.declared.keys.CustomerKey.{CustomerKey}
 use Rattle.oe_keys.specs.declared.keys.DistrictKey.{DistrictKey}
+use Rattle.oe_keys.specs.declared.keys.NewOrderKey.{NewOrderKey}
 use Rattle.oe_keys.specs.declared.keys.OrderKey.{OrderKey}
 use Rattle.oe_keys.specs.declared.keys.OrderLineKey.{OrderLineKey}
 use Rattle.oe_keys.specs.declared.keys.StockKey.{StockKey}
@@ -15,7 +17,7 @@ use Rattle.oe_rows.specs.declared.orders.OrderLine.{OrderLine}
 use Rattle.oe_rows.specs.declared.items.Stock.{Stock}
 use Rattle.oe_rows.specs.declared.rows.Row.{Row}
 use Rattle.oe_rows.specs.declared.rows.Row.TheVariants as row
-use Rattle.oe_model.specs.Rows.{row_at, as_customer, as_district, as_order, as_order_line, as_stock}
+use Rattle.oe_model.specs.Rows.{row_at, as_warehouse, as_district, as_customer, as_new_order, as_order, as_order_line, as_stock}
 use Rattle.oe_model.specs.Changes.{Record}
 use Rattle.oe_store.specs.Stored.{rows}
 use Rattle.oe_store.specs.Stored as tables
@@ -28,6 +30,12 @@ came c back h None = refl
 came c back h (Some x) = h x
 
 module _ (ts : tables.Stored) (u : undo.Stored) (m : ℕ) (o : Option Record) where
+  pub warehouse_is : (k : WarehouseKey) → HasRow u m (key.Warehouse k) o → get (version ts u m).warehouses k ≡ option_and_then as_warehouse (row_found o (row_at (rows ts) (key.Warehouse k)))
+  warehouse_is k h = sym (came row.Warehouse as_warehouse (λ x. refl) (get (version ts u m).warehouses k)) ∙ ap (option_and_then as_warehouse) (h (rows ts))
+
+  pub new_order_is : (k : NewOrderKey) → HasRow u m (key.NewOrder k) o → get (version ts u m).new_orders k ≡ option_and_then as_new_order (row_found o (row_at (rows ts) (key.NewOrder k)))
+  new_order_is k h = sym (came row.NewOrder as_new_order (λ x. refl) (get (version ts u m).new_orders k)) ∙ ap (option_and_then as_new_order) (h (rows ts))
+
   pub customer_is : (k : CustomerKey) → HasRow u m (key.Customer k) o → get (version ts u m).customers k ≡ option_and_then as_customer (row_found o (row_at (rows ts) (key.Customer k)))
   customer_is k h = sym (came row.Customer as_customer (λ x. refl) (get (version ts u m).customers k)) ∙ ap (option_and_then as_customer) (h (rows ts))
 
@@ -42,6 +50,12 @@ module _ (ts : tables.Stored) (u : undo.Stored) (m : ℕ) (o : Option Record) wh
 
   pub stock_is : (k : StockKey) → HasRow u m (key.Stock k) o → get (version ts u m).stocks k ≡ option_and_then as_stock (row_found o (row_at (rows ts) (key.Stock k)))
   stock_is k h = sym (came row.Stock as_stock (λ x. refl) (get (version ts u m).stocks k)) ∙ ap (option_and_then as_stock) (h (rows ts))
+
+pub warehouse_now : (ts : tables.Stored) (u : undo.Stored) (m : ℕ) (k : WarehouseKey) → HasRow u m (key.Warehouse k) None → get (rows ts).warehouses k ≡ get (version ts u m).warehouses k
+warehouse_now ts u m k h = sym (warehouse_is ts u m None k h ∙ came row.Warehouse as_warehouse (λ x. refl) (get (rows ts).warehouses k))
+
+pub new_order_now : (ts : tables.Stored) (u : undo.Stored) (m : ℕ) (k : NewOrderKey) → HasRow u m (key.NewOrder k) None → get (rows ts).new_orders k ≡ get (version ts u m).new_orders k
+new_order_now ts u m k h = sym (new_order_is ts u m None k h ∙ came row.NewOrder as_new_order (λ x. refl) (get (rows ts).new_orders k))
 
 pub customer_now : (ts : tables.Stored) (u : undo.Stored) (m : ℕ) (k : CustomerKey) → HasRow u m (key.Customer k) None → get (rows ts).customers k ≡ get (version ts u m).customers k
 customer_now ts u m k h = sym (customer_is ts u m None k h ∙ came row.Customer as_customer (λ x. refl) (get (rows ts).customers k))

@@ -10,6 +10,7 @@ use Rattle.oe_theory.specs.Store.{Store, version_of}
 use Rattle.oe_theory.specs.StoreTheorems.{IsStanding}
 use Rattle.oe_model.specs.Rows.{row_at, as_customer}
 use Rattle.oe_model.specs.Choice.{namesakes}
+use Rattle.oe_model.specs.Meets.{Meets}
 use Rattle.oe_model.specs.System.{system}
 
 -- C_FIRST and C_LAST, where there is a customer
@@ -38,3 +39,7 @@ abbrev pub Names_last : Type 0
 Names_last =
     (s : Store system) (m : ℕ) (h : DistrictKey) (last : List ℕ) → IsStanding system s
     → namesakes h last (version_of system s m).customers ≡ namesakes h last s.tables.customers
+
+-- and the schema holds of the version of each moment (clauses 1.3 and 1.4)
+abbrev pub Versions_meet : Type 0
+Versions_meet = (s : Store system) (m : ℕ) → IsStanding system s → Meets (version_of system s m)

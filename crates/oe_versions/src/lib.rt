@@ -12,4 +12,8 @@ pub mod rows;
 pub use last::last_order_at;
 pub use lines::lines_at;
 pub use names::names_at;
-pub use rows::{customer_at, district_at, order_at, order_line_at, row_at, stock_at};
+pub use records::commits_after;
+pub use rows::{
+    customer_at, district_at, has_new_order_at, order_at, order_line_at, row_at, stock_at,
+    warehouse_at,
+};

@@ -18,7 +18,7 @@ use oe_values::{Moment, Terminal};
 
 /// How many commits came after a moment; `TooOld` with the horizon, or `Future` with the newest moment, exactly where it is not
 /// between the two.
-pub(crate) fn commits_after(undo: &Undo, moment: Moment) -> Result<usize, Refusal>
+pub fn commits_after(undo: &Undo, moment: Moment) -> Result<usize, Refusal>
     ensures count { IfOk result (λ n. n + moment ≡ newest undo.now) }
     ensures readable { OnOk result (IsReadable undo.now moment) }
     ensures refusal { IfErr result (λ e. IsOutside undo.now moment e) }

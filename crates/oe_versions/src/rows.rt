@@ -1,18 +1,20 @@
 //! Rows as they stood at a moment.
-ghost use Rattle.std.specs.Prelude.{◌≡◌, IfOk, IfErr, OnOk, option_and_then};
+ghost use Rattle.std.specs.Prelude.{◌≡◌, IfOk, IfErr, OnOk, is_some, option_and_then};
 ghost use Rattle.std.specs.Option.{option_copied};
 ghost use Rattle.std.specs.FinMap.{get};
-ghost use Rattle.oe_model.specs.Rows.{row_at, as_customer, as_district, as_order, as_order_line, as_stock};
+ghost use Rattle.oe_model.specs.Rows.{row_at, as_warehouse, as_district, as_customer, as_new_order, as_order, as_order_line, as_stock};
 ghost use Rattle.oe_model.specs.Changes.{row_before};
 ghost use Rattle.oe_records.specs.Befores.{record_of_before};
 ghost use Rattle.oe_store.specs.Stored.{rows};
 ghost use Rattle.oe_versions.specs.Versions.{version, IsReadable, IsOutside};
 
 use crate::records::found_at;
-use oe_keys::{CustomerKey, DistrictKey, Key, OrderKey, OrderLineKey, StockKey};
+use oe_keys::{
+    CustomerKey, DistrictKey, Key, NewOrderKey, OrderKey, OrderLineKey, StockKey, WarehouseKey,
+};
 use oe_records::Before;
 use oe_requests::Refusal;
-use oe_rows::{Customer, District, NewOrder, Order, OrderLine, Row, Stock};
+use oe_rows::{Customer, District, NewOrder, Order, OrderLine, Row, Stock, Warehouse};
 use oe_store::Tables;
 use oe_undo::Undo;
 use oe_values::Moment;
@@ -75,6 +77,34 @@ pub fn row_at(
     }
 }
 
+/// The row that a record has, where it is one of WAREHOUSE.
+fn warehouse_before(before: &Before) -> Option<&Warehouse>
+    ensures { option_copied result ≡ option_and_then as_warehouse (row_before (record_of_before before.now)) }
+{
+    match before {
+        Before::UpdatedWarehouse(_, row) => Some(row),
+        _ => None,
+    }
+}
+
+/// The WAREHOUSE row that a key had at a moment, as `row_at`, where it lies.
+pub fn warehouse_at<'a>(
+    tables: &'a Tables,
+    undo: &'a Undo,
+    key: &WarehouseKey,
+    moment: Moment,
+) -> Result<Option<&'a Warehouse>, Refusal>
+    ensures row { IfOk result (λ x. option_copied x ≡ get (version tables.now undo.now moment).warehouses key.now) }
+    ensures readable { OnOk result (IsReadable undo.now moment) }
+    ensures refusal { IfErr result (λ e. IsOutside undo.now moment e) }
+{
+    match found_at(undo, &Key::Warehouse(*key), moment) {
+        Ok(Some(before)) => Ok(warehouse_before(before)),
+        Ok(None) => Ok(tables.warehouse(*key)),
+        Err(refusal) => Err(refusal),
+    }
+}
+
 /// The row that a record has, where it is one of CUSTOMER.
 fn customer_before(before: &Before) -> Option<&Customer>
     ensures { option_copied result ≡ option_and_then as_customer (row_before (record_of_before before.now)) }
@@ -127,6 +157,31 @@ pub fn district_at<'a>(
     match found_at(undo, &Key::District(*key), moment) {
         Ok(Some(before)) => Ok(district_before(before)),
         Ok(None) => Ok(tables.district(*key)),
+        Err(refusal) => Err(refusal),
+    }
+}
+
+/// Whether a record has a row, where it is one of NEW-ORDER: that has no column but its key's.
+fn has_new_order_before(before: &Before) -> bool
+    ensures { result ≡ is_some (option_and_then as_new_order (row_before (record_of_before before.now))) }
+{
+    matches!(before, Before::DeletedNewOrder(_))
+}
+
+/// Whether a key had a NEW-ORDER row at a moment; refused as `row_at`.
+pub fn has_new_order_at(
+    tables: &Tables,
+    undo: &Undo,
+    key: &NewOrderKey,
+    moment: Moment,
+) -> Result<bool, Refusal>
+    ensures row { IfOk result (λ b. b ≡ is_some (get (version tables.now undo.now moment).new_orders key.now)) }
+    ensures readable { OnOk result (IsReadable undo.now moment) }
+    ensures refusal { IfErr result (λ e. IsOutside undo.now moment e) }
+{
+    match found_at(undo, &Key::NewOrder(*key), moment) {
+        Ok(Some(before)) => Ok(has_new_order_before(before)),
+        Ok(None) => Ok(tables.new_order(*key).is_some()),
         Err(refusal) => Err(refusal),
     }
 }
