@@ -44,11 +44,16 @@ to 64. What stands behind the colon is the answer:
   begin T neworder WAREHOUSE DISTRICT CUSTOMER STAMP SUPPLY_WAREHOUSE:ITEM:QUANTITY ..
                      terminal T begins an order of 5 to 15 items: items are 1 to 999999,
                      and valid up to I, quantities 1 to 10: begun
+  begin T delivery WAREHOUSE DISTRICT CARRIER STAMP
+                     terminal T begins the delivery of the oldest order of the district that
+                     is not delivered: carriers are 1 to 10: begun
   next T             carries out the next step of T's transaction: more, or, at its end,
                      commit MOMENT payment CUSTOMER LAST_NAME CREDIT BALANCE, or
                      commit MOMENT neworder ORDER LAST_NAME CREDIT TOTAL and for each item
                      B:STOCK:AMOUNT (B where item and stock are both original) or
-                     G:STOCK:AMOUNT
+                     G:STOCK:AMOUNT, or
+                     commit MOMENT delivery ORDER CUSTOMER SUM, or
+                     commit MOMENT delivery skipped, where no order waits
   run T              carries out its steps up to the first that is not answered more: that
                      step's answer alone
   save T             marks where T's transaction stands: saved
