@@ -1,0 +1,5 @@
+-- Lemmas.
+pub mod LengthFacts
+pub mod LinkFacts
+pub mod RecordFacts
+pub mod FrameFacts

@@ -1,0 +1,70 @@
+-- What was done to a row of which table, as two numbers.
+use Rattle.std.specs.Prelude.{◌==◌, ℕ, List, ◌++◌, Option, Some, None, if◌then◌else◌}
+use Rattle.oe_bytes.specs.Spelling.{number, number_at}
+use Rattle.oe_image.specs.Fronts.{pair_at}
+use Rattle.oe_layout.specs.Links.{read_as}
+use Rattle.oe_model.specs.Changes as model
+use Rattle.oe_layout.specs.declared.kinds.RecordKind.{RecordKind}
+use Rattle.oe_layout.specs.declared.kinds.RecordKind.TheVariants.{InsertedHistory, InsertedNewOrder, InsertedOrder, InsertedOrderLine, UpdatedWarehouse, UpdatedDistrict, UpdatedCustomer, UpdatedOrder, UpdatedOrderLine, UpdatedStock, DeletedNewOrder}
+
+-- 1 inserted, 2 updated, 3 deleted; and the table, of the nine in the order of clause 1.3.1, from 1 on
+abbrev pub kind_numbers : RecordKind → ℕ × ℕ
+kind_numbers InsertedHistory = (1, 4)
+kind_numbers InsertedNewOrder = (1, 5)
+kind_numbers InsertedOrder = (1, 6)
+kind_numbers InsertedOrderLine = (1, 7)
+kind_numbers UpdatedWarehouse = (2, 1)
+kind_numbers UpdatedDistrict = (2, 2)
+kind_numbers UpdatedCustomer = (2, 3)
+kind_numbers UpdatedOrder = (2, 6)
+kind_numbers UpdatedOrderLine = (2, 7)
+kind_numbers UpdatedStock = (2, 9)
+kind_numbers DeletedNewOrder = (3, 5)
+
+-- 1 byte each
+abbrev pub kind_image : RecordKind → List ℕ
+kind_image k = number 1 (kind_numbers k).0 ++ number 1 (kind_numbers k).1
+
+-- that of a record
+abbrev pub kind_of : model.Record → RecordKind
+kind_of (model.InsertedHistory k v) = InsertedHistory
+kind_of (model.InsertedNewOrder k v) = InsertedNewOrder
+kind_of (model.InsertedOrder k v) = InsertedOrder
+kind_of (model.InsertedOrderLine k v) = InsertedOrderLine
+kind_of (model.UpdatedWarehouse k v) = UpdatedWarehouse
+kind_of (model.UpdatedDistrict k v) = UpdatedDistrict
+kind_of (model.UpdatedCustomer k v) = UpdatedCustomer
+kind_of (model.UpdatedOrder k v) = UpdatedOrder
+kind_of (model.UpdatedOrderLine k v) = UpdatedOrderLine
+kind_of (model.UpdatedStock k v) = UpdatedStock
+kind_of (model.DeletedNewOrder k v) = DeletedNewOrder
+
+-- ---- read
+
+abbrev pub inserted_in : ℕ → Option RecordKind
+inserted_in table =
+    if table == 4 then Some InsertedHistory
+    else (if table == 5 then Some InsertedNewOrder
+    else (if table == 6 then Some InsertedOrder
+    else (if table == 7 then Some InsertedOrderLine else None)))
+
+abbrev pub updated_in : ℕ → Option RecordKind
+updated_in table =
+    if table == 1 then Some UpdatedWarehouse
+    else (if table == 2 then Some UpdatedDistrict
+    else (if table == 3 then Some UpdatedCustomer
+    else (if table == 6 then Some UpdatedOrder
+    else (if table == 7 then Some UpdatedOrderLine
+    else (if table == 9 then Some UpdatedStock else None)))))
+
+abbrev pub deleted_in : ℕ → Option RecordKind
+deleted_in table = if table == 5 then Some DeletedNewOrder else None
+
+abbrev pub kind_of_numbers : ℕ × ℕ → Option RecordKind
+kind_of_numbers n =
+    if n.0 == 1 then inserted_in n.1
+    else (if n.0 == 2 then updated_in n.1
+    else (if n.0 == 3 then deleted_in n.1 else None))
+
+unfoldable pub kind_at : List ℕ → Option (RecordKind × List ℕ)
+kind_at bytes = read_as kind_of_numbers (pair_at (number_at 1) (number_at 1) bytes)

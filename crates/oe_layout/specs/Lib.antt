@@ -1,0 +1,7 @@
+-- What the clauses of this crate cite.
+pub mod Lengths
+pub mod Links
+pub mod Kinds
+pub mod Records
+pub mod RecordFronts
+pub mod Laws

@@ -1,0 +1,118 @@
+//! What was done to a row of which table.
+ghost use Rattle.std.specs.Prelude.{◌≡◌};
+ghost use Rattle.std.specs.Option.{option_map};
+ghost use Rattle.oe_layout.specs.Kinds.{kind_numbers, kind_image, inserted_in, updated_in, kind_of_numbers, kind_at};
+
+use oe_bytes::numbers::read_number;
+use oe_image::Imaged;
+
+/// What was done to a row of which table, of the changes that the standard's transactions make (clauses 2.4.2, 2.5.2 and 2.7.4).
+#[derive(Clone, Copy, Debug, PartialEq, Eq)]
+pub enum RecordKind {
+    InsertedHistory,
+    InsertedNewOrder,
+    InsertedOrder,
+    InsertedOrderLine,
+    UpdatedWarehouse,
+    UpdatedDistrict,
+    UpdatedCustomer,
+    UpdatedOrder,
+    UpdatedOrderLine,
+    UpdatedStock,
+    DeletedNewOrder,
+}
+
+impl RecordKind {
+    /// It as two numbers: 1 to 3 for what was done, and 1 to 9 for the table.
+    fn numbers(self) -> (u8, u8)
+        ensures { result ≡ kind_numbers self }
+    {
+        match self {
+            RecordKind::InsertedHistory => (1, 4),
+            RecordKind::InsertedNewOrder => (1, 5),
+            RecordKind::InsertedOrder => (1, 6),
+            RecordKind::InsertedOrderLine => (1, 7),
+            RecordKind::UpdatedWarehouse => (2, 1),
+            RecordKind::UpdatedDistrict => (2, 2),
+            RecordKind::UpdatedCustomer => (2, 3),
+            RecordKind::UpdatedOrder => (2, 6),
+            RecordKind::UpdatedOrderLine => (2, 7),
+            RecordKind::UpdatedStock => (2, 9),
+            RecordKind::DeletedNewOrder => (3, 5),
+        }
+    }
+}
+
+impl Imaged for RecordKind {
+    ghost most = { 2 };
+
+    ghost image = { λ k. kind_image k };
+
+    #[inline]
+    fn length(&self) -> usize {
+        let _kind = *self;
+        2
+    }
+
+    #[inline]
+    fn write(&self, bytes: &mut [u8], start: usize) -> usize {
+        self.numbers().write(bytes, start)
+    }
+}
+
+/// The kind of an insert into that table.
+fn inserted_in(table: u64) -> Option<RecordKind>
+    ensures { result ≡ inserted_in table }
+{
+    match table {
+        4 => Some(RecordKind::InsertedHistory),
+        5 => Some(RecordKind::InsertedNewOrder),
+        6 => Some(RecordKind::InsertedOrder),
+        7 => Some(RecordKind::InsertedOrderLine),
+        _ => None,
+    }
+}
+
+/// The kind of an update of that table.
+fn updated_in(table: u64) -> Option<RecordKind>
+    ensures { result ≡ updated_in table }
+{
+    match table {
+        1 => Some(RecordKind::UpdatedWarehouse),
+        2 => Some(RecordKind::UpdatedDistrict),
+        3 => Some(RecordKind::UpdatedCustomer),
+        6 => Some(RecordKind::UpdatedOrder),
+        7 => Some(RecordKind::UpdatedOrderLine),
+        9 => Some(RecordKind::UpdatedStock),
+        _ => None,
+    }
+}
+
+/// What these numbers stand for, if anything.
+fn kind_of_numbers(done: u64, table: u64) -> Option<RecordKind>
+    ensures { result ≡ kind_of_numbers (done, table) }
+{
+    match done {
+        1 => inserted_in(table),
+        2 => updated_in(table),
+        3 if table == 5 => Some(RecordKind::DeletedNewOrder),
+        _ => None,
+    }
+}
+
+/// The kind at the front of the bytes, and what is behind it.
+#[tactic(auto, unfolding(crate::specs::Kinds::kind_at))]
+pub(crate) fn read_kind(bytes: &[u8]) -> Option<(RecordKind, &[u8])>
+    ensures { option_map (λ x. (x.0, x.1.now)) result ≡ kind_at bytes.now }
+{
+    let Some((done, rest)) = read_number(bytes, 1) else {
+        return None;
+    };
+    let Some((table, rest)) = read_number(rest, 1) else {
+        return None;
+    };
+    let Some(kind) = kind_of_numbers(done, table) else {
+        return None;
+    };
+    Some((kind, rest))
+}

@@ -1,0 +1,142 @@
+//! Undo records whose rows are lent from where they lie, to be written.
+ghost use Rattle.std.specs.Prelude.{◌≡◌, ◌≤◌, ◌+◌, length};
+ghost use Rattle.oe_bytes.specs.Spelling.{Writes};
+ghost use Rattle.oe_extent.specs.Strings.{IsFramed};
+ghost use Rattle.oe_layout.specs.Kinds.{kind_of};
+ghost use Rattle.oe_layout.specs.Lengths.{record_length};
+ghost use Rattle.oe_layout.specs.Records.{contents, record_image, record_of_lent};
+
+use crate::kinds::RecordKind;
+use crate::links::Previous;
+use oe_bytes::Written;
+use oe_image::Imaged;
+use oe_keys::{
+    CustomerKey, DistrictKey, HistoryKey, NewOrderKey, OrderKey, OrderLineKey, StockKey,
+    WarehouseKey,
+};
+use oe_rows::customers::Customer;
+use oe_rows::districts::District;
+use oe_rows::items::Stock;
+use oe_rows::orders::{Order, OrderLine};
+use oe_rows::warehouses::Warehouse;
+
+/// The undo record of a change, as it is written: its key, with the row before an update where that lies.
+#[derive(Drop)]
+pub enum LentRecord<'a> {
+    InsertedHistory(HistoryKey),
+    InsertedNewOrder(NewOrderKey),
+    InsertedOrder(OrderKey),
+    InsertedOrderLine(OrderLineKey),
+    UpdatedWarehouse(WarehouseKey, &'a Warehouse),
+    UpdatedDistrict(DistrictKey, &'a District),
+    UpdatedCustomer(CustomerKey, &'a Customer),
+    UpdatedOrder(OrderKey, &'a Order),
+    UpdatedOrderLine(OrderLineKey, &'a OrderLine),
+    UpdatedStock(StockKey, &'a Stock),
+    DeletedNewOrder(NewOrderKey),
+}
+
+impl<'a> LentRecord<'a> {
+    /// What was done to a row of which table.
+    pub fn kind(&self) -> RecordKind
+        ensures { result ≡ kind_of (record_of_lent self.now) }
+    {
+        match self {
+            LentRecord::InsertedHistory(_) => RecordKind::InsertedHistory,
+            LentRecord::InsertedNewOrder(_) => RecordKind::InsertedNewOrder,
+            LentRecord::InsertedOrder(_) => RecordKind::InsertedOrder,
+            LentRecord::InsertedOrderLine(_) => RecordKind::InsertedOrderLine,
+            LentRecord::UpdatedWarehouse(_, _) => RecordKind::UpdatedWarehouse,
+            LentRecord::UpdatedDistrict(_, _) => RecordKind::UpdatedDistrict,
+            LentRecord::UpdatedCustomer(_, _) => RecordKind::UpdatedCustomer,
+            LentRecord::UpdatedOrder(_, _) => RecordKind::UpdatedOrder,
+            LentRecord::UpdatedOrderLine(_, _) => RecordKind::UpdatedOrderLine,
+            LentRecord::UpdatedStock(_, _) => RecordKind::UpdatedStock,
+            LentRecord::DeletedNewOrder(_) => RecordKind::DeletedNewOrder,
+        }
+    }
+
+    /// How many bytes its key and its row have, of the whole record's length.
+    fn contents_length(&self) -> usize
+        ensures sum { result + 18 ≡ record_length (record_of_lent self.now) }
+        ensures image { result ≡ length (contents (record_of_lent self.now)) }
+        ensures short { result ≤ 688 }
+    {
+        match self {
+            LentRecord::InsertedHistory(key) => key.length(),
+            LentRecord::InsertedNewOrder(key) => key.length(),
+            LentRecord::InsertedOrder(key) => key.length(),
+            LentRecord::InsertedOrderLine(key) => key.length(),
+            LentRecord::UpdatedWarehouse(key, row) => key.length() + row.length(),
+            LentRecord::UpdatedDistrict(key, row) => key.length() + row.length(),
+            LentRecord::UpdatedCustomer(key, row) => key.length() + row.length(),
+            LentRecord::UpdatedOrder(key, row) => key.length() + row.length(),
+            LentRecord::UpdatedOrderLine(key, row) => key.length() + row.length(),
+            LentRecord::UpdatedStock(key, row) => {
+                let _figures = row.figures();
+                key.length() + row.length()
+            }
+            LentRecord::DeletedNewOrder(key) => key.length(),
+        }
+    }
+}
+
+impl<'a> Imaged for LentRecord<'a> {
+    ghost most = { 688 };
+
+    ghost image = { λ r. contents (record_of_lent r) };
+
+    fn length(&self) -> usize {
+        self.contents_length()
+    }
+
+    fn write(&self, bytes: &mut [u8], start: usize) -> usize {
+        match self {
+            LentRecord::InsertedHistory(key) => key.write(bytes, start),
+            LentRecord::InsertedNewOrder(key) => key.write(bytes, start),
+            LentRecord::InsertedOrder(key) => key.write(bytes, start),
+            LentRecord::InsertedOrderLine(key) => key.write(bytes, start),
+            LentRecord::UpdatedWarehouse(key, row) => (key, *row).write(bytes, start),
+            LentRecord::UpdatedDistrict(key, row) => (key, *row).write(bytes, start),
+            LentRecord::UpdatedCustomer(key, row) => (key, *row).write(bytes, start),
+            LentRecord::UpdatedOrder(key, row) => (key, *row).write(bytes, start),
+            LentRecord::UpdatedOrderLine(key, row) => (key, *row).write(bytes, start),
+            LentRecord::UpdatedStock(key, row) => (key, *row).write(bytes, start),
+            LentRecord::DeletedNewOrder(key) => key.write(bytes, start),
+        }
+    }
+}
+
+/// A record with what leads to the previous one of its row.
+#[derive(Drop)]
+pub struct LinkedRecord<'a> {
+    pub previous: Previous,
+    pub record: LentRecord<'a>,
+}
+
+impl<'a> LinkedRecord<'a> {
+    /// How many bytes it has, as its columns say: at most 706. They are a string of the ring.
+    pub fn length(&self) -> usize
+        ensures sum { result ≡ record_length (record_of_lent self.now.record) }
+        ensures image { result
+            ≡ length (record_image self.now.previous (record_of_lent self.now.record)) }
+        ensures short { result ≤ 706 }
+        ensures framed { IsFramed (record_image self.now.previous (record_of_lent self.now.record)) }
+    {
+        self.record.contents_length() + 18
+    }
+}
+
+impl<'a> Written for LinkedRecord<'a> {
+    ghost spelling = { λ r. record_image r.previous (record_of_lent r.record) };
+
+    fn size(&self) -> usize {
+        self.length()
+    }
+
+    fn write(&self, bytes: &mut [u8], start: usize) -> usize {
+        let length = self.length() as u16;
+        let body = (self.record.kind(), (&self.previous, &self.record));
+        (length, (body, length)).write(bytes, start)
+    }
+}

@@ -1,0 +1,118 @@
+//! What leads from a record to the previous one of its row.
+ghost use Rattle.std.specs.Prelude.{◌≡◌, ◌≤◌};
+ghost use Rattle.std.specs.Option.{option_map};
+ghost use Rattle.oe_layout.specs.Links.{link_numbers, previous_image, at_address, nothing_at, previous_of, previous_at};
+
+use oe_bytes::numbers::read_number;
+use oe_image::Imaged;
+use oe_values::numbers::{Moment, Number};
+
+/// Where a record lies in the ring: the number of an extent, from 0 to 4,095, and the offset of the record's first byte there,
+/// from 0 to 4,095.
+#[derive(Clone, Copy, Debug, PartialEq, Eq)]
+pub struct RecordAddress {
+    pub extent: Number<0, 4_095>,
+    pub offset: Number<0, 4_095>,
+}
+
+/// The previous record of the same row.
+#[derive(Clone, Copy, Debug, PartialEq, Eq)]
+pub enum Previous {
+    /// There is none.
+    Nothing,
+    /// Of the same transaction.
+    Own(RecordAddress),
+    /// Of a transaction whose commit made that moment.
+    Committed(RecordAddress, Moment),
+}
+
+impl Previous {
+    /// It as three numbers: extent, offset and moment.
+    #[inline]
+    fn numbers(&self) -> (u16, (u16, u64))
+        ensures { result ≡ link_numbers self.now }
+    {
+        match self {
+            Previous::Nothing => (65_535, (65_535, 0)),
+            Previous::Own(address) => {
+                let extent = address.extent.get() as u16;
+                (extent, (address.offset.get() as u16, u64::MAX))
+            }
+            Previous::Committed(address, moment) => {
+                let extent = address.extent.get() as u16;
+                (extent, (address.offset.get() as u16, moment.get()))
+            }
+        }
+    }
+}
+
+impl Imaged for Previous {
+    ghost most = { 12 };
+
+    ghost image = { λ p. previous_image p };
+
+    #[inline]
+    fn length(&self) -> usize {
+        let _numbers = self.numbers();
+        12
+    }
+
+    #[inline]
+    fn write(&self, bytes: &mut [u8], start: usize) -> usize {
+        self.numbers().write(bytes, start)
+    }
+}
+
+/// What these numbers stand for behind an address.
+#[inline]
+fn at_address(address: RecordAddress, moment: u64) -> Option<Previous>
+    ensures { result ≡ at_address address moment }
+{
+    if moment == u64::MAX {
+        return Some(Previous::Own(address));
+    }
+    match Moment::new(moment) {
+        Some(moment) => Some(Previous::Committed(address, moment)),
+        None => None,
+    }
+}
+
+/// What these numbers stand for, if anything.
+#[inline]
+fn previous_of(extent: u64, offset: u64, moment: u64) -> Option<Previous>
+    ensures { result ≡ previous_of (extent, (offset, moment)) }
+{
+    if extent == 65_535 {
+        return if offset == 65_535 && moment == 0 {
+            Some(Previous::Nothing)
+        } else {
+            None
+        };
+    }
+    if extent > 4_095 || offset > 4_095 {
+        return None;
+    }
+    let extent = Number::new(extent as u32)?;
+    let offset = Number::new(offset as u32)?;
+    at_address(RecordAddress { extent, offset }, moment)
+}
+
+/// The previous record, as it stands at the front of the bytes, and what is behind it.
+#[tactic(auto, unfolding(crate::specs::Links::previous_at))]
+pub(crate) fn read_previous(bytes: &[u8]) -> Option<(Previous, &[u8])>
+    ensures { option_map (λ x. (x.0, x.1.now)) result ≡ previous_at bytes.now }
+{
+    let Some((extent, rest)) = read_number(bytes, 2) else {
+        return None;
+    };
+    let Some((offset, rest)) = read_number(rest, 2) else {
+        return None;
+    };
+    let Some((moment, rest)) = read_number(rest, 8) else {
+        return None;
+    };
+    let Some(previous) = previous_of(extent, offset, moment) else {
+        return None;
+    };
+    Some((previous, rest))
+}
