@@ -18,7 +18,7 @@ use Rattle.oe_engine.specs.Calls.{rolled_back}
 use Rattle.oe_engine.specs.Programs.{tx_of, reply_at}
 use Rattle.oe_delivery.specs.Program as delivery
 use Rattle.oe_neworder.specs.Program as neworder
-use Rattle.oe_neworder.specs.Steps.{HoldsAll}
+use Rattle.oe_engine.specs.Deeds.{HoldsAll}
 use Rattle.oe_core.specs.Steps.{IsNumber}
 use Rattle.oe_core.specs.declared.programs.Program.{Program}
 use Rattle.oe_core.specs.declared.programs.Program.TheVariants as program

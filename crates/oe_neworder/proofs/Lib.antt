@@ -1,3 +1,2 @@
-pub mod StepFacts
 mod LookFacts
 mod LineFacts

@@ -24,7 +24,7 @@ use Rattle.oe_model.specs.NewOrder.{stock_holds, ordered_reply, new_order_ask, n
 use Rattle.oe_model.proofs.LawFacts.{holds_more}
 use Rattle.oe_engine.specs.View.{Stored, View, view_of, Handle, IsOpen}
 use Rattle.oe_engine.specs.Programs.{GoesOn, IsReady, IsRefused, new_order_reply}
-use Rattle.oe_neworder.specs.Steps.{Does, HoldsAll}
+use Rattle.oe_engine.specs.Deeds.{Does, HoldsAll}
 use Rattle.oe_neworder.specs.Program.{filled_by, place_at, line_place}
 use Rattle.oe_neworder.specs.Rows.{Fills}
 use Rattle.oe_neworder.specs.declared.fillings.Filled.{Filled}

@@ -1,5 +1,4 @@
 -- What the clauses of this crate cite.
-pub mod Steps
 pub mod Program
 pub mod Looks
 pub mod Rows

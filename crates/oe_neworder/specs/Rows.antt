@@ -10,7 +10,7 @@ use Rattle.oe_model.specs.NewOrder.{new_order_taken}
 use Rattle.oe_engine.specs.View.{Stored, view_of, Handle}
 use Rattle.oe_engine.specs.Programs.{GoesOn, IsRefused, Progresses}
 use Rattle.oe_engine.specs.declared.rows.Progress.{Progress}
-use Rattle.oe_neworder.specs.Steps.{HoldsAll}
+use Rattle.oe_engine.specs.Deeds.{HoldsAll}
 use Rattle.oe_neworder.specs.Program.{filled_by, place_of}
 use Rattle.oe_neworder.specs.declared.fillings.Filled.{Filled}
 use Rattle.oe_neworder.specs.declared.programs.Program.{Program}

@@ -8,12 +8,12 @@ ghost use Rattle.oe_model.specs.Keys.{order_in, line_in};
 ghost use Rattle.oe_model.specs.Changes.{InsertOrderLine};
 ghost use Rattle.oe_engine.specs.View.{view_of, IsOpen};
 ghost use Rattle.oe_engine.specs.Programs.{new_order_reply};
-ghost use Rattle.oe_neworder.specs.Steps.{Does};
+ghost use Rattle.oe_engine.specs.Deeds.{Does};
 ghost use Rattle.oe_neworder.specs.Program.{line_place};
 ghost use Rattle.oe_neworder.specs.Rows.{Advances, HoldsTaken, Fills};
 
 use crate::looks::{Supply, supply_of};
-use crate::steps::{add, failed, put};
+use oe_engine::deeds::{add, failed, put};
 use oe_engine::{Engine, Lock, Progress, Tx};
 use oe_formulas::orders::Seen;
 use oe_keys::{Mode, Name};
@@ -107,8 +107,12 @@ fn insert(
     engine: &mut Engine,
     tx: &Tx,
 ) -> Result<(), Refusal>
-    requires { IsOpen engine.old tx.now → (view_of engine.old).held tx.now.terminal (name.Order (order_in request.now.district order)) ≡ Some theory.Exclusive }
-    ensures does { Does engine.old tx.now Plain (Some (InsertOrderLine (line_in (order_in request.now.district order) filled.now.number) filled.now.row)) result engine.new }
+    requires { IsOpen engine.old tx.now →
+        (view_of engine.old).held tx.now.terminal (name.Order (order_in request.now.district order))
+        ≡ Some theory.Exclusive }
+    ensures does { Does engine.old tx.now Plain (Some (InsertOrderLine
+        (line_in (order_in request.now.district order) filled.now.number) filled.now.row))
+        result engine.new }
     ensures name { engine.new.name ≡ engine.old.name }
     ensures err { OnErr result (view_of engine.new ≡ view_of engine.old) }
 {
@@ -152,7 +156,8 @@ impl Filling {
         requires next { slice_get request.now.lines (length self.old.done) ≡ Some line.now }
         requires none { self.old.filled ≡ None }
         requires room { length self.old.done < 15 }
-        ensures { Advances request.now tx.now engine.old (line_place request.now self.old) result engine.new (line_place request.now self.new) }
+        ensures { Advances request.now tx.now engine.old (line_place request.now self.old)
+            result engine.new (line_place request.now self.new) }
     {
         match fill(request, line, number_after(&self.done), engine, tx) {
             Ok(filled) => {
@@ -175,8 +180,10 @@ impl Filling {
         requires next { slice_get request.now.lines (length self.old.done) ≡ Some line.now }
         requires some { IsSome self.old.filled }
         requires room { length self.old.done < 15 }
-        requires held { HoldsTaken request.now tx.now engine.old (line_place request.now self.old) }
-        ensures { Advances request.now tx.now engine.old (line_place request.now self.old) result engine.new (line_place request.now self.new) }
+        requires held { HoldsTaken request.now tx.now engine.old
+            (line_place request.now self.old) }
+        ensures { Advances request.now tx.now engine.old (line_place request.now self.old)
+            result engine.new (line_place request.now self.new) }
     {
         let Some(filled) = &self.filled else {
             unreachable!();
@@ -195,8 +202,10 @@ impl Filling {
     /// One row of the lines, of STOCK or of ORDER-LINE; ready after the last.
     pub fn next(&mut self, request: &NewOrderRequest, engine: &mut Engine, tx: &Tx) -> Progress
         requires open { IsOpen engine.old tx.now }
-        requires held { HoldsTaken request.now tx.now engine.old (line_place request.now self.old) }
-        ensures { Advances request.now tx.now engine.old (line_place request.now self.old) result engine.new (line_place request.now self.new) }
+        requires held { HoldsTaken request.now tx.now engine.old
+            (line_place request.now self.old) }
+        ensures { Advances request.now tx.now engine.old (line_place request.now self.old)
+            result engine.new (line_place request.now self.new) }
     {
         let Some(line) = self.next_line(request) else {
             return Progress::Ready;
@@ -210,7 +219,8 @@ impl Filling {
 
     /// The reply, once all lines of the request are done; none before that.
     pub fn reply(&self, request: &NewOrderRequest) -> Option<NewOrderReply>
-        ensures { option_map Reply.NewOrder result ≡ new_order_reply (line_place request.now self.now) }
+        ensures { option_map Reply.NewOrder result
+            ≡ new_order_reply (line_place request.now self.now) }
     {
         match self.next_line(request) {
             Some(_) => None,

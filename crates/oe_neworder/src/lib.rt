@@ -5,7 +5,6 @@ pub mod fillings;
 pub mod looks;
 pub mod programs;
 pub mod rows;
-pub mod steps;
 
 pub use fillings::{Filled, Filling};
 pub use programs::Program;

@@ -59,7 +59,8 @@ pub fn seen(
     district_tax: Rate,
     tables: &Tables,
 ) -> Option<Seen>
-    ensures { Sees request.now (rows tables.now) (NewOrderCustomer order warehouse_tax district_tax) result }
+    ensures { Sees request.now (rows tables.now)
+        (NewOrderCustomer order warehouse_tax district_tax) result }
 {
     match tables.customer(request.district.customer(request.customer)) {
         Some(row) => Some(Seen {

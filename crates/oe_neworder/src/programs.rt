@@ -55,7 +55,8 @@ impl Program {
 
     /// The reply, once all rows of the request are done; none before that.
     pub fn reply(&self, request: &NewOrderRequest) -> Option<NewOrderReply>
-        ensures { option_map Reply.NewOrder result ≡ new_order_reply (place_of request.now self.now) }
+        ensures { option_map Reply.NewOrder result
+            ≡ new_order_reply (place_of request.now self.now) }
     {
         match self {
             Program::Lines(filling) => filling.reply(request),
@@ -72,8 +73,10 @@ impl Program {
     ) -> Result<Program, Refusal>
         requires place { IsBeforeLines self.now }
         requires open { IsOpen engine.old tx.now }
-        requires held { HoldsTaken request.now tx.now engine.old (place_of request.now self.now) }
-        ensures { Steps request.now tx.now engine.old (place_of request.now self.now) result engine.new }
+        requires held { HoldsTaken request.now tx.now engine.old
+            (place_of request.now self.now) }
+        ensures { Steps request.now tx.now engine.old (place_of request.now self.now)
+            result engine.new }
     {
         match self {
             Program::Warehouse => read_warehouse(request, engine, tx),
@@ -94,8 +97,11 @@ impl Program {
     /// where memory was refused. A refused row leaves the program, the tables and the locks as they were. Each row of an order is
     /// told the same request.
     pub fn next(&mut self, request: &NewOrderRequest, engine: &mut Engine, tx: &Tx) -> Progress
-        requires { IsOpen engine.old tx.now → HoldsTaken request.now tx.now engine.old (place_of request.now self.old) }
-        ensures { Progresses (Request.NewOrder request.now) tx.now engine.old (InNewOrder request.now (place_of request.now self.old)) result engine.new (InNewOrder request.now (place_of request.now self.new)) }
+        requires { IsOpen engine.old tx.now →
+            HoldsTaken request.now tx.now engine.old (place_of request.now self.old) }
+        ensures { Progresses (Request.NewOrder request.now) tx.now
+            engine.old (InNewOrder request.now (place_of request.now self.old)) result
+            engine.new (InNewOrder request.now (place_of request.now self.new)) }
     {
         if !engine.is_open(tx) {
             return Progress::Refused(Refusal::NotOpen);

@@ -10,7 +10,7 @@ ghost use Rattle.oe_neworder.specs.Rows.{Steps};
 use crate::fillings::Filling;
 use crate::looks::{next_number, seen, warehouse_tax};
 use crate::programs::Program;
-use crate::steps::{failed, hold, put};
+use oe_engine::deeds::{failed, hold, put};
 use oe_engine::{Engine, Lock, Tx};
 use oe_formulas::orders::{Seen, order_row};
 use oe_keys::{Mode, Name};
@@ -76,7 +76,8 @@ pub fn read_customer(
     tx: &Tx,
 ) -> Result<Program, Refusal>
     requires { IsOpen engine.old tx.now }
-    ensures { Steps request.now tx.now engine.old (NewOrderCustomer order warehouse_tax district_tax) result engine.new }
+    ensures { Steps request.now tx.now engine.old
+        (NewOrderCustomer order warehouse_tax district_tax) result engine.new }
 {
     let Some(seen) = seen(request, order, warehouse_tax, district_tax, engine.tables()) else {
         return Err(Refusal::NoCustomer);
@@ -98,7 +99,8 @@ pub fn insert_order(
     engine: &mut Engine,
     tx: &Tx,
 ) -> Result<Program, Refusal>
-    ensures { Steps request.now tx.now engine.old (NewOrderOrder (seen_by seen.now)) result engine.new }
+    ensures { Steps request.now tx.now engine.old
+        (NewOrderOrder (seen_by seen.now)) result engine.new }
 {
     let write = Write::InsertOrder(request.district.order(seen.order), order_row(request));
     match put(engine, tx, &write) {
@@ -114,8 +116,10 @@ pub fn insert_new_order(
     engine: &mut Engine,
     tx: &Tx,
 ) -> Result<Program, Refusal>
-    requires { IsOpen engine.old tx.now → IsSome ((view_of engine.old).held tx.now.terminal (name.Order (order_in request.now.district seen.now.order))) }
-    ensures { Steps request.now tx.now engine.old (NewOrderQueue (seen_by seen.now)) result engine.new }
+    requires { IsOpen engine.old tx.now → IsSome ((view_of engine.old).held tx.now.terminal
+        (name.Order (order_in request.now.district seen.now.order))) }
+    ensures { Steps request.now tx.now engine.old
+        (NewOrderQueue (seen_by seen.now)) result engine.new }
 {
     let write = Write::InsertNewOrder(request.district.new_order(seen.order));
     match put(engine, tx, &write) {

@@ -2,7 +2,7 @@ use Rattle.std.proofs.Common.{subst}
 use Rattle.oe_formulas.specs.Orders.{seen_by}
 use Rattle.oe_model.specs.NewOrder.{new_order_taken}
 use Rattle.oe_engine.specs.View.{view_of}
-use Rattle.oe_neworder.specs.Steps.{HoldsAll}
+use Rattle.oe_engine.specs.Deeds.{HoldsAll}
 use Rattle.oe_neworder.specs.Program.{place_of}
 use Rattle.oe_neworder.proofs.LineFacts.{order_at_queue}
 use Rattle.oe_neworder.proofs.programs.Program.row.Goals as goal
