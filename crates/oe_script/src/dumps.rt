@@ -126,7 +126,8 @@ fn lines<K, R: DumpedRow<K>, W: Outlet>(
     out: &mut Pending,
     to: &mut W,
 ) -> Result<u64, Failed>
-    ensures stream { Streams (W.sink to.old) out.old.items (W.sink to.new) out.new.items (row_lines R.columns walk.entry) result }
+    ensures stream { Streams (W.sink to.old) out.old.items (W.sink to.new) out.new.items
+        (row_lines R.columns walk.entry) result }
     ensures count { IfOk result (λ n. n ≡ shown (length walk.entry)) }
 {
     let mut count = 0u64;
@@ -142,7 +143,8 @@ fn lines<K, R: DumpedRow<K>, W: Outlet>(
 
 /// Writes the line of a count.
 fn total<W: Outlet>(count: u64, out: &mut Pending, to: &mut W) -> Result<(), Failed>
-    ensures { Streams (W.sink to.old) out.old.items (W.sink to.new) out.new.items (count_line count) result }
+    ensures { Streams (W.sink to.old) out.old.items (W.sink to.new) out.new.items
+        (count_line count) result }
 {
     if let Err(e) = make_room(out, to) {
         return Err(e);
@@ -157,7 +159,8 @@ fn dump_rows<K, R: DumpedRow<K>, W: Outlet>(
     out: &mut Pending,
     to: &mut W,
 ) -> Result<(), Failed>
-    ensures { Streams (W.sink to.old) out.old.items (W.sink to.new) out.new.items (row_lines R.columns walk.entry ++ count_line (shown (length walk.entry))) result }
+    ensures { Streams (W.sink to.old) out.old.items (W.sink to.new) out.new.items
+        (row_lines R.columns walk.entry ++ count_line (shown (length walk.entry))) result }
 {
     match lines(walk, out, to) {
         Ok(count) => total(count, out, to),
@@ -172,7 +175,8 @@ pub fn dump<W: Outlet>(
     out: &mut Pending,
     to: &mut W,
 ) -> Result<(), Failed>
-    ensures { Streams (W.sink to.old) out.old.items (W.sink to.new) out.new.items (dump_text table (rows tables.now)) result }
+    ensures { Streams (W.sink to.old) out.old.items (W.sink to.new) out.new.items
+        (dump_text table (rows tables.now)) result }
 {
     match table {
         Table::Warehouse => dump_rows(tables.warehouses(), out, to),

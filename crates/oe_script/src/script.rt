@@ -16,7 +16,8 @@ pub fn run_script<R: Intake, W: Outlet>(
     reader: &mut R,
     writer: &mut W,
 ) -> Result<(), Fault>
-    ensures { ScriptRan (R.source reader.old) (R.source reader.new) (W.sink writer.old) (W.sink writer.new) result }
+    ensures { ScriptRan (R.source reader.old) (R.source reader.new)
+        (W.sink writer.old) (W.sink writer.new) result }
 {
     let mut session = Session::new();
     let ran = session.run(alloc, reader, writer);

@@ -45,7 +45,13 @@ pub enum Fault {
 impl Session {
     /// Nothing is open, read or answered.
     pub fn new() -> Session
-        ensures { result ≡ record { core = None; line = record { items = [] }; over = false; count = 0; out = record { items = [] } } }
+        ensures { result ≡ record {
+          core = None;
+          line = record { items = [] };
+          over = false;
+          count = 0;
+          out = record { items = [] };
+        } }
     {
         Session {
             core: None,
@@ -83,7 +89,8 @@ impl Session {
         requires over { self.old.over ≡ false }
         requires count { self.old.count ≡ 0 }
         requires out { self.old.out.items ≡ [] }
-        ensures { ScriptRan (R.source reader.old) (R.source reader.new) (W.sink writer.old) (W.sink writer.new) result }
+        ensures { ScriptRan (R.source reader.old) (R.source reader.new)
+            (W.sink writer.old) (W.sink writer.new) result }
     {
         let mut buf = [0u8; PIECE];
         for _ in 0..u64::MAX {
@@ -111,8 +118,10 @@ impl Session {
         requires count { self.old.count + length piece.now < 2 ^ 128 }
         requires live { IsLive (state_of self.old.core) }
         ensures fed { (start : Option Sink) (input : List ℕ) →
-            Standing start input (W.sink to.old) self.old.out.items (state_of self.old.core) self.old.count self.old.line.items self.old.over →
-            Fed start (input ++ piece.now) (W.sink to.new) self.new.out.items (state_of self.new.core) self.new.count self.new.line.items self.new.over result }
+            Standing start input (W.sink to.old) self.old.out.items (state_of self.old.core)
+            self.old.count self.old.line.items self.old.over →
+            Fed start (input ++ piece.now) (W.sink to.new) self.new.out.items
+            (state_of self.new.core) self.new.count self.new.line.items self.new.over result }
         ensures written { OnOk result (self.new.out.items ≡ []) }
         ensures count { self.new.count ≤ self.old.count + length piece.now }
         ensures live { IsLive (state_of self.new.core) }
@@ -128,8 +137,10 @@ impl Session {
         requires count { self.old.count + length piece.now < 2 ^ 128 }
         requires live { IsLive (state_of self.old.core) }
         ensures fed { (start : Option Sink) (input : List ℕ) →
-            Standing start input (W.sink to.old) self.old.out.items (state_of self.old.core) self.old.count self.old.line.items self.old.over →
-            Fed start (input ++ piece.now) (W.sink to.new) self.new.out.items (state_of self.new.core) self.new.count self.new.line.items self.new.over result }
+            Standing start input (W.sink to.old) self.old.out.items (state_of self.old.core)
+            self.old.count self.old.line.items self.old.over →
+            Fed start (input ++ piece.now) (W.sink to.new) self.new.out.items
+            (state_of self.new.core) self.new.count self.new.line.items self.new.over result }
         ensures count { self.new.count ≤ self.old.count + length piece.now }
         ensures live { IsLive (state_of self.new.core) }
     {
@@ -148,7 +159,8 @@ impl Session {
     fn finish<W: Outlet>(&mut self, to: &mut W) -> Result<(), Failed>
         requires { self.old.count + 1 < 2 ^ 128 }
         ensures { (start : Option Sink) (input : List ℕ) →
-            Standing start input (W.sink to.old) self.old.out.items (state_of self.old.core) self.old.count self.old.line.items self.old.over →
+            Standing start input (W.sink to.old) self.old.out.items (state_of self.old.core)
+            self.old.count self.old.line.items self.old.over →
             Ended start input (W.sink to.new) result }
     {
         if let Err(e) = self.end_last(to) {
@@ -161,7 +173,8 @@ impl Session {
     fn end_last<W: Outlet>(&mut self, to: &mut W) -> Result<(), Failed>
         requires { self.old.count + 1 < 2 ^ 128 }
         ensures { (line : List ℕ) → Holds self.old.line.items self.old.over line →
-            Streams (W.sink to.old) self.old.out.items (W.sink to.new) self.new.out.items (last_text (self.old.count + 1) line) result }
+            Streams (W.sink to.old) self.old.out.items (W.sink to.new) self.new.out.items
+            (last_text (self.old.count + 1) line) result }
     {
         if self.over {
             return put_bad(&mut self.out, to, self.count + 1);
@@ -177,7 +190,8 @@ impl Session {
         ensures core { self.new.core ≡ self.old.core }
         ensures count { self.new.count ≡ self.old.count }
         ensures out { self.new.out ≡ self.old.out }
-        ensures line { (line : List ℕ) → Holds self.old.line.items self.old.over line → Holds self.new.line.items self.new.over (line ++ bytes.now) }
+        ensures line { (line : List ℕ) → Holds self.old.line.items self.old.over line →
+            Holds self.new.line.items self.new.over (line ++ bytes.now) }
     {
         if self.over {
             return;
@@ -192,7 +206,9 @@ impl Session {
         requires count { self.old.count + 1 < 2 ^ 128 }
         requires live { IsLive (state_of self.old.core) }
         ensures answer { (line : List ℕ) → Holds self.old.line.items self.old.over line →
-            Replies (state_of self.old.core) (self.old.count + 1) (line ++ last.now) (state_of self.new.core) (W.sink to.old) self.old.out.items (W.sink to.new) self.new.out.items result }
+            Replies (state_of self.old.core) (self.old.count + 1) (line ++ last.now)
+            (state_of self.new.core) (W.sink to.old) self.old.out.items
+            (W.sink to.new) self.new.out.items result }
         ensures line { self.new.line.items ≡ [] }
         ensures over { self.new.over ≡ false }
         ensures count { self.new.count ≡ self.old.count + 1 }
@@ -218,7 +234,8 @@ impl Session {
     fn end_kept<W: Outlet>(&mut self, alloc: Global, to: &mut W) -> Result<(), Failed>
         requires live { IsLive (state_of self.old.core) }
         ensures answer { (line : List ℕ) → Holds self.old.line.items self.old.over line →
-            Replies (state_of self.old.core) self.old.count line (state_of self.new.core) (W.sink to.old) self.old.out.items (W.sink to.new) self.new.out.items result }
+            Replies (state_of self.old.core) self.old.count line (state_of self.new.core)
+            (W.sink to.old) self.old.out.items (W.sink to.new) self.new.out.items result }
         ensures line { self.new.line.items ≡ [] }
         ensures over { self.new.over ≡ false }
         ensures count { self.new.count ≡ self.old.count }
