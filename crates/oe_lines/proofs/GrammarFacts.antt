@@ -27,9 +27,10 @@ use Rattle.oe_lines.specs.declared.commands.Command.{Command}
 use Rattle.oe_lines.specs.declared.commands.Command.TheVariants as command
 use Rattle.oe_lines.specs.declared.commands.MomentChoice.{MomentChoice}
 use Rattle.oe_lines.specs.declared.commands.MomentChoice.TheVariants as moment
-use Rattle.oe_lines.specs.declared.commands.Scale.{Scale}
+use Rattle.oe_rows.specs.declared.scales.Scale.{Scale}
+use Rattle.oe_model.specs.Population.{IsScale}
 use Rattle.oe_model.specs.Requests.{IsDistrict, IsChoice, IsPayment, IsRequestLine, IsNewOrder, IsDelivery}
-use Rattle.oe_lines.specs.Grammar.{Says, HasForm, IsScale, IsRequest, IsNumbered, IsMoment, words_of, request_words, customer_word, line_word, moment_word}
+use Rattle.oe_lines.specs.Grammar.{Says, HasForm, IsRequest, IsNumbered, IsMoment, words_of, request_words, customer_word, line_word, moment_word}
 use Rattle.oe_lines.specs.Reading.{begun, table_of, moment_of, audit_of, opening_of, district_of, payment_of, line_of, line_and, lines_within, lines_of, new_order_of, delivery_of, request_of, beginning_of, terminal_of, rare_command_of, command_of}
 use Rattle.oe_lines.specs.Words.{is_word, within, number_of, number_then, number_before, last_number, amount_before, stamp_of, stamp_before}
 use Rattle.oe_lines.proofs.StampFacts.{stamp_found, stamp_only, stamp_before_found, stamp_before_only}

@@ -13,12 +13,12 @@ use Rattle.oe_steps.specs.Condition.{condition_number}
 use Rattle.oe_steps.specs.declared.audits.Condition.{Condition}
 use Rattle.oe_steps.specs.declared.audits.Condition.TheVariants as condition
 use Rattle.oe_texts.specs.Stamp.{stamp_text}
+use Rattle.oe_model.specs.Population.{IsScale}
 use Rattle.oe_model.specs.Requests as model
 use Rattle.oe_lines.specs.declared.commands.Command.{Command}
 use Rattle.oe_lines.specs.declared.commands.Command.TheVariants as command
 use Rattle.oe_lines.specs.declared.commands.MomentChoice.{MomentChoice}
 use Rattle.oe_lines.specs.declared.commands.MomentChoice.TheVariants as moment
-use Rattle.oe_lines.specs.declared.commands.Scale.{Scale}
 
 abbrev pub customer_word : CustomerChoice → List ℕ
 customer_word (choice.Number n) = decimal n
@@ -71,11 +71,6 @@ IsRequest (request.NewOrder q) = model.IsNewOrder q
 IsRequest (request.Delivery q) = model.IsDelivery q
 IsRequest (request.Deliveries r) = ⊥
 IsRequest (request.Rename r) = ⊥
-
-pub record IsScale (s : Scale) : Type 0 where
-  pub warehouses : IsInRange 1 16 s.warehouses
-  pub customers : IsInRange 1 3_000 s.customers
-  pub items : IsInRange 1 100_000 s.items
 
 abbrev pub IsMoment : MomentChoice → Type 0
 IsMoment moment.Now = Unit {0}

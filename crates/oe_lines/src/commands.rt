@@ -2,22 +2,12 @@
 
 use oe_keys::Table;
 use oe_requests::Request;
+use oe_rows::Scale;
 use oe_steps::Condition;
 use oe_values::{Moment, Number, Terminal};
 
 /// How many extents the undo ring has.
 pub type ExtentCount = Number<2, 4_096>;
-
-/// The sizes of a population.
-#[derive(Clone, Copy, Debug, PartialEq, Eq)]
-pub struct Scale {
-    /// How many warehouses there are.
-    pub warehouses: Number<1, 16>,
-    /// How many customers each district has.
-    pub customers: Number<1, 3_000>,
-    /// How many items there are.
-    pub items: Number<1, 100_000>,
-}
 
 /// The newest moment, or one by its number.
 #[derive(Clone, Copy, Debug, PartialEq, Eq)]

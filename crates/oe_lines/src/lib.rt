@@ -6,5 +6,5 @@ pub mod commands;
 pub mod reading;
 mod words;
 
-pub use commands::{Command, ExtentCount, MomentChoice, Scale};
+pub use commands::{Command, ExtentCount, MomentChoice};
 pub use reading::command;

@@ -5,7 +5,7 @@ ghost use Rattle.oe_lines.specs.declared.commands.Command.{Command};
 ghost use Rattle.oe_lines.specs.Grammar.{Says};
 ghost use Rattle.oe_lines.specs.Reading.{command_of, rare_command_of, opening_of, beginning_of, request_of, district_of, payment_of, new_order_of, delivery_of, line_of, lines_of, table_of, moment_of, audit_of};
 
-use crate::commands::{Command, MomentChoice, Scale};
+use crate::commands::{Command, MomentChoice};
 use crate::words::{
     amount_before, is_word, last_number, number, number_before, number_then, stamp, stamp_before,
 };
@@ -14,6 +14,7 @@ use oe_requests::{
     CustomerChoice, DeliveryRequest, NewOrderRequest, PaymentRequest, Request, RequestLine,
     RequestLines,
 };
+use oe_rows::Scale;
 use oe_steps::Condition;
 use oe_values::fronts::{after, decimal};
 use oe_values::{Lines, Moment};

@@ -1,8 +1,9 @@
 //! A line of each form, and hostile ones.
 use crate::made::district_key;
 use oe_keys::Table;
-use oe_lines::{Command, MomentChoice, Scale, command};
+use oe_lines::{Command, MomentChoice, command};
 use oe_requests::{CustomerChoice, NewOrderRequest, PaymentRequest, Request, RequestLine};
+use oe_rows::Scale;
 use oe_steps::Condition;
 use oe_values::{Lines, Moment, Number, Stamp};
 use std::process::Abort;

@@ -18,14 +18,14 @@ use Rattle.oe_steps.specs.declared.steps.Step.TheVariants as step
 use Rattle.oe_texts.specs.Answer.{answer_line}
 use Rattle.oe_lines.specs.declared.commands.Command.{Command}
 use Rattle.oe_lines.specs.declared.commands.Command.TheVariants as command
-use Rattle.oe_lines.specs.declared.commands.Scale.{Scale}
+use Rattle.oe_rows.specs.declared.scales.Scale.{Scale}
 use Rattle.oe_lines.specs.Grammar as grammar
 use Rattle.oe_lines.specs.Grammar.{Says, HasForm}
 use Rattle.oe_lines.specs.Reading.{command_of}
 use Rattle.oe_lines.proofs.GrammarFacts.{read_is_said, said_is_read}
 use Rattle.oe_model.specs.Requests as model
 use Rattle.oe_model.specs.Rows.{Rows}
-use Rattle.oe_model.specs.Population.{IsPopulated}
+use Rattle.oe_model.specs.Population.{IsScale, IsPopulated}
 use Rattle.oe_model.specs.System.{system}
 use Rattle.oe_model.proofs.PopulationFacts.{population_is_one}
 use Rattle.oe_model.proofs.SystemLaws.{laws, population_is_good}
@@ -33,7 +33,7 @@ use Rattle.oe_core.specs.Steps.{step_in, answer_in, Serves, Advances, HasProgram
 use Rattle.oe_core.specs.declared.advances.Advanced.{Advanced}
 use Rattle.oe_core.specs.declared.advances.Advanced.TheVariants as advanced
 use Rattle.oe_script.specs.Dump.{dump_text}
-use Rattle.oe_script.specs.Script.{State, scale_in, moment_in, told, Stepped, IsAllowed, Answers, Asks, bad_line, LineAnswer, RunOfLines, Holds}
+use Rattle.oe_script.specs.Script.{State, moment_in, told, Stepped, IsAllowed, Answers, Asks, bad_line, LineAnswer, RunOfLines, Holds}
 use Rattle.oe_script.specs.Session.{IsLive}
 use Rattle.oe_script.specs.Ports.{Sink, Sent, Cut, Streams}
 use Rattle.oe_script.specs.Outcome.{IsAnswer, Replies}
@@ -68,10 +68,10 @@ one_command line c d h k = let same : ◌≡◌ {A = Option Command} (Some c) (S
 
 -- WHAT LINES KEEP
 
-live_opened : (s : Scale) (extents : ℕ) (r : Rows) → grammar.IsScale s → IsPopulated (scale_in s) r → IsLive (Some (opened system r extents))
+live_opened : (s : Scale) (extents : ℕ) (r : Rows) → IsScale s → IsPopulated s r → IsLive (Some (opened system r extents))
 live_opened s extents r h p = (
   opening_is_reached system laws r extents
-      (population_is_good r (population_is_one.is_population (scale_in s) r (record { warehouses = h.warehouses; customers = h.customers; items = h.items }) p)),
+      (population_is_good r (population_is_one.is_population s r h p)),
   λ t. tt,
 )
 

@@ -2,25 +2,24 @@
 use Rattle.std.proofs.Common.{◌≡◌, ℕ, ◌≤◌, List, length, None, Some, Result, Ok, Err, IfOk, codes, refl, ap, ◌∙◌, subst, inl}
 use Rattle.oe_theory.specs.World.{World}
 use Rattle.oe_theory.specs.Theorems.{opened}
-use Rattle.oe_rows.specs.declared.scales.Scale as rows
+use Rattle.oe_rows.specs.declared.scales.Scale.{Scale}
 use Rattle.oe_model.specs.Rows.{Rows}
 use Rattle.oe_model.specs.Population.{IsPopulated}
 use Rattle.oe_model.specs.System.{system}
 use Rattle.oe_lines.specs.declared.commands.Command.{Command}
 use Rattle.oe_lines.specs.declared.commands.Command.TheVariants as command
-use Rattle.oe_lines.specs.declared.commands.Scale.{Scale}
 use Rattle.oe_lines.specs.Grammar.{Says}
-use Rattle.oe_script.specs.Script.{State, scale_in, LineAnswer}
+use Rattle.oe_script.specs.Script.{State, LineAnswer}
 
 -- a core that was opened on these rows is one that was opened on rows of the scale
-pub on_population : {A E : Type 0} (w : A → World system) (scale : rows.Scale) (x : Rows) (n m : ℕ) → n ≡ m → IsPopulated scale x
+pub on_population : {A E : Type 0} (w : A → World system) (scale : Scale) (x : Rows) (n m : ℕ) → n ≡ m → IsPopulated scale x
     → (r : Result A E) → IfOk r (λ c. w c ≡ opened system x n) → IfOk r (λ c. (y : Rows) × IsPopulated scale y × (w c ≡ opened system y m))
 on_population w scale x n m q p (Ok c) e = (x, p, e ∙ ap (opened system x) q)
 on_population w scale x n m q p (Err e) h = h
 
 -- so the line that asks for it is answered
 pub opened_line : (scale : Scale) (extents : ℕ) (w : World system) (asked : Command) (s : State)
-    → ((y : Rows) × IsPopulated (scale_in scale) y × (w ≡ opened system y extents)) → asked ≡ command.Open scale extents → s ≡ Some w
+    → ((y : Rows) × IsPopulated scale y × (w ≡ opened system y extents)) → asked ≡ command.Open scale extents → s ≡ Some w
     → (n : ℕ) (line : List ℕ) → length line ≤ 1_024 → Says line asked → LineAnswer None n line (codes "opened\n") s
 opened_line scale extents w asked s (y, p, e) is same n line short says =
     inl (command.Open scale extents, record { short = short; says = subst (λ z. Says line z) is says; allowed = tt }, inl (y, p, refl, subst (λ z. s ≡ Some z) e same))

@@ -4,7 +4,7 @@ use Rattle.std.specs.List.{flat_map}
 use Rattle.oe_theory.specs.World.{World, newest, tables}
 use Rattle.oe_theory.specs.Theorems.{opened}
 use Rattle.oe_requests.specs.declared.refusals.Refusal.TheVariants as refusal
-use Rattle.oe_rows.specs.declared.scales.Scale as rows
+use Rattle.oe_rows.specs.declared.scales.Scale.{Scale}
 use Rattle.oe_model.specs.Rows.{Rows}
 use Rattle.oe_model.specs.Population.{IsPopulated}
 use Rattle.oe_model.specs.System.{system}
@@ -18,7 +18,6 @@ use Rattle.oe_lines.specs.declared.commands.Command.{Command}
 use Rattle.oe_lines.specs.declared.commands.Command.TheVariants as command
 use Rattle.oe_lines.specs.declared.commands.MomentChoice.{MomentChoice}
 use Rattle.oe_lines.specs.declared.commands.MomentChoice.TheVariants as moment
-use Rattle.oe_lines.specs.declared.commands.Scale.{Scale}
 use Rattle.oe_lines.specs.Grammar.{Says}
 use Rattle.oe_core.specs.Steps.{step_in, answer_in, Serves}
 use Rattle.oe_script.specs.Dump.{dump_text}
@@ -26,9 +25,6 @@ use Rattle.oe_script.specs.Dump.{dump_text}
 -- nothing is open yet, or the world that a core stands for
 abbrev pub State : Type 0
 State = Option (World system)
-
-abbrev pub scale_in : Scale → rows.Scale
-scale_in s = record { warehouses = s.warehouses; customers = s.customers; items = s.items }
 
 -- the moment that is asked for: `now` is the newest
 abbrev pub moment_in : World system → MomentChoice → ℕ
@@ -61,7 +57,7 @@ Ran w t text s = (n : ℕ) × (x : Answer) × (w' : World system) × RunsIn n w 
 -- an opening gives a population of that scale, or is refused where memory is, and may then be asked for again
 abbrev pub Opens : Scale → ℕ → List ℕ → State → Type 0
 Opens scale extents text s =
-    ((r : Rows) × IsPopulated (scale_in scale) r × (text ≡ codes "opened\n") × (s ≡ Some (opened system r extents)))
+    ((r : Rows) × IsPopulated scale r × (text ≡ codes "opened\n") × (s ≡ Some (opened system r extents)))
     ⊎ ((text ≡ answer_line (answer.Refused refusal.NoMemory)) × (s ≡ None))
 
 -- before something is open only `open` is in the grammar, and afterwards it is not

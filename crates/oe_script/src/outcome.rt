@@ -11,7 +11,7 @@ ghost use Rattle.oe_steps.specs.declared.answers.Answer.{Answer};
 ghost use Rattle.oe_texts.specs.Answer.{answer_line};
 ghost use Rattle.oe_core.specs.Core.{world_of};
 ghost use Rattle.oe_core.specs.Steps.{step_in, answer_in, Serves, HasProgram, IsStep};
-ghost use Rattle.oe_script.specs.Script.{LineAnswer, RunsIn, scale_in, moment_in};
+ghost use Rattle.oe_script.specs.Script.{LineAnswer, RunsIn, moment_in};
 ghost use Rattle.oe_script.specs.Session.{state_of, IsLive};
 ghost use Rattle.oe_script.specs.Outcome.{IsAnswer, Tells, TellsRun, Replies};
 
@@ -19,8 +19,9 @@ use crate::dumps::dump;
 use crate::output::{bad, make_room};
 use crate::ports::{Failed, Outlet};
 use oe_core::{Advanced, Core};
-use oe_lines::{Command, ExtentCount, MomentChoice, Scale, command};
+use oe_lines::{Command, ExtentCount, MomentChoice, command};
 use oe_requests::{Refusal, Request};
+use oe_rows::Scale;
 use oe_steps::{Answer, Condition, Step};
 use oe_store::{NoMemory, populate};
 use oe_texts::{LONGEST, Pending, SIZE, answer, audited, begun, committed, more, opened, refused};
@@ -39,7 +40,8 @@ pub fn answer_line<W: Outlet>(
 ) -> Result<(), Failed>
     requires short { length line.now ≤ 1_024 }
     requires live { IsLive (state_of core.old) }
-    ensures { Replies (state_of core.old) number line.now (state_of core.new) (W.sink to.old) out.old.items (W.sink to.new) out.new.items result }
+    ensures { Replies (state_of core.old) number line.now (state_of core.new)
+        (W.sink to.old) out.old.items (W.sink to.new) out.new.items result }
 {
     if let Err(e) = make_room(out, to) {
         return Err(e);
@@ -60,7 +62,8 @@ fn take_line<W: Outlet>(
     requires room { array_vec_len out.old + LONGEST ≤ SIZE }
     requires short { length line.now ≤ 1_024 }
     requires live { IsLive (state_of core.old) }
-    ensures { Replies (state_of core.old) number line.now (state_of core.new) (W.sink to.old) out.old.items (W.sink to.new) out.new.items result }
+    ensures { Replies (state_of core.old) number line.now (state_of core.new)
+        (W.sink to.old) out.old.items (W.sink to.new) out.new.items result }
 {
     let Some(asked) = command(line) else {
         bad(out, number);
@@ -82,7 +85,8 @@ fn first(core: &mut Option<Core>, alloc: Global, asked: &Command, number: u128, 
     requires none { core.old ≡ None }
     requires form { HasForm asked.now }
     ensures { (line : List ℕ) → length line ≤ 1_024 → Says line asked.now →
-        (text : List ℕ) × LineAnswer None number line text (state_of core.new) × (out.new.items ≡ out.old.items ++ text) }
+        (text : List ℕ) × LineAnswer None number line text (state_of core.new)
+        × (out.new.items ≡ out.old.items ++ text) }
 {
     match asked {
         Command::Open(scale, extents) => match populated(alloc, *scale, *extents) {
@@ -100,13 +104,9 @@ fn first(core: &mut Option<Core>, alloc: Global, asked: &Command, number: u128, 
 /// A core with the population of a scale.
 fn populated(alloc: Global, scale: Scale, extents: ExtentCount) -> Result<Core, NoMemory>
     requires { HasForm (asks.Open scale extents) }
-    ensures { IfOk result (λ c. (r : Rows) × IsPopulated (scale_in scale) r × (world_of c ≡ opened system r extents)) }
+    ensures { IfOk result (λ c.
+        (r : Rows) × IsPopulated scale r × (world_of c ≡ opened system r extents)) }
 {
-    let scale = oe_rows::Scale {
-        warehouses: scale.warehouses,
-        customers: scale.customers,
-        items: scale.items,
-    };
     match populate(alloc, scale) {
         Ok(tables) => Core::open(alloc, tables, extents.get() as u16),
         Err(e) => Err(e),
@@ -125,7 +125,8 @@ fn later<W: Outlet>(
     requires form { HasForm asked.now }
     requires live { IsLive (Some (world_of core.old)) }
     ensures { (line : List ℕ) → length line ≤ 1_024 → Says line asked.now →
-        Replies (Some (world_of core.old)) number line (Some (world_of core.new)) (W.sink to.old) out.old.items (W.sink to.new) out.new.items result }
+        Replies (Some (world_of core.old)) number line (Some (world_of core.new))
+        (W.sink to.old) out.old.items (W.sink to.new) out.new.items result }
 {
     match asked {
         Command::Dump(table) => dump(core.tables(), *table, out, to),
@@ -168,7 +169,8 @@ fn later<W: Outlet>(
 fn tell_begin(core: &mut Core, terminal: Terminal, request: &Request, out: &mut Pending)
     requires room { array_vec_len out.old + LONGEST ≤ SIZE }
     requires program { HasProgram request.now }
-    ensures { Tells (world_of core.old) (Step.Begin terminal request.now) (world_of core.new) out.old.items out.new.items }
+    ensures { Tells (world_of core.old) (Step.Begin terminal request.now) (world_of core.new)
+        out.old.items out.new.items }
 {
     match core.begin(terminal, request) {
         Ok(()) => begun(out),
@@ -179,7 +181,8 @@ fn tell_begin(core: &mut Core, terminal: Terminal, request: &Request, out: &mut 
 /// Takes one row.
 fn tell_next(core: &mut Core, terminal: Terminal, out: &mut Pending)
     requires { array_vec_len out.old + LONGEST ≤ SIZE }
-    ensures { Tells (world_of core.old) (Step.Advance terminal) (world_of core.new) out.old.items out.new.items }
+    ensures { Tells (world_of core.old) (Step.Advance terminal) (world_of core.new)
+        out.old.items out.new.items }
 {
     let ended = core.advance(terminal);
     tell_advanced(core, &ended, out);
@@ -189,7 +192,8 @@ fn tell_next(core: &mut Core, terminal: Terminal, out: &mut Pending)
 fn tell_run(core: &mut Core, terminal: Terminal, out: &mut Pending)
     requires room { array_vec_len out.old + LONGEST ≤ SIZE }
     requires live { IsLive (Some (world_of core.old)) }
-    ensures { TellsRun (world_of core.old) terminal (world_of core.new) out.old.items out.new.items }
+    ensures { TellsRun (world_of core.old) terminal (world_of core.new)
+        out.old.items out.new.items }
 {
     let ended = run(core, terminal);
     tell_advanced(core, &ended, out);
@@ -198,7 +202,8 @@ fn tell_run(core: &mut Core, terminal: Terminal, out: &mut Pending)
 /// Advances up to the first answer that is not `more`.
 fn run(core: &mut Core, terminal: Terminal) -> Advanced
     requires { IsLive (Some (world_of core.old)) }
-    ensures { (n : ℕ) × (x : Answer) × IsAnswer (world_of core.new) result x × RunsIn n (world_of core.old) terminal x (world_of core.new) }
+    ensures { (n : ℕ) × (x : Answer) × IsAnswer (world_of core.new) result x
+        × RunsIn n (world_of core.old) terminal x (world_of core.new) }
 {
     loop {
         match core.advance(terminal) {
@@ -212,7 +217,8 @@ fn run(core: &mut Core, terminal: Terminal) -> Advanced
 fn tell_advanced(core: &Core, ended: &Advanced, out: &mut Pending)
     requires room { array_vec_len out.old + LONGEST ≤ SIZE }
     requires answer { (x : Answer) × IsAnswer (world_of core.now) ended.now x }
-    ensures { (x : Answer) → IsAnswer (world_of core.now) ended.now x → out.new.items ≡ out.old.items ++ answer_line x }
+    ensures { (x : Answer) → IsAnswer (world_of core.now) ended.now x
+        → out.new.items ≡ out.old.items ++ answer_line x }
 {
     match ended {
         Advanced::More => more(out),
@@ -229,7 +235,9 @@ fn tell_advanced(core: &Core, ended: &Advanced, out: &mut Pending)
 fn tell(core: &mut Core, step: Step, out: &mut Pending)
     requires room { array_vec_len out.old + LONGEST ≤ SIZE }
     requires step { IsStep step }
-    ensures { (x : Answer) × Serves (world_of core.old) (step_in step) (answer_in step x) (world_of core.new) × (out.new.items ≡ out.old.items ++ answer_line x) }
+    ensures { (x : Answer)
+        × Serves (world_of core.old) (step_in step) (answer_in step x) (world_of core.new)
+        × (out.new.items ≡ out.old.items ++ answer_line x) }
 {
     answer(out, &core.step(step));
 }
@@ -238,7 +246,9 @@ fn tell(core: &mut Core, step: Step, out: &mut Pending)
 #[inline(never)]
 fn tell_audit(core: &mut Core, condition: Condition, moment: MomentChoice, out: &mut Pending)
     requires { array_vec_len out.old + LONGEST ≤ SIZE }
-    ensures { Tells (world_of core.old) (Step.Audit condition (moment_in (world_of core.old) moment)) (world_of core.new) out.old.items out.new.items }
+    ensures { Tells (world_of core.old)
+        (Step.Audit condition (moment_in (world_of core.old) moment))
+        (world_of core.new) out.old.items out.new.items }
 {
     let moment = moment_of(core, moment);
     match core.step(Step::Audit(condition, moment)) {

@@ -1,15 +1,13 @@
 use Rattle.oe_store.specs.Stored.{rows}
 use Rattle.oe_model.proofs.PopulationFacts.{population_is_one}
 use Rattle.oe_core.specs.Core.{world_of}
-use Rattle.oe_script.specs.Script.{scale_in}
 use Rattle.oe_script.proofs.OpenFacts.{on_population}
 use Rattle.oe_script.proofs.outcome.populated.Goals as goal
 
 pub open-requires : goal.open-requires
 open-requires c =
-    let s = c.requires.0 in
-    population_is_one.is_population (scale_in c.args.scale) (rows c.in-Ok.tables) (record { warehouses = s.warehouses; customers = s.customers; items = s.items }) c.in-Ok.ensures
+    population_is_one.is_population c.args.scale (rows c.in-Ok.tables) c.requires.0 c.in-Ok.ensures
 
 pub returns-in-Ok : goal.returns-in-Ok
 returns-in-Ok c =
-    on_population world_of (scale_in c.args.scale) (rows c.in-Ok.tables) c.get.result c.args.extents c.get.ensures.value c.in-Ok.ensures c.open.result c.open.ensures
+    on_population world_of c.args.scale (rows c.in-Ok.tables) c.get.result c.args.extents c.get.ensures.value c.in-Ok.ensures c.open.result c.open.ensures
