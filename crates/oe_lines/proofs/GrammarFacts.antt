@@ -30,10 +30,11 @@ use Rattle.oe_lines.specs.declared.commands.MomentChoice.TheVariants as moment
 use Rattle.oe_rows.specs.declared.scales.Scale.{Scale}
 use Rattle.oe_model.specs.Population.{IsScale}
 use Rattle.oe_model.specs.Requests.{IsDistrict, IsChoice, IsPayment, IsRequestLine, IsNewOrder, IsDelivery}
-use Rattle.oe_lines.specs.Grammar.{Says, HasForm, IsRequest, IsNumbered, IsMoment, words_of, request_words, customer_word, line_word, moment_word}
-use Rattle.oe_lines.specs.Reading.{begun, table_of, moment_of, audit_of, opening_of, district_of, payment_of, line_of, line_and, lines_within, lines_of, new_order_of, delivery_of, request_of, beginning_of, terminal_of, rare_command_of, command_of}
-use Rattle.oe_lines.specs.Words.{is_word, within, number_of, number_then, number_before, last_number, amount_before, stamp_of, stamp_before}
+use Rattle.oe_lines.specs.Grammar.{Says, HasForm, IsRequest, IsMoment, words_of, request_words, customer_word, line_word, moment_word}
+use Rattle.oe_lines.specs.Reading.{begun, number_or_name, table_of, moment_of, audit_of, opening_of, district_of, customer_of, payment_of, line_of, line_and, lines_within, lines_of, new_order_of, delivery_of, request_of, beginning_of, terminal_of, rare_command_of, command_of}
+use Rattle.oe_lines.specs.Words.{is_word, within, number_of, number_then, number_before, last_number, amount_before, stamp_of, stamp_before, name_before}
 use Rattle.oe_lines.proofs.StampFacts.{stamp_found, stamp_only, stamp_before_found, stamp_before_only}
+use Rattle.oe_lines.proofs.NameFacts.{name_found, name_only, name_no_number}
 use Rattle.oe_values.specs.Front.{after_of, decimal_of, alone}
 use Rattle.oe_values.proofs.FrontFacts.{bind_some, some_same, chosen, guarded, ends, alone_found, after_found, after_only, decimal_found, decimal_only}
 use Rattle.oe_lines.proofs.WordFacts.{map_some, word_is, within_found, within_only, number_found, number_only, then_found, then_only, before_found, before_only, last_found, last_only, amount_found, amount_only}
@@ -225,46 +226,57 @@ payment_words p =
     district_words p.district (district_words p.customer_district
     (customer_word p.customer ++ 32 ∷ (money_text p.amount ++ 32 ∷ stamp_text p.stamp)))
 
-payment_found : (s : List ℕ) (p : PaymentRequest) → payment_of s ≡ Some p → (s ≡ payment_words p) × IsPayment p × IsNumbered p.customer
+customer_found : (s : List ℕ) (p : CustomerChoice × List ℕ) → customer_of s ≡ Some p → (s ≡ customer_word p.0 ++ 32 ∷ p.1) × IsChoice p.0
+unfolding customer_of
+customer_found s p e = go (number_before 1 3_000 s) refl e
+  where
+    go : (o : Option (ℕ × List ℕ)) → number_before 1 3_000 s ≡ o → number_or_name o (name_before s) ≡ Some p → (s ≡ customer_word p.0 ++ 32 ∷ p.1) × IsChoice p.0
+    go (Some c) f e =
+        let g = before_found 1 3_000 s c.0 c.1 f in
+        rw (← some_same (choice.Number c.0, c.1) p e) (g.0, (g.1, g.2))
+    go None f e =
+        let n = map_some (λ n. (choice.LastName n.0, n.1)) (name_before s) p e in
+        let g = name_found s n.0.0 n.0.1 n.1 in
+        rw (← n.2) g
+
+customer_only : (c : CustomerChoice) (r : List ℕ) → IsChoice c → customer_of (customer_word c ++ 32 ∷ r) ≡ Some (c, r)
+unfolding customer_of
+customer_only (choice.Number n) r h = rw (before_only 1 3_000 n r (omega arith) h) refl
+customer_only (choice.LastName name) r h = rw (name_no_number 1 3_000 name r h, name_only name r h) refl
+
+payment_found : (s : List ℕ) (p : PaymentRequest) → payment_of s ≡ Some p → (s ≡ payment_words p) × IsPayment p
 unfolding payment_of
 payment_found s p e =
     let a = bind_some (district_of s) _ p e in
     let b = bind_some (district_of a.0.1) _ p a.2 in
-    let c = bind_some (number_before 1 3_000 b.0.1) _ p b.2 in
+    let c = bind_some (customer_of b.0.1) _ p b.2 in
     let d = bind_some (amount_before 100 500_000 c.0.1) _ p c.2 in
     let t = bind_some (stamp_of d.0.1) _ p d.2 in
     let f = district_found s a.0 a.1 in
     let g = district_found a.0.1 b.0 b.1 in
-    let h = before_found 1 3_000 b.0.1 c.0.0 c.0.1 c.1 in
+    let h = customer_found b.0.1 c.0 c.1 in
     let i = amount_found 100 500_000 c.0.1 d.0.0 d.0.1 d.1 in
     let j = stamp_found d.0.1 t.0 t.1 in
-    let last = h.0 ∙ ap (λ z. decimal c.0.0 ++ 32 ∷ z) (i.0 ∙ ap (λ z. money_text d.0.0 ++ 32 ∷ z) j.0) in
-    let same = some_same (record { district = a.0.0; customer_district = b.0.0; customer = choice.Number c.0.0; amount = d.0.0; stamp = t.0 }) p t.2 in
+    let last = h.0 ∙ ap (λ z. customer_word c.0.0 ++ 32 ∷ z) (i.0 ∙ ap (λ z. money_text d.0.0 ++ 32 ∷ z) j.0) in
+    let same = some_same (record { district = a.0.0; customer_district = b.0.0; customer = c.0.0; amount = d.0.0; stamp = t.0 }) p t.2 in
     rw (← same) (
       f.0 ∙ ap (district_words a.0.0) (g.0 ∙ ap (district_words b.0.0) last),
-      record { district = f.1; customer_district = g.1; customer = (h.1, h.2); amount = (i.1, i.2); stamp = j.1 },
-      tt,
+      record { district = f.1; customer_district = g.1; customer = h.1; amount = (i.1, i.2); stamp = j.1 },
     )
 
-payment_numbered : (at home : DistrictKey) (n amount stamp : ℕ) → IsDistrict at → IsDistrict home → IsInRange 1 3_000 n → IsInRange 100 500_000 amount → stamp < 6_342_969_600
-    → payment_of (district_words at (district_words home (decimal n ++ 32 ∷ (money_text amount ++ 32 ∷ stamp_text stamp))))
-    ≡ Some (record { district = at; customer_district = home; customer = choice.Number n; amount = amount; stamp = stamp })
+payment_only : (at home : DistrictKey) (c : CustomerChoice) (amount stamp : ℕ) → IsDistrict at → IsDistrict home → IsChoice c → IsInRange 100 500_000 amount → stamp < 6_342_969_600
+    → payment_of (district_words at (district_words home (customer_word c ++ 32 ∷ (money_text amount ++ 32 ∷ stamp_text stamp))))
+    ≡ Some (record { district = at; customer_district = home; customer = c; amount = amount; stamp = stamp })
 unfolding payment_of
-payment_numbered at home n amount stamp p q r s t =
+payment_only at home c amount stamp p q r s t =
     rw (
       district_only at _ p,
       district_only home _ q,
-      before_only 1 3_000 n _ (omega arith) r,
+      customer_only c _ r,
       amount_only 100 500_000 amount _ (omega arith) s,
       stamp_only stamp t,
     )
     refl
-
-payment_only : (at home : DistrictKey) (c : CustomerChoice) (amount stamp : ℕ) → IsDistrict at → IsDistrict home → IsChoice c → IsNumbered c → IsInRange 100 500_000 amount → stamp < 6_342_969_600
-    → payment_of (district_words at (district_words home (customer_word c ++ 32 ∷ (money_text amount ++ 32 ∷ stamp_text stamp))))
-    ≡ Some (record { district = at; customer_district = home; customer = c; amount = amount; stamp = stamp })
-payment_only at home (choice.Number n) amount stamp p q r b s t = payment_numbered at home n amount stamp p q r s t
-payment_only at home (choice.LastName name) amount stamp p q r b s t = elim b [ ]
 
 -- orders
 
@@ -421,7 +433,7 @@ request_found s r e = elim (begun_some (after_of (codes "payment ") s) _ _ r e) 
   | inl h ↦
       let p = map_some (λ p. request.Payment p) (payment_of h.0) r h.2 in
       let f = payment_found h.0 p.0 p.1 in
-      rw (← p.2) (after_found (codes "payment ") s h.0 h.1 ∙ ap (λ z. codes "payment" ++ 32 ∷ z) f.0, (f.1, f.2))
+      rw (← p.2) (after_found (codes "payment ") s h.0 h.1 ∙ ap (λ z. codes "payment" ++ 32 ∷ z) f.0, f.1)
   | inr e ↦ elim (begun_some (after_of (codes "neworder ") s) _ _ r e) [
     | inl h ↦
         let q = map_some (λ q. request.NewOrder q) (new_order_of h.0) r h.2 in
@@ -441,8 +453,7 @@ request_found s r e = elim (begun_some (after_of (codes "payment ") s) _ _ r e) 
 request_only : (r : Request) → IsRequest r → request_of (join_with_byte 32 (request_words r)) ≡ Some r
 unfolding request_of
 request_only (request.Payment p) h =
-    let k = h.0 in
-    rw (payment_only p.district p.customer_district p.customer p.amount p.stamp k.district k.customer_district k.customer h.1 k.amount k.stamp) refl
+    rw (payment_only p.district p.customer_district p.customer p.amount p.stamp h.district h.customer_district h.customer h.amount h.stamp) refl
 request_only (request.NewOrder q) h =
     let count = h.count in
     ap request_of (spelled_order q (omega (arith, count.0))) ∙ rw (new_order_only q h) refl

@@ -1,3 +1,4 @@
+pub mod NameFacts
 pub mod GrammarFacts
 pub mod OrderFacts
 pub mod StampFacts

@@ -20,6 +20,7 @@ use Rattle.oe_lines.specs.declared.commands.Command.TheVariants as command
 use Rattle.oe_lines.specs.declared.commands.MomentChoice.{MomentChoice}
 use Rattle.oe_lines.specs.declared.commands.MomentChoice.TheVariants as moment
 
+-- a customer by number, or by last name
 abbrev pub customer_word : CustomerChoice → List ℕ
 customer_word (choice.Number n) = decimal n
 customer_word (choice.LastName name) = name
@@ -59,14 +60,9 @@ words_of (command.Rollback terminal) = codes "rollback" ∷ decimal terminal ∷
 words_of (command.Dump table) = codes "dump" ∷ table_name table ∷ []
 words_of (command.Audit c m) = codes "audit" ∷ decimal (condition_number c) ∷ moment_word m ∷ []
 
--- a customer by number; one by name has no form yet
-abbrev pub IsNumbered : CustomerChoice → Type 0
-IsNumbered (choice.Number n) = Unit {0}
-IsNumbered (choice.LastName name) = ⊥
-
 -- payments, orders and deliveries of one district in the model's ranges; other requests have no form yet
 abbrev pub IsRequest : Request → Type 0
-IsRequest (request.Payment p) = model.IsPayment p × IsNumbered p.customer
+IsRequest (request.Payment p) = model.IsPayment p
 IsRequest (request.NewOrder q) = model.IsNewOrder q
 IsRequest (request.Delivery q) = model.IsDelivery q
 IsRequest (request.Deliveries r) = ⊥

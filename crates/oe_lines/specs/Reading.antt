@@ -4,6 +4,7 @@ use Rattle.std.specs.Option.{option_map}
 use Rattle.oe_keys.specs.declared.keys.DistrictKey.{DistrictKey}
 use Rattle.oe_keys.specs.declared.keys.Table.{Table}
 use Rattle.oe_keys.specs.declared.keys.Table.TheVariants as table
+use Rattle.oe_requests.specs.declared.requests.CustomerChoice.{CustomerChoice}
 use Rattle.oe_requests.specs.declared.requests.CustomerChoice.TheVariants as choice
 use Rattle.oe_requests.specs.declared.requests.PaymentRequest.{PaymentRequest}
 use Rattle.oe_requests.specs.declared.requests.RequestLine.{RequestLine}
@@ -17,7 +18,7 @@ use Rattle.oe_lines.specs.declared.commands.Command.TheVariants as command
 use Rattle.oe_lines.specs.declared.commands.MomentChoice.{MomentChoice}
 use Rattle.oe_lines.specs.declared.commands.MomentChoice.TheVariants as moment
 use Rattle.oe_values.specs.Front.{◌>>=◌, after_of, decimal_of, alone}
-use Rattle.oe_lines.specs.Words.{is_word, within, number_of, number_then, number_before, last_number, amount_before, stamp_of, stamp_before}
+use Rattle.oe_lines.specs.Words.{is_word, within, number_of, number_then, number_before, last_number, amount_before, stamp_of, stamp_before, name_before}
 
 unfoldable pub table_of : List ℕ → Option Table
 table_of s =
@@ -68,17 +69,25 @@ district_of s = do
   d ← number_before 1 10 w.1
   Some (record { warehouse = w.0; district = d.0 }, d.1)
 
+-- a number, or else a last name
+abbrev pub number_or_name : Option (ℕ × List ℕ) → Option (List ℕ × List ℕ) → Option (CustomerChoice × List ℕ)
+number_or_name (Some c) name = Some (choice.Number c.0, c.1)
+number_or_name None name = option_map (λ n. (choice.LastName n.0, n.1)) name
+
+unfoldable pub customer_of : List ℕ → Option (CustomerChoice × List ℕ)
+customer_of s = number_or_name (number_before 1 3_000 s) (name_before s)
+
 unfoldable pub payment_of : List ℕ → Option PaymentRequest
 payment_of s = do
   at ← district_of s
   home ← district_of at.1
-  c ← number_before 1 3_000 home.1
+  c ← customer_of home.1
   a ← amount_before 100 500_000 c.1
   stamp ← stamp_of a.1
   Some (record {
     district = at.0;
     customer_district = home.0;
-    customer = choice.Number c.0;
+    customer = c.0;
     amount = a.0;
     stamp = stamp;
   })

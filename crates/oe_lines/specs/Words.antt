@@ -1,5 +1,6 @@
 -- Reading a word from the front, as functions on lists: what the word says, and what follows it.
-use Rattle.std.specs.Prelude.{ℕ, ◌+◌, ◌-◌, ◌*◌, ◌&&◌, Bool, nat_le, nat_lt, List, [], ◌∷◌, length, take, drop, Option, Some, None, slice_index, codes, if◌then◌else◌, pos, ◌+ℤ◌, ◌*ℤ◌, unsigned_abs}
+use Rattle.std.specs.Prelude.{ℕ, ◌+◌, ◌-◌, ◌*◌, ◌==◌, ◌&&◌, Bool, nat_le, nat_lt, List, [], ◌∷◌, length, take, drop, position, Option, Some, None, slice_index, codes, if◌then◌else◌, pos, ◌+ℤ◌, ◌*ℤ◌, unsigned_abs}
+use Rattle.std.specs.List.{list_all}
 use Rattle.std.specs.Str.{bytes_eq}
 use Rattle.jiff_core.specs.Calendar.{days_from_civil}
 use Rattle.oe_texts.specs.Stamp.{stamp_text}
@@ -69,3 +70,19 @@ stamp_before s =
       n ← stamp_of (take 19 s)
       r ← after_of (codes " ") (drop 19 s)
       Some (n, r)
+
+-- a letter from A to Z
+abbrev pub is_capital : ℕ → Bool
+is_capital b = nat_le 65 b && nat_le b 90
+
+-- 1 to 16 letters from A to Z
+unfoldable pub last_name_of : List ℕ → Option (List ℕ)
+last_name_of s = if (nat_le 1 (length s) && nat_le (length s) 16) && list_all is_capital s then Some s else None
+
+-- the same before the first space, which is passed over
+unfoldable pub name_before : List ℕ → Option (List ℕ × List ℕ)
+name_before s = do
+  n ← position (λ b. b == 32) s
+  name ← last_name_of (take n s)
+  r ← after_of (codes " ") (drop n s)
+  Some (name, r)

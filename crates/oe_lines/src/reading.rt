@@ -3,11 +3,12 @@ ghost use Rattle.std.specs.Prelude.{◌≡◌, IfSome, Some};
 ghost use Rattle.std.specs.Option.{option_map};
 ghost use Rattle.oe_lines.specs.declared.commands.Command.{Command};
 ghost use Rattle.oe_lines.specs.Grammar.{Says};
-ghost use Rattle.oe_lines.specs.Reading.{command_of, rare_command_of, opening_of, beginning_of, request_of, district_of, payment_of, new_order_of, delivery_of, line_of, lines_of, table_of, moment_of, audit_of};
+ghost use Rattle.oe_lines.specs.Reading.{command_of, rare_command_of, opening_of, beginning_of, request_of, district_of, customer_of, payment_of, new_order_of, delivery_of, line_of, lines_of, table_of, moment_of, audit_of};
 
 use crate::commands::{Command, MomentChoice};
 use crate::words::{
-    amount_before, is_word, last_number, number, number_before, number_then, stamp, stamp_before,
+    amount_before, is_word, last_number, name_before, number, number_before, number_then, stamp,
+    stamp_before,
 };
 use oe_keys::{DistrictKey, Table};
 use oe_requests::{
@@ -141,6 +142,20 @@ fn district(text: &[u8]) -> Option<(DistrictKey, &[u8])>
     Some((key, rest))
 }
 
+/// A customer by number or by last name, and what follows the space after it.
+#[tactic(auto, unfolding(crate::specs::Reading::customer_of))]
+fn customer(text: &[u8]) -> Option<(CustomerChoice, &[u8])>
+    ensures { option_map (λ p. (p.0, p.1.now)) result ≡ customer_of text.now }
+{
+    if let Some((number, rest)) = number_before(text) {
+        return Some((CustomerChoice::Number(number), rest));
+    }
+    let Some((name, rest)) = name_before(text) else {
+        return None;
+    };
+    Some((CustomerChoice::LastName(name), rest))
+}
+
 /// `w d cw cd customer amount stamp`.
 #[tactic(auto, unfolding(crate::specs::Reading::payment_of))]
 fn payment(text: &[u8]) -> Option<PaymentRequest>
@@ -152,7 +167,7 @@ fn payment(text: &[u8]) -> Option<PaymentRequest>
     let Some((customer_district, rest)) = district(rest) else {
         return None;
     };
-    let Some((customer, rest)) = number_before(rest) else {
+    let Some((customer, rest)) = customer(rest) else {
         return None;
     };
     let Some((amount, rest)) = amount_before(rest) else {
@@ -162,7 +177,7 @@ fn payment(text: &[u8]) -> Option<PaymentRequest>
     Some(PaymentRequest {
         district: at,
         customer_district,
-        customer: CustomerChoice::Number(customer),
+        customer,
         amount,
         stamp,
     })

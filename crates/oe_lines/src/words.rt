@@ -1,10 +1,11 @@
-//! Words of a line, each with what follows it: numbers, money and stamps.
-ghost use Rattle.std.specs.Prelude.{◌≡◌};
+//! Words of a line, each with what follows it: numbers, money, stamps and last names.
+ghost use Rattle.std.specs.Prelude.{◌≡◌, ◌==◌, position};
 ghost use Rattle.std.specs.Option.{option_map};
-ghost use Rattle.oe_lines.specs.Words.{is_word, within, number_of, number_then, number_before, last_number, amount_before, stamp_of, stamp_before};
+ghost use Rattle.oe_lines.specs.Words.{is_word, within, number_of, number_then, number_before, last_number, amount_before, stamp_of, stamp_before, last_name_of, name_before};
 
 use oe_values::fronts::{after, decimal, pair};
-use oe_values::{Number, Stamp};
+use oe_values::texts::LastName;
+use oe_values::{Number, Stamp, Text};
 
 /// Whether two texts are one.
 #[tactic(auto, unfolding(crate::specs::Words::is_word))]
@@ -106,4 +107,34 @@ pub(crate) fn stamp_before(text: &[u8]) -> Option<(Stamp, &[u8])>
     let (front, rest) = text.split_at(19);
     let stamp = stamp(front)?;
     Some((stamp, after(rest, b" ")?))
+}
+
+/// A last name of 1 to 16 letters from A to Z.
+fn last_name(text: &[u8]) -> Option<LastName>
+    ensures { result ≡ last_name_of text.now }
+{
+    let Some(word) = Text::<1, 16>::read_bytes(text) else {
+        return None;
+    };
+    LastName::read(word.as_str())
+}
+
+/// Where the first space stands.
+fn first_space(text: &[u8]) -> Option<usize>
+    ensures { result ≡ position (λ b. b == 32) text.now }
+{
+    text.iter().position(|b| *b == b' ')
+}
+
+/// A last name before a space, and what follows the space.
+#[tactic(auto, unfolding(crate::specs::Words::name_before))]
+pub(crate) fn name_before(text: &[u8]) -> Option<(LastName, &[u8])>
+    ensures { option_map (λ p. (p.0, p.1.now)) result ≡ name_before text.now }
+{
+    let length = first_space(text)?;
+    let (word, rest) = text.split_at(length);
+    let Some(name) = last_name(word) else {
+        return None;
+    };
+    Some((name, after(rest, b" ")?))
 }
