@@ -4,18 +4,18 @@ ghost use Rattle.std.specs.List.{All};
 ghost use Rattle.oe_model.specs.Requests.{IsNewOrder, IsRequestLine};
 ghost use Rattle.oe_core.specs.Steps.{HasProgram, IsStep};
 
-use crate::openings::{customer, district, is_filled, money, quantity};
+use crate::openings::{account, customer, district, is_filled, money, quantity, waiting};
 use oe_core::Core;
-use oe_keys::CustomerKey;
+use oe_keys::{CustomerKey, DistrictKey};
 use oe_requests::{
-    Column, CustomerChoice, NewOrderReply, NewOrderRequest, PaymentRequest, Refusal, Reply,
-    Request, RequestLine, RequestLines,
+    Column, CustomerChoice, DeliveryRequest, DistrictDelivery, NewOrderReply, NewOrderRequest,
+    PaymentRequest, Refusal, Reply, Request, RequestLine, RequestLines,
 };
 use oe_steps::{Answer, Condition, Step, Verdict};
 use oe_store::Tables;
 use oe_values::{
-    CustomerNumber, Moment, PaymentAmount, Quantity, RequestedItem, Stamp, Terminal,
-    WarehouseNumber,
+    Carrier, CustomerNumber, DistrictNumber, Moment, PaymentAmount, Quantity, RequestedItem, Stamp,
+    Terminal, WarehouseNumber,
 };
 use std::process::Abort;
 
@@ -27,6 +27,8 @@ pub(crate) enum Act {
     /// The terminal begins an order of one each of the items 1 to 5, by the customer of that warehouse, district and number.
     /// That warehouse supplies the last item, and the district's own the others.
     Order(u32, (u32, u32, u32), u32),
+    /// The terminal begins a delivery in that district of that warehouse by that carrier.
+    Deliver(u32, (u32, u32), u32),
     Advance(u32),
     /// So many advances, one after another, as long as a further row is there.
     Rows(u32, u32),
@@ -38,6 +40,10 @@ pub(crate) enum Act {
     Look(u32, u32),
     /// At the stock of that item in that warehouse.
     Stock(u32, u32),
+    /// At the oldest order that waits in that district of that warehouse.
+    Oldest(u32, u32),
+    /// At the account of the customer of that warehouse, district and number.
+    Account(u32, u32, u32),
     /// At that line of order 11 of that district of that warehouse.
     Line(u32, u32, u32),
 }
@@ -51,6 +57,9 @@ pub(crate) enum Said {
     Paid(u32, i64),
     /// The order's number, its total in cents, and S_QUANTITY of the last line.
     Ordered(u32, u64, u32),
+    /// The order's number, its customer and the sum in cents.
+    Delivered(u32, u32, u64),
+    Skipped,
     Saved,
     Back,
     RolledBack,
@@ -59,6 +68,10 @@ pub(crate) enum Said {
     Money(u64, u64, i64),
     /// S_QUANTITY.
     InStock(u32),
+    /// That order.
+    Waits(u32),
+    /// C_BALANCE and C_DELIVERY_CNT.
+    Balance(i64, u32),
     There,
     Absent,
     /// By that terminal.
@@ -160,6 +173,31 @@ fn begin_order(terminal: Terminal, customer: &CustomerKey, supply: u32) -> Optio
     }
 }
 
+// A delivery.
+fn delivery(warehouse: u32, district: u32, carrier: u32) -> Option<Request>
+    ensures { IfSome result HasProgram }
+{
+    let district = DistrictKey {
+        warehouse: WarehouseNumber::new(warehouse)?,
+        district: DistrictNumber::new(district)?,
+    };
+    Some(Request::Delivery(DeliveryRequest {
+        district,
+        carrier: Carrier::new(carrier)?,
+        stamp: Stamp::read("2001-01-01T00:00:00")?,
+    }))
+}
+
+// The beginning of a delivery.
+fn begin_delivery(terminal: Terminal, warehouse: u32, district: u32, carrier: u32) -> Option<Step>
+    ensures { IfSome result IsStep }
+{
+    match delivery(warehouse, district, carrier) {
+        Some(request) => Some(Step::Begin(terminal, request)),
+        None => None,
+    }
+}
+
 /// The step of an act.
 pub(crate) fn step_of(act: &Act) -> Option<Step>
     ensures { IfSome result IsStep }
@@ -172,6 +210,9 @@ pub(crate) fn step_of(act: &Act) -> Option<Step>
             let customer = &customer(*warehouse, *district, *number)?;
             begin_order(Terminal::new(*terminal)?, customer, *supply)
         }
+        Act::Deliver(terminal, (warehouse, district), carrier) => {
+            begin_delivery(Terminal::new(*terminal)?, *warehouse, *district, *carrier)
+        }
         Act::Advance(terminal) => Some(Step::Advance(Terminal::new(*terminal)?)),
         Act::Save(terminal) => Some(Step::Save(Terminal::new(*terminal)?)),
         Act::Back(terminal) => Some(Step::Back(Terminal::new(*terminal)?)),
@@ -180,6 +221,7 @@ pub(crate) fn step_of(act: &Act) -> Option<Step>
             Some(Step::Audit(*condition, Moment::new(*moment as u64)?))
         }
         Act::Rows(_, _) | Act::Look(_, _) | Act::Stock(_, _) | Act::Line(_, _, _) => None,
+        Act::Oldest(_, _) | Act::Account(_, _, _) => None,
     }
 }
 
@@ -209,6 +251,10 @@ fn committed(reply: &Reply) -> Said {
     match reply {
         Reply::Payment(payment) => { Said::Paid(payment.customer.get(), payment.balance.cents()) }
         Reply::NewOrder(order) => ordered(order),
+        Reply::Delivery(DistrictDelivery::Skipped) => Said::Skipped,
+        Reply::Delivery(DistrictDelivery::Delivered(order)) => {
+            Said::Delivered(order.order.get(), order.customer.get(), order.sum.cents())
+        }
         _ => Said::Refused,
     }
 }
@@ -247,6 +293,14 @@ fn seen(tables: &Tables, act: &Act) -> Option<Said> {
             Some(Said::Money(warehouse, district, customer))
         }
         Act::Stock(warehouse, item) => Some(Said::InStock(quantity(tables, *warehouse, *item)?)),
+        Act::Oldest(warehouse, district) => match waiting(tables, *warehouse, *district)? {
+            Some(order) => Some(Said::Waits(order)),
+            None => Some(Said::Absent),
+        },
+        Act::Account(warehouse, district, number) => {
+            let (balance, deliveries) = account(tables, *warehouse, *district, *number)?;
+            Some(Said::Balance(balance, deliveries))
+        }
         Act::Line(warehouse, district, number) => {
             if is_filled(tables, *warehouse, *district, *number)? {
                 Some(Said::There)

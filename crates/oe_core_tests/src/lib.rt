@@ -5,6 +5,8 @@
 #[cfg(test)]
 mod acts;
 #[cfg(test)]
+mod deliveries;
+#[cfg(test)]
 mod ends;
 #[cfg(test)]
 mod locks;

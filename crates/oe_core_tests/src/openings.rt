@@ -105,6 +105,30 @@ pub(crate) fn quantity(tables: &Tables, warehouse: u32, item: u32) -> Option<u32
     Some(tables.stock(*key)?.quantity.get())
 }
 
+/// The oldest order of a district that waits, or none.
+pub(crate) fn waiting(tables: &Tables, warehouse: u32, district: u32) -> Option<Option<u32>> {
+    let key = &DistrictKey {
+        warehouse: WarehouseNumber::new(warehouse)?,
+        district: DistrictNumber::new(district)?,
+    };
+    match tables.oldest(key) {
+        Some(order) => Some(Some(order.get())),
+        None => Some(None),
+    }
+}
+
+/// C_BALANCE and C_DELIVERY_CNT of a customer.
+pub(crate) fn account(
+    tables: &Tables,
+    warehouse: u32,
+    district: u32,
+    number: u32,
+) -> Option<(i64, u32)> {
+    let key = &customer(warehouse, district, number)?;
+    let account = &tables.customer(*key)?.account;
+    Some((account.balance.cents(), account.delivery_count.get()))
+}
+
 /// Whether order 11 of a district has that line.
 pub(crate) fn is_filled(tables: &Tables, warehouse: u32, district: u32, line: u32) -> Option<bool> {
     let key = &OrderLineKey {

@@ -98,7 +98,7 @@ const ORDER: [(Act, Said); 18] = [
 ];
 
 /// Carries out the acts, each of them once more where memory was refused.
-fn persist(rt: &impl Abort, core: &mut Core, acts: &[(Act, Said)]) {
+pub(crate) fn persist(rt: &impl Abort, core: &mut Core, acts: &[(Act, Said)]) {
     for (act, wanted) in acts {
         let mut said = told(core, act);
         if said == Some(Said::NoMemory) {
