@@ -1,6 +1,4 @@
 //! Engines, transactions and payments to test with.
-ghost use Rattle.std.specs.Prelude.{IfSome};
-ghost use Rattle.oe_payment.specs.Program.{IsByNumber};
 
 use oe_engine::{Engine, Tx};
 use oe_keys::{DistrictKey, WarehouseKey};
@@ -47,9 +45,7 @@ pub(crate) fn engine(rt: &impl Abort, alloc: Global, name: u32) -> Engine {
 }
 
 /// A payment of 250.00 in district 1 by a customer of it.
-pub(crate) fn payment(customer: u32) -> Option<PaymentRequest>
-    ensures { IfSome result (λ p. IsByNumber p.customer) }
-{
+pub(crate) fn payment(customer: u32) -> Option<PaymentRequest> {
     let district = district()?;
     Some(PaymentRequest {
         district,

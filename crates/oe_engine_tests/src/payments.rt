@@ -1,5 +1,4 @@
 //! A payment of 250.00 on the population, a row at a time.
-ghost use Rattle.oe_payment.specs.Program.{IsByNumber};
 
 use crate::fixtures::{begin, commit, district, engine, payment};
 use oe_engine::{Engine, Progress, Tx};
@@ -28,9 +27,7 @@ fn more(
     engine: &mut Engine,
     program: &mut Program,
     tx: &Tx,
-)
-    requires { IsByNumber request.now.customer }
-{
+) {
     let is_done = matches!(program.next(request, engine, tx), Progress::More);
     assert!(rt; is_done);
 }
@@ -42,9 +39,7 @@ fn make(
     engine: &mut Engine,
     program: &mut Program,
     tx: &Tx,
-)
-    requires { IsByNumber request.now.customer }
-{
+) {
     more(rt, request, engine, program, tx);
     more(rt, request, engine, program, tx);
     more(rt, request, engine, program, tx);
@@ -52,9 +47,7 @@ fn make(
 }
 
 /// A payment by a customer.
-fn request(rt: &impl Abort, customer: u32) -> PaymentRequest
-    ensures { IsByNumber result.customer }
-{
+fn request(rt: &impl Abort, customer: u32) -> PaymentRequest {
     match payment(customer) {
         Some(request) => request,
         None => panic!(rt; "no payment"),

@@ -13,7 +13,6 @@ use Rattle.oe_rows.specs.declared.customers.Account.{Account}
 use Rattle.oe_rows.specs.declared.customers.Credit.TheVariants.{Good, Bad}
 use Rattle.oe_rows.specs.declared.customers.Customer.{Customer}
 use Rattle.oe_rows.specs.declared.histories.History.{History}
-use Rattle.oe_requests.specs.declared.requests.CustomerChoice.TheVariants.{Number}
 use Rattle.oe_requests.specs.declared.requests.PaymentRequest.{PaymentRequest}
 use Rattle.oe_requests.specs.declared.requests.Request.TheVariants as request
 use Rattle.oe_requests.specs.declared.replies.PaymentReply.{PaymentReply}
@@ -31,6 +30,8 @@ use Rattle.oe_formulas.specs.Checks.{checked, paid_with}
 use Rattle.oe_engine.specs.View.{Stored, view_of, Handle}
 use Rattle.oe_engine.specs.Programs.{ask_here, act_here}
 use Rattle.oe_payment.specs.Deeds.{IsDeed}
+use Rattle.oe_payment.specs.Choice.{meant}
+use Rattle.oe_payment.proofs.ChoiceFacts.{IsChosen, nobody, absent}
 
 -- a row whose columns are in their ranges goes on with the row after it, and another fails
 module _ {A : Type 0} (out : A → Option Column) (x : A) (d : A → Doing) where
@@ -104,7 +105,7 @@ module _ (q : PaymentRequest) (x : Handle) (s : Stored) where
     }
 
   -- CUSTOMER
-  module _ (n : ℕ) (by : q.customer ≡ Number n) (w d : List ℕ) where
+  module _ (w d : List ℕ) where
     abbrev lock_of : Option ℕ → Ask Name Refusal
     lock_of o = elim o [ None ↦ Stop NoCustomer | Some c ↦ Take (name.Customer (customer_in q.customer_district c)) Exclusive ]
 
@@ -117,20 +118,22 @@ module _ (q : PaymentRequest) (x : Handle) (s : Stored) where
     abbrev do_chosen : ℕ → Doing
     do_chosen c = given NoCustomer (get (view_of s).rows.customers (customer_in q.customer_district c)) (do_customer c)
 
-    is_chosen : (o : Option Customer) → get (view_of s).rows.customers (customer_in q.customer_district n) ≡ o
-        → chosen q.customer_district q.customer (view_of s).rows.customers ≡ option_map (λ z. n) o
-    is_chosen o e = subst (λ z. chosen q.customer_district z (view_of s).rows.customers ≡ option_map (λ y. n) o) (sym by) (ap (option_map (λ z. n)) e)
+    customer_stops : chosen q.customer_district q.customer (view_of s).rows.customers ≡ None → ask_here s x (request.Payment q) (InPayment q (PaymentCustomer w d)) ≡ Stop NoCustomer
+    customer_stops e = ap lock_of e
 
-    pub customer_stops : get (view_of s).rows.customers (customer_in q.customer_district n) ≡ None
-        → ask_here s x (request.Payment q) (InPayment q (PaymentCustomer w d)) ≡ Stop NoCustomer
-    customer_stops e = ap lock_of (is_chosen None e)
+    pub nobody_stops : meant q.customer_district q.customer (view_of s).rows.customers ≡ None → ask_here s x (request.Payment q) (InPayment q (PaymentCustomer w d)) ≡ Stop NoCustomer
+    nobody_stops e = customer_stops (nobody q (view_of s).rows.customers e)
 
-    module _ (z : Customer) (e : get (view_of s).rows.customers (customer_in q.customer_district n) ≡ Some z) where
+    pub absent_stops : (n : ℕ) → meant q.customer_district q.customer (view_of s).rows.customers ≡ Some n
+        → get (view_of s).rows.customers (customer_in q.customer_district n) ≡ None → ask_here s x (request.Payment q) (InPayment q (PaymentCustomer w d)) ≡ Stop NoCustomer
+    absent_stops n e row = customer_stops (absent q (view_of s).rows.customers n e row)
+
+    module _ (n : ℕ) (z : Customer) (h : IsChosen q (view_of s).rows.customers n z) where
       pub customer_asks : ask_here s x (request.Payment q) (InPayment q (PaymentCustomer w d)) ≡ Take (name.Customer (customer_in q.customer_district n)) Exclusive
-      customer_asks = ap lock_of (is_chosen (Some z) e)
+      customer_asks = ap lock_of h.number
 
       does_customer : act_here s x (request.Payment q) (InPayment q (PaymentCustomer w d)) ≡ do_customer n z
-      does_customer = ap (λ o. given NoCustomer o do_chosen) (is_chosen (Some z) e) ∙ ap (λ o. given NoCustomer o (do_customer n)) e
+      does_customer = ap (λ o. given NoCustomer o do_chosen) h.number ∙ ap (λ o. given NoCustomer o (do_customer n)) h.row
 
       pub customer_fails : (c : Column) → Err c ≡ checked paid_customer_out (paid_customer n q z)
           → act_here s x (request.Payment q) (InPayment q (PaymentCustomer w d)) ≡ Fail (Overflow c)
@@ -146,7 +149,7 @@ module _ (q : PaymentRequest) (x : Handle) (s : Stored) where
         good_deed good = record {
           asks = customer_asks;
           does = goes_customer;
-          written = ap (option_map (λ y. UpdateCustomer (customer_in q.customer_district n) (record y { account = a }))) e ∙ ap (λ y. Some (UpdateCustomer (customer_in q.customer_district n) y)) (good_data good);
+          written = ap (option_map (λ y. UpdateCustomer (customer_in q.customer_district n) (record y { account = a }))) h.row ∙ ap (λ y. Some (UpdateCustomer (customer_in q.customer_district n) y)) (good_data good);
         }
           where
             good_data : z.credit ≡ Good → record z { account = a } ≡ paid_with n q z a
@@ -159,7 +162,7 @@ module _ (q : PaymentRequest) (x : Handle) (s : Stored) where
         bad_deed entry bad is = record {
           asks = customer_asks;
           does = goes_customer;
-          written = ap (option_map (λ y. UpdateCustomer (customer_in q.customer_district n) (with_entry a entry y))) e ∙ ap (λ y. Some (UpdateCustomer (customer_in q.customer_district n) y)) (bad_data bad is);
+          written = ap (option_map (λ y. UpdateCustomer (customer_in q.customer_district n) (with_entry a entry y))) h.row ∙ ap (λ y. Some (UpdateCustomer (customer_in q.customer_district n) y)) (bad_data bad is);
         }
           where
             bad_data : z.credit ≡ Bad → entry ≡ credit_entry (record { customer = customer_in q.customer_district n; district = q.district }) q.amount

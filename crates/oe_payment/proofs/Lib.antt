@@ -1,2 +1,3 @@
+pub mod ChoiceFacts
 pub mod StepFacts
 pub mod DeedFacts

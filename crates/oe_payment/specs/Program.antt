@@ -1,6 +1,4 @@
 -- What a payment's program stands for.
-use Rattle.oe_requests.specs.declared.requests.CustomerChoice.{CustomerChoice}
-use Rattle.oe_requests.specs.declared.requests.CustomerChoice.TheVariants.{Number, LastName}
 use Rattle.oe_model.specs.Places.{PaymentPlace, PaymentWarehouse, PaymentDistrict, PaymentCustomer, PaymentHistory, PaymentEnd}
 use Rattle.oe_payment.specs.declared.places.Place.{Place}
 use Rattle.oe_payment.specs.declared.places.Place.TheVariants as place
@@ -12,8 +10,3 @@ place_in (place.District w) = PaymentDistrict w
 place_in (place.Customer w d) = PaymentCustomer w d
 place_in (place.History d y) = PaymentHistory d y
 place_in (place.End y) = PaymentEnd y
-
--- the customer is given by number; one by last name has no program yet
-abbrev pub IsByNumber : CustomerChoice → Type 0
-IsByNumber (Number c) = Unit {0}
-IsByNumber (LastName last) = ⊥

@@ -10,9 +10,10 @@ ghost use Rattle.oe_engine.specs.View.{view_of, IsOpen};
 ghost use Rattle.oe_engine.specs.Covered.{IsOwn};
 ghost use Rattle.oe_engine.specs.Writes.{WriteHoldsOrder};
 ghost use Rattle.oe_engine.specs.Programs.{ask_here, act_here, payment_reply};
-ghost use Rattle.oe_payment.specs.Program.{place_in, IsByNumber};
+ghost use Rattle.oe_payment.specs.Program.{place_in};
 ghost use Rattle.oe_payment.specs.Deeds.{is_failure, IsRefusedHere, Does, IsDeed};
 
+use crate::choices::number_meant;
 use crate::places::Place;
 use oe_engine::{Engine, Lock, Tx};
 use oe_formulas::payments::{
@@ -21,9 +22,9 @@ use oe_formulas::payments::{
 };
 use oe_keys::{Key, Mode, Name};
 use oe_records::Write;
-use oe_requests::{CustomerChoice, PaymentReply, PaymentRequest, Refusal};
+use oe_requests::{PaymentReply, PaymentRequest, Refusal};
 use oe_rows::Credit;
-use oe_values::{CustomerNumber, Text};
+use oe_values::Text;
 
 // Why a row fails: for its own reason, or since another holds the name that it asks for.
 #[inline(never)]
@@ -104,19 +105,8 @@ fn pay_district(
     go(engine, tx, &Write::DistrictYtd(*key, ytd), place)
 }
 
-// The number of the customer that is meant.
-fn number_of(choice: &CustomerChoice) -> CustomerNumber
-    requires { IsByNumber choice.now }
-    ensures { choice.now ≡ CustomerChoice.Number result }
-{
-    match choice {
-        CustomerChoice::Number(number) => *number,
-        CustomerChoice::LastName(_) => unreachable!(),
-    }
-}
-
 // C_BALANCE falls and C_YTD_PAYMENT rises by the amount, C_PAYMENT_CNT rises by 1, and a bad credit's C_DATA begins with the
-// payment.
+// payment. The customer is chosen before its name is taken, so that `NoCustomer` comes before `Busy`.
 #[inline(never)]
 fn pay_customer(
     request: &PaymentRequest,
@@ -125,13 +115,16 @@ fn pay_customer(
     engine: &mut Engine,
     tx: &Tx,
 ) -> Result<Place, Refusal>
-    requires open { IsOpen engine.old tx.now }
-    requires customer { IsByNumber request.now.customer }
+    requires { IsOpen engine.old tx.now }
     ensures { Does request.now tx.now engine.old (PaymentCustomer warehouse.now district.now) result engine.new }
 {
-    let number = number_of(&request.customer);
-    let key = &request.customer_district.customer(number);
-    let Some(row) = engine.tables().customer(*key) else {
+    let stored = engine.tables();
+    let district_key = &request.customer_district;
+    let Some(number) = number_meant(district_key, &request.customer, stored) else {
+        return Err(Refusal::NoCustomer);
+    };
+    let key = &district_key.customer(number);
+    let Some(row) = stored.customer(*key) else {
         return Err(Refusal::NoCustomer);
     };
     let account = match account_after(row, request) {
@@ -179,7 +172,6 @@ pub fn carry_out(
     tx: &Tx,
 ) -> Result<Place, Refusal>
     requires open { IsOpen engine.old tx.now }
-    requires customer { IsByNumber request.now.customer }
     requires underway { payment_reply (place_in place.now) ≡ None }
     ensures { Does request.now tx.now engine.old (place_in place.now) result engine.new }
 {

@@ -5,7 +5,6 @@ ghost use Rattle.oe_requests.specs.declared.requests.Request.{Request};
 ghost use Rattle.oe_requests.specs.declared.replies.Reply.{Reply};
 ghost use Rattle.oe_model.specs.Places.{InPayment, PaymentWarehouse};
 ghost use Rattle.oe_engine.specs.Programs.{Progresses, payment_reply};
-ghost use Rattle.oe_payment.specs.Program.{IsByNumber};
 
 use crate::deeds::carry_out;
 use crate::places::Place;
@@ -13,7 +12,7 @@ use oe_engine::{Engine, Progress, Tx};
 use oe_requests::{PaymentReply, PaymentRequest, Refusal};
 use std::marker::Model;
 
-/// Where a payment by customer number stands: the row that it comes to next, with what the rows before have read. Its request lies
+/// Where a payment stands: the row that it comes to next, with what the rows before have read. Its request lies
 /// with whoever carries it out. It is of fixed size.
 #[derive(Drop, Debug)]
 pub struct Program {
@@ -62,7 +61,6 @@ impl Program {
     /// `NoMemory` where memory was refused. A refused row leaves the program, the tables and the locks as they were. Each row of a
     /// payment is told the same request.
     pub fn next(&mut self, request: &PaymentRequest, engine: &mut Engine, tx: &Tx) -> Progress
-        requires { IsByNumber request.now.customer }
         ensures { Progresses (Request.Payment request.now) tx.now engine.old (InPayment request.now self.old) result engine.new (InPayment request.now self.new) }
     {
         if !engine.is_open(tx) {

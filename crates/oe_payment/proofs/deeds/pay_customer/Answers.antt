@@ -1,4 +1,4 @@
-use Rattle.std.proofs.Common.{◌≡◌, Some, refl, sym, ap, ◌∙◌}
+use Rattle.std.proofs.Common.{◌≡◌, None, Some, inl, refl, sym, ap, ◌∙◌}
 use Rattle.std.specs.FinMap.{get}
 use Rattle.oe_model.specs.Keys.{customer_in}
 use Rattle.oe_model.specs.Changes.{UpdateCustomer}
@@ -6,19 +6,38 @@ use Rattle.oe_model.specs.Places.{PaymentCustomer}
 use Rattle.oe_store.specs.Stored.{rows}
 use Rattle.oe_formulas.specs.Checks.{paid_with}
 use Rattle.oe_engine.specs.View.{view_of}
-use Rattle.oe_payment.proofs.DeedFacts.{customer_asks, customer_fails, good_deed, bad_deed}
+use Rattle.oe_payment.specs.Choice.{meant}
+use Rattle.oe_payment.proofs.ChoiceFacts.{IsChosen, found}
+use Rattle.oe_payment.proofs.DeedFacts.{absent_stops, customer_asks, customer_fails, good_deed, bad_deed}
 use Rattle.oe_payment.proofs.deeds.pay_customer.Goals as goal
+
+-- the number that is given has no row
+pub returns-in_default-customer : goal.returns-in_default-customer
+returns-in_default-customer c =
+    let q = c.args.request.now in
+    let s = c.args.engine.now in
+    let n = c.in-Some.number in
+    let k = customer_in q.customer_district n in
+    let number : meant q.customer_district q.customer (view_of s).rows.customers ≡ Some n =
+    ap (λ r. meant q.customer_district q.customer r.customers) (sym c.tables-stored.ensures) ∙ sym c.in-Some.ensures in
+    let none : get (view_of s).rows.customers k ≡ None =
+    ap (λ r. get r.customers k) (sym c.tables-stored.ensures) ∙ (ap (λ j. get (rows c.tables-stored.result.now).customers j) (sym c.customer.ensures) ∙ sym c.in_default-customer.ensures) in
+    ((c.requires, inl (absent_stops q c.args.tx.now s c.args.warehouse.now c.args.district.now n number none)), refl, refl)
 
 pub returns-in-Err : goal.returns-in-Err
 returns-in-Err c =
     let q = c.args.request.now in
-    let n = c.number_of-number.result in
+    let s = c.args.engine.now in
+    let n = c.in-Some.number in
     let k = customer_in q.customer_district n in
-    let found : get (view_of c.args.engine.now).rows.customers k ≡ Some c.in-Some.row.now =
-    ap (λ r. get r.customers k) (sym c.tables.ensures) ∙ (ap (λ j. get (rows c.tables.result.now).customers j) (sym c.customer.ensures) ∙ sym c.in-Some.ensures) in (
+    let number : meant q.customer_district q.customer (view_of s).rows.customers ≡ Some n =
+    ap (λ r. meant q.customer_district q.customer r.customers) (sym c.tables-stored.ensures) ∙ sym c.in-Some.ensures in
+    let row : get (view_of s).rows.customers k ≡ Some c.in-Some-customer.row.now =
+    ap (λ r. get r.customers k) (sym c.tables-stored.ensures) ∙ (ap (λ j. get (rows c.tables-stored.result.now).customers j) (sym c.customer.ensures) ∙ sym c.in-Some-customer.ensures) in
+    let own : IsChosen q (view_of s).rows.customers n c.in-Some-customer.row.now = found q (view_of s).rows.customers n c.in-Some-customer.row.now number row in (
       c.failure.ensures q (PaymentCustomer c.args.warehouse.now c.args.district.now)
-          (rw c.customer.ensures (customer_asks q c.args.tx.now c.args.engine.now n c.number_of-number.ensures c.args.warehouse.now c.args.district.now c.in-Some.row.now found))
-          (customer_fails q c.args.tx.now c.args.engine.now n c.number_of-number.ensures c.args.warehouse.now c.args.district.now c.in-Some.row.now found c.in-Err.column (c.in-Err.ensures n)),
+          (rw c.customer.ensures (customer_asks q c.args.tx.now s c.args.warehouse.now c.args.district.now n c.in-Some-customer.row.now own))
+          (customer_fails q c.args.tx.now s c.args.warehouse.now c.args.district.now n c.in-Some-customer.row.now own c.in-Err.column (c.in-Err.ensures n)),
       refl,
       refl,
     )
@@ -26,22 +45,30 @@ returns-in-Err c =
 pub returns-in-Good : goal.returns-in-Good
 returns-in-Good c =
     let q = c.args.request.now in
-    let n = c.number_of-number.result in
+    let s = c.args.engine.now in
+    let n = c.in-Some.number in
     let k = customer_in q.customer_district n in
-    let found : get (view_of c.args.engine.now).rows.customers k ≡ Some c.in-Some.row.now =
-    ap (λ r. get r.customers k) (sym c.tables.ensures) ∙ (ap (λ j. get (rows c.tables.result.now).customers j) (sym c.customer.ensures) ∙ sym c.in-Some.ensures) in
-    c.go.ensures q (PaymentCustomer c.args.warehouse.now c.args.district.now) (UpdateCustomer k (paid_with n q c.in-Some.row.now c.in-Ok.account))
+    let number : meant q.customer_district q.customer (view_of s).rows.customers ≡ Some n =
+    ap (λ r. meant q.customer_district q.customer r.customers) (sym c.tables-stored.ensures) ∙ sym c.in-Some.ensures in
+    let row : get (view_of s).rows.customers k ≡ Some c.in-Some-customer.row.now =
+    ap (λ r. get r.customers k) (sym c.tables-stored.ensures) ∙ (ap (λ j. get (rows c.tables-stored.result.now).customers j) (sym c.customer.ensures) ∙ sym c.in-Some-customer.ensures) in
+    let own : IsChosen q (view_of s).rows.customers n c.in-Some-customer.row.now = found q (view_of s).rows.customers n c.in-Some-customer.row.now number row in
+    c.go.ensures q (PaymentCustomer c.args.warehouse.now c.args.district.now) (UpdateCustomer k (paid_with n q c.in-Some-customer.row.now c.in-Ok.account))
     (rw (c.customer.ensures, c.history_data.ensures, c.reply_with_account-reply.ensures)
-    (good_deed q c.args.tx.now c.args.engine.now n c.number_of-number.ensures c.args.warehouse.now c.args.district.now c.in-Some.row.now found c.in-Ok.account (c.in-Ok.ensures n) c.in-Good.is))
+    (good_deed q c.args.tx.now s c.args.warehouse.now c.args.district.now n c.in-Some-customer.row.now own c.in-Ok.account (c.in-Ok.ensures n) c.in-Good.is))
 
 pub returns-in-Bad : goal.returns-in-Bad
 returns-in-Bad c =
     let q = c.args.request.now in
-    let n = c.number_of-number.result in
+    let s = c.args.engine.now in
+    let n = c.in-Some.number in
     let k = customer_in q.customer_district n in
-    let found : get (view_of c.args.engine.now).rows.customers k ≡ Some c.in-Some.row.now =
-    ap (λ r. get r.customers k) (sym c.tables.ensures) ∙ (ap (λ j. get (rows c.tables.result.now).customers j) (sym c.customer.ensures) ∙ sym c.in-Some.ensures) in
-    c.go-in-Bad.ensures q (PaymentCustomer c.args.warehouse.now c.args.district.now) (UpdateCustomer k (paid_with n q c.in-Some.row.now c.in-Ok.account))
+    let number : meant q.customer_district q.customer (view_of s).rows.customers ≡ Some n =
+    ap (λ r. meant q.customer_district q.customer r.customers) (sym c.tables-stored.ensures) ∙ sym c.in-Some.ensures in
+    let row : get (view_of s).rows.customers k ≡ Some c.in-Some-customer.row.now =
+    ap (λ r. get r.customers k) (sym c.tables-stored.ensures) ∙ (ap (λ j. get (rows c.tables-stored.result.now).customers j) (sym c.customer.ensures) ∙ sym c.in-Some-customer.ensures) in
+    let own : IsChosen q (view_of s).rows.customers n c.in-Some-customer.row.now = found q (view_of s).rows.customers n c.in-Some-customer.row.now number row in
+    c.go-in-Bad.ensures q (PaymentCustomer c.args.warehouse.now c.args.district.now) (UpdateCustomer k (paid_with n q c.in-Some-customer.row.now c.in-Ok.account))
     (rw (c.customer.ensures, c.history_data.ensures, c.reply_with_account-reply.ensures)
-    (bad_deed q c.args.tx.now c.args.engine.now n c.number_of-number.ensures c.args.warehouse.now c.args.district.now c.in-Some.row.now found c.in-Ok.account (c.in-Ok.ensures n)
+    (bad_deed q c.args.tx.now s c.args.warehouse.now c.args.district.now n c.in-Some-customer.row.now own c.in-Ok.account (c.in-Ok.ensures n)
     c.bad_credit_entry-entry.result c.in-Bad.is c.bad_credit_entry-entry.ensures))
