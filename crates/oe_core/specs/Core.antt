@@ -19,7 +19,6 @@ use Rattle.oe_engine.specs.Programs.{tx_of, reply_at}
 use Rattle.oe_delivery.specs.Program as delivery
 use Rattle.oe_neworder.specs.Program as neworder
 use Rattle.oe_engine.specs.Deeds.{HoldsAll}
-use Rattle.oe_core.specs.Steps.{IsNumber}
 use Rattle.oe_core.specs.declared.programs.Program.{Program}
 use Rattle.oe_core.specs.declared.programs.Program.TheVariants as program
 use Rattle.oe_core.specs.declared.slots.Work.{Work}
@@ -32,7 +31,7 @@ pub record Stored : Type 0 where
 
 -- the program is one of this request
 abbrev pub IsOf : Request → Program → Type 0
-IsOf (request.Payment q) (program.Payment p) = IsNumber q.customer
+IsOf (request.Payment q) (program.Payment p) = Unit {0}
 IsOf (request.Payment q) _ = ⊥
 IsOf (request.NewOrder q) (program.NewOrder p) = Unit {0}
 IsOf (request.NewOrder q) _ = ⊥

@@ -4,8 +4,6 @@ use Rattle.oe_theory.specs.World.{Commit, World, newest, tables}
 use Rattle.oe_theory.specs.Next as theory
 use Rattle.oe_theory.specs.Next.{Next, IsQuiet, count_open}
 use Rattle.oe_theory.specs.Theorems.{IsReached}
-use Rattle.oe_requests.specs.declared.requests.CustomerChoice.{CustomerChoice}
-use Rattle.oe_requests.specs.declared.requests.CustomerChoice.TheVariants as choice
 use Rattle.oe_requests.specs.declared.requests.Request.{Request}
 use Rattle.oe_requests.specs.declared.requests.Request.TheVariants as request
 use Rattle.oe_requests.specs.declared.refusals.Refusal.{Refusal}
@@ -100,13 +98,9 @@ Advances w t advanced.More w' = Carries w (step.Advance t) answer.More w'
 Advances w t (advanced.Committed m) w' = (y : Reply) × (newest_reply w' ≡ Some y) × Carries w (step.Advance t) (answer.Committed m y) w'
 Advances w t (advanced.Refused e) w' = Carries w (step.Advance t) (answer.Refused e) w'
 
--- the requests that have a program today, in their ranges: payments by customer number, orders, and deliveries of one district
-abbrev pub IsNumber : CustomerChoice → Type 0
-IsNumber (choice.Number c) = Unit {0}
-IsNumber (choice.LastName last) = ⊥
-
+-- the requests that have a program today, in their ranges: payments, orders, and deliveries of one district
 abbrev pub HasProgram : Request → Type 0
-HasProgram (request.Payment q) = IsRequest (request.Payment q) × IsNumber q.customer
+HasProgram (request.Payment q) = IsRequest (request.Payment q)
 HasProgram (request.NewOrder q) = IsRequest (request.NewOrder q)
 HasProgram (request.Delivery q) = IsRequest (request.Delivery q)
 HasProgram q = ⊥
