@@ -329,7 +329,7 @@ taken_here {s} {t} {x} o h e =
 
 -- begin
 pub valid : (q : Request) → HasProgram q → IsRequest q
-valid (request.Payment q) h = h.0
+valid (request.Payment q) h = h
 valid (request.NewOrder q) h = h
 valid (request.Delivery q) h = h
 valid (request.Deliveries q) h = absurd h
