@@ -7,8 +7,6 @@ use Rattle.oe_theory.specs.Theorems.{opened}
 use Rattle.oe_theory.proofs.Theorems.{opening_is_reached}
 use Rattle.oe_keys.specs.declared.keys.Table.{Table}
 use Rattle.oe_requests.specs.declared.refusals.Refusal.TheVariants as refusal
-use Rattle.oe_requests.specs.declared.requests.CustomerChoice.{CustomerChoice}
-use Rattle.oe_requests.specs.declared.requests.CustomerChoice.TheVariants as choice
 use Rattle.oe_requests.specs.declared.requests.Request.{Request}
 use Rattle.oe_requests.specs.declared.requests.Request.TheVariants as request
 use Rattle.oe_steps.specs.declared.answers.Answer.{Answer}
@@ -29,7 +27,7 @@ use Rattle.oe_model.specs.Population.{IsScale, IsPopulated}
 use Rattle.oe_model.specs.System.{system}
 use Rattle.oe_model.proofs.PopulationFacts.{population_is_one}
 use Rattle.oe_model.proofs.SystemLaws.{laws, population_is_good}
-use Rattle.oe_core.specs.Steps.{step_in, answer_in, Serves, Advances, HasProgram, IsNumber, IsStep}
+use Rattle.oe_core.specs.Steps.{step_in, answer_in, Serves, Advances, HasProgram, IsStep}
 use Rattle.oe_core.specs.declared.advances.Advanced.{Advanced}
 use Rattle.oe_core.specs.declared.advances.Advanced.TheVariants as advanced
 use Rattle.oe_script.specs.Dump.{dump_text}
@@ -43,20 +41,16 @@ use Rattle.oe_script.proofs.AnswerFacts.{IsTold, told_advance, told_save, told_b
 
 -- THE FORMS OF LINES
 
-by_number : (c : CustomerChoice) → grammar.IsNumbered c → IsNumber c
-by_number (choice.Number n) h = h
-by_number (choice.LastName last) h = absurd h
-
 -- a request that a line spells has a program
 pub has_program : (q : Request) → grammar.IsRequest q → HasProgram q
-has_program (request.Payment q) h = (h.0, by_number q.customer h.1)
+has_program (request.Payment q) h = h
 has_program (request.NewOrder q) h = h
 has_program (request.Delivery q) h = h
 has_program (request.Deliveries q) h = absurd h
 has_program (request.Rename q) h = absurd h
 
 is_request : (q : Request) → HasProgram q → model.IsRequest q
-is_request (request.Payment q) h = h.0
+is_request (request.Payment q) h = h
 is_request (request.NewOrder q) h = h
 is_request (request.Delivery q) h = h
 is_request (request.Deliveries q) h = absurd h

@@ -38,9 +38,10 @@ to 64. What stands behind the colon is the answer:
                      C customers in each district (1 to 3000), I items (1 to 100000) and
                      E undo extents (2 to 4096): opened
   begin T payment WAREHOUSE DISTRICT CUSTOMER_WAREHOUSE CUSTOMER_DISTRICT CUSTOMER AMOUNT STAMP
-                     terminal T begins a payment by customer number: warehouses are 1 to
-                     16, districts 1 to 10, customers 1 to 3000, amounts 1.00 to 5000.00,
-                     stamps YYYY-MM-DDTHH:MM:SS of the years 1900 to 2100: begun
+                     terminal T begins a payment: warehouses are 1 to 16, districts 1 to
+                     10, customers 1 to 3000 or a last name of 1 to 16 letters A to Z,
+                     amounts 1.00 to 5000.00, stamps YYYY-MM-DDTHH:MM:SS of the years 1900
+                     to 2100: begun
   begin T neworder WAREHOUSE DISTRICT CUSTOMER STAMP SUPPLY_WAREHOUSE:ITEM:QUANTITY ..
                      terminal T begins an order of 5 to 15 items: items are 1 to 999999,
                      and valid up to I, quantities 1 to 10: begun
