@@ -1,8 +1,8 @@
 -- A run of steps one after another, and what follows of it.
-use Rattle.std.specs.Prelude.{◌≡◌, ℕ, Bool, true, false, cond, List, [], ◌∷◌, ◌++◌, length}
+use Rattle.std.specs.Prelude.{◌≡◌, ℕ, true, map, List, [], ◌∷◌, ◌++◌, length}
 use Rattle.oe_theory.specs.World.{World, at, tables, IsSerial}
 use Rattle.oe_theory.specs.Next as theory
-use Rattle.oe_theory.specs.Next.{IsQuiet, Begin, Begun, Runs, events, steps_of, answers_of}
+use Rattle.oe_theory.specs.Next.{Next, IsQuiet, Begin, Begun, Runs, events, steps_of, answers_of}
 use Rattle.oe_theory.specs.Erase.{is_rolled_back, without}
 use Rattle.oe_theory.specs.Theorems.{IsReached}
 use Rattle.oe_theory.specs.StepTheorems.{IsEnding}
@@ -11,31 +11,23 @@ use Rattle.oe_steps.specs.declared.steps.Step.{Step}
 use Rattle.oe_steps.specs.declared.answers.Answer.{Answer}
 use Rattle.oe_model.specs.Headline.{Conditions, Is_consistent}
 use Rattle.oe_model.specs.System.{system}
-use Rattle.oe_core.specs.Steps.{step_in, answer_in, Serves}
+use Rattle.oe_core.specs.Steps.{step_in, answer_in}
 
 -- these steps, one after another, were answered so, and left the last world
 abbrev pub Served : World system → List Step → List Answer → World system → Type 0
 Served w [] [] w' = w ≡ w'
-Served w (i ∷ is) (a ∷ ys) w' = (v : World system) × Serves w (step_in i) (answer_in i a) v × Served v is ys w'
+Served w (i ∷ is) (a ∷ ys) w' = (v : World system) × Next system w (step_in i) (answer_in i a) v × Served v is ys w'
 Served w [] (a ∷ ys) w' = ⊥
 Served w (i ∷ is) [] w' = ⊥
 
--- an answer of an audit that today's rule refuses, which changes nothing
-abbrev pub is_refused_audit : theory.Step system → theory.Answer system → Bool
-is_refused_audit (theory.Audit m c) (theory.Audited v) = false
-is_refused_audit (theory.Audit m c) a = true
-is_refused_audit i a = false
+-- the steps, and their answers, in the words of the theory
+abbrev pub steps_in : List Step → List (theory.Step system)
+steps_in is = map step_in is
 
--- the steps without the audits that were refused, and their answers
-abbrev pub steps_but : List Step → List Answer → List (theory.Step system)
-steps_but (i ∷ is) (a ∷ ys) = cond (is_refused_audit (step_in i) (answer_in i a)) (steps_but is ys) (step_in i ∷ steps_but is ys)
-steps_but [] ys = []
-steps_but (i ∷ is) [] = []
-
-abbrev pub answers_but : List Step → List Answer → List (theory.Answer system)
-answers_but (i ∷ is) (a ∷ ys) = cond (is_refused_audit (step_in i) (answer_in i a)) (answers_but is ys) (answer_in i a ∷ answers_but is ys)
-answers_but [] ys = []
-answers_but (i ∷ is) [] = []
+abbrev pub answers_in : List Step → List Answer → List (theory.Answer system)
+answers_in (i ∷ is) (a ∷ ys) = answer_in i a ∷ answers_in is ys
+answers_in [] ys = []
+answers_in (i ∷ is) [] = []
 
 -- In each world that is passed conditions 1 to 4 (clauses 3.3.2.1 to 3.3.2.4) hold of the version of each moment, and of the tables
 -- when none is open. A row that ends its transaction commits its whole effect on the newest version and makes the next moment, or
@@ -44,19 +36,19 @@ abbrev pub AreWhole : World system → List Step → List Answer → World syste
 AreWhole w [] [] w' = Is_consistent w × (w ≡ w')
 AreWhole w (i ∷ is) (a ∷ ys) w' =
     Is_consistent w
-    × ((v : World system) × Serves w (step_in i) (answer_in i a) v × IsEnding system w (answer_in i a) (step_in i) v × AreWhole v is ys w')
+    × ((v : World system) × Next system w (step_in i) (answer_in i a) v × IsEnding system w (answer_in i a) (step_in i) v × AreWhole v is ys w')
 AreWhole w [] (a ∷ ys) w' = ⊥
 AreWhole w (i ∷ is) [] w' = ⊥
 
--- What follows of a run from a world that steps led to. Without the audits that were refused it is a run of the machine; each of its
--- transactions ends whole, and conditions 1 to 4 hold all the way; and a transaction that is rolled back in it leaves no trace
+-- What follows of a run from a world that steps led to. It is a run of the machine; each of its transactions ends whole, and
+-- conditions 1 to 4 hold all the way; and a transaction that is rolled back in it leaves no trace
 pub record Ran (w : World system) (is : List Step) (ys : List Answer) (w' : World system) : Type 0 where
-  pub runs : Runs system w (steps_but is ys) (answers_but is ys) w'
+  pub runs : Runs system w (steps_in is) (answers_in is ys) w'
   pub reached : IsReached system w'
   pub whole : AreWhole w is ys w'
   pub no_trace : (before after : List (theory.Step system)) (said later : List (theory.Answer system)) (t : ℕ) (q : Request)
       → length before ≡ length said
-      → steps_but is ys ≡ before ++ Begin t q ∷ after → answers_but is ys ≡ said ++ Begun ∷ later
+      → steps_in is ≡ before ++ Begin t q ∷ after → answers_in is ys ≡ said ++ Begun ∷ later
       → is_rolled_back system t (events system after later) ≡ true
       → Runs system w (steps_of system (without system (events system before said) t (events system after later))) (answers_of system (without system (events system before said) t (events system after later))) w'
   -- the commits are those of transactions run one at a time

@@ -1,8 +1,8 @@
 -- Steps and answers as those of the theory of transactions, and what a step may be answered.
-use Rattle.std.specs.Prelude.{◌≡◌, ◌≢◌, ℕ, ◌<◌, List, [], ◌∷◌, Option, None, Some, Result, Ok, Err}
-use Rattle.oe_theory.specs.World.{Commit, World, newest, tables}
+use Rattle.std.specs.Prelude.{◌≡◌, ℕ, List, [], ◌∷◌, Option, None, Some, Result, Ok, Err}
+use Rattle.oe_theory.specs.World.{Commit, World}
 use Rattle.oe_theory.specs.Next as theory
-use Rattle.oe_theory.specs.Next.{Next, IsQuiet, count_open}
+use Rattle.oe_theory.specs.Next.{Next}
 use Rattle.oe_theory.specs.Theorems.{IsReached}
 use Rattle.oe_requests.specs.declared.requests.Request.{Request}
 use Rattle.oe_requests.specs.declared.requests.Request.TheVariants as request
@@ -14,7 +14,6 @@ use Rattle.oe_steps.specs.declared.steps.Step.TheVariants as step
 use Rattle.oe_steps.specs.declared.answers.Answer.{Answer}
 use Rattle.oe_steps.specs.declared.answers.Answer.TheVariants as answer
 use Rattle.oe_audit.specs.Verdict.{condition_of, verdict_of}
-use Rattle.oe_model.specs.Audits as model
 use Rattle.oe_model.specs.Requests.{IsRequest}
 use Rattle.oe_model.specs.System.{system}
 use Rattle.oe_core.specs.declared.advances.Advanced.{Advanced}
@@ -61,23 +60,9 @@ answer_in i (answer.Rewound m) = theory.Rewound m
 answer_in i (answer.Audited v) = theory.Audited (verdict_of v)
 answer_in i (answer.Refused e) = refusal_in i e
 
--- Audits of today: of the newest moment alone, while no transaction is open. Others are refused: with the number of open
--- transactions, or where none is open with the newest moment
-abbrev pub AuditsOf : World system → ℕ → model.Condition → theory.Answer system → Type 0
-AuditsOf w m c (theory.Not_quiet n) = (n ≢ 0) × (count_open system w.active system.terminal_limit ≡ n)
-AuditsOf w m c (theory.Too_old k) = IsQuiet system w × (m < newest system w) × (k ≡ newest system w)
-AuditsOf w m c (theory.Future k) = IsQuiet system w × (newest system w < m) × (k ≡ newest system w)
-AuditsOf w m c (theory.Audited v) = IsQuiet system w × (m ≡ newest system w) × (v ≡ model.verdict c (tables system w))
-AuditsOf w m c a = ⊥
-
--- what a step may be answered, and the world that it leaves: that of the theory, but for audits
-abbrev pub Serves : World system → theory.Step system → theory.Answer system → World system → Type 0
-Serves w (theory.Audit m c) a w' = AuditsOf w m c a × (w' ≡ w)
-Serves w i a w' = Next system w i a w'
-
 -- a step that was answered so, and steps have led to the world that it leaves
 abbrev pub Carries : World system → Step → Answer → World system → Type 0
-Carries w i a w' = Serves w (step_in i) (answer_in i a) w' × IsReached system w'
+Carries w i a w' = Next system w (step_in i) (answer_in i a) w' × IsReached system w'
 
 -- the answer of a Begin
 abbrev pub begin_answer : Result (Unit {0}) Refusal → Answer

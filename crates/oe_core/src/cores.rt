@@ -2,13 +2,14 @@
 ghost use Rattle.std.specs.Prelude.{◌≡◌, IfOk, IfSome, IsSome, suc};
 ghost use Rattle.std.specs.Option.{option_copied};
 ghost use Rattle.oe_theory.specs.World.{latest, newest, tables, total};
+ghost use Rattle.oe_theory.specs.Next.{Next};
 ghost use Rattle.oe_theory.specs.Theorems.{opened, IsReached};
 ghost use Rattle.oe_model.specs.Conditions.{IsPopulation};
 ghost use Rattle.oe_model.specs.System.{system, terminal_limit};
 ghost use Rattle.oe_store.specs.Stored.{rows};
 ghost use Rattle.oe_engine.specs.View.{view_of, IsOpen};
 ghost use Rattle.oe_engine.specs.Calls.{committed, rolled_back};
-ghost use Rattle.oe_core.specs.Steps.{step_in, answer_in, Serves, Carries, begin_answer, Advances, newest_reply, IsStep, HasProgram};
+ghost use Rattle.oe_core.specs.Steps.{step_in, answer_in, Carries, begin_answer, Advances, newest_reply, IsStep, HasProgram};
 ghost use Rattle.oe_core.specs.Core.{world_of, reply_of, keeps_open, IsEndable, IsEnded};
 
 use crate::advances::Advanced;
@@ -20,7 +21,7 @@ use oe_requests::{Refusal, Reply, Request};
 use oe_steps::{Answer, Condition, Step};
 use oe_store::Tables;
 use oe_table::tables::NoMemory;
-use oe_values::{Moment, Terminal, TerminalCount};
+use oe_values::{Moment, Terminal};
 use std::alloc::Global;
 use std::marker::Model;
 
@@ -100,7 +101,7 @@ impl Core {
     #[inline(always)]
     pub fn step(&mut self, step: Step) -> Answer
         requires { IsStep step }
-        ensures serves { Serves (world_of self.old) (step_in step) (answer_in step result) (world_of self.new) }
+        ensures serves { Next system (world_of self.old) (step_in step) (answer_in step result) (world_of self.new) }
         ensures reached { IsReached system (world_of self.new) }
     {
         match step {
@@ -136,24 +137,19 @@ impl Core {
         self.alloc
     }
 
-    /// The verdict on a condition, of the newest moment, while no transaction is open.
+    /// The verdict on a condition, of a moment, whatever is open.
     ///
-    /// `NotQuiet`: so many are open. `TooOld`, `Future`: the moment is not the newest, which is named.
+    /// `TooOld` with the horizon, `Future` with the newest moment: the moment is not between the two.
     #[inline(never)]
     fn audit(&self, condition: Condition, moment: Moment) -> Answer
         ensures { Carries (world_of self.now) (Step.Audit condition moment) result (world_of self.now) }
     {
-        if let Some(open) = TerminalCount::new(self.engine.open_count()) {
-            return Answer::Refused(Refusal::NotQuiet(open));
+        let tables = self.engine.tables();
+        let undo = self.engine.undo();
+        match oe_audit::condition_at(condition, tables, undo, moment) {
+            Ok(verdict) => Answer::Audited(verdict),
+            Err(cause) => Answer::Refused(cause),
         }
-        let newest = self.engine.newest();
-        if moment < newest {
-            return Answer::Refused(Refusal::TooOld(newest));
-        }
-        if moment > newest {
-            return Answer::Refused(Refusal::Future(newest));
-        }
-        Answer::Audited(oe_audit::condition(condition, self.engine.tables()))
     }
 
     // A Begin, and its answer.

@@ -76,8 +76,6 @@ pub(crate) enum Said {
     Absent,
     /// By that terminal.
     Busy(u32),
-    /// So many are open.
-    NotQuiet(u32),
     /// A column would leave its range.
     Overflow(Column),
     Refused,
@@ -229,7 +227,6 @@ pub(crate) fn step_of(act: &Act) -> Option<Step>
 fn refused(refusal: &Refusal) -> Said {
     match refusal {
         Refusal::Busy(_, terminal) => Said::Busy(terminal.get()),
-        Refusal::NotQuiet(count) => Said::NotQuiet(count.get()),
         Refusal::Overflow(column) => Said::Overflow(*column),
         Refusal::NoMemory => Said::NoMemory,
         Refusal::NotOpen => Said::NotOpen,

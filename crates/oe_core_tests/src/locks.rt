@@ -10,7 +10,7 @@ const WAIT_FOR_THE_FIRST: [(Act, Said); 9] = [
     (Act::Begin(2, 1, 3), Said::Begun),
     (Act::Advance(1), Said::More),
     (Act::Advance(2), Said::Busy(1)),
-    (Act::Audit(Condition::First, 0), Said::NotQuiet(2)),
+    (Act::Audit(Condition::First, 0), Said::Holds),
     (Act::Rollback(1), Said::RolledBack),
     (Act::Advance(2), Said::More),
     (Act::Rollback(2), Said::RolledBack),

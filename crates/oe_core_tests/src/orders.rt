@@ -7,7 +7,7 @@ use oe_steps::Condition;
 use std::process::Abort;
 
 /// Terminal 1 fills two lines of five, sets its mark, fills two more, goes back, and on to its commit.
-const GO_BACK_AMONG_LINES: [(Act, Said); 15] = [
+const GO_BACK_AMONG_LINES: [(Act, Said); 19] = [
     (Act::Order(1, (1, 1, 1), 1), Said::Begun),
     (Act::Rows(1, 9), Said::More),
     (Act::Save(1), Said::Saved),
@@ -18,10 +18,14 @@ const GO_BACK_AMONG_LINES: [(Act, Said); 15] = [
     (Act::Stock(1, 3), Said::InStock(50)),
     (Act::Line(1, 1, 3), Said::Absent),
     (Act::Line(1, 1, 2), Said::There),
-    (Act::Audit(Condition::Third, 0), Said::NotQuiet(1)),
+    (Act::Audit(Condition::Second, 0), Said::Holds),
+    (Act::Audit(Condition::Fourth, 0), Said::Holds),
+    (Act::Audit(Condition::Fourth, 1), Said::Refused),
     (Act::Rows(1, 6), Said::More),
     (Act::Advance(1), Said::Ordered(11, 1_070, 75)),
+    (Act::Audit(Condition::Third, 0), Said::Holds),
     (Act::Audit(Condition::Third, 1), Said::Holds),
+    (Act::Audit(Condition::Fourth, 0), Said::Holds),
     (Act::Audit(Condition::Fourth, 1), Said::Holds),
 ];
 

@@ -139,6 +139,13 @@ impl Engine {
         &self.tables
     }
 
+    /// The undo log: the records of open transactions and of commits.
+    pub fn undo(&self) -> &Undo
+        ensures { result.now ≡ self.now.undo }
+    {
+        &self.undo
+    }
+
     /// The allocator that the engine was made with.
     pub fn allocator(&self) -> Global {
         self.undo.allocator()

@@ -2,9 +2,9 @@
 use Rattle.std.proofs.Common.{◌≡◌, ℕ, zero, suc, ◌<◌, ◌≤◌, cond, Bool, true, false, Option, None, Some, List, [], ◌∷◌, refl, sym, subst, inl, inr, arith}
 use Rattle.std.specs.Prelude.{◌⊎◌, ◌≢◌, is_some, nat_le}
 use Rattle.std.proofs.lemmas.Bool.{cases_order}
-use Rattle.oe_theory.specs.World.{World, Open, newest, tables, number}
+use Rattle.oe_theory.specs.World.{World, Open, at, horizon, newest, tables, number}
 use Rattle.oe_theory.specs.Next as theory
-use Rattle.oe_theory.specs.Next.{Next, IsQuiet, IsPast, count_open, begun, put_active, Begin, Advance, Save, Back, Rollback, Rewind, works_on, begins, goes_on, commits, saves, goes_back, rolls_back, rewinds, stops, fails, is_busy, is_full, is_rejected, is_open, number_is_rejected, not_open, too_old, future, not_quiet, lacks_memory}
+use Rattle.oe_theory.specs.Next.{Next, begun, put_active, Begin, Advance, Save, Back, Rollback, Audit, begins, goes_on, commits, saves, goes_back, rolls_back, audits, stops, fails, is_busy, is_full, is_rejected, is_open, number_is_rejected, not_open, too_old, future, lacks_memory}
 use Rattle.oe_theory.specs.Theorems.{IsReached}
 use Rattle.oe_theory.proofs.Theorems.{each_is_answered, abort_is_its_own}
 use Rattle.oe_keys.specs.declared.keys.Key.TheVariants as key
@@ -26,7 +26,7 @@ use Rattle.oe_model.specs.Requests.{MayRefuse, PaymentMayRefuse, NewOrderMayRefu
 use Rattle.oe_model.specs.System.{system, terminal_limit}
 use Rattle.oe_model.proofs.SystemLaws.{laws}
 use Rattle.oe_audit.specs.Verdict.{condition_of, verdict_of}
-use Rattle.oe_core.specs.Steps.{step_in, answer_in, Serves}
+use Rattle.oe_core.specs.Steps.{step_in, answer_in}
 use Rattle.oe_script.specs.Script.{RunsIn}
 use Rattle.oe_script.specs.Session.{IsLive}
 use Rattle.oe_script.proofs.WorldFacts.{left, falls, live_step}
@@ -92,7 +92,7 @@ own_number n e h = by_test (nat_le n 4294967295) h
 
 -- a step has an answer, and leaves a world
 abbrev pub IsTold : World system → Step → Type 0
-IsTold w i = (x : Answer) × (w' : World system) × Serves w (step_in i) (answer_in i x) w'
+IsTold w i = (x : Answer) × (w' : World system) × Next system w (step_in i) (answer_in i x) w'
 
 -- the answer of an advance, as it is told
 abbrev Named : Step → theory.Answer system → Type 0
@@ -175,31 +175,32 @@ unfolding verdict_out
 in_out model.Holds = refl
 in_out (model.Fails k) = refl
 
-quiet_or_not : (w : World system) (i : theory.Step system) (a : theory.Answer system) (w' : World system) (m : ℕ) → Next system w i a w' → i ≡ Rewind m
-    → IsQuiet system w ⊎ ((n : ℕ) × (count_open system w.active system.terminal_limit ≡ suc n))
-quiet_or_not w _ _ _ m (rewinds k q l u) i = inl q
-quiet_or_not w _ _ _ m (not_quiet k n e) i = inr (n, e)
-quiet_or_not w _ _ _ m (too_old s k e p b) i = inl (subst (λ (z : theory.Step system). IsPast system w z) i p)
-quiet_or_not w _ _ _ m (future s k e p b) i = inl (subst (λ (z : theory.Step system). IsPast system w z) i p)
-quiet_or_not w _ _ _ m (not_open s u e f) i =
-    let none : ◌≡◌ {A = Option ℕ} None (Some u) = subst (λ (z : theory.Step system). works_on system z ≡ Some u) i e in
-    let no : ⊥ = cc in
-    absurd no
-quiet_or_not w _ _ _ m n i = let no : ⊥ = cc in absurd no
-
-pub told_audit : (w : World system) (c : Condition) (m : ℕ) → IsReached system w → IsTold w (step.Audit c m)
-told_audit w c m l =
-    let a = each_is_answered system laws w (Rewind m) l tt in
-    by_case (quiet_or_not w (Rewind m) a.answer a.after m a.next refl) (cases_order m (newest system w))
+pub told_audit : (w : World system) (c : Condition) (m : ℕ) → IsTold w (step.Audit c m)
+told_audit w c m = by_case (cases_order m (horizon system w)) (cases_order m (newest system w))
   where
-    by_case : (IsQuiet system w ⊎ ((n : ℕ) × (count_open system w.active system.terminal_limit ≡ suc n))) → (m ≡ newest system w) ⊎ ((m < newest system w) ⊎ (newest system w < m))
+    kept : horizon system w ≤ m → m ≤ newest system w → IsTold w (step.Audit c m)
+    kept low high =
+        let v = model.verdict (condition_of c) (at system w m) in (
+          answer.Audited (verdict_out v),
+          w,
+          subst (λ (z : model.Verdict). Next system w (Audit m (condition_of c)) (theory.Audited z) w) (sym (in_out v)) (audits m (condition_of c) low high),
+        )
+
+    early : m < horizon system w → IsTold w (step.Audit c m)
+    early b = (answer.Refused (refusal.TooOld (horizon system w)), w, too_old (Audit m (condition_of c)) m refl tt b)
+
+    late : newest system w < m → IsTold w (step.Audit c m)
+    late b = (answer.Refused (refusal.Future (newest system w)), w, future (Audit m (condition_of c)) m refl tt b)
+
+    by_case : (m ≡ horizon system w) ⊎ ((m < horizon system w) ⊎ (horizon system w < m)) → (m ≡ newest system w) ⊎ ((m < newest system w) ⊎ (newest system w < m))
         → IsTold w (step.Audit c m)
-    by_case (inr h) o = (answer.Refused (refusal.NotQuiet (suc h.0)), w, ((λ e. absurd (omega (arith, e)), h.1), refl))
-    by_case (inl q) (inl e) =
-        let v = model.verdict (condition_of c) (tables system w) in
-        (answer.Audited (verdict_out v), w, ((q, e, in_out v), refl))
-    by_case (inl q) (inr (inl b)) = (answer.Refused (refusal.TooOld (newest system w)), w, ((q, b, refl), refl))
-    by_case (inl q) (inr (inr b)) = (answer.Refused (refusal.Future (newest system w)), w, ((q, b, refl), refl))
+    by_case (inl h) (inl n) = kept (omega arith) (omega arith)
+    by_case (inl h) (inr (inl n)) = kept (omega arith) (omega arith)
+    by_case (inl h) (inr (inr n)) = late n
+    by_case (inr (inl h)) n = early h
+    by_case (inr (inr h)) (inl n) = kept (omega arith) (omega arith)
+    by_case (inr (inr h)) (inr (inl n)) = kept (omega arith) (omega arith)
+    by_case (inr (inr h)) (inr (inr n)) = late n
 
 -- RUNS
 

@@ -2,6 +2,7 @@
 use Rattle.std.proofs.Common.{◌≡◌, Result, Ok, Err, ℕ, ◌+◌, ◌<◌, ◌≤◌, Bool, true, false, Option, None, Some, List, [], ◌∷◌, ◌++◌, length, refl, sym, ap, ◌∙◌, subst, inl, inr, arith}
 use Rattle.std.specs.Prelude.{◌⊎◌, ◌≢◌}
 use Rattle.std.proofs.lemmas.Bool.{cases_order}
+use Rattle.oe_theory.specs.Next.{Next}
 use Rattle.oe_theory.specs.World.{World, tables}
 use Rattle.oe_theory.specs.Theorems.{opened}
 use Rattle.oe_theory.proofs.Theorems.{opening_is_reached}
@@ -27,7 +28,7 @@ use Rattle.oe_model.specs.Population.{IsScale, IsPopulated}
 use Rattle.oe_model.specs.System.{system}
 use Rattle.oe_model.proofs.PopulationFacts.{population_is_one}
 use Rattle.oe_model.proofs.SystemLaws.{laws, population_is_good}
-use Rattle.oe_core.specs.Steps.{step_in, answer_in, Serves, Advances, HasProgram, IsStep}
+use Rattle.oe_core.specs.Steps.{step_in, answer_in, Advances, HasProgram, IsStep}
 use Rattle.oe_core.specs.declared.advances.Advanced.{Advanced}
 use Rattle.oe_core.specs.declared.advances.Advanced.TheVariants as advanced
 use Rattle.oe_script.specs.Dump.{dump_text}
@@ -127,7 +128,7 @@ answered (Some w) (command.Save t) f l a = stepped w (step.Save t) (told_save w 
 answered (Some w) (command.Back t) f l a = stepped w (step.Back t) (told_back w t)
 answered (Some w) (command.Rollback t) f l a = stepped w (step.Rollback t) (told_rollback w t)
 answered (Some w) (command.Dump t) f l a = (dump_text t (tables system w), Some w, (refl, refl))
-answered (Some w) (command.Audit c m) f l a = stepped w (step.Audit c (moment_in w m)) (told_audit w c (moment_in w m) l.0)
+answered (Some w) (command.Audit c m) f l a = stepped w (step.Audit c (moment_in w m)) (told_audit w c (moment_in w m))
 
 allowed : (s : State) (c : Command) → IsAllowed s c ⊎ (IsAllowed s c → ⊥)
 allowed None (command.Open scale extents) = inl tt
@@ -179,7 +180,7 @@ line_answered s n line l = by_length (cases_order (length line) 1_024)
 -- THE ANSWERS OF ADVANCES
 
 -- an advance has its answer
-pub answer_of : (w w' : World system) (t : ℕ) (a : Advanced) → Advances w t a w' → (x : Answer) × IsAnswer w' a x × Serves w (step_in (step.Advance t)) (answer_in (step.Advance t) x) w'
+pub answer_of : (w w' : World system) (t : ℕ) (a : Advanced) → Advances w t a w' → (x : Answer) × IsAnswer w' a x × Next system w (step_in (step.Advance t)) (answer_in (step.Advance t) x) w'
 answer_of w w' t advanced.More h = (answer.More, refl, h.0)
 answer_of w w' t (advanced.Committed m) (y, e, (serves, reached)) = (answer.Committed m y, (y, e, refl), serves)
 answer_of w w' t (advanced.Refused e) h = (answer.Refused e, refl, h.0)

@@ -31,7 +31,7 @@ use Rattle.oe_model.specs.Delivery.{oldest, lines_of}
 use Rattle.oe_model.specs.System.{system, ask, act, start_of}
 use Rattle.oe_model.proofs.LawFacts.{given_goes, within_goes}
 use Rattle.oe_model.proofs.SystemLaws.{laws}
-use Rattle.oe_core.specs.Steps.{step_in, Serves, HasProgram, IsStep}
+use Rattle.oe_core.specs.Steps.{step_in, HasProgram, IsStep}
 use Rattle.oe_script.specs.Script.{RunsIn}
 use Rattle.oe_script.specs.Session.{IsServed, IsServing, AreServing, IsLive}
 
@@ -222,7 +222,7 @@ served_stay w _ _ _ b h (lacks_memory t o e m) = h
 next_live : (w : World system) (i : theory.Step system) (a : theory.Answer system) (w' : World system) → IsBegun i → IsLive (Some w) → Next system w i a w' → IsLive (Some w')
 next_live w i a w' b l n = (run_is_reached system laws w w' (i ∷ []) (a ∷ []) l.0 (w', n, refl), served_stay w i a w' b l.1 n)
 
-pub live_step : (w : World system) (j : Step) (a : theory.Answer system) (w' : World system) → IsStep j → IsLive (Some w) → Serves w (step_in j) a w' → IsLive (Some w')
+pub live_step : (w : World system) (j : Step) (a : theory.Answer system) (w' : World system) → IsStep j → IsLive (Some w) → Next system w (step_in j) a w' → IsLive (Some w')
 live_step w (step.Begin t q) a w' b l n = next_live w _ a w' b l n
 live_step w (step.Advance t) a w' b l n = next_live w _ a w' tt l n
 live_step w (step.Save t) a w' b l n = next_live w _ a w' tt l n
@@ -231,7 +231,7 @@ live_step w (step.Rollback t) a w' b l n = next_live w _ a w' tt l n
 live_step w (step.Read m q) a w' b l n = absurd b
 live_step w (step.Purge m) a w' b l n = absurd b
 live_step w (step.Rewind m) a w' b l n = absurd b
-live_step w (step.Audit c m) a w' b l n = subst (λ (v : World system). IsLive (Some v)) (sym n.1) l
+live_step w (step.Audit c m) a w' b l n = next_live w _ a w' tt l n
 
 pub live_runs : (n : ℕ) (w : World system) (t : ℕ) (x : Answer) (w' : World system) → IsLive (Some w) → RunsIn n w t x w' → IsLive (Some w')
 live_runs zero w t x w' l r = live_step w (step.Advance t) _ w' tt l r.1

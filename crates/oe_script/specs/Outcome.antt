@@ -1,13 +1,14 @@
 -- What a line comes to: the text that goes out for it, and the state that it leaves.
 use Rattle.std.specs.Prelude.{◌≡◌, ℕ, ◌++◌, List, Option, Some, Result, MatchResult}
 use Rattle.oe_theory.specs.World.{World}
+use Rattle.oe_theory.specs.Next.{Next}
 use Rattle.oe_requests.specs.declared.replies.Reply.{Reply}
 use Rattle.oe_steps.specs.declared.steps.Step.{Step}
 use Rattle.oe_steps.specs.declared.answers.Answer.{Answer}
 use Rattle.oe_steps.specs.declared.answers.Answer.TheVariants as answer
 use Rattle.oe_texts.specs.Answer.{answer_line}
 use Rattle.oe_model.specs.System.{system}
-use Rattle.oe_core.specs.Steps.{step_in, answer_in, Serves, newest_reply}
+use Rattle.oe_core.specs.Steps.{step_in, answer_in, newest_reply}
 use Rattle.oe_core.specs.declared.advances.Advanced.{Advanced}
 use Rattle.oe_core.specs.declared.advances.Advanced.TheVariants as advanced
 use Rattle.oe_script.specs.Ports.{Sink, Sent, Cut}
@@ -21,7 +22,7 @@ IsAnswer w (advanced.Refused e) x = x ≡ answer.Refused e
 
 -- a step was served, and the line of its answer appended
 abbrev pub Tells : World system → Step → World system → List ℕ → List ℕ → Type 0
-Tells w i w' old new = (x : Answer) × Serves w (step_in i) (answer_in i x) w' × (new ≡ old ++ told i x)
+Tells w i w' old new = (x : Answer) × Next system w (step_in i) (answer_in i x) w' × (new ≡ old ++ told i x)
 
 -- of a run the last answer's
 abbrev pub TellsRun : World system → ℕ → World system → List ℕ → List ℕ → Type 0

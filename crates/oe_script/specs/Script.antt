@@ -2,6 +2,7 @@
 use Rattle.std.specs.Prelude.{◌≡◌, ◌≢◌, ℕ, zero, suc, ◌+◌, ◌≤◌, ◌<◌, ◌⊎◌, Bool, true, false, All, List, [], ◌∷◌, ◌++◌, length, Option, Some, None, codes}
 use Rattle.std.specs.List.{flat_map}
 use Rattle.oe_theory.specs.World.{World, newest, tables}
+use Rattle.oe_theory.specs.Next.{Next}
 use Rattle.oe_theory.specs.Theorems.{opened}
 use Rattle.oe_requests.specs.declared.refusals.Refusal.TheVariants as refusal
 use Rattle.oe_rows.specs.declared.scales.Scale.{Scale}
@@ -19,7 +20,7 @@ use Rattle.oe_lines.specs.declared.commands.Command.TheVariants as command
 use Rattle.oe_lines.specs.declared.commands.MomentChoice.{MomentChoice}
 use Rattle.oe_lines.specs.declared.commands.MomentChoice.TheVariants as moment
 use Rattle.oe_lines.specs.Grammar.{Says}
-use Rattle.oe_core.specs.Steps.{step_in, answer_in, Serves}
+use Rattle.oe_core.specs.Steps.{step_in, answer_in}
 use Rattle.oe_script.specs.Dump.{dump_text}
 
 -- nothing is open yet, or the world that a core stands for
@@ -43,12 +44,12 @@ told i x = answer_line x
 
 -- the step may be answered by this text, and this state is left
 abbrev pub Stepped : World system → Step → List ℕ → State → Type 0
-Stepped w i text s = (x : Answer) × (w' : World system) × Serves w (step_in i) (answer_in i x) w' × (text ≡ told i x) × (s ≡ Some w')
+Stepped w i text s = (x : Answer) × (w' : World system) × Next system w (step_in i) (answer_in i x) w' × (text ≡ told i x) × (s ≡ Some w')
 
 -- n advances of terminal t that are answered `more`, and one with this answer, which is another
 abbrev pub RunsIn : ℕ → World system → ℕ → Answer → World system → Type 0
-RunsIn zero w t x w' = (x ≢ answer.More) × Serves w (step_in (step.Advance t)) (answer_in (step.Advance t) x) w'
-RunsIn (suc n) w t x w' = (mid : World system) × Serves w (step_in (step.Advance t)) (answer_in (step.Advance t) answer.More) mid × RunsIn n mid t x w'
+RunsIn zero w t x w' = (x ≢ answer.More) × Next system w (step_in (step.Advance t)) (answer_in (step.Advance t) x) w'
+RunsIn (suc n) w t x w' = (mid : World system) × Next system w (step_in (step.Advance t)) (answer_in (step.Advance t) answer.More) mid × RunsIn n mid t x w'
 
 -- of a run the last answer alone is written
 abbrev pub Ran : World system → ℕ → List ℕ → State → Type 0

@@ -1,6 +1,7 @@
 //! What a line comes to: the step that it asks for is taken, and the text of its answer appended.
 ghost use Rattle.std.specs.Prelude.{◌≡◌, ◌≤◌, ◌+◌, ◌++◌, ℕ, List, length, Option, Some, None, IfOk};
 ghost use Rattle.arrayvec.specs.ArrayVec.{array_vec_len};
+ghost use Rattle.oe_theory.specs.Next.{Next};
 ghost use Rattle.oe_theory.specs.Theorems.{opened};
 ghost use Rattle.oe_model.specs.Rows.{Rows};
 ghost use Rattle.oe_model.specs.Population.{IsPopulated};
@@ -10,7 +11,7 @@ ghost use Rattle.oe_lines.specs.declared.commands.Command.TheVariants as asks;
 ghost use Rattle.oe_steps.specs.declared.answers.Answer.{Answer};
 ghost use Rattle.oe_texts.specs.Answer.{answer_line};
 ghost use Rattle.oe_core.specs.Core.{world_of};
-ghost use Rattle.oe_core.specs.Steps.{step_in, answer_in, Serves, HasProgram, IsStep};
+ghost use Rattle.oe_core.specs.Steps.{step_in, answer_in, HasProgram, IsStep};
 ghost use Rattle.oe_script.specs.Script.{LineAnswer, RunsIn, moment_in};
 ghost use Rattle.oe_script.specs.Session.{state_of, IsLive};
 ghost use Rattle.oe_script.specs.Outcome.{IsAnswer, Tells, TellsRun, Replies};
@@ -236,7 +237,7 @@ fn tell(core: &mut Core, step: Step, out: &mut Pending)
     requires room { array_vec_len out.old + LONGEST ≤ SIZE }
     requires step { IsStep step }
     ensures { (x : Answer)
-        × Serves (world_of core.old) (step_in step) (answer_in step x) (world_of core.new)
+        × Next system (world_of core.old) (step_in step) (answer_in step x) (world_of core.new)
         × (out.new.items ≡ out.old.items ++ answer_line x) }
 {
     answer(out, &core.step(step));

@@ -27,7 +27,7 @@ const ANSWERED: [(&str, &str); 12] = [
     // steps that are refused
     (
         "open 1 10 20 64\nnext 5\nbegin 1 payment 1 1 1 1 1 250.00 2001-01-01T00:00:00\nbegin 1 payment 1 1 1 1 1 250.00 2001-01-01T00:00:00\nbegin 1 payment 9 1 1 1 1 1.00 2001-01-01T00:00:00\nbegin 1 payment 1 1 1 1 1 0.99 2001-01-01T00:00:00\naudit 1 now\n",
-        "opened\nerror 10 NotOpen\nbegun\nerror 11 AlreadyOpen\nerror 2 NoSuchRow warehouse 9\nerror 1 BadLine 6\nerror 16 NotQuiet 1\n",
+        "opened\nerror 10 NotOpen\nbegun\nerror 11 AlreadyOpen\nerror 2 NoSuchRow warehouse 9\nerror 1 BadLine 6\ncondition 1 holds\n",
     ),
     // two terminals in one district, of which the first is rolled back
     (

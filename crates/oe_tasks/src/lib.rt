@@ -60,8 +60,8 @@ to 64. What stands behind the colon is the answer:
   save T             marks where T's transaction stands: saved
   back T             undoes its steps since the mark: back
   rollback T         undoes all its steps, and ends it: rolled back
-  audit N M          audits condition N (1 to 4) of the newest moment, while nothing is
-                     open; M is now, or its number (0 to 999999999999): condition N holds,
+  audit N M          audits condition N (1 to 4) at moment M: now, which is the number of
+                     commits, or a lesser number; what is open is not seen: condition N holds,
                      or condition N fails at, and the key of the first row at which it does
   dump TABLE         shows warehouse, district, customer, history, neworder, order,
                      orderline, item or stock: a line for each row, and rows COUNT
