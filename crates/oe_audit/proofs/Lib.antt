@@ -4,6 +4,7 @@ mod SumFacts
 mod NumberFacts
 mod DistrictFacts
 mod PopulationFacts
-mod PastFacts
+mod StoodFacts
+mod PassedFacts
 mod WalkFacts
 mod QuietFacts

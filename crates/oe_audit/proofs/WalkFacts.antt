@@ -1,8 +1,8 @@
 -- The greatest of numbers that are looked at one after another.
-use Rattle.std.proofs.Common.{◌≡◌, ℕ, refl, sym, ◌∙◌, ap, List, [], ◌∷◌, Option, Some, None, max}
-use Rattle.std.specs.List.{fold, reduce}
+use Rattle.std.proofs.Common.{◌≡◌, ℕ, refl, ◌∙◌, List, [], ◌∷◌, Option, Some, None, max}
+use Rattle.std.specs.List.{fold}
 use Rattle.oe_model.specs.Audits.{greatest}
-use Rattle.oe_audit.specs.Moments.{greater_of}
+use Rattle.oe_audit.specs.AsOf.{greater_of}
 use Rattle.oe_audit.proofs.NumberFacts.{greatest_reduced}
 
 abbrev pub highest_from : Option ℕ → List ℕ → Option ℕ

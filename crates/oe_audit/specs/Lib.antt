@@ -1,4 +1,4 @@
 -- What the clauses of this crate cite.
 pub mod Verdict
 pub mod Tests
-pub mod Moments
+pub mod AsOf

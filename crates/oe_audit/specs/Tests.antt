@@ -21,7 +21,8 @@ lines_agree r h = lines_asked r h == lines_there r h
 -- the warehouse has a STOCK row for each ITEM row
 abbrev pub stocks_each_item : Rows → WarehouseKey → Bool
 stocks_each_item r w =
-    each_row (λ i y. is_some (get r.stocks (record { warehouse = w.warehouse; item = i.item }))) r.items
+    each_row (λ i y.
+    is_some (get r.stocks (record { warehouse = w.warehouse; item = i.item }))) r.items
 
 -- this number is one more than the one before it, where there is one
 abbrev pub follows : Option ℕ → ℕ → Bool

@@ -4,6 +4,7 @@ use Rattle.oe_steps.specs.declared.audits.Condition.TheVariants as condition
 use Rattle.oe_steps.specs.declared.audits.Verdict.{Verdict}
 use Rattle.oe_steps.specs.declared.audits.Verdict.TheVariants as told
 use Rattle.oe_model.specs.Audits as model
+use Rattle.std.specs.Prelude.{◌≡◌}
 use Rattle.oe_model.specs.Rows.{Rows}
 use Rattle.oe_model.specs.Conditions.{Condition_1, Condition_2, Condition_3, Condition_4}
 
@@ -18,6 +19,13 @@ condition_of condition.Fourth = model.Fourth
 abbrev pub verdict_of : Verdict → model.Verdict
 verdict_of told.Holds = model.Holds
 verdict_of (told.Fails k) = model.Fails k
+
+-- it is what the model finds of these rows
+abbrev pub IsVerdict : model.Condition → Rows → Verdict → Type 0
+IsVerdict c r v = verdict_of v ≡ model.verdict c r
+
+abbrev pub IsAudited : Condition → Rows → Verdict → Type 0
+IsAudited c r v = IsVerdict (condition_of c) r v
 
 -- conditions 1 to 4 hold (clauses 3.3.2.1 to 3.3.2.4)
 pub record AreMet (r : Rows) : Type 0 where

@@ -1,64 +1,103 @@
-//! The verdicts of the consistency conditions (clauses 3.3.2.1 to 3.3.2.4).
-ghost use Rattle.std.specs.Prelude.{◌≡◌};
-ghost use Rattle.oe_model.specs.Audits.{First, Second, Third, Fourth, verdict};
+//! The verdicts of the consistency conditions (clauses 3.3.2.1 to 3.3.2.4), of the rows as they stand or stood at a moment.
+ghost use Rattle.std.specs.Prelude.{◌≡◌, IsTrue, IfOk, IfErr, OnOk};
+ghost use Rattle.oe_model.specs.Audits.{First};
 ghost use Rattle.oe_store.specs.Stored.{rows};
-ghost use Rattle.oe_audit.specs.Verdict.{condition_of, verdict_of};
+ghost use Rattle.oe_undo.specs.Undo.{open_total};
+ghost use Rattle.oe_versions.specs.Versions.{version, Stand, IsReadable, IsOutside};
+ghost use Rattle.oe_audit.specs.AsOf.{rows_then, model_condition, passes, ArePassed, IsUnread};
+ghost use Rattle.oe_audit.specs.Verdict.{IsVerdict, IsAudited};
 
+use crate::as_of::AsOf;
 use crate::districts::{passes_fourth, passes_second, passes_third};
 use crate::warehouses::passes_first;
-use oe_keys::Key;
+use oe_keys::{DistrictKey, Key};
+use oe_requests::Refusal;
+use oe_rows::District;
 use oe_steps::{Condition, Verdict};
 use oe_store::Tables;
+use oe_undo::Undo;
+use oe_values::Moment;
+use oe_versions::commits_after;
+
+/// The conditions that are asked of each district.
+pub(crate) enum DistrictCondition {
+    Second,
+    Third,
+    Fourth,
+}
 
 /// The verdict of the first condition (clause 3.3.2.1).
-fn first(tables: &Tables) -> Verdict
-    ensures { verdict_of result ≡ verdict First (rows tables.now) }
+fn first<'a>(tables: &'a Tables, when: &AsOf<'a>) -> Result<Verdict, Refusal>
+    requires { ArePassed (rows_then tables.now when.now) (rows tables.now) }
+    ensures verdict { IfOk result (IsVerdict First (rows_then tables.now when.now)) }
+    ensures refusal { IfErr result (λ e. IsUnread when.now e) }
 {
-    let failing = tables
-        .warehouses()
-        .find(|(key, row)| !passes_first(tables, key, row));
-    match failing {
-        Some((key, _)) => Verdict::Fails(Key::Warehouse(*key)),
-        None => Verdict::Holds,
+    for (key, row) in tables.warehouses() {
+        let found = when.warehouse(tables, key, row)?;
+        if let Some(row) = found {
+            let passed = passes_first(tables, when, key, row)?;
+            if !passed {
+                return Ok(Verdict::Fails(Key::Warehouse(*key)));
+            }
+        }
+    }
+    Ok(Verdict::Holds)
+}
+
+/// Whether a district passes a condition.
+fn passes<'a>(
+    condition: &DistrictCondition,
+    tables: &'a Tables,
+    when: &AsOf<'a>,
+    key: &DistrictKey,
+    district: &District,
+) -> Result<bool, Refusal>
+    requires { ArePassed (rows_then tables.now when.now) (rows tables.now) }
+    ensures passed { IfOk result (λ b.
+        b ≡ passes condition.now (rows_then tables.now when.now) key.now district.now) }
+    ensures refusal { IfErr result (λ e. IsUnread when.now e) }
+{
+    match condition {
+        DistrictCondition::Second => passes_second(tables, when, key, district),
+        DistrictCondition::Third => passes_third(tables, when, key),
+        DistrictCondition::Fourth => passes_fourth(tables, when, key),
     }
 }
 
-/// The verdict of the second condition (clause 3.3.2.2).
-fn second(tables: &Tables) -> Verdict
-    ensures { verdict_of result ≡ verdict Second (rows tables.now) }
+/// The verdict of a condition of districts (clauses 3.3.2.2 to 3.3.2.4).
+fn of_districts<'a>(
+    condition: &DistrictCondition,
+    tables: &'a Tables,
+    when: &AsOf<'a>,
+) -> Result<Verdict, Refusal>
+    requires { ArePassed (rows_then tables.now when.now) (rows tables.now) }
+    ensures verdict { IfOk result (
+        IsVerdict (model_condition condition.now) (rows_then tables.now when.now)) }
+    ensures refusal { IfErr result (λ e. IsUnread when.now e) }
 {
-    let failing = tables
-        .districts()
-        .find(|(key, row)| !passes_second(tables, key, row));
-    match failing {
-        Some((key, _)) => Verdict::Fails(Key::District(*key)),
-        None => Verdict::Holds,
+    for (key, row) in tables.districts() {
+        let found = when.district(tables, key, row)?;
+        if let Some(row) = found {
+            let passed = passes(condition, tables, when, key, row)?;
+            if !passed {
+                return Ok(Verdict::Fails(Key::District(*key)));
+            }
+        }
     }
+    Ok(Verdict::Holds)
 }
 
-/// The verdict of the third condition (clause 3.3.2.3).
-fn third(tables: &Tables) -> Verdict
-    ensures { verdict_of result ≡ verdict Third (rows tables.now) }
+/// The verdict of a condition, found row by row.
+fn found<'a>(number: Condition, tables: &'a Tables, when: &AsOf<'a>) -> Result<Verdict, Refusal>
+    requires { ArePassed (rows_then tables.now when.now) (rows tables.now) }
+    ensures verdict { IfOk result (IsAudited number (rows_then tables.now when.now)) }
+    ensures refusal { IfErr result (λ e. IsUnread when.now e) }
 {
-    let failing = tables
-        .districts()
-        .find(|(key, _)| !passes_third(tables, key));
-    match failing {
-        Some((key, _)) => Verdict::Fails(Key::District(*key)),
-        None => Verdict::Holds,
-    }
-}
-
-/// The verdict of the fourth condition (clause 3.3.2.4).
-fn fourth(tables: &Tables) -> Verdict
-    ensures { verdict_of result ≡ verdict Fourth (rows tables.now) }
-{
-    let failing = tables
-        .districts()
-        .find(|(key, _)| !passes_fourth(tables, key));
-    match failing {
-        Some((key, _)) => Verdict::Fails(Key::District(*key)),
-        None => Verdict::Holds,
+    match number {
+        Condition::First => first(tables, when),
+        Condition::Second => of_districts(&DistrictCondition::Second, tables, when),
+        Condition::Third => of_districts(&DistrictCondition::Third, tables, when),
+        Condition::Fourth => of_districts(&DistrictCondition::Fourth, tables, when),
     }
 }
 
@@ -67,12 +106,61 @@ fn fourth(tables: &Tables) -> Verdict
 ///
 /// Each audit walks the rows that it concerns once, and takes no memory.
 pub fn condition(number: Condition, tables: &Tables) -> Verdict
-    ensures { verdict_of result ≡ verdict (condition_of number) (rows tables.now) }
+    ensures { IsAudited number (rows tables.now) result }
 {
-    match number {
-        Condition::First => first(tables),
-        Condition::Second => second(tables),
-        Condition::Third => third(tables),
-        Condition::Fourth => fourth(tables),
+    tables.schema_holds();
+    match found(number, tables, &AsOf::Now) {
+        Ok(verdict) => verdict,
+        Err(_) => unreachable!(),
+    }
+}
+
+/// Whether there is nothing to put back: no commit is later, and no transaction is open.
+fn is_settled(undo: &Undo, later: usize) -> bool
+    ensures commits { IsTrue result → later ≡ 0 }
+    ensures open { IsTrue result → open_total undo.now ≡ 0 }
+{
+    later == 0 && undo.open_count() == 0
+}
+
+/// The verdict of a condition at a moment, found row by row.
+fn found_at<'a>(
+    number: Condition,
+    tables: &'a Tables,
+    undo: &'a Undo,
+    moment: Moment,
+) -> Result<Verdict, Refusal>
+    requires { Stand tables.now undo.now }
+    ensures verdict { IfOk result (IsAudited number (version tables.now undo.now moment)) }
+    ensures refusal { IfErr result (λ e. IsOutside undo.now moment e) }
+{
+    found(number, tables, &AsOf::Moment(undo, moment))
+}
+
+/// The verdict of a consistency condition at a moment, as `condition` would have given it when that moment was the newest, whatever
+/// has been open or committed since: that it held, or the first row, in key order, at which it failed.
+///
+/// `TooOld` with the horizon and `Future` with the newest moment, exactly where the moment is not between the two. It takes no
+/// memory. It walks the rows that it concerns once, and looks for each at the records of open segments and of the commits after the
+/// moment; where there is none of these, it is `condition`.
+pub fn condition_at(
+    number: Condition,
+    tables: &Tables,
+    undo: &Undo,
+    moment: Moment,
+) -> Result<Verdict, Refusal>
+    requires { Stand tables.now undo.now }
+    ensures verdict { IfOk result (IsAudited number (version tables.now undo.now moment)) }
+    ensures readable { OnOk result (IsReadable undo.now moment) }
+    ensures refusal { IfErr result (λ e. IsOutside undo.now moment e) }
+{
+    match commits_after(undo, moment) {
+        Ok(later) => {
+            if is_settled(undo, later) {
+                return Ok(condition(number, tables));
+            }
+            found_at(number, tables, undo, moment)
+        }
+        Err(refusal) => Err(refusal),
     }
 }

@@ -1,36 +1,75 @@
 //! The second, third and fourth consistency conditions, at a district.
-ghost use Rattle.std.specs.Prelude.{◌≡◌, ◌≤◌, ◌+◌, ◌↔◌, ◌==◌, IsTrue, length};
+ghost use Rattle.std.specs.Prelude.{◌≡◌, ◌≤◌, ◌+◌, ◌↔◌, ◌==◌, IsTrue, IfOk, IfErr};
 ghost use Rattle.oe_model.specs.Audits.{passes_2, greatest, some_and, none_or, order_numbers, new_order_numbers};
 ghost use Rattle.oe_store.specs.Stored.{rows};
+ghost use Rattle.oe_audit.specs.AsOf.{rows_then, lines_stood, greater_of, ArePassed, IsUnread};
 ghost use Rattle.oe_audit.specs.Tests.{are_counted, follows, lines_agree};
 
+use crate::as_of::AsOf;
 use oe_keys::{DistrictKey, OrderLineKey};
+use oe_requests::Refusal;
 use oe_rows::{District, OrderLine};
 use oe_store::Tables;
 use oe_table::shelf_walks::Rows;
 
-/// The greatest O_ID of a district.
-fn last_order(tables: &Tables, key: DistrictKey) -> Option<u32>
-    ensures { result ≡ greatest (order_numbers key (rows tables.now).orders) }
+/// The greater of a number and the one before it, where there is one.
+fn greater(before: Option<u32>, number: u32) -> u32
+    ensures { result ≡ greater_of before number }
 {
-    tables
-        .orders_of(key)
-        .map(|(order, _)| order.order.get())
-        .max()
+    match before {
+        Some(before) => before.max(number),
+        None => number,
+    }
+}
+
+/// The greatest O_ID of a district.
+fn last_order<'a>(
+    tables: &'a Tables,
+    when: &AsOf<'a>,
+    key: &DistrictKey,
+) -> Result<Option<u32>, Refusal>
+    requires { ArePassed (rows_then tables.now when.now) (rows tables.now) }
+    ensures last { IfOk result (λ n.
+        n ≡ greatest (order_numbers key.now (rows_then tables.now when.now).orders)) }
+    ensures refusal { IfErr result (λ e. IsUnread when.now e) }
+{
+    let mut last = None;
+    for (order, row) in tables.orders_of(*key) {
+        let placed = when.order(tables, order, row)?;
+        if placed.is_some() {
+            last = Some(greater(last, order.order.get()));
+        }
+    }
+    Ok(last)
 }
 
 /// The greatest NO_O_ID of a district.
-fn last_new_order(tables: &Tables, key: DistrictKey) -> Option<u32>
-    ensures { result ≡ greatest (new_order_numbers key (rows tables.now).new_orders) }
+fn last_new_order<'a>(
+    tables: &'a Tables,
+    when: &AsOf<'a>,
+    key: &DistrictKey,
+) -> Result<Option<u32>, Refusal>
+    requires { ArePassed (rows_then tables.now when.now) (rows tables.now) }
+    ensures last { IfOk result (λ n.
+        n ≡ greatest (new_order_numbers key.now (rows_then tables.now when.now).new_orders)) }
+    ensures refusal { IfErr result (λ e. IsUnread when.now e) }
 {
-    tables
-        .new_orders_of(key)
-        .map(|(order, _)| order.order.get())
-        .max()
+    let mut last = None;
+    for (order, _) in tables.orders_of(*key) {
+        match when.has_new_order(tables, &order.new_order_key()) {
+            Ok(waits) => {
+                if waits {
+                    last = Some(greater(last, order.order.get()));
+                }
+            }
+            Err(refusal) => return Err(refusal),
+        }
+    }
+    Ok(last)
 }
 
 /// Whether there is such a number, and it is the last.
-pub(crate) fn is_last(number: Option<u32>, last: u32) -> bool
+fn is_last(number: Option<u32>, last: u32) -> bool
     ensures { result ≡ some_and number (λ n. n == last) }
 {
     match number {
@@ -40,7 +79,7 @@ pub(crate) fn is_last(number: Option<u32>, last: u32) -> bool
 }
 
 /// Whether there is no such number, or it is the last.
-pub(crate) fn is_last_or_none(number: Option<u32>, last: u32) -> bool
+fn is_last_or_none(number: Option<u32>, last: u32) -> bool
     ensures { result ≡ none_or number (λ n. n == last) }
 {
     match number {
@@ -50,19 +89,35 @@ pub(crate) fn is_last_or_none(number: Option<u32>, last: u32) -> bool
 }
 
 /// Whether D_NEXT_O_ID - 1 is the greatest O_ID, and the greatest NO_O_ID where there is one (clause 3.3.2.2).
-pub(crate) fn passes_second(tables: &Tables, key: &DistrictKey, row: &District) -> bool
-    ensures { result ≡ passes_2 (rows tables.now) key.now row.now }
+pub(crate) fn passes_second<'a>(
+    tables: &'a Tables,
+    when: &AsOf<'a>,
+    key: &DistrictKey,
+    district: &District,
+) -> Result<bool, Refusal>
+    requires { ArePassed (rows_then tables.now when.now) (rows tables.now) }
+    ensures passed { IfOk result (λ b.
+        b ≡ passes_2 (rows_then tables.now when.now) key.now district.now) }
+    ensures refusal { IfErr result (λ e. IsUnread when.now e) }
 {
-    let next = row.next_order.get();
+    let next = district.next_order.get();
     let last = next - 1;
-    if !is_last(last_order(tables, *key), last) {
-        return false;
+    match last_order(tables, when, key) {
+        Ok(order) => {
+            if !is_last(order, last) {
+                return Ok(false);
+            }
+        }
+        Err(refusal) => return Err(refusal),
     }
-    is_last_or_none(last_new_order(tables, *key), last)
+    match last_new_order(tables, when, key) {
+        Ok(new_order) => Ok(is_last_or_none(new_order, last)),
+        Err(refusal) => Err(refusal),
+    }
 }
 
 /// Whether a number is one more than the one before it, where there is one.
-pub(crate) fn follows_number(before: Option<u32>, number: u32) -> bool
+fn follows_number(before: Option<u32>, number: u32) -> bool
     requires { 1 ≤ number }
     ensures { result ≡ follows before number }
 {
@@ -74,48 +129,94 @@ pub(crate) fn follows_number(before: Option<u32>, number: u32) -> bool
 
 /// Whether the greatest NO_O_ID less the least, and 1, is the number of NEW-ORDER rows (clause 3.3.2.3): in their order
 /// each has the number after the one before.
-pub(crate) fn passes_third(tables: &Tables, key: &DistrictKey) -> bool
-    ensures { result ≡ are_counted (rows tables.now) key.now }
+pub(crate) fn passes_third<'a>(
+    tables: &'a Tables,
+    when: &AsOf<'a>,
+    key: &DistrictKey,
+) -> Result<bool, Refusal>
+    requires { ArePassed (rows_then tables.now when.now) (rows tables.now) }
+    ensures passed { IfOk result (λ b. b ≡ are_counted (rows_then tables.now when.now) key.now) }
+    ensures refusal { IfErr result (λ e. IsUnread when.now e) }
 {
     let mut before = None;
-    let waiting = tables.new_orders_of(*key);
-    for (order, _) in waiting {
-        let number = order.order.get();
-        if !follows_number(before, number) {
-            return false;
+    for (order, _) in tables.orders_of(*key) {
+        match when.has_new_order(tables, &order.new_order_key()) {
+            Ok(is_new) => {
+                if is_new {
+                    let number = order.order.get();
+                    if !follows_number(before, number) {
+                        return Ok(false);
+                    }
+                    before = Some(number);
+                }
+            }
+            Err(refusal) => return Err(refusal),
         }
-        before = Some(number);
     }
-    true
+    Ok(true)
 }
 
-/// Takes that many rows off the front of a walk, and answers whether there were so many.
-fn takes(lines: &mut Rows<'_, OrderLineKey, OrderLine>, count: u32) -> bool
-    ensures enough { IsTrue result ↔ (count ≤ length lines.old) }
-    ensures taken { IsTrue result → length lines.new + count ≡ length lines.old }
+/// Takes rows off the front of a walk until so many of them stood then, and answers whether there were so many.
+fn takes<'a>(
+    lines: &mut Rows<'a, OrderLineKey, OrderLine>,
+    tables: &'a Tables,
+    when: &AsOf<'a>,
+    count: u32,
+) -> Result<bool, Refusal>
+    ensures enough { IfOk result (λ b.
+        IsTrue b ↔ (count ≤ lines_stood tables.now when.now lines.old)) }
+    ensures taken { IfOk result (λ b. IsTrue b →
+        lines_stood tables.now when.now lines.new + count
+        ≡ lines_stood tables.now when.now lines.old) }
+    ensures refusal { IfErr result (λ e. IsUnread when.now e) }
 {
     let mut wanted = count;
     while wanted > 0 {
-        if lines.next().is_none() {
-            return false;
+        let Some((key, line)) = lines.next() else {
+            return Ok(false);
+        };
+        let found = when.order_line(tables, key, line)?;
+        if found.is_some() {
+            wanted -= 1;
         }
-        wanted -= 1;
     }
-    true
+    Ok(true)
+}
+
+/// Whether a walk has a row yet that stood then.
+fn has_more<'a>(
+    lines: &mut Rows<'a, OrderLineKey, OrderLine>,
+    tables: &'a Tables,
+    when: &AsOf<'a>,
+) -> Result<bool, Refusal>
+    ensures more { IfOk result
+        (λ b. IsTrue b ↔ (1 ≤ lines_stood tables.now when.now lines.old)) }
+    ensures refusal { IfErr result (λ e. IsUnread when.now e) }
+{
+    takes(lines, tables, when, 1)
 }
 
 /// Whether the sum of O_OL_CNT is the number of ORDER-LINE rows (clause 3.3.2.4): the orders take their numbers of rows
 /// off the walk of the lines, and none is left.
-pub(crate) fn passes_fourth(tables: &Tables, key: &DistrictKey) -> bool
-    ensures { result ≡ lines_agree (rows tables.now) key.now }
+pub(crate) fn passes_fourth<'a>(
+    tables: &'a Tables,
+    when: &AsOf<'a>,
+    key: &DistrictKey,
+) -> Result<bool, Refusal>
+    requires { ArePassed (rows_then tables.now when.now) (rows tables.now) }
+    ensures passed { IfOk result (λ b. b ≡ lines_agree (rows_then tables.now when.now) key.now) }
+    ensures refusal { IfErr result (λ e. IsUnread when.now e) }
 {
     let mut lines = tables.order_lines_of_district(*key);
-    let orders = tables.orders_of(*key);
-    for (_, order) in orders {
-        if !takes(&mut lines, order.line_count.get()) {
-            return false;
+    for (order, row) in tables.orders_of(*key) {
+        let found = when.order(tables, order, row)?;
+        if let Some(row) = found {
+            let enough = takes(&mut lines, tables, when, row.line_count.get())?;
+            if !enough {
+                return Ok(false);
+            }
         }
     }
-    let has_more = takes(&mut lines, 1);
-    !has_more
+    let has_more = has_more(&mut lines, tables, when)?;
+    Ok(!has_more)
 }

@@ -3,14 +3,11 @@
 //! Clauses of the standard are those of TPC Benchmark C 5.11.
 #![tactic(auto)]
 
+mod as_of;
 pub mod conditions;
 mod districts;
-pub mod moments;
-mod past_districts;
-mod past_warehouses;
 pub mod populations;
 mod warehouses;
 
-pub use conditions::condition;
-pub use moments::condition_at;
+pub use conditions::{condition, condition_at};
 pub use populations::is_population;

@@ -4,7 +4,7 @@ use Rattle.std.proofs.lemmas.List.{take-append-drop, take_at, drop_at, drop-appe
 use borrow.Rule.Slice.PartMut.{put_mid}
 use Rattle.oe_bytes.specs.Spelling.{Writes}
 
--- a text put in its place
+-- a text put at its offset
 Writes-put : (old : List ℕ) (start : ℕ) (text tail : List ℕ) → start + length text ≤ length old → tail ≡ text ++ drop (length text) (drop start old)
     → Writes old start text (take start old ++ tail) (start + length text)
 Writes-put old start text tail room e =

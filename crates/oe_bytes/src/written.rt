@@ -2,7 +2,7 @@
 ghost use Rattle.std.specs.Prelude.{◌≡◌, ◌≤◌, ◌+◌, ℕ, List, length};
 ghost use Rattle.oe_bytes.specs.Spelling.{Writes};
 
-/// What has one spelling as bytes, which it writes in its place, so that no buffer lies between.
+/// What has one spelling as bytes, which it writes at its offset, so that no buffer lies between.
 pub trait Written {
     ghost spelling: { Self → List ℕ };
 

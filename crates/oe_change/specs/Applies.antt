@@ -6,6 +6,8 @@ use Rattle.oe_requests.specs.declared.refusals.Refusal.TheVariants.{Reference, N
 use Rattle.oe_model.specs.Rows.{Rows, row_at}
 use Rattle.oe_model.specs.Changes.{Change, key_of, changed, Record, record_of}
 use Rattle.oe_model.specs.Meets.{Accepts, Cause, is_insert, referred}
+use Rattle.oe_records.specs.declared.befores.Before.{Before}
+use Rattle.oe_records.specs.Befores.{record_of_before}
 use Rattle.oe_store.specs.Stored.{Stored, rows, HasPlace, AddsPlace}
 
 -- the tables accept the change, and it is made; `b` is its undo record
@@ -16,6 +18,10 @@ pub record Applies (c : Change) (old new : Stored) (b : Record) : Type 0 where
   -- each key that had a place has one, and the change's key
   pub places : AddsPlace old new (key_of c)
 
+-- so it is, with a record as it is kept
+abbrev pub HasApplied : Change → Stored → Stored → Before → Type 0
+HasApplied c old new b = Applies c old new (record_of_before b)
+
 -- why a change is refused: the cause is there, or, for an insert that the tables accept, its key has no place and takes memory
 abbrev pub Refuses : Change → Stored → Refusal → Type 0
 Refuses c s NoMemory = (is_insert c ≡ true) × Accepts c (rows s) × (HasPlace s (key_of c) → ⊥)
@@ -23,5 +29,7 @@ Refuses c s e = Cause c (rows s) e
 
 -- of several causes the first is named: the change's key comes before what its row refers to, and that in its order
 abbrev pub IsFirst : Change → Rows → Refusal → Type 0
-IsFirst c r (Reference k) = (is_some (row_at r (key_of c)) ≡ not (is_insert c)) × (find (λ j. is_none (row_at r j)) (referred c) ≡ Some k)
+IsFirst c r (Reference k) =
+    (is_some (row_at r (key_of c)) ≡ not (is_insert c))
+    × (find (λ j. is_none (row_at r j)) (referred c) ≡ Some k)
 IsFirst c r _ = Unit {0}

@@ -11,13 +11,21 @@ use Rattle.oe_change.specs.PutBack.{CanPutBack}
 
 -- a change and its undo leave all nine tables as they were, whatever they were
 pub record Apply_then_undo_is_identity : Type 0 where
-  pub at_once : (c : Change) (r : Rows) → put_back (record_of c (row_at r (key_of c))) (changed c r) ≡ r
+  pub at_once : (c : Change) (r : Rows)
+      → put_back (record_of c (row_at r (key_of c))) (changed c r) ≡ r
   -- where other rows changed in between, they stay so, and the row is the one before
-  pub in_between : (c : Change) (r s : Rows) (k : Key) → row_at (put_back (record_of c (row_at r (key_of c))) s) k ≡ cond (is_key k (key_of c)) (row_at r (key_of c)) (row_at s k)
+  pub in_between : (c : Change) (r s : Rows) (k : Key)
+      → row_at (put_back (record_of c (row_at r (key_of c))) s) k
+      ≡ cond (is_key k (key_of c)) (row_at r (key_of c)) (row_at s k)
   -- so tables that differ from the ones before in that row alone are brought back to them
-  pub of_others : (c : Change) (r s : Rows) → ((k : Key) → is_key k (key_of c) ≡ false → row_at s k ≡ row_at r k) → put_back (record_of c (row_at r (key_of c))) s ≡ r
+  pub of_others : (c : Change) (r s : Rows)
+      → ((k : Key) → is_key k (key_of c) ≡ false → row_at s k ≡ row_at r k)
+      → put_back (record_of c (row_at r (key_of c))) s ≡ r
 
 -- a change that was made can be undone, at once and while its key is as the change left it
 pub record What_was_applied_can_be_undone : Type 0 where
-  pub at_once : (c : Change) (old new : Stored) (b : Record) → Meets (rows old) → Applies c old new b → CanPutBack new b
-  pub later : (c : Change) (before : Option Row) (s : Stored) → row_at (rows s) (key_of c) ≡ row_of c → HasPlace s (key_of c) → Meets (put_back (record_of c before) (rows s)) → CanPutBack s (record_of c before)
+  pub at_once : (c : Change) (old new : Stored) (b : Record)
+      → Meets (rows old) → Applies c old new b → CanPutBack new b
+  pub later : (c : Change) (before : Option Row) (s : Stored)
+      → row_at (rows s) (key_of c) ≡ row_of c → HasPlace s (key_of c)
+      → Meets (put_back (record_of c before) (rows s)) → CanPutBack s (record_of c before)

@@ -2,9 +2,8 @@
 ghost use Rattle.std.specs.Prelude.{◌≡◌, IfOk, IfErr, OnErr};
 ghost use Rattle.oe_model.specs.Meets.{Accepts};
 ghost use Rattle.oe_records.specs.Changes.{change_of};
-ghost use Rattle.oe_records.specs.Befores.{record_of_before};
 ghost use Rattle.oe_store.specs.Stored.{rows};
-ghost use Rattle.oe_change.specs.Applies.{Applies, Refuses, IsFirst};
+ghost use Rattle.oe_change.specs.Applies.{HasApplied, Refuses, IsFirst};
 
 use crate::inserts::{insert_history, insert_new_order, insert_order, insert_order_line};
 use crate::updates::{
@@ -22,7 +21,7 @@ use oe_store::Tables;
 /// `NoMemory`: the tables accept the insert, but its key takes a new place, and its memory was refused. A column can't
 /// leave its range, since rows are in their ranges by type.
 pub fn apply(tables: &mut Tables, change: Change) -> Result<Before, Refusal>
-    ensures applied { IfOk result (λ b. Applies (change_of change) tables.old tables.new (record_of_before b)) }
+    ensures applied { IfOk result (HasApplied (change_of change) tables.old tables.new) }
 
     // A refusal has its cause, and the tables are as before.
     ensures refused { IfErr result (λ e. Refuses (change_of change) tables.old e) }
@@ -30,7 +29,8 @@ pub fn apply(tables: &mut Tables, change: Change) -> Result<Before, Refusal>
     ensures unchanged { OnErr result (tables.new ≡ tables.old) }
 
     // Where the tables accept the change, want of memory is the only refusal.
-    ensures only_memory { Accepts (change_of change) (rows tables.old) → IfErr result (λ e. e ≡ Refusal.NoMemory) }
+    ensures only_memory { Accepts (change_of change) (rows tables.old)
+        → IfErr result (λ e. e ≡ Refusal.NoMemory) }
 {
     match change {
         Change::InsertHistory(key, row) => insert_history(tables, &key, row),

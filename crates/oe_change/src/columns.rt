@@ -1,8 +1,7 @@
 //! Columns of a row, set with the record of the row before: the row is there, and a customer's record or a stock's takes memory.
 ghost use Rattle.std.specs.Prelude.{◌≡◌, IfOk, IfErr, OnErr};
-ghost use Rattle.oe_records.specs.Befores.{record_of_before};
 ghost use Rattle.oe_records.specs.declared.writes.Write.{Write};
-ghost use Rattle.oe_change.specs.Writes.{Writes, RefusesWrite, IsFirstOf};
+ghost use Rattle.oe_change.specs.Writes.{HasWritten, RefusesWrite, IsFirstOf};
 
 use oe_keys::{CustomerKey, DistrictKey, Key, OrderKey, OrderLineKey, StockKey, WarehouseKey};
 use oe_records::{Before, Boxed};
@@ -18,8 +17,9 @@ pub(crate) fn set_warehouse_ytd(
     key: &WarehouseKey,
     ytd: YearToDate,
 ) -> Result<Before, Refusal>
-    ensures applied { IfOk result (λ b. Writes (Write.WarehouseYtd key.now ytd) tables.old tables.new (record_of_before b)) }
-    ensures refused { IfErr result (λ e. RefusesWrite (Write.WarehouseYtd key.now ytd) tables.old e) }
+    ensures applied { IfOk result (
+        HasWritten (Write.WarehouseYtd key.now ytd) tables.old tables.new) }
+    ensures refused { IfErr result (RefusesWrite (Write.WarehouseYtd key.now ytd) tables.old) }
     ensures first { IfErr result (λ e. IsFirstOf (Write.WarehouseYtd key.now ytd) tables.old e) }
     ensures unchanged { OnErr result (tables.new ≡ tables.old) }
 {
@@ -37,8 +37,9 @@ pub(crate) fn set_district_ytd(
     key: &DistrictKey,
     ytd: YearToDate,
 ) -> Result<Before, Refusal>
-    ensures applied { IfOk result (λ b. Writes (Write.DistrictYtd key.now ytd) tables.old tables.new (record_of_before b)) }
-    ensures refused { IfErr result (λ e. RefusesWrite (Write.DistrictYtd key.now ytd) tables.old e) }
+    ensures applied { IfOk result (
+        HasWritten (Write.DistrictYtd key.now ytd) tables.old tables.new) }
+    ensures refused { IfErr result (RefusesWrite (Write.DistrictYtd key.now ytd) tables.old) }
     ensures first { IfErr result (λ e. IsFirstOf (Write.DistrictYtd key.now ytd) tables.old e) }
     ensures unchanged { OnErr result (tables.new ≡ tables.old) }
 {
@@ -56,8 +57,9 @@ pub(crate) fn set_next_order(
     key: &DistrictKey,
     order: OrderNumber,
 ) -> Result<Before, Refusal>
-    ensures applied { IfOk result (λ b. Writes (Write.NextOrder key.now order) tables.old tables.new (record_of_before b)) }
-    ensures refused { IfErr result (λ e. RefusesWrite (Write.NextOrder key.now order) tables.old e) }
+    ensures applied { IfOk result (
+        HasWritten (Write.NextOrder key.now order) tables.old tables.new) }
+    ensures refused { IfErr result (RefusesWrite (Write.NextOrder key.now order) tables.old) }
     ensures first { IfErr result (λ e. IsFirstOf (Write.NextOrder key.now order) tables.old e) }
     ensures unchanged { OnErr result (tables.new ≡ tables.old) }
 {
@@ -77,9 +79,12 @@ pub(crate) fn set_account(
     key: &CustomerKey,
     account: &Account,
 ) -> Result<Before, Refusal>
-    ensures applied { IfOk result (λ b. Writes (Write.CustomerAccount key.now account.now) tables.old tables.new (record_of_before b)) }
-    ensures refused { IfErr result (λ e. RefusesWrite (Write.CustomerAccount key.now account.now) tables.old e) }
-    ensures first { IfErr result (λ e. IsFirstOf (Write.CustomerAccount key.now account.now) tables.old e) }
+    ensures applied { IfOk result (
+        HasWritten (Write.CustomerAccount key.now account.now) tables.old tables.new) }
+    ensures refused { IfErr result (
+        RefusesWrite (Write.CustomerAccount key.now account.now) tables.old) }
+    ensures first { IfErr result (
+        IsFirstOf (Write.CustomerAccount key.now account.now) tables.old) }
     ensures unchanged { OnErr result (tables.new ≡ tables.old) }
 {
     let Some(row) = tables.customer(*key) else {
@@ -101,9 +106,12 @@ pub(crate) fn set_bad_credit(
     account: &Account,
     entry: &Text<0, 90>,
 ) -> Result<Before, Refusal>
-    ensures applied { IfOk result (λ b. Writes (Write.BadCredit key.now account.now entry.now) tables.old tables.new (record_of_before b)) }
-    ensures refused { IfErr result (λ e. RefusesWrite (Write.BadCredit key.now account.now entry.now) tables.old e) }
-    ensures first { IfErr result (λ e. IsFirstOf (Write.BadCredit key.now account.now entry.now) tables.old e) }
+    ensures applied { IfOk result (
+        HasWritten (Write.BadCredit key.now account.now entry.now) tables.old tables.new) }
+    ensures refused { IfErr result (
+        RefusesWrite (Write.BadCredit key.now account.now entry.now) tables.old) }
+    ensures first { IfErr result (
+        IsFirstOf (Write.BadCredit key.now account.now entry.now) tables.old) }
     ensures unchanged { OnErr result (tables.new ≡ tables.old) }
 {
     let Some(row) = tables.customer(*key) else {
@@ -122,8 +130,9 @@ pub(crate) fn set_carrier(
     key: &OrderKey,
     carrier: Carrier,
 ) -> Result<Before, Refusal>
-    ensures applied { IfOk result (λ b. Writes (Write.Carrier key.now carrier) tables.old tables.new (record_of_before b)) }
-    ensures refused { IfErr result (λ e. RefusesWrite (Write.Carrier key.now carrier) tables.old e) }
+    ensures applied { IfOk result (
+        HasWritten (Write.Carrier key.now carrier) tables.old tables.new) }
+    ensures refused { IfErr result (RefusesWrite (Write.Carrier key.now carrier) tables.old) }
     ensures first { IfErr result (λ e. IsFirstOf (Write.Carrier key.now carrier) tables.old e) }
     ensures unchanged { OnErr result (tables.new ≡ tables.old) }
 {
@@ -141,8 +150,9 @@ pub(crate) fn set_delivery(
     key: &OrderLineKey,
     stamp: Stamp,
 ) -> Result<Before, Refusal>
-    ensures applied { IfOk result (λ b. Writes (Write.DeliveryDate key.now stamp) tables.old tables.new (record_of_before b)) }
-    ensures refused { IfErr result (λ e. RefusesWrite (Write.DeliveryDate key.now stamp) tables.old e) }
+    ensures applied { IfOk result (
+        HasWritten (Write.DeliveryDate key.now stamp) tables.old tables.new) }
+    ensures refused { IfErr result (RefusesWrite (Write.DeliveryDate key.now stamp) tables.old) }
     ensures first { IfErr result (λ e. IsFirstOf (Write.DeliveryDate key.now stamp) tables.old e) }
     ensures unchanged { OnErr result (tables.new ≡ tables.old) }
 {
@@ -163,9 +173,11 @@ pub(crate) fn set_counters(
     key: &StockKey,
     counters: &StockCounters,
 ) -> Result<Before, Refusal>
-    ensures applied { IfOk result (λ b. Writes (Write.StockCounters key.now counters.now) tables.old tables.new (record_of_before b)) }
-    ensures refused { IfErr result (λ e. RefusesWrite (Write.StockCounters key.now counters.now) tables.old e) }
-    ensures first { IfErr result (λ e. IsFirstOf (Write.StockCounters key.now counters.now) tables.old e) }
+    ensures applied { IfOk result (
+        HasWritten (Write.StockCounters key.now counters.now) tables.old tables.new) }
+    ensures refused { IfErr result (
+        RefusesWrite (Write.StockCounters key.now counters.now) tables.old) }
+    ensures first { IfErr result (IsFirstOf (Write.StockCounters key.now counters.now) tables.old) }
     ensures unchanged { OnErr result (tables.new ≡ tables.old) }
 {
     let Some(row) = tables.stock(*key) else {

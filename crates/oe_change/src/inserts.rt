@@ -2,9 +2,8 @@
 ghost use Rattle.std.specs.Prelude.{◌≡◌, IfOk, IfErr, OnErr};
 ghost use Rattle.oe_model.specs.Keys.{supply_of_line};
 ghost use Rattle.oe_model.specs.Changes.{InsertHistory, InsertNewOrder, InsertOrder, InsertOrderLine};
-ghost use Rattle.oe_records.specs.Befores.{record_of_before};
 ghost use Rattle.oe_store.specs.Stored.{rows};
-ghost use Rattle.oe_change.specs.Applies.{Applies, Refuses, IsFirst};
+ghost use Rattle.oe_change.specs.Applies.{HasApplied, Refuses, IsFirst};
 
 use oe_keys::{HistoryKey, Key, NewOrderKey, OrderKey, OrderLineKey, StockKey};
 use oe_records::Before;
@@ -18,7 +17,7 @@ pub(crate) fn insert_history(
     key: &HistoryKey,
     row: History,
 ) -> Result<Before, Refusal>
-    ensures applied { IfOk result (λ b. Applies (InsertHistory key.now row) tables.old tables.new (record_of_before b)) }
+    ensures applied { IfOk result (HasApplied (InsertHistory key.now row) tables.old tables.new) }
     ensures refused { IfErr result (λ e. Refuses (InsertHistory key.now row) tables.old e) }
     ensures first { IfErr result (λ e. IsFirst (InsertHistory key.now row) (rows tables.old) e) }
     ensures unchanged { OnErr result (tables.new ≡ tables.old) }
@@ -42,9 +41,10 @@ pub(crate) fn insert_history(
 
 /// Inserts a NEW-ORDER row, which refers to its order.
 pub(crate) fn insert_new_order(tables: &mut Tables, key: &NewOrderKey) -> Result<Before, Refusal>
-    ensures applied { IfOk result (λ b. Applies (InsertNewOrder key.now (record {})) tables.old tables.new (record_of_before b)) }
-    ensures refused { IfErr result (λ e. Refuses (InsertNewOrder key.now (record {})) tables.old e) }
-    ensures first { IfErr result (λ e. IsFirst (InsertNewOrder key.now (record {})) (rows tables.old) e) }
+    ensures applied { IfOk result (
+        HasApplied (InsertNewOrder key.now (record {})) tables.old tables.new) }
+    ensures refused { IfErr result (Refuses (InsertNewOrder key.now (record {})) tables.old) }
+    ensures first { IfErr result (IsFirst (InsertNewOrder key.now (record {})) (rows tables.old)) }
     ensures unchanged { OnErr result (tables.new ≡ tables.old) }
 {
     if tables.new_order(*key).is_some() {
@@ -66,7 +66,7 @@ pub(crate) fn insert_order(
     key: &OrderKey,
     row: Order,
 ) -> Result<Before, Refusal>
-    ensures applied { IfOk result (λ b. Applies (InsertOrder key.now row) tables.old tables.new (record_of_before b)) }
+    ensures applied { IfOk result (HasApplied (InsertOrder key.now row) tables.old tables.new) }
     ensures refused { IfErr result (λ e. Refuses (InsertOrder key.now row) tables.old e) }
     ensures first { IfErr result (λ e. IsFirst (InsertOrder key.now row) (rows tables.old) e) }
     ensures unchanged { OnErr result (tables.new ≡ tables.old) }
@@ -100,7 +100,7 @@ pub(crate) fn insert_order_line(
     key: &OrderLineKey,
     row: OrderLine,
 ) -> Result<Before, Refusal>
-    ensures applied { IfOk result (λ b. Applies (InsertOrderLine key.now row) tables.old tables.new (record_of_before b)) }
+    ensures applied { IfOk result (HasApplied (InsertOrderLine key.now row) tables.old tables.new) }
     ensures refused { IfErr result (λ e. Refuses (InsertOrderLine key.now row) tables.old e) }
     ensures first { IfErr result (λ e. IsFirst (InsertOrderLine key.now row) (rows tables.old) e) }
     ensures unchanged { OnErr result (tables.new ≡ tables.old) }

@@ -2,9 +2,8 @@
 //! row refers to is there.
 ghost use Rattle.std.specs.Prelude.{◌≡◌, IfOk, IfErr, OnErr};
 ghost use Rattle.oe_model.specs.Changes.{UpdateWarehouse, UpdateDistrict, UpdateCustomer, UpdateOrder, UpdateOrderLine, UpdateStock, DeleteNewOrder};
-ghost use Rattle.oe_records.specs.Befores.{record_of_before};
 ghost use Rattle.oe_store.specs.Stored.{rows};
-ghost use Rattle.oe_change.specs.Applies.{Applies, Refuses, IsFirst};
+ghost use Rattle.oe_change.specs.Applies.{HasApplied, Refuses, IsFirst};
 
 use crate::inserts::supply_key;
 use oe_keys::{
@@ -21,7 +20,7 @@ pub(crate) fn update_warehouse(
     key: &WarehouseKey,
     row: Warehouse,
 ) -> Result<Before, Refusal>
-    ensures applied { IfOk result (λ b. Applies (UpdateWarehouse key.now row) tables.old tables.new (record_of_before b)) }
+    ensures applied { IfOk result (HasApplied (UpdateWarehouse key.now row) tables.old tables.new) }
     ensures refused { IfErr result (λ e. Refuses (UpdateWarehouse key.now row) tables.old e) }
     ensures first { IfErr result (λ e. IsFirst (UpdateWarehouse key.now row) (rows tables.old) e) }
     ensures unchanged { OnErr result (tables.new ≡ tables.old) }
@@ -39,7 +38,7 @@ pub(crate) fn update_district(
     key: &DistrictKey,
     row: District,
 ) -> Result<Before, Refusal>
-    ensures applied { IfOk result (λ b. Applies (UpdateDistrict key.now row) tables.old tables.new (record_of_before b)) }
+    ensures applied { IfOk result (HasApplied (UpdateDistrict key.now row) tables.old tables.new) }
     ensures refused { IfErr result (λ e. Refuses (UpdateDistrict key.now row) tables.old e) }
     ensures first { IfErr result (λ e. IsFirst (UpdateDistrict key.now row) (rows tables.old) e) }
     ensures unchanged { OnErr result (tables.new ≡ tables.old) }
@@ -58,7 +57,7 @@ pub(crate) fn update_customer(
     key: &CustomerKey,
     row: Boxed<Customer>,
 ) -> Result<Before, Refusal>
-    ensures applied { IfOk result (λ b. Applies (UpdateCustomer key.now row) tables.old tables.new (record_of_before b)) }
+    ensures applied { IfOk result (HasApplied (UpdateCustomer key.now row) tables.old tables.new) }
     ensures refused { IfErr result (λ e. Refuses (UpdateCustomer key.now row) tables.old e) }
     ensures first { IfErr result (λ e. IsFirst (UpdateCustomer key.now row) (rows tables.old) e) }
     ensures unchanged { OnErr result (tables.new ≡ tables.old) }
@@ -84,7 +83,7 @@ pub(crate) fn update_order(
     key: &OrderKey,
     row: Order,
 ) -> Result<Before, Refusal>
-    ensures applied { IfOk result (λ b. Applies (UpdateOrder key.now row) tables.old tables.new (record_of_before b)) }
+    ensures applied { IfOk result (HasApplied (UpdateOrder key.now row) tables.old tables.new) }
     ensures refused { IfErr result (λ e. Refuses (UpdateOrder key.now row) tables.old e) }
     ensures first { IfErr result (λ e. IsFirst (UpdateOrder key.now row) (rows tables.old) e) }
     ensures unchanged { OnErr result (tables.new ≡ tables.old) }
@@ -105,7 +104,7 @@ pub(crate) fn update_order_line(
     key: &OrderLineKey,
     row: OrderLine,
 ) -> Result<Before, Refusal>
-    ensures applied { IfOk result (λ b. Applies (UpdateOrderLine key.now row) tables.old tables.new (record_of_before b)) }
+    ensures applied { IfOk result (HasApplied (UpdateOrderLine key.now row) tables.old tables.new) }
     ensures refused { IfErr result (λ e. Refuses (UpdateOrderLine key.now row) tables.old e) }
     ensures first { IfErr result (λ e. IsFirst (UpdateOrderLine key.now row) (rows tables.old) e) }
     ensures unchanged { OnErr result (tables.new ≡ tables.old) }
@@ -128,7 +127,7 @@ pub(crate) fn update_stock(
     key: &StockKey,
     row: Boxed<Stock>,
 ) -> Result<Before, Refusal>
-    ensures applied { IfOk result (λ b. Applies (UpdateStock key.now row) tables.old tables.new (record_of_before b)) }
+    ensures applied { IfOk result (HasApplied (UpdateStock key.now row) tables.old tables.new) }
     ensures refused { IfErr result (λ e. Refuses (UpdateStock key.now row) tables.old e) }
     ensures first { IfErr result (λ e. IsFirst (UpdateStock key.now row) (rows tables.old) e) }
     ensures unchanged { OnErr result (tables.new ≡ tables.old) }
@@ -144,7 +143,7 @@ pub(crate) fn update_stock(
 
 /// Takes a NEW-ORDER row away. Its key keeps its place.
 pub(crate) fn delete_new_order(tables: &mut Tables, key: &NewOrderKey) -> Result<Before, Refusal>
-    ensures applied { IfOk result (λ b. Applies (DeleteNewOrder key.now) tables.old tables.new (record_of_before b)) }
+    ensures applied { IfOk result (HasApplied (DeleteNewOrder key.now) tables.old tables.new) }
     ensures refused { IfErr result (λ e. Refuses (DeleteNewOrder key.now) tables.old e) }
     ensures first { IfErr result (λ e. IsFirst (DeleteNewOrder key.now) (rows tables.old) e) }
     ensures unchanged { OnErr result (tables.new ≡ tables.old) }

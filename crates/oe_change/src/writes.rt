@@ -1,7 +1,6 @@
 //! What a transaction writes to one row, with its record.
 ghost use Rattle.std.specs.Prelude.{◌≡◌, IfOk, IfErr, OnErr};
-ghost use Rattle.oe_records.specs.Befores.{record_of_before};
-ghost use Rattle.oe_change.specs.Writes.{Writes, RefusesWrite, IsFirstOf};
+ghost use Rattle.oe_change.specs.Writes.{HasWritten, RefusesWrite, IsFirstOf};
 
 use crate::columns::{
     set_account, set_bad_credit, set_carrier, set_counters, set_delivery, set_district_ytd,
@@ -20,7 +19,7 @@ use std::alloc::Global;
 /// new row refers to is absent (clauses 1.3 and 1.4). `NoMemory`: memory was refused for the new place of an insert that the
 /// tables accept, or for the record of a customer or a stock, which has the row before in memory of its own.
 pub fn write(alloc: Global, tables: &mut Tables, write: &Write) -> Result<Before, Refusal>
-    ensures applied { IfOk result (λ b. Writes write.now tables.old tables.new (record_of_before b)) }
+    ensures applied { IfOk result (HasWritten write.now tables.old tables.new) }
 
     // A refusal has its cause, and the tables are as before.
     ensures refused { IfErr result (λ e. RefusesWrite write.now tables.old e) }

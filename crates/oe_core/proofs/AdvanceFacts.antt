@@ -30,7 +30,7 @@ use Rattle.oe_model.specs.Rows.{Rows}
 use Rattle.oe_model.specs.Changes.{Change}
 use Rattle.oe_model.specs.Meets.{Accepts}
 use Rattle.oe_model.specs.Effects.{Doing, given}
-use Rattle.oe_model.specs.Places as model
+use Rattle.oe_model.specs.Positions as model
 use Rattle.oe_model.specs.Requests.{MayRefuse}
 use Rattle.oe_model.specs.System.{system, ask, act, taken, yields, may_allocate, record_length, terminal_limit}
 use Rattle.oe_model.proofs.ChangeFacts.{not_both}
@@ -40,11 +40,11 @@ use Rattle.oe_engine.specs.View as engine
 use Rattle.oe_engine.specs.Calls.{IsFree, IsInTheWay, row_done, committed, rolled_back}
 use Rattle.oe_engine.specs.Programs.{reply_at, tx_of, ask_here, act_here, IsFreeHere, GoesOn, IsReady, Ends, WantsMemory, IsRefused}
 use Rattle.oe_engine.proofs.ReplyFacts.{ready_at}
-use Rattle.oe_core.specs.Core.{Stored, IsOf, place_of, reply_of, HoldsTaken, in_place, work_at, slot_of, open_at, store_of, world_of, IsOrderly, Moves, keeps_open}
+use Rattle.oe_core.specs.Core.{Stored, IsOf, position_of, reply_of, HoldsTaken, in_slot, work_at, slot_of, open_at, store_of, world_of, IsOrderly, Moves, keeps_open}
 use Rattle.oe_core.specs.Steps.{refusal_in, Carries, newest_reply}
 use Rattle.oe_core.specs.declared.slots.Work.{Work}
 use Rattle.oe_core.specs.declared.programs.Program.{Program}
-use Rattle.oe_core.proofs.PlaceFacts.{get_place}
+use Rattle.oe_core.proofs.SlotFacts.{get_slot}
 use Rattle.oe_core.proofs.MoveFacts.{standing, carries, the_steps, has_work, HasOpen, slot_here, own_work, worked, emptied, open_still, work_still, dropped_here}
 
 no_room : TakesNoRoom system
@@ -65,7 +65,7 @@ in_the_way : (s : Stored) → IsOrderly s → (t : ℕ) (n : Name) (m : Mode) (u
     → IsInTheWayIn system (store_of s).slots t n m u
 in_the_way s o t n m u h =
     let v = view_of s.engine in
-    let found = has_work s.engine u (in_place s.txs u) (in_place s.works u) (o.works u) h.is_open in
+    let found = has_work s.engine u (in_slot s.txs u) (in_slot s.works u) (o.works u) h.is_open in
     record {
       other = h.other;
       who = slot_of v u found.0;
@@ -85,35 +85,35 @@ module _ (s : Stored) (t : ℕ) (x : Handle) (w : Work) (h : HasOpen s t x w) wh
       let own = own_work h in
       λ i. record { terminal = own.terminal i; number = suc ((view_of s.engine).counts (own.terminal i)); request = w.request }
 
-  pub asked_here : ask_here s.engine x w.request (place_of w.request w.program) ≡ ask (tx_in system t here) (place_of w.request w.program) (view_of s.engine).rows
-  asked_here = ap (λ z. ask z (place_of w.request w.program) (view_of s.engine).rows) same_tx
+  pub asked_here : ask_here s.engine x w.request (position_of w.request w.program) ≡ ask (tx_in system t here) (position_of w.request w.program) (view_of s.engine).rows
+  asked_here = ap (λ z. ask z (position_of w.request w.program) (view_of s.engine).rows) same_tx
 
-  pub acted_here : act_here s.engine x w.request (place_of w.request w.program) ≡ act (tx_in system t here) (place_of w.request w.program) (view_of s.engine).rows
-  acted_here = ap (λ z. act z (place_of w.request w.program) (view_of s.engine).rows) same_tx
+  pub acted_here : act_here s.engine x w.request (position_of w.request w.program) ≡ act (tx_in system t here) (position_of w.request w.program) (view_of s.engine).rows
+  acted_here = ap (λ z. act z (position_of w.request w.program) (view_of s.engine).rows) same_tx
 
-  pub free_here : IsFreeHere s.engine x w.request (place_of w.request w.program)
-      → IsFree (view_of s.engine) t (ask (tx_in system t here) (place_of w.request w.program) (view_of s.engine).rows)
+  pub free_here : IsFreeHere s.engine x w.request (position_of w.request w.program)
+      → IsFree (view_of s.engine) t (ask (tx_in system t here) (position_of w.request w.program) (view_of s.engine).rows)
   free_here f =
-      subst (λ (k : ℕ). IsFree (view_of s.engine) k (ask (tx_in system t here) (place_of w.request w.program) (view_of s.engine).rows)) (own_work h).terminal
+      subst (λ (k : ℕ). IsFree (view_of s.engine) k (ask (tx_in system t here) (position_of w.request w.program) (view_of s.engine).rows)) (own_work h).terminal
       (subst (λ (a : Ask Name Refusal). IsFree (view_of s.engine) x.terminal a) asked_here f)
 
-  pub granted_in : IsFreeHere s.engine x w.request (place_of w.request w.program)
-      → IsGrantedIn system (store_of s).slots t (ask (tx_in system t here) (place_of w.request w.program) (view_of s.engine).rows)
+  pub granted_in : IsFreeHere s.engine x w.request (position_of w.request w.program)
+      → IsGrantedIn system (store_of s).slots t (ask (tx_in system t here) (position_of w.request w.program) (view_of s.engine).rows)
   granted_in f = granted (view_of s.engine) (work_at s) t _ (free_here f)
 
   -- a row that ends its transaction
-  leads_stop : (e : Refusal) → ask (tx_in system t here) (place_of w.request w.program) (view_of s.engine).rows ≡ Stop e
+  leads_stop : (e : Refusal) → ask (tx_in system t here) (position_of w.request w.program) (view_of s.engine).rows ≡ Stop e
       → Leads system (store_of s) (Advance t) (Aborted e) (dropped system t (store_of s))
   leads_stop e q = the_steps.stops (store_of s) t here e (standing s h.orderly) (slot_here h) q
 
-  leads_fail : (e : Refusal) → IsFreeHere s.engine x w.request (place_of w.request w.program)
-      → act (tx_in system t here) (place_of w.request w.program) (view_of s.engine).rows ≡ Fail e
+  leads_fail : (e : Refusal) → IsFreeHere s.engine x w.request (position_of w.request w.program)
+      → act (tx_in system t here) (position_of w.request w.program) (view_of s.engine).rows ≡ Fail e
       → Leads system (store_of s) (Advance t) (Aborted e) (dropped system t (store_of s))
   leads_fail e f q = the_steps.fails (store_of s) t here e (standing s h.orderly) (slot_here h) (granted_in f) q
 
   -- the tables accept each change of a row
-  accepted : (c : Change) (p : model.Place) → IsFreeHere s.engine x w.request (place_of w.request w.program)
-      → act (tx_in system t here) (place_of w.request w.program) (view_of s.engine).rows ≡ Go (Some c) p → Accepts c (view_of s.engine).rows
+  accepted : (c : Change) (p : model.Position) → IsFreeHere s.engine x w.request (position_of w.request w.program)
+      → act (tx_in system t here) (position_of w.request w.program) (view_of s.engine).rows ≡ Go (Some c) p → Accepts c (view_of s.engine).rows
   accepted c p f q =
       subst (Accepts c) (tables_here system laws (store_of s) (standing s h.orderly))
       (changes_are_accepted system laws (theory.world_of system (store_of s)) t (opened_by system ((store_of s).undo.active t) (store_of s).tables here) c p (standing s h.orderly).reached
@@ -121,14 +121,14 @@ module _ (s : Stored) (t : ℕ) (x : Handle) (w : Work) (h : HasOpen s t x w) wh
       (granted_here system laws (store_of s) (standing s h.orderly) t here (granted_in f))
       (acts_here system laws (store_of s) (standing s h.orderly) t here ∙ q))
 
-  pub leads_end : (e : Refusal) → Ends s.engine x w.request (place_of w.request w.program) e
+  pub leads_end : (e : Refusal) → Ends s.engine x w.request (position_of w.request w.program) e
       → Leads system (store_of s) (Advance t) (Aborted e) (dropped system t (store_of s))
   leads_end e (inl q) = leads_stop e (sym asked_here ∙ q)
   leads_end e (inr (inl d)) = leads_fail e d.0 (sym acted_here ∙ d.1)
   leads_end e (inr (inr d)) = absurd (not_both d.1 (view_of s.engine).rows e (accepted d.1 d.2 d.0 (sym acted_here ∙ d.3)) d.4)
 
   -- and the refusals that may end it
-  pub may_end : (e : Refusal) → Ends s.engine x w.request (place_of w.request w.program) e → (q : Request) × MayRefuse q e
+  pub may_end : (e : Refusal) → Ends s.engine x w.request (position_of w.request w.program) e → (q : Request) × MayRefuse q e
   may_end e d =
       let it = abort_is_its_own system laws (theory.world_of system (store_of s)) _ t e (standing s h.orderly).reached (leads_end e d).next in
       (it.was.request, it.cause)
@@ -142,7 +142,7 @@ holds_taken {s} {t} {x} {w} h n m g =
     let course = (reached_sound system laws w' (standing s h.orderly).reached).each t o (is_open_in system laws (store_of s) t p (slot_here h)) in
     subst (λ (k : ℕ). held_of system ((view_of s.engine).held k) n m) (sym (own_work h).terminal)
     (taken_held system laws ((view_of s.engine).held t) (tx_in system t p) (latest system w') o.now course.now n m
-    (subst (λ (z : Tx Request). Holds system (taken z (place_of w.request w.program)) n m) (same_tx s t x w h) g))
+    (subst (λ (z : Tx Request). Holds system (taken z (position_of w.request w.program)) n m) (same_tx s t x w h) g))
 
 -- what no program ends with
 never_UndoFull : (q : Request) → MayRefuse q UndoFull → ⊥
@@ -181,22 +181,22 @@ never_NotQuiet n (request.Deliveries q) h = h
 never_NotQuiet n (request.Rename q) h = h
 
 -- a row that reads a row first, where it makes a change
-given_goes : {A : Type 0} (e : Refusal) (o : Option A) (f : A → Doing) (c : Change) (z : model.Place) → given e o f ≡ Go (Some c) z → (a : A) × (f a ≡ Go (Some c) z)
+given_goes : {A : Type 0} (e : Refusal) (o : Option A) (f : A → Doing) (c : Change) (z : model.Position) → given e o f ≡ Go (Some c) z → (a : A) × (f a ≡ Go (Some c) z)
 given_goes e None f c z h = let no : ⊥ = cc in absurd no
 given_goes e (Some a) f c z h = (a, h)
 
-only_reads : (p : model.Place) (c : Change) (z : model.Place) → ◌≡◌ {A = Doing} (Go None p) (Go (Some c) z) → ⊥
+only_reads : (p : model.Position) (c : Change) (z : model.Position) → ◌≡◌ {A = Doing} (Go None p) (Go (Some c) z) → ⊥
 only_reads p c z h = cc
 
 -- a row's change may need memory
-payment_allocates : (x : Tx Request) (q : PaymentRequest) (p : model.PaymentPlace) (r : Rows) (c : Change) (z : model.Place) → act x (model.InPayment q p) r ≡ Go (Some c) z → may_allocate (model.InPayment q p) ≡ true
+payment_allocates : (x : Tx Request) (q : PaymentRequest) (p : model.PaymentPosition) (r : Rows) (c : Change) (z : model.Position) → act x (model.InPayment q p) r ≡ Go (Some c) z → may_allocate (model.InPayment q p) ≡ true
 payment_allocates x q model.PaymentWarehouse r c z e = refl
 payment_allocates x q (model.PaymentDistrict n) r c z e = refl
 payment_allocates x q (model.PaymentCustomer n d) r c z e = refl
 payment_allocates x q (model.PaymentHistory d y) r c z e = refl
 payment_allocates x q (model.PaymentEnd y) r c z e = let no : ⊥ = cc in absurd no
 
-new_order_allocates : (x : Tx Request) (q : NewOrderRequest) (p : model.NewOrderPlace) (r : Rows) (c : Change) (z : model.Place) → act x (model.InNewOrder q p) r ≡ Go (Some c) z → may_allocate (model.InNewOrder q p) ≡ true
+new_order_allocates : (x : Tx Request) (q : NewOrderRequest) (p : model.NewOrderPosition) (r : Rows) (c : Change) (z : model.Position) → act x (model.InNewOrder q p) r ≡ Go (Some c) z → may_allocate (model.InNewOrder q p) ≡ true
 new_order_allocates x q model.NewOrderWarehouse r c z e =
     let (y, f) = given_goes (NoSuchRow (key.Warehouse (warehouse_of_district q.district))) (get r.warehouses (warehouse_of_district q.district)) _ c z e in absurd (only_reads _ c z f)
 new_order_allocates x q (model.NewOrderDistrict w) r c z e = refl
@@ -208,57 +208,57 @@ new_order_allocates x q (model.NewOrderStock y before done []) r c z e = let no 
 new_order_allocates x q (model.NewOrderStock y before done (l ∷ ls)) r c z e = refl
 new_order_allocates x q (model.NewOrderLine y before done l f ls) r c z e = refl
 
-delivery_allocates : (x : Tx Request) (q : DeliveryRequest) (p : model.DeliveryPlace) (r : Rows) (c : Change) (z : model.Place) → act x (model.InDelivery q p) r ≡ Go (Some c) z → may_allocate (model.InDelivery q p) ≡ true
+delivery_allocates : (x : Tx Request) (q : DeliveryRequest) (p : model.DeliveryPosition) (r : Rows) (c : Change) (z : model.Position) → act x (model.InDelivery q p) r ≡ Go (Some c) z → may_allocate (model.InDelivery q p) ≡ true
 delivery_allocates x q model.DeliveryQueue r c z e = refl
 delivery_allocates x q model.DeliveryNothing r c z e = let no : ⊥ = cc in absurd no
 delivery_allocates x q (model.DeliveryOrder o) r c z e = refl
 delivery_allocates x q (model.DeliveryLine o k ns sum) r c z e = refl
 delivery_allocates x q (model.DeliveryEnd o k sum) r c z e = let no : ⊥ = cc in absurd no
 
-allocates : (x : Tx Request) (p : model.Place) (r : Rows) (c : Change) (z : model.Place) → act x p r ≡ Go (Some c) z → may_allocate p ≡ true
+allocates : (x : Tx Request) (p : model.Position) (r : Rows) (c : Change) (z : model.Position) → act x p r ≡ Go (Some c) z → may_allocate p ≡ true
 allocates x (model.InPayment q p) r c z e = payment_allocates x q p r c z e
 allocates x (model.InNewOrder q p) r c z e = new_order_allocates x q p r c z e
 allocates x (model.InDelivery q p) r c z e = delivery_allocates x q p r c z e
 allocates x model.NoProgram r c z e = let no : ⊥ = cc in absurd no
 
-lacks : (s : Store system) (t : ℕ) (p : Slot system) (a : Ask Name Refusal) → IsGrantedIn system s.slots t a → (IsNew system p.held a ⊎ (may_allocate p.place ≡ true))
-    → GivesWay system (yields p.place) (act (tx_in system t p) p.place s.tables) → MayLackMemoryIn system s t p a
+lacks : (s : Store system) (t : ℕ) (p : Slot system) (a : Ask Name Refusal) → IsGrantedIn system s.slots t a → (IsNew system p.held a ⊎ (may_allocate p.position ≡ true))
+    → GivesWay system (yields p.position) (act (tx_in system t p) p.position s.tables) → MayLackMemoryIn system s t p a
 lacks s t p (Stop e) g n y = absurd g
 lacks s t p Plain g n y = (g, n, y)
 lacks s t p (Take k m) g n y = (g, n, y)
 
 -- the row went on
 pub went_on_here : {s : Stored} {t : ℕ} {x : Handle} {w : Work} → HasOpen s t x w → (p : Program) (e' : engine.Stored) (ws : List (Option Work))
-    → GoesOn s.engine x w.request (place_of w.request w.program) e' (place_of w.request p) → IsOf w.request p
+    → GoesOn s.engine x w.request (position_of w.request w.program) e' (position_of w.request p) → IsOf w.request p
     → ws ≡ slice_set s.works t (Some (record w { program = p }))
     → Moves s (Advance t) More (record { engine = e'; txs = s.txs; works = ws })
 went_on_here {s} {t} {x} {w} h p e' ws g r q =
     let v = view_of s.engine in
     let own = own_work h in
-    let a = ask (tx_in system t (slot_of v t w)) (place_of w.request w.program) v.rows in
+    let a = ask (tx_in system t (slot_of v t w)) (position_of w.request w.program) v.rows in
     let now : view_of e' ≡ row_done t a g.change v =
     g.done
     ∙ (ap (λ (z : Ask Name Refusal). row_done x.terminal z g.change v) (asked_here s t x w h)
     ∙ ap (λ (z : ℕ). row_done z a g.change v) own.terminal) in
-    worked h (Advance t) More (record w { program = p }) (Some (slot_after system (slot_of v t w) (length (v.undo.active t)) a (place_of w.request p))) e' (row_done t a g.change v)
-    (the_steps.goes_on (store_of s) t (slot_of v t w) g.change (place_of w.request p) (standing s h.orderly) (slot_here h) (granted_in s t x w h g.free)
+    worked h (Advance t) More (record w { program = p }) (Some (slot_after system (slot_of v t w) (length (v.undo.active t)) a (position_of w.request p))) e' (row_done t a g.change v)
+    (the_steps.goes_on (store_of s) t (slot_of v t w) g.change (position_of w.request p) (standing s h.orderly) (slot_here h) (granted_in s t x w h g.free)
     (sym (acted_here s t x w h) ∙ g.does) (the_steps.is_room no_room (store_of s) t g.change))
     now g.name (record { counts = λ u n. refl; held = λ u n. set_other t _ v.held u n; is_open = λ u n. refl })
     (λ i. Some (record {
       number = suc (v.counts t);
       request = w.request;
-      place = place_of w.request p;
-      mark_place = place_of w.request w.mark.program;
+      position = position_of w.request p;
+      mark_position = position_of w.request w.mark.program;
       mark_count = w.mark.records;
       held = set_same t (held_after system a (v.held t)) v.held t refl i;
     }))
     (work_still s.engine e' t x w p w.mark own (ap (λ (z : View). z.is_open) now) g.name r own.mark)
     ws q
 
--- what is taken out of a place is the transaction that stood there
+-- what is taken out of a slot is the transaction that stood there
 pub taken_is : {s : Stored} {t : ℕ} {x : Handle} {w : Work} → HasOpen s t x w → (out : Handle) → slice_get s.txs t ≡ Some (Some out) → out ≡ x
 taken_is {s} {t} {x} h out e =
-    let it : Some out ≡ Some x = sym (get_place s.txs t (Some out) None e) ∙ h.tx in
+    let it : Some out ≡ Some x = sym (get_slot s.txs t (Some out) None e) ∙ h.tx in
     cc
 
 -- it is open still, where the engine stands for the same
@@ -268,13 +268,13 @@ taken_is_open {s} {t} {x} h out e e' b name =
     subst (λ (z : Handle). IsOpen e' z) (sym (taken_is h out e)) (open_still s.engine e' x (ap (λ (z : View). z.is_open) b) name (own_work h).is_open)
 
 -- a program that is ready has its reply
-pub has_reply : {s : Stored} {t : ℕ} {x : Handle} {w : Work} → HasOpen s t x w → (p : Program) → place_of w.request p ≡ place_of w.request w.program
-    → (y : Reply) → IsReady s.engine x w.request (place_of w.request w.program) y → reply_of w.request p ≡ Some y
-has_reply {s} {t} {x} {w} h p same y g = ap reply_at same ∙ ready_at (tx_of s.engine x w.request) (place_of w.request w.program) (view_of s.engine).rows y g.does
+pub has_reply : {s : Stored} {t : ℕ} {x : Handle} {w : Work} → HasOpen s t x w → (p : Program) → position_of w.request p ≡ position_of w.request w.program
+    → (y : Reply) → IsReady s.engine x w.request (position_of w.request w.program) y → reply_of w.request p ≡ Some y
+has_reply {s} {t} {x} {w} h p same y g = ap reply_at same ∙ ready_at (tx_of s.engine x w.request) (position_of w.request w.program) (view_of s.engine).rows y g.does
 
 -- it was ready, and its transaction committed
 pub committed_here : {s : Stored} {t : ℕ} {x : Handle} {w : Work} → HasOpen s t x w → (out : Handle) → out ≡ x → (y : Reply) (n : ℕ) (e₀ e' : engine.Stored) (xs : List (Option Handle)) (ws : List (Option Work)) (z : Option Work)
-    → IsReady s.engine x w.request (place_of w.request w.program) y → e₀ ≡ s.engine → n ≡ suc (total terminal_limit (view_of e₀).counts)
+    → IsReady s.engine x w.request (position_of w.request w.program) y → e₀ ≡ s.engine → n ≡ suc (total terminal_limit (view_of e₀).counts)
     → view_of e' ≡ committed out.terminal w.request y (view_of e₀) → e'.name ≡ e₀.name → xs ≡ slice_set s.txs t None → ws ≡ slice_set s.works t z
     → Moves s (Advance t) (Committed n y) (record { engine = e'; txs = xs; works = ws })
 committed_here {s} {t} {x} {w} h out own y n e₀ e' xs ws z g same c b name p q =
@@ -302,7 +302,7 @@ told_newest {s} {t} {m} {y} {s'} k = (y, reply_is_newest (world_of s) (Advance t
 
 -- the refusals after which it stays open
 kept_lead : (s : Stored) (t : ℕ) (y : Handle) (w : Work) → HasOpen s t y w → (x : Refusal) → keeps_open x ≡ true
-    → IsRefused s.engine y w.request (place_of w.request w.program) x → Leads system (store_of s) (Advance t) (refusal_in (step.Advance t) x) (store_of s)
+    → IsRefused s.engine y w.request (position_of w.request w.program) x → Leads system (store_of s) (Advance t) (refusal_in (step.Advance t) x) (store_of s)
 kept_lead s t y w o (BadLine n) kp h = let no : ⊥ = cc in absurd no
 kept_lead s t y w o (NoSuchRow k) kp h = let no : ⊥ = cc in absurd no
 kept_lead s t y w o (RowExists k) kp h = let no : ⊥ = cc in absurd no
@@ -316,16 +316,16 @@ kept_lead s t y w o UndoFull kp h = let it = may_end s t y w o UndoFull h.1 in a
 kept_lead s t y w o NoMemory kp h =
     the_steps.lacks_memory (store_of s) t (here s t y w o) (standing s o.orderly) (slot_here o)
     (lacks (store_of s) t (here s t y w o) _ (granted_in s t y w o h.1) (new h.2)
-    (subst (GivesWay system (yields (place_of w.request w.program))) (acted_here s t y w o) h.3))
+    (subst (GivesWay system (yields (position_of w.request w.program))) (acted_here s t y w o) h.3))
   where
     own : (view_of s.engine).held y.terminal ≡ (view_of s.engine).held t
     own = ap (view_of s.engine).held (own_work o).terminal
 
-    new : IsNew system ((view_of s.engine).held y.terminal) (ask_here s.engine y w.request (place_of w.request w.program))
-        ⊎ ((c : Change) × (p' : model.Place) × (act_here s.engine y w.request (place_of w.request w.program) ≡ Go (Some c) p') × WantsMemory s.engine y c)
-        → IsNew system ((view_of s.engine).held t) (ask (tx_in system t (here s t y w o)) (place_of w.request w.program) (view_of s.engine).rows) ⊎ (may_allocate (place_of w.request w.program) ≡ true)
-    new (inl a) = inl (subst (λ z. IsNew system z (ask (tx_in system t (here s t y w o)) (place_of w.request w.program) (view_of s.engine).rows)) own (subst (IsNew system ((view_of s.engine).held y.terminal)) (asked_here s t y w o) a))
-    new (inr a) = inr (allocates (tx_of s.engine y w.request) (place_of w.request w.program) (view_of s.engine).rows a.0 a.1 a.2)
+    new : IsNew system ((view_of s.engine).held y.terminal) (ask_here s.engine y w.request (position_of w.request w.program))
+        ⊎ ((c : Change) × (p' : model.Position) × (act_here s.engine y w.request (position_of w.request w.program) ≡ Go (Some c) p') × WantsMemory s.engine y c)
+        → IsNew system ((view_of s.engine).held t) (ask (tx_in system t (here s t y w o)) (position_of w.request w.program) (view_of s.engine).rows) ⊎ (may_allocate (position_of w.request w.program) ≡ true)
+    new (inl a) = inl (subst (λ z. IsNew system z (ask (tx_in system t (here s t y w o)) (position_of w.request w.program) (view_of s.engine).rows)) own (subst (IsNew system ((view_of s.engine).held y.terminal)) (asked_here s t y w o) a))
+    new (inr a) = inr (allocates (tx_of s.engine y w.request) (position_of w.request w.program) (view_of s.engine).rows a.0 a.1 a.2)
 kept_lead s t y w o NotOpen kp h = let no : ⊥ = cc in absurd no
 kept_lead s t y w o AlreadyOpen kp h = let no : ⊥ = cc in absurd no
 kept_lead s t y w o InvalidItem kp h = let no : ⊥ = cc in absurd no
@@ -337,7 +337,7 @@ kept_lead s t y w o (NotPinned n) kp h = let no : ⊥ = cc in absurd no
 
 -- those after which it is gone
 ended_lead : (s : Stored) (t : ℕ) (y : Handle) (w : Work) → HasOpen s t y w → (x : Refusal) → keeps_open x ≡ false
-    → IsRefused s.engine y w.request (place_of w.request w.program) x → Leads system (store_of s) (Advance t) (refusal_in (step.Advance t) x) (dropped system t (store_of s))
+    → IsRefused s.engine y w.request (position_of w.request w.program) x → Leads system (store_of s) (Advance t) (refusal_in (step.Advance t) x) (dropped system t (store_of s))
 ended_lead s t y w o (BadLine n) kp h = leads_end s t y w o (BadLine n) h.1
 ended_lead s t y w o (NoSuchRow k) kp h = leads_end s t y w o (NoSuchRow k) h.1
 ended_lead s t y w o (RowExists k) kp h = leads_end s t y w o (RowExists k) h.1
@@ -358,8 +358,8 @@ ended_lead s t y w o (NotPinned n) kp h = leads_end s t y w o (NotPinned n) h.1
 
 -- it was refused, and stays open where it stands
 pub kept_here : {s : Stored} {t : ℕ} {y : Handle} {w : Work} → HasOpen s t y w → (p : Program) (e' : engine.Stored) (ws : List (Option Work)) (x : Refusal)
-    → keeps_open x ≡ true → IsRefused s.engine y w.request (place_of w.request w.program) x
-    → view_of e' ≡ view_of s.engine → e'.name ≡ s.engine.name → IsOf w.request p → place_of w.request p ≡ place_of w.request w.program
+    → keeps_open x ≡ true → IsRefused s.engine y w.request (position_of w.request w.program) x
+    → view_of e' ≡ view_of s.engine → e'.name ≡ s.engine.name → IsOf w.request p → position_of w.request p ≡ position_of w.request w.program
     → ws ≡ slice_set s.works t (Some (record w { program = p }))
     → Moves s (Advance t) (refusal_in (step.Advance t) x) (record { engine = e'; txs = s.txs; works = ws })
 kept_here {s} {t} {y} {w} h p e' ws x kept why b name r same q =
@@ -369,13 +369,13 @@ kept_here {s} {t} {y} {w} h p e' ws x kept why b name r same q =
     (subst (λ (f : ℕ → Option (Slot system)). Leads system (store_of s) (Advance t) (refusal_in (step.Advance t) x) (record { tables = v.rows; undo = v.undo; slots = f; seals = v.seals; counts = v.counts; extents = v.extents }))
     (sym (set_idle t (Some (slot_of v t w)) (store_of s).slots (slot_here h))) (kept_lead s t y w h x kept why))
     b name (record { counts = λ u n. refl; held = λ u n. refl; is_open = λ u n. refl })
-    (λ i. Some (record { number = suc (v.counts t); request = w.request; place = same i; mark_place = place_of w.request w.mark.program; mark_count = w.mark.records; held = v.held t }))
+    (λ i. Some (record { number = suc (v.counts t); request = w.request; position = same i; mark_position = position_of w.request w.mark.program; mark_count = w.mark.records; held = v.held t }))
     (work_still s.engine e' t y w p w.mark own (ap (λ (z : View). z.is_open) b) name r own.mark)
     ws q
 
 -- it was refused, and rolled back
 pub given_up_here : {s : Stored} {t : ℕ} {y : Handle} {w : Work} → HasOpen s t y w → (out : Handle) → out ≡ y → (e' e'' : engine.Stored) (xs : List (Option Handle)) (ws : List (Option Work)) (z : Option Work) (x : Refusal)
-    → keeps_open x ≡ false → IsRefused s.engine y w.request (place_of w.request w.program) x
+    → keeps_open x ≡ false → IsRefused s.engine y w.request (position_of w.request w.program) x
     → view_of e' ≡ view_of s.engine → e'.name ≡ s.engine.name → view_of e'' ≡ rolled_back out.terminal (view_of e') → e''.name ≡ e'.name
     → xs ≡ slice_set s.txs t None → ws ≡ slice_set s.works t z
     → Moves s (Advance t) (refusal_in (step.Advance t) x) (record { engine = e''; txs = xs; works = ws })

@@ -13,7 +13,7 @@ use Rattle.oe_model.specs.Requests.{warehouses_of, warehouse_no, first_absent, r
 use Rattle.oe_model.specs.System.{system}
 use Rattle.oe_engine.specs.View.{view_of}
 use Rattle.oe_engine.specs.Calls.{CantBegin}
-use Rattle.oe_core.specs.Core.{Stored, in_place, slot_of, open_at, store_of, IsOrderly, Moves}
+use Rattle.oe_core.specs.Core.{Stored, in_slot, slot_of, open_at, store_of, IsOrderly, Moves}
 use Rattle.oe_core.specs.Steps.{HasProgram, refusal_in}
 use Rattle.oe_core.proofs.MoveFacts.{standing, stays, the_steps, has_work, is_shut, below_limit, valid}
 
@@ -83,7 +83,7 @@ not_begun s o t l b q g kn NotOpen h =
     absurd no
 not_begun s o t l b q g kn AlreadyOpen h =
     let v = view_of s.engine in
-    let found = has_work s.engine t (in_place s.txs t) (in_place s.works t) (o.works t) h in
+    let found = has_work s.engine t (in_slot s.txs t) (in_slot s.works t) (o.works t) h in
     stays s o (Begin t q) Already_open (the_steps.is_open (store_of s) t q (slot_of v t found.0) (standing s o) kn (ap (open_at v t) found.1))
 not_begun s o t l b q g kn InvalidItem h = outnumbered s o t q InvalidItem kn h
 not_begun s o t l b q g kn NoCustomer h = outnumbered s o t q NoCustomer kn h

@@ -1,4 +1,4 @@
-pub mod PlaceFacts
+pub mod SlotFacts
 pub mod MoveFacts
 pub mod BeginFacts
 pub mod AdvanceFacts
@@ -6,3 +6,5 @@ pub mod CloseFacts
 pub mod OpenFacts
 pub mod AuditFacts
 pub mod RunFacts
+pub mod ReadFacts
+pub mod PastFacts

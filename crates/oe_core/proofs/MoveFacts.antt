@@ -22,12 +22,12 @@ use Rattle.oe_model.proofs.SystemLaws.{laws}
 use Rattle.oe_engine.specs.View.{View, view_of, Handle, IsOpen}
 use Rattle.oe_engine.specs.View as engine
 use Rattle.oe_engine.specs.Calls.{begun, back_at, rolled_back}
-use Rattle.oe_core.specs.Core.{Stored, IsOf, place_of, in_place, work_of, work_at, slot_of, open_at, store_with, store_of, world_of, IsSound, IsWork, Works, IsOrderly, Moves}
+use Rattle.oe_core.specs.Core.{Stored, IsOf, position_of, in_slot, work_of, work_at, slot_of, open_at, store_with, store_of, world_of, IsSound, IsWork, Works, IsOrderly, IsBegun, Moves}
 use Rattle.oe_core.specs.Steps.{HasProgram}
 use Rattle.oe_core.specs.declared.slots.Mark.{Mark}
 use Rattle.oe_core.specs.declared.slots.Work.{Work}
 use Rattle.oe_core.specs.declared.programs.Program.{Program}
-use Rattle.oe_core.proofs.PlaceFacts.{place_set, kept_place, get_place, lent_place, set_idle_place}
+use Rattle.oe_core.proofs.SlotFacts.{slot_set, kept_slot, get_slot, lent_slot, set_idle_slot}
 
 pub standing : (s : Stored) → IsOrderly s → IsStanding system (store_of s)
 unfolding IsSound
@@ -38,11 +38,11 @@ unfolding IsSound world_of
 reached_here s o = o.sound.reached
 
 pub closed : (s s' : Stored) (i : Step system) (a : Answer system) (t : Store system) → Leads system (store_of s) i a t → store_of s' ≡ t
-    → length s'.txs ≡ 65 → length s'.works ≡ 65 → ((u : ℕ) → Works s'.engine u (in_place s'.txs u) (in_place s'.works u)) → Moves s i a s'
+    → length s'.txs ≡ 65 → length s'.works ≡ 65 → ((u : ℕ) → Works s'.engine u (in_slot s'.txs u) (in_slot s'.works u)) → Moves s i a s'
 unfolding IsSound world_of
 closed s s' i a t l e h k g =
     let l' : Leads system (store_of s) i a (store_of s') = subst (λ (z : Store system). Leads system (store_of s) i a z) (sym e) l in
-    record { next = l'.next; orderly = record { tx_places = h; work_places = k; works = g; sound = l'.stands } }
+    record { next = l'.next; orderly = record { tx_slots = h; work_slots = k; works = g; sound = l'.stands } }
 
 -- what is said of it
 pub carries : {s : Stored} {i : Step system} {a : Answer system} {s' : Stored} → Moves s i a s' → Next system (world_of s) i a (world_of s') × IsReached system (world_of s')
@@ -50,16 +50,16 @@ carries m = (m.next, reached_here _ m.orderly)
 
 -- a step that leaves what is stored
 pub stays : (s : Stored) → IsOrderly s → (i : Step system) (a : Answer system) → Leads system (store_of s) i a (store_of s) → Moves s i a s
-stays s o i a l = closed s s i a (store_of s) l refl o.tx_places o.work_places o.works
+stays s o i a l = closed s s i a (store_of s) l refl o.tx_slots o.work_slots o.works
 
 pub the_steps : Steps_of_the_store system
 the_steps = steps_of_the_store system laws
 
 pub within : (s : Stored) → IsOrderly s → (t : ℕ) → t < 65 → t < length s.txs
-within s o t h = omega (arith, h, o.tx_places)
+within s o t h = omega (arith, h, o.tx_slots)
 
 works_within : (s : Stored) → IsOrderly s → (t : ℕ) → t < 65 → t < length s.works
-works_within s o t h = omega (arith, h, o.work_places)
+works_within s o t h = omega (arith, h, o.work_slots)
 
 pub below_limit : (t : ℕ) → t < 65 → t < terminal_limit
 unfolding terminal_limit
@@ -80,7 +80,7 @@ slots_set v v' f g t x y e c h q = fun_ext (λ u. go u (cases_eq u t))
     same : (u : ℕ) (w : Option Work) → v'.counts u ≡ v.counts u → v'.held u ≡ v.held u → open_at v' u w ≡ open_at v u w
     same u None a b = refl
     same u (Some w) a b =
-        λ i. Some (record { number = suc (a i); request = w.request; place = place_of w.request w.program; mark_place = place_of w.request w.mark.program; mark_count = w.mark.records; held = b i })
+        λ i. Some (record { number = suc (a i); request = w.request; position = position_of w.request w.program; mark_position = position_of w.request w.mark.program; mark_count = w.mark.records; held = b i })
 
     go : (u : ℕ) → (u ≡ t) ⊎ (u ≢ t) → open_at v' u (g u) ≡ set t y (λ k. open_at v k (f k)) u
     go u (inl p) =
@@ -92,7 +92,7 @@ slots_set v v' f g t x y e c h q = fun_ext (λ u. go u (cases_eq u t))
         ∙ (ap (open_at v' u) (set_other t x f u n)
         ∙ (same u (f u) (c u n) (h u n) ∙ sym (set_other t y (λ k. open_at v k (f k)) u n)))
 
--- what is carried out, where one place has changed
+-- what is carried out, where one slot has changed
 pub work_set : (a b : ℕ → Option Handle) (f g : ℕ → Option Work) (t : ℕ) (x : Option Handle) (w : Option Work) → b ≡ set t x a → g ≡ set t w f
     → (λ u. work_of (b u) (g u)) ≡ set t (work_of x w) (λ u. work_of (a u) (f u))
 work_set a b f g t x w p q = fun_ext (λ u. go u (cases_eq u t))
@@ -143,25 +143,25 @@ has_work e t None y h o = let no : true ≡ false = sym o ∙ h in absurd (cc)
 has_work e t (Some x) None h o = absurd h
 has_work e t (Some x) (Some w) h o = (w, refl)
 
--- and its place, where it has none
+-- and its slot, where it has none
 pub no_tx : (e : engine.Stored) (t : ℕ) (x : Option Handle) (y : Option Work) → Works e t x y → (view_of e).is_open t ≡ false → x ≡ None
 no_tx e t None y h o = refl
 no_tx e t (Some x) None h o = absurd h
 no_tx e t (Some x) (Some w) h o =
     let no : true ≡ false = sym h.is_open.terminal ∙ (ap (view_of e).is_open h.terminal ∙ o) in absurd (cc)
 
-pub no_slot : (s : Stored) (t : ℕ) → in_place s.txs t ≡ None → (store_of s).slots t ≡ None
-no_slot s t e = ap (λ z. open_at (view_of s.engine) t (work_of z (in_place s.works t))) e
+pub no_slot : (s : Stored) (t : ℕ) → in_slot s.txs t ≡ None → (store_of s).slots t ≡ None
+no_slot s t e = ap (λ z. open_at (view_of s.engine) t (work_of z (in_slot s.works t))) e
 
 pub is_shut : (s : Stored) → IsOrderly s → (t : ℕ) → (view_of s.engine).is_open t ≡ false → (store_of s).slots t ≡ None
-is_shut s o t h = no_slot s t (no_tx s.engine t (in_place s.txs t) (in_place s.works t) (o.works t) h)
+is_shut s o t h = no_slot s t (no_tx s.engine t (in_slot s.txs t) (in_slot s.works t) (o.works t) h)
 
 -- terminal t of an orderly core has this transaction open
 pub record HasOpen (s : Stored) (t : ℕ) (x : Handle) (w : Work) : Type 0 where
   pub orderly : IsOrderly s
   pub low : t < 65
-  pub tx : in_place s.txs t ≡ Some x
-  pub work : in_place s.works t ≡ Some w
+  pub tx : in_slot s.txs t ≡ Some x
+  pub work : in_slot s.works t ≡ Some w
 
 -- so has its slot
 pub slot_here : {s : Stored} {t : ℕ} {x : Handle} {w : Work} → HasOpen s t x w → (store_of s).slots t ≡ Some (slot_of (view_of s.engine) t w)
@@ -171,39 +171,39 @@ slot_here {s} {t} h = λ i. open_at (view_of s.engine) t (work_of (h.tx i) (h.wo
 pub own_work : {s : Stored} {t : ℕ} {x : Handle} {w : Work} → HasOpen s t x w → IsWork s.engine t x w
 own_work {s} {t} {x} h =
     subst (λ (z : Option Work). Works s.engine t (Some x) z) h.work
-    (subst (λ (y : Option Handle). Works s.engine t y (in_place s.works t)) h.tx (h.orderly.works t))
+    (subst (λ (y : Option Handle). Works s.engine t y (in_slot s.works t)) h.tx (h.orderly.works t))
 
 -- where there is a transaction there is work for it
 work_there : (e : engine.Stored) (t : ℕ) (x : Handle) (y : Option Work) → Works e t (Some x) y → y ≡ None → ⊥
 work_there e t x None h none = h
 work_there e t x (Some w) h none = let no : ⊥ = cc in no
 
-pub has_work_there : (s : Stored) (t : ℕ) (x : Handle) → IsOrderly s → in_place s.txs t ≡ Some x → in_place s.works t ≡ None → ⊥
+pub has_work_there : (s : Stored) (t : ℕ) (x : Handle) → IsOrderly s → in_slot s.txs t ≡ Some x → in_slot s.works t ≡ None → ⊥
 has_work_there s t x o e none =
-    work_there s.engine t x (in_place s.works t) (subst (λ (y : Option Handle). Works s.engine t y (in_place s.works t)) e (o.works t)) none
+    work_there s.engine t x (in_slot s.works t) (subst (λ (y : Option Handle). Works s.engine t y (in_slot s.works t)) e (o.works t)) none
 
--- what a place lends is what stands there
-pub lent_tx : {s : Stored} {i t : ℕ} {x y : Option Handle} → IsOrderly s → i ≡ t → i ≤ 64 → x ≡ get_or s.txs i x → x ≡ y → in_place s.txs t ≡ y
-lent_tx {s} {i} {t} {x} {y} o p h g e = lent_place s.txs i t x y p (within s o t (omega (arith, p, h))) g e
+-- what a slot lends is what stands there
+pub lent_tx : {s : Stored} {i t : ℕ} {x y : Option Handle} → IsOrderly s → i ≡ t → i ≤ 64 → x ≡ get_or s.txs i x → x ≡ y → in_slot s.txs t ≡ y
+lent_tx {s} {i} {t} {x} {y} o p h g e = lent_slot s.txs i t x y p (within s o t (omega (arith, p, h))) g e
 
-pub lent_work : {s : Stored} {i t : ℕ} {x y : Option Work} → IsOrderly s → i ≡ t → i ≤ 64 → x ≡ get_or s.works i x → x ≡ y → in_place s.works t ≡ y
-lent_work {s} {i} {t} {x} {y} o p h g e = lent_place s.works i t x y p (works_within s o t (omega (arith, p, h))) g e
+pub lent_work : {s : Stored} {i t : ℕ} {x y : Option Work} → IsOrderly s → i ≡ t → i ≤ 64 → x ≡ get_or s.works i x → x ≡ y → in_slot s.works t ≡ y
+lent_work {s} {i} {t} {x} {y} o p h g e = lent_slot s.works i t x y p (works_within s o t (omega (arith, p, h))) g e
 
--- a transaction and its work that their places lend
+-- a transaction and its work that their slots lend
 pub lent_here : {s : Stored} {i j t : ℕ} {x : Option Handle} {y : Handle} {v : Option Work} {w : Work} → IsOrderly s
     → i ≡ t → i ≤ 64 → x ≡ get_or s.txs i x → x ≡ Some y → j ≡ t → j ≤ 64 → v ≡ get_or s.works j v → v ≡ Some w → HasOpen s t y w
 lent_here {s} {i} {j} {t} {x} {y} {v} {w} o p h g e q k f d = record { orderly = o; low = omega (arith, p, h); tx = lent_tx o p h g e; work = lent_work o q k f d }
 
 -- nothing is open there
-pub nothing_open : (s : Stored) → IsOrderly s → (i : Step system) (t : ℕ) → works_on system i ≡ Some t → in_place s.txs t ≡ None → Moves s i Not_open s
+pub nothing_open : (s : Stored) → IsOrderly s → (i : Step system) (t : ℕ) → works_on system i ≡ Some t → in_slot s.txs t ≡ None → Moves s i Not_open s
 nothing_open s o i t w e = stays s o i Not_open (the_steps.is_not_open (store_of s) i t (standing s o) w (no_slot s t e))
 
 -- also once it was taken out
 pub nothing_taken : (s : Stored) → IsOrderly s → (i : Step system) (t : ℕ) → works_on system i ≡ Some t → slice_get s.txs t ≡ Some None → (xs : List (Option Handle)) → xs ≡ slice_set s.txs t None
     → Moves s i Not_open (record { engine = s.engine; txs = xs; works = s.works })
 nothing_taken s o i t w e xs q =
-    subst (λ (z : List (Option Handle)). Moves s i Not_open (record { engine = s.engine; txs = z; works = s.works })) (sym (q ∙ set_idle_place s.txs t None e))
-    (nothing_open s o i t w (get_place s.txs t None None e))
+    subst (λ (z : List (Option Handle)). Moves s i Not_open (record { engine = s.engine; txs = z; works = s.works })) (sym (q ∙ set_idle_slot s.txs t None e))
+    (nothing_open s o i t w (get_slot s.txs t None None e))
 
 -- the mark is not past the records
 pub mark_within : {s : Stored} {t : ℕ} {x : Handle} {w : Work} → HasOpen s t x w → w.mark.records ≤ length ((view_of s.engine).undo.active x.terminal)
@@ -217,7 +217,7 @@ pub record LeavesOthers (t : ℕ) (v v' : View) : Type 0 where
   pub held : (u : ℕ) → u ≢ t → v'.held u ≡ v.held u
   pub is_open : (u : ℕ) → u ≢ t → v'.is_open u ≡ v.is_open u
 
--- a step after which a terminal's place has another transaction and other work, or none, and the engine stands for what the step
+-- a step after which a terminal's slot has another transaction and other work, or none, and the engine stands for what the step
 -- leads to
 pub replaced : (s : Stored) → IsOrderly s → (i : Step system) (a : Answer system) (t : ℕ) → t < 65 → (x : Option Handle) (w : Option Work) (y : Option (Slot system)) (e' : engine.Stored) (v' : View)
     → Leads system (store_of s) i a (record { tables = v'.rows; undo = v'.undo; slots = set t y (store_of s).slots; seals = v'.seals; counts = v'.counts; extents = v'.extents })
@@ -226,17 +226,17 @@ pub replaced : (s : Stored) → IsOrderly s → (i : Step system) (a : Answer sy
     → Moves s i a (record { engine = e'; txs = xs; works = ws })
 replaced s o i a t h x w y e' v' lead now name left slot works xs ws p q =
     let s' : Stored = record { engine = e'; txs = xs; works = ws } in
-    let txs : in_place xs ≡ set t x (in_place s.txs) = ap (λ (z : List (Option Handle)). in_place z) p ∙ place_set s.txs t x None (within s o t h) in
-    let work : in_place ws ≡ set t w (in_place s.works) = ap (λ (z : List (Option Work)). in_place z) q ∙ place_set s.works t w None (works_within s o t h) in
-    let at : work_at s' ≡ set t (work_of x w) (work_at s) = work_set (in_place s.txs) (in_place xs) (in_place s.works) (in_place ws) t x w txs work in
+    let txs : in_slot xs ≡ set t x (in_slot s.txs) = ap (λ (z : List (Option Handle)). in_slot z) p ∙ slot_set s.txs t x None (within s o t h) in
+    let work : in_slot ws ≡ set t w (in_slot s.works) = ap (λ (z : List (Option Work)). in_slot z) q ∙ slot_set s.works t w None (works_within s o t h) in
+    let at : work_at s' ≡ set t (work_of x w) (work_at s) = work_set (in_slot s.txs) (in_slot xs) (in_slot s.works) (in_slot ws) t x w txs work in
     closed s s' i a _ lead
     (ap (λ (z : View). store_with z (work_at s')) now
     ∙ same_parts _ _ _ _ _ _ _ _ _ _ _ _ refl refl (slots_set (view_of s.engine) v' (work_at s) (work_at s') t (work_of x w) y at left.counts left.held slot) refl refl refl)
-    (ap (λ (z : List (Option Handle)). length z) p ∙ (length-set s.txs t x ∙ o.tx_places))
-    (ap (λ (z : List (Option Work)). length z) q ∙ (length-set s.works t w ∙ o.work_places))
-    (works_set s.engine e' (in_place s.txs) (in_place xs) (in_place s.works) (in_place ws) t x w txs work name (λ u n. ap (λ (z : View). z.is_open u) now ∙ left.is_open u n) o.works works)
+    (ap (λ (z : List (Option Handle)). length z) p ∙ (length-set s.txs t x ∙ o.tx_slots))
+    (ap (λ (z : List (Option Work)). length z) q ∙ (length-set s.works t w ∙ o.work_slots))
+    (works_set s.engine e' (in_slot s.txs) (in_slot xs) (in_slot s.works) (in_slot ws) t x w txs work name (λ u n. ap (λ (z : View). z.is_open u) now ∙ left.is_open u n) o.works works)
 
--- a step that leaves the transaction in its place, and changes its work
+-- a step that leaves the transaction in its slot, and changes its work
 pub worked : {s : Stored} {t : ℕ} {x : Handle} {w : Work} → HasOpen s t x w → (i : Step system) (a : Answer system) (w' : Work) (y : Option (Slot system)) (e' : engine.Stored) (v' : View)
     → Leads system (store_of s) i a (record { tables = v'.rows; undo = v'.undo; slots = set t y (store_of s).slots; seals = v'.seals; counts = v'.counts; extents = v'.extents })
     → view_of e' ≡ v' → e'.name ≡ s.engine.name → LeavesOthers t (view_of s.engine) v' → Some (slot_of v' t w') ≡ y → IsWork e' t x w'
@@ -244,9 +244,9 @@ pub worked : {s : Stored} {t : ℕ} {x : Handle} {w : Work} → HasOpen s t x w 
     → Moves s i a (record { engine = e'; txs = s.txs; works = ws })
 worked {s} {t} {x} h i a w' y e' v' lead now name left slot own ws q =
     replaced s h.orderly i a t h.low (Some x) (Some w') y e' v' lead now name left slot own s.txs ws
-    (kept_place s.txs t None ∙ ap (λ (z : Option Handle). slice_set s.txs t z) h.tx) q
+    (kept_slot s.txs t None ∙ ap (λ (z : Option Handle). slice_set s.txs t z) h.tx) q
 
--- a step that takes it out of its place; what lies there is nobody's then
+-- a step that takes it out of its slot; what lies there is nobody's then
 pub emptied : {s : Stored} {t : ℕ} {x : Handle} {w : Work} → HasOpen s t x w → (i : Step system) (a : Answer system) (e' : engine.Stored) (v' : View)
     → Leads system (store_of s) i a (record { tables = v'.rows; undo = v'.undo; slots = set t None (store_of s).slots; seals = v'.seals; counts = v'.counts; extents = v'.extents })
     → view_of e' ≡ v' → e'.name ≡ s.engine.name → LeavesOthers t (view_of s.engine) v' → v'.is_open t ≡ false
@@ -277,7 +277,7 @@ saved {s} {t} {x} {w} h m k ws same count q =
     worked h (Save t) Saved (record w { mark = m }) _ s.engine v
     (the_steps.saves (store_of s) t (slot_of v t w) (standing s h.orderly) (slot_here h))
     refl refl (record { counts = λ u n. refl; held = λ u n. refl; is_open = λ u n. refl })
-    (λ i. Some (record { number = suc (v.counts t); request = w.request; place = place_of w.request w.program; mark_place = place_of w.request (stands i); mark_count = records i; held = v.held t }))
+    (λ i. Some (record { number = suc (v.counts t); request = w.request; position = position_of w.request w.program; mark_position = position_of w.request (stands i); mark_count = records i; held = v.held t }))
     (work_still s.engine s.engine t x w w.program m own refl refl own.program (subst (IsOf w.request) (sym stands) own.program))
     ws q
 
@@ -291,7 +291,7 @@ gone_back_here {s} {t} {x} {w} h p e' ws same b name q =
     worked h (Back t) Gone_back (record w { program = p }) _ e' (back_at t w.mark.records v)
     (the_steps.goes_back (store_of s) t (slot_of v t w) (standing s h.orderly) (slot_here h))
     now name (record { counts = λ u n. refl; held = λ u n. refl; is_open = λ u n. refl })
-    (λ i. Some (record { number = suc (v.counts t); request = w.request; place = place_of w.request (same i); mark_place = place_of w.request w.mark.program; mark_count = w.mark.records; held = v.held t }))
+    (λ i. Some (record { number = suc (v.counts t); request = w.request; position = position_of w.request (same i); mark_position = position_of w.request w.mark.program; mark_count = w.mark.records; held = v.held t }))
     (work_still s.engine e' t x w p w.mark own (ap (λ (z : View). z.is_open) now) name (subst (IsOf w.request) (sym same) own.mark) own.mark)
     ws q
 
@@ -313,18 +313,18 @@ pub rolled_back_here : {s : Stored} {t : ℕ} {x : Handle} {w : Work} → HasOpe
     → view_of e' ≡ rolled_back x.terminal (view_of s.engine) → e'.name ≡ s.engine.name → xs ≡ slice_set s.txs t None
     → Moves s (Rollback t) Rolled_back (record { engine = e'; txs = xs; works = s.works })
 rolled_back_here {s} {t} {x} {w} h e' xs b name q =
-    dropped_here h (Rollback t) Rolled_back e' xs s.works (in_place s.works t)
-    (the_steps.rolls_back (store_of s) t (slot_of (view_of s.engine) t w) (standing s h.orderly) (slot_here h)) b name q (kept_place s.works t None)
+    dropped_here h (Rollback t) Rolled_back e' xs s.works (in_slot s.works t)
+    (the_steps.rolls_back (store_of s) t (slot_of (view_of s.engine) t w) (standing s h.orderly) (slot_here h)) b name q (kept_slot s.works t None)
 
--- a transaction that stands in its place, and its work
+-- a transaction that stands in its slot, and its work
 work_of_tx : (e : engine.Stored) (t : ℕ) (x : Handle) (y : Option Work) → Works e t (Some x) y → (w : Work) × (y ≡ Some w)
 work_of_tx e t x None h = absurd h
 work_of_tx e t x (Some w) h = (w, refl)
 
 pub taken_here : {s : Stored} {t : ℕ} {x : Handle} → IsOrderly s → t ≤ 64 → slice_get s.txs t ≡ Some (Some x) → (w : Work) × HasOpen s t x w
 taken_here {s} {t} {x} o h e =
-    let tx : in_place s.txs t ≡ Some x = get_place s.txs t (Some x) None e in
-    let found = work_of_tx s.engine t x (in_place s.works t) (subst (λ (y : Option Handle). Works s.engine t y (in_place s.works t)) tx (o.works t)) in
+    let tx : in_slot s.txs t ≡ Some x = get_slot s.txs t (Some x) None e in
+    let found = work_of_tx s.engine t x (in_slot s.works t) (subst (λ (y : Option Handle). Works s.engine t y (in_slot s.works t)) tx (o.works t)) in
     (found.0, record { orderly = o; low = omega (arith, h); tx = tx; work = found.1 })
 
 -- begin
@@ -339,29 +339,26 @@ pub begun_here : (s : Stored) → IsOrderly s → (t : ℕ) → 1 ≤ t → t �
     → rejection q (view_of s.engine).rows ≡ None → number_rejection (suc ((view_of s.engine).counts t)) ≡ None
     → (view_of s.engine).is_open t ≡ false → ((view_of s.engine).is_open t ≡ false → (view_of s.engine).held t ≡ (λ _. None))
     → view_of e' ≡ begun t (view_of s.engine) → e'.name ≡ s.engine.name
-    → x ≡ record { engine = s.engine.name; terminal = t } → w.request ≡ q → IsOf q w.program → place_of q w.program ≡ start_of q → w.mark ≡ record { program = w.program; records = 0 }
+    → x ≡ record { engine = s.engine.name; terminal = t } → IsBegun q w
     → xs ≡ slice_set s.txs t (Some x) → ws ≡ slice_set s.works t (Some w) → Moves s (Begin t q) Begun (record { engine = e'; txs = xs; works = ws })
-begun_here s o t l h q g x w e' xs ws known counted shut idle b name tx r c p m txs works =
+begun_here s o t l h q g x w e' xs ws known counted shut idle b name tx fresh txs works =
     let v = view_of s.engine in
     let low : t < 65 = omega (arith, h) in
     let free : v.held t ≡ (λ _. None) = idle shut in
-    let stands : w.mark.program ≡ w.program = ap (λ (z : Mark). z.program) m in
-    let of_it : IsOf w.request w.program = subst (λ (z : Request). IsOf z w.program) (sym r) c in
-    let place : place_of w.request w.program ≡ start_of q = ap (λ (z : Request). place_of z w.program) r ∙ p in
-    let mark : place_of w.request w.mark.program ≡ start_of q = ap (place_of w.request) stands ∙ place in
-    let records : w.mark.records ≡ 0 = ap (λ (z : Mark). z.records) m in
+    let position : position_of w.request w.program ≡ start_of q = ap (λ (z : Request). position_of z w.program) fresh.request ∙ fresh.slot in
+    let mark : position_of w.request w.mark.program ≡ start_of q = ap (λ (z : Request). position_of z w.mark.program) fresh.request ∙ fresh.mark_position in
     replaced s o (Begin t q) Begun t low (Some x) (Some w) (Some (first_slot system (store_of s) t q)) e' (begun t v)
     (the_steps.begins (store_of s) t q (standing s o)
     (record { terminal = (l, below_limit t low); valid = valid q g; known = known; closed = is_shut s o t shut; counted = counted }))
     b name (record { counts = λ u n. refl; held = λ u n. refl; is_open = λ u n. set_other t true v.is_open u n })
-    (λ i. Some (record { number = suc (v.counts t); request = r i; place = place i; mark_place = mark i; mark_count = records i; held = free i }))
+    (λ i. Some (record { number = suc (v.counts t); request = fresh.request i; position = position i; mark_position = mark i; mark_count = fresh.mark_records i; held = free i }))
     (record {
       is_open = record {
         engine = ap (λ (z : Handle). z.engine) tx ∙ sym name;
         terminal = ap (λ (z : View). z.is_open x.terminal) b ∙ set_same t true v.is_open x.terminal (ap (λ (z : Handle). z.terminal) tx);
       };
       terminal = ap (λ (z : Handle). z.terminal) tx;
-      program = of_it;
-      mark = subst (IsOf w.request) (sym stands) of_it;
+      program = subst (λ (z : Request). IsOf z w.program) (sym fresh.request) fresh.program;
+      mark = subst (λ (z : Request). IsOf z w.mark.program) (sym fresh.request) fresh.mark_program;
     })
     xs ws txs works

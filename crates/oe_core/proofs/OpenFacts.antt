@@ -12,17 +12,17 @@ use Rattle.oe_model.specs.System.{system}
 use Rattle.oe_model.proofs.SystemLaws.{laws, population_is_good}
 use Rattle.oe_engine.specs.View.{View, view_of, Handle, opened_view}
 use Rattle.oe_engine.specs.View as engine
-use Rattle.oe_core.specs.Core.{in_place, work_of, store_with, store_of, world_of, IsSound, Works, IsOrderly}
+use Rattle.oe_core.specs.Core.{in_slot, work_of, store_with, store_of, world_of, IsSound, Works, IsOrderly}
 use Rattle.oe_core.specs.declared.slots.Work.{Work}
-use Rattle.oe_core.proofs.PlaceFacts.{all_same}
+use Rattle.oe_core.proofs.SlotFacts.{all_same}
 
-nobody : {X : Type 0} (n : ℕ) → in_place {X = X} (replicate n None) ≡ (λ _. None)
+nobody : {X : Type 0} (n : ℕ) → in_slot {X = X} (replicate n None) ≡ (λ _. None)
 nobody n = fun_ext (λ t. all_same n t None)
 
 store_opened : (e : engine.Stored) (ws : List (Option Work)) (r : Rows) (n k : ℕ) → view_of e ≡ opened_view r n → store_of (record { engine = e; txs = replicate k None; works = ws }) ≡ opened_store system r n
 store_opened e ws r n k h =
-    ap (λ (z : View). store_with z (λ t. work_of (in_place (replicate k None) t) (in_place ws t))) h
-    ∙ ap (λ (z : ℕ → Option Handle). store_with (opened_view r n) (λ t. work_of (z t) (in_place ws t))) (nobody k)
+    ap (λ (z : View). store_with z (λ t. work_of (in_slot (replicate k None) t) (in_slot ws t))) h
+    ∙ ap (λ (z : ℕ → Option Handle). store_with (opened_view r n) (λ t. work_of (z t) (in_slot ws t))) (nobody k)
 
 length-replicate : {X : Type 0} (n : ℕ) (x : X) → length (replicate n x) ≡ n
 length-replicate zero x = refl
@@ -34,9 +34,9 @@ unfolding IsSound
 orderly_opened e r n xs ws p q g h =
     subst (λ (z : List (Option Handle)). IsOrderly (record { engine = e; txs = z; works = ws })) (sym p)
     (record {
-      tx_places = length-replicate {X = Option Handle} 65 None;
-      work_places = ap (λ (z : List (Option Work)). length z) q ∙ length-replicate {X = Option Work} 65 None;
-      works = λ t. subst (λ (z : Option Handle). Works e t z (in_place ws t)) (sym (all_same {X = Option Handle} 65 t None)) (ap (λ (z : View). z.is_open t) h);
+      tx_slots = length-replicate {X = Option Handle} 65 None;
+      work_slots = ap (λ (z : List (Option Work)). length z) q ∙ length-replicate {X = Option Work} 65 None;
+      works = λ t. subst (λ (z : Option Handle). Works e t z (in_slot ws t)) (sym (all_same {X = Option Handle} 65 t None)) (ap (λ (z : View). z.is_open t) h);
       sound = subst (IsStanding system) (sym (store_opened e ws r n 65 h)) (opening_stands system laws r n (population_is_good r g)).0;
     })
 

@@ -2,9 +2,9 @@
 use Rattle.std.proofs.Common.{◌≡◌, ℕ, zero, suc, ◌<◌, ◌≤◌, List, [], ◌∷◌, ◌++◌, take, length, get_or, sym, ap, subst, refl, arith}
 use Rattle.oe_theory.specs.World.{World}
 use Rattle.oe_theory.specs.Next as theory
-use Rattle.oe_theory.specs.Next.{Next, Runs, Begun}
+use Rattle.oe_theory.specs.Next.{Next, Runs, Begun, begins, goes_on, commits, saves, goes_back, rolls_back, reads, audits, purges, rewinds, stops, fails, is_busy, is_full, is_rejected, is_open, number_is_rejected, query_is_rejected, misses, not_open, too_old, future, not_quiet, lacks_memory_at_begin, lacks_memory}
 use Rattle.oe_theory.specs.Theorems.{IsReached}
-use Rattle.oe_theory.proofs.Theorems.{run_is_reached, history_is_serial, rollback_leaves_no_trace}
+use Rattle.oe_theory.proofs.Theorems.{run_is_reached, history_is_serial, rollback_leaves_no_trace, rewind_restores, purge_leaves_later}
 use Rattle.oe_theory.proofs.StepTheorems.{endings_are_whole}
 use Rattle.oe_steps.specs.declared.steps.Step.{Step}
 use Rattle.oe_steps.specs.declared.answers.Answer.{Answer}
@@ -12,7 +12,7 @@ use Rattle.oe_model.specs.System.{system}
 use Rattle.oe_model.proofs.SystemLaws.{laws}
 use Rattle.oe_model.proofs.ConsistencyFacts.{consistent}
 use Rattle.oe_core.specs.Steps.{step_in, answer_in}
-use Rattle.oe_core.specs.Run.{Served, steps_in, answers_in, AreWhole, Ran}
+use Rattle.oe_core.specs.Run.{Served, steps_in, answers_in, PastBy, AreWhole, Ran}
 
 -- one more step at the end
 served_more : (w v w' : World system) (is : List Step) (ys : List Answer) (i : Step) (a : Answer) → Served w is ys v → Next system v (step_in i) (answer_in i a) w'
@@ -55,13 +55,41 @@ runs_of w w' (i ∷ is) (a ∷ ys) h = (h.0, h.1, runs_of h.0 w' is ys h.2)
 still_reached : (w v : World system) (i : theory.Step system) (a : theory.Answer system) → IsReached system w → Next system w i a v → IsReached system v
 still_reached w v i a r n = run_is_reached system laws w v (i ∷ []) (a ∷ []) r (v, n, refl)
 
+-- what a purge and a rewind leave
+past_by : (w v : World system) (i : theory.Step system) (a : theory.Answer system) → IsReached system w → Next system w i a v → PastBy w a v
+past_by w _ _ _ reached (begins t q m) = tt
+past_by w _ _ _ reached (goes_on t o c p e g r room) = tt
+past_by w _ _ _ reached (commits t o reply e g r) = tt
+past_by w _ _ _ reached (saves t o e) = tt
+past_by w _ _ _ reached (goes_back t o e) = tt
+past_by w _ _ _ reached (rolls_back t o e) = tt
+past_by w _ _ _ reached (reads m q f a l u k) = tt
+past_by w _ _ _ reached (audits m c l u) = tt
+past_by w _ _ _ reached (purges m l u) = purge_leaves_later system laws w _ m reached (purges m l u)
+past_by w _ _ _ reached (rewinds m q l u) = rewind_restores system laws w _ m (rewinds m q l u)
+past_by w _ _ _ reached (stops t o e f r) = tt
+past_by w _ _ _ reached (fails t o e f g r) = tt
+past_by w _ _ _ reached (is_busy t o n m u e r g) = tt
+past_by w _ _ _ reached (is_full t o c p e g r f) = tt
+past_by w _ _ _ reached (is_rejected t q e r) = tt
+past_by w _ _ _ reached (is_open t q o r e) = tt
+past_by w _ _ _ reached (number_is_rejected t q e r c k) = tt
+past_by w _ _ _ reached (query_is_rejected m q e r) = tt
+past_by w _ _ _ reached (misses m q e r l u k) = tt
+past_by w _ _ _ reached (not_open s t e f) = tt
+past_by w _ _ _ reached (too_old s m e p l) = tt
+past_by w _ _ _ reached (future s m e p l) = tt
+past_by w _ _ _ reached (not_quiet m n e) = tt
+past_by w _ _ _ reached (lacks_memory_at_begin t q m) = tt
+past_by w _ _ _ reached (lacks_memory t o e m) = tt
+
 are_whole : (w w' : World system) (is : List Step) (ys : List Answer) → IsReached system w → Served w is ys w' → AreWhole w is ys w'
 are_whole w w' [] [] r h = (consistent w r, h)
 are_whole w w' [] (a ∷ ys) r h = absurd h
 are_whole w w' (i ∷ is) [] r h = absurd h
 are_whole w w' (i ∷ is) (a ∷ ys) r h = (
   consistent w r,
-  (h.0, h.1, endings_are_whole system laws w h.0 (step_in i) (answer_in i a) r h.1, are_whole h.0 w' is ys (still_reached w h.0 (step_in i) (answer_in i a) r h.1) h.2),
+  (h.0, h.1, endings_are_whole system laws w h.0 (step_in i) (answer_in i a) r h.1, past_by w h.0 (step_in i) (answer_in i a) r h.1, are_whole h.0 w' is ys (still_reached w h.0 (step_in i) (answer_in i a) r h.1) h.2),
 )
 
 pub ran_so : (w w' : World system) (is : List Step) (ys : List Answer) → IsReached system w → Served w is ys w' → Ran w is ys w'

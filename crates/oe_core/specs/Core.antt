@@ -10,8 +10,8 @@ use Rattle.oe_requests.specs.declared.requests.Request.TheVariants as request
 use Rattle.oe_requests.specs.declared.refusals.Refusal.{Refusal}
 use Rattle.oe_requests.specs.declared.refusals.Refusal.TheVariants as refusal
 use Rattle.oe_requests.specs.declared.replies.Reply.{Reply}
-use Rattle.oe_model.specs.Places.{Place, InPayment, InNewOrder, InDelivery, NoProgram}
-use Rattle.oe_model.specs.System.{system, taken}
+use Rattle.oe_model.specs.Positions.{Position, InPayment, InNewOrder, InDelivery, NoProgram}
+use Rattle.oe_model.specs.System.{system, taken, start_of}
 use Rattle.oe_engine.specs.View.{View, view_of, Handle, IsOpen}
 use Rattle.oe_engine.specs.View as engine
 use Rattle.oe_engine.specs.Calls.{rolled_back}
@@ -23,7 +23,7 @@ use Rattle.oe_core.specs.declared.programs.Program.{Program}
 use Rattle.oe_core.specs.declared.programs.Program.TheVariants as program
 use Rattle.oe_core.specs.declared.slots.Work.{Work}
 
--- the engine, the open transactions in the places of their terminals, and what lies there for them to carry out
+-- the engine, the open transactions in the slots of their terminals, and what lies there for them to carry out
 pub record Stored : Type 0 where
   pub engine : engine.Stored
   pub txs : List (Option Handle)
@@ -41,27 +41,36 @@ IsOf (request.Deliveries q) _ = ⊥
 IsOf (request.Rename q) _ = ⊥
 
 -- the row that it comes to next
-abbrev pub place_of : Request → Program → Place
-place_of (request.Payment q) (program.Payment p) = InPayment q p
-place_of (request.Payment q) _ = NoProgram
-place_of (request.NewOrder q) (program.NewOrder p) = InNewOrder q (neworder.place_of q p)
-place_of (request.NewOrder q) _ = NoProgram
-place_of (request.Delivery q) (program.Delivery p) = InDelivery q (delivery.place_of p)
-place_of (request.Delivery q) _ = NoProgram
-place_of (request.Deliveries q) _ = NoProgram
-place_of (request.Rename q) _ = NoProgram
+abbrev pub position_of : Request → Program → Position
+position_of (request.Payment q) (program.Payment p) = InPayment q p
+position_of (request.Payment q) _ = NoProgram
+position_of (request.NewOrder q) (program.NewOrder p) = InNewOrder q (neworder.position_of q p)
+position_of (request.NewOrder q) _ = NoProgram
+position_of (request.Delivery q) (program.Delivery p) = InDelivery q (delivery.position_of p)
+position_of (request.Delivery q) _ = NoProgram
+position_of (request.Deliveries q) _ = NoProgram
+position_of (request.Rename q) _ = NoProgram
 
 -- its reply, at its end
 abbrev pub reply_of : Request → Program → Option Reply
-reply_of q p = reply_at (place_of q p)
+reply_of q p = reply_at (position_of q p)
+
+-- work for a request whose transaction has just begun: the program and the mark stand at its first row
+pub record IsBegun (q : Request) (w : Work) : Type 0 where
+  pub request : w.request ≡ q
+  pub program : IsOf q w.program
+  pub slot : position_of q w.program ≡ start_of q
+  pub mark_program : IsOf q w.mark.program
+  pub mark_position : position_of q w.mark.program ≡ start_of q
+  pub mark_records : w.mark.records ≡ 0
 
 -- the names that are taken on the way to that row are held
 abbrev pub HoldsTaken : engine.Stored → Handle → Request → Program → Type 0
-HoldsTaken s x q p = HoldsAll (view_of s) x.terminal (taken (tx_of s x q) (place_of q p))
+HoldsTaken s x q p = HoldsAll (view_of s) x.terminal (taken (tx_of s x q) (position_of q p))
 
--- what stands in a terminal's place
-abbrev pub in_place : {X : Type 0} → List (Option X) → ℕ → Option X
-in_place xs t = get_or xs t None
+-- what stands in a terminal's slot
+abbrev pub in_slot : {X : Type 0} → List (Option X) → ℕ → Option X
+in_slot xs t = get_or xs t None
 
 -- what an open transaction carries out; without one, what lies there is nobody's
 abbrev pub work_of : Option Handle → Option Work → Option Work
@@ -69,7 +78,7 @@ work_of None w = None
 work_of (Some x) w = w
 
 abbrev pub work_at : Stored → ℕ → Option Work
-work_at s t = work_of (in_place s.txs t) (in_place s.works t)
+work_at s t = work_of (in_slot s.txs t) (in_slot s.works t)
 
 -- an open transaction of terminal t, as the theory stores it
 abbrev pub slot_of : View → ℕ → Work → Slot system
@@ -77,8 +86,8 @@ slot_of v t w =
     record {
       number = suc (v.counts t);
       request = w.request;
-      place = place_of w.request w.program;
-      mark_place = place_of w.request w.mark.program;
+      position = position_of w.request w.program;
+      mark_position = position_of w.request w.mark.program;
       mark_count = w.mark.records;
       held = v.held t;
     }
@@ -110,16 +119,16 @@ pub record IsWork (e : engine.Stored) (t : ℕ) (x : Handle) (w : Work) : Type 0
   pub program : IsOf w.request w.program
   pub mark : IsOf w.request w.mark.program
 
--- a place has a transaction, and work for it, exactly where its terminal has one open
+-- a slot has a transaction, and work for it, exactly where its terminal has one open
 abbrev pub Works : engine.Stored → ℕ → Option Handle → Option Work → Type 0
 Works e t None w = (view_of e).is_open t ≡ false
 Works e t (Some x) None = ⊥
 Works e t (Some x) (Some w) = IsWork e t x w
 
 pub record IsOrderly (s : Stored) : Type 0 where
-  pub tx_places : length s.txs ≡ 65
-  pub work_places : length s.works ≡ 65
-  pub works : (t : ℕ) → Works s.engine t (in_place s.txs t) (in_place s.works t)
+  pub tx_slots : length s.txs ≡ 65
+  pub work_slots : length s.works ≡ 65
+  pub works : (t : ℕ) → Works s.engine t (in_slot s.txs t) (in_slot s.works t)
   pub sound : IsSound s
 
 -- a step of what is stored
@@ -134,7 +143,7 @@ keeps_open refusal.UndoFull = true
 keeps_open refusal.NoMemory = true
 keeps_open _ = false
 
--- the transaction of a place is open
+-- the transaction of a slot is open
 abbrev pub IsEndable : engine.Stored → Option Handle → Type 0
 IsEndable e None = Unit {0}
 IsEndable e (Some x) = IsOpen e x

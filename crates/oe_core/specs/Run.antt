@@ -1,6 +1,6 @@
 -- A run of steps one after another, and what follows of it.
-use Rattle.std.specs.Prelude.{◌≡◌, ℕ, true, map, List, [], ◌∷◌, ◌++◌, length}
-use Rattle.oe_theory.specs.World.{World, at, tables, IsSerial}
+use Rattle.std.specs.Prelude.{◌≡◌, ℕ, ◌≤◌, true, map, List, [], ◌∷◌, ◌++◌, length}
+use Rattle.oe_theory.specs.World.{World, horizon, newest, at, tables, IsSerial}
 use Rattle.oe_theory.specs.Next as theory
 use Rattle.oe_theory.specs.Next.{Next, IsQuiet, Begin, Begun, Runs, events, steps_of, answers_of}
 use Rattle.oe_theory.specs.Erase.{is_rolled_back, without}
@@ -29,14 +29,24 @@ answers_in (i ∷ is) (a ∷ ys) = answer_in i a ∷ answers_in is ys
 answers_in [] ys = []
 answers_in (i ∷ is) [] = []
 
+-- a purge leaves the tables and all versions from its moment on; a rewind gives the version of its moment, and leaves those before
+abbrev pub PastBy : World system → theory.Answer system → World system → Type 0
+PastBy w (theory.Purged m) v =
+    (horizon system v ≡ m) × (newest system v ≡ newest system w) × (tables system v ≡ tables system w)
+    × ((k : ℕ) → m ≤ k → k ≤ newest system w → at system v k ≡ at system w k)
+PastBy w (theory.Rewound m) v =
+    (tables system v ≡ at system w m) × (newest system v ≡ m) × (horizon system v ≡ horizon system w)
+    × ((k : ℕ) → k ≤ m → at system v k ≡ at system w k)
+PastBy w a v = Unit {0}
+
 -- In each world that is passed conditions 1 to 4 (clauses 3.3.2.1 to 3.3.2.4) hold of the version of each moment, and of the tables
 -- when none is open. A row that ends its transaction commits its whole effect on the newest version and makes the next moment, or
--- rolls it back where that effect is none, with the program's own refusal there
+-- rolls it back where that effect is none, with the program's own refusal there. Purges and rewinds are as `PastBy` says
 abbrev pub AreWhole : World system → List Step → List Answer → World system → Type 0
 AreWhole w [] [] w' = Is_consistent w × (w ≡ w')
 AreWhole w (i ∷ is) (a ∷ ys) w' =
     Is_consistent w
-    × ((v : World system) × Next system w (step_in i) (answer_in i a) v × IsEnding system w (answer_in i a) (step_in i) v × AreWhole v is ys w')
+    × ((v : World system) × Next system w (step_in i) (answer_in i a) v × IsEnding system w (answer_in i a) (step_in i) v × PastBy w (answer_in i a) v × AreWhole v is ys w')
 AreWhole w [] (a ∷ ys) w' = ⊥
 AreWhole w (i ∷ is) [] w' = ⊥
 

@@ -90,10 +90,7 @@ HasProgram (request.NewOrder q) = IsRequest (request.NewOrder q)
 HasProgram (request.Delivery q) = IsRequest (request.Delivery q)
 HasProgram q = ⊥
 
--- the steps of today
+-- the steps of today: a Begin is of a request that has a program
 abbrev pub IsStep : Step → Type 0
 IsStep (step.Begin t q) = HasProgram q
-IsStep (step.Read m q) = ⊥
-IsStep (step.Purge m) = ⊥
-IsStep (step.Rewind m) = ⊥
 IsStep i = Unit {0}

@@ -15,9 +15,9 @@ ghost use Rattle.oe_core.specs.Core.{world_of, reply_of, keeps_open, IsEndable, 
 use crate::advances::Advanced;
 use crate::programs::Program;
 use crate::rejections::rejection;
-use crate::slots::{Work, begun_work, empty_txs, empty_works, open_tx, place, put_tx, take_tx};
+use crate::slots::{Work, begin_work, empty_txs, empty_works, open_tx, put_tx, slot, take_tx};
 use oe_engine::{Engine, Progress, Tx};
-use oe_requests::{Refusal, Reply, Request};
+use oe_requests::{Query, Refusal, Reply, Request};
 use oe_steps::{Answer, Condition, Step};
 use oe_store::Tables;
 use oe_table::tables::NoMemory;
@@ -28,7 +28,7 @@ use std::marker::Model;
 /// A core. It can't be dropped: `close` ends it.
 pub struct Core {
     engine: Engine,
-    // By the terminals' numbers; 0 is nobody's. What a transaction carried out lies in its place until the next begins.
+    // By the terminals' numbers; 0 is nobody's. What a transaction carried out lies in its slot until the next begins.
     txs: Vec<Option<Tx>>,
     works: Vec<Option<Work>>,
     alloc: Global,
@@ -41,7 +41,8 @@ impl Model for Core {
 
     ghost view = { λ c. record { engine = c.engine; txs = c.txs.items; works = c.works.items } };
 
-    ghost invariant = { λ c. IsOrderly (record { engine = c.engine; txs = c.txs.items; works = c.works.items }) };
+    ghost invariant = { λ c. IsOrderly
+        (record { engine = c.engine; txs = c.txs.items; works = c.works.items }) };
 }
 
 impl Core {
@@ -101,7 +102,8 @@ impl Core {
     #[inline(always)]
     pub fn step(&mut self, step: Step) -> Answer
         requires { IsStep step }
-        ensures serves { Next system (world_of self.old) (step_in step) (answer_in step result) (world_of self.new) }
+        ensures serves { Next system (world_of self.old) (step_in step) (answer_in step result)
+            (world_of self.new) }
         ensures reached { IsReached system (world_of self.new) }
     {
         match step {
@@ -111,7 +113,9 @@ impl Core {
             Step::Back(terminal) => self.back(terminal),
             Step::Rollback(terminal) => self.rollback(terminal),
             Step::Audit(condition, moment) => self.audit(condition, moment),
-            Step::Read(_, _) | Step::Purge(_) | Step::Rewind(_) => unreachable!(),
+            Step::Read(moment, query) => self.read(moment, &query),
+            Step::Purge(moment) => self.purge(moment),
+            Step::Rewind(moment) => self.rewind(moment),
         }
     }
 
@@ -142,7 +146,8 @@ impl Core {
     /// `TooOld` with the horizon, `Future` with the newest moment: the moment is not between the two.
     #[inline(never)]
     fn audit(&self, condition: Condition, moment: Moment) -> Answer
-        ensures { Carries (world_of self.now) (Step.Audit condition moment) result (world_of self.now) }
+        ensures { Carries (world_of self.now) (Step.Audit condition moment) result
+            (world_of self.now) }
     {
         let tables = self.engine.tables();
         let undo = self.engine.undo();
@@ -152,10 +157,26 @@ impl Core {
         }
     }
 
+    /// The answer of a query of that moment, whatever is open.
+    ///
+    /// `NoSuchRow`: its warehouse isn't there. `TooOld`, `Future`: the moment is before the horizon, or after the newest, which is
+    /// named. `NoCustomer`: nobody has the number or the last name. The first of these is named.
+    #[inline(never)]
+    fn read(&self, moment: Moment, query: &Query) -> Answer
+        ensures { Carries (world_of self.now) (Step.Read moment query.now) result
+            (world_of self.now) }
+    {
+        match oe_enquiry::answer(self.engine.tables(), self.engine.undo(), query, moment) {
+            Ok(reply) => Answer::Replied(reply),
+            Err(cause) => Answer::Refused(cause),
+        }
+    }
+
     // A Begin, and its answer.
     fn answer_begin(&mut self, terminal: Terminal, request: &Request) -> Answer
         requires { HasProgram request.now }
-        ensures { Carries (world_of self.old) (Step.Begin terminal request.now) result (world_of self.new) }
+        ensures { Carries (world_of self.old) (Step.Begin terminal request.now) result
+            (world_of self.new) }
     {
         match self.begin(terminal, request) {
             Ok(()) => Answer::Begun,
@@ -184,7 +205,8 @@ impl Core {
     #[inline(never)]
     pub fn begin(&mut self, terminal: Terminal, request: &Request) -> Result<(), Refusal>
         requires { HasProgram request.now }
-        ensures { Carries (world_of self.old) (Step.Begin terminal request.now) (begin_answer result) (world_of self.new) }
+        ensures { Carries (world_of self.old) (Step.Begin terminal request.now)
+            (begin_answer result) (world_of self.new) }
     {
         if let Some(refusal) = rejection(self.engine.tables(), request) {
             return Err(refusal);
@@ -192,7 +214,7 @@ impl Core {
         match self.engine.begin(terminal) {
             Ok(tx) => {
                 put_tx(&mut self.txs, terminal, tx);
-                self.works[place(terminal)] = Some(begun_work(request));
+                begin_work(&mut self.works, terminal, request);
                 Ok(())
             }
             Err(refusal) => Err(refusal),
@@ -204,10 +226,10 @@ impl Core {
     fn save(&mut self, terminal: Terminal) -> Answer
         ensures { Carries (world_of self.old) (Step.Save terminal) result (world_of self.new) }
     {
-        let Some(tx) = &self.txs[place(terminal)] else {
+        let Some(tx) = &self.txs[slot(terminal)] else {
             return Answer::Refused(Refusal::NotOpen);
         };
-        let Some(work) = &mut self.works[place(terminal)] else {
+        let Some(work) = &mut self.works[slot(terminal)] else {
             unreachable!()
         };
         work.mark.set(&work.program, self.engine.savepoint(tx));
@@ -219,10 +241,10 @@ impl Core {
     fn back(&mut self, terminal: Terminal) -> Answer
         ensures { Carries (world_of self.old) (Step.Back terminal) result (world_of self.new) }
     {
-        let Some(tx) = &self.txs[place(terminal)] else {
+        let Some(tx) = &self.txs[slot(terminal)] else {
             return Answer::Refused(Refusal::NotOpen);
         };
-        let Some(work) = &mut self.works[place(terminal)] else {
+        let Some(work) = &mut self.works[slot(terminal)] else {
             unreachable!()
         };
         self.engine.rollback_to(tx, work.mark.records);
@@ -249,10 +271,10 @@ impl Core {
     pub fn advance(&mut self, terminal: Terminal) -> Advanced
         ensures { Advances (world_of self.old) terminal result (world_of self.new) }
     {
-        let Some(tx) = &self.txs[place(terminal)] else {
+        let Some(tx) = &self.txs[slot(terminal)] else {
             return Advanced::Refused(Refusal::NotOpen);
         };
-        let Some(work) = &mut self.works[place(terminal)] else {
+        let Some(work) = &mut self.works[slot(terminal)] else {
             unreachable!()
         };
         match work.program.next(&work.request, &mut self.engine, tx) {
@@ -270,6 +292,33 @@ impl Core {
                 Advanced::Refused(refusal)
             }
         }
+    }
+
+    /// Forgets the commits up to a moment, which becomes the oldest that can be read, whatever is open.
+    ///
+    /// `TooOld` with the horizon, `Future` with the newest moment: the moment is not between the two.
+    #[inline(never)]
+    fn purge(&mut self, moment: Moment) -> Answer
+        ensures { Carries (world_of self.old) (Step.Purge moment) result (world_of self.new) }
+    {
+        if let Err(cause) = self.engine.purge(moment) {
+            return Answer::Refused(cause);
+        }
+        Answer::Purged(moment)
+    }
+
+    /// Undoes the commits after a moment, which becomes the newest, while no transaction is open.
+    ///
+    /// `NotQuiet`: so many are open. `TooOld` with the horizon, `Future` with the newest moment: the moment is not between the two.
+    /// The first of these is named.
+    #[inline(never)]
+    fn rewind(&mut self, moment: Moment) -> Answer
+        ensures { Carries (world_of self.old) (Step.Rewind moment) result (world_of self.new) }
+    {
+        if let Err(cause) = self.engine.rewind(moment) {
+            return Answer::Refused(cause);
+        }
+        Answer::Rewound(moment)
     }
 }
 
@@ -290,7 +339,8 @@ fn commit(engine: &mut Engine, tx: Tx, request: &Request, program: &Program) -> 
     requires open { IsOpen engine.old tx }
     requires ready { IsSome (reply_of request.now program.now) }
     ensures moment { result ≡ suc (total terminal_limit (view_of engine.old).counts) }
-    ensures committed { IfSome (reply_of request.now program.now) (λ y. view_of engine.new ≡ committed tx.terminal request.now y (view_of engine.old)) }
+    ensures committed { IfSome (reply_of request.now program.now)
+        (λ y. view_of engine.new ≡ committed tx.terminal request.now y (view_of engine.old)) }
     ensures name { engine.new.name ≡ engine.old.name }
 {
     match engine.commit(tx, request.copied(), program.reply(request)) {
@@ -312,12 +362,12 @@ fn roll_back(engine: &mut Engine, tx: Tx)
     }
 }
 
-/// Rolls back the transaction of a place, where there is one.
-fn end(engine: &mut Engine, place: Option<Tx>)
-    requires { IsEndable engine.old place }
-    ensures { IsEnded engine.old place engine.new }
+/// Rolls back the transaction of a slot, where there is one.
+fn end(engine: &mut Engine, slot: Option<Tx>)
+    requires { IsEndable engine.old slot }
+    ensures { IsEnded engine.old slot engine.new }
 {
-    if let Some(tx) = place {
+    if let Some(tx) = slot {
         roll_back(engine, tx);
     }
 }

@@ -4,7 +4,7 @@ ghost use Rattle.oe_model.specs.System.{start_of};
 ghost use Rattle.oe_engine.specs.View.{IsOpen};
 ghost use Rattle.oe_engine.specs.Programs.{Progresses};
 ghost use Rattle.oe_core.specs.Steps.{HasProgram};
-ghost use Rattle.oe_core.specs.Core.{IsOf, place_of, reply_of, HoldsTaken};
+ghost use Rattle.oe_core.specs.Core.{IsOf, position_of, reply_of, HoldsTaken};
 
 use oe_engine::{Engine, Progress, Tx};
 use oe_requests::{Reply, Request};
@@ -22,13 +22,35 @@ impl Program {
     pub fn new(request: &Request) -> Self
         requires { HasProgram request.now }
         ensures of { IsOf request.now result }
-        ensures place { place_of request.now result ≡ start_of request.now }
+        ensures position { position_of request.now result ≡ start_of request.now }
     {
         match request {
             Request::Payment(_) => Program::Payment(oe_payment::Program::new()),
             Request::NewOrder(_) => Program::NewOrder(oe_neworder::Program::new()),
             Request::Delivery(_) => Program::Delivery(oe_delivery::Program::new()),
             _ => unreachable!(),
+        }
+    }
+
+    /// Goes to the first row of the program of this request. It takes no memory.
+    pub fn start(&mut self, request: &Request)
+        requires { HasProgram request.now }
+        ensures of { IsOf request.now self.new }
+        ensures position { position_of request.now self.new ≡ start_of request.now }
+    {
+        match self {
+            Program::Payment(program) => match request {
+                Request::Payment(_) => *program = oe_payment::Program::new(),
+                _ => *self = Program::new(request),
+            },
+            Program::NewOrder(program) => match request {
+                Request::NewOrder(_) => *program = oe_neworder::Program::new(),
+                _ => *self = Program::new(request),
+            },
+            Program::Delivery(program) => match request {
+                Request::Delivery(_) => *program = oe_delivery::Program::new(),
+                _ => *self = Program::new(request),
+            },
         }
     }
 
@@ -77,8 +99,11 @@ impl Program {
     /// One row of the program of this request: its lock and its change. `Refused` leaves all as it was.
     pub fn next(&mut self, request: &Request, engine: &mut Engine, tx: &Tx) -> Progress
         requires of { IsOf request.now self.old }
-        requires held { IsOpen engine.old tx.now → HoldsTaken engine.old tx.now request.now self.old }
-        ensures progresses { Progresses request.now tx.now engine.old (place_of request.now self.old) result engine.new (place_of request.now self.new) }
+        requires held { IsOpen engine.old tx.now
+            → HoldsTaken engine.old tx.now request.now self.old }
+        ensures progresses { Progresses request.now tx.now engine.old
+            (position_of request.now self.old) result engine.new
+            (position_of request.now self.new) }
         ensures of { IsOf request.now self.new }
     {
         match self {

@@ -14,8 +14,10 @@ use oe_table::tables::NoMemory;
 /// `NoMemory`: memory was refused for the answers; no step was carried out then.
 pub fn run(core: &mut Core, steps: &[Step]) -> Result<Vec<Answer>, NoMemory>
     requires { All IsStep steps.now }
-    ensures served { IfOk result (λ ys. Served (world_of core.old) steps.now ys.items (world_of core.new)) }
-    ensures ran { IfOk result (λ ys. Ran (world_of core.old) steps.now ys.items (world_of core.new)) }
+    ensures served { IfOk result
+        (λ ys. Served (world_of core.old) steps.now ys.items (world_of core.new)) }
+    ensures ran { IfOk result
+        (λ ys. Ran (world_of core.old) steps.now ys.items (world_of core.new)) }
     ensures err { OnErr result (core.new ≡ core.old) }
 {
     core.is_reached();

@@ -1,8 +1,9 @@
-//! The places of terminals: their open transactions, and what these carry out.
+//! The slots of terminals: their open transactions, and what these carry out.
 ghost use Rattle.std.specs.Prelude.{◌≡◌, ◌<◌, ◌≤◌, Some, None, IsSome, IfOk, slice_get, slice_set, vec_len, replicate};
 ghost use Rattle.oe_model.specs.System.{start_of};
 ghost use Rattle.oe_core.specs.Steps.{HasProgram};
-ghost use Rattle.oe_core.specs.Core.{IsOf, place_of, in_place};
+ghost use Rattle.oe_core.specs.Core.{IsOf, position_of, in_slot, IsBegun};
+ghost use Rattle.oe_core.specs.declared.slots.Work.{Work};
 
 use crate::programs::Program;
 use oe_engine::Tx;
@@ -16,6 +17,19 @@ pub struct Work {
     pub request: Request,
     pub program: Program,
     pub mark: Mark,
+}
+
+impl Work {
+    /// Becomes what a transaction of this request carries out that has just begun. The whole is long, so each part is written where
+    /// it lies.
+    fn start(&mut self, request: &Request)
+        requires { HasProgram request.now }
+        ensures { IsBegun request.now self.new }
+    {
+        put_request(&mut self.request, request);
+        self.program.start(request);
+        self.mark.start(request);
+    }
 }
 
 /// Where a transaction stood: its program, and how many records it had made.
@@ -33,17 +47,28 @@ impl Mark {
         self.program.go_to(program);
         self.records = records;
     }
+
+    /// Moves to the beginning of a transaction of this request.
+    pub fn start(&mut self, request: &Request)
+        requires { HasProgram request.now }
+        ensures of { IsOf request.now self.new.program }
+        ensures position { position_of request.now self.new.program ≡ start_of request.now }
+        ensures records { self.new.records ≡ 0 }
+    {
+        self.program.start(request);
+        self.records = oe_engine::Mark::start();
+    }
 }
 
-/// The place of a terminal.
-pub fn place(terminal: Terminal) -> usize
+/// The slot of a terminal.
+pub fn slot(terminal: Terminal) -> usize
     ensures value { result ≡ terminal }
     ensures high { result ≤ 64 }
 {
     terminal.get() as usize
 }
 
-/// Places for the transactions of the terminals 1 to 64; that of 0 stays empty.
+/// Slots for the transactions of the terminals 1 to 64; that of 0 stays empty.
 pub fn empty_txs(alloc: Global) -> Result<Vec<Option<Tx>>, AllocError>
     ensures { IfOk result (λ v. v.items ≡ replicate 65 None) }
 {
@@ -54,7 +79,7 @@ pub fn empty_txs(alloc: Global) -> Result<Vec<Option<Tx>>, AllocError>
     Ok(txs)
 }
 
-/// Places for what they carry out.
+/// Slots for what they carry out.
 pub fn empty_works(alloc: Global) -> Result<Vec<Option<Work>>, AllocError>
     ensures { IfOk result (λ v. v.items ≡ replicate 65 None) }
 {
@@ -65,20 +90,20 @@ pub fn empty_works(alloc: Global) -> Result<Vec<Option<Work>>, AllocError>
     Ok(works)
 }
 
-/// Takes what stands in a terminal's place.
+/// Takes what stands in a terminal's slot.
 pub fn take_tx(txs: &mut Vec<Option<Tx>>, terminal: Terminal) -> Option<Tx>
     requires { terminal < vec_len txs.old }
     ensures value { slice_get txs.old.items terminal ≡ Some result }
     ensures after { txs.new.items ≡ slice_set txs.old.items terminal None }
     ensures high { terminal ≤ 64 }
 {
-    txs[place(terminal)].take()
+    txs[slot(terminal)].take()
 }
 
-/// Takes the open transaction of a terminal out of its place.
+/// Takes the open transaction of a terminal out of its slot.
 pub fn open_tx(txs: &mut Vec<Option<Tx>>, terminal: Terminal) -> Tx
     requires at { terminal < vec_len txs.old }
-    requires open { IsSome (in_place txs.old.items terminal) }
+    requires open { IsSome (in_slot txs.old.items terminal) }
     ensures value { slice_get txs.old.items terminal ≡ Some (Some result) }
     ensures after { txs.new.items ≡ slice_set txs.old.items terminal None }
 {
@@ -88,7 +113,7 @@ pub fn open_tx(txs: &mut Vec<Option<Tx>>, terminal: Terminal) -> Tx
     tx
 }
 
-/// Puts a transaction into its terminal's empty place.
+/// Puts a transaction into its terminal's empty slot.
 pub fn put_tx(txs: &mut Vec<Option<Tx>>, terminal: Terminal, tx: Tx)
     requires at { terminal < vec_len txs.old }
     requires free { slice_get txs.old.items terminal ≡ Some None }
@@ -96,26 +121,50 @@ pub fn put_tx(txs: &mut Vec<Option<Tx>>, terminal: Terminal, tx: Tx)
     ensures low { 1 ≤ terminal }
     ensures high { terminal ≤ 64 }
 {
-    let old = txs[place(terminal)].replace(tx);
+    let old = txs[slot(terminal)].replace(tx);
     let None = old else { unreachable!() };
 }
 
 /// What a transaction of this request carries out that has just begun.
-pub fn begun_work(request: &Request) -> Work
+fn begun_work(request: &Request) -> Work
     requires { HasProgram request.now }
-    ensures request { result.request ≡ request.now }
-    ensures of { IsOf request.now result.program }
-    ensures place { place_of request.now result.program ≡ start_of request.now }
-    ensures mark { result.mark ≡ record { program = result.program; records = 0 } }
+    ensures { IsBegun request.now result }
 {
-    let program = Program::new(request);
-    let mark = Mark {
-        program: program.copied(),
-        records: oe_engine::Mark::start(),
-    };
     Work {
         request: request.copied(),
-        program,
-        mark,
+        program: Program::new(request),
+        mark: Mark {
+            program: Program::new(request),
+            records: oe_engine::Mark::start(),
+        },
     }
+}
+
+// Another request in the place of one.
+fn put_request(slot: &mut Request, request: &Request)
+    ensures { slot.new ≡ request.now }
+{
+    *slot = request.copied();
+}
+
+// In a slot: over what an earlier transaction left there, if there was one.
+fn begin_slot(slot: &mut Option<Work>, request: &Request)
+    requires { HasProgram request.now }
+    ensures { (w : Work) × IsBegun request.now w × (slot.new ≡ Some w) }
+{
+    match slot {
+        Some(work) => work.start(request),
+        None => *slot = Some(begun_work(request)),
+    }
+}
+
+/// Puts into a terminal's slot what a transaction of this request carries out that has just begun. Over what an earlier one left
+/// there it is written part by part, since the whole is long.
+pub fn begin_work(works: &mut Vec<Option<Work>>, terminal: Terminal, request: &Request)
+    requires at { terminal < vec_len works.old }
+    requires program { HasProgram request.now }
+    ensures after { (w : Work) × IsBegun request.now w
+        × (works.new.items ≡ slice_set works.old.items terminal (Some w)) }
+{
+    begin_slot(&mut works[slot(terminal)], request);
 }

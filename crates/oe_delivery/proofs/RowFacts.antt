@@ -1,4 +1,4 @@
--- What the rows of a delivery ask for and do, of the rows as they are.
+-- What the stages of a delivery ask for and do, of the rows as they are.
 use Rattle.std.proofs.Common.{◌≡◌, ℕ, zero, suc, ◌+◌, refl, sym, ap, ◌∙◌, subst, inl, List, [], ◌∷◌, drop, map, Option, None, Some, Result, Ok, Err, arith}
 use Rattle.std.specs.Prelude.{IsSome, is_some, option_map}
 use Rattle.std.specs.FinMap.{get}
@@ -28,16 +28,16 @@ use Rattle.oe_model.specs.Rows.{Rows}
 use Rattle.oe_model.specs.Keys.{customer_in, order_in, new_order_in, line_in}
 use Rattle.oe_model.specs.Changes.{Change, DeleteNewOrder, UpdateOrder, UpdateOrderLine, UpdateCustomer}
 use Rattle.oe_model.specs.Effects.{Doing, given, within}
-use Rattle.oe_model.specs.Places.{DeliveryPlace, DeliveryQueue, DeliveryNothing, DeliveryOrder, DeliveryLine, DeliveryEnd, InDelivery}
+use Rattle.oe_model.specs.Positions.{DeliveryPosition, DeliveryQueue, DeliveryNothing, DeliveryOrder, DeliveryLine, DeliveryEnd, InDelivery}
 use Rattle.oe_model.specs.Delivery.{oldest, lines_of, carried, dated, delivered_to, delivered_out, delivered_reply, delivery_ask, delivery_act, delivery_taken}
 use Rattle.oe_engine.specs.View.{Stored, View, view_of, Handle, IsOpen}
 use Rattle.oe_engine.specs.Deeds.{HoldsAll}
 use Rattle.oe_engine.specs.Writes.{change_written}
 use Rattle.oe_engine.specs.Programs.{ask_here, act_here, IsReady, delivery_reply}
 use Rattle.oe_delivery.specs.Remainder.{Left, remainder_of}
-use Rattle.oe_delivery.specs.Program.{line_place}
+use Rattle.oe_delivery.specs.Program.{line_position}
 
--- a row whose columns are in their ranges goes on with the row after it
+-- a row whose columns are in their ranges goes on with the stage after it
 goes_within : {A : Type 0} (out : A → Option Column) (x : A) (d : A → Doing) (after : A) → ◌≡◌ {A = Result A Column} (Ok after) (checked out x) → within (out x) (d x) ≡ d after
 goes_within {A} out x d after e = go (out x) e
   where
@@ -69,7 +69,7 @@ module _ (s : Stored) (x : Handle) (q : DeliveryRequest) where
   CarrierDeed o k l =
       (c : Change) × (change_written (write.Carrier k q.carrier) (view_of s) ≡ Some c)
       × (ask_here s x (request.Delivery q) (InDelivery q (DeliveryOrder o)) ≡ Take (name.Order k) Exclusive)
-      × (act_here s x (request.Delivery q) (InDelivery q (DeliveryOrder o)) ≡ Go (Some c) (InDelivery q (line_place l)))
+      × (act_here s x (request.Delivery q) (InDelivery q (DeliveryOrder o)) ≡ Go (Some c) (InDelivery q (line_position l)))
 
   module _ (o : ℕ) where
     abbrev own : OrderKey
@@ -86,7 +86,7 @@ module _ (s : Stored) (x : Handle) (q : DeliveryRequest) where
           ap (option_map (λ y. UpdateOrder own (carried q.carrier y))) e,
           refl,
           ap (λ v. given (NoSuchRow (key.Order own)) v do_order) e
-              ∙ ap (λ (y : Left). Go (Some (UpdateOrder own (carried q.carrier z))) (InDelivery q (line_place y))) (sym same),
+              ∙ ap (λ (y : Left). Go (Some (UpdateOrder own (carried q.carrier z))) (InDelivery q (line_position y))) (sym same),
         )
 
     pub carrier_deed : (l : Left) (k : OrderKey) → k ≡ own → Some l ≡ option_map (remainder_of k here) (get here.orders k) → CarrierDeed o k l
@@ -100,23 +100,23 @@ module _ (s : Stored) (x : Handle) (q : DeliveryRequest) where
       abbrev line : OrderLineKey
       line = line_in (order_in q.district l.order) n
 
-      pub line_asks : ask_here s x (request.Delivery q) (InDelivery q (line_place l)) ≡ Plain
+      pub line_asks : ask_here s x (request.Delivery q) (InDelivery q (line_position l)) ≡ Plain
       line_asks = ap (λ ns. delivery_ask q (DeliveryLine l.order l.customer ns l.sum) here) next
 
-      abbrev after_line : OrderLine → DeliveryPlace
+      abbrev after_line : OrderLine → DeliveryPosition
       after_line z = DeliveryLine l.order l.customer (drop 1 l.numbers) (l.sum + z.amount)
 
       abbrev do_line : OrderLine → Doing
       do_line z = Go (Some (UpdateOrderLine line (dated q.stamp z))) (InDelivery q (after_line z))
 
       line_own : (z : OrderLine) → get here.order_lines line ≡ Some z
-          → act_here s x (request.Delivery q) (InDelivery q (line_place l)) ≡ Go (Some (UpdateOrderLine line (dated q.stamp z))) (InDelivery q (after_line z))
+          → act_here s x (request.Delivery q) (InDelivery q (line_position l)) ≡ Go (Some (UpdateOrderLine line (dated q.stamp z))) (InDelivery q (after_line z))
       line_own z e =
           ap (λ ns. delivery_act q (DeliveryLine l.order l.customer ns l.sum) here) next
           ∙ ap (λ v. given (NoSuchRow (key.OrderLine line)) v do_line) e
 
       pub line_does : (k : OrderLineKey) → k ≡ line → (z : OrderLine) → get here.order_lines k ≡ Some z
-          → act_here s x (request.Delivery q) (InDelivery q (line_place l)) ≡ Go (Some (UpdateOrderLine k (dated q.stamp z))) (InDelivery q (DeliveryLine l.order l.customer (drop 1 l.numbers) (l.sum + z.amount)))
+          → act_here s x (request.Delivery q) (InDelivery q (line_position l)) ≡ Go (Some (UpdateOrderLine k (dated q.stamp z))) (InDelivery q (DeliveryLine l.order l.customer (drop 1 l.numbers) (l.sum + z.amount)))
       line_does k is z e =
           line_own z (subst (λ (j : OrderLineKey). get here.order_lines j ≡ Some z) is e)
           ∙ ap (λ (j : OrderLineKey). Go (Some (UpdateOrderLine j (dated q.stamp z))) (InDelivery q (after_line z))) (sym is)
@@ -126,7 +126,7 @@ module _ (s : Stored) (x : Handle) (q : DeliveryRequest) where
       abbrev payer : CustomerKey
       payer = customer_in q.district l.customer
 
-      pub customer_asks : (k : CustomerKey) → k ≡ payer → ask_here s x (request.Delivery q) (InDelivery q (line_place l)) ≡ Take (name.Customer k) Exclusive
+      pub customer_asks : (k : CustomerKey) → k ≡ payer → ask_here s x (request.Delivery q) (InDelivery q (line_position l)) ≡ Take (name.Customer k) Exclusive
       customer_asks k is =
           ap (λ ns. delivery_ask q (DeliveryLine l.order l.customer ns l.sum) here) last
           ∙ ap (λ (j : CustomerKey). Take (name.Customer j) Exclusive) (sym is)
@@ -138,7 +138,7 @@ module _ (s : Stored) (x : Handle) (q : DeliveryRequest) where
       do_customer z = within (delivered_out (delivered_to l.sum z)) (on_customer (delivered_to l.sum z))
 
       customer_own : (z : Customer) (a : Account) → get here.customers payer ≡ Some z → Ok (record z { account = a }) ≡ checked delivered_out (delivered_to l.sum z)
-          → act_here s x (request.Delivery q) (InDelivery q (line_place l)) ≡ on_customer (record z { account = a })
+          → act_here s x (request.Delivery q) (InDelivery q (line_position l)) ≡ on_customer (record z { account = a })
       customer_own z a e fits =
           ap (λ ns. delivery_act q (DeliveryLine l.order l.customer ns l.sum) here) last
           ∙ ap (λ v. given (NoSuchRow (key.Customer payer)) v do_customer) e
@@ -146,7 +146,7 @@ module _ (s : Stored) (x : Handle) (q : DeliveryRequest) where
 
       pub customer_does : (k : CustomerKey) → k ≡ payer → (z : Customer) (a : Account) → get here.customers k ≡ Some z
           → Ok (record z { account = a }) ≡ checked delivered_out (delivered_to l.sum z)
-          → act_here s x (request.Delivery q) (InDelivery q (line_place l)) ≡ Go (Some (UpdateCustomer k (record z { account = a }))) (InDelivery q (DeliveryEnd l.order l.customer l.sum))
+          → act_here s x (request.Delivery q) (InDelivery q (line_position l)) ≡ Go (Some (UpdateCustomer k (record z { account = a }))) (InDelivery q (DeliveryEnd l.order l.customer l.sum))
       customer_does k is z a e fits =
           customer_own z a (subst (λ (j : CustomerKey). get here.customers j ≡ Some z) is e) fits
           ∙ ap (λ (j : CustomerKey). Go (Some (UpdateCustomer j (record z { account = a }))) (InDelivery q (DeliveryEnd l.order l.customer l.sum))) (sym is)
@@ -157,7 +157,7 @@ alone None h = absurd h
 alone (Some theory.Exclusive) h = refl
 alone (Some theory.Shared) h = absurd h
 
-pub order_held : (v : View) (t : ℕ) (q : DeliveryRequest) (l : Left) → HoldsAll v t (delivery_taken q (line_place l))
+pub order_held : (v : View) (t : ℕ) (q : DeliveryRequest) (l : Left) → HoldsAll v t (delivery_taken q (line_position l))
     → v.held t (name.Order (order_in q.district l.order)) ≡ Some theory.Exclusive
 order_held v t q l h = alone (v.held t (name.Order (order_in q.district l.order))) (h (name.Order (order_in q.district l.order)) theory.Exclusive (inl (refl, tt)))
 
@@ -166,7 +166,7 @@ pub is_told : {A B : Type 0} (f : A → B) (o : Option A) (p : Option B) → opt
 is_told f None p e h = cc
 is_told f (Some x) p e h = sym (ap is_some e)
 
-pub is_ready : (s : Stored) (x : Handle) (q : DeliveryRequest) (p : DeliveryPlace) → IsOpen s x → IsSome (delivery_reply p)
+pub is_ready : (s : Stored) (x : Handle) (q : DeliveryRequest) (p : DeliveryPosition) → IsOpen s x → IsSome (delivery_reply p)
     → (y : Reply) × IsReady s x (request.Delivery q) (InDelivery q p) y
 is_ready s x q DeliveryNothing o h = (reply.Delivery Skipped, record { is_open = o; free = tt; does = refl })
 is_ready s x q (DeliveryEnd n c sum) o h = (delivered_reply n c sum, record { is_open = o; free = tt; does = refl })
@@ -174,7 +174,7 @@ is_ready s x q DeliveryQueue o h = let no : ⊥ = cc in absurd no
 is_ready s x q (DeliveryOrder n) o h = let no : ⊥ = cc in absurd no
 is_ready s x q (DeliveryLine n c ns sum) o h = let no : ⊥ = cc in absurd no
 
--- one place further
+-- one position further
 drop_next : {A : Type 0} (n : ℕ) (xs : List A) → drop (suc n) xs ≡ drop 1 (drop n xs)
 drop_next zero xs = refl
 drop_next (suc n) [] = refl

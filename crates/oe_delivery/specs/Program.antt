@@ -1,23 +1,23 @@
 -- What a delivery's program stands for.
 use Rattle.std.specs.Prelude.{◌≡◌, ℕ, [], ◌∷◌, drop}
-use Rattle.oe_model.specs.Places.{DeliveryPlace, DeliveryQueue, DeliveryNothing, DeliveryOrder, DeliveryLine, DeliveryEnd}
+use Rattle.oe_model.specs.Positions.{DeliveryPosition, DeliveryQueue, DeliveryNothing, DeliveryOrder, DeliveryLine, DeliveryEnd}
 use Rattle.oe_delivery.specs.Remainder.{Left}
 use Rattle.oe_delivery.specs.declared.programs.Program.{Program}
 use Rattle.oe_delivery.specs.declared.programs.Program.TheVariants as program
 
 -- before the first line to come, or before the customer
-abbrev pub line_place : Left → DeliveryPlace
-line_place l = DeliveryLine l.order l.customer l.numbers l.sum
+abbrev pub line_position : Left → DeliveryPosition
+line_position l = DeliveryLine l.order l.customer l.numbers l.sum
 
--- the place of the model
-abbrev pub place_of : Program → DeliveryPlace
-place_of program.Queue = DeliveryQueue
-place_of program.Nothing = DeliveryNothing
-place_of (program.Order o) = DeliveryOrder o
-place_of (program.Lines l) = line_place l
-place_of (program.End y) = DeliveryEnd y.order y.customer y.sum
+-- the position of the model
+abbrev pub position_of : Program → DeliveryPosition
+position_of program.Queue = DeliveryQueue
+position_of program.Nothing = DeliveryNothing
+position_of (program.Order o) = DeliveryOrder o
+position_of (program.Lines l) = line_position l
+position_of (program.End y) = DeliveryEnd y.order y.customer y.sum
 
--- its next row is that of this line
+-- its next stage is that of this line
 abbrev pub HasLine : Program → ℕ → Type 0
 HasLine (program.Lines l) n = l.numbers ≡ n ∷ drop 1 l.numbers
 HasLine _ n = ⊥

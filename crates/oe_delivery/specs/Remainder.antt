@@ -14,4 +14,10 @@ pub record Left : Type 0 where
 
 -- of an order that has just got its carrier: all its lines are to come
 abbrev pub remainder_of : OrderKey → Rows → Order → Left
-remainder_of k r x = record { order = k.order; customer = x.customer; numbers = map (λ e. e.0.number) (lines_of k r.order_lines); sum = 0 }
+remainder_of k r x =
+    record {
+      order = k.order;
+      customer = x.customer;
+      numbers = map (λ e. e.0.number) (lines_of k r.order_lines);
+      sum = 0;
+    }

@@ -3,24 +3,30 @@ use Rattle.std.specs.Prelude.{◌≡◌, Result, Ok, Err}
 use Rattle.oe_requests.specs.declared.requests.Request.TheVariants as request
 use Rattle.oe_requests.specs.declared.requests.DeliveryRequest.{DeliveryRequest}
 use Rattle.oe_requests.specs.declared.refusals.Refusal.{Refusal}
-use Rattle.oe_model.specs.Places.{DeliveryPlace, InDelivery}
+use Rattle.oe_model.specs.Positions.{DeliveryPosition, InDelivery}
 use Rattle.oe_model.specs.Delivery.{delivery_taken}
 use Rattle.oe_engine.specs.View.{Stored, view_of, Handle}
 use Rattle.oe_engine.specs.Deeds.{HoldsAll}
 use Rattle.oe_engine.specs.Programs.{GoesOn, IsRefused, Progresses}
 use Rattle.oe_engine.specs.declared.rows.Progress.{Progress}
-use Rattle.oe_delivery.specs.Program.{place_of}
+use Rattle.oe_delivery.specs.Program.{position_of}
 use Rattle.oe_delivery.specs.declared.programs.Program.{Program}
 
--- one step, from one place to another
-abbrev pub Advances : DeliveryRequest → Handle → Stored → DeliveryPlace → Progress → Stored → DeliveryPlace → Type 0
-Advances q x s p y s' p' = Progresses (request.Delivery q) x s (InDelivery q p) y s' (InDelivery q p')
+-- one step, from one position to another
+abbrev pub Advances : DeliveryRequest → Handle → Stored → DeliveryPosition → Progress → Stored
+    → DeliveryPosition → Type 0
+Advances q x s p y s' p' =
+    Progresses (request.Delivery q) x s (InDelivery q p) y s' (InDelivery q p')
 
--- the names that are taken on the way to this place are held
-abbrev pub HoldsTaken : DeliveryRequest → Handle → Stored → DeliveryPlace → Type 0
+-- the names that are taken on the way to this position are held
+abbrev pub HoldsTaken : DeliveryRequest → Handle → Stored → DeliveryPosition → Type 0
 HoldsTaken q x s p = HoldsAll (view_of s) x.terminal (delivery_taken q p)
 
--- a row beside the lines: the program after it, or its refusal
-abbrev pub Steps : DeliveryRequest → Handle → Stored → DeliveryPlace → Result Program Refusal → Stored → Type 0
-Steps q x s p (Ok p') s' = GoesOn s x (request.Delivery q) (InDelivery q p) s' (InDelivery q (place_of p'))
-Steps q x s p (Err e) s' = IsRefused s x (request.Delivery q) (InDelivery q p) e × (view_of s' ≡ view_of s) × (s'.name ≡ s.name)
+-- a stage beside the lines: the program after it, or its refusal
+abbrev pub Steps : DeliveryRequest → Handle → Stored → DeliveryPosition → Result Program Refusal
+    → Stored → Type 0
+Steps q x s p (Ok p') s' =
+    GoesOn s x (request.Delivery q) (InDelivery q p) s' (InDelivery q (position_of p'))
+Steps q x s p (Err e) s' =
+    IsRefused s x (request.Delivery q) (InDelivery q p) e × (view_of s' ≡ view_of s)
+    × (s'.name ≡ s.name)

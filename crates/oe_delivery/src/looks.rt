@@ -24,7 +24,9 @@ pub fn line_numbers(order: &OrderKey, tables: &Tables) -> LineNumbers
 
 /// What is to be delivered of an order; none where it is absent.
 pub fn remainder_of(order: &OrderKey, tables: &Tables) -> Option<Remainder>
-    ensures { result ≡ option_map (remainder_of order.now (rows tables.now)) (get (rows tables.now).orders order.now) }
+    ensures { result
+        ≡ option_map (remainder_of order.now (rows tables.now))
+        (get (rows tables.now).orders order.now) }
 {
     match tables.order(*order) {
         Some(row) => Some(Remainder::new(order.order, row.customer, line_numbers(order, tables))),

@@ -3,10 +3,10 @@ ghost use Rattle.std.specs.Prelude.{◌≡◌, None, option_map};
 ghost use Rattle.std.specs.Option.{MatchOption};
 ghost use Rattle.oe_requests.specs.declared.requests.Request.{Request};
 ghost use Rattle.oe_requests.specs.declared.replies.Reply.{Reply};
-ghost use Rattle.oe_model.specs.Places.{InDelivery};
+ghost use Rattle.oe_model.specs.Positions.{InDelivery};
 ghost use Rattle.oe_engine.specs.View.{IsOpen};
 ghost use Rattle.oe_engine.specs.Programs.{Progresses, delivery_reply};
-ghost use Rattle.oe_delivery.specs.Program.{place_of, HasLine, HasNoLine};
+ghost use Rattle.oe_delivery.specs.Program.{position_of, HasLine, HasNoLine};
 ghost use Rattle.oe_delivery.specs.Rows.{Advances, HoldsTaken, Steps};
 
 use crate::remainders::Remainder;
@@ -15,8 +15,8 @@ use oe_engine::{Engine, Progress, Tx};
 use oe_requests::{DeliveredOrder, DeliveryRequest, DistrictDelivery, Refusal};
 use oe_values::{LineNumber, OrderNumber};
 
-/// Where the delivery of a district stands: the row that it comes to next, with what the rows before have read. Its request lies
-/// with whoever carries it out. It is of fixed size, and any value of it is a place of any request.
+/// Where the delivery of a district stands: the stage that it comes to next, with what the stages before have read. Its request lies
+/// with whoever carries it out. It is of fixed size, and any value of it is a position of any request.
 #[derive(Drop, Debug)]
 pub enum Program {
     Queue,
@@ -31,7 +31,7 @@ pub enum Program {
 }
 
 impl Program {
-    /// At its first row.
+    /// At its first stage.
     pub fn new() -> Self
         ensures { result ≡ Program.Queue }
     {
@@ -51,9 +51,9 @@ impl Program {
         }
     }
 
-    /// The reply, once all rows are done; none before that.
+    /// The reply, once all stages are done; none before that.
     pub fn reply(&self) -> Option<DistrictDelivery>
-        ensures { option_map Reply.Delivery result ≡ delivery_reply (place_of self.now) }
+        ensures { option_map Reply.Delivery result ≡ delivery_reply (position_of self.now) }
     {
         match self {
             Program::Nothing => Some(DistrictDelivery::Skipped),
@@ -62,7 +62,7 @@ impl Program {
         }
     }
 
-    // OL_NUMBER of the line whose row is next; none at another row.
+    // OL_NUMBER of the line whose stage is next; none at another stage.
     fn next_number(&self) -> Option<LineNumber>
         ensures { MatchOption result (HasNoLine self.now) (HasLine self.now) }
     {
@@ -72,7 +72,7 @@ impl Program {
         }
     }
 
-    // The row of the next line, which has that number.
+    // The stage of the next line, which has that number.
     fn date(
         &mut self,
         number: LineNumber,
@@ -82,8 +82,9 @@ impl Program {
     ) -> Progress
         requires line { HasLine self.old number }
         requires open { IsOpen engine.old tx.now }
-        requires held { HoldsTaken request.now tx.now engine.old (place_of self.old) }
-        ensures { Advances request.now tx.now engine.old (place_of self.old) result engine.new (place_of self.new) }
+        requires held { HoldsTaken request.now tx.now engine.old (position_of self.old) }
+        ensures { Advances request.now tx.now engine.old (position_of self.old)
+            result engine.new (position_of self.new) }
     {
         let Program::Lines(remainder) = self else {
             unreachable!();
@@ -91,7 +92,7 @@ impl Program {
         date_line(request, remainder, number, engine, tx)
     }
 
-    // Another row, before the end.
+    // Another stage, before the end.
     fn row(
         &self,
         request: &DeliveryRequest,
@@ -99,9 +100,9 @@ impl Program {
         tx: &Tx,
     ) -> Result<Program, Refusal>
         requires line { HasNoLine self.now }
-        requires underway { delivery_reply (place_of self.now) ≡ None }
+        requires underway { delivery_reply (position_of self.now) ≡ None }
         requires open { IsOpen engine.old tx.now }
-        ensures { Steps request.now tx.now engine.old (place_of self.now) result engine.new }
+        ensures { Steps request.now tx.now engine.old (position_of self.now) result engine.new }
     {
         match self {
             Program::Queue => take_oldest(request, engine, tx),
@@ -111,15 +112,18 @@ impl Program {
         }
     }
 
-    /// One row of the delivery: its lock and its one change. The names that the rows before have taken are held: the order's for
+    /// One stage of the delivery: its lock and its one change. The names that the stages before have taken are held: the order's for
     /// its lines.
     ///
-    /// A district in which no order waits has two rows: the first takes the name of its queue, the second is ready. The order of
-    /// refusals is `Busy`, `Overflow`, and `NoMemory` where memory was refused. A refused row leaves the program, the tables and
-    /// the locks as they were. Each row of a delivery is told the same request.
+    /// A district in which no order waits has two stages: the first takes the name of its queue, the second is ready. The order of
+    /// refusals is `Busy`, `Overflow`, and `NoMemory` where memory was refused. A refused stage leaves the program, the tables and
+    /// the locks as they were. Each stage of a delivery is told the same request.
     pub fn next(&mut self, request: &DeliveryRequest, engine: &mut Engine, tx: &Tx) -> Progress
-        requires { IsOpen engine.old tx.now → HoldsTaken request.now tx.now engine.old (place_of self.old) }
-        ensures { Progresses (Request.Delivery request.now) tx.now engine.old (InDelivery request.now (place_of self.old)) result engine.new (InDelivery request.now (place_of self.new)) }
+        requires { IsOpen engine.old tx.now
+            → HoldsTaken request.now tx.now engine.old (position_of self.old) }
+        ensures { Progresses (Request.Delivery request.now) tx.now
+            engine.old (InDelivery request.now (position_of self.old))
+            result engine.new (InDelivery request.now (position_of self.new)) }
     {
         if !engine.is_open(tx) {
             return Progress::Refused(Refusal::NotOpen);

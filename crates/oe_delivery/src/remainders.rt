@@ -61,7 +61,12 @@ impl Model for Remainder {
 
     ghost Value = { Left };
 
-    ghost view = { λ r. record { order = r.order; customer = r.customer; numbers = drop r.done r.numbers; sum = r.sum } };
+    ghost view = { λ r. record {
+      order = r.order;
+      customer = r.customer;
+      numbers = drop r.done r.numbers;
+      sum = r.sum;
+    } };
 
     ghost invariant = { λ r. r.sum + 999_999 * length (drop r.done r.numbers) ≤ 14_999_985 };
 }
@@ -69,7 +74,8 @@ impl Model for Remainder {
 impl Remainder {
     /// An order of that customer with lines of these numbers, of which none is dated.
     pub fn new(order: OrderNumber, customer: CustomerNumber, numbers: LineNumbers) -> Self
-        ensures { result ≡ record { order = order; customer = customer; numbers = numbers; sum = 0 } }
+        ensures { result
+            ≡ record { order = order; customer = customer; numbers = numbers; sum = 0 } }
     {
         let _lines = numbers.as_slice();
         Remainder {
@@ -117,7 +123,8 @@ impl Remainder {
 
     /// OL_NUMBER of the first line that is not dated; none where all are.
     pub fn next_number(&self) -> Option<LineNumber>
-        ensures { MatchOption result (self.now.numbers ≡ []) (λ n. self.now.numbers ≡ n ∷ drop 1 self.now.numbers) }
+        ensures { MatchOption result (self.now.numbers ≡ []) (λ n.
+            self.now.numbers ≡ n ∷ drop 1 self.now.numbers) }
     {
         match self.numbers.as_slice().get(self.done) {
             Some(listed) => Some(listed.number),
@@ -128,7 +135,12 @@ impl Remainder {
     /// Goes past the first line that is not dated, whose OL_AMOUNT that is. There is one.
     pub fn pass(&mut self, amount: LineAmount)
         requires { 0 < length self.old.numbers }
-        ensures { self.new ≡ record { order = self.old.order; customer = self.old.customer; numbers = drop 1 self.old.numbers; sum = self.old.sum + amount } }
+        ensures { self.new ≡ record {
+          order = self.old.order;
+          customer = self.old.customer;
+          numbers = drop 1 self.old.numbers;
+          sum = self.old.sum + amount;
+        } }
     {
         let _lines = self.numbers.as_slice();
         self.sum += amount.cents();
@@ -137,7 +149,8 @@ impl Remainder {
 
     /// What the delivery answers of it.
     pub fn delivered(&self) -> DeliveredOrder
-        ensures { result ≡ record { order = self.now.order; customer = self.now.customer; sum = self.now.sum } }
+        ensures { result
+            ≡ record { order = self.now.order; customer = self.now.customer; sum = self.now.sum } }
     {
         DeliveredOrder {
             order: self.order,

@@ -1,8 +1,8 @@
-//! The rows of a delivery (clause 2.7.4.2), each done on an engine or refused by it.
+//! The stages of a delivery (clause 2.7.4.2), each done on an engine or refused by it.
 ghost use Rattle.std.specs.Prelude.{◌≡◌, ◌∷◌, [], drop};
-ghost use Rattle.oe_model.specs.Places.{DeliveryQueue, DeliveryOrder};
+ghost use Rattle.oe_model.specs.Positions.{DeliveryQueue, DeliveryOrder};
 ghost use Rattle.oe_engine.specs.View.{IsOpen};
-ghost use Rattle.oe_delivery.specs.Program.{line_place};
+ghost use Rattle.oe_delivery.specs.Program.{line_position};
 ghost use Rattle.oe_delivery.specs.Rows.{Advances, HoldsTaken, Steps};
 
 use crate::looks::remainder_of;
@@ -77,8 +77,9 @@ pub fn date_line(
 ) -> Progress
     requires open { IsOpen engine.old tx.now }
     requires next { remainder.old.numbers ≡ number ∷ drop 1 remainder.old.numbers }
-    requires held { HoldsTaken request.now tx.now engine.old (line_place remainder.old) }
-    ensures { Advances request.now tx.now engine.old (line_place remainder.old) result engine.new (line_place remainder.new) }
+    requires held { HoldsTaken request.now tx.now engine.old (line_position remainder.old) }
+    ensures { Advances request.now tx.now engine.old (line_position remainder.old)
+        result engine.new (line_position remainder.new) }
 {
     let key = &request.district.order(remainder.order()).line(number);
     let Some(row) = engine.tables().order_line(*key) else {
@@ -105,7 +106,7 @@ pub fn credit_customer(
 ) -> Result<Program, Refusal>
     requires open { IsOpen engine.old tx.now }
     requires last { remainder.now.numbers ≡ [] }
-    ensures { Steps request.now tx.now engine.old (line_place remainder.now) result engine.new }
+    ensures { Steps request.now tx.now engine.old (line_position remainder.now) result engine.new }
 {
     let key = &request.district.customer(remainder.customer());
     let lock = Lock {

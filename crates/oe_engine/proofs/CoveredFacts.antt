@@ -26,7 +26,7 @@ use Rattle.oe_model.proofs.RowFacts.{key_true, key_refl, at_changed, at_put_back
 use Rattle.oe_model.proofs.PresenceFacts.{some-map, mapped_absent}
 use Rattle.oe_model.proofs.ChangeFacts.{accepted_meets}
 use Rattle.oe_change.specs.PutBack.{Stands}
-use Rattle.oe_engine.specs.Calls.{CanUnwind}
+use Rattle.oe_past.specs.GoesBack.{CanUnwind}
 use Rattle.oe_engine.specs.Covered.{IsWhole, FindsNewest, put_newest, Unwinds}
 use Rattle.oe_engine.proofs.LockFacts.{set_own, set_at, set_twice}
 
@@ -75,7 +75,7 @@ stands_same (UpdatedOrderLine k v) r s e h = subst (λ (o : Option Row). IsSome 
 stands_same (UpdatedStock k v) r s e h = subst (λ (o : Option Row). IsSome o) e h
 
 -- and where a change was just made its record finds it
-stands_left : (c : Change) (v : Option Row) (r : Rows) → row_at r (key_of c) ≡ row_of c → Stands (record_of c v) r
+pub stands_left : (c : Change) (v : Option Row) (r : Rows) → row_at r (key_of c) ≡ row_of c → Stands (record_of c v) r
 stands_left (InsertHistory k x) v r e = ap is_some e
 stands_left (InsertNewOrder k x) v r e = ap is_some e
 stands_left (InsertOrder k x) v r e = ap is_some e

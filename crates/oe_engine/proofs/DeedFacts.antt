@@ -15,7 +15,7 @@ use Rattle.oe_requests.specs.declared.refusals.Refusal.TheVariants.{BadLine, NoS
 use Rattle.oe_model.specs.Changes.{Change, changed}
 use Rattle.oe_model.specs.Locks.{is_name}
 use Rattle.oe_model.proofs.SystemLaws as model
-use Rattle.oe_model.specs.Places.{Place}
+use Rattle.oe_model.specs.Positions.{Position}
 use Rattle.oe_model.specs.System.{system, yields}
 use Rattle.oe_change.specs.Writes.{is_boxed}
 use Rattle.oe_undo.specs.Undo.{room_at}
@@ -28,7 +28,7 @@ use Rattle.oe_engine.specs.Deeds.{Does}
 -- done
 pub goes_on : (s s' : Stored) (x : Handle) (a : Ask Name Refusal) (c : Option Change) → IsOpen s x → IsFree (view_of s) x.terminal a
     → AcceptsAll c (view_of s).rows → view_of s' ≡ row_done x.terminal a c (view_of s) → s'.name ≡ s.name
-    → (q : Request) (p p' : Place) → ask_here s x q p ≡ a → act_here s x q p ≡ Go c p' → GoesOn s x q p s' p'
+    → (q : Request) (p p' : Position) → ask_here s x q p ≡ a → act_here s x q p ≡ Go c p' → GoesOn s x q p s' p'
 goes_on s s' x a c o free accepted done same q p p' asks does =
     record {
       is_open = o;
@@ -59,14 +59,14 @@ module _ (s : Stored) (x : Handle) (c : Change) where
       by_mode (Some k) e = inr (by_room (λ h. room (λ none. let no : ⊥ = let both : None ≡ Some k = sym none ∙ e in cc in no)) (room_at s.undo x.terminal) refl)
 
 -- refused, where it makes a change
-with_change : (s : Stored) (x : Handle) (q : Request) (p p' : Place) (c : Change) → act_here s x q p ≡ Go (Some c) p'
+with_change : (s : Stored) (x : Handle) (q : Request) (p p' : Position) (c : Change) → act_here s x q p ≡ Go (Some c) p'
     → (e : Refusal) → IsRoom s x c (ask_here s x q p) e → RowRefused s x (ask_here s x q p) (Some c) e → IsRefused s x q p e
 with_change s x q p p' c does NotOpen room h = h
 with_change s x q p p' c does (Busy n u) room h = h
 with_change s x q p p' c does NoMemory room (o, f, n) = (o, f, by (wants s x c (ask_here s x q p) room), subst (λ d. GivesWay system (yields p) d) (sym does) tt)
   where
     by : IsNew system ((view_of s).held x.terminal) (ask_here s x q p) ⊎ WantsMemory s x c
-        → IsNew system ((view_of s).held x.terminal) (ask_here s x q p) ⊎ ((d : Change) × (z : Place) × (act_here s x q p ≡ Go (Some d) z) × WantsMemory s x d)
+        → IsNew system ((view_of s).held x.terminal) (ask_here s x q p) ⊎ ((d : Change) × (z : Position) × (act_here s x q p ≡ Go (Some d) z) × WantsMemory s x d)
     by (inl h) = inl h
     by (inr h) = inr (c, p', does, h)
 with_change s x q p p' c does (BadLine n) room (o, f, why) = (o, inr (inr (f, c, p', does, why)))
@@ -85,7 +85,7 @@ with_change s x q p p' c does (NotQuiet n) room (o, f, why) = (o, inr (inr (f, c
 with_change s x q p p' c does (NotPinned n) room (o, f, why) = (o, inr (inr (f, c, p', does, why)))
 
 pub refused_change : (s : Stored) (x : Handle) (a : Ask Name Refusal) (c : Change) (e : Refusal) → IsRoom s x c a e → RowRefused s x a (Some c) e
-    → (q : Request) (p p' : Place) → ask_here s x q p ≡ a → act_here s x q p ≡ Go (Some c) p' → IsRefused s x q p e
+    → (q : Request) (p p' : Position) → ask_here s x q p ≡ a → act_here s x q p ≡ Go (Some c) p' → IsRefused s x q p e
 refused_change s x a c e room h q p p' asks does =
     with_change s x q p p' c does e (subst (λ b. IsRoom s x c b e) (sym asks) room) (subst (λ b. RowRefused s x b (Some c) e) (sym asks) h)
 

@@ -11,18 +11,20 @@ use Rattle.oe_theory.specs.Undo.{unwind, put_records}
 use Rattle.oe_model.specs.System.{system}
 use Rattle.oe_store.specs.Stored.{rows, HasPlace}
 use Rattle.oe_store.specs.Stored as tables
-use Rattle.oe_undo.specs.Segments.{Placed}
+use Rattle.oe_undo.specs.Segments.{Addressed}
 use Rattle.oe_undo.specs.Undo.{Stored, active_at, records_at, count_at, dropped}
 use Rattle.oe_undo.specs.Stands.{model_records, undo_of}
 use Rattle.oe_undo.proofs.StandsFacts as stands
 use Rattle.oe_locks.specs.Held.{Holdings, OthersKeep, HoldsNothing}
 use Rattle.oe_engine.specs.View.{view_from}
-use Rattle.oe_engine.specs.Kept.{HavePlaces, AllHavePlaces, IsKept}
+use Rattle.oe_past.specs.GoesBack.{HavePlaces, AllHavePlaces}
+use Rattle.oe_past.proofs.PastFacts.{more_places, all_more_places}
+use Rattle.oe_engine.specs.Kept.{IsKept}
 use Rattle.oe_engine.specs.Calls.{back_at, rolled_back}
 use Rattle.oe_engine.specs.Unwinds.{TakesBack}
 use Rattle.oe_engine.proofs.LockFacts.{held_of, released_is}
 use Rattle.oe_engine.proofs.LogFacts.{active_set, seen_same}
-use Rattle.oe_engine.proofs.KeptFacts.{more_places, all_more_places, places_set, released_idle}
+use Rattle.oe_engine.proofs.KeptFacts.{places_set, released_idle}
 
 -- the engine's promise after records were put back
 pub taken_kept : (ts ts' : tables.Stored) (u u' : Stored) (ls : Holdings) (t n : ℕ) → TakesBack ts u t n ts' u' → IsKept ts u ls → IsKept ts' u' ls
@@ -69,7 +71,7 @@ back_is ts ts' u u' ls t mark n is h =
     let opens : (λ (x : ℕ). is_some (active_at u' x)) ≡ (λ (x : ℕ). is_some (active_at u x)) = fun_ext w.is_open in
     λ i. record { rows = rows_is i; undo = undo_is i; seals = w.seals i; counts = w.counts i; held = held_of ls; is_open = opens i; extents = w.extents i }
 
-no_model : (rs : List Placed) → model_records rs ≡ [] → rs ≡ []
+no_model : (rs : List Addressed) → model_records rs ≡ [] → rs ≡ []
 no_model [] e = refl
 no_model (r ∷ rs) e = cc
 

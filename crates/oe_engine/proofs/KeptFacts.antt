@@ -15,7 +15,7 @@ use Rattle.oe_model.proofs.RowFacts.{record_key_of}
 use Rattle.oe_store.specs.Stored.{HasPlace, rows}
 use Rattle.oe_store.specs.Stored as tables
 use Rattle.oe_change.specs.Applies.{Applies}
-use Rattle.oe_undo.specs.declared.segments.Place.{Place}
+use Rattle.oe_undo.specs.declared.segments.Address.{Address}
 use Rattle.oe_undo.specs.declared.undo.TerminalState.{TerminalState}
 use Rattle.oe_undo.specs.Undo.{Stored, idle, active_at, count_at, no_segments, idle_terminals, with_room, opened, pushed, sealed, dropped}
 use Rattle.oe_undo.specs.Undo as undo
@@ -23,17 +23,10 @@ use Rattle.oe_undo.specs.Stands.{undo_of}
 use Rattle.oe_undo.proofs.StandsFacts as stands
 use Rattle.oe_undo.proofs.KeptFacts.{idle_at}
 use Rattle.oe_locks.specs.Held.{Holdings, OthersKeep, HoldsNothing, IsIdle}
-use Rattle.oe_engine.specs.Kept.{HavePlaces, AllHavePlaces, IsKept}
+use Rattle.oe_past.specs.GoesBack.{HavePlaces, AllHavePlaces}
+use Rattle.oe_past.proofs.PastFacts.{more_places, all_more_places}
+use Rattle.oe_engine.specs.Kept.{IsKept}
 use Rattle.oe_engine.proofs.LogFacts.{active_set, seen_same, changed_open, pushed_open, some_of}
-
--- keys that had places have them in tables in which none was lost
-pub more_places : (ts ts' : tables.Stored) → ((k : Key) → HasPlace ts k → HasPlace ts' k) → (bs : List Record) → HavePlaces ts bs → HavePlaces ts' bs
-more_places ts ts' more [] h = tt
-more_places ts ts' more (b ∷ bs) h = (more (record_key b) h.0, more_places ts ts' more bs h.1)
-
-pub all_more_places : (ts ts' : tables.Stored) → ((k : Key) → HasPlace ts k → HasPlace ts' k) → (ss : List (List Record)) → AllHavePlaces ts ss → AllHavePlaces ts' ss
-all_more_places ts ts' more [] h = tt
-all_more_places ts ts' more (bs ∷ ss) h = (more_places ts ts' more bs h.0, all_more_places ts ts' more ss h.1)
 
 -- one terminal's records replaced
 pub places_set : (ts : tables.Stored) (t : ℕ) (bs : List Record) (f : ℕ → List Record) → HavePlaces ts bs → ((x : ℕ) → HavePlaces ts (f x))
@@ -104,14 +97,14 @@ roomed_kept ts u ls t room k =
     }
 
 -- a change was made and its record pushed
-pub made_kept : (ts ts' : tables.Stored) (u : Stored) (ls : Holdings) (t : ℕ) (p : Place) (c : Change) (b : Before) → is_some (active_at u t) ≡ true
+pub made_kept : (ts ts' : tables.Stored) (u : Stored) (ls : Holdings) (t : ℕ) (p : Address) (c : Change) (b : Before) → is_some (active_at u t) ≡ true
     → Applies c ts ts' (record_of_before b) → IsKept ts u ls → IsKept ts' (pushed u t p b) ls
 made_kept ts ts' u ls t p c b is a k =
     let o = some_of (active_at u t) is in
     let s = stands.pushes u t o.0 p b o.1 in
     let open_is : (x : ℕ) → is_some (active_at (pushed u t p b) x) ≡ is_some (active_at u x) = pushed_open u t p b in
     let counts : (x : ℕ) → count_at (pushed u t p b) x ≡ count_at u x =
-    seen_same (λ z. z.count) u t (record { count = count_at u t; active = undo.changed (λ o. record o { records = record { place = p; before = b } ∷ o.records; room = o.room - 1 }) (active_at u t) }) refl in
+    seen_same (λ z. z.count) u t (record { count = count_at u t; active = undo.changed (λ o. record o { records = record { address = p; before = b } ∷ o.records; room = o.room - 1 }) (active_at u t) }) refl in
     let more : (j : Key) → HasPlace ts j → HasPlace ts' j = λ j h. (a.places j).1 (inl h) in
     let key : record_key (record_of_before b) ≡ key_of c = ap record_key a.before ∙ record_key_of c (row_at (rows ts) (key_of c)) in
     let own : HavePlaces ts' (record_of_before b ∷ (undo_of u).active t) = ((a.places (record_key (record_of_before b))).1 (inr key), more_places ts ts' more _ (k.active t)) in

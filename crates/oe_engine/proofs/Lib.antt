@@ -5,6 +5,7 @@ pub mod KeptFacts
 pub mod LockFacts
 pub mod LogFacts
 pub mod MakeFacts
+pub mod PastFacts
 mod WriteFacts
 pub mod ReplyFacts
 pub mod RowFacts

@@ -88,7 +88,7 @@ put_is old new t n m own others =
 pub released_is : (old new : Holdings) (t : ℕ) → HoldsNothing new t → OthersKeep old new t → held_of new ≡ world.set t (λ _. None) (held_of old)
 released_is old new t own others = one_changed old new t _ others (λ q. ap (option_map mode_of) (own q))
 
--- a function with its own value put at a place is that function
+-- a function with its own value put at an argument is that function
 pub set_own : {A : Type 0} (t : ℕ) (f : ℕ → A) → world.set t (f t) f ≡ f
 set_own t f = fun_ext (λ u. elim (cases_eq u t) [
   | inl e ↦ cond-true (u == t) (f t) (f u) (eq-eqb u t e) ∙ ap f (sym e)

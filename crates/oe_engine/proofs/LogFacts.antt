@@ -17,7 +17,7 @@ use Rattle.oe_model.specs.System.{system}
 use Rattle.oe_store.specs.Stored.{rows}
 use Rattle.oe_store.specs.Stored as tables
 use Rattle.oe_change.specs.Applies.{Applies}
-use Rattle.oe_undo.specs.declared.segments.Place.{Place}
+use Rattle.oe_undo.specs.declared.segments.Address.{Address}
 use Rattle.oe_undo.specs.declared.undo.TerminalState.{TerminalState}
 use Rattle.oe_undo.specs.Segments.{Open, Committed, popped}
 use Rattle.oe_undo.specs.Undo.{Stored, idle, active_at, records_at, count_at, no_segments, idle_terminals, with_state, with_room, opened, pushed, popped_at, sealed, dropped}
@@ -63,9 +63,9 @@ pub changed_open : (u : Stored) (t : ℕ) (f : Open → Open) (x : ℕ)
     → is_some (active_at (undo.with_active u t (undo.changed f (active_at u t))) x) ≡ is_some (active_at u x)
 changed_open u t f = seen_same (λ z. is_some z.active) u t _ (changed_some f (active_at u t))
 
-pub pushed_open : (u : Stored) (t : ℕ) (p : Place) (b : Before) (x : ℕ) → is_some (active_at (pushed u t p b) x) ≡ is_some (active_at u x)
+pub pushed_open : (u : Stored) (t : ℕ) (p : Address) (b : Before) (x : ℕ) → is_some (active_at (pushed u t p b) x) ≡ is_some (active_at u x)
 pushed_open u t p b x =
-    changed_open u t (λ o. record o { records = record { place = p; before = b } ∷ o.records; room = o.room - 1 }) x
+    changed_open u t (λ o. record o { records = record { address = p; before = b } ∷ o.records; room = o.room - 1 }) x
 
 pub popped_open : (u : Stored) (t : ℕ) (x : ℕ) → is_some (active_at (popped_at u t) x) ≡ is_some (active_at u x)
 popped_open u t x = changed_open u t (λ o. popped o) x
@@ -131,7 +131,7 @@ roomed_is ts u ls t room =
     }
 
 -- a change was made and its record pushed
-pub made_is : (ts ts' : tables.Stored) (u : Stored) (ls : Holdings) (t : ℕ) (p : Place) (c : Change) (b : Before) → is_some (active_at u t) ≡ true
+pub made_is : (ts ts' : tables.Stored) (u : Stored) (ls : Holdings) (t : ℕ) (p : Address) (c : Change) (b : Before) → is_some (active_at u t) ≡ true
     → Applies c ts ts' (record_of_before b) → view_from ts' (pushed u t p b) ls ≡ made t c (view_from ts u ls)
 unfolding view_from
 made_is ts ts' u ls t p c b is a =

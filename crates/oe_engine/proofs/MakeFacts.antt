@@ -6,7 +6,7 @@ use Rattle.oe_records.specs.Befores.{record_of_before}
 use Rattle.oe_model.specs.Changes.{Change}
 use Rattle.oe_store.specs.Stored as tables
 use Rattle.oe_change.specs.Applies.{Applies}
-use Rattle.oe_undo.specs.declared.segments.Place.{Place}
+use Rattle.oe_undo.specs.declared.segments.Address.{Address}
 use Rattle.oe_undo.specs.Undo.{Stored, active_at, with_room, pushed}
 use Rattle.oe_locks.specs.Held.{Holdings}
 use Rattle.oe_engine.specs.View.{view_from}
@@ -27,7 +27,7 @@ module _ (ts : tables.Stored) (u w : Stored) (ls : Holdings) (t room : ℕ) (sam
   room_open is = subst (λ z. is_some (active_at z t) ≡ true) (sym same) (changed_open u t (λ o. record o { room = room }) t ∙ is)
 
   -- and the change, and its record pushed
-  module _ (ts' : tables.Stored) (x : Stored) (p : Place) (c : Change) (b : Before) (is : is_some (active_at u t) ≡ true)
+  module _ (ts' : tables.Stored) (x : Stored) (p : Address) (c : Change) (b : Before) (is : is_some (active_at u t) ≡ true)
       (a : Applies c ts ts' (record_of_before b)) (push : x ≡ pushed w t p b) where
     pub change_view : view_from ts' x ls ≡ made t c (view_from ts u ls)
     change_view =

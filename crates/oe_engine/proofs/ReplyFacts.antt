@@ -1,4 +1,4 @@
--- A program that is ready has its reply in its place.
+-- A program that is ready has its reply in its position.
 use Rattle.std.proofs.Common.{◌≡◌, ℕ, [], ◌∷◌, Option, None, Some}
 use Rattle.std.specs.FinMap.{get}
 use Rattle.oe_theory.specs.Machine.{Tx, Go, Ready}
@@ -16,7 +16,7 @@ use Rattle.oe_model.specs.Rows.{Rows}
 use Rattle.oe_model.specs.Changes.{Change, DeleteNewOrder}
 use Rattle.oe_model.specs.Effects.{Doing, given, within}
 use Rattle.oe_model.specs.Choice.{chosen}
-use Rattle.oe_model.specs.Places.{Place, InPayment, InNewOrder, InDelivery, NoProgram, PaymentPlace, PaymentWarehouse, PaymentDistrict, PaymentCustomer, PaymentHistory, PaymentEnd, NewOrderPlace, NewOrderWarehouse, NewOrderDistrict, NewOrderCustomer, NewOrderOrder, NewOrderQueue, NewOrderStock, NewOrderLine, DeliveryPlace, DeliveryQueue, DeliveryNothing, DeliveryOrder, DeliveryLine, DeliveryEnd}
+use Rattle.oe_model.specs.Positions.{Position, InPayment, InNewOrder, InDelivery, NoProgram, PaymentPosition, PaymentWarehouse, PaymentDistrict, PaymentCustomer, PaymentHistory, PaymentEnd, NewOrderPosition, NewOrderWarehouse, NewOrderDistrict, NewOrderCustomer, NewOrderOrder, NewOrderQueue, NewOrderStock, NewOrderLine, DeliveryPosition, DeliveryQueue, DeliveryNothing, DeliveryOrder, DeliveryLine, DeliveryEnd}
 use Rattle.oe_model.specs.Payment.{payment_act}
 use Rattle.oe_model.specs.NewOrder.{item_at, stock_of, new_order_act}
 use Rattle.oe_model.specs.Delivery.{delivery_act, oldest}
@@ -31,10 +31,10 @@ within_ready : (o : Option Column) (d : Doing) (y : Reply) → within o d ≡ Re
 within_ready None d y h = h
 within_ready (Some k) d y h = let no : ⊥ = cc in absurd no
 
-goes : (c : Option Change) (p : Place) (y : Reply) → ◌≡◌ {A = Doing} (Go c p) (Ready y) → ⊥
+goes : (c : Option Change) (p : Position) (y : Reply) → ◌≡◌ {A = Doing} (Go c p) (Ready y) → ⊥
 goes c p y h = cc
 
-payment_ready : (t k : ℕ) (q : PaymentRequest) (p : PaymentPlace) (r : Rows) (y : Reply) → payment_act t k q p r ≡ Ready y → payment_reply p ≡ Some y
+payment_ready : (t k : ℕ) (q : PaymentRequest) (p : PaymentPosition) (r : Rows) (y : Reply) → payment_act t k q p r ≡ Ready y → payment_reply p ≡ Some y
 payment_ready t k q PaymentWarehouse r y h =
     let (x, e) = given_ready (NoSuchRow (key.Warehouse (warehouse_of_district q.district))) (get r.warehouses (warehouse_of_district q.district)) _ y h in absurd (goes _ _ y (within_ready _ _ y e))
 payment_ready t k q (PaymentDistrict w) r y h =
@@ -46,7 +46,7 @@ payment_ready t k q (PaymentCustomer w d) r y h =
 payment_ready t k q (PaymentHistory d z) r y h = absurd (goes _ _ y h)
 payment_ready t k q (PaymentEnd z) r y h = cc
 
-new_order_ready : (q : NewOrderRequest) (p : NewOrderPlace) (r : Rows) (y : Reply) → new_order_act q p r ≡ Ready y → new_order_reply p ≡ Some y
+new_order_ready : (q : NewOrderRequest) (p : NewOrderPosition) (r : Rows) (y : Reply) → new_order_act q p r ≡ Ready y → new_order_reply p ≡ Some y
 new_order_ready q NewOrderWarehouse r y h =
     let (x, e) = given_ready (NoSuchRow (key.Warehouse (warehouse_of_district q.district))) (get r.warehouses (warehouse_of_district q.district)) _ y h in absurd (goes _ _ y e)
 new_order_ready q (NewOrderDistrict w) r y h =
@@ -68,7 +68,7 @@ queue_goes : (q : DeliveryRequest) (o : Option ℕ) (y : Reply)
 queue_goes q None y h = goes _ _ y h
 queue_goes q (Some n) y h = goes _ _ y h
 
-delivery_ready : (q : DeliveryRequest) (p : DeliveryPlace) (r : Rows) (y : Reply) → delivery_act q p r ≡ Ready y → delivery_reply p ≡ Some y
+delivery_ready : (q : DeliveryRequest) (p : DeliveryPosition) (r : Rows) (y : Reply) → delivery_act q p r ≡ Ready y → delivery_reply p ≡ Some y
 delivery_ready q DeliveryQueue r y h = absurd (queue_goes q (oldest q.district r.new_orders) y h)
 delivery_ready q DeliveryNothing r y h = cc
 delivery_ready q (DeliveryOrder o) r y h =
@@ -79,7 +79,7 @@ delivery_ready q (DeliveryLine o c (n ∷ ns) sum) r y h =
     let (x, e) = given_ready (NoSuchRow (key.OrderLine (line_in (order_in q.district o) n))) (get r.order_lines (line_in (order_in q.district o) n)) _ y h in absurd (goes _ _ y e)
 delivery_ready q (DeliveryEnd o c sum) r y h = cc
 
-pub ready_at : (x : Tx Request) (p : Place) (r : Rows) (y : Reply) → act x p r ≡ Ready y → reply_at p ≡ Some y
+pub ready_at : (x : Tx Request) (p : Position) (r : Rows) (y : Reply) → act x p r ≡ Ready y → reply_at p ≡ Some y
 ready_at x (InPayment q p) r y h = payment_ready x.terminal x.number q p r y h
 ready_at x (InNewOrder q p) r y h = new_order_ready q p r y h
 ready_at x (InDelivery q p) r y h = delivery_ready q p r y h

@@ -29,7 +29,8 @@ use Rattle.oe_locks.specs.Held as locks
 use Rattle.oe_locks.specs.Held.{Holdings}
 use Rattle.oe_engine.specs.View.{View, view_from, opened_view}
 use Rattle.oe_engine.specs.Covered.{Owns, AreOwned, IsUnused, HoldsOrder, MayMake, IsOwn, Unwinds, IsSafe}
-use Rattle.oe_engine.specs.Calls.{ask_to_write, IsFree, IsBelow, IsCovered, begun, locked, made, put_mode, CanUnwind, count_since, back_at, committed, rolled_back}
+use Rattle.oe_past.specs.GoesBack.{CanUnwind}
+use Rattle.oe_engine.specs.Calls.{ask_to_write, IsFree, IsBelow, IsCovered, begun, locked, made, put_mode, count_since, back_at, committed, rolled_back}
 use Rattle.oe_engine.proofs.LockFacts.{set_at}
 use Rattle.oe_engine.proofs.RowFacts.{free_is, locked_is}
 use Rattle.oe_engine.proofs.CoveredFacts.{RefersTo, AreApart, whole_made, made_unwinds, back_unwinds, can_go_back, sealed_unwinds, none_unwinds}

@@ -12,16 +12,15 @@ use Rattle.oe_model.specs.System.{system}
 use Rattle.oe_store.specs.Stored.{rows, HasPlace, SamePlaces}
 use Rattle.oe_store.specs.Stored as tables
 use Rattle.oe_change.specs.PutBack.{CanPutBack}
-use Rattle.oe_undo.specs.Segments.{Placed, newest_of}
+use Rattle.oe_undo.specs.Segments.{Addressed, newest_of}
 use Rattle.oe_undo.specs.Undo.{Stored, active_at, records_at, popped_at}
 use Rattle.oe_undo.specs.Stands.{model_records, undo_of}
 use Rattle.oe_undo.proofs.StandsFacts as stands
-use Rattle.oe_engine.specs.Kept.{HavePlaces}
-use Rattle.oe_engine.specs.Calls.{CanUnwind}
+use Rattle.oe_past.specs.GoesBack.{CanUnwind, HavePlaces}
 use Rattle.oe_engine.specs.Unwinds.{Left, Unwinding, TakesBack}
 use Rattle.oe_engine.proofs.LockFacts.{set_own, set_at, set_twice}
 use Rattle.oe_engine.proofs.LogFacts.{popped_open, some_of}
-use Rattle.oe_engine.proofs.KeptFacts.{more_places}
+use Rattle.oe_past.proofs.PastFacts.{more_places}
 
 -- at the beginning
 pub begins : (ts : tables.Stored) (u : Stored) (t count : ℕ) → count ≤ length (records_at u t) → CanUnwind (take count ((undo_of u).active t)) (rows ts)
@@ -45,7 +44,7 @@ unchanged ts u t own =
     }
 
 -- the newest record, where there is one
-newest_is : (rs : List Placed) (b : Before) → newest_of rs ≡ Some b → model_records rs ≡ record_of_before b ∷ drop 1 (model_records rs)
+newest_is : (rs : List Addressed) (b : Before) → newest_of rs ≡ Some b → model_records rs ≡ record_of_before b ∷ drop 1 (model_records rs)
 newest_is [] b e = cc
 newest_is (r ∷ rs) b e = let same : r.before ≡ b = cc in ap (λ x. record_of_before x ∷ model_records rs) same
 
@@ -54,7 +53,7 @@ pub none_left : (u : Stored) (bs : List Record) (r s : Rows) (t count left : ℕ
     → newest_of (records_at u t) ≡ None → ⊥
 none_left u bs r s t count left h some none = go (records_at u t) none h.enough
   where
-    go : (rs : List Placed) → newest_of rs ≡ None → left ≤ length (model_records rs) → ⊥
+    go : (rs : List Addressed) → newest_of rs ≡ None → left ≤ length (model_records rs) → ⊥
     go [] e enough = omega arith
     go (p ∷ rs) e enough = cc
 

@@ -1,25 +1,25 @@
 -- What the engine's calls do to what it stands for, and why they are refused.
-use Rattle.std.specs.Prelude.{◌≡◌, ◌≢◌, ◌⊎◌, ℕ, suc, ◌-◌, ◌<◌, true, false, cond, List, [], ◌∷◌, Option, None, Some, IsSome, length, take, drop}
+use Rattle.std.specs.Prelude.{◌≡◌, ◌≢◌, ◌⊎◌, ℕ, suc, ◌-◌, ◌<◌, ◌≤◌, true, false, cond, List, [], ◌∷◌, Option, None, Some, IsSome, is_some, length, take, drop}
 use Rattle.oe_theory.specs.Machine.{Ask, Stop, Plain, Take, Guard, Free, Under, Own}
 use Rattle.oe_theory.specs.Machine as theory
-use Rattle.oe_theory.specs.World.{go_together, set, bump}
+use Rattle.oe_theory.specs.World.{go_together, set, bump, total}
 use Rattle.oe_theory.specs.Next.{held_after, record_on, IsNew}
-use Rattle.oe_theory.specs.Undo.{unwind, put_records}
-use Rattle.oe_theory.specs.Store.{with_change_of, with_record_of}
+use Rattle.oe_theory.specs.Undo.{unwind, unwind_commits, put_records}
+use Rattle.oe_theory.specs.Store.{Slot, with_change_of, with_record_of, count_slots, counts_before}
 use Rattle.oe_keys.specs.declared.locks.Name.{Name}
 use Rattle.oe_requests.specs.declared.requests.Request.{Request}
 use Rattle.oe_requests.specs.declared.replies.Reply.{Reply}
 use Rattle.oe_requests.specs.declared.refusals.Refusal.{Refusal}
-use Rattle.oe_requests.specs.declared.refusals.Refusal.TheVariants.{Busy, NotOpen, AlreadyOpen, NoMemory}
+use Rattle.oe_requests.specs.declared.refusals.Refusal.TheVariants.{Busy, NotOpen, AlreadyOpen, NoMemory, NotQuiet}
 use Rattle.oe_model.specs.Rows.{Rows}
-use Rattle.oe_model.specs.Changes.{Change, Record, changed, put_back}
-use Rattle.oe_model.specs.Meets.{Meets, Accepts, Cause}
+use Rattle.oe_model.specs.Changes.{Change, changed}
+use Rattle.oe_model.specs.Meets.{Accepts, Cause}
 use Rattle.oe_model.specs.Locks.{mode_of, is_name}
 use Rattle.oe_model.specs.Requests.{number_rejection}
-use Rattle.oe_model.specs.System.{system}
+use Rattle.oe_model.specs.System.{system, terminal_limit}
 use Rattle.oe_store.specs.Stored as tables
 use Rattle.oe_change.specs.Applies.{Refuses}
-use Rattle.oe_change.specs.PutBack.{Stands}
+use Rattle.oe_past.specs.Moments.{IsBetween, IsOutside}
 use Rattle.oe_engine.specs.View.{Stored, View, view_of, Handle, IsOpen}
 use Rattle.oe_engine.specs.Covered.{MayMake}
 use Rattle.oe_engine.specs.declared.rows.Lock.{Lock}
@@ -140,12 +140,6 @@ abbrev pub AcceptsAll : Option Change → Rows → Type 0
 AcceptsAll None r = Unit {0}
 AcceptsAll (Some c) r = Accepts c r
 
--- records can be put back one after another, the newest first: each finds the row that its change left, and the schema holds
--- after each
-abbrev pub CanUnwind : List Record → Rows → Type 0
-CanUnwind [] r = Unit {0}
-CanUnwind (b ∷ bs) r = Stands b r × Meets (put_back b r) × CanUnwind bs (put_back b r)
-
 -- how many records a transaction has made since a mark
 abbrev pub count_since : View → ℕ → ℕ → ℕ
 count_since v t mark = length (v.undo.active t) - mark
@@ -174,4 +168,45 @@ abbrev pub rolled_back : ℕ → View → View
 rolled_back t v = record (gone t v) {
   rows = unwind system (v.undo.active t) v.rows;
   undo = put_records system t [] v.undo;
+}
+
+-- the newest moment: the number of all commits so far
+abbrev pub newest : View → ℕ
+newest v = total terminal_limit v.counts
+
+-- the oldest moment: as many commits ago as are kept
+abbrev pub horizon : View → ℕ
+horizon v = newest v - length v.seals
+
+-- a moment of which the later commits are kept
+abbrev pub IsKeptMoment : View → ℕ → Type 0
+IsKeptMoment v m = IsBetween (horizon v) (newest v) m
+
+-- no transaction is open
+abbrev pub IsQuiet : View → Type 0
+IsQuiet v = (t : ℕ) → v.is_open t ≡ false
+
+-- so many transactions are open
+abbrev pub AreOpen : View → ℕ → Type 0
+AreOpen v n = (slots : ℕ → Option (Slot system)) → ((t : ℕ) → is_some (slots t) ≡ v.is_open t) → count_slots system slots terminal_limit ≡ n
+
+-- why a rewind is refused; the first in this order is named: transactions are open, or the moment is outside
+abbrev pub CantRewind : View → ℕ → Refusal → Type 0
+CantRewind v m (NotQuiet n) = AreOpen v n × (0 < n)
+CantRewind v m e = IsQuiet v × IsOutside (horizon v) (newest v) m e
+
+-- the records and seals of the commits up to a moment gone
+abbrev pub purged_to : ℕ → View → View
+purged_to m v = record v {
+  undo = record { active = v.undo.active; history = take (newest v - m) v.undo.history };
+  seals = take (newest v - m) v.seals;
+}
+
+-- the commits after a moment undone, and no longer counted
+abbrev pub rewound_to : ℕ → View → View
+rewound_to m v = record v {
+  rows = unwind_commits system (take (newest v - m) v.undo.history) v.rows;
+  undo = record { active = v.undo.active; history = drop (newest v - m) v.undo.history };
+  seals = drop (newest v - m) v.seals;
+  counts = counts_before system v.counts (take (newest v - m) v.seals);
 }

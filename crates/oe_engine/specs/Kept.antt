@@ -1,24 +1,13 @@
 -- What an engine keeps of its tables, its undo log and its locks together.
-use Rattle.std.specs.Prelude.{◌≡◌, ℕ, ◌<◌, true, false, List, [], ◌∷◌, length, is_some}
-use Rattle.oe_model.specs.Changes.{Record, record_key}
-use Rattle.oe_store.specs.Stored.{HasPlace}
+use Rattle.std.specs.Prelude.{◌≡◌, ℕ, ◌<◌, true, false, length, is_some}
 use Rattle.oe_store.specs.Stored as tables
 use Rattle.oe_undo.specs.Undo.{active_at, count_at}
 use Rattle.oe_undo.specs.Undo as undo
 use Rattle.oe_undo.specs.Stands.{undo_of}
 use Rattle.oe_locks.specs.Held.{Holdings, HoldsNothing}
+use Rattle.oe_past.specs.GoesBack.{HavePlaces, AllHavePlaces}
 use Rattle.oe_engine.specs.View.{view_from}
 use Rattle.oe_engine.specs.Covered.{IsSafe}
-
--- each record's key has a place, so that to put its row back takes no memory
-abbrev pub HavePlaces : tables.Stored → List Record → Type 0
-HavePlaces ts [] = Unit {0}
-HavePlaces ts (b ∷ bs) = HasPlace ts (record_key b) × HavePlaces ts bs
-
--- the same of the records of commits
-abbrev pub AllHavePlaces : tables.Stored → List (List Record) → Type 0
-AllHavePlaces ts [] = Unit {0}
-AllHavePlaces ts (bs ∷ ss) = HavePlaces ts bs × AllHavePlaces ts ss
 
 pub record IsKept (ts : tables.Stored) (u : undo.Stored) (ls : Holdings) : Type 0 where
   pub size : length u.terminals ≡ 65

@@ -11,7 +11,7 @@ use Rattle.oe_requests.specs.declared.refusals.Refusal.{Refusal}
 use Rattle.oe_requests.specs.declared.refusals.Refusal.TheVariants.{Busy, NotOpen, NoMemory}
 use Rattle.oe_model.specs.Changes.{Change}
 use Rattle.oe_model.specs.Meets.{Cause}
-use Rattle.oe_model.specs.Places.{Place, InPayment, InNewOrder, InDelivery, NoProgram, PaymentPlace, PaymentEnd, NewOrderPlace, NewOrderStock, DeliveryPlace, DeliveryNothing, DeliveryEnd}
+use Rattle.oe_model.specs.Positions.{Position, InPayment, InNewOrder, InDelivery, NoProgram, PaymentPosition, PaymentEnd, NewOrderPosition, NewOrderStock, DeliveryPosition, DeliveryNothing, DeliveryEnd}
 use Rattle.oe_model.specs.NewOrder.{ordered_reply}
 use Rattle.oe_model.specs.Delivery.{delivered_reply}
 use Rattle.oe_model.specs.System.{system, ask, act, yields}
@@ -26,19 +26,19 @@ use Rattle.oe_engine.specs.declared.rows.Progress.TheVariants as progress
 abbrev pub tx_of : Stored → Handle → Request → Tx Request
 tx_of s x q = record { terminal = x.terminal; number = suc ((view_of s).counts x.terminal); request = q }
 
--- what the row at this place asks for, and what it does
-abbrev pub ask_here : Stored → Handle → Request → Place → Ask (system.Name) Refusal
+-- what the row at this position asks for, and what it does
+abbrev pub ask_here : Stored → Handle → Request → Position → Ask (system.Name) Refusal
 ask_here s x q p = ask (tx_of s x q) p (view_of s).rows
 
-abbrev pub act_here : Stored → Handle → Request → Place → Act Change Place Reply Refusal
+abbrev pub act_here : Stored → Handle → Request → Position → Act Change Position Reply Refusal
 act_here s x q p = act (tx_of s x q) p (view_of s).rows
 
 -- the row's lock is free
-abbrev pub IsFreeHere : Stored → Handle → Request → Place → Type 0
+abbrev pub IsFreeHere : Stored → Handle → Request → Position → Type 0
 IsFreeHere s x q p = IsFree (view_of s) x.terminal (ask_here s x q p)
 
--- the row was done, and the program goes on at another place
-pub record GoesOn (s : Stored) (x : Handle) (q : Request) (p : Place) (s' : Stored) (p' : Place) : Type 0 where
+-- the row was done, and the program goes on at another position
+pub record GoesOn (s : Stored) (x : Handle) (q : Request) (p : Position) (s' : Stored) (p' : Position) : Type 0 where
   pub is_open : IsOpen s x
   pub free : IsFreeHere s x q p
   pub change : Option Change
@@ -47,38 +47,38 @@ pub record GoesOn (s : Stored) (x : Handle) (q : Request) (p : Place) (s' : Stor
   pub done : view_of s' ≡ row_done x.terminal (ask_here s x q p) change (view_of s)
   pub name : s'.name ≡ s.name
 
--- the reply of a program that has come to its end, by its place
-abbrev pub payment_reply : PaymentPlace → Option Reply
+-- the reply of a program that has come to its end, by its position
+abbrev pub payment_reply : PaymentPosition → Option Reply
 payment_reply (PaymentEnd y) = Some (reply.Payment y)
 payment_reply _ = None
 
-abbrev pub new_order_reply : NewOrderPlace → Option Reply
+abbrev pub new_order_reply : NewOrderPosition → Option Reply
 new_order_reply (NewOrderStock s before done []) = Some (reply.NewOrder (ordered_reply s done))
 new_order_reply _ = None
 
-abbrev pub delivery_reply : DeliveryPlace → Option Reply
+abbrev pub delivery_reply : DeliveryPosition → Option Reply
 delivery_reply DeliveryNothing = Some (reply.Delivery Skipped)
 delivery_reply (DeliveryEnd o c sum) = Some (delivered_reply o c sum)
 delivery_reply _ = None
 
-abbrev pub reply_at : Place → Option Reply
+abbrev pub reply_at : Position → Option Reply
 reply_at (InPayment q p) = payment_reply p
 reply_at (InNewOrder q p) = new_order_reply p
 reply_at (InDelivery q p) = delivery_reply p
 reply_at NoProgram = None
 
 -- the program has come to its end with this reply
-pub record IsReady (s : Stored) (x : Handle) (q : Request) (p : Place) (y : Reply) : Type 0 where
+pub record IsReady (s : Stored) (x : Handle) (q : Request) (p : Position) (y : Reply) : Type 0 where
   pub is_open : IsOpen s x
   pub free : IsFreeHere s x q p
   pub does : act_here s x q p ≡ Ready y
 
 -- the row ends its transaction with this refusal: it stops before its lock, it fails, or the tables don't accept its change
-abbrev pub Ends : Stored → Handle → Request → Place → Refusal → Type 0
+abbrev pub Ends : Stored → Handle → Request → Position → Refusal → Type 0
 Ends s x q p e =
     (ask_here s x q p ≡ Stop e)
     ⊎ (IsFreeHere s x q p × (act_here s x q p ≡ Fail e))
-    ⊎ (IsFreeHere s x q p × (c : Change) × (p' : Place) × (act_here s x q p ≡ Go (Some c) p') × Cause c (view_of s).rows e)
+    ⊎ (IsFreeHere s x q p × (c : Change) × (p' : Position) × (act_here s x q p ≡ Go (Some c) p') × Cause c (view_of s).rows e)
 
 -- memory is wanted for a row's change: its undo record has no room, it is an insert at a key without a place, or the row
 -- before it lies in memory of its own in the record
@@ -86,17 +86,17 @@ abbrev pub WantsMemory : Stored → Handle → Change → Type 0
 WantsMemory s x c = (room_at s.undo x.terminal ≡ 0) ⊎ WantsPlace (Some c) s.tables ⊎ (is_boxed c ≡ true)
 
 -- why a row was refused
-abbrev pub IsRefused : Stored → Handle → Request → Place → Refusal → Type 0
+abbrev pub IsRefused : Stored → Handle → Request → Position → Refusal → Type 0
 IsRefused s x q p NotOpen = IsOpen s x → ⊥
 IsRefused s x q p (Busy n u) = IsOpen s x × ((m : theory.Mode) × (ask_here s x q p ≡ Take n m) × IsInTheWay (view_of s) x.terminal n m u)
 IsRefused s x q p NoMemory =
     IsOpen s x × IsFreeHere s x q p
-    × (IsNew system ((view_of s).held x.terminal) (ask_here s x q p) ⊎ ((c : Change) × (p' : Place) × (act_here s x q p ≡ Go (Some c) p') × WantsMemory s x c))
+    × (IsNew system ((view_of s).held x.terminal) (ask_here s x q p) ⊎ ((c : Change) × (p' : Position) × (act_here s x q p ≡ Go (Some c) p') × WantsMemory s x c))
     × GivesWay system (yields p) (act_here s x q p)
 IsRefused s x q p e = IsOpen s x × Ends s x q p e
 
--- one step of a program that carries out this request, from a place and an engine to a place and an engine
-abbrev pub Progresses : Request → Handle → Stored → Place → Progress → Stored → Place → Type 0
+-- one step of a program that carries out this request, from a position and an engine to a position and an engine
+abbrev pub Progresses : Request → Handle → Stored → Position → Progress → Stored → Position → Type 0
 Progresses q x s p progress.More s' p' = GoesOn s x q p s' p'
 Progresses q x s p progress.Ready s' p' = ((y : Reply) × IsReady s x q p y) × (s' ≡ s) × (p' ≡ p)
 Progresses q x s p (progress.Refused e) s' p' = IsRefused s x q p e × (view_of s' ≡ view_of s) × (s'.name ≡ s.name) × (p' ≡ p)

@@ -9,8 +9,7 @@ use Rattle.oe_store.specs.Stored as tables
 use Rattle.oe_undo.specs.Undo.{active_at, count_at}
 use Rattle.oe_undo.specs.Undo as undo
 use Rattle.oe_undo.specs.Stands.{undo_of, seals_of, counts_of}
-use Rattle.oe_engine.specs.Kept.{HavePlaces}
-use Rattle.oe_engine.specs.Calls.{CanUnwind}
+use Rattle.oe_past.specs.GoesBack.{CanUnwind, HavePlaces}
 
 -- what is left of the newest records of a list, of which so many are to go: the rows, and the records
 pub record Left (bs : List Record) (r : Rows) (count : ℕ) (now : List Record) (s : Rows) (left : ℕ) : Type 0 where

@@ -104,8 +104,10 @@ impl Engine {
     /// conflicts. `NoMemory`: memory was refused for a name that was not held. After an error nothing has changed.
     pub fn lock(&mut self, tx: &Tx, name: Name, mode: Mode) -> Result<(), Refusal>
         ensures open { OnOk result (IsOpen self.old tx.now) }
-        ensures free { OnOk result (IsFree (view_of self.old) tx.now.terminal (Take name (mode_of mode))) }
-        ensures locked { OnOk result (view_of self.new ≡ locked tx.now.terminal name (mode_of mode) (view_of self.old)) }
+        ensures free { OnOk result
+            (IsFree (view_of self.old) tx.now.terminal (Take name (mode_of mode))) }
+        ensures locked { OnOk result
+            (view_of self.new ≡ locked tx.now.terminal name (mode_of mode) (view_of self.old)) }
         ensures name { self.new.name ≡ self.old.name }
         ensures cause { IfErr result (RowRefused self.old tx.now (Take name (mode_of mode)) None) }
         ensures err { OnErr result (view_of self.new ≡ view_of self.old) }
@@ -116,7 +118,8 @@ impl Engine {
     /// The mode in which a transaction holds a name; none where it does not hold it, or is not open in this engine.
     #[tactic(auto, unfolding(crate::specs::View::view_of, crate::specs::View::view_from))]
     pub fn held(&self, tx: &Tx, name: &Name) -> Option<Mode>
-        ensures open { IsOpen self.now tx.now → option_map mode_of result ≡ (view_of self.now).held tx.now.terminal name.now }
+        ensures open { IsOpen self.now tx.now
+            → option_map mode_of result ≡ (view_of self.now).held tx.now.terminal name.now }
         ensures foreign { (IsOpen self.now tx.now → ⊥) → result ≡ None }
     {
         if !self.is_open(tx) {
@@ -140,9 +143,11 @@ impl Engine {
     /// row under that name. It takes no memory.
     pub fn give_back(&mut self, tx: &Tx, name: Name, mode: Option<Mode>)
         requires open { IsOpen self.old tx.now }
-        requires below { IsBelow (option_map mode_of mode) ((view_of self.old).held tx.now.terminal name) }
+        requires below { IsBelow (option_map mode_of mode)
+            ((view_of self.old).held tx.now.terminal name) }
         requires unused { IsUnused name ((view_of self.old).undo.active tx.now.terminal) }
-        ensures put { view_of self.new ≡ put_mode tx.now.terminal name (option_map mode_of mode) (view_of self.old) }
+        ensures put { view_of self.new
+            ≡ put_mode tx.now.terminal name (option_map mode_of mode) (view_of self.old) }
         ensures name { self.new.name ≡ self.old.name }
     {
         self.restore(tx.terminal(), name, mode);
@@ -154,15 +159,29 @@ impl Engine {
     ///
     /// The errors are those of `row`, and after one nothing has changed.
     pub fn change(&mut self, tx: &Tx, change: Change) -> Result<(), Refusal>
-        requires own { IsOpen self.old tx.now → IsOwn tx.now.terminal (suc ((view_of self.old).counts tx.now.terminal)) (governs (key_of (change_of change))) }
-        requires order { IsOpen self.old tx.now → HoldsOrder ((view_of self.old).held tx.now.terminal) (change_of change) }
+        requires own { IsOpen self.old tx.now
+            → IsOwn tx.now.terminal (suc ((view_of self.old).counts tx.now.terminal))
+            (governs (key_of (change_of change))) }
+        requires order { IsOpen self.old tx.now
+            → HoldsOrder ((view_of self.old).held tx.now.terminal) (change_of change) }
         ensures open { OnOk result (IsOpen self.old tx.now) }
-        ensures free { OnOk result (IsFree (view_of self.old) tx.now.terminal (ask_to_write (governs (key_of (change_of change))))) }
+        ensures free { OnOk result
+            (IsFree (view_of self.old) tx.now.terminal
+            (ask_to_write (governs (key_of (change_of change))))) }
         ensures accepted { OnOk result (Accepts (change_of change) (view_of self.old).rows) }
-        ensures done { OnOk result (view_of self.new ≡ row_done tx.now.terminal (ask_to_write (governs (key_of (change_of change)))) (Some (change_of change)) (view_of self.old)) }
+        ensures done { OnOk result
+            (view_of self.new
+            ≡ row_done tx.now.terminal (ask_to_write (governs (key_of (change_of change))))
+            (Some (change_of change)) (view_of self.old)) }
         ensures name { self.new.name ≡ self.old.name }
-        ensures cause { IfErr result (RowRefused self.old tx.now (ask_to_write (governs (key_of (change_of change)))) (Some (change_of change))) }
-        ensures room { (IsNew system ((view_of self.old).held tx.now.terminal) (ask_to_write (governs (key_of (change_of change)))) → ⊥) → 0 < room_at self.old.undo tx.now.terminal → IfErr result (λ e. e ≡ Refusal.NoMemory → WantsPlace (Some (change_of change)) self.old.tables) }
+        ensures cause { IfErr result
+            (RowRefused self.old tx.now (ask_to_write (governs (key_of (change_of change))))
+            (Some (change_of change))) }
+        ensures room { (IsNew system ((view_of self.old).held tx.now.terminal)
+            (ask_to_write (governs (key_of (change_of change)))) → ⊥)
+            → 0 < room_at self.old.undo tx.now.terminal
+            → IfErr result
+            (λ e. e ≡ Refusal.NoMemory → WantsPlace (Some (change_of change)) self.old.tables) }
         ensures err { OnErr result (view_of self.new ≡ view_of self.old) }
     {
         let lock = lock_to_write(change.key());

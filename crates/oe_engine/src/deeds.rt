@@ -30,7 +30,8 @@ pub fn failed(engine: &Engine, tx: &Tx, lock: Lock, refusal: Refusal) -> Refusal
 
 /// A row that takes a lock and changes nothing. After an error the engine stands for what it stood for before.
 pub fn hold(engine: &mut Engine, tx: &Tx, lock: Lock) -> Result<(), Refusal>
-    ensures does { Does engine.old tx.now (Take lock.name (mode_of lock.mode)) None result engine.new }
+    ensures does { Does engine.old tx.now
+        (Take lock.name (mode_of lock.mode)) None result engine.new }
     ensures name { engine.new.name ≡ engine.old.name }
     ensures err { OnErr result (view_of engine.new ≡ view_of engine.old) }
 {
@@ -40,9 +41,13 @@ pub fn hold(engine: &mut Engine, tx: &Tx, lock: Lock) -> Result<(), Refusal>
 /// A row that writes to a row in its place, and takes that row's name alone. After an error the engine stands for what it stood
 /// for before.
 pub fn put(engine: &mut Engine, tx: &Tx, write: &Write) -> Result<(), Refusal>
-    requires own { IsOpen engine.old tx.now → IsOwn tx.now.terminal (suc ((view_of engine.old).counts tx.now.terminal)) (governs (key_written write.now)) }
-    requires order { IsOpen engine.old tx.now → WriteHoldsOrder ((view_of engine.old).held tx.now.terminal) write.now }
-    ensures does { (c : model.Change) → change_written write.now (view_of engine.old) ≡ Some c → Does engine.old tx.now (ask_of_write write.now) (Some c) result engine.new }
+    requires own { IsOpen engine.old tx.now
+        → IsOwn tx.now.terminal (suc ((view_of engine.old).counts tx.now.terminal))
+        (governs (key_written write.now)) }
+    requires order { IsOpen engine.old tx.now
+        → WriteHoldsOrder ((view_of engine.old).held tx.now.terminal) write.now }
+    ensures does { (c : model.Change) → change_written write.now (view_of engine.old) ≡ Some c
+        → Does engine.old tx.now (ask_of_write write.now) (Some c) result engine.new }
     ensures name { engine.new.name ≡ engine.old.name }
     ensures err { OnErr result (view_of engine.new ≡ view_of engine.old) }
 {
@@ -52,7 +57,8 @@ pub fn put(engine: &mut Engine, tx: &Tx, write: &Write) -> Result<(), Refusal>
 /// A row that asks for no lock, and makes a change of a row that its transaction alone may change. After an error the engine
 /// stands for what it stood for before.
 pub fn add(engine: &mut Engine, tx: &Tx, change: Change) -> Result<(), Refusal>
-    requires { IsOpen engine.old tx.now → IsCovered (view_of engine.old) tx.now.terminal Plain (Some (change_of change)) }
+    requires { IsOpen engine.old tx.now
+        → IsCovered (view_of engine.old) tx.now.terminal Plain (Some (change_of change)) }
     ensures does { Does engine.old tx.now Plain (Some (change_of change)) result engine.new }
     ensures name { engine.new.name ≡ engine.old.name }
     ensures err { OnErr result (view_of engine.new ≡ view_of engine.old) }
@@ -63,9 +69,13 @@ pub fn add(engine: &mut Engine, tx: &Tx, change: Change) -> Result<(), Refusal>
 /// A row that asks for no lock, and writes to a row in its place that its transaction alone may change: it holds the row's name
 /// alone, or the row is its own. After an error the engine stands for what it stood for before.
 pub fn put_held(engine: &mut Engine, tx: &Tx, write: &Write) -> Result<(), Refusal>
-    requires held { IsOpen engine.old tx.now → Owns ((view_of engine.old).held tx.now.terminal) tx.now.terminal (suc ((view_of engine.old).counts tx.now.terminal)) (governs (key_written write.now)) }
-    requires order { IsOpen engine.old tx.now → WriteHoldsOrder ((view_of engine.old).held tx.now.terminal) write.now }
-    ensures does { (c : model.Change) → change_written write.now (view_of engine.old) ≡ Some c → Does engine.old tx.now Plain (Some c) result engine.new }
+    requires held { IsOpen engine.old tx.now
+        → Owns ((view_of engine.old).held tx.now.terminal) tx.now.terminal
+        (suc ((view_of engine.old).counts tx.now.terminal)) (governs (key_written write.now)) }
+    requires order { IsOpen engine.old tx.now
+        → WriteHoldsOrder ((view_of engine.old).held tx.now.terminal) write.now }
+    ensures does { (c : model.Change) → change_written write.now (view_of engine.old) ≡ Some c
+        → Does engine.old tx.now Plain (Some c) result engine.new }
     ensures name { engine.new.name ≡ engine.old.name }
     ensures err { OnErr result (view_of engine.new ≡ view_of engine.old) }
 {

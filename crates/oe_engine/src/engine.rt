@@ -14,10 +14,11 @@ ghost use Rattle.oe_store.specs.Stored.{rows};
 ghost use Rattle.oe_records.specs.Changes.{change_of};
 ghost use Rattle.oe_change.specs.Applies.{Refuses};
 ghost use Rattle.oe_undo.specs.Undo.{room_at};
+ghost use Rattle.oe_past.specs.GoesBack.{CanUnwind};
 ghost use Rattle.oe_locks.specs.Held as locks;
 ghost use Rattle.oe_engine.specs.View.{view_of, newest_reply, opened_view, IsOpen};
 ghost use Rattle.oe_engine.specs.Covered.{MayMake, IsUnused, IsSafe};
-ghost use Rattle.oe_engine.specs.Calls.{ask_of, IsFree, IsBusy, IsBelow, begun, CantBegin, locked, made, put_mode, LockRefused, ChangeRefused, PairRefused, row_done, RowRefused, WantsPlace, AcceptsAll, IsCovered, CanUnwind, back_at, committed, rolled_back};
+ghost use Rattle.oe_engine.specs.Calls.{ask_of, IsFree, IsBusy, IsBelow, begun, CantBegin, locked, made, put_mode, LockRefused, ChangeRefused, PairRefused, row_done, RowRefused, WantsPlace, AcceptsAll, IsCovered, back_at, committed, rolled_back};
 
 use crate::rows::Lock;
 use crate::unwinding::take_back;
@@ -48,7 +49,12 @@ impl Model for Engine {
 
     ghost Value = { Stored };
 
-    ghost view = { λ e. record { tables = e.tables; undo = e.undo; locks = e.locks; name = e.name } };
+    ghost view = { λ e. record {
+      tables = e.tables;
+      undo = e.undo;
+      locks = e.locks;
+      name = e.name;
+    } };
 
     ghost invariant = { λ e. IsSound e.tables e.undo e.locks };
 }
@@ -162,7 +168,8 @@ impl Engine {
     /// The oldest moment that can be read.
     #[tactic(auto, unfolding(crate::specs::View::view_of, crate::specs::View::view_from))]
     pub fn horizon(&self) -> Moment
-        ensures { result ≡ total terminal_limit (view_of self.now).counts - length (view_of self.now).seals }
+        ensures { result ≡ total terminal_limit (view_of self.now).counts - length
+            (view_of self.now).seals }
     {
         self.undo.horizon()
     }
@@ -180,7 +187,9 @@ impl Engine {
     /// How many transactions are open.
     #[tactic(auto, unfolding(crate::specs::View::view_of, crate::specs::View::view_from))]
     pub fn open_count(&self) -> u32
-        ensures { (slots : ℕ → Option (Slot system)) → ((t : ℕ) → is_some (slots t) ≡ (view_of self.now).is_open t) → result ≡ count_slots system slots terminal_limit }
+        ensures { (slots : ℕ → Option (Slot system))
+            → ((t : ℕ) → is_some (slots t) ≡ (view_of self.now).is_open t)
+            → result ≡ count_slots system slots terminal_limit }
     {
         self.undo.open_count()
     }
@@ -190,13 +199,16 @@ impl Engine {
     /// `AlreadyOpen`: the terminal has one open. `Overflow` of H_NUMBER: its number would be past 4,294,967,295. `NoMemory`:
     /// memory was refused. The first of these is named, and nothing has changed then.
     pub fn begin(&mut self, terminal: Terminal) -> Result<Tx, Refusal>
-        ensures handle { IfOk result (λ x. x ≡ record { engine = self.old.name; terminal = terminal }) }
+        ensures handle { IfOk result
+            (λ x. x ≡ record { engine = self.old.name; terminal = terminal }) }
         ensures closed { OnOk result ((view_of self.old).is_open terminal ≡ false) }
-        ensures counted { OnOk result (number_rejection (suc ((view_of self.old).counts terminal)) ≡ None) }
+        ensures counted { OnOk result
+            (number_rejection (suc ((view_of self.old).counts terminal)) ≡ None) }
         ensures records { OnOk result ((view_of self.old).undo.active terminal ≡ []) }
         ensures begun { OnOk result (view_of self.new ≡ begun terminal (view_of self.old)) }
         ensures name { self.new.name ≡ self.old.name }
-        ensures idle { (view_of self.old).is_open terminal ≡ false → (view_of self.old).held terminal ≡ (λ _. None) }
+        ensures idle { (view_of self.old).is_open terminal ≡ false
+            → (view_of self.old).held terminal ≡ (λ _. None) }
         ensures cause { IfErr result (CantBegin (view_of self.old) terminal) }
         ensures err { OnErr result (self.new ≡ self.old) }
     {
@@ -228,7 +240,8 @@ impl Engine {
     /// Whether a lock is free for an open transaction: `Busy` names the least terminal that is in its way. It takes no memory.
     pub fn is_free(&self, tx: &Tx, lock: Lock) -> Result<(), Refusal>
         requires { IsOpen self.now tx.now }
-        ensures free { OnOk result (IsFree (view_of self.now) tx.now.terminal (ask_of (Option.Some lock))) }
+        ensures free { OnOk result
+            (IsFree (view_of self.now) tx.now.terminal (ask_of (Option.Some lock))) }
         ensures busy { IfErr result (IsBusy (view_of self.now) tx.now.terminal lock) }
     {
         match self.locks.in_the_way(&lock.name, tx.terminal, lock.mode) {
@@ -242,7 +255,8 @@ impl Engine {
     #[tactic(auto, unfolding(crate::specs::View::view_of))]
     pub fn is_safe(&self)
         ensures safe { IsSafe (view_of self.now) }
-        ensures unwinds { (t : ℕ) → CanUnwind ((view_of self.now).undo.active t) (view_of self.now).rows }
+        ensures unwinds { (t : ℕ) → CanUnwind ((view_of self.now).undo.active t)
+            (view_of self.now).rows }
     {
         let _known = &self.tables;
     }
@@ -261,13 +275,17 @@ impl Engine {
     // are.
     pub(crate) fn take(&mut self, terminal: Terminal, lock: Lock) -> Result<Option<Mode>, Refusal>
         requires { (view_of self.old).is_open terminal ≡ true }
-        ensures before { IfOk result (λ was. option_map mode_of was ≡ (view_of self.old).held terminal lock.name) }
-        ensures free { OnOk result (IsFree (view_of self.old) terminal (Take lock.name (mode_of lock.mode))) }
-        ensures locked { OnOk result (view_of self.new ≡ locked terminal lock.name (mode_of lock.mode) (view_of self.old)) }
+        ensures before { IfOk result
+            (λ was. option_map mode_of was ≡ (view_of self.old).held terminal lock.name) }
+        ensures free { OnOk result
+            (IsFree (view_of self.old) terminal (Take lock.name (mode_of lock.mode))) }
+        ensures locked { OnOk result
+            (view_of self.new ≡ locked terminal lock.name (mode_of lock.mode) (view_of self.old)) }
         ensures tables { self.new.tables ≡ self.old.tables }
         ensures undo { self.new.undo ≡ self.old.undo }
         ensures name { self.new.name ≡ self.old.name }
-        ensures cause { IfErr result (LockRefused (view_of self.old) terminal lock.name (mode_of lock.mode)) }
+        ensures cause { IfErr result
+            (LockRefused (view_of self.old) terminal lock.name (mode_of lock.mode)) }
         ensures err { OnErr result (self.new ≡ self.old) }
     {
         self.locks.acquire(lock.name, terminal, lock.mode)
@@ -276,9 +294,12 @@ impl Engine {
     // Puts a name back into a mode in which it was held, or lets go of it, where the transaction has changed nothing under it.
     pub(crate) fn restore(&mut self, terminal: Terminal, name: Name, mode: Option<Mode>)
         requires open { (view_of self.old).is_open terminal ≡ true }
-        requires below { (option_map mode_of mode ≡ (view_of self.old).held terminal name) ⊎ IsBelow (option_map mode_of mode) ((view_of self.old).held terminal name) }
-        requires unused { IsBelow (option_map mode_of mode) ((view_of self.old).held terminal name) → IsUnused name ((view_of self.old).undo.active terminal) }
-        ensures put { view_of self.new ≡ put_mode terminal name (option_map mode_of mode) (view_of self.old) }
+        requires below { (option_map mode_of mode ≡ (view_of self.old).held terminal name)
+            ⊎ IsBelow (option_map mode_of mode) ((view_of self.old).held terminal name) }
+        requires unused { IsBelow (option_map mode_of mode) ((view_of self.old).held terminal name)
+            → IsUnused name ((view_of self.old).undo.active terminal) }
+        ensures put { view_of self.new
+            ≡ put_mode terminal name (option_map mode_of mode) (view_of self.old) }
         ensures name { self.new.name ≡ self.old.name }
     {
         if is_below(mode, self.locks.holds(&name, terminal)) {
@@ -291,12 +312,15 @@ impl Engine {
     #[inline(always)]
     fn make(&mut self, terminal: Terminal, change: Change) -> Result<(), Refusal>
         requires open { (view_of self.old).is_open terminal ≡ true }
-        requires covered { MayMake ((view_of self.old).held terminal) terminal (suc ((view_of self.old).counts terminal)) (change_of change) }
+        requires covered { MayMake ((view_of self.old).held terminal) terminal
+            (suc ((view_of self.old).counts terminal)) (change_of change) }
         ensures accepted { OnOk result (Accepts (change_of change) (view_of self.old).rows) }
-        ensures made { OnOk result (view_of self.new ≡ made terminal (change_of change) (view_of self.old)) }
+        ensures made { OnOk result
+            (view_of self.new ≡ made terminal (change_of change) (view_of self.old)) }
         ensures name { self.new.name ≡ self.old.name }
         ensures cause { IfErr result (ChangeRefused (change_of change) (view_of self.old).rows) }
-        ensures room { 0 < room_at self.old.undo terminal → IfErr result (Refuses (change_of change) self.old.tables) }
+        ensures room { 0 < room_at self.old.undo terminal
+            → IfErr result (Refuses (change_of change) self.old.tables) }
         ensures err { OnErr result (view_of self.new ≡ view_of self.old) }
     {
         let segment = Segment::of(terminal);
@@ -322,13 +346,23 @@ impl Engine {
         change: Change,
     ) -> Result<(), Refusal>
         requires open { (view_of self.old).is_open terminal ≡ true }
-        requires covered { IsCovered (view_of self.old) terminal (Take lock.name (mode_of lock.mode)) (Some (change_of change)) }
-        ensures free { OnOk result (IsFree (view_of self.old) terminal (Take lock.name (mode_of lock.mode))) }
+        requires covered { IsCovered (view_of self.old) terminal
+            (Take lock.name (mode_of lock.mode)) (Some (change_of change)) }
+        ensures free { OnOk result
+            (IsFree (view_of self.old) terminal (Take lock.name (mode_of lock.mode))) }
         ensures accepted { OnOk result (Accepts (change_of change) (view_of self.old).rows) }
-        ensures done { OnOk result (view_of self.new ≡ made terminal (change_of change) (locked terminal lock.name (mode_of lock.mode) (view_of self.old))) }
+        ensures done { OnOk result
+            (view_of self.new
+            ≡ made terminal (change_of change)
+            (locked terminal lock.name (mode_of lock.mode) (view_of self.old))) }
         ensures name { self.new.name ≡ self.old.name }
-        ensures cause { IfErr result (PairRefused (view_of self.old) terminal lock.name (mode_of lock.mode) (change_of change)) }
-        ensures room { (IsNew system ((view_of self.old).held terminal) (Take lock.name (mode_of lock.mode)) → ⊥) → 0 < room_at self.old.undo terminal → IfErr result (λ e. e ≡ Refusal.NoMemory → WantsPlace (Some (change_of change)) self.old.tables) }
+        ensures cause { IfErr result
+            (PairRefused (view_of self.old) terminal lock.name (mode_of lock.mode)
+            (change_of change)) }
+        ensures room { (IsNew system ((view_of self.old).held terminal)
+            (Take lock.name (mode_of lock.mode)) → ⊥) → 0 < room_at self.old.undo terminal
+            → IfErr result
+            (λ e. e ≡ Refusal.NoMemory → WantsPlace (Some (change_of change)) self.old.tables) }
         ensures err { OnErr result (view_of self.new ≡ view_of self.old) }
     {
         let before = self.locks.holds(&lock.name, terminal);
@@ -358,14 +392,25 @@ impl Engine {
         lock: Option<Lock>,
         change: Option<Change>,
     ) -> Result<(), Refusal>
-        requires { IsOpen self.old tx.now → IsCovered (view_of self.old) tx.now.terminal (ask_of lock) (option_map change_of change) }
+        requires { IsOpen self.old tx.now
+            → IsCovered (view_of self.old) tx.now.terminal (ask_of lock)
+            (option_map change_of change) }
         ensures open { OnOk result (IsOpen self.old tx.now) }
         ensures free { OnOk result (IsFree (view_of self.old) tx.now.terminal (ask_of lock)) }
-        ensures accepted { OnOk result (AcceptsAll (option_map change_of change) (view_of self.old).rows) }
-        ensures done { OnOk result (view_of self.new ≡ row_done tx.now.terminal (ask_of lock) (option_map change_of change) (view_of self.old)) }
+        ensures accepted { OnOk result
+            (AcceptsAll (option_map change_of change) (view_of self.old).rows) }
+        ensures done { OnOk result
+            (view_of self.new
+            ≡ row_done tx.now.terminal (ask_of lock) (option_map change_of change)
+            (view_of self.old)) }
         ensures name { self.new.name ≡ self.old.name }
-        ensures cause { IfErr result (RowRefused self.old tx.now (ask_of lock) (option_map change_of change)) }
-        ensures room { (IsNew system ((view_of self.old).held tx.now.terminal) (ask_of lock) → ⊥) → 0 < room_at self.old.undo tx.now.terminal → IfErr result (λ e. e ≡ Refusal.NoMemory → WantsPlace (option_map change_of change) self.old.tables) }
+        ensures cause { IfErr result
+            (RowRefused self.old tx.now (ask_of lock) (option_map change_of change)) }
+        ensures room { (IsNew system ((view_of self.old).held tx.now.terminal) (ask_of lock)
+            → ⊥)
+            → 0 < room_at self.old.undo tx.now.terminal
+            → IfErr result
+            (λ e. e ≡ Refusal.NoMemory → WantsPlace (option_map change_of change) self.old.tables) }
         ensures err { OnErr result (view_of self.new ≡ view_of self.old) }
     {
         if !self.is_open(tx) {
@@ -386,7 +431,8 @@ impl Engine {
     /// A mark where the transaction stands; the beginning for one that is not open in this engine.
     #[tactic(auto, unfolding(crate::specs::View::view_of, crate::specs::View::view_from))]
     pub fn savepoint(&self, tx: &Tx) -> Mark
-        ensures open { IsOpen self.now tx.now → result ≡ length ((view_of self.now).undo.active tx.now.terminal) }
+        ensures open { IsOpen self.now tx.now
+            → result ≡ length ((view_of self.now).undo.active tx.now.terminal) }
         ensures foreign { (IsOpen self.now tx.now → ⊥) → result ≡ 0 }
     {
         if !self.is_open(tx) {
@@ -414,8 +460,10 @@ impl Engine {
     /// transaction that is not open in this engine is handed back, and nothing has changed.
     pub fn commit(&mut self, tx: Tx, request: Request, reply: Reply) -> Result<Moment, Tx>
         ensures open { OnOk result (IsOpen self.old tx) }
-        ensures moment { IfOk result (λ m. m ≡ suc (total terminal_limit (view_of self.old).counts)) }
-        ensures committed { OnOk result (view_of self.new ≡ committed tx.terminal request reply (view_of self.old)) }
+        ensures moment { IfOk result
+            (λ m. m ≡ suc (total terminal_limit (view_of self.old).counts)) }
+        ensures committed { OnOk result
+            (view_of self.new ≡ committed tx.terminal request reply (view_of self.old)) }
         ensures name { self.new.name ≡ self.old.name }
         ensures foreign { OnErr result (IsOpen self.old tx → ⊥) }
         ensures back { IfErr result (λ x. x ≡ tx) }
@@ -439,7 +487,8 @@ impl Engine {
     /// engine is handed back, and nothing has changed.
     pub fn rollback(&mut self, tx: Tx) -> Result<(), Tx>
         ensures open { OnOk result (IsOpen self.old tx) }
-        ensures rolled_back { OnOk result (view_of self.new ≡ rolled_back tx.terminal (view_of self.old)) }
+        ensures rolled_back { OnOk result
+            (view_of self.new ≡ rolled_back tx.terminal (view_of self.old)) }
         ensures name { self.new.name ≡ self.old.name }
         ensures foreign { OnErr result (IsOpen self.old tx → ⊥) }
         ensures back { IfErr result (λ x. x ≡ tx) }

@@ -18,10 +18,13 @@ impl Engine {
         &mut self,
         work: F,
     ) -> Result<R, Refusal>
-        requires callable { open_total self.old.undo ≡ 0 → Takes F.FnOnce work self.old.tables self.old.undo }
-        requires keeps { open_total self.old.undo ≡ 0 → Keeps F.FnOnce work self.old.tables self.old.undo self.old.locks }
+        requires callable { open_total self.old.undo ≡ 0
+            → Takes F.FnOnce work self.old.tables self.old.undo }
+        requires keeps { open_total self.old.undo ≡ 0
+            → Keeps F.FnOnce work self.old.tables self.old.undo self.old.locks }
         ensures quiet { OnOk result (open_total self.old.undo ≡ 0) }
-        ensures left { IfOk result (λ r. Leaves F.FnOnce work self.old.tables self.old.undo r self.new.tables self.new.undo) }
+        ensures left { IfOk result
+            (λ r. Leaves F.FnOnce work self.old.tables self.old.undo r self.new.tables self.new.undo) }
         ensures locks { self.new.locks ≡ self.old.locks }
         ensures name { self.new.name ≡ self.old.name }
         ensures cause { IfErr result (λ e. e ≡ Refusal.NotQuiet (open_total self.old.undo)) }

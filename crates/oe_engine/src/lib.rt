@@ -6,6 +6,7 @@ pub mod choices;
 pub mod deeds;
 pub mod engine;
 pub mod lent;
+pub mod past;
 pub mod rows;
 mod unwinding;
 pub mod writes;

@@ -27,14 +27,21 @@ impl Engine {
     // for the row before alone.
     fn put(&mut self, terminal: Terminal, write: &Write) -> Result<(), Refusal>
         requires open { (view_of self.old).is_open terminal ≡ true }
-        requires covered { ForSome (change_written write.now (view_of self.old)) (MayMake ((view_of self.old).held terminal) terminal (suc ((view_of self.old).counts terminal))) }
+        requires covered { ForSome (change_written write.now (view_of self.old))
+            (MayMake ((view_of self.old).held terminal) terminal
+            (suc ((view_of self.old).counts terminal))) }
         ensures there { OnOk result (IsSome (change_written write.now (view_of self.old))) }
-        ensures accepted { ForSome (change_written write.now (view_of self.old)) (λ c. OnOk result (Accepts c (view_of self.old).rows)) }
-        ensures made { ForSome (change_written write.now (view_of self.old)) (λ c. OnOk result (view_of self.new ≡ made terminal c (view_of self.old))) }
+        ensures accepted { ForSome (change_written write.now (view_of self.old))
+            (λ c. OnOk result (Accepts c (view_of self.old).rows)) }
+        ensures made { ForSome (change_written write.now (view_of self.old))
+            (λ c. OnOk result (view_of self.new ≡ made terminal c (view_of self.old))) }
         ensures name { self.new.name ≡ self.old.name }
-        ensures cause { ForSome (change_written write.now (view_of self.old)) (λ c. IfErr result (ChangeRefused c (view_of self.old).rows)) }
-        ensures absent { change_written write.now (view_of self.old) ≡ None → IfErr result (AbsentRefused (key_written write.now)) }
-        ensures room { 0 < room_at self.old.undo terminal → IfErr result (RefusesWrite write.now self.old.tables) }
+        ensures cause { ForSome (change_written write.now (view_of self.old))
+            (λ c. IfErr result (ChangeRefused c (view_of self.old).rows)) }
+        ensures absent { change_written write.now (view_of self.old) ≡ None
+            → IfErr result (AbsentRefused (key_written write.now)) }
+        ensures room { 0 < room_at self.old.undo terminal
+            → IfErr result (RefusesWrite write.now self.old.tables) }
         ensures err { OnErr result (view_of self.new ≡ view_of self.old) }
     {
         let segment = Segment::of(terminal);
@@ -60,15 +67,32 @@ impl Engine {
         write: &Write,
     ) -> Result<(), Refusal>
         requires open { (view_of self.old).is_open terminal ≡ true }
-        requires covered { ForSome (change_written write.now (view_of self.old)) (λ c. IsCovered (view_of self.old) terminal (Take lock.now.name (mode_of lock.now.mode)) (Some c)) }
-        ensures free { OnOk result (IsFree (view_of self.old) terminal (Take lock.now.name (mode_of lock.now.mode))) }
+        requires covered { ForSome (change_written write.now (view_of self.old))
+            (λ c. IsCovered (view_of self.old) terminal (Take lock.now.name (mode_of lock.now.mode))
+            (Some c)) }
+        ensures free { OnOk result
+            (IsFree (view_of self.old) terminal (Take lock.now.name (mode_of lock.now.mode))) }
         ensures there { OnOk result (IsSome (change_written write.now (view_of self.old))) }
-        ensures accepted { ForSome (change_written write.now (view_of self.old)) (λ c. OnOk result (Accepts c (view_of self.old).rows)) }
-        ensures done { ForSome (change_written write.now (view_of self.old)) (λ c. OnOk result (view_of self.new ≡ made terminal c (locked terminal lock.now.name (mode_of lock.now.mode) (view_of self.old)))) }
+        ensures accepted { ForSome (change_written write.now (view_of self.old))
+            (λ c. OnOk result (Accepts c (view_of self.old).rows)) }
+        ensures done { ForSome (change_written write.now (view_of self.old))
+            (λ c. OnOk result
+            (view_of self.new
+            ≡ made terminal c
+            (locked terminal lock.now.name (mode_of lock.now.mode) (view_of self.old)))) }
         ensures name { self.new.name ≡ self.old.name }
-        ensures cause { ForSome (change_written write.now (view_of self.old)) (λ c. IfErr result (PairRefused (view_of self.old) terminal lock.now.name (mode_of lock.now.mode) c)) }
-        ensures absent { change_written write.now (view_of self.old) ≡ None → IfErr result (AbsentPairRefused (view_of self.old) terminal lock.now.name (mode_of lock.now.mode) (key_written write.now)) }
-        ensures room { (IsNew system ((view_of self.old).held terminal) (Take lock.now.name (mode_of lock.now.mode)) → ⊥) → 0 < room_at self.old.undo terminal → IfErr result (λ e. e ≡ Refusal.NoMemory → WantsRow (change_written write.now (view_of self.old)) self.old.tables) }
+        ensures cause { ForSome (change_written write.now (view_of self.old))
+            (λ c. IfErr result
+            (PairRefused (view_of self.old) terminal lock.now.name (mode_of lock.now.mode) c)) }
+        ensures absent { change_written write.now (view_of self.old) ≡ None
+            → IfErr result
+            (AbsentPairRefused (view_of self.old) terminal lock.now.name (mode_of lock.now.mode)
+            (key_written write.now)) }
+        ensures room { (IsNew system ((view_of self.old).held terminal)
+            (Take lock.now.name (mode_of lock.now.mode)) → ⊥) → 0 < room_at self.old.undo terminal
+            → IfErr result
+            (λ e. e ≡ Refusal.NoMemory
+            → WantsRow (change_written write.now (view_of self.old)) self.old.tables) }
         ensures err { OnErr result (view_of self.new ≡ view_of self.old) }
     {
         self.is_safe();
@@ -93,17 +117,31 @@ impl Engine {
     /// place, or for the record of a customer or a stock. Else the tables don't accept the insert. After an error nothing has
     /// changed: a lock that was gained is given back, and a mode that rose has fallen again.
     pub fn write(&mut self, tx: &Tx, write: &Write) -> Result<(), Refusal>
-        requires own { IsOpen self.old tx.now → IsOwn tx.now.terminal (suc ((view_of self.old).counts tx.now.terminal)) (governs (key_written write.now)) }
-        requires order { IsOpen self.old tx.now → WriteHoldsOrder ((view_of self.old).held tx.now.terminal) write.now }
+        requires own { IsOpen self.old tx.now
+            → IsOwn tx.now.terminal (suc ((view_of self.old).counts tx.now.terminal))
+            (governs (key_written write.now)) }
+        requires order { IsOpen self.old tx.now
+            → WriteHoldsOrder ((view_of self.old).held tx.now.terminal) write.now }
         ensures open { OnOk result (IsOpen self.old tx.now) }
-        ensures free { OnOk result (IsFree (view_of self.old) tx.now.terminal (ask_of_write write.now)) }
+        ensures free { OnOk result
+            (IsFree (view_of self.old) tx.now.terminal (ask_of_write write.now)) }
         ensures there { OnOk result (IsSome (change_written write.now (view_of self.old))) }
-        ensures accepted { ForSome (change_written write.now (view_of self.old)) (λ c. OnOk result (Accepts c (view_of self.old).rows)) }
-        ensures done { ForSome (change_written write.now (view_of self.old)) (λ c. OnOk result (view_of self.new ≡ row_done tx.now.terminal (ask_of_write write.now) (Some c) (view_of self.old))) }
+        ensures accepted { ForSome (change_written write.now (view_of self.old))
+            (λ c. OnOk result (Accepts c (view_of self.old).rows)) }
+        ensures done { ForSome (change_written write.now (view_of self.old))
+            (λ c. OnOk result
+            (view_of self.new
+            ≡ row_done tx.now.terminal (ask_of_write write.now) (Some c) (view_of self.old))) }
         ensures name { self.new.name ≡ self.old.name }
-        ensures cause { ForSome (change_written write.now (view_of self.old)) (λ c. IfErr result (RowRefused self.old tx.now (ask_of_write write.now) (Some c))) }
-        ensures absent { change_written write.now (view_of self.old) ≡ None → IfErr result (AbsentRowRefused self.old tx.now (key_written write.now)) }
-        ensures room { (IsNew system ((view_of self.old).held tx.now.terminal) (ask_of_write write.now) → ⊥) → 0 < room_at self.old.undo tx.now.terminal → IfErr result (λ e. e ≡ Refusal.NoMemory → WantsRow (change_written write.now (view_of self.old)) self.old.tables) }
+        ensures cause { ForSome (change_written write.now (view_of self.old))
+            (λ c. IfErr result (RowRefused self.old tx.now (ask_of_write write.now) (Some c))) }
+        ensures absent { change_written write.now (view_of self.old) ≡ None
+            → IfErr result (AbsentRowRefused self.old tx.now (key_written write.now)) }
+        ensures room { (IsNew system ((view_of self.old).held tx.now.terminal)
+            (ask_of_write write.now) → ⊥) → 0 < room_at self.old.undo tx.now.terminal
+            → IfErr result
+            (λ e. e ≡ Refusal.NoMemory
+            → WantsRow (change_written write.now (view_of self.old)) self.old.tables) }
         ensures err { OnErr result (view_of self.new ≡ view_of self.old) }
     {
         if !self.is_open(tx) {

@@ -21,7 +21,7 @@ use Rattle.oe_requests.specs.declared.requests.RequestLine.{RequestLine}
 use Rattle.oe_requests.specs.declared.requests.NewOrderRequest.{NewOrderRequest}
 use Rattle.oe_model.specs.Keys.{order_of_line}
 use Rattle.oe_model.specs.Rows.{Rows}
-use Rattle.oe_model.specs.Places.{Filled}
+use Rattle.oe_model.specs.Positions.{Filled}
 use Rattle.oe_model.specs.Effects.{◌>>=◌, in_range}
 use Rattle.oe_model.specs.NewOrder.{supplied, asked, after_lines, filled, all_filled, fill, item_at, stock_of, stock_out}
 use Rattle.oe_model.specs.Rules.{AreSmall}

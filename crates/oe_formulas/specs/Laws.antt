@@ -15,7 +15,7 @@ use Rattle.oe_requests.specs.declared.requests.NewOrderRequest.{NewOrderRequest}
 use Rattle.oe_model.specs.Keys.{order_of_line}
 use Rattle.oe_model.specs.Rows.{Rows}
 use Rattle.oe_model.specs.Maps.{sum_of}
-use Rattle.oe_model.specs.Places.{Filled}
+use Rattle.oe_model.specs.Positions.{Filled}
 use Rattle.oe_model.specs.Rules.{AreSmall}
 use Rattle.oe_model.specs.NewOrder.{supplied, asked, after_lines, all_filled, fill, order_row}
 use Rattle.oe_model.specs.Delivery.{lines_of, worth}
@@ -55,14 +55,17 @@ AreLines n (l ∷ ls) [] = ⊥
 -- an order has a line for each line of its request, numbered from 1
 abbrev pub Lines_are_numbered : Type 0
 Lines_are_numbered =
-    (q : NewOrderRequest) (r : Rows) (fs : List Filled) → all_filled q r [] q.lines ≡ Some fs → AreLines 1 q.lines fs
+    (q : NewOrderRequest) (r : Rows) (fs : List Filled) → all_filled q r [] q.lines ≡ Some fs
+    → AreLines 1 q.lines fs
 
 -- a line costs its quantity times I_PRICE, and has the stock's text for the order's district
 pub record Line_has_columns : Type 0 where
   pub amount : (q : NewOrderRequest) (n : ℕ) (l : RequestLine) (item : Item) (stock : Stock)
       → (fill q n l item stock).row.amount ≡ l.quantity * item.price
-  pub dist_info : (q : NewOrderRequest) (n : ℕ) (l : RequestLine) (item : Item) (stock : Stock) (info : List ℕ)
-      → slice_get stock.dist_info (q.district.district - 1) ≡ Some info → (fill q n l item stock).row.dist_info ≡ info
+  pub dist_info : (q : NewOrderRequest) (n : ℕ) (l : RequestLine) (item : Item) (stock : Stock)
+      (info : List ℕ)
+      → slice_get stock.dist_info (q.district.district - 1) ≡ Some info
+      → (fill q n l item stock).row.dist_info ≡ info
 
 -- what an order costs in hundred-millionths of a cent
 abbrev pub exact_total : List ℕ → ℕ → ℕ → ℕ → ℕ
@@ -80,4 +83,5 @@ pub record Total_is_nearest : Type 0 where
 abbrev pub Delivery_sums_lines : Type 0
 Delivery_sums_lines =
     (k : OrderKey) (lines : FinMap order_line_cmp OrderLine)
-    → worth (lines_of k lines) ≡ sum_of (λ j x. cond (eq_by_cmp order_cmp (order_of_line j) k) x.amount 0) lines
+    → worth (lines_of k lines)
+    ≡ sum_of (λ j x. cond (eq_by_cmp order_cmp (order_of_line j) k) x.amount 0) lines

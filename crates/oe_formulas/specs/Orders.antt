@@ -1,7 +1,7 @@
 -- What a new order has read, as the model has it.
 use Rattle.std.specs.Prelude.{ℕ}
 use Rattle.oe_rows.specs.declared.items.Stock.{Stock}
-use Rattle.oe_model.specs.Places as model
+use Rattle.oe_model.specs.Positions as model
 use Rattle.oe_formulas.specs.declared.orders.Seen.{Seen}
 
 -- the STOCK row with this S_QUANTITY

@@ -12,7 +12,7 @@ use oe_rows::{
     credit_entry,
 };
 use oe_values::{
-    Balance, Count, CustomerNumber, HistoryPlace, HistoryTerminal, LineAmount, Terminal, Text,
+    Balance, Count, CustomerNumber, HistoryOrdinal, HistoryTerminal, LineAmount, Terminal, Text,
     TransactionNumber, YearToDate,
 };
 
@@ -183,7 +183,7 @@ pub fn history_key(terminal: Terminal, number: TransactionNumber) -> HistoryKey
     HistoryKey {
         terminal: HistoryTerminal::new(terminal.get()).unwrap(),
         number,
-        place: HistoryPlace::new(1).unwrap(),
+        ordinal: HistoryOrdinal::new(1).unwrap(),
     }
 }
 

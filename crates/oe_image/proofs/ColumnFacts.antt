@@ -18,7 +18,7 @@ use Rattle.oe_rows.specs.declared.customers.Credit.{Credit}
 use Rattle.oe_rows.specs.declared.customers.Credit.TheVariants.{Good, Bad}
 use Rattle.oe_image.specs.Fronts.{IsBytes, kept, seen, is_from, ranged_at}
 use Rattle.oe_image.specs.Columns.{text, optional, flag, balance, credit_text, credit, ten_texts}
-use Rattle.oe_image.specs.ColumnFronts.{is_within, balance_at, is_printable, is_text, checked, text_at, present, marked, optional_at, flagged, flag_at, is_credit, credit_of, credit_at, ten_texts_at}
+use Rattle.oe_image.specs.ColumnFronts.{is_within, stamp_at, balance_at, is_printable, is_text, checked, text_at, present, marked, optional_at, flagged, flag_at, is_credit, credit_of, credit_at, ten_texts_at}
 use Rattle.oe_image.proofs.FrontFacts.{Takes, IsCodec, IsBytes-drop, bind_some, guard_some, kept_some, Takes-then, number_law, kept_law, both, in_range, is_from-true, seen_law, pair_law}
 
 -- ---- numbers from 0 on
@@ -28,7 +28,7 @@ upto_law width most fits =
     kept_law (λ n. n < 256 ^ width) (λ n. n ≤ most) (λ n. number width n) (number_at width) (is_from 0 most)
     (λ n e lt. (in_range 0 most n e).1) (λ n h. (is_from-true 0 most n (omega arith, h), omega arith)) (number_law width)
 
-pub stamp_law : IsCodec (λ n. n < 6_342_969_600) (λ n. number 8 n) (ranged_at 8 0 6_342_969_599)
+pub stamp_law : IsCodec (λ n. n < 6_342_969_600) (λ n. number 8 n) stamp_at
 stamp_law =
     kept_law (λ n. n < 256 ^ 8) (λ n. n < 6_342_969_600) (λ n. number 8 n) (number_at 8) (is_from 0 6_342_969_599)
     (λ n e lt. let h = (in_range 0 6_342_969_599 n e).1 in omega (arith, h))
@@ -209,7 +209,7 @@ credit_law =
 
 -- ---- ten texts
 
--- n elements from place i on
+-- n elements from index i on
 cells : ℕ → ℕ → List (List ℕ) → List (List ℕ)
 cells i zero ds = []
 cells i (suc n) ds = get_or ds i [] ∷ cells (suc i) n ds

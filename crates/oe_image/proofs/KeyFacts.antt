@@ -31,9 +31,9 @@ customer_key_law =
 pub history_key_law : IsCodec IsHistoryKey history_key history_key_at
 unfolding history_key history_key_at
 history_key_law =
-    record_law (λ p. record { terminal = p.0; number = p.1.0; place = p.1.1 }) (λ v. (v.terminal, (v.number, v.place))) IsHistoryKey
-    (λ _. refl) (λ _. refl) (λ y h. (h.terminal, (h.number_of_terminal, h.place)))
-    (λ x h. record { terminal = h.0; number_of_terminal = h.1.0; place = h.1.1 })
+    record_law (λ p. record { terminal = p.0; number = p.1.0; ordinal = p.1.1 }) (λ v. (v.terminal, (v.number, v.ordinal))) IsHistoryKey
+    (λ _. refl) (λ _. refl) (λ y h. (h.terminal, (h.number_of_terminal, h.ordinal)))
+    (λ x h. record { terminal = h.0; number_of_terminal = h.1.0; ordinal = h.1.1 })
     (pair_law (ranged_law 2 0 64 (omega arith)) (pair_law (ranged_law 4 0 4_294_967_295 (omega arith)) (ranged_law 1 1 1 (omega arith))))
 
 pub new_order_key_law : IsCodec IsNewOrderKey new_order_key new_order_key_at

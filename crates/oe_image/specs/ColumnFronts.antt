@@ -17,7 +17,8 @@ abbrev pub is_printable : ℕ → Bool
 is_printable b = nat_le 32 b && nat_le b 126
 
 abbrev pub is_text : ℕ → ℕ → List ℕ → Bool
-is_text least most bytes = nat_le least (length bytes) && (nat_le (length bytes) most && list_all is_printable bytes)
+is_text least most bytes =
+    nat_le least (length bytes) && (nat_le (length bytes) most && list_all is_printable bytes)
 
 -- these bytes, where they are a text
 abbrev pub checked : ℕ → ℕ → List ℕ → Option (List ℕ)
@@ -30,19 +31,26 @@ abbrev pub present : {X : Type 0} → Option (X × List ℕ) → Option (Option 
 present None = None
 present (Some x) = Some (Some x.0, x.1)
 
-abbrev pub marked : {X : Type 0} → (List ℕ → Option (X × List ℕ)) → ℕ → List ℕ → Option (Option X × List ℕ)
-marked at n rest = if n == 0 then Some (None, rest) else (if n == 1 then present (at rest) else None)
+abbrev pub marked : {X : Type 0} → (List ℕ → Option (X × List ℕ)) → ℕ → List ℕ
+    → Option (Option X × List ℕ)
+marked at n rest =
+    if n == 0 then Some (None, rest) else (if n == 1 then present (at rest) else None)
 
-abbrev pub optional_at : {X : Type 0} → (List ℕ → Option (X × List ℕ)) → List ℕ → Option (Option X × List ℕ)
+abbrev pub optional_at : {X : Type 0} → (List ℕ → Option (X × List ℕ)) → List ℕ
+    → Option (Option X × List ℕ)
 optional_at at bytes = number_at 1 bytes >>= λ n. marked at n.0 n.1
 
 -- O_CARRIER_ID
 abbrev pub carrier_at : List ℕ → Option (Option ℕ × List ℕ)
 carrier_at bytes = optional_at (ranged_at 1 1 10) bytes
 
+-- a stamp, in seconds since 1900, up to the end of 2100
+abbrev pub stamp_at : List ℕ → Option (ℕ × List ℕ)
+stamp_at bytes = ranged_at 8 0 6_342_969_599 bytes
+
 -- OL_DELIVERY_D
 abbrev pub delivery_at : List ℕ → Option (Option ℕ × List ℕ)
-delivery_at bytes = optional_at (ranged_at 8 0 6_342_969_599) bytes
+delivery_at bytes = optional_at stamp_at bytes
 
 abbrev pub flagged : ℕ → List ℕ → Option (Bool × List ℕ)
 flagged n rest = if n == 0 then Some (false, rest) else (if n == 1 then Some (true, rest) else None)
@@ -63,6 +71,9 @@ credit_at bytes = seen credit_of (kept is_credit (text_at 2 2 bytes))
 unfoldable pub ten_texts_at : List ℕ → Option (List (List ℕ) × List ℕ)
 ten_texts_at bytes =
     seen
-    (λ p. p.0 ∷ p.1.0 ∷ p.1.1.0 ∷ p.1.1.1.0 ∷ p.1.1.1.1.0 ∷ p.1.1.1.1.1.0 ∷ p.1.1.1.1.1.1.0 ∷ p.1.1.1.1.1.1.1.0 ∷ p.1.1.1.1.1.1.1.1.0 ∷ p.1.1.1.1.1.1.1.1.1 ∷ [])
-    (pair_at (text_at 24 24) (pair_at (text_at 24 24) (pair_at (text_at 24 24) (pair_at (text_at 24 24) (pair_at (text_at 24 24)
-    (pair_at (text_at 24 24) (pair_at (text_at 24 24) (pair_at (text_at 24 24) (pair_at (text_at 24 24) (text_at 24 24))))))))) bytes)
+    (λ p. p.0 ∷ p.1.0 ∷ p.1.1.0 ∷ p.1.1.1.0 ∷ p.1.1.1.1.0 ∷ p.1.1.1.1.1.0 ∷ p.1.1.1.1.1.1.0
+    ∷ p.1.1.1.1.1.1.1.0 ∷ p.1.1.1.1.1.1.1.1.0 ∷ p.1.1.1.1.1.1.1.1.1 ∷ [])
+    (pair_at (text_at 24 24) (pair_at (text_at 24 24)
+    (pair_at (text_at 24 24) (pair_at (text_at 24 24) (pair_at (text_at 24 24)
+    (pair_at (text_at 24 24) (pair_at (text_at 24 24)
+    (pair_at (text_at 24 24) (pair_at (text_at 24 24) (text_at 24 24))))))))) bytes)

@@ -33,5 +33,7 @@ credit c = text (credit_text c)
 -- ten texts one after another
 unfoldable pub ten_texts : List (List ℕ) → List ℕ
 ten_texts ds =
-    text (get_or ds 0 []) ++ (text (get_or ds 1 []) ++ (text (get_or ds 2 []) ++ (text (get_or ds 3 []) ++ (text (get_or ds 4 [])
-    ++ (text (get_or ds 5 []) ++ (text (get_or ds 6 []) ++ (text (get_or ds 7 []) ++ (text (get_or ds 8 []) ++ text (get_or ds 9 [])))))))))
+    text (get_or ds 0 []) ++ (text (get_or ds 1 [])
+    ++ (text (get_or ds 2 []) ++ (text (get_or ds 3 []) ++ (text (get_or ds 4 [])
+    ++ (text (get_or ds 5 []) ++ (text (get_or ds 6 [])
+    ++ (text (get_or ds 7 []) ++ (text (get_or ds 8 []) ++ text (get_or ds 9 [])))))))))

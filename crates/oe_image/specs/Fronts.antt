@@ -3,7 +3,8 @@ use Rattle.std.specs.Prelude.{◌≡◌, ◌<◌, ◌&&◌, ℕ, Bool, nat_le, L
 use Rattle.oe_bytes.specs.Spelling.{number_at}
 
 -- The front of the bytes is the image of a value that is in its ranges: then it is read, and what follows is told. Nothing else is read.
-pub record Reads {X : Type 0} (Fits : X → Type 0) (image : X → List ℕ) (bytes : List ℕ) (result : Option (X × List ℕ)) : Type 0 where
+pub record Reads {X : Type 0} (Fits : X → Type 0) (image : X → List ℕ) (bytes : List ℕ)
+    (result : Option (X × List ℕ)) : Type 0 where
   pub found : (x : X) (rest : List ℕ) → result ≡ Some (x, rest) → Fits x × (bytes ≡ image x ++ rest)
   pub finds : (x : X) (rest : List ℕ) → Fits x → bytes ≡ image x ++ rest → result ≡ Some (x, rest)
 
@@ -12,7 +13,8 @@ abbrev pub IsBytes : List ℕ → Type 0
 IsBytes bytes = (i : ℕ) → get_or bytes i 0 < 256
 
 -- of all bytes
-abbrev pub IsExact : {X : Type 0} → (X → Type 0) → (X → List ℕ) → (List ℕ → Option (X × List ℕ)) → Type 0
+abbrev pub IsExact : {X : Type 0} → (X → Type 0) → (X → List ℕ) → (List ℕ → Option (X × List ℕ))
+    → Type 0
 IsExact Fits image at = (bytes : List ℕ) → IsBytes bytes → Reads Fits image bytes (at bytes)
 
 infixl 10 ◌>>=◌
@@ -31,7 +33,8 @@ seen f None = None
 seen f (Some x) = Some (f x.0, x.1)
 
 -- one value, and behind it another
-abbrev pub pair_at : {A B : Type 0} → (List ℕ → Option (A × List ℕ)) → (List ℕ → Option (B × List ℕ)) → List ℕ → Option ((A × B) × List ℕ)
+abbrev pub pair_at : {A B : Type 0} → (List ℕ → Option (A × List ℕ))
+    → (List ℕ → Option (B × List ℕ)) → List ℕ → Option ((A × B) × List ℕ)
 pair_at first second bytes = first bytes >>= λ x. second x.1 >>= λ y. Some ((x.0, y.0), y.1)
 
 abbrev pub is_from : ℕ → ℕ → ℕ → Bool

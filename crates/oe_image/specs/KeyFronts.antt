@@ -21,7 +21,9 @@ unfoldable pub warehouse_key_at : List ℕ → Option (WarehouseKey × List ℕ)
 warehouse_key_at bytes = seen (λ p. record { warehouse = p }) (ranged_at 2 1 16 bytes)
 
 unfoldable pub district_key_at : List ℕ → Option (DistrictKey × List ℕ)
-district_key_at bytes = seen (λ p. record { warehouse = p.0; district = p.1 }) (pair_at (ranged_at 2 1 16) (ranged_at 1 1 10) bytes)
+district_key_at bytes =
+    seen (λ p. record { warehouse = p.0; district = p.1 })
+    (pair_at (ranged_at 2 1 16) (ranged_at 1 1 10) bytes)
 
 unfoldable pub customer_key_at : List ℕ → Option (CustomerKey × List ℕ)
 customer_key_at bytes =
@@ -30,7 +32,7 @@ customer_key_at bytes =
 
 unfoldable pub history_key_at : List ℕ → Option (HistoryKey × List ℕ)
 history_key_at bytes =
-    seen (λ p. record { terminal = p.0; number = p.1.0; place = p.1.1 })
+    seen (λ p. record { terminal = p.0; number = p.1.0; ordinal = p.1.1 })
     (pair_at (ranged_at 2 0 64) (pair_at (ranged_at 4 0 4_294_967_295) (ranged_at 1 1 1)) bytes)
 
 unfoldable pub new_order_key_at : List ℕ → Option (NewOrderKey × List ℕ)
@@ -46,13 +48,16 @@ order_key_at bytes =
 unfoldable pub order_line_key_at : List ℕ → Option (OrderLineKey × List ℕ)
 order_line_key_at bytes =
     seen (λ p. record { warehouse = p.0; district = p.1.0; order = p.1.1.0; number = p.1.1.1 })
-    (pair_at (ranged_at 2 1 16) (pair_at (ranged_at 1 1 10) (pair_at (ranged_at 4 1 10_000_000) (ranged_at 1 1 15))) bytes)
+    (pair_at (ranged_at 2 1 16)
+    (pair_at (ranged_at 1 1 10) (pair_at (ranged_at 4 1 10_000_000) (ranged_at 1 1 15))) bytes)
 
 unfoldable pub item_key_at : List ℕ → Option (ItemKey × List ℕ)
 item_key_at bytes = seen (λ p. record { item = p }) (ranged_at 4 1 100_000 bytes)
 
 unfoldable pub stock_key_at : List ℕ → Option (StockKey × List ℕ)
-stock_key_at bytes = seen (λ p. record { warehouse = p.0; item = p.1 }) (pair_at (ranged_at 2 1 16) (ranged_at 4 1 100_000) bytes)
+stock_key_at bytes =
+    seen (λ p. record { warehouse = p.0; item = p.1 })
+    (pair_at (ranged_at 2 1 16) (ranged_at 4 1 100_000) bytes)
 
 -- the key of a table
 abbrev pub key_at : Table → List ℕ → Option (Key × List ℕ)

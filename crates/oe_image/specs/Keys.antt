@@ -25,7 +25,7 @@ unfoldable pub customer_key : CustomerKey → List ℕ
 customer_key k = number 2 k.warehouse ++ (number 1 k.district ++ number 2 k.customer)
 
 unfoldable pub history_key : HistoryKey → List ℕ
-history_key k = number 2 k.terminal ++ (number 4 k.number ++ number 1 k.place)
+history_key k = number 2 k.terminal ++ (number 4 k.number ++ number 1 k.ordinal)
 
 unfoldable pub new_order_key : NewOrderKey → List ℕ
 new_order_key k = number 2 k.warehouse ++ (number 1 k.district ++ number 4 k.order)
@@ -34,7 +34,8 @@ unfoldable pub order_key : OrderKey → List ℕ
 order_key k = number 2 k.warehouse ++ (number 1 k.district ++ number 4 k.order)
 
 unfoldable pub order_line_key : OrderLineKey → List ℕ
-order_line_key k = number 2 k.warehouse ++ (number 1 k.district ++ (number 4 k.order ++ number 1 k.number))
+order_line_key k =
+    number 2 k.warehouse ++ (number 1 k.district ++ (number 4 k.order ++ number 1 k.number))
 
 unfoldable pub item_key : ItemKey → List ℕ
 item_key k = number 4 k.item
@@ -62,7 +63,7 @@ IsWarehouseKey k = IsInRange 1 16 k.warehouse
 pub record IsHistoryKey (k : HistoryKey) : Type 0 where
   pub terminal : IsInRange 0 64 k.terminal
   pub number_of_terminal : IsInRange 0 4_294_967_295 k.number
-  pub place : IsInRange 1 1 k.place
+  pub ordinal : IsInRange 1 1 k.ordinal
 
 pub record IsNewOrderKey (k : NewOrderKey) : Type 0 where
   pub warehouse : IsInRange 1 16 k.warehouse

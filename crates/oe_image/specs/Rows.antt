@@ -33,22 +33,27 @@ unfoldable pub warehouse : Warehouse → List ℕ
 warehouse w = text w.name ++ (address w.address ++ (number 2 w.tax ++ number 8 w.ytd))
 
 unfoldable pub district : District → List ℕ
-district d = text d.name ++ (address d.address ++ (number 2 d.tax ++ (number 8 d.ytd ++ number 4 d.next_order)))
+district d =
+    text d.name ++
+    (address d.address ++ (number 2 d.tax ++ (number 8 d.ytd ++ number 4 d.next_order)))
 
 unfoldable pub customer_name : CustomerName → List ℕ
 customer_name n = text n.first ++ (text n.middle ++ text n.last)
 
 unfoldable pub account : Account → List ℕ
 account a =
-    number 8 a.credit_limit ++ (number 2 a.discount ++ (balance a.balance ++ (number 8 a.ytd_payment ++ (number 2 a.payment_count ++ number 2 a.delivery_count))))
+    number 8 a.credit_limit ++ (number 2 a.discount ++ (balance a.balance
+    ++ (number 8 a.ytd_payment ++ (number 2 a.payment_count ++ number 2 a.delivery_count))))
 
 unfoldable pub customer : Customer → List ℕ
 customer c =
-    customer_name c.name ++ (address c.address ++ (text c.phone ++ (number 8 c.since ++ (credit c.credit ++ (account c.account ++ text c.data)))))
+    customer_name c.name ++ (address c.address ++ (text c.phone
+    ++ (number 8 c.since ++ (credit c.credit ++ (account c.account ++ text c.data)))))
 
 unfoldable pub history : History → List ℕ
 history h =
-    number 2 h.customer.customer ++ (number 1 h.customer.district ++ (number 2 h.customer.warehouse ++ (number 1 h.district.district
+    number 2 h.customer.customer ++ (number 1 h.customer.district
+    ++ (number 2 h.customer.warehouse ++ (number 1 h.district.district
     ++ (number 2 h.district.warehouse ++ (number 8 h.date ++ (number 8 h.amount ++ text h.data))))))
 
 -- the key has all columns
@@ -56,18 +61,22 @@ abbrev pub new_order : NewOrder → List ℕ
 new_order o = []
 
 unfoldable pub order : Order → List ℕ
-order o = number 2 o.customer ++ (number 8 o.entry ++ (optional (λ c. number 1 c) o.carrier ++ (number 1 o.line_count ++ flag o.all_local)))
+order o =
+    number 2 o.customer ++ (number 8 o.entry
+    ++ (optional (λ c. number 1 c) o.carrier ++ (number 1 o.line_count ++ flag o.all_local)))
 
 unfoldable pub order_line : OrderLine → List ℕ
 order_line l =
-    number 4 l.item ++ (number 2 l.supply ++ (optional (λ s. number 8 s) l.delivery ++ (number 1 l.quantity ++ (number 8 l.amount ++ text l.dist_info))))
+    number 4 l.item ++ (number 2 l.supply ++ (optional (λ s. number 8 s) l.delivery
+    ++ (number 1 l.quantity ++ (number 8 l.amount ++ text l.dist_info))))
 
 unfoldable pub item : Item → List ℕ
 item i = number 4 i.image ++ (text i.name ++ (number 8 i.price ++ text i.data))
 
 unfoldable pub stock : Stock → List ℕ
 stock s =
-    number 2 s.quantity ++ (ten_texts s.dist_info ++ (number 4 s.ytd ++ (number 2 s.order_count ++ (number 2 s.remote_count ++ text s.data))))
+    number 2 s.quantity ++ (ten_texts s.dist_info
+    ++ (number 4 s.ytd ++ (number 2 s.order_count ++ (number 2 s.remote_count ++ text s.data))))
 
 -- the image of a row
 abbrev pub row_image : Row → List ℕ

@@ -1,4 +1,4 @@
-//! What has an image: columns, and columns one after another. A column writes its image in its place, so that no buffer lies
+//! What has an image: columns, and columns one after another. A column writes its image at its offset, so that no buffer lies
 //! between.
 ghost use Rattle.std.specs.Prelude.{◌≡◌, ◌≤◌, ◌+◌, ◌++◌, ℕ, List, length};
 ghost use Rattle.oe_bytes.specs.Spelling.{Writes, number};

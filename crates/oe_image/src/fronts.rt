@@ -3,7 +3,7 @@
 ghost use Rattle.std.specs.Prelude.{◌≡◌, ◌≤◌, ◌^◌};
 ghost use Rattle.std.specs.Option.{option_map};
 ghost use Rattle.oe_image.specs.Fronts.{ranged_at};
-ghost use Rattle.oe_image.specs.ColumnFronts.{balance_at, checked, text_at, carrier_at, delivery_at, flag_at, credit_at};
+ghost use Rattle.oe_image.specs.ColumnFronts.{stamp_at, balance_at, checked, text_at, carrier_at, delivery_at, flag_at, credit_at};
 
 use oe_bytes::numbers::read_number;
 use oe_bytes::runs::read_run;
@@ -39,7 +39,7 @@ pub(crate) fn read_amount<const MOST: u64>(bytes: &[u8]) -> Option<(Amount<MOST>
 /// A stamp.
 #[inline]
 pub(crate) fn read_stamp(bytes: &[u8]) -> Option<(Stamp, &[u8])>
-    ensures { option_map (λ x. (x.0, x.1.now)) result ≡ ranged_at 8 0 6_342_969_599 bytes.now }
+    ensures { option_map (λ x. (x.0, x.1.now)) result ≡ stamp_at bytes.now }
 {
     let (seconds, rest) = read_number(bytes, 8)?;
     Some((Stamp::from_seconds(seconds)?, rest))

@@ -87,7 +87,7 @@ impl Imaged for HistoryKey {
     fn write(&self, bytes: &mut [u8], start: usize) -> usize {
         (
             self.terminal.get() as u16,
-            (self.number.get(), self.place.get() as u8),
+            (self.number.get(), self.ordinal.get() as u8),
         )
             .write(bytes, start)
     }
@@ -257,13 +257,13 @@ pub fn read_history_key(bytes: &[u8]) -> Option<(HistoryKey, &[u8])>
     let Some((number, rest)) = read_ranged(rest, 4) else {
         return None;
     };
-    let Some((place, rest)) = read_ranged(rest, 1) else {
+    let Some((ordinal, rest)) = read_ranged(rest, 1) else {
         return None;
     };
     let history_key = HistoryKey {
         terminal,
         number,
-        place,
+        ordinal,
     };
     Some((history_key, rest))
 }

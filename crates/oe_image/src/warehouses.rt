@@ -18,15 +18,15 @@ impl Imaged for Address {
     #[inline]
     #[tactic(auto, unfolding(crate::specs::Rows::address))]
     fn length(&self) -> usize {
-        let place = (&self.city, (&self.state, &self.zip));
-        (&self.street_1, (&self.street_2, place)).length()
+        let town = (&self.city, (&self.state, &self.zip));
+        (&self.street_1, (&self.street_2, town)).length()
     }
 
     #[inline]
     #[tactic(auto, unfolding(crate::specs::Rows::address))]
     fn write(&self, bytes: &mut [u8], start: usize) -> usize {
-        let place = (&self.city, (&self.state, &self.zip));
-        (&self.street_1, (&self.street_2, place)).write(bytes, start)
+        let town = (&self.city, (&self.state, &self.zip));
+        (&self.street_1, (&self.street_2, town)).write(bytes, start)
     }
 }
 

@@ -109,7 +109,7 @@ pub(crate) fn history() -> Option<(Key, Row)> {
     let key = HistoryKey {
         terminal: Number::new(64)?,
         number: Number::new(4_294_967_295)?,
-        place: Number::new(1)?,
+        ordinal: Number::new(1)?,
     };
     let row = History {
         customer: CustomerKey {

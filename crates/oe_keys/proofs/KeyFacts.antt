@@ -18,7 +18,7 @@ customer_total =
 pub history_total : IsTotalOrder history_cmp
 history_total =
     then_total (on_total (λ k. k.terminal) nat_cmp_total)
-    (then_total (on_total (λ k. k.number) nat_cmp_total) (on_total (λ k. k.place) nat_cmp_total))
+    (then_total (on_total (λ k. k.number) nat_cmp_total) (on_total (λ k. k.ordinal) nat_cmp_total))
 
 pub new_order_total : IsTotalOrder new_order_cmp
 new_order_total =

@@ -1,3 +1,2 @@
 pub mod ColumnFacts
 pub mod KeyFacts
-pub mod NameFacts

@@ -31,7 +31,8 @@ customer_cmp a b =
 
 abbrev pub history_cmp : HistoryKey → HistoryKey → Ordering
 history_cmp a b =
-    ordering_then (nat_cmp a.terminal b.terminal) (ordering_then (nat_cmp a.number b.number) (nat_cmp a.place b.place))
+    ordering_then (nat_cmp a.terminal b.terminal)
+    (ordering_then (nat_cmp a.number b.number) (nat_cmp a.ordinal b.ordinal))
 
 abbrev pub new_order_cmp : NewOrderKey → NewOrderKey → Ordering
 new_order_cmp a b =
@@ -46,7 +47,8 @@ order_cmp a b =
 abbrev pub order_line_cmp : OrderLineKey → OrderLineKey → Ordering
 order_line_cmp a b =
     ordering_then (nat_cmp a.warehouse b.warehouse)
-    (ordering_then (nat_cmp a.district b.district) (ordering_then (nat_cmp a.order b.order) (nat_cmp a.number b.number)))
+    (ordering_then (nat_cmp a.district b.district)
+    (ordering_then (nat_cmp a.order b.order) (nat_cmp a.number b.number)))
 
 abbrev pub item_cmp : ItemKey → ItemKey → Ordering
 item_cmp a b = nat_cmp a.item b.item
@@ -93,7 +95,7 @@ abbrev pub key_columns : Key → List ℕ
 key_columns (key.Warehouse k) = k.warehouse ∷ []
 key_columns (key.District k) = k.warehouse ∷ k.district ∷ []
 key_columns (key.Customer k) = k.warehouse ∷ k.district ∷ k.customer ∷ []
-key_columns (key.History k) = k.terminal ∷ k.number ∷ k.place ∷ []
+key_columns (key.History k) = k.terminal ∷ k.number ∷ k.ordinal ∷ []
 key_columns (key.NewOrder k) = k.warehouse ∷ k.district ∷ k.order ∷ []
 key_columns (key.Order k) = k.warehouse ∷ k.district ∷ k.order ∷ []
 key_columns (key.OrderLine k) = k.warehouse ∷ k.district ∷ k.order ∷ k.number ∷ []

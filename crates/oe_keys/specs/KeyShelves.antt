@@ -28,7 +28,8 @@ less-then a b rest h = rw (lt-ltb a b h) refl
 same-then : (a b : ℕ) (rest : Ordering) → a ≡ b → ordering_then (nat_cmp a b) rest ≡ rest
 same-then a b rest e = rw (e, tied_itself nat_cmp_total b) refl
 
-by_first : (a b c d : ℕ) (rest : Ordering) (t : Bool) → ltb a c ≡ t → district_shelf a b < district_shelf c d
+by_first : (a b c d : ℕ) (rest : Ordering) (t : Bool) → ltb a c ≡ t
+    → district_shelf a b < district_shelf c d
     → ordering_then (nat_cmp a c) (ordering_then (nat_cmp b d) rest) ≡ Less
 by_first a b c d rest true e h = less-then a c _ (ltb-true a c e)
 by_first a b c d rest false e h =
@@ -48,22 +49,26 @@ pub district_ascends : (j k : DistrictKey) → 0 < 0 → district_cmp j k ≡ Le
 district_ascends j k h = absurd (omega arith)
 
 pub customer_ascends : (j k : CustomerKey)
-    → district_shelf j.warehouse j.district < district_shelf k.warehouse k.district → customer_cmp j k ≡ Less
+    → district_shelf j.warehouse j.district < district_shelf k.warehouse k.district
+    → customer_cmp j k ≡ Less
 customer_ascends j k h = by_district j.warehouse j.district k.warehouse k.district _ h
 
 pub history_ascends : (j k : HistoryKey) → j.terminal < k.terminal → history_cmp j k ≡ Less
 history_ascends j k h = less-then j.terminal k.terminal _ h
 
 pub new_order_ascends : (j k : NewOrderKey)
-    → district_shelf j.warehouse j.district < district_shelf k.warehouse k.district → new_order_cmp j k ≡ Less
+    → district_shelf j.warehouse j.district < district_shelf k.warehouse k.district
+    → new_order_cmp j k ≡ Less
 new_order_ascends j k h = by_district j.warehouse j.district k.warehouse k.district _ h
 
 pub order_ascends : (j k : OrderKey)
-    → district_shelf j.warehouse j.district < district_shelf k.warehouse k.district → order_cmp j k ≡ Less
+    → district_shelf j.warehouse j.district < district_shelf k.warehouse k.district
+    → order_cmp j k ≡ Less
 order_ascends j k h = by_district j.warehouse j.district k.warehouse k.district _ h
 
 pub order_line_ascends : (j k : OrderLineKey)
-    → district_shelf j.warehouse j.district < district_shelf k.warehouse k.district → order_line_cmp j k ≡ Less
+    → district_shelf j.warehouse j.district < district_shelf k.warehouse k.district
+    → order_line_cmp j k ≡ Less
 order_line_ascends j k h = by_district j.warehouse j.district k.warehouse k.district _ h
 
 pub item_ascends : (j k : ItemKey) → 0 < 0 → item_cmp j k ≡ Less

@@ -3,11 +3,11 @@
 //! A key has the columns of its table's primary key, in their order, each in its range by its type; its order is theirs from the
 //! left. Nothing can fail, and nothing takes memory.
 ghost use Rattle.std.specs.Prelude.{◌≡◌};
-ghost use Rattle.oe_keys.specs.Key.{table_of, table_name, warehouse_cmp, district_cmp, customer_cmp, history_cmp, new_order_cmp, order_cmp, order_line_cmp, item_cmp, stock_cmp, IsDistrictKey, IsCustomerKey};
+ghost use Rattle.oe_keys.specs.Key.{table_of, table_name, district_cmp, customer_cmp, IsDistrictKey, IsCustomerKey};
 
 use crate::texts::write_key;
 use oe_values::numbers::{
-    CustomerNumber, DistrictNumber, HistoryPlace, HistoryTerminal, ItemNumber, LineNumber,
+    CustomerNumber, DistrictNumber, HistoryOrdinal, HistoryTerminal, ItemNumber, LineNumber,
     OrderNumber, TransactionNumber, WarehouseNumber,
 };
 use std::cmp::Ordering;
@@ -35,12 +35,12 @@ pub struct CustomerKey {
 }
 
 /// The key of a HISTORY row, which the standard leaves without one: the terminal, the number of the transaction among
-/// the terminal's, and the row's ordinal in the transaction, here `place`.
+/// the terminal's, and the row's ordinal in the transaction.
 #[derive(Clone, Copy, Debug, PartialEq, Eq, PartialOrd, Ord)]
 pub struct HistoryKey {
     pub terminal: HistoryTerminal,
     pub number: TransactionNumber,
-    pub place: HistoryPlace,
+    pub ordinal: HistoryOrdinal,
 }
 
 /// The key of a NEW-ORDER row: NO_W_ID, NO_D_ID, NO_O_ID.
@@ -288,16 +288,6 @@ impl StockKey {
     }
 }
 
-impl WarehouseKey {
-    /// The order of the keys, by their columns from the left.
-    #[inline]
-    pub fn compare(self, other: WarehouseKey) -> Ordering
-        ensures { result ≡ warehouse_cmp self other }
-    {
-        self.warehouse.cmp(&other.warehouse)
-    }
-}
-
 impl DistrictKey {
     /// The order of the keys, by their columns from the left.
     #[inline]
@@ -313,66 +303,6 @@ impl CustomerKey {
     #[inline]
     pub fn compare(self, other: CustomerKey) -> Ordering
         ensures { result ≡ customer_cmp self other }
-    {
-        self.cmp(&other)
-    }
-}
-
-impl HistoryKey {
-    /// The order of the keys, by their columns from the left.
-    #[inline]
-    pub fn compare(self, other: HistoryKey) -> Ordering
-        ensures { result ≡ history_cmp self other }
-    {
-        self.cmp(&other)
-    }
-}
-
-impl NewOrderKey {
-    /// The order of the keys, by their columns from the left.
-    #[inline]
-    pub fn compare(self, other: NewOrderKey) -> Ordering
-        ensures { result ≡ new_order_cmp self other }
-    {
-        self.cmp(&other)
-    }
-}
-
-impl OrderKey {
-    /// The order of the keys, by their columns from the left.
-    #[inline]
-    pub fn compare(self, other: OrderKey) -> Ordering
-        ensures { result ≡ order_cmp self other }
-    {
-        self.cmp(&other)
-    }
-}
-
-impl OrderLineKey {
-    /// The order of the keys, by their columns from the left.
-    #[inline]
-    pub fn compare(self, other: OrderLineKey) -> Ordering
-        ensures { result ≡ order_line_cmp self other }
-    {
-        self.cmp(&other)
-    }
-}
-
-impl ItemKey {
-    /// The order of the keys, by their columns from the left.
-    #[inline]
-    pub fn compare(self, other: ItemKey) -> Ordering
-        ensures { result ≡ item_cmp self other }
-    {
-        self.item.cmp(&other.item)
-    }
-}
-
-impl StockKey {
-    /// The order of the keys, by their columns from the left.
-    #[inline]
-    pub fn compare(self, other: StockKey) -> Ordering
-        ensures { result ≡ stock_cmp self other }
     {
         self.cmp(&other)
     }
@@ -432,7 +362,7 @@ impl fmt::Display for Key {
                 write_key(f, table, &columns)
             }
             Key::History(k) => {
-                let columns = [k.terminal.get(), k.number.get(), k.place.get()];
+                let columns = [k.terminal.get(), k.number.get(), k.ordinal.get()];
                 write_key(f, table, &columns)
             }
             Key::NewOrder(k) => {

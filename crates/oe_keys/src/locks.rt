@@ -2,16 +2,12 @@
 //!
 //! A name has the key of what it names; no two rows of the tables that it governs have one name, but for an order and its lines,
 //! and for the NEW-ORDER rows of a district. Nothing can fail, and nothing takes memory.
-ghost use Rattle.std.specs.Prelude.{◌≡◌};
-ghost use Rattle.oe_keys.specs.Lock.{name_cmp};
-
 use crate::keys::{CustomerKey, DistrictKey, OrderKey, StockKey, WarehouseKey};
 use crate::texts::write_name;
-use std::cmp::Ordering;
 use std::fmt;
 
 /// What a transaction locks: a row, or the queue of a district's orders that are not yet delivered.
-#[derive(Clone, Copy, Debug, PartialEq, Eq, PartialOrd, Ord, Hash)]
+#[derive(Clone, Copy, Debug, PartialEq, Eq, Hash)]
 pub enum Name {
     Warehouse(WarehouseKey),
     District(DistrictKey),
@@ -22,19 +18,10 @@ pub enum Name {
 }
 
 /// How a name is held: with others, or alone.
-#[derive(Clone, Copy, Debug, PartialEq, Eq, PartialOrd, Ord)]
+#[derive(Clone, Copy, Debug, PartialEq, Eq)]
 pub enum Mode {
     Shared,
     Exclusive,
-}
-
-impl Name {
-    /// The order of names: by what they name, and then by their columns from the left.
-    pub fn compare(self, other: Name) -> Ordering
-        ensures { result ≡ name_cmp self other }
-    {
-        self.cmp(&other)
-    }
 }
 
 impl fmt::Display for Name {

@@ -160,7 +160,7 @@ unfolding warehouse_key district_key customer_key history_key new_order_key orde
 key_long (key.Warehouse k) = number_long 2 k.warehouse
 key_long (key.District k) = joined_long (number_long 2 k.warehouse) (number_long 1 k.district)
 key_long (key.Customer k) = joined_long (number_long 2 k.warehouse) (joined_long (number_long 1 k.district) (number_long 2 k.customer))
-key_long (key.History k) = joined_long (number_long 2 k.terminal) (joined_long (number_long 4 k.number) (number_long 1 k.place))
+key_long (key.History k) = joined_long (number_long 2 k.terminal) (joined_long (number_long 4 k.number) (number_long 1 k.ordinal))
 key_long (key.NewOrder k) = joined_long (number_long 2 k.warehouse) (joined_long (number_long 1 k.district) (number_long 4 k.order))
 key_long (key.Order k) = joined_long (number_long 2 k.warehouse) (joined_long (number_long 1 k.district) (number_long 4 k.order))
 key_long (key.OrderLine k) = joined_long (number_long 2 k.warehouse) (joined_long (number_long 1 k.district) (joined_long (number_long 4 k.order) (number_long 1 k.number)))

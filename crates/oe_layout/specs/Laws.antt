@@ -13,4 +13,5 @@ use Rattle.oe_layout.specs.declared.links.Previous.{Previous}
 pub record Lengths_are_sums : Type 0 where
   pub keys : (k : Key) → length (key_image k) ≡ key_length k
   pub rows : (r : Row) → IsRow r → length (row_image r) ≡ row_length r
-  pub records : (p : Previous) (b : Record) → IsInRanges b → length (record_image p b) ≡ record_length b
+  pub records : (p : Previous) (b : Record) → IsInRanges b
+      → length (record_image p b) ≡ record_length b

@@ -27,7 +27,9 @@ optional_length width None = 1
 optional_length width (Some x) = 1 + width
 
 abbrev pub address_length : Address → ℕ
-address_length a = text_length a.street_1 + text_length a.street_2 + text_length a.city + text_length a.state + text_length a.zip
+address_length a =
+    text_length a.street_1 + text_length a.street_2 + text_length a.city + text_length a.state
+    + text_length a.zip
 
 abbrev pub warehouse_length : Warehouse → ℕ
 warehouse_length w = text_length w.name + address_length w.address + 2 + 8
@@ -40,7 +42,9 @@ name_length n = text_length n.first + text_length n.middle + text_length n.last
 
 -- C_SINCE has 8 bytes, C_CREDIT 2 and its length, and the account 30
 abbrev pub customer_length : Customer → ℕ
-customer_length c = name_length c.name + address_length c.address + text_length c.phone + 8 + 4 + 30 + text_length c.data
+customer_length c =
+    name_length c.name + address_length c.address + text_length c.phone + 8 + 4 + 30
+    + text_length c.data
 
 abbrev pub history_length : History → ℕ
 history_length h = 2 + 1 + 2 + 1 + 2 + 8 + 8 + text_length h.data

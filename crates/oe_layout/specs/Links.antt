@@ -55,7 +55,11 @@ nothing_at offset moment = if offset == 65_535 && moment == 0 then Some Nothing 
 abbrev pub previous_of : LinkNumbers → Option Previous
 previous_of n =
     if n.0 == 65_535 then nothing_at n.1.0 n.1.1
-    else (if nat_le n.0 4_095 && nat_le n.1.0 4_095 then at_address (record { extent = n.0; offset = n.1.0 }) n.1.1 else None)
+    else (if nat_le n.0 4_095 && nat_le n.1.0 4_095 then at_address (record {
+      extent = n.0;
+      offset = n.1.0;
+    }) n.1.1 else None)
 
 unfoldable pub previous_at : List ℕ → Option (Previous × List ℕ)
-previous_at bytes = read_as previous_of (pair_at (number_at 2) (pair_at (number_at 2) (number_at 8)) bytes)
+previous_at bytes =
+    read_as previous_of (pair_at (number_at 2) (pair_at (number_at 2) (number_at 8)) bytes)

@@ -16,28 +16,41 @@ use Rattle.oe_layout.specs.declared.records.OwnRecord.TheVariants as own
 -- the key at the front, and the row behind it where there is one, of a record of that kind
 abbrev pub contents_at : RecordKind → List ℕ → Option (OwnRecord × List ℕ)
 contents_at kind.InsertedHistory bytes = seen (λ k. own.InsertedHistory k) (history_key_at bytes)
-contents_at kind.InsertedNewOrder bytes = seen (λ k. own.InsertedNewOrder k) (new_order_key_at bytes)
+contents_at kind.InsertedNewOrder bytes =
+    seen (λ k. own.InsertedNewOrder k) (new_order_key_at bytes)
 contents_at kind.InsertedOrder bytes = seen (λ k. own.InsertedOrder k) (order_key_at bytes)
-contents_at kind.InsertedOrderLine bytes = seen (λ k. own.InsertedOrderLine k) (order_line_key_at bytes)
-contents_at kind.UpdatedWarehouse bytes = seen (λ p. own.UpdatedWarehouse p.0 p.1) (pair_at warehouse_key_at warehouse_at bytes)
-contents_at kind.UpdatedDistrict bytes = seen (λ p. own.UpdatedDistrict p.0 p.1) (pair_at district_key_at district_at bytes)
-contents_at kind.UpdatedCustomer bytes = seen (λ p. own.UpdatedCustomer p.0 p.1) (pair_at customer_key_at customer_at bytes)
-contents_at kind.UpdatedOrder bytes = seen (λ p. own.UpdatedOrder p.0 p.1) (pair_at order_key_at order_at bytes)
-contents_at kind.UpdatedOrderLine bytes = seen (λ p. own.UpdatedOrderLine p.0 p.1) (pair_at order_line_key_at order_line_at bytes)
-contents_at kind.UpdatedStock bytes = seen (λ p. own.UpdatedStock p.0 p.1) (pair_at stock_key_at stock_at bytes)
+contents_at kind.InsertedOrderLine bytes =
+    seen (λ k. own.InsertedOrderLine k) (order_line_key_at bytes)
+contents_at kind.UpdatedWarehouse bytes =
+    seen (λ p. own.UpdatedWarehouse p.0 p.1) (pair_at warehouse_key_at warehouse_at bytes)
+contents_at kind.UpdatedDistrict bytes =
+    seen (λ p. own.UpdatedDistrict p.0 p.1) (pair_at district_key_at district_at bytes)
+contents_at kind.UpdatedCustomer bytes =
+    seen (λ p. own.UpdatedCustomer p.0 p.1) (pair_at customer_key_at customer_at bytes)
+contents_at kind.UpdatedOrder bytes =
+    seen (λ p. own.UpdatedOrder p.0 p.1) (pair_at order_key_at order_at bytes)
+contents_at kind.UpdatedOrderLine bytes =
+    seen (λ p. own.UpdatedOrderLine p.0 p.1) (pair_at order_line_key_at order_line_at bytes)
+contents_at kind.UpdatedStock bytes =
+    seen (λ p. own.UpdatedStock p.0 p.1) (pair_at stock_key_at stock_at bytes)
 contents_at kind.DeletedNewOrder bytes = seen (λ k. own.DeletedNewOrder k) (new_order_key_at bytes)
 
 -- what stands between the two lengths
 unfoldable pub body_at : List ℕ → Option ((Previous × OwnRecord) × List ℕ)
-body_at bytes = kind_at bytes >>= λ k. previous_at k.1 >>= λ p. contents_at k.0 p.1 >>= λ b. Some ((p.0, b.0), b.1)
+body_at bytes =
+    kind_at bytes >>= λ k. previous_at k.1 >>= λ p. contents_at k.0 p.1 >>= λ b.
+    Some ((p.0, b.0), b.1)
 
 -- what was read, where both lengths are this one and nothing follows
-abbrev pub framed_by : ℕ → Option ((ℕ × ((Previous × OwnRecord) × ℕ)) × List ℕ) → Option (Previous × OwnRecord)
+abbrev pub framed_by : ℕ → Option ((ℕ × ((Previous × OwnRecord) × ℕ)) × List ℕ)
+    → Option (Previous × OwnRecord)
 framed_by size None = None
-framed_by size (Some x) = if (x.0.0 == size && x.0.1.1 == size) && length x.1 == 0 then Some x.0.1.0 else None
+framed_by size (Some x) =
+    if (x.0.0 == size && x.0.1.1 == size) && length x.1 == 0 then Some x.0.1.0 else None
 
 unfoldable pub record_at : List ℕ → Option (Previous × OwnRecord)
-record_at bytes = framed_by (length bytes) (pair_at (number_at 2) (pair_at body_at (number_at 2)) bytes)
+record_at bytes =
+    framed_by (length bytes) (pair_at (number_at 2) (pair_at body_at (number_at 2)) bytes)
 
 -- The bytes are the image of a record that is in its ranges: then it is read. Nothing else is read.
 pub record ReadsRecord (bytes : List ℕ) (result : Option (Previous × OwnRecord)) : Type 0 where

@@ -121,7 +121,8 @@ impl<'a> LinkedRecord<'a> {
         ensures image { result
             ≡ length (record_image self.now.previous (record_of_lent self.now.record)) }
         ensures short { result ≤ 706 }
-        ensures framed { IsFramed (record_image self.now.previous (record_of_lent self.now.record)) }
+        ensures framed { IsFramed
+            (record_image self.now.previous (record_of_lent self.now.record)) }
     {
         self.record.contents_length() + 18
     }

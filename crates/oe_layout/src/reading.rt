@@ -53,7 +53,8 @@ fn read_contents(kind: RecordKind, bytes: &[u8]) -> Option<(OwnRecord, &[u8])>
 
 /// The key of a WAREHOUSE row at the front of the bytes, and the row before its update.
 fn read_warehouse_update(bytes: &[u8]) -> Option<(OwnRecord, &[u8])>
-    ensures { option_map (λ x. (x.0, x.1.now)) result ≡ contents_at kind.UpdatedWarehouse bytes.now }
+    ensures { option_map (λ x. (x.0, x.1.now)) result
+        ≡ contents_at kind.UpdatedWarehouse bytes.now }
 {
     let Some((key, rest)) = read_warehouse_key(bytes) else {
         return None;
@@ -66,7 +67,8 @@ fn read_warehouse_update(bytes: &[u8]) -> Option<(OwnRecord, &[u8])>
 
 /// The key of a DISTRICT row at the front of the bytes, and the row before its update.
 fn read_district_update(bytes: &[u8]) -> Option<(OwnRecord, &[u8])>
-    ensures { option_map (λ x. (x.0, x.1.now)) result ≡ contents_at kind.UpdatedDistrict bytes.now }
+    ensures { option_map (λ x. (x.0, x.1.now)) result
+        ≡ contents_at kind.UpdatedDistrict bytes.now }
 {
     let Some((key, rest)) = read_district_key(bytes) else {
         return None;
@@ -79,7 +81,8 @@ fn read_district_update(bytes: &[u8]) -> Option<(OwnRecord, &[u8])>
 
 /// The key of a CUSTOMER row at the front of the bytes, and the row before its update.
 fn read_customer_update(bytes: &[u8]) -> Option<(OwnRecord, &[u8])>
-    ensures { option_map (λ x. (x.0, x.1.now)) result ≡ contents_at kind.UpdatedCustomer bytes.now }
+    ensures { option_map (λ x. (x.0, x.1.now)) result
+        ≡ contents_at kind.UpdatedCustomer bytes.now }
 {
     let Some((key, rest)) = read_customer_key(bytes) else {
         return None;
@@ -105,7 +108,8 @@ fn read_order_update(bytes: &[u8]) -> Option<(OwnRecord, &[u8])>
 
 /// The key of a ORDER-LINE row at the front of the bytes, and the row before its update.
 fn read_order_line_update(bytes: &[u8]) -> Option<(OwnRecord, &[u8])>
-    ensures { option_map (λ x. (x.0, x.1.now)) result ≡ contents_at kind.UpdatedOrderLine bytes.now }
+    ensures { option_map (λ x. (x.0, x.1.now)) result
+        ≡ contents_at kind.UpdatedOrderLine bytes.now }
 {
     let Some((key, rest)) = read_order_line_key(bytes) else {
         return None;

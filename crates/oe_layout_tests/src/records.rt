@@ -90,13 +90,13 @@ fn reads_order() -> bool {
     let OwnRecord::UpdatedOrder(read_key, read_row) = record else {
         return false;
     };
-    let Some(place) = address(7, 132) else {
+    let Some(earlier) = address(7, 132) else {
         return false;
     };
     let Some(moment) = Moment::new(258) else {
         return false;
     };
-    previous == Previous::Committed(place, moment) && read_key == key && read_row.is_same(&row)
+    previous == Previous::Committed(earlier, moment) && read_key == key && read_row.is_same(&row)
 }
 
 /// A stock whose previous record lies in extent 0 at offset 132 and is of the same transaction.
@@ -104,11 +104,11 @@ fn writes_stock() -> bool {
     let Some((key, row)) = stock() else {
         return false;
     };
-    let Some(place) = address(0, 132) else {
+    let Some(earlier) = address(0, 132) else {
         return false;
     };
     let record = LinkedRecord {
-        previous: Previous::Own(place),
+        previous: Previous::Own(earlier),
         record: LentRecord::UpdatedStock(key, &row),
     };
     let mut bytes = room();

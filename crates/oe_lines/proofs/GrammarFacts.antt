@@ -19,6 +19,10 @@ use Rattle.oe_requests.specs.declared.requests.NewOrderRequest.{NewOrderRequest}
 use Rattle.oe_requests.specs.declared.requests.DeliveryRequest.{DeliveryRequest}
 use Rattle.oe_requests.specs.declared.requests.Request.{Request}
 use Rattle.oe_requests.specs.declared.requests.Request.TheVariants as request
+use Rattle.oe_requests.specs.declared.requests.StatusQuery.{StatusQuery}
+use Rattle.oe_requests.specs.declared.requests.LevelQuery.{LevelQuery}
+use Rattle.oe_requests.specs.declared.requests.Query.{Query}
+use Rattle.oe_requests.specs.declared.requests.Query.TheVariants as query
 use Rattle.oe_steps.specs.Condition.{condition_number}
 use Rattle.oe_steps.specs.declared.audits.Condition.{Condition}
 use Rattle.oe_steps.specs.declared.audits.Condition.TheVariants as condition
@@ -30,11 +34,12 @@ use Rattle.oe_lines.specs.declared.commands.MomentChoice.TheVariants as moment
 use Rattle.oe_rows.specs.declared.scales.Scale.{Scale}
 use Rattle.oe_model.specs.Population.{IsScale}
 use Rattle.oe_model.specs.Requests.{IsDistrict, IsChoice, IsPayment, IsRequestLine, IsNewOrder, IsDelivery}
-use Rattle.oe_lines.specs.Grammar.{Says, HasForm, IsRequest, IsMoment, words_of, request_words, customer_word, line_word, moment_word}
-use Rattle.oe_lines.specs.Reading.{begun, number_or_name, table_of, moment_of, audit_of, opening_of, district_of, customer_of, payment_of, line_of, line_and, lines_within, lines_of, new_order_of, delivery_of, request_of, beginning_of, terminal_of, rare_command_of, command_of}
-use Rattle.oe_lines.specs.Words.{is_word, within, number_of, number_then, number_before, last_number, amount_before, stamp_of, stamp_before, name_before}
+use Rattle.oe_lines.specs.Grammar.{Says, HasForm, IsRequest, IsQuery, IsMoment, words_of, request_words, query_words, customer_word, line_word, moment_word}
+use Rattle.oe_lines.specs.Reading.{begun, number_or_name, last_number_or_name, table_of, moment_of, moment_before, audit_of, opening_of, district_of, customer_of, last_customer_of, status_of, level_of, query_of, reading_of, payment_of, line_of, line_and, lines_within, lines_of, new_order_of, delivery_of, request_of, beginning_of, terminal_of, rare_command_of, command_of}
+use Rattle.oe_lines.specs.Words.{is_word, within, number_of, number_then, number_before, last_number, amount_before, stamp_of, stamp_before, last_name_of, name_before}
 use Rattle.oe_lines.proofs.StampFacts.{stamp_found, stamp_only, stamp_before_found, stamp_before_only}
-use Rattle.oe_lines.proofs.NameFacts.{name_found, name_only, name_no_number}
+use Rattle.oe_lines.proofs.NameFacts.{last_name_found, last_name_only, name_found, name_only, name_no_number, name_no_last}
+use Rattle.oe_values.specs.Text.{IsLastName}
 use Rattle.oe_values.specs.Front.{after_of, decimal_of, alone}
 use Rattle.oe_values.proofs.FrontFacts.{bind_some, some_same, chosen, guarded, ends, alone_found, after_found, after_only, decimal_found, decimal_only}
 use Rattle.oe_lines.proofs.WordFacts.{map_some, word_is, within_found, within_only, number_found, number_only, then_found, then_only, before_found, before_only, last_found, last_only, amount_found, amount_only}
@@ -137,6 +142,44 @@ moment_only moment.Now h = unfold is_word in refl
 moment_only (moment.At n) h =
     rw (no_word n (omega arith) _ refl, ← append-nil (decimal n), decimal_only n [] (omega arith) refl, within_only 0 999_999_999_999 n (omega arith) h)
     refl
+
+-- a number is not `now` before a space
+no_now : (n : ℕ) (s : List ℕ) (o : Option (List ℕ)) → n < 10 ^ 15 → after_of (codes "now ") (decimal n ++ 32 ∷ s) ≡ o → o ≡ None
+unfolding decimal_of
+no_now n s None h e = refl
+no_now n s (Some r) h e =
+    let read : decimal_of (codes "now " ++ r) ≡ Some (n, 32 ∷ s) = rw (after_found (codes "now ") (decimal n ++ 32 ∷ s) r e) at (decimal_only n (32 ∷ s) h refl) in
+    cc
+
+moment_before_found : (s : List ℕ) (p : MomentChoice × List ℕ) → moment_before s ≡ Some p → (s ≡ moment_word p.0 ++ 32 ∷ p.1) × IsMoment p.0
+unfolding moment_before
+moment_before_found s p e = elim (begun_some (after_of (codes "now ") s) _ _ p e) [
+  | inl h ↦ rw (← some_same (moment.Now, h.0) p h.2) (after_found (codes "now ") s h.0 h.1, tt)
+  | inr e ↦
+      let n = bind_some (decimal_of s) _ p e in
+      let w = bind_some (within 0 999_999_999_999 n.0.0) _ p n.2 in
+      let a = bind_some (after_of (codes " ") n.0.1) _ p w.2 in
+      let f = decimal_found s n.0.0 n.0.1 n.1 in
+      let range = within_found 0 999_999_999_999 n.0.0 w.0 w.1 in
+      rw (← some_same (moment.At w.0, a.0) p a.2) (
+        f.0 ∙ ap (λ z. decimal n.0.0 ++ z) (after_found (codes " ") n.0.1 a.0 a.1) ∙ ap (λ z. decimal z ++ 32 ∷ a.0) range.0,
+        range.2,
+      )
+]
+
+moment_before_only : (m : MomentChoice) (r : List ℕ) → IsMoment m → moment_before (moment_word m ++ 32 ∷ r) ≡ Some (m, r)
+unfolding moment_before
+moment_before_only moment.Now r h = refl
+moment_before_only (moment.At n) r h =
+    rw (no_now n r _ (omega arith) refl, decimal_only n (32 ∷ r) (omega arith) refl, within_only 0 999_999_999_999 n (omega arith) h) refl
+
+-- a line of a word and a moment
+of_moment_found : (made : MomentChoice → Command) (word s : List ℕ) (c : Command) → ((m : MomentChoice) → IsMoment m → Says (word ++ 32 ∷ moment_word m) (made m))
+    → option_map made (moment_of s) ≡ Some c → Says (word ++ 32 ∷ s) c
+of_moment_found made word s c says e =
+    let m = map_some made (moment_of s) c e in
+    let g = moment_found s m.0 m.1 in
+    says_at _ _ c (made m.0) (ap (λ z. word ++ 32 ∷ z) g.0) m.2 (says m.0 g.1)
 
 audited_found : (c : Condition) (w s : List ℕ) (d : Command) → w ≡ decimal (condition_number c) → option_map (λ m. command.Audit c m) (moment_of s) ≡ Some d
     → Says (codes "audit" ++ 32 ∷ (w ++ 32 ∷ s)) d
@@ -277,6 +320,86 @@ payment_only at home c amount stamp p q r s t =
       stamp_only stamp t,
     )
     refl
+
+-- queries
+
+last_customer_found : (s : List ℕ) (c : CustomerChoice) → last_customer_of s ≡ Some c → (s ≡ customer_word c) × IsChoice c
+unfolding last_customer_of
+last_customer_found s c e = go (last_number 1 3_000 s) refl e
+  where
+    go : (o : Option ℕ) → last_number 1 3_000 s ≡ o → last_number_or_name o (last_name_of s) ≡ Some c → (s ≡ customer_word c) × IsChoice c
+    go (Some n) f e =
+        let g = last_found 1 3_000 s n f in
+        rw (← some_same (choice.Number n) c e) (g.0, (g.1, g.2))
+    go None f e =
+        let n = map_some (λ n. choice.LastName n) (last_name_of s) c e in
+        let g = last_name_found s n.0 n.1 in
+        let own : IsLastName n.0 = rw (← g.0) g.1 in
+        rw (← n.2) (g.0, own)
+
+last_customer_only : (c : CustomerChoice) → IsChoice c → last_customer_of (customer_word c) ≡ Some c
+unfolding last_customer_of
+last_customer_only (choice.Number n) h = rw (last_only 1 3_000 n (omega arith) h) refl
+last_customer_only (choice.LastName name) h = rw (name_no_last 1 3_000 name h, last_name_only name h) refl
+
+status_found : (s : List ℕ) (q : StatusQuery) → status_of s ≡ Some q → (s ≡ district_words q.district (customer_word q.customer)) × (IsDistrict q.district × IsChoice q.customer)
+unfolding status_of
+status_found s q e =
+    let a = bind_some (district_of s) _ q e in
+    let c = bind_some (last_customer_of a.0.1) _ q a.2 in
+    let f = district_found s a.0 a.1 in
+    let g = last_customer_found a.0.1 c.0 c.1 in
+    rw (← some_same (record { district = a.0.0; customer = c.0 }) q c.2) (f.0 ∙ ap (district_words a.0.0) g.0, (f.1, g.1))
+
+level_found : (s : List ℕ) (q : LevelQuery) → level_of s ≡ Some q → (s ≡ district_words q.district (decimal q.threshold)) × (IsDistrict q.district × IsInRange 10 20 q.threshold)
+unfolding level_of
+level_found s q e =
+    let a = bind_some (district_of s) _ q e in
+    let t = bind_some (last_number 10 20 a.0.1) _ q a.2 in
+    let f = district_found s a.0 a.1 in
+    let g = last_found 10 20 a.0.1 t.0 t.1 in
+    rw (← some_same (record { district = a.0.0; threshold = t.0 }) q t.2) (f.0 ∙ ap (district_words a.0.0) g.0, (f.1, (g.1, g.2)))
+
+query_found : (s : List ℕ) (q : Query) → query_of s ≡ Some q → (s ≡ join_with_byte 32 (query_words q)) × IsQuery q
+unfolding query_of
+query_found s q e = elim (begun_some (after_of (codes "status ") s) _ _ q e) [
+  | inl h ↦
+      let p = map_some (λ p. query.Status p) (status_of h.0) q h.2 in
+      let f = status_found h.0 p.0 p.1 in
+      rw (← p.2) (after_found (codes "status ") s h.0 h.1 ∙ ap (λ z. codes "status" ++ 32 ∷ z) f.0, f.1)
+  | inr e ↦ elim (begun_some (after_of (codes "level ") s) _ None q e) [
+    | inl h ↦
+        let p = map_some (λ p. query.Level p) (level_of h.0) q h.2 in
+        let f = level_found h.0 p.0 p.1 in
+        rw (← p.2) (after_found (codes "level ") s h.0 h.1 ∙ ap (λ z. codes "level" ++ 32 ∷ z) f.0, f.1)
+    | inr e ↦ cc
+  ]
+]
+
+query_only : (q : Query) → IsQuery q → query_of (join_with_byte 32 (query_words q)) ≡ Some q
+unfolding query_of status_of level_of
+query_only (query.Status q) h = rw (district_only q.district (customer_word q.customer) h.0, last_customer_only q.customer h.1) refl
+query_only (query.Level q) h = rw (district_only q.district (decimal q.threshold) h.0, last_only 10 20 q.threshold (omega arith) h.1) refl
+
+-- a query's words stand behind the moment
+read_words : (m : MomentChoice) (q : Query) → join_with_byte 32 (words_of (command.Read m q)) ≡ codes "read" ++ 32 ∷ (moment_word m ++ 32 ∷ join_with_byte 32 (query_words q))
+read_words m (query.Status q) = refl
+read_words m (query.Level q) = refl
+
+reading_found : (s : List ℕ) (c : Command) → reading_of s ≡ Some c → Says (codes "read" ++ 32 ∷ s) c
+unfolding reading_of
+reading_found s c e =
+    let m = bind_some (moment_before s) _ c e in
+    let q = bind_some (query_of m.0.1) _ c m.2 in
+    let f = moment_before_found s m.0 m.1 in
+    let g = query_found m.0.1 q.0 q.1 in
+    let spelled = f.0 ∙ ap (λ z. moment_word m.0.0 ++ 32 ∷ z) g.0 in
+    says_at _ _ c (command.Read m.0.0 q.0) (ap (λ z. codes "read" ++ 32 ∷ z) spelled ∙ sym (read_words m.0.0 q.0)) (some_same _ c q.2)
+    (record { form = (f.1, g.1); spelled = refl })
+
+reading_only : (m : MomentChoice) (q : Query) → IsMoment m → IsQuery q → reading_of (moment_word m ++ 32 ∷ join_with_byte 32 (query_words q)) ≡ Some (command.Read m q)
+unfolding reading_of
+reading_only m q h k = rw (moment_before_only m _ h, query_only q k) refl
 
 -- orders
 
@@ -511,9 +634,18 @@ rare_found s c e = elim (begun_some (after_of (codes "save ") s) _ _ c e) [
         | inl h ↦ rw (after_found (codes "open ") s h.0 h.1) (opening_found h.0 c h.2)
         | inr e ↦ elim (begun_some (after_of (codes "dump ") s) _ _ c e) [
           | inl h ↦ rw (after_found (codes "dump ") s h.0 h.1) (dumped_found h.0 c h.2)
-          | inr e ↦ elim (begun_some (after_of (codes "audit ") s) _ None c e) [
+          | inr e ↦ elim (begun_some (after_of (codes "audit ") s) _ _ c e) [
             | inl h ↦ rw (after_found (codes "audit ") s h.0 h.1) (audit_found h.0 c h.2)
-            | inr e ↦ cc
+            | inr e ↦ elim (begun_some (after_of (codes "read ") s) _ _ c e) [
+              | inl h ↦ rw (after_found (codes "read ") s h.0 h.1) (reading_found h.0 c h.2)
+              | inr e ↦ elim (begun_some (after_of (codes "purge ") s) _ _ c e) [
+                | inl h ↦ rw (after_found (codes "purge ") s h.0 h.1) (of_moment_found (λ m. command.Purge m) (codes "purge") h.0 c (λ m r. record { form = r; spelled = refl }) h.2)
+                | inr e ↦ elim (begun_some (after_of (codes "rewind ") s) _ None c e) [
+                  | inl h ↦ rw (after_found (codes "rewind ") s h.0 h.1) (of_moment_found (λ m. command.Rewind m) (codes "rewind") h.0 c (λ m r. record { form = r; spelled = refl }) h.2)
+                  | inr e ↦ cc
+                ]
+              ]
+            ]
           ]
         ]
       ]
@@ -542,6 +674,10 @@ begin_only : (t : ℕ) (r : Request) → IsInRange 1 64 t → IsRequest r
 unfolding command_of
 begin_only t r h k = ap command_of (begun_words t r k) ∙ rw (beginning_only t r h k) refl
 
+read_only : (m : MomentChoice) (q : Query) → IsMoment m → IsQuery q → command_of (join_with_byte 32 (words_of (command.Read m q))) ≡ Some (command.Read m q)
+unfolding command_of rare_command_of
+read_only m q h k = ap command_of (read_words m q) ∙ rw (reading_only m q h k) refl
+
 spelled : (c : Command) → HasForm c → command_of (join_with_byte 32 (words_of c)) ≡ Some c
 unfolding command_of rare_command_of
 spelled (command.Open s x) h = opening_only s x h.0 h.1
@@ -553,6 +689,9 @@ spelled (command.Back t) h = rw (terminal t h) refl
 spelled (command.Rollback t) h = rw (terminal t h) refl
 spelled (command.Dump t) h = rw (table_only t) refl
 spelled (command.Audit c m) h = audit_only c m h
+spelled (command.Read m q) h = read_only m q h.0 h.1
+spelled (command.Purge m) h = rw (moment_only m h) refl
+spelled (command.Rewind m) h = rw (moment_only m h) refl
 
 -- a reading is what a line says
 pub read_is_said : (o : Option Command) (s : List ℕ) → o ≡ command_of s → IfSome o (λ c. Says s c)

@@ -11,7 +11,7 @@ use Rattle.std.proofs.lemmas.List.Elements.{All-nil, All-cons, All-head, All-tai
 use Rattle.oe_values.specs.Text.{IsCapital, IsPrintable, IsText, IsLastName}
 use Rattle.oe_values.specs.Front.{after_of, decimal_of}
 use Rattle.oe_values.proofs.FrontFacts.{bind_some, some_same, guarded, both, after_found}
-use Rattle.oe_lines.specs.Words.{number_of, number_then, number_before, is_capital, last_name_of, name_before}
+use Rattle.oe_lines.specs.Words.{number_of, number_then, number_before, last_number, is_capital, last_name_of, name_before}
 
 -- letters
 
@@ -119,5 +119,12 @@ pub name_no_number : (low most : ℕ) (name r : List ℕ) → IsLastName name �
 unfolding number_then number_of decimal_of
 name_no_number low most [] r h = let least = h.at_least in absurd (omega (arith, least))
 name_no_number low most (b ∷ s) r h =
+    let first : IsCapital b = All-head IsCapital b s h.capitals in
+    rw (no_zero b first.0, no_digit b first.0) refl
+
+pub name_no_last : (low most : ℕ) (name : List ℕ) → IsLastName name → last_number low most name ≡ None
+unfolding last_number number_of decimal_of
+name_no_last low most [] h = let least = h.at_least in absurd (omega (arith, least))
+name_no_last low most (b ∷ s) h =
     let first : IsCapital b = All-head IsCapital b s h.capitals in
     rw (no_zero b first.0, no_digit b first.0) refl

@@ -9,6 +9,8 @@ use Rattle.oe_requests.specs.declared.requests.CustomerChoice.TheVariants as cho
 use Rattle.oe_requests.specs.declared.requests.RequestLine.{RequestLine}
 use Rattle.oe_requests.specs.declared.requests.Request.{Request}
 use Rattle.oe_requests.specs.declared.requests.Request.TheVariants as request
+use Rattle.oe_requests.specs.declared.requests.Query.{Query}
+use Rattle.oe_requests.specs.declared.requests.Query.TheVariants as query
 use Rattle.oe_steps.specs.Condition.{condition_number}
 use Rattle.oe_steps.specs.declared.audits.Condition.{Condition}
 use Rattle.oe_steps.specs.declared.audits.Condition.TheVariants as condition
@@ -47,6 +49,13 @@ request_words (request.Delivery q) =
 request_words (request.Deliveries r) = []
 request_words (request.Rename r) = []
 
+-- the words of a query
+abbrev pub query_words : Query → List (List ℕ)
+query_words (query.Status q) =
+    codes "status" ∷ decimal q.district.warehouse ∷ decimal q.district.district ∷ customer_word q.customer ∷ []
+query_words (query.Level q) =
+    codes "level" ∷ decimal q.district.warehouse ∷ decimal q.district.district ∷ decimal q.threshold ∷ []
+
 -- the words of a command
 abbrev pub words_of : Command → List (List ℕ)
 words_of (command.Open s extents) =
@@ -59,6 +68,9 @@ words_of (command.Back terminal) = codes "back" ∷ decimal terminal ∷ []
 words_of (command.Rollback terminal) = codes "rollback" ∷ decimal terminal ∷ []
 words_of (command.Dump table) = codes "dump" ∷ table_name table ∷ []
 words_of (command.Audit c m) = codes "audit" ∷ decimal (condition_number c) ∷ moment_word m ∷ []
+words_of (command.Read m q) = codes "read" ∷ moment_word m ∷ query_words q
+words_of (command.Purge m) = codes "purge" ∷ moment_word m ∷ []
+words_of (command.Rewind m) = codes "rewind" ∷ moment_word m ∷ []
 
 -- payments, orders and deliveries of one district in the model's ranges; other requests have no form yet
 abbrev pub IsRequest : Request → Type 0
@@ -67,6 +79,11 @@ IsRequest (request.NewOrder q) = model.IsNewOrder q
 IsRequest (request.Delivery q) = model.IsDelivery q
 IsRequest (request.Deliveries r) = ⊥
 IsRequest (request.Rename r) = ⊥
+
+-- clauses 2.6.1.2 and 2.8.1.2: a customer by number or by last name, and a threshold of 10 to 20
+abbrev pub IsQuery : Query → Type 0
+IsQuery (query.Status q) = model.IsDistrict q.district × model.IsChoice q.customer
+IsQuery (query.Level q) = model.IsDistrict q.district × IsInRange 10 20 q.threshold
 
 abbrev pub IsMoment : MomentChoice → Type 0
 IsMoment moment.Now = Unit {0}
@@ -83,6 +100,9 @@ HasForm (command.Back terminal) = IsInRange 1 64 terminal
 HasForm (command.Rollback terminal) = IsInRange 1 64 terminal
 HasForm (command.Dump table) = Unit {0}
 HasForm (command.Audit c m) = IsMoment m
+HasForm (command.Read m q) = IsMoment m × IsQuery q
+HasForm (command.Purge m) = IsMoment m
+HasForm (command.Rewind m) = IsMoment m
 
 -- The line, without its end, is the command's words parted by one space.
 pub record Says (line : List ℕ) (c : Command) : Type 0 where

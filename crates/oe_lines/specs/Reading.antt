@@ -12,13 +12,17 @@ use Rattle.oe_requests.specs.declared.requests.NewOrderRequest.{NewOrderRequest}
 use Rattle.oe_requests.specs.declared.requests.DeliveryRequest.{DeliveryRequest}
 use Rattle.oe_requests.specs.declared.requests.Request.{Request}
 use Rattle.oe_requests.specs.declared.requests.Request.TheVariants as request
+use Rattle.oe_requests.specs.declared.requests.StatusQuery.{StatusQuery}
+use Rattle.oe_requests.specs.declared.requests.LevelQuery.{LevelQuery}
+use Rattle.oe_requests.specs.declared.requests.Query.{Query}
+use Rattle.oe_requests.specs.declared.requests.Query.TheVariants as query
 use Rattle.oe_steps.specs.declared.audits.Condition.TheVariants as condition
 use Rattle.oe_lines.specs.declared.commands.Command.{Command}
 use Rattle.oe_lines.specs.declared.commands.Command.TheVariants as command
 use Rattle.oe_lines.specs.declared.commands.MomentChoice.{MomentChoice}
 use Rattle.oe_lines.specs.declared.commands.MomentChoice.TheVariants as moment
 use Rattle.oe_values.specs.Front.{◌>>=◌, after_of, decimal_of, alone}
-use Rattle.oe_lines.specs.Words.{is_word, within, number_of, number_then, number_before, last_number, amount_before, stamp_of, stamp_before, name_before}
+use Rattle.oe_lines.specs.Words.{is_word, within, number_of, number_then, number_before, last_number, amount_before, stamp_of, stamp_before, last_name_of, name_before}
 
 unfoldable pub table_of : List ℕ → Option Table
 table_of s =
@@ -46,6 +50,15 @@ moment_of s =
       n ← alone p.0 p.1
       m ← within 0 999_999_999_999 n
       Some (moment.At m)
+
+-- before a space
+unfoldable pub moment_before : List ℕ → Option (MomentChoice × List ℕ)
+moment_before s =
+    begun (after_of (codes "now ") s) (λ r. Some (moment.Now, r)) (do
+      p ← decimal_of s
+      m ← within 0 999_999_999_999 p.0
+      r ← after_of (codes " ") p.1
+      Some (moment.At m, r))
 
 unfoldable pub audit_of : List ℕ → Option Command
 audit_of s =
@@ -76,6 +89,14 @@ number_or_name None name = option_map (λ n. (choice.LastName n.0, n.1)) name
 
 unfoldable pub customer_of : List ℕ → Option (CustomerChoice × List ℕ)
 customer_of s = number_or_name (number_before 1 3_000 s) (name_before s)
+
+-- the same at the end
+abbrev pub last_number_or_name : Option ℕ → Option (List ℕ) → Option CustomerChoice
+last_number_or_name (Some c) name = Some (choice.Number c)
+last_number_or_name None name = option_map (λ n. choice.LastName n) name
+
+unfoldable pub last_customer_of : List ℕ → Option CustomerChoice
+last_customer_of s = last_number_or_name (last_number 1 3_000 s) (last_name_of s)
 
 unfoldable pub payment_of : List ℕ → Option PaymentRequest
 payment_of s = do
@@ -143,6 +164,30 @@ request_of s =
     (begun (after_of (codes "delivery ") s) (λ r. option_map (λ q. request.Delivery q) (delivery_of r))
     None))
 
+unfoldable pub status_of : List ℕ → Option StatusQuery
+status_of s = do
+  at ← district_of s
+  c ← last_customer_of at.1
+  Some (record { district = at.0; customer = c })
+
+unfoldable pub level_of : List ℕ → Option LevelQuery
+level_of s = do
+  at ← district_of s
+  threshold ← last_number 10 20 at.1
+  Some (record { district = at.0; threshold = threshold })
+
+unfoldable pub query_of : List ℕ → Option Query
+query_of s =
+    begun (after_of (codes "status ") s) (λ r. option_map (λ q. query.Status q) (status_of r))
+    (begun (after_of (codes "level ") s) (λ r. option_map (λ q. query.Level q) (level_of r))
+    None)
+
+unfoldable pub reading_of : List ℕ → Option Command
+reading_of s = do
+  m ← moment_before s
+  q ← query_of m.1
+  Some (command.Read m.0 q)
+
 unfoldable pub beginning_of : List ℕ → Option Command
 beginning_of s = do
   t ← number_before 1 64 s
@@ -161,7 +206,10 @@ rare_command_of line =
     (begun (after_of (codes "open ") line) opening_of
     (begun (after_of (codes "dump ") line) (λ r. option_map (λ t. command.Dump t) (table_of r))
     (begun (after_of (codes "audit ") line) audit_of
-    None)))))
+    (begun (after_of (codes "read ") line) reading_of
+    (begun (after_of (codes "purge ") line) (λ r. option_map (λ m. command.Purge m) (moment_of r))
+    (begun (after_of (codes "rewind ") line) (λ r. option_map (λ m. command.Rewind m) (moment_of r))
+    None))))))))
 
 unfoldable pub command_of : List ℕ → Option Command
 command_of line =

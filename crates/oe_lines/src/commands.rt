@@ -1,7 +1,7 @@
 //! What a line of a script asks for.
 
 use oe_keys::Table;
-use oe_requests::Request;
+use oe_requests::{Query, Request};
 use oe_rows::Scale;
 use oe_steps::Condition;
 use oe_values::{Moment, Number, Terminal};
@@ -23,9 +23,9 @@ pub enum Command {
     Open(Scale, ExtentCount),
     /// The terminal begins a transaction.
     Begin(Terminal, Request),
-    /// The terminal's transaction advances by one step.
+    /// The terminal's transaction advances by one stage.
     Next(Terminal),
-    /// The terminal's transaction advances until it is answered something else than that a step is left.
+    /// The terminal's transaction advances until it is answered something else than that a stage is left.
     Run(Terminal),
     /// The terminal's transaction moves its mark here.
     Save(Terminal),
@@ -37,4 +37,10 @@ pub enum Command {
     Dump(Table),
     /// Audits a consistency condition.
     Audit(Condition, MomentChoice),
+    /// Answers a query.
+    Read(MomentChoice, Query),
+    /// Lets go of what is older than the moment.
+    Purge(MomentChoice),
+    /// Takes the tables back to the moment.
+    Rewind(MomentChoice),
 }

@@ -3,17 +3,17 @@ ghost use Rattle.std.specs.Prelude.{◌≡◌, IfSome, Some};
 ghost use Rattle.std.specs.Option.{option_map};
 ghost use Rattle.oe_lines.specs.declared.commands.Command.{Command};
 ghost use Rattle.oe_lines.specs.Grammar.{Says};
-ghost use Rattle.oe_lines.specs.Reading.{command_of, rare_command_of, opening_of, beginning_of, request_of, district_of, customer_of, payment_of, new_order_of, delivery_of, line_of, lines_of, table_of, moment_of, audit_of};
+ghost use Rattle.oe_lines.specs.Reading.{command_of, rare_command_of, opening_of, beginning_of, request_of, district_of, customer_of, payment_of, new_order_of, delivery_of, line_of, lines_of, table_of, moment_of, moment_before, audit_of, last_customer_of, status_of, level_of, query_of, reading_of};
 
 use crate::commands::{Command, MomentChoice};
 use crate::words::{
-    amount_before, is_word, last_number, name_before, number, number_before, number_then, stamp,
-    stamp_before,
+    amount_before, is_word, last_name, last_number, name_before, number, number_before,
+    number_then, stamp, stamp_before,
 };
 use oe_keys::{DistrictKey, Table};
 use oe_requests::{
-    CustomerChoice, DeliveryRequest, NewOrderRequest, PaymentRequest, Request, RequestLine,
-    RequestLines,
+    CustomerChoice, DeliveryRequest, LevelQuery, NewOrderRequest, PaymentRequest, Query, Request,
+    RequestLine, RequestLines, StatusQuery,
 };
 use oe_rows::Scale;
 use oe_steps::Condition;
@@ -65,6 +65,12 @@ fn rare_command(line: &[u8]) -> Option<Command>
         Some(Command::Dump(table(rest)?))
     } else if let Some(rest) = after(line, b"audit ") {
         audit(rest)
+    } else if let Some(rest) = after(line, b"read ") {
+        reading(rest)
+    } else if let Some(rest) = after(line, b"purge ") {
+        Some(Command::Purge(moment(rest)?))
+    } else if let Some(rest) = after(line, b"rewind ") {
+        Some(Command::Rewind(moment(rest)?))
     } else {
         None
     }
@@ -329,4 +335,85 @@ fn moment(text: &[u8]) -> Option<MomentChoice>
         return None;
     }
     Some(MomentChoice::At(Moment::new(commits)?))
+}
+
+/// The same before a space, and what follows the space.
+#[tactic(auto, unfolding(crate::specs::Reading::moment_before))]
+fn moment_before(text: &[u8]) -> Option<(MomentChoice, &[u8])>
+    ensures { option_map (λ p. (p.0, p.1.now)) result ≡ moment_before text.now }
+{
+    if let Some(rest) = after(text, b"now ") {
+        return Some((MomentChoice::Now, rest));
+    }
+    let (commits, rest) = decimal(text)?;
+    let moment = Moment::new(commits)?;
+    Some((MomentChoice::At(moment), after(rest, b" ")?))
+}
+
+/// `M`, and the query.
+#[tactic(auto, unfolding(crate::specs::Reading::reading_of))]
+fn reading(text: &[u8]) -> Option<Command>
+    ensures { result ≡ reading_of text.now }
+{
+    let Some((moment, rest)) = moment_before(text) else {
+        return None;
+    };
+    let query = query(rest)?;
+    Some(Command::Read(moment, query))
+}
+
+/// `status ..` or `level ..`.
+#[inline]
+#[tactic(auto, unfolding(crate::specs::Reading::query_of))]
+fn query(text: &[u8]) -> Option<Query>
+    ensures { result ≡ query_of text.now }
+{
+    if let Some(rest) = after(text, b"status ") {
+        return Some(Query::Status(status(rest)?));
+    }
+    if let Some(rest) = after(text, b"level ") {
+        return Some(Query::Level(level(rest)?));
+    }
+    None
+}
+
+/// `w d customer`.
+#[tactic(auto, unfolding(crate::specs::Reading::status_of))]
+fn status(text: &[u8]) -> Option<StatusQuery>
+    ensures { result ≡ status_of text.now }
+{
+    let Some((district, rest)) = district(text) else {
+        return None;
+    };
+    let customer = last_customer(rest)?;
+    Some(StatusQuery { district, customer })
+}
+
+/// A customer by number or by last name at the line's end.
+#[tactic(auto, unfolding(crate::specs::Reading::last_customer_of))]
+fn last_customer(text: &[u8]) -> Option<CustomerChoice>
+    ensures { result ≡ last_customer_of text.now }
+{
+    if let Some(number) = last_number(text) {
+        return Some(CustomerChoice::Number(number));
+    }
+    let Some(name) = last_name(text) else {
+        return None;
+    };
+    Some(CustomerChoice::LastName(name))
+}
+
+/// `w d threshold`.
+#[tactic(auto, unfolding(crate::specs::Reading::level_of))]
+fn level(text: &[u8]) -> Option<LevelQuery>
+    ensures { result ≡ level_of text.now }
+{
+    let Some((district, rest)) = district(text) else {
+        return None;
+    };
+    let threshold = last_number(rest)?;
+    Some(LevelQuery {
+        district,
+        threshold,
+    })
 }

@@ -110,7 +110,7 @@ pub(crate) fn stamp_before(text: &[u8]) -> Option<(Stamp, &[u8])>
 }
 
 /// A last name of 1 to 16 letters from A to Z.
-fn last_name(text: &[u8]) -> Option<LastName>
+pub(crate) fn last_name(text: &[u8]) -> Option<LastName>
     ensures { result ≡ last_name_of text.now }
 {
     let Some(word) = Text::<1, 16>::read_bytes(text) else {

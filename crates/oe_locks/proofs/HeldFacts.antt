@@ -2,7 +2,7 @@
 use Rattle.std.proofs.Common.{◌≡◌, ◌≢◌, ℕ, suc, ◌+◌, ◌<◌, ◌==◌, inl, inr, Bool, true, false, not, ◌||◌, cond, if◌then◌else◌, List, [], ◌∷◌, ◌++◌, map, length, get_or, set, Option, None, Some, IsSome, is_some, refl, sym, ap, ◌∙◌, subst, arith, add-one}
 use Rattle.std.proofs.lemmas.Bool.{cases_eq, cond-true, cond-false, eq-eqb, ne_eqb, false≢true}
 use Rattle.std.proofs.lemmas.List.{length-map, map-set, get_or-map, get_or-set_same, get_or-set_other}
-use Rattle.std.specs.Prelude.{MatchOption, OnOk, OnErr, IfOk, IfNone, IfSome}
+use Rattle.std.specs.Prelude.{MatchOption, OnOk, OnErr, IfOk, IfNone}
 use Rattle.std.specs.declared.result.Result.{Result}
 use Rattle.std.specs.declared.result.Result.TheVariants.{Ok, Err}
 use Rattle.std.specs.List.{filter}
@@ -93,22 +93,6 @@ given-absent locks t n none q = go (is_name q n) refl
     go true e = ap (held locks t) (name_true q n e) ∙ held-is locks n None none t
     go false e = refl
 
--- a terminal has left the name's holders, if anybody held it
-pub departed : (old new : Holdings) (t : ℕ) (n : Name) (o : Option Holders)
-    → IfSome (lookup (ghosts.eq n) old) (λ h. (u : ℕ) → mode_by o u ≡ (if u == t then None else mode_among h u))
-    → (IsSome (lookup (ghosts.eq n) old) → (q : Name) → lookup (ghosts.eq q) new ≡ cond (ghosts.eq n q) o (lookup (ghosts.eq q) old))
-    → (lookup (ghosts.eq n) old ≡ None → new ≡ old) → GivesBack old new t n None × OthersKeep old new t
-departed old new t n o left changes absent = go (lookup (ghosts.eq n) old) refl left changes absent
-  where
-    go : (before : Option Holders) → lookup (ghosts.eq n) old ≡ before → IfSome before (λ h. (u : ℕ) → mode_by o u ≡ (if u == t then None else mode_among h u))
-        → (IsSome before → (q : Name) → lookup (ghosts.eq q) new ≡ cond (ghosts.eq n q) o (lookup (ghosts.eq q) old))
-        → (before ≡ None → new ≡ old) → GivesBack old new t n None × OthersKeep old new t
-    go None e l c a = (
-      subst (λ z. GivesBack old z t n None) (sym (a refl)) (given-absent old t n e),
-      λ u ne q. ap (λ z. held z u q) (a refl),
-    )
-    go (Some h) e l c a = (left-own old new t n h o l (c refl), left-others old new t n h o l (c refl) e)
-
 -- what a terminal does not hold stays so where a name that it holds changes its mode
 pub none-changed : (old new : Holdings) (t : ℕ) (n : Name) (o : Option Mode) → GivesBack old new t n o → IsSome (held old t n) → (q : Name) → held old t q ≡ None → held new t q ≡ None
 none-changed old new t n o own some q e = own q ∙ go (is_name q n) refl
@@ -181,7 +165,7 @@ stands-filter (x ∷ xs) n q e = go (is_name x n) refl (stands-filter xs n q e)
     go true s ih = ih ∙ sym (ap (λ z. z || stands xs q) (ap (is_name q) (name_true x n s) ∙ e))
 
 -- the lists of all terminals
-module _ (xs : List (Vec Name)) (i t : ℕ) (v : Vec Name) (place : i + 1 ≡ t) (within : i < length xs) where
+module _ (xs : List (Vec Name)) (i t : ℕ) (v : Vec Name) (slot : i + 1 ≡ t) (within : i < length xs) where
   abbrev names : List (Vec Name) → List (List Name)
   names ys = map (λ w. w.items) ys
 
@@ -189,7 +173,7 @@ module _ (xs : List (Vec Name)) (i t : ℕ) (v : Vec Name) (place : i + 1 ≡ t)
   pub listed-at : (locks : Holdings) → v ≡ get_or xs i v → AreListed locks xs → IsListed locks t v.items
   listed-at locks is all q h =
       let here : get_or (names xs) i [] ≡ v.items = get_or-map (λ w. w.items) xs i v [] within ∙ ap (λ w. w.items) (sym is) in
-      ap (λ u. held locks u q) (sym place ∙ add-one i) ∙ all i q (ap (λ l. stands l q) here ∙ h)
+      ap (λ u. held locks u q) (sym slot ∙ add-one i) ∙ all i q (ap (λ l. stands l q) here ∙ h)
 
   -- one terminal's list and names have changed
   pub listed-set : (old new : Holdings) → AreListed old xs → OthersKeep old new t → IsListed new t v.items → AreListed new (set xs i v)

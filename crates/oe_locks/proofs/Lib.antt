@@ -1,4 +1,5 @@
 pub mod HeldFacts
 pub mod HolderFacts
+pub mod MapFacts
 pub mod NameFacts
 pub mod SetFacts

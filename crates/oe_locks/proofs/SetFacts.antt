@@ -6,12 +6,12 @@ use Rattle.std.proofs.lemmas.Bool.{cases_eq, cases_lt, cond-true, cond-false, eq
 use Rattle.std.proofs.lemmas.Nat.Bits.{shr_and_one, bit_at_and, bit_at_set_same, bit_at_set_other, bit_at_clear_same, bit_at_clear_other, bit_at_above, bit_at-trailing_zeros, bit_at-zero}
 use Rattle.oe_locks.specs.Holders.{has, IsLeast}
 
--- the place of the terminal t is k
-module _ (n k t : ℕ) (within : k < 64) (place : k + 1 ≡ t) where
+-- the slot of the terminal t is k
+module _ (n k t : ℕ) (within : k < 64) (slot : k + 1 ≡ t) where
   pub has-at : (bit_and (n / 2 ^ k) 1 == 1) ≡ has n t
   has-at = let at : suc k ≡ t = omega arith in ap (λ z. z == 1) (shr_and_one n k) ∙ ap (has n) at
 
-  -- a bit at t's place, and at another's
+  -- a bit at t's slot, and at another's
   here : (m : ℕ) (i : ℕ) (b : Bool) → i ≡ k → (bit_at m k == 1) ≡ b → has m (suc i) ≡ (if suc i == t then b else has n (suc i))
   here m i b s e =
       ap (λ z. bit_at m z == 1) s ∙ e ∙ sym (cond-true (suc i == t) b (has n (suc i)) (eq-eqb (suc i) t (omega arith)))

@@ -1,3 +1,4 @@
 pub mod Held
 pub mod Holders
 pub mod Listed
+pub mod Names

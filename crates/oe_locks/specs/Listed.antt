@@ -1,11 +1,10 @@
 -- The names that each terminal holds stand on its list.
-use Rattle.std.specs.Prelude.{◌≡◌, ℕ, suc, Bool, false, None, Some, List, [], ◌∷◌, ◌++◌, ◌||◌, cond, get_or, map}
-use Rattle.std.specs.HashMap.{HashMap, get}
+use Rattle.std.specs.Prelude.{◌≡◌, ℕ, suc, Bool, false, None, Some, List, [], ◌∷◌, ◌++◌, ◌||◌, get_or, map}
 use Rattle.std.specs.Global.{Vec}
 use Rattle.oe_keys.specs.declared.locks.Name.{Name}
-use Rattle.oe_keys.specs.contracts.locks.NamePartialEq.TheImpl.{ghosts}
 use Rattle.oe_locks.specs.declared.holders.Holders.{Holders}
 use Rattle.oe_locks.specs.Held.{Holdings, held, is_name}
+use Rattle.oe_locks.specs.Names.{Changes}
 
 -- the name stands on the list
 abbrev pub stands : List Name → Name → Bool
@@ -21,5 +20,5 @@ abbrev pub AreListed : Holdings → List (Vec Name) → Type 0
 AreListed locks lists = (i : ℕ) → IsListed locks (suc i) (get_or (map (λ v. v.items) lists) i [])
 
 -- a name has come into the map with those holders, and at the end of a list
-abbrev pub Enters : {S : Type 0} → HashMap Name Holders S → HashMap Name Holders S → List Name → List Name → Name → Holders → Type 0
-Enters old new before after n h = ((q : Name) → get ghosts.eq new q ≡ cond (ghosts.eq n q) (Some h) (get ghosts.eq old q)) × (after ≡ before ++ n ∷ [])
+abbrev pub Enters : Holdings → Holdings → List Name → List Name → Name → Holders → Type 0
+Enters old new before after n h = Changes old new n (Some h) × (after ≡ before ++ n ∷ [])

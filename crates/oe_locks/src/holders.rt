@@ -17,7 +17,8 @@ pub enum Holders {
 impl Holders {
     /// One terminal, in that mode.
     pub fn one(terminal: Terminal, mode: Mode) -> Holders
-        ensures { (u : ℕ) → mode_among result u ≡ (if u == terminal then Some mode else None) }
+        ensures { (u : ℕ) → mode_among result u
+            ≡ (if u == terminal then Some mode else None) }
     {
         match mode {
             Mode::Shared => Holders::Together(TerminalSet::empty().with(terminal)),
@@ -38,7 +39,9 @@ impl Holders {
 
     /// The least other terminal that holds the name in a mode that conflicts.
     pub fn in_the_way(&self, terminal: Terminal, mode: Mode) -> Option<Terminal>
-        ensures { MatchOption result (IsFree (mode_among self.now) terminal mode) (IsFirstInTheWay (mode_among self.now) terminal mode) }
+        ensures { MatchOption result
+            (IsFree (mode_among self.now) terminal mode)
+            (IsFirstInTheWay (mode_among self.now) terminal mode) }
     {
         match (self, mode) {
             (Holders::Alone(holder), _) if *holder != terminal => Some(*holder),
@@ -51,7 +54,9 @@ impl Holders {
     /// the way.
     pub fn risen(&self, terminal: Terminal, mode: Mode) -> Holders
         requires { IsFree (mode_among self.now) terminal mode }
-        ensures { (u : ℕ) → mode_among result u ≡ (if u == terminal then Some (risen mode (mode_among self.now u)) else mode_among self.now u) }
+        ensures { (u : ℕ) → mode_among result u
+            ≡ (if u == terminal then Some (risen mode (mode_among self.now u))
+            else mode_among self.now u) }
     {
         match mode {
             Mode::Exclusive => Holders::Alone(terminal),
@@ -64,8 +69,10 @@ impl Holders {
 
     /// The holders once the terminal has let go of the name, if any are left.
     pub fn without(&self, terminal: Terminal) -> Option<Holders>
-        ensures rest { (u : ℕ) → mode_by result u ≡ (if u == terminal then None else mode_among self.now u) }
-        ensures last { ((u : ℕ) → u ≢ terminal → mode_among self.now u ≡ None) → result ≡ None }
+        ensures rest { (u : ℕ) → mode_by result u
+            ≡ (if u == terminal then None else mode_among self.now u) }
+        ensures last { ((u : ℕ) → u ≢ terminal → mode_among self.now u ≡ None)
+            → result ≡ None }
     {
         match self {
             Holders::Alone(holder) if *holder == terminal => None,

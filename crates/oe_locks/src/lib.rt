@@ -6,26 +6,26 @@
 //! only for a name that a terminal does not hold yet.
 #![tactic(auto)]
 
-ghost use Rattle.std.specs.Prelude.{◌≡◌, ◌≢◌, ◌==◌, ◌+◌, ◌<◌, [], ◌++◌, ◌∷◌, ℕ, not, MatchOption, OnOk, OnErr, IfOk, IfErr, IfNone, IfSome, IsSome, Some, None, if◌then◌else◌};
+ghost use Rattle.std.specs.Prelude.{◌≡◌, ◌≢◌, ◌+◌, ◌<◌, [], ◌++◌, ◌∷◌, ℕ, not, MatchOption, OnOk, OnErr, IfOk, IfErr, IfNone, IsSome, Some, None};
 ghost use Rattle.std.specs.List.{filter};
-ghost use Rattle.std.specs.HashMap.{get};
-ghost use Rattle.oe_keys.specs.declared.locks.Name.{Name as LockName};
+ghost use Rattle.std.specs.Map.{lookup};
 ghost use Rattle.oe_keys.specs.contracts.locks.NamePartialEq.TheImpl.{ghosts};
 ghost use Rattle.oe_requests.specs.declared.refusals.Refusal.TheVariants.{NoMemory};
 ghost use Rattle.oe_locks.specs.Held.{held, is_name, IsIdle, IsFreeFor, IsInTheWay, Takes, GivesBack, HoldsNothing, OthersKeep, IsCause, IsBelow};
 ghost use Rattle.oe_locks.specs.Holders.{mode_among, mode_by};
 ghost use Rattle.oe_locks.specs.Listed.{IsListed, Enters};
+ghost use Rattle.oe_locks.specs.Names.{Changes};
 
 mod holders;
+mod name_map;
 mod sets;
 
 use holders::Holders;
+use name_map::NameMap;
 use oe_keys::{Mode, Name};
 use oe_requests::Refusal;
 use oe_values::Terminal;
 use std::alloc::{AllocError, Global};
-use std::collections::HashMap;
-use std::collections::hash_map::Entry;
 use std::marker::Model;
 
 /// How many terminals there are.
@@ -34,8 +34,8 @@ const TERMINALS: u32 = 64;
 /// Which terminals hold which names, each in a mode: shared or exclusive.
 #[derive(Debug, Drop)]
 pub struct Locks {
-    // Who holds each name that is held. At most 64 transactions' names are keys, so nobody can make many of them collide.
-    holders: HashMap<Name, Holders>,
+    // Who holds each name that is held.
+    holders: NameMap,
     // Lists on which all names stand that a terminal holds, from the first terminal on.
     names: Vec<Vec<Name>>,
 }
@@ -47,64 +47,47 @@ impl Model for Locks {
 
     ghost Value = { Holdings };
 
-    ghost view = { λ s. s.holders.entries };
+    ghost view = { λ s. s.holders };
 
-    ghost invariant = { λ s. (vec_len s.names ≡ 64) × AreListed s.holders.entries s.names.items };
+    ghost invariant = { λ s. (vec_len s.names ≡ 64) × AreListed s.holders s.names.items };
 }
 
 // Where the terminal's names are.
-fn place(terminal: Terminal) -> usize
+fn slot(terminal: Terminal) -> usize
     ensures value { result + 1 ≡ terminal }
     ensures within { result < 64 }
 {
     terminal.get() as usize - 1
 }
 
-// Puts other holders in the place of a name's.
-fn replace(holders: &mut HashMap<Name, Holders>, name: &Name, after: Holders)
-    requires { IsSome (get ghosts.eq holders.old name.now) }
-    ensures { (q : LockName) → get ghosts.eq holders.new q ≡ (if ghosts.eq name.now q then Some after else get ghosts.eq holders.old q) }
+// The terminal is no longer among those who hold the name. A name that nobody holds is no longer kept.
+fn depart(holders: &mut NameMap, name: &Name, before: &Holders, terminal: Terminal)
+    requires { lookup (ghosts.eq name.now) holders.old ≡ Some before.now }
+    ensures own { GivesBack holders.old holders.new terminal name.now None }
+    ensures others { OthersKeep holders.old holders.new terminal }
 {
-    if let Some(before) = holders.get_mut(name) {
-        *before = after;
+    match before.without(terminal) {
+        Some(rest) => holders.replace(name, &rest),
+        None => holders.remove(name),
     }
 }
 
-// The terminal is no longer among the holders of the name. A name that nobody holds leaves the map. It is looked up once.
-fn depart(holders: &mut HashMap<Name, Holders>, name: &Name, terminal: Terminal)
-    ensures left { IfSome (get ghosts.eq holders.old name.now) (λ before. (u : ℕ) → mode_by (get ghosts.eq holders.new name.now) u ≡ (if u == terminal then None else mode_among before u)) }
-    ensures map { IsSome (get ghosts.eq holders.old name.now) → (q : LockName) → get ghosts.eq holders.new q ≡ (if ghosts.eq name.now q then get ghosts.eq holders.new name.now else get ghosts.eq holders.old q) }
-    ensures absent { get ghosts.eq holders.old name.now ≡ None → holders.new.entries ≡ holders.old.entries }
+// The same, where perhaps nobody holds it.
+fn leave(holders: &mut NameMap, name: &Name, terminal: Terminal)
+    ensures own { GivesBack holders.old holders.new terminal name.now None }
+    ensures others { OthersKeep holders.old holders.new terminal }
 {
-    let Ok(found) = holders.entry(*name) else {
-        return;
-    };
-    let Entry::Occupied(held) = found else {
-        return;
-    };
-    match held.get().without(terminal) {
-        Some(rest) => {
-            *held.into_mut() = rest;
-        }
-        None => {
-            held.remove();
-        }
+    match holders.get(name) {
+        Some(before) => depart(holders, name, &before, terminal),
+        None => (),
     }
-}
-
-// The same, in the words of what is held.
-fn leave(holders: &mut HashMap<Name, Holders>, name: &Name, terminal: Terminal)
-    ensures own { GivesBack holders.old.entries holders.new.entries terminal name.now None }
-    ensures others { OthersKeep holders.old.entries holders.new.entries terminal }
-{
-    depart(holders, name, terminal);
 }
 
 // The same with each name of the terminal's list, from the last one on. The list keeps its room.
-fn leave_all(holders: &mut HashMap<Name, Holders>, names: &mut Vec<Name>, terminal: Terminal)
-    requires { IsListed holders.old.entries terminal names.old.items }
-    ensures own { HoldsNothing holders.new.entries terminal }
-    ensures others { OthersKeep holders.old.entries holders.new.entries terminal }
+fn leave_all(holders: &mut NameMap, names: &mut Vec<Name>, terminal: Terminal)
+    requires { IsListed holders.old terminal names.old.items }
+    ensures own { HoldsNothing holders.new terminal }
+    ensures others { OthersKeep holders.old holders.new terminal }
     ensures names { names.new.items ≡ [] }
 {
     while let Some(name) = names.pop() {
@@ -115,49 +98,51 @@ fn leave_all(holders: &mut HashMap<Name, Holders>, names: &mut Vec<Name>, termin
 // Puts a name that nobody holds into the map, with its first holders, and on their terminal's list. A name that somebody holds
 // stays as it is, and its holders are answered.
 fn enter(
-    holders: &mut HashMap<Name, Holders>,
+    holders: &mut NameMap,
     names: &mut Vec<Name>,
     name: &Name,
     first: Holders,
 ) -> Result<Option<Holders>, Refusal>
-    ensures before { IfOk result (λ before. before ≡ get ghosts.eq holders.old name.now) }
-    ensures entered { IfOk result (λ before. IfNone before (Enters holders.old holders.new names.old.items names.new.items name.now first)) }
-    ensures held { IfOk result (λ before. IsSome before → (holders.new.entries ≡ holders.old.entries) × (names.new.items ≡ names.old.items)) }
+    ensures before { IfOk result (λ before. before ≡ lookup (ghosts.eq name.now) holders.old) }
+    ensures entered { IfOk result (λ before. IfNone before
+        (Enters holders.old holders.new names.old.items names.new.items name.now first)) }
+    ensures held { IfOk result (λ before. IsSome before →
+        (holders.new ≡ holders.old) × (names.new.items ≡ names.old.items)) }
     ensures cause { IfErr result (λ e. e ≡ NoMemory) }
-    ensures absent { OnErr result (get ghosts.eq holders.old name.now ≡ None) }
-    ensures err { OnErr result ((holders.new.entries ≡ holders.old.entries) × (names.new.items ≡ names.old.items)) }
+    ensures absent { OnErr result (lookup (ghosts.eq name.now) holders.old ≡ None) }
+    ensures err { OnErr result
+        ((holders.new ≡ holders.old) × (names.new.items ≡ names.old.items)) }
 {
-    let Ok(entry) = holders.entry(*name) else {
+    if let Some(held) = holders.get(name) {
+        return Ok(Some(held));
+    }
+    let Ok(_) = names.push(*name) else {
         return Err(Refusal::NoMemory);
     };
-    match entry {
-        Entry::Occupied(held) => Ok(Some(*held.get())),
-        Entry::Vacant(room) => {
-            let Ok(_) = names.push(*name) else {
-                return Err(Refusal::NoMemory);
-            };
-            room.insert(first);
-            Ok(None)
-        }
-    }
+    let Ok(_) = holders.insert(name, &first) else {
+        names.pop();
+        return Err(Refusal::NoMemory);
+    };
+    Ok(None)
 }
 
 // Gives a name the holders that it has once the list's terminal has joined them, and puts it on that list.
 fn join(
-    holders: &mut HashMap<Name, Holders>,
+    holders: &mut NameMap,
     names: &mut Vec<Name>,
     name: &Name,
     after: Holders,
 ) -> Result<(), Refusal>
-    ensures map { OnOk result ((q : LockName) → get ghosts.eq holders.new q ≡ (if ghosts.eq name.now q then Some after else get ghosts.eq holders.old q)) }
+    ensures map { OnOk result (Changes holders.old holders.new name.now (Some after)) }
     ensures list { OnOk result (names.new.items ≡ names.old.items ++ name.now ∷ []) }
     ensures cause { IfErr result (λ e. e ≡ NoMemory) }
-    ensures err { OnErr result ((holders.new.entries ≡ holders.old.entries) × (names.new.items ≡ names.old.items)) }
+    ensures err { OnErr result
+        ((holders.new ≡ holders.old) × (names.new.items ≡ names.old.items)) }
 {
     let Ok(_) = names.push(*name) else {
         return Err(Refusal::NoMemory);
     };
-    let Ok(_) = holders.insert(*name, after) else {
+    let Ok(_) = holders.set(name, &after) else {
         names.pop();
         return Err(Refusal::NoMemory);
     };
@@ -181,7 +166,7 @@ impl Locks {
             names.push(Vec::new(alloc))?;
         }
         Ok(Locks {
-            holders: HashMap::new(alloc),
+            holders: NameMap::new(alloc),
             names,
         })
     }
@@ -195,7 +180,9 @@ impl Locks {
 
     /// The least other terminal that holds the name in a mode that conflicts. Takes no memory.
     pub fn in_the_way(&self, name: &Name, terminal: Terminal, mode: Mode) -> Option<Terminal>
-        ensures { MatchOption result (IsFreeFor self.now terminal name.now mode) (IsInTheWay self.now terminal name.now mode) }
+        ensures { MatchOption result
+            (IsFreeFor self.now terminal name.now mode)
+            (IsInTheWay self.now terminal name.now mode) }
     {
         self.holders.get(name)?.in_the_way(terminal, mode)
     }
@@ -203,22 +190,25 @@ impl Locks {
     // Gives a name that the terminal holds the holders that it has once the terminal's mode has changed.
     fn change(&mut self, name: &Name, terminal: Terminal, after: Holders)
         requires held { IsSome (held self.old terminal name.now) }
-        requires others { (u : ℕ) → u ≢ terminal → mode_among after u ≡ held self.old u name.now }
+        requires others { (u : ℕ) → u ≢ terminal
+            → mode_among after u ≡ held self.old u name.now }
         ensures own { GivesBack self.old self.new terminal name.now (mode_among after terminal) }
         ensures others { OthersKeep self.old self.new terminal }
     {
-        replace(&mut self.holders, name, after);
+        self.holders.replace(name, &after);
     }
 
     // Gives a name the holders that it has once the terminal has joined them.
     fn take(&mut self, name: &Name, terminal: Terminal, after: Holders) -> Result<(), Refusal>
-        requires { (u : ℕ) → u ≢ terminal → mode_among after u ≡ held self.old u name.now }
-        ensures own { OnOk result (GivesBack self.old self.new terminal name.now (mode_among after terminal)) }
+        requires { (u : ℕ) → u ≢ terminal
+            → mode_among after u ≡ held self.old u name.now }
+        ensures own { OnOk result
+            (GivesBack self.old self.new terminal name.now (mode_among after terminal)) }
         ensures others { OnOk result (OthersKeep self.old self.new terminal) }
         ensures cause { IfErr result (λ e. e ≡ NoMemory) }
         ensures err { OnErr result (self.new ≡ self.old) }
     {
-        let names = &mut self.names[place(terminal)];
+        let names = &mut self.names[slot(terminal)];
         join(&mut self.holders, names, name, after)
     }
 
@@ -229,15 +219,18 @@ impl Locks {
         terminal: Terminal,
         mode: Mode,
     ) -> Result<Option<Holders>, Refusal>
-        ensures before { IfOk result (λ before. (u : ℕ) → held self.old u name.now ≡ mode_by before u) }
-        ensures own { IfOk result (λ before. IfNone before (GivesBack self.old self.new terminal name.now (Some mode))) }
-        ensures others { IfOk result (λ before. IfNone before (OthersKeep self.old self.new terminal)) }
+        ensures before { IfOk result (λ before.
+            (u : ℕ) → held self.old u name.now ≡ mode_by before u) }
+        ensures own { IfOk result (λ before. IfNone before
+            (GivesBack self.old self.new terminal name.now (Some mode))) }
+        ensures others { IfOk result (λ before. IfNone before
+            (OthersKeep self.old self.new terminal)) }
         ensures held { IfOk result (λ before. IsSome before → self.new ≡ self.old) }
         ensures cause { IfErr result (λ e. e ≡ NoMemory) }
         ensures absent { OnErr result ((u : ℕ) → held self.old u name.now ≡ None) }
         ensures err { OnErr result (self.new ≡ self.old) }
     {
-        let names = &mut self.names[place(terminal)];
+        let names = &mut self.names[slot(terminal)];
         enter(&mut self.holders, names, name, Holders::one(terminal, mode))
     }
 
@@ -311,7 +304,7 @@ impl Locks {
             Some(mode) => self.change(&name, terminal, Holders::one(terminal, mode)),
             None => {
                 leave(&mut self.holders, &name, terminal);
-                strike(&mut self.names[place(terminal)], &name);
+                strike(&mut self.names[slot(terminal)], &name);
             }
         }
     }
@@ -322,7 +315,7 @@ impl Locks {
         ensures own { HoldsNothing self.new terminal }
         ensures others { OthersKeep self.old self.new terminal }
     {
-        let names = &mut self.names[place(terminal)];
+        let names = &mut self.names[slot(terminal)];
         leave_all(&mut self.holders, names, terminal);
     }
 }

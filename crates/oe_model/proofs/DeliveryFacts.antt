@@ -26,7 +26,7 @@ use Rattle.oe_model.specs.Keys.{order_of_line, supply_of_line, customer_in, orde
 use Rattle.oe_model.specs.Rows.{Rows}
 use Rattle.oe_model.specs.Maps.{each}
 use Rattle.oe_model.specs.Changes.{DeleteNewOrder, UpdateOrder, UpdateOrderLine, UpdateCustomer}
-use Rattle.oe_model.specs.Places.{Place, InDelivery, DeliveryQueue, DeliveryNothing, DeliveryOrder, DeliveryLine, DeliveryEnd}
+use Rattle.oe_model.specs.Positions.{Position, InDelivery, DeliveryQueue, DeliveryNothing, DeliveryOrder, DeliveryLine, DeliveryEnd}
 use Rattle.oe_model.specs.Effects.{◌>>=◌, in_range, Doing, given}
 use Rattle.oe_model.specs.Payment.{is_balance, is_count}
 use Rattle.oe_model.specs.Delivery.{oldest, lines_of, worth, dated, carried, delivered_to, delivered_out, delivered_reply, delivery_of, delivery_effect}
@@ -69,13 +69,13 @@ module _ (x : Tx Request) (q : DeliveryRequest) (o c : ℕ) (r : Rows) (queue : 
       subst (λ (n : ℕ). EndsSo DeliveryMayRefuse x (InDelivery q (DeliveryLine o c [] n)) (dated_tables marked) end) (let z : sum + 0 ≡ sum = omega arith in z) rest
   lines_dated (e ∷ es) marked sum h rest =
       let j : OrderLineKey = line_in k e.0.number in
-      let p : Place = InDelivery q (DeliveryLine o c (e.0.number ∷ map (λ e. e.0.number) es) sum) in
+      let p : Position = InDelivery q (DeliveryLine o c (e.0.number ∷ map (λ e. e.0.number) es) sum) in
       let own : j ≡ e.0 = ap (λ (i : OrderKey). line_in i e.0.number) (sym (is_same order_total exact_order (order_of_line e.0) k h.0.0)) in
       let here : get r.order_lines j ≡ Some e.1 = ap (get r.order_lines) own ∙ h.0.1 in
       let m : Rows = dated_tables marked in
       let y : OrderLine = date_marked q.stamp marked j e.1 in
       let found : get m.order_lines j ≡ Some y = get-each order_line_cmp (date_marked q.stamp marked) exact_order_line r.order_lines j ∙ ap (option_map (date_marked q.stamp marked j)) here in
-      let next : ℕ → Place = λ n. InDelivery q (DeliveryLine o c (map (λ e. e.0.number) es) n) in
+      let next : ℕ → Position = λ n. InDelivery q (DeliveryLine o c (map (λ e. e.0.number) es) n) in
       let m' : Rows = record m { order_lines = insert m.order_lines j (dated q.stamp y) } in
       goes_here p m (Some (UpdateOrderLine j (dated q.stamp y))) (next (sum + y.amount)) end tt
       (ap (λ (v : Option OrderLine). given (NoSuchRow (key.OrderLine j)) v (λ x. Go (Some (UpdateOrderLine j (dated q.stamp x))) (next (sum + x.amount)))) found)
@@ -93,7 +93,7 @@ pub delivery_ends : (x : Tx Request) (q : DeliveryRequest) (r : Rows)
     → EndsSo DeliveryMayRefuse x (InDelivery q DeliveryQueue) r (delivery_effect q r)
 delivery_ends x q r waiting customer_there supplied = by_oldest (oldest q.district r.new_orders) refl
   where
-    p0 : Place
+    p0 : Position
     p0 = InDelivery q DeliveryQueue
 
     first : Option ℕ → Doing
@@ -104,7 +104,7 @@ delivery_ends x q r waiting customer_there supplied = by_oldest (oldest q.distri
         goes_here p0 r None (InDelivery q DeliveryNothing) _ tt (ap first e) tt (ends_here (InDelivery q DeliveryNothing) r (reply.Delivery Skipped) tt refl)
     by_oldest (Some o) e =
         let k : OrderKey = order_in q.district o in
-        let p1 : Place = InDelivery q (DeliveryOrder o) in
+        let p1 : Position = InDelivery q (DeliveryOrder o) in
         let queue : FinMap new_order_cmp NewOrder = remove r.new_orders (new_order_in q.district o) in
         let r1 : Rows = record r { new_orders = queue } in
         goes_here p0 r (Some (DeleteNewOrder (new_order_in q.district o))) p1 _ tt (ap first e) (waiting o e).0 (
@@ -113,13 +113,13 @@ delivery_ends x q r waiting customer_there supplied = by_oldest (oldest q.distri
         let c : ℕ = order.customer in
         let es : List (OrderLineKey × OrderLine) = lines_of k r.order_lines in
         let sum : ℕ = worth es in
-        let p2 : Place = InDelivery q (DeliveryLine o c (map (λ e. e.0.number) es) 0) in
+        let p2 : Position = InDelivery q (DeliveryLine o c (map (λ e. e.0.number) es) 0) in
         let r2 : Rows = record r1 { orders = orders } in
         let lines : FinMap order_line_cmp OrderLine = each (λ j y. cond (eq_by_cmp order_cmp (order_of_line j) k) (dated q.stamp y) y) r.order_lines in
         let r3 : Rows = record r2 { order_lines = lines } in
         let end : Option (Rows × Reply) = get r.customers (customer_in q.district c) >>= λ customer. in_range delivered_out (delivered_to sum customer) >>= λ customer'.
         Some (record r3 { customers = insert r.customers (customer_in q.district c) customer' }, delivered_reply o c sum) in
-        let p3 : Place = InDelivery q (DeliveryLine o c [] sum) in
+        let p3 : Position = InDelivery q (DeliveryLine o c [] sum) in
         goes_here p1 r1 (Some (UpdateOrder k (carried q.carrier order))) p2 _ tt a (order, order_at, refl) (
         subst (λ (v : FinMap order_line_cmp OrderLine). EndsSo DeliveryMayRefuse x p2 (record r2 { order_lines = v }) end) (none-dated q.stamp r.order_lines) (
         lines_dated x q o c r queue orders end supplied es (λ _. false) 0 (kept_at order_line_total exact_order_line r.order_lines (λ l. eq_by_cmp order_cmp (order_of_line l) k)) (
@@ -127,6 +127,6 @@ delivery_ends x q r waiting customer_there supplied = by_oldest (oldest q.distri
         subst (λ (n : ℕ). EndsSo DeliveryMayRefuse x (InDelivery q (DeliveryLine o c [] n)) r3 end) (let z : sum ≡ 0 + sum = omega arith in z) (
         ends_given DeliveryMayRefuse x p3 r3 tt (NoSuchRow (key.Customer (customer_in q.district c))) (get r.customers (customer_in q.district c)) _ _ (missing (get r.customers (customer_in q.district c)) (customer_there o order order_at)) refl (λ u u_at a.
         ends_within DeliveryMayRefuse x p3 r3 tt delivered_out (delivered_to sum u) _ _ (of_customer (delivered_to sum u)) a (λ _ b.
-        let p4 : Place = InDelivery q (DeliveryEnd o c sum) in
+        let p4 : Position = InDelivery q (DeliveryEnd o c sum) in
         let r4 : Rows = record r3 { customers = insert r.customers (customer_in q.district c) (delivered_to sum u) } in
         goes_here p3 r3 (Some (UpdateCustomer (customer_in q.district c) (delivered_to sum u))) p4 _ tt b (u, u_at, refl, refl) (ends_here p4 r4 (delivered_reply o c sum) tt refl))))))))))

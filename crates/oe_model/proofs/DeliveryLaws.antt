@@ -20,7 +20,7 @@ use Rattle.oe_keys.proofs.KeyFacts.{district_total, exact_district, new_order_to
 use Rattle.oe_model.specs.Keys.{district_of_new_order, order_of_line, customer_in, order_in, new_order_in, line_in}
 use Rattle.oe_model.specs.Rows.{Rows, row_at}
 use Rattle.oe_model.specs.Changes.{Change, DeleteNewOrder, UpdateOrder, UpdateOrderLine, UpdateCustomer}
-use Rattle.oe_model.specs.Places.{Place, InDelivery, DeliveryPlace, DeliveryQueue, DeliveryNothing, DeliveryOrder, DeliveryLine, DeliveryEnd}
+use Rattle.oe_model.specs.Positions.{Position, InDelivery, DeliveryPosition, DeliveryQueue, DeliveryNothing, DeliveryOrder, DeliveryLine, DeliveryEnd}
 use Rattle.oe_model.specs.Effects.{Doing, given}
 use Rattle.oe_model.specs.Delivery.{undelivered, oldest, lines_of, dated, carried, delivered_to}
 use Rattle.oe_model.specs.System.{system, ask, act}
@@ -29,7 +29,7 @@ use Rattle.oe_model.proofs.EntryFacts.{same_kept}
 use Rattle.oe_model.proofs.RowFacts.{un_customer, un_new_order, un_order, un_order_line}
 use Rattle.oe_model.proofs.LawFacts.{IsAskedNow, HeldThen, given_same, given_goes, within_goes, IsLawful, lawful_at, lawful_none, lawful_one, keeps_delete, keeps_carrier, keeps_date, keeps_customer}
 
-pub delivery_ask_same : (x : Tx Request) (q : DeliveryRequest) (p : DeliveryPlace) (r s : Rows) → ask x (InDelivery q p) r ≡ ask x (InDelivery q p) s
+pub delivery_ask_same : (x : Tx Request) (q : DeliveryRequest) (p : DeliveryPosition) (r s : Rows) → ask x (InDelivery q p) r ≡ ask x (InDelivery q p) s
 delivery_ask_same x q (DeliveryLine o c [] sum) r s = refl
 delivery_ask_same x q _ r s = refl
 
@@ -52,7 +52,7 @@ module _ (P : Name → Mode → Type 0) (x : Tx Request) (r s : Rows) (alike : A
       (same_kept order_line_total exact_order_line (λ l. eq_by_cmp order_cmp (order_of_line l) k) r.order_lines s.order_lines (λ l e.
       un_order_line _ _ (alike.rows (key.OrderLine l) (subst (λ (j : OrderKey). P (name.Order j) Shared) (sym (is_same order_total exact_order (order_of_line l) k e)) held))))
 
-pub delivery_act_same : (x : Tx Request) (q : DeliveryRequest) (p : DeliveryPlace) (r s : Rows) → IsAskedNow x (InDelivery q p) r → Alike system (HeldThen x (InDelivery q p) r) x r s
+pub delivery_act_same : (x : Tx Request) (q : DeliveryRequest) (p : DeliveryPosition) (r s : Rows) → IsAskedNow x (InDelivery q p) r → Alike system (HeldThen x (InDelivery q p) r) x r s
     → act x (InDelivery q p) r ≡ act x (InDelivery q p) s
 unfolding first
 delivery_act_same x q DeliveryQueue r s k h = ap (first q) (same_oldest (HeldThen x (InDelivery q DeliveryQueue) r) x r s h q.district (inl (refl, tt)))
@@ -67,7 +67,7 @@ delivery_act_same x q (DeliveryLine o c (n ∷ ns) sum) r s k h =
     given_same (NoSuchRow (key.OrderLine (line_in (order_in q.district o) n))) _ _ _ (un_order_line _ _ (h.rows (key.OrderLine (line_in (order_in q.district o) n)) (inl (refl, tt))))
 delivery_act_same x q (DeliveryEnd o c sum) r s k h = refl
 
-first_lawful : (x : Tx Request) (q : DeliveryRequest) (r : Rows) (c : Option Change) (z : Place) (v : Option ℕ) → first q v ≡ Go c z → IsLawful x (InDelivery q DeliveryQueue) r c z
+first_lawful : (x : Tx Request) (q : DeliveryRequest) (r : Rows) (c : Option Change) (z : Position) (v : Option ℕ) → first q v ≡ Go c z → IsLawful x (InDelivery q DeliveryQueue) r c z
 unfolding first
 first_lawful x q r c z None e = lawful_at x (InDelivery q DeliveryQueue) r c None z (InDelivery q DeliveryNothing) e (lawful_none x (InDelivery q DeliveryQueue) r (InDelivery q DeliveryNothing) (λ n m h. h))
 first_lawful x q r c z (Some o) e =
@@ -75,23 +75,23 @@ first_lawful x q r c z (Some o) e =
     lawful_at x (InDelivery q DeliveryQueue) r c (Some d) z (InDelivery q (DeliveryOrder o)) e
     (lawful_one x (InDelivery q DeliveryQueue) r d (InDelivery q (DeliveryOrder o)) (λ n m h. h) (inl (refl, tt)) tt (keeps_delete (row_at r (key.NewOrder (new_order_in q.district o))) (new_order_in q.district o)))
 
-pub delivery_lawful : (x : Tx Request) (q : DeliveryRequest) (p : DeliveryPlace) (r : Rows) (c : Option Change) (z : Place) → IsAskedNow x (InDelivery q p) r → act x (InDelivery q p) r ≡ Go c z
+pub delivery_lawful : (x : Tx Request) (q : DeliveryRequest) (p : DeliveryPosition) (r : Rows) (c : Option Change) (z : Position) → IsAskedNow x (InDelivery q p) r → act x (InDelivery q p) r ≡ Go c z
     → IsLawful x (InDelivery q p) r c z
 unfolding first
 delivery_lawful x q DeliveryQueue r c z k e = first_lawful x q r c z (oldest q.district r.new_orders) e
 delivery_lawful x q DeliveryNothing r c z k e = let no : ⊥ = cc in absurd no
 delivery_lawful x q (DeliveryOrder o) r c z k e =
-    let p : Place = InDelivery q (DeliveryOrder o) in
+    let p : Position = InDelivery q (DeliveryOrder o) in
     let j : OrderKey = order_in q.district o in
     let (y, here, e1) = given_goes (NoSuchRow (key.Order j)) (get r.orders j) _ c z e in
     lawful_at x p r c _ z _ e1 (lawful_one x p r (UpdateOrder j (carried q.carrier y)) _ (λ n m h. h) (inl (refl, tt)) tt (keeps_carrier (row_at r (key.Order j)) j (carried q.carrier y)))
 delivery_lawful x q (DeliveryLine o b [] sum) r c z k e =
-    let p : Place = InDelivery q (DeliveryLine o b [] sum) in
+    let p : Position = InDelivery q (DeliveryLine o b [] sum) in
     let (y, here, e1) = given_goes (NoSuchRow (key.Customer (customer_in q.district b))) (get r.customers (customer_in q.district b)) _ c z e in
     lawful_at x p r c _ z _ (within_goes _ _ c z e1)
     (lawful_one x p r (UpdateCustomer (customer_in q.district b) (delivered_to sum y)) _ (λ n m h. h) (inl (refl, tt)) tt (keeps_customer r (customer_in q.district b) y (delivered_to sum y) here refl refl))
 delivery_lawful x q (DeliveryLine o b (n ∷ ns) sum) r c z k e =
-    let p : Place = InDelivery q (DeliveryLine o b (n ∷ ns) sum) in
+    let p : Position = InDelivery q (DeliveryLine o b (n ∷ ns) sum) in
     let j : OrderLineKey = line_in (order_in q.district o) n in
     let (y, here, e1) = given_goes (NoSuchRow (key.OrderLine j)) (get r.order_lines j) _ c z e in
     lawful_at x p r c _ z _ e1 (lawful_one x p r (UpdateOrderLine j (dated q.stamp y)) _ (λ n m h. h) (inl (refl, tt)) tt (keeps_date (row_at r (key.OrderLine j)) j (dated q.stamp y)))

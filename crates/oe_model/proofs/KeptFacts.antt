@@ -11,7 +11,7 @@ use Rattle.oe_model.specs.Rows.{Rows}
 use Rattle.oe_model.specs.Changes.{Change, InsertHistory, InsertNewOrder, InsertOrder, InsertOrderLine, UpdateWarehouse, UpdateDistrict, UpdateCustomer, UpdateOrder, UpdateOrderLine, UpdateStock, DeleteNewOrder, changed}
 use Rattle.oe_model.specs.Meets.{Accepts}
 use Rattle.oe_model.specs.Conditions.{IsStocked}
-use Rattle.oe_model.specs.Places.{Place}
+use Rattle.oe_model.specs.Positions.{Position}
 use Rattle.oe_model.specs.System.{system}
 use Rattle.oe_model.proofs.PresenceFacts.{present_before, present_insert}
 use Rattle.oe_model.proofs.EffectFacts.{made_by}
@@ -22,7 +22,7 @@ module _ (P : Rows → Type 0) (kept : (c : Change) (r : Rows) → Accepts c r �
   after_kept None r fit h = h
   after_kept (Some c) r fit h = kept c r fit h
 
-  pub ends_kept : (Only : Refusal → Type 0) (x : Tx Request) (p : Place) (r : Rows) (end : Option (Rows × Reply)) (s : Rows) (y : Reply) → EndsSo Only x p r end → end ≡ Some (s, y) → P r → P s
+  pub ends_kept : (Only : Refusal → Type 0) (x : Tx Request) (p : Position) (r : Rows) (end : Option (Rows × Reply)) (s : Rows) (y : Reply) → EndsSo Only x p r end → end ≡ Some (s, y) → P r → P s
   ends_kept Only x _ _ _ s y (stops_here p r e why z) is h = let no : ⊥ = cc in absurd no
   ends_kept Only x _ _ _ s y (fails_here p r e why a b) is h = let no : ⊥ = cc in absurd no
   ends_kept Only x _ _ _ s y (ends_here p r y' a b) is h = subst P (made_by r s y' y is) h

@@ -40,7 +40,7 @@ use Rattle.oe_model.specs.Rows.{Rows, row_at, as_customer}
 use Rattle.oe_model.specs.Changes.{Change, InsertHistory, InsertNewOrder, InsertOrder, InsertOrderLine, UpdateWarehouse, UpdateDistrict, UpdateCustomer, UpdateOrder, UpdateOrderLine, UpdateStock, DeleteNewOrder, key_of, row_of}
 use Rattle.oe_model.specs.Meets.{Accepts}
 use Rattle.oe_model.specs.Locks.{governs, Facet, WarehouseThere, DistrictThere, CustomerThere, CustomerNamed, StockThere, WholeItem, There, First, Whole, facet_key, part, first_if_named}
-use Rattle.oe_model.specs.Places.{Place}
+use Rattle.oe_model.specs.Positions.{Position}
 use Rattle.oe_model.specs.Effects.{Doing, given, within}
 use Rattle.oe_model.specs.Choice.{middle, chosen}
 use Rattle.oe_model.specs.NewOrder.{item_at}
@@ -51,11 +51,11 @@ use Rattle.oe_model.proofs.NamesFacts.{same_namesakes}
 use Rattle.oe_model.proofs.PresenceFacts.{some-map}
 use Rattle.oe_model.proofs.RowFacts.{out-map, un_warehouse, un_district, un_customer, un_history, un_new_order, un_order, un_order_line, un_item, un_stock}
 
-abbrev pub IsAskedNow : Tx Request → Place → Rows → Type 0
+abbrev pub IsAskedNow : Tx Request → Position → Rows → Type 0
 IsAskedNow x p r = IsAsked system (all_held system) (ask x p r)
 
 -- the names that are held in a row of a program
-abbrev pub HeldThen : Tx Request → Place → Rows → Name → Mode → Type 0
+abbrev pub HeldThen : Tx Request → Position → Rows → Name → Mode → Type 0
 HeldThen x p r = Holds system (with_asked system (ask x p r) (taken x p))
 
 pub holds_asked : (a : Ask Name Refusal) (hs : List (Hold Name)) (n : Name) (m w : Mode) → a ≡ Take n m → IsEnough (Some m) w → Holds system (with_asked system a hs) n w
@@ -94,11 +94,11 @@ may_read hs x (Own t k) h = h
 pub given_same : {A : Type 0} (e : Refusal) (a b : Option A) (f : A → Doing) → a ≡ b → given e a f ≡ given e b f
 given_same e a b f h = ap (λ o. given e o f) h
 
-pub given_goes : {A : Type 0} (e : Refusal) (o : Option A) (f : A → Doing) (c : Option Change) (q : Place) → given e o f ≡ Go c q → (a : A) × (o ≡ Some a) × (f a ≡ Go c q)
+pub given_goes : {A : Type 0} (e : Refusal) (o : Option A) (f : A → Doing) (c : Option Change) (q : Position) → given e o f ≡ Go c q → (a : A) × (o ≡ Some a) × (f a ≡ Go c q)
 given_goes e None f c q h = let no : ⊥ = cc in absurd no
 given_goes e (Some a) f c q h = (a, refl, h)
 
-pub within_goes : (o : Option Column) (d : Doing) (c : Option Change) (q : Place) → within o d ≡ Go c q → d ≡ Go c q
+pub within_goes : (o : Option Column) (d : Doing) (c : Option Change) (q : Position) → within o d ≡ Go c q → d ≡ Go c q
 within_goes None d c q h = h
 within_goes (Some k) d c q h = let no : ⊥ = cc in absurd no
 
@@ -112,20 +112,20 @@ Knows P (InsertNewOrder k x) = P (name.Order (order_of_new_order k)) Shared
 Knows P _ = Unit {0}
 
 -- what a row may do: it holds what comes next, writes where it may, and only what may change
-pub record IsLawful (x : Tx Request) (p : Place) (r : Rows) (c : Option Change) (q : Place) : Type 0 where
+pub record IsLawful (x : Tx Request) (p : Position) (r : Rows) (c : Option Change) (q : Position) : Type 0 where
   pub takes : (n : Name) (m : Mode) → Holds system (taken x q) n m → HeldThen x p r n m
   pub writes : (d : Change) → c ≡ Some d → MayWrite system (HeldThen x p r) x (governs (key_of d))
   pub knows : (d : Change) → c ≡ Some d → Knows (HeldThen x p r) d
   pub keeps : (d : Change) → c ≡ Some d → Keeps d (row_at r (key_of d))
 
-pub lawful_at : (x : Tx Request) (p : Place) (r : Rows) (c d : Option Change) (q z : Place) → (let a : Doing = Go d z in a) ≡ Go c q → IsLawful x p r d z → IsLawful x p r c q
+pub lawful_at : (x : Tx Request) (p : Position) (r : Rows) (c d : Option Change) (q z : Position) → (let a : Doing = Go d z in a) ≡ Go c q → IsLawful x p r d z → IsLawful x p r c q
 lawful_at x p r c d q z e h =
     let one : d ≡ c = cc in
     let two : z ≡ q = cc in
-    subst (λ (v : Option Change). IsLawful x p r v q) one (subst (λ (v : Place). IsLawful x p r d v) two h)
+    subst (λ (v : Option Change). IsLawful x p r v q) one (subst (λ (v : Position). IsLawful x p r d v) two h)
 
 -- a row that makes no change
-pub lawful_none : (x : Tx Request) (p : Place) (r : Rows) (q : Place) → ((n : Name) (m : Mode) → Holds system (taken x q) n m → HeldThen x p r n m) → IsLawful x p r None q
+pub lawful_none : (x : Tx Request) (p : Position) (r : Rows) (q : Position) → ((n : Name) (m : Mode) → Holds system (taken x q) n m → HeldThen x p r n m) → IsLawful x p r None q
 lawful_none x p r q h = record {
   takes = h;
   writes = λ d e. let no : ⊥ = cc in absurd no;
@@ -134,7 +134,7 @@ lawful_none x p r q h = record {
 }
 
 -- a row that makes one change
-pub lawful_one : (x : Tx Request) (p : Place) (r : Rows) (d : Change) (q : Place) → ((n : Name) (m : Mode) → Holds system (taken x q) n m → HeldThen x p r n m)
+pub lawful_one : (x : Tx Request) (p : Position) (r : Rows) (d : Change) (q : Position) → ((n : Name) (m : Mode) → Holds system (taken x q) n m → HeldThen x p r n m)
     → MayWrite system (HeldThen x p r) x (governs (key_of d)) → Knows (HeldThen x p r) d → Keeps d (row_at r (key_of d)) → IsLawful x p r (Some d) q
 lawful_one x p r d q h w j k = record {
   takes = h;

@@ -10,7 +10,7 @@ use Rattle.oe_rows.specs.declared.orders.OrderLine.{OrderLine}
 use Rattle.oe_keys.proofs.KeyFacts.{order_line_total, exact_order_line}
 use Rattle.oe_model.specs.Keys.{line_in}
 use Rattle.oe_model.specs.Maps.{with_all}
-use Rattle.oe_model.specs.Places.{Filled}
+use Rattle.oe_model.specs.Positions.{Filled}
 use Rattle.oe_model.specs.NewOrder.{line_entries}
 use Rattle.oe_model.proofs.PresenceFacts.{key_cases, get_other}
 

@@ -30,7 +30,7 @@ use Rattle.oe_model.specs.Keys.{warehouse_of_district, customer_in, order_in, ne
 use Rattle.oe_model.specs.Rows.{Rows}
 use Rattle.oe_model.specs.Maps.{each, with_all}
 use Rattle.oe_model.specs.Changes.{UpdateDistrict, UpdateStock, InsertOrder, InsertNewOrder, InsertOrderLine}
-use Rattle.oe_model.specs.Places.{Seen, Filled, Place, InNewOrder, NewOrderWarehouse, NewOrderDistrict, NewOrderCustomer, NewOrderOrder, NewOrderQueue, NewOrderStock, NewOrderLine}
+use Rattle.oe_model.specs.Positions.{Seen, Filled, Position, InNewOrder, NewOrderWarehouse, NewOrderDistrict, NewOrderCustomer, NewOrderOrder, NewOrderQueue, NewOrderStock, NewOrderLine}
 use Rattle.oe_model.specs.Effects.{◌>>=◌}
 use Rattle.oe_model.specs.Payment.{is_count}
 use Rattle.oe_model.specs.NewOrder.{stock_of, stock_out, next_out, supplied, after_lines, all_filled, fill, item_at, order_row, new_order_row, with_next, seen, ordered_reply, replies_of, line_entries, new_order_effect}
@@ -88,14 +88,14 @@ module _ (q : NewOrderRequest) (s : Seen) (r : Rows) (districts : FinMap distric
       → EndsSo NewOrderMayRefuse x (InNewOrder q (NewOrderStock s before (replies_of fs) todo)) (so_far before fs)
       (all_filled q r before todo >>= λ more. Some (so_far all (fs ++ more), told (fs ++ more)))
   lines_end x all [] before fs numbered count e stocks =
-      let p : Place = InNewOrder q (NewOrderStock s before (replies_of fs) []) in
+      let p : Position = InNewOrder q (NewOrderStock s before (replies_of fs) []) in
       let one : so_far before fs ≡ so_far all (fs ++ []) =
       ap (λ (ls : List RequestLine). so_far ls fs) (sym (append-nil before) ∙ e) ∙ ap (λ (gs : List Filled). so_far all gs) (sym (append-nil fs)) in
       let two : told fs ≡ told (fs ++ []) = ap (λ (gs : List Filled). told gs) (sym (append-nil fs)) in
       subst (λ (v : Rows × Reply). EndsSo NewOrderMayRefuse x p (so_far before fs) (Some v)) (λ i. (one i, two i)) (ends_here p (so_far before fs) (told fs) tt refl)
   lines_end x all (l ∷ ls) before fs numbered count e stocks =
       let result : List Filled → Option (Rows × Reply) = λ more. Some (so_far all (fs ++ more), told (fs ++ more)) in
-      let p : Place = InNewOrder q (NewOrderStock s before (replies_of fs) (l ∷ ls)) in
+      let p : Position = InNewOrder q (NewOrderStock s before (replies_of fs) (l ∷ ls)) in
       let m : Rows = so_far before fs in
       subst (λ (v : Option (Rows × Reply)). EndsSo NewOrderMayRefuse x p m v) (sym (fill-step q r before l ls result)) (
       ends_found NewOrderMayRefuse x p m InvalidItem InvalidItem (item_at l.item r.items) (λ _. name.Stock (stock_of l)) Exclusive _ _ tt refl refl (λ item found asked a.
@@ -104,10 +104,10 @@ module _ (q : NewOrderRequest) (s : Seen) (r : Rows) (districts : FinMap distric
       let y' : Stock = supplied q.district.warehouse (stock_of l) (after_lines q.district.warehouse before (stock_of l) y) l.quantity in
       ends_within NewOrderMayRefuse x p m asked stock_out y' _ _ (of_stock y') a (λ _ b.
       let f : Filled = fill q (length before + 1) l item y' in
-      let p' : Place = InNewOrder q (NewOrderLine s before (replies_of fs) l f ls) in
+      let p' : Position = InNewOrder q (NewOrderLine s before (replies_of fs) l f ls) in
       let m' : Rows = record m { stocks = insert m.stocks (stock_of l) y' } in
       let m'' : Rows = record m' { order_lines = insert m.order_lines (line_in k f.number) f.row } in
-      let next : List LineReply → Place = λ done. InNewOrder q (NewOrderStock s (before ++ l ∷ []) done ls) in
+      let next : List LineReply → Position = λ done. InNewOrder q (NewOrderStock s (before ++ l ∷ []) done ls) in
       goes_here p m (Some (UpdateStock (stock_of l) y')) p' _ asked b (present_each stock_total exact_stock (after_lines q.district.warehouse before) r.stocks (stock_of l) (some_present (get r.stocks (stock_of l)) y here)) (
       goes_here p' m' (Some (InsertOrderLine (line_in k f.number) f.row)) (next (replies_of fs ++ f.reply ∷ [])) _ tt refl
       (still_absent k fs 0 r.order_lines numbered f.number (let z : 0 + length fs < f.number = omega arith in z) (no_line f.number), placed, present_own stock_total exact_stock m.stocks (stock_of l) y') (
@@ -134,28 +134,28 @@ pub new_order_ends : (x : Tx Request) (q : NewOrderRequest) (r : Rows)
     → IsSome (get r.warehouses (warehouse_of_district q.district)) → IsSome (get r.districts q.district) → EachOf (HasStock r) q.lines
     → EndsSo NewOrderMayRefuse x (InNewOrder q NewOrderWarehouse) r (new_order_effect q r)
 new_order_ends x q r fresh warehouse_there district_there stocks =
-    let p0 : Place = InNewOrder q NewOrderWarehouse in
+    let p0 : Position = InNewOrder q NewOrderWarehouse in
     ends_given NewOrderMayRefuse x p0 r tt (NoSuchRow (key.Warehouse (warehouse_of_district q.district))) (get r.warehouses (warehouse_of_district q.district)) _ _ (missing _ warehouse_there) refl (λ w _ a.
-    let p1 : Place = InNewOrder q (NewOrderDistrict w.tax) in
+    let p1 : Position = InNewOrder q (NewOrderDistrict w.tax) in
     goes_here p0 r None p1 _ tt a tt (
     ends_given NewOrderMayRefuse x p1 r tt (NoSuchRow (key.District q.district)) (get r.districts q.district) _ _ (missing _ district_there) refl (λ d d_at a.
     ends_within NewOrderMayRefuse x p1 r tt next_out (with_next d) _ _ (of_district (with_next d)) a (λ _ b.
-    let p2 : Place = InNewOrder q (NewOrderCustomer d.next_order w.tax d.tax) in
+    let p2 : Position = InNewOrder q (NewOrderCustomer d.next_order w.tax d.tax) in
     let districts : FinMap district_cmp District = insert r.districts q.district (with_next d) in
     let r2 : Rows = record r { districts = districts } in
     goes_here p1 r (Some (UpdateDistrict q.district (with_next d))) p2 _ tt b district_there (
     ends_found NewOrderMayRefuse x p2 r2 NoCustomer NoCustomer (get r.customers (customer_in q.district q.customer)) (λ _. name.Customer (customer_in q.district q.customer)) Shared _ _ tt refl refl (λ c c_at asked a.
     let s : Seen = seen w d c in
-    let p3 : Place = InNewOrder q (NewOrderOrder s) in
+    let p3 : Position = InNewOrder q (NewOrderOrder s) in
     goes_here p2 r2 None p3 _ asked a tt (
-    let p4 : Place = InNewOrder q (NewOrderQueue s) in
+    let p4 : Position = InNewOrder q (NewOrderQueue s) in
     let k : OrderKey = order_in q.district d.next_order in
     let j : NewOrderKey = new_order_in q.district d.next_order in
     let new : IsFresh r q.district d.next_order = fresh d d_at in
     let orders : FinMap order_cmp Order = insert r.orders k (order_row q) in
     let r3 : Rows = record r2 { orders = orders } in
     goes_here p3 r2 (Some (InsertOrder k (order_row q))) p4 _ tt refl (new.order, some_present (get r.customers (customer_in q.district q.customer)) c c_at) (
-    let p5 : Place = InNewOrder q (NewOrderStock s [] [] q.lines) in
+    let p5 : Position = InNewOrder q (NewOrderStock s [] [] q.lines) in
     let new_orders : FinMap new_order_cmp NewOrder = insert r.new_orders j new_order_row in
     let r4 : Rows = record r3 { new_orders = new_orders } in
     let placed : IsSome (get orders k) = present_own order_total exact_order r.orders k (order_row q) in

@@ -22,7 +22,7 @@ use Rattle.oe_model.specs.Keys.{warehouse_of_district, district_of_order, distri
 use Rattle.oe_model.specs.Rows.{Rows}
 use Rattle.oe_model.specs.Maps.{each, with_all, sum_of}
 use Rattle.oe_model.specs.Meets.{Meets}
-use Rattle.oe_model.specs.Places.{Filled}
+use Rattle.oe_model.specs.Positions.{Filled}
 use Rattle.oe_model.specs.NewOrder.{stock_of, stock_out, next_out, item_at, after_lines, filled, all_filled, order_row, new_order_row, with_next, line_entries, new_order_effect}
 use Rattle.oe_model.specs.Conditions.{Good, Condition_1, Condition_2, Condition_2_at, Condition_3, Condition_4, IsStocked, ytd_of, new_orders_of, lines_asked, lines_there, if_of, if_of_warehouse, IsGreatest, IsLeast, IsAfterGreatest, HasOrder, HasNewOrder}
 use Rattle.oe_model.proofs.MapFacts.{is_self}

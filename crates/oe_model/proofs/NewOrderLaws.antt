@@ -21,7 +21,7 @@ use Rattle.oe_model.specs.Keys.{warehouse_of_district, customer_in, order_in, ne
 use Rattle.oe_model.specs.Rows.{Rows, row_at}
 use Rattle.oe_model.specs.Changes.{Change, UpdateDistrict, UpdateStock, InsertOrder, InsertNewOrder, InsertOrderLine}
 use Rattle.oe_model.specs.Locks.{hold}
-use Rattle.oe_model.specs.Places.{Place, Seen, InNewOrder, NewOrderPlace, NewOrderWarehouse, NewOrderDistrict, NewOrderCustomer, NewOrderOrder, NewOrderQueue, NewOrderStock, NewOrderLine}
+use Rattle.oe_model.specs.Positions.{Position, Seen, InNewOrder, NewOrderPosition, NewOrderWarehouse, NewOrderDistrict, NewOrderCustomer, NewOrderOrder, NewOrderQueue, NewOrderStock, NewOrderLine}
 use Rattle.oe_model.specs.Effects.{Doing, given, within}
 use Rattle.oe_model.specs.NewOrder.{stock_of, stock_out, supplied, fill, item_at, stock_holds, with_next, order_row, new_order_row}
 use Rattle.oe_model.specs.System.{system, ask, act, taken}
@@ -42,7 +42,7 @@ same_if e n (Some a) (Some b) h = refl
 if_item : Name → Option Item → Ask Name Refusal
 if_item n o = elim o [ None ↦ Stop InvalidItem | Some y ↦ Take n Exclusive ]
 
-pub new_order_ask_same : (x : Tx Request) (q : NewOrderRequest) (p : NewOrderPlace) (r s : Rows) → Alike system (Holds system (taken x (InNewOrder q p))) x r s → ask x (InNewOrder q p) r ≡ ask x (InNewOrder q p) s
+pub new_order_ask_same : (x : Tx Request) (q : NewOrderRequest) (p : NewOrderPosition) (r s : Rows) → Alike system (Holds system (taken x (InNewOrder q p))) x r s → ask x (InNewOrder q p) r ≡ ask x (InNewOrder q p) s
 unfolding if_customer if_item
 new_order_ask_same x q (NewOrderCustomer o w d) r s h =
     same_if NoCustomer (name.Customer (customer_in q.district q.customer)) (get r.customers (customer_in q.district q.customer)) (get s.customers (customer_in q.district q.customer))
@@ -66,14 +66,14 @@ unfolding if_item
 asks_stock x q t before done l ls r None e k = absurd k
 asks_stock x q t before done l ls r (Some a) e k = ap (if_item (name.Stock (stock_of l))) e
 
-pub new_order_act_same : (x : Tx Request) (q : NewOrderRequest) (p : NewOrderPlace) (r s : Rows) → IsAskedNow x (InNewOrder q p) r → Alike system (HeldThen x (InNewOrder q p) r) x r s
+pub new_order_act_same : (x : Tx Request) (q : NewOrderRequest) (p : NewOrderPosition) (r s : Rows) → IsAskedNow x (InNewOrder q p) r → Alike system (HeldThen x (InNewOrder q p) r) x r s
     → act x (InNewOrder q p) r ≡ act x (InNewOrder q p) s
 unfolding if_customer if_item
 new_order_act_same x q NewOrderWarehouse r s k h =
     given_same (NoSuchRow (key.Warehouse (warehouse_of_district q.district))) _ _ _ (un_warehouse _ _ (h.rows (key.Warehouse (warehouse_of_district q.district)) (inl (refl, tt))))
 new_order_act_same x q (NewOrderDistrict w) r s k h = given_same (NoSuchRow (key.District q.district)) _ _ _ (un_district _ _ (h.rows (key.District q.district) (inl (refl, tt))))
 new_order_act_same x q (NewOrderCustomer o w d) r s k h =
-    let p : Place = InNewOrder q (NewOrderCustomer o w d) in
+    let p : Position = InNewOrder q (NewOrderCustomer o w d) in
     let n : Name = name.Customer (customer_in q.district q.customer) in
     given_same NoCustomer _ _ _ (un_customer _ _ (h.rows (key.Customer (customer_in q.district q.customer))
     (holds_asked (ask x p r) (taken x p) n Shared Shared (asks_customer x q o w d r (get r.customers (customer_in q.district q.customer)) refl k) tt)))
@@ -81,7 +81,7 @@ new_order_act_same x q (NewOrderOrder t) r s k h = refl
 new_order_act_same x q (NewOrderQueue t) r s k h = refl
 new_order_act_same x q (NewOrderStock t before done []) r s k h = refl
 new_order_act_same x q (NewOrderStock t before done (l ∷ ls)) r s k h =
-    let p : Place = InNewOrder q (NewOrderStock t before done (l ∷ ls)) in
+    let p : Position = InNewOrder q (NewOrderStock t before done (l ∷ ls)) in
     let f : Item → Stock → Doing = λ item y.
     (let y' : Stock = supplied q.district.warehouse (stock_of l) y l.quantity in
     within (stock_out y') (Go (Some (UpdateStock (stock_of l) y')) (InNewOrder q (NewOrderLine t before done l (fill q (length before + 1) l item y') ls)))) in
@@ -91,33 +91,33 @@ new_order_act_same x q (NewOrderStock t before done (l ∷ ls)) r s k h =
     λ i. given InvalidItem (items i) (λ item. given (NoSuchRow (key.Stock (stock_of l))) (stocks i) (f item))
 new_order_act_same x q (NewOrderLine t before done l f ls) r s k h = refl
 
-pub new_order_lawful : (x : Tx Request) (q : NewOrderRequest) (p : NewOrderPlace) (r : Rows) (c : Option Change) (z : Place) → IsAskedNow x (InNewOrder q p) r → act x (InNewOrder q p) r ≡ Go c z
+pub new_order_lawful : (x : Tx Request) (q : NewOrderRequest) (p : NewOrderPosition) (r : Rows) (c : Option Change) (z : Position) → IsAskedNow x (InNewOrder q p) r → act x (InNewOrder q p) r ≡ Go c z
     → IsLawful x (InNewOrder q p) r c z
 unfolding if_customer if_item
 new_order_lawful x q NewOrderWarehouse r c z k e =
     let (y, here, e1) = given_goes (NoSuchRow (key.Warehouse (warehouse_of_district q.district))) (get r.warehouses (warehouse_of_district q.district)) _ c z e in
     lawful_at x (InNewOrder q NewOrderWarehouse) r c _ z _ e1 (lawful_none x (InNewOrder q NewOrderWarehouse) r _ (λ n m h. h))
 new_order_lawful x q (NewOrderDistrict w) r c z k e =
-    let p : Place = InNewOrder q (NewOrderDistrict w) in
+    let p : Position = InNewOrder q (NewOrderDistrict w) in
     let (y, here, e1) = given_goes (NoSuchRow (key.District q.district)) (get r.districts q.district) _ c z e in
     lawful_at x p r c _ z _ (within_goes _ _ c z e1) (lawful_one x p r (UpdateDistrict q.district (with_next y)) _ (λ n m h. h) (inl (refl, tt)) tt (keeps_district r q.district y (with_next y) here))
 new_order_lawful x q (NewOrderCustomer o w d) r c z k e =
-    let p : Place = InNewOrder q (NewOrderCustomer o w d) in
+    let p : Position = InNewOrder q (NewOrderCustomer o w d) in
     let (y, here, e1) = given_goes NoCustomer (get r.customers (customer_in q.district q.customer)) _ c z e in
     let a = asks_customer x q o w d r (get r.customers (customer_in q.district q.customer)) refl k in
     lawful_at x p r c _ z _ e1 (lawful_none x p r _ (λ n m h. subst (λ (v : Ask Name Refusal). Holds system (with_asked system v (taken x p)) n m) (sym a) h))
 new_order_lawful x q (NewOrderOrder t) r c z k e =
-    let p : Place = InNewOrder q (NewOrderOrder t) in
+    let p : Position = InNewOrder q (NewOrderOrder t) in
     lawful_at x p r c _ z _ e
     (lawful_one x p r (InsertOrder (order_in q.district t.order) (order_row q)) _ (λ n m h. h) (inl (refl, tt)) tt (keeps_order (row_at r (key.Order (order_in q.district t.order))) (order_in q.district t.order) (order_row q)))
 new_order_lawful x q (NewOrderQueue t) r c z k e =
-    let p : Place = InNewOrder q (NewOrderQueue t) in
+    let p : Position = InNewOrder q (NewOrderQueue t) in
     lawful_at x p r c _ z _ e
     (lawful_one x p r (InsertNewOrder (new_order_in q.district t.order) new_order_row) _ (λ n m h. h) (inl (refl, tt)) (inr (inl (refl, tt)))
     (keeps_new_order (row_at r (key.NewOrder (new_order_in q.district t.order))) (new_order_in q.district t.order) new_order_row))
 new_order_lawful x q (NewOrderStock t before done []) r c z k e = let no : ⊥ = cc in absurd no
 new_order_lawful x q (NewOrderStock t before done (l ∷ ls)) r c z k e =
-    let p : Place = InNewOrder q (NewOrderStock t before done (l ∷ ls)) in
+    let p : Position = InNewOrder q (NewOrderStock t before done (l ∷ ls)) in
     let (item, found, e1) = given_goes InvalidItem (item_at l.item r.items) _ c z e in
     let (y, here, e2) = given_goes (NoSuchRow (key.Stock (stock_of l))) (get r.stocks (stock_of l)) _ c z e1 in
     let a = asks_stock x q t before done l ls r (item_at l.item r.items) refl k in
@@ -127,7 +127,7 @@ new_order_lawful x q (NewOrderStock t before done (l ∷ ls)) r c z k e =
     (holds_asked (ask x p r) (taken x p) (name.Stock (stock_of l)) Exclusive Exclusive a tt) tt
     (keeps_stock r (stock_of l) y (supplied q.district.warehouse (stock_of l) y l.quantity) here))
 new_order_lawful x q (NewOrderLine t before done l f ls) r c z k e =
-    let p : Place = InNewOrder q (NewOrderLine t before done l f ls) in
+    let p : Position = InNewOrder q (NewOrderLine t before done l f ls) in
     let base : List (Hold Name) = hold (name.Queue q.district) Exclusive ∷ hold (name.Order (order_in q.district t.order)) Exclusive ∷ hold (name.Customer (customer_in q.district q.customer)) Shared
     ∷ hold (name.District q.district) Exclusive ∷ hold (name.Warehouse (warehouse_of_district q.district)) Shared ∷ [] in
     lawful_at x p r c _ z _ e

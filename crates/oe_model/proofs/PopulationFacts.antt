@@ -346,14 +346,14 @@ module _ (s : Scale) (r : Rows) (sc : IsScale s) (p : IsPopulated s r) where
     lines_are zero = refl
     lines_are (suc n) =
         let size : suc n * 15 ≡ n * 15 + 15 = omega arith in
-        let own = total-same 15 (λ j. is_line (n * 15 + j)) (λ j. cond (nat_lt j (lines_of (suc n))) 1 0) (λ j l. place j l) in
+        let own = total-same 15 (λ j. is_line (n * 15 + j)) (λ j. cond (nat_lt j (lines_of (suc n))) 1 0) (λ j l. ordinal j l) in
         let all = total-below 15 (lines_of (suc n)) in
         let rest = lines_are n in
         let cut = total-add (n * 15) 15 is_line in
         ap (λ m. total m is_line) size ∙ omega arith
       where
-        place : (j : ℕ) → j < 15 → is_line (n * 15 + j) ≡ cond (nat_lt j (lines_of (suc n))) 1 0
-        place j l =
+        ordinal : (j : ℕ) → j < 15 → is_line (n * 15 + j) ≡ cond (nat_lt j (lines_of (suc n))) 1 0
+        ordinal j l =
             let a : (n * 15 + j) % 15 ≡ j = omega arith in
             let b : (n * 15 + j) / 15 ≡ n = omega arith in
             λ i. cond (nat_lt (a i) (lines_of (suc (b i)))) 1 0
@@ -379,7 +379,7 @@ counts_customer s c t =
     let customer_in = counts s.customers c.customer a.1 in
     let district_in = counts 10 c.district b.1 in
     let warehouse_in = counts s.warehouses c.warehouse b.0 in
-    let place = (c.warehouse - 1) * 10 + (c.district - 1) in
+    let ordinal = (c.warehouse - 1) * 10 + (c.district - 1) in
     let before : ((c.warehouse - 1) * 10 + (c.district - 1)) * s.customers + c.customer - 1 ≡ ((c.warehouse - 1) * 10 + (c.district - 1)) * s.customers + (c.customer - 1) = omega arith in
     let low : c.customer - 1 < s.customers = omega arith in
     let high = ap (λ n. n / s.customers) before ∙ div-mul-add ((c.warehouse - 1) * 10 + (c.district - 1)) s.customers (c.customer - 1) low in

@@ -136,7 +136,7 @@ module _ (s : Scale) (sc : IsScale s) where
   history_row k = where_there (has_history s k) (history_of (counted_customer s k.number))
 
   history_at : ℕ → HistoryKey
-  history_at i = record { terminal = 0; number = i; place = 1 }
+  history_at i = record { terminal = 0; number = i; ordinal = 1 }
 
   histories_are : (k : HistoryKey) → get (rows history_total exact_history history_row history_at 4_294_967_296) k ≡ history_row k
   unfolding history_row history_at
@@ -145,8 +145,8 @@ module _ (s : Scale) (sc : IsScale s) where
       let number_in = t.1 in
       let terminal_is : 0 ≡ k.terminal = sym t.0 in
       let number_is : k.number ≡ k.number = omega arith in
-      let place_is : 1 ≡ k.place = sym t.2 in
-      (k.number, omega arith, λ i. record { terminal = terminal_is i; number = number_is i; place = place_is i }))
+      let ordinal_is : 1 ≡ k.ordinal = sym t.2 in
+      (k.number, omega arith, λ i. record { terminal = terminal_is i; number = number_is i; ordinal = ordinal_is i }))
 
   new_order_row : NewOrderKey → Option NewOrder
   new_order_row k = where_there (has_new_order s k) (record {})

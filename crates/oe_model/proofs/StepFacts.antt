@@ -11,15 +11,15 @@ use Rattle.oe_requests.specs.declared.refusals.Refusal.{Refusal}
 use Rattle.oe_requests.specs.declared.refusals.Refusal.TheVariants.{Overflow}
 use Rattle.oe_model.specs.Rows.{Rows}
 use Rattle.oe_model.specs.Meets.{Accepts}
-use Rattle.oe_model.specs.Places.{Place}
+use Rattle.oe_model.specs.Positions.{Position}
 use Rattle.oe_model.specs.Effects.{◌>>=◌, in_range, Doing, given, within}
 use Rattle.oe_model.specs.System.{system, ask, act}
 
 -- the program alone ends so, with these refusals, and each of its changes is accepted
-abbrev pub EndsSo : (Refusal → Type 0) → Tx Request → Place → Rows → Option (Rows × Reply) → Type 0
+abbrev pub EndsSo : (Refusal → Type 0) → Tx Request → Position → Rows → Option (Rows × Reply) → Type 0
 EndsSo Only x p r end = Ends system x Only Accepts p r end
 
-module _ (Only : Refusal → Type 0) (x : Tx Request) (p : Place) (r : Rows) (asked : IsAsked system (all_held system) (ask x p r)) where
+module _ (Only : Refusal → Type 0) (x : Tx Request) (p : Position) (r : Rows) (asked : IsAsked system (all_held system) (ask x p r)) where
   -- a row that needs a value
   pub ends_given : {A : Type 0} (e : Refusal) (o : Option A) (f : A → Doing) (g : A → Option (Rows × Reply)) → (o ≡ None → Only e) → act x p r ≡ given e o f
       → ((a : A) → o ≡ Some a → act x p r ≡ f a → EndsSo Only x p r (g a)) → EndsSo Only x p r (o >>= g)
@@ -42,7 +42,7 @@ module _ (Only : Refusal → Type 0) (x : Tx Request) (p : Place) (r : Rows) (as
       ] refl is
 
 -- a row that stops where a value is not there, and otherwise takes a lock
-pub ends_found : (Only : Refusal → Type 0) (x : Tx Request) (p : Place) (r : Rows) {A : Type 0} (e d : Refusal) (o : Option A) (n : A → Name) (m : Mode) (f : A → Doing) (g : A → Option (Rows × Reply))
+pub ends_found : (Only : Refusal → Type 0) (x : Tx Request) (p : Position) (r : Rows) {A : Type 0} (e d : Refusal) (o : Option A) (n : A → Name) (m : Mode) (f : A → Doing) (g : A → Option (Rows × Reply))
     → Only e → ask x p r ≡ elim o [ None ↦ Stop e | Some a ↦ Take (n a) m ] → act x p r ≡ given d o f
     → ((a : A) → o ≡ Some a → IsAsked system (all_held system) (ask x p r) → act x p r ≡ f a → EndsSo Only x p r (g a)) → EndsSo Only x p r (o >>= g)
 ends_found Only x p r e d None n m f g why s is h = stops_here p r e why s

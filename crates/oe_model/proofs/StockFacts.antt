@@ -12,7 +12,7 @@ use Rattle.oe_requests.specs.declared.requests.NewOrderRequest.{NewOrderRequest}
 use Rattle.oe_keys.proofs.KeyFacts.{stock_total, exact_stock}
 use Rattle.oe_model.specs.Rows.{Rows}
 use Rattle.oe_model.specs.Maps.{each}
-use Rattle.oe_model.specs.Places.{Filled}
+use Rattle.oe_model.specs.Positions.{Filled}
 use Rattle.oe_model.specs.Effects.{◌>>=◌, in_range}
 use Rattle.oe_model.specs.NewOrder.{stock_of, stock_out, supplied, asked, after_lines, all_filled, fill, item_at}
 use Rattle.oe_model.proofs.MapFacts.{get-each, is_self, is_same, same}

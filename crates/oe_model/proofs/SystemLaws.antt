@@ -22,7 +22,7 @@ use Rattle.oe_model.specs.Rows.{Rows}
 use Rattle.oe_model.specs.Changes.{Change}
 use Rattle.oe_model.specs.Meets.{Meets}
 use Rattle.oe_model.specs.Locks.{is_name}
-use Rattle.oe_model.specs.Places.{Place, InPayment, InNewOrder, InDelivery, NoProgram}
+use Rattle.oe_model.specs.Positions.{Position, InPayment, InNewOrder, InDelivery, NoProgram}
 use Rattle.oe_model.specs.Payment.{history_key}
 use Rattle.oe_model.specs.NewOrder.{stock_of, item_at}
 use Rattle.oe_model.specs.Requests.{IsDistrict, IsRequest, MayRefuse, rejection, warehouses_of, warehouse_no}
@@ -143,19 +143,19 @@ starts_by x (request.Delivery q) = refl
 starts_by x (request.Deliveries q) = refl
 starts_by x (request.Rename q) = refl
 
-ask_same : (x : Tx Request) (p : Place) (r s : Rows) → Alike system (Holds system (taken x p)) x r s → ask x p r ≡ ask x p s
+ask_same : (x : Tx Request) (p : Position) (r s : Rows) → Alike system (Holds system (taken x p)) x r s → ask x p r ≡ ask x p s
 ask_same x (InPayment q p) r s h = payment_ask_same x q p r s h
 ask_same x (InNewOrder q p) r s h = new_order_ask_same x q p r s h
 ask_same x (InDelivery q p) r s h = delivery_ask_same x q p r s
 ask_same x NoProgram r s h = refl
 
-act_same : (x : Tx Request) (p : Place) (r s : Rows) → IsAskedNow x p r → Alike system (HeldThen x p r) x r s → act x p r ≡ act x p s
+act_same : (x : Tx Request) (p : Position) (r s : Rows) → IsAskedNow x p r → Alike system (HeldThen x p r) x r s → act x p r ≡ act x p s
 act_same x (InPayment q p) r s k h = payment_act_same x q p r s k h
 act_same x (InNewOrder q p) r s k h = new_order_act_same x q p r s k h
 act_same x (InDelivery q p) r s k h = delivery_act_same x q p r s k h
 act_same x NoProgram r s k h = refl
 
-lawful : (x : Tx Request) (p : Place) (r : Rows) → (c : Option Change) (z : Place) → IsAskedNow x p r → act x p r ≡ Go c z → IsLawful x p r c z
+lawful : (x : Tx Request) (p : Position) (r : Rows) → (c : Option Change) (z : Position) → IsAskedNow x p r → act x p r ≡ Go c z → IsLawful x p r c z
 lawful x (InPayment q p) r c z k e = payment_lawful x q p r c z k e
 lawful x (InNewOrder q p) r c z k e = new_order_lawful x q p r c z k e
 lawful x (InDelivery q p) r c z k e = delivery_lawful x q p r c z k e
@@ -178,7 +178,7 @@ laws = record {
   act_same = act_same;
   next_takes = λ x p r c q k e. (lawful x p r c q k e).takes;
   may_write = λ x p r c q k e. (lawful x p r (Some c) q k e).writes c refl;
-  keeps_part = λ x r s c q h k e f own. inl ((lawful x s.place (overlay system s.changes r) (Some c) q k e).keeps c refl f own);
+  keeps_part = λ x r s c q h k e f own. inl ((lawful x s.position (overlay system s.changes r) (Some c) q k e).keeps c refl f own);
   accepts_same = λ x p r s c q k h e a.
       accepts_alike (with_asked system (ask x p r) (taken x p)) x r s h c ((lawful x p r (Some c) q k e).writes c refl) ((lawful x p r (Some c) q k e).knows c refl) a;
   rejection_same = rejection_same;

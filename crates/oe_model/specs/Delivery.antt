@@ -27,7 +27,7 @@ use Rattle.oe_model.specs.Rows.{Rows}
 use Rattle.oe_model.specs.Maps.{each}
 use Rattle.oe_model.specs.Changes.{DeleteNewOrder, UpdateOrder, UpdateOrderLine, UpdateCustomer}
 use Rattle.oe_model.specs.Locks.{hold}
-use Rattle.oe_model.specs.Places.{DeliveryPlace, DeliveryQueue, DeliveryNothing, DeliveryOrder, DeliveryLine, DeliveryEnd, InDelivery}
+use Rattle.oe_model.specs.Positions.{DeliveryPosition, DeliveryQueue, DeliveryNothing, DeliveryOrder, DeliveryLine, DeliveryEnd, InDelivery}
 use Rattle.oe_model.specs.Effects.{◌>>=◌, first_out, in_range, Doing, given, within}
 use Rattle.oe_model.specs.Payment.{is_balance, is_count}
 
@@ -87,7 +87,7 @@ abbrev pub delivery_effect : DeliveryRequest → Rows → Option (Rows × Reply)
 delivery_effect q r = elim (oldest q.district r.new_orders) [ None ↦ Some (r, reply.Delivery Skipped) | Some o ↦ delivery_of q o r ]
 
 -- the program: the lock of each row
-abbrev pub delivery_ask : DeliveryRequest → DeliveryPlace → Rows → Ask Name Refusal
+abbrev pub delivery_ask : DeliveryRequest → DeliveryPosition → Rows → Ask Name Refusal
 delivery_ask q DeliveryQueue r = Take (name.Queue q.district) Exclusive
 delivery_ask q DeliveryNothing r = Plain
 delivery_ask q (DeliveryOrder o) r = Take (name.Order (order_in q.district o)) Exclusive
@@ -96,7 +96,7 @@ delivery_ask q (DeliveryLine o c [] sum) r = Take (name.Customer (customer_in q.
 delivery_ask q (DeliveryEnd o c sum) r = Plain
 
 -- the work of each row
-abbrev pub delivery_act : DeliveryRequest → DeliveryPlace → Rows → Doing
+abbrev pub delivery_act : DeliveryRequest → DeliveryPosition → Rows → Doing
 delivery_act q DeliveryQueue r =
     elim (oldest q.district r.new_orders) [
       | None ↦ Go None (InDelivery q DeliveryNothing)
@@ -117,11 +117,11 @@ delivery_act q (DeliveryLine o c [] sum) r =
 delivery_act q (DeliveryEnd o c sum) r = Ready (delivered_reply o c sum)
 
 -- the locks that were taken before each row
-abbrev pub delivery_taken : DeliveryRequest → DeliveryPlace → List (Hold Name)
-delivery_taken q place =
+abbrev pub delivery_taken : DeliveryRequest → DeliveryPosition → List (Hold Name)
+delivery_taken q position =
     let one = hold (name.Queue q.district) Exclusive ∷ [] in
     let two = λ (o : ℕ). hold (name.Order (order_in q.district o)) Exclusive ∷ one in
-    elim place [
+    elim position [
       | DeliveryQueue ↦ []
       | DeliveryNothing ↦ one
       | DeliveryOrder o ↦ one

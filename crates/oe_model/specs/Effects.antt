@@ -6,7 +6,7 @@ use Rattle.oe_requests.specs.declared.refusals.Column.{Column}
 use Rattle.oe_requests.specs.declared.refusals.Refusal.{Refusal}
 use Rattle.oe_requests.specs.declared.refusals.Refusal.TheVariants.{Overflow}
 use Rattle.oe_model.specs.Changes.{Change}
-use Rattle.oe_model.specs.Places.{Place}
+use Rattle.oe_model.specs.Positions.{Position}
 
 -- a whole effect: the next line where there is a value, and otherwise none
 infixl 10 ◌>>=◌
@@ -25,7 +25,7 @@ in_range out x = elim (out x) [ None ↦ Some x | Some c ↦ None ]
 
 -- what a row of a program does
 abbrev pub Doing : Type 0
-Doing = Act Change Place Reply Refusal
+Doing = Act Change Position Reply Refusal
 
 -- it goes on where there is a value, and otherwise fails
 abbrev pub given : {A : Type 0} → Refusal → Option A → (A → Doing) → Doing

@@ -11,7 +11,7 @@ pub mod Changes
 pub mod Meets
 pub mod RowLaws
 pub mod Locks
-pub mod Places
+pub mod Positions
 pub mod Effects
 pub mod Choice
 pub mod Payment

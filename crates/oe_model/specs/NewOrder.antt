@@ -37,7 +37,7 @@ use Rattle.oe_model.specs.Rows.{Rows}
 use Rattle.oe_model.specs.Maps.{each, with_all}
 use Rattle.oe_model.specs.Changes.{InsertNewOrder, InsertOrder, InsertOrderLine, UpdateDistrict, UpdateStock}
 use Rattle.oe_model.specs.Locks.{hold}
-use Rattle.oe_model.specs.Places.{Seen, Filled, NewOrderPlace, NewOrderWarehouse, NewOrderDistrict, NewOrderCustomer, NewOrderOrder, NewOrderQueue, NewOrderStock, NewOrderLine, InNewOrder}
+use Rattle.oe_model.specs.Positions.{Seen, Filled, NewOrderPosition, NewOrderWarehouse, NewOrderDistrict, NewOrderCustomer, NewOrderOrder, NewOrderQueue, NewOrderStock, NewOrderLine, InNewOrder}
 use Rattle.oe_model.specs.Effects.{◌>>=◌, first_out, in_range, Doing, given, within}
 use Rattle.oe_model.specs.Payment.{is_count}
 
@@ -181,7 +181,7 @@ new_order_effect q r = do
   )
 
 -- the program: the lock of each row
-abbrev pub new_order_ask : NewOrderRequest → NewOrderPlace → Rows → Ask Name Refusal
+abbrev pub new_order_ask : NewOrderRequest → NewOrderPosition → Rows → Ask Name Refusal
 new_order_ask q NewOrderWarehouse r = Take (name.Warehouse (warehouse_of_district q.district)) Shared
 new_order_ask q (NewOrderDistrict w) r = Take (name.District q.district) Exclusive
 new_order_ask q (NewOrderCustomer o w d) r =
@@ -197,7 +197,7 @@ new_order_ask q (NewOrderStock s before done (l ∷ ls)) r =
 new_order_ask q (NewOrderLine s before done l f ls) r = Plain
 
 -- the work of each row
-abbrev pub new_order_act : NewOrderRequest → NewOrderPlace → Rows → Doing
+abbrev pub new_order_act : NewOrderRequest → NewOrderPosition → Rows → Doing
 new_order_act q NewOrderWarehouse r =
     given (NoSuchRow (key.Warehouse (warehouse_of_district q.district))) (get r.warehouses (warehouse_of_district q.district)) (λ x.
     Go None (InNewOrder q (NewOrderDistrict x.tax)))
@@ -232,14 +232,14 @@ new_order_act q (NewOrderLine s before done l f ls) r =
 abbrev pub stock_holds : List RequestLine → List (Hold Name)
 stock_holds ls = map (λ l. hold (name.Stock (stock_of l)) Exclusive) ls
 
-abbrev pub new_order_taken : NewOrderRequest → NewOrderPlace → List (Hold Name)
-new_order_taken q place =
+abbrev pub new_order_taken : NewOrderRequest → NewOrderPosition → List (Hold Name)
+new_order_taken q position =
     let one = hold (name.Warehouse (warehouse_of_district q.district)) Shared ∷ [] in
     let two = hold (name.District q.district) Exclusive ∷ one in
     let three = hold (name.Customer (customer_in q.district q.customer)) Shared ∷ two in
     let four = λ (o : ℕ). hold (name.Order (order_in q.district o)) Exclusive ∷ three in
     let five = λ (o : ℕ). hold (name.Queue q.district) Exclusive ∷ four o in
-    elim place [
+    elim position [
       | NewOrderWarehouse ↦ []
       | NewOrderDistrict w ↦ one
       | NewOrderCustomer o w d ↦ two

@@ -25,7 +25,7 @@ use Rattle.oe_model.specs.Keys.{warehouse_of_district, customer_in}
 use Rattle.oe_model.specs.Rows.{Rows}
 use Rattle.oe_model.specs.Changes.{InsertHistory, UpdateWarehouse, UpdateDistrict, UpdateCustomer}
 use Rattle.oe_model.specs.Locks.{hold}
-use Rattle.oe_model.specs.Places.{PaymentPlace, PaymentWarehouse, PaymentDistrict, PaymentCustomer, PaymentHistory, PaymentEnd, InPayment}
+use Rattle.oe_model.specs.Positions.{PaymentPosition, PaymentWarehouse, PaymentDistrict, PaymentCustomer, PaymentHistory, PaymentEnd, InPayment}
 use Rattle.oe_model.specs.Effects.{◌>>=◌, first_out, in_range, Doing, given, within}
 use Rattle.oe_model.specs.Choice.{chosen}
 
@@ -81,7 +81,7 @@ history_row q c info = record { customer = customer_in q.customer_district c; di
 
 -- of transaction k of terminal t
 abbrev pub history_key : ℕ → ℕ → HistoryKey
-history_key t k = record { terminal = t; number = k; place = 1 }
+history_key t k = record { terminal = t; number = k; ordinal = 1 }
 
 abbrev pub paid_reply : ℕ → Customer → PaymentReply
 paid_reply c x = record { customer = c; last = x.name.last; credit = x.credit; balance = x.account.balance }
@@ -107,7 +107,7 @@ payment_effect t k q r = do
   )
 
 -- the program: the lock of each row
-abbrev pub payment_ask : PaymentRequest → PaymentPlace → Rows → Ask Name Refusal
+abbrev pub payment_ask : PaymentRequest → PaymentPosition → Rows → Ask Name Refusal
 payment_ask q PaymentWarehouse r = Take (name.Warehouse (warehouse_of_district q.district)) Exclusive
 payment_ask q (PaymentDistrict w) r = Take (name.District q.district) Exclusive
 payment_ask q (PaymentCustomer w d) r =
@@ -119,7 +119,7 @@ payment_ask q (PaymentHistory d y) r = Plain
 payment_ask q (PaymentEnd y) r = Plain
 
 -- the work of each row
-abbrev pub payment_act : ℕ → ℕ → PaymentRequest → PaymentPlace → Rows → Doing
+abbrev pub payment_act : ℕ → ℕ → PaymentRequest → PaymentPosition → Rows → Doing
 payment_act t k q PaymentWarehouse r =
     given (NoSuchRow (key.Warehouse (warehouse_of_district q.district))) (get r.warehouses (warehouse_of_district q.district)) (λ x.
     within (paid_warehouse_out (paid_warehouse q x))
@@ -138,12 +138,12 @@ payment_act t k q (PaymentHistory d y) r = Go (Some (InsertHistory (history_key 
 payment_act t k q (PaymentEnd y) r = Ready (reply.Payment y)
 
 -- the locks that were taken before each row, the last one first
-abbrev pub payment_taken : PaymentRequest → PaymentPlace → List (Hold Name)
-payment_taken q place =
+abbrev pub payment_taken : PaymentRequest → PaymentPosition → List (Hold Name)
+payment_taken q position =
     let one = hold (name.Warehouse (warehouse_of_district q.district)) Exclusive ∷ [] in
     let two = hold (name.District q.district) Exclusive ∷ one in
     let three = λ (c : ℕ). hold (name.Customer (customer_in q.customer_district c)) Exclusive ∷ two in
-    elim place [
+    elim position [
       | PaymentWarehouse ↦ []
       | PaymentDistrict w ↦ one
       | PaymentCustomer w d ↦ two

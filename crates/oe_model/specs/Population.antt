@@ -115,9 +115,9 @@ customer_of c =
 abbrev pub history_of : CustomerKey → History
 history_of c = record { customer = c; district = district_of_customer c; date = start; amount = 1_000; «data» = codes "INITIAL HISTORY" }
 
--- the key of that row: terminal 0, place 1, and a number that counts all customers from 1, in the order of their keys
+-- the key of that row: terminal 0, ordinal 1, and a number that counts all customers from 1, in the order of their keys
 abbrev pub history_key : Scale → CustomerKey → HistoryKey
-history_key s c = record { terminal = 0; number = ((c.warehouse - 1) * 10 + (c.district - 1)) * s.customers + c.customer; place = 1 }
+history_key s c = record { terminal = 0; number = ((c.warehouse - 1) * 10 + (c.district - 1)) * s.customers + c.customer; ordinal = 1 }
 
 -- the customer that a number counts
 abbrev pub counted_customer : Scale → ℕ → CustomerKey

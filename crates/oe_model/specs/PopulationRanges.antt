@@ -22,7 +22,7 @@ abbrev pub IsKey : Key → Type 0
 IsKey (key.Warehouse k) = IsInRange 1 16 k.warehouse
 IsKey (key.District k) = IsDistrictKey k
 IsKey (key.Customer k) = IsCustomerKey k
-IsKey (key.History k) = (k.terminal ≡ 0) × IsInRange 0 4_294_967_295 k.number × (k.place ≡ 1)
+IsKey (key.History k) = (k.terminal ≡ 0) × IsInRange 0 4_294_967_295 k.number × (k.ordinal ≡ 1)
 IsKey (key.NewOrder k) = IsDistrictKey (district_of_new_order k) × IsInRange 1 10_000_000 k.order
 IsKey (key.Order k) = IsDistrictKey (district_of_order k) × IsInRange 1 10_000_000 k.order
 IsKey (key.OrderLine k) = IsDistrictKey (district_of_order (order_of_line k)) × IsInRange 1 10_000_000 k.order × IsInRange 1 15 k.number

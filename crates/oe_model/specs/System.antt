@@ -17,7 +17,7 @@ use Rattle.oe_model.specs.Rows.{Rows, is_key, row_at}
 use Rattle.oe_model.specs.Changes.{Change, key_of, row_of, changed, Record, record_of, record_key, row_before, put_back, redo}
 use Rattle.oe_model.specs.Meets.{Accepts}
 use Rattle.oe_model.specs.Locks.{is_name, governs, Facet, Part, facet_key, part, governs_part}
-use Rattle.oe_model.specs.Places.{Place, InPayment, InNewOrder, InDelivery, NoProgram, PaymentWarehouse, PaymentEnd, NewOrderWarehouse, NewOrderCustomer, NewOrderStock, DeliveryQueue, DeliveryNothing, DeliveryEnd}
+use Rattle.oe_model.specs.Positions.{Position, InPayment, InNewOrder, InDelivery, NoProgram, PaymentWarehouse, PaymentEnd, NewOrderWarehouse, NewOrderCustomer, NewOrderStock, DeliveryQueue, DeliveryNothing, DeliveryEnd}
 use Rattle.oe_model.specs.Effects.{Doing}
 use Rattle.oe_model.specs.Payment.{payment_effect, payment_ask, payment_act, payment_taken}
 use Rattle.oe_model.specs.NewOrder.{new_order_effect, new_order_ask, new_order_act, new_order_taken}
@@ -28,26 +28,26 @@ use Rattle.oe_model.specs.Queries.{answer_of}
 use Rattle.oe_model.specs.Audits.{Condition, Verdict, verdict}
 
 -- where the program of a request begins
-abbrev pub start_of : Request → Place
+abbrev pub start_of : Request → Position
 start_of (request.Payment q) = InPayment q PaymentWarehouse
 start_of (request.NewOrder q) = InNewOrder q NewOrderWarehouse
 start_of (request.Delivery q) = InDelivery q DeliveryQueue
 start_of (request.Deliveries q) = NoProgram
 start_of (request.Rename q) = NoProgram
 
-abbrev pub ask : Tx Request → Place → Rows → Ask Name Refusal
+abbrev pub ask : Tx Request → Position → Rows → Ask Name Refusal
 ask x (InPayment q p) r = payment_ask q p r
 ask x (InNewOrder q p) r = new_order_ask q p r
 ask x (InDelivery q p) r = delivery_ask q p r
 ask x NoProgram r = Stop NotOpen
 
-abbrev pub act : Tx Request → Place → Rows → Doing
+abbrev pub act : Tx Request → Position → Rows → Doing
 act x (InPayment q p) r = payment_act x.terminal x.number q p r
 act x (InNewOrder q p) r = new_order_act q p r
 act x (InDelivery q p) r = delivery_act q p r
 act x NoProgram r = Fail NotOpen
 
-abbrev pub taken : Tx Request → Place → List (Hold Name)
+abbrev pub taken : Tx Request → Position → List (Hold Name)
 taken x (InPayment q p) = payment_taken q p
 taken x (InNewOrder q p) = new_order_taken q p
 taken x (InDelivery q p) = delivery_taken q p
@@ -62,12 +62,12 @@ effect_of t k (request.Deliveries q) r = None
 effect_of t k (request.Rename q) r = None
 
 -- no program of today moves its mark
-abbrev pub marks : Place → Bool
+abbrev pub marks : Position → Bool
 marks p = false
 
 -- The rows that make a change may need memory: an insert for its place in a table, and each change for its undo record, since
 -- records do not lie in a ring of fixed size yet. These rows make none.
-abbrev pub may_allocate : Place → Bool
+abbrev pub may_allocate : Position → Bool
 may_allocate (InPayment q (PaymentEnd y)) = false
 may_allocate (InNewOrder q NewOrderWarehouse) = false
 may_allocate (InNewOrder q (NewOrderCustomer o w d)) = false
@@ -82,7 +82,7 @@ abbrev pub by_number : CustomerChoice → Bool
 by_number (Number c) = true
 by_number (LastName last) = false
 
-abbrev pub yields : Place → Refusal → Bool
+abbrev pub yields : Position → Refusal → Bool
 yields p (Overflow c) = true
 yields (InPayment q p) NoCustomer = by_number q.customer
 yields (InNewOrder q p) NoCustomer = true
@@ -130,7 +130,7 @@ machine layout = record {
   governs = governs;
   governs_part = governs_part;
   Request = Request;
-  Place = Place;
+  Position = Position;
   Reply = Reply;
   Refusal = Refusal;
   IsRequest = IsRequest;

@@ -1,4 +1,4 @@
--- What a row writes, where its columns stay in their ranges.
+-- What a stage writes, where its columns stay in their ranges.
 use Rattle.std.proofs.Common.{◌≡◌, ℕ, ◌+◌, ◌≤◌, ◌<◌, ◌⊎◌, inl, inr, List, ◌∷◌, length, Option, None, Some, refl, sym, ap, ◌∙◌, subst}
 use Rattle.std.specs.Prelude.{Result, Ok, Err, option_map, Bool, true, false, cond, nat_le}
 use Rattle.std.proofs.lemmas.Bool.{le-leb}
@@ -25,7 +25,7 @@ use Rattle.oe_formulas.specs.Checks.{checked, row_with}
 use Rattle.oe_model.specs.Rows.{Rows}
 use Rattle.oe_model.specs.Changes.{UpdateDistrict, UpdateStock}
 use Rattle.oe_model.specs.Effects.{Doing, given, within}
-use Rattle.oe_model.specs.Places.{Seen, NewOrderDistrict, NewOrderCustomer, NewOrderStock, NewOrderLine, InNewOrder}
+use Rattle.oe_model.specs.Positions.{Seen, NewOrderDistrict, NewOrderCustomer, NewOrderStock, NewOrderLine, InNewOrder}
 use Rattle.oe_model.specs.NewOrder.{supplied, stock_of, stock_out, item_at, fill, with_next, next_out, new_order_ask, new_order_act}
 use Rattle.oe_neworder.specs.Program.{filled_by}
 use Rattle.oe_neworder.specs.Looks.{Writes, IsSupply}
@@ -48,7 +48,7 @@ module _ {A : Type 0} (out : A → Option Column) (x : A) where
       by None h = absurd (let no : ⊥ = cc in no)
       by (Some k) h = let same : k ≡ c = cc in ap (λ (z : Column). Fail (Overflow z)) same
 
--- the second row
+-- the second stage
 module _ (q : NewOrderRequest) (r : Rows) (x : District) (here : get r.districts q.district ≡ Some x) (w : ℕ) where
   at_district : (d : Doing)
       → within (next_out (with_next x)) (Go (Some (UpdateDistrict q.district (with_next x))) (InNewOrder q (NewOrderCustomer x.next_order w x.tax))) ≡ d
@@ -90,7 +90,7 @@ item_unused n r high = go (leb_tells n 100000)
     go (inl h) = absurd (high h.1)
     go (inr h) = ap (λ (b : Bool). cond b (get r.items (record { item = n })) None) h.0
 
--- the stock row of a line
+-- the stage of the stock of a line
 module _ (q : NewOrderRequest) (r : Rows) (y : Seen) (before : List RequestLine) (done : List LineReply) (l : RequestLine) (ls : List RequestLine)
     (item : Item) (sold : item_at l.item r.items ≡ Some item) where
   abbrev after : Stock → Doing

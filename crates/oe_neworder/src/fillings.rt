@@ -1,4 +1,4 @@
-//! The lines of an order, two rows a line.
+//! The lines of an order, two stages a line.
 ghost use Rattle.std.specs.Prelude.{◌≡◌, ◌+◌, ◌<◌, length, slice_get, Some, None, IsSome, OnErr, option_map};
 ghost use Rattle.oe_theory.specs.Machine.{Plain};
 ghost use Rattle.oe_theory.specs.Machine as theory;
@@ -9,7 +9,7 @@ ghost use Rattle.oe_model.specs.Changes.{InsertOrderLine};
 ghost use Rattle.oe_engine.specs.View.{view_of, IsOpen};
 ghost use Rattle.oe_engine.specs.Programs.{new_order_reply};
 ghost use Rattle.oe_engine.specs.Deeds.{Does};
-ghost use Rattle.oe_neworder.specs.Program.{line_place};
+ghost use Rattle.oe_neworder.specs.Program.{line_position};
 ghost use Rattle.oe_neworder.specs.Rows.{Advances, HoldsTaken, Fills};
 
 use crate::looks::{Supply, supply_of};
@@ -156,8 +156,8 @@ impl Filling {
         requires next { slice_get request.now.lines (length self.old.done) ≡ Some line.now }
         requires none { self.old.filled ≡ None }
         requires room { length self.old.done < 15 }
-        ensures { Advances request.now tx.now engine.old (line_place request.now self.old)
-            result engine.new (line_place request.now self.new) }
+        ensures { Advances request.now tx.now engine.old (line_position request.now self.old)
+            result engine.new (line_position request.now self.new) }
     {
         match fill(request, line, number_after(&self.done), engine, tx) {
             Ok(filled) => {
@@ -181,9 +181,9 @@ impl Filling {
         requires some { IsSome self.old.filled }
         requires room { length self.old.done < 15 }
         requires held { HoldsTaken request.now tx.now engine.old
-            (line_place request.now self.old) }
-        ensures { Advances request.now tx.now engine.old (line_place request.now self.old)
-            result engine.new (line_place request.now self.new) }
+            (line_position request.now self.old) }
+        ensures { Advances request.now tx.now engine.old (line_position request.now self.old)
+            result engine.new (line_position request.now self.new) }
     {
         let Some(filled) = &self.filled else {
             unreachable!();
@@ -199,13 +199,13 @@ impl Filling {
         }
     }
 
-    /// One row of the lines, of STOCK or of ORDER-LINE; ready after the last.
+    /// One stage of the lines, of STOCK or of ORDER-LINE; ready after the last.
     pub fn next(&mut self, request: &NewOrderRequest, engine: &mut Engine, tx: &Tx) -> Progress
         requires open { IsOpen engine.old tx.now }
         requires held { HoldsTaken request.now tx.now engine.old
-            (line_place request.now self.old) }
-        ensures { Advances request.now tx.now engine.old (line_place request.now self.old)
-            result engine.new (line_place request.now self.new) }
+            (line_position request.now self.old) }
+        ensures { Advances request.now tx.now engine.old (line_position request.now self.old)
+            result engine.new (line_position request.now self.new) }
     {
         let Some(line) = self.next_line(request) else {
             return Progress::Ready;
@@ -220,7 +220,7 @@ impl Filling {
     /// The reply, once all lines of the request are done; none before that.
     pub fn reply(&self, request: &NewOrderRequest) -> Option<NewOrderReply>
         ensures { option_map Reply.NewOrder result
-            ≡ new_order_reply (line_place request.now self.now) }
+            ≡ new_order_reply (line_position request.now self.now) }
     {
         match self.next_line(request) {
             Some(_) => None,

@@ -2,10 +2,10 @@
 ghost use Rattle.std.specs.Prelude.{◌≡◌, option_map};
 ghost use Rattle.oe_requests.specs.declared.requests.Request.{Request};
 ghost use Rattle.oe_requests.specs.declared.replies.Reply.{Reply};
-ghost use Rattle.oe_model.specs.Places.{InNewOrder};
+ghost use Rattle.oe_model.specs.Positions.{InNewOrder};
 ghost use Rattle.oe_engine.specs.View.{IsOpen};
 ghost use Rattle.oe_engine.specs.Programs.{Progresses, new_order_reply};
-ghost use Rattle.oe_neworder.specs.Program.{place_of, IsBeforeLines};
+ghost use Rattle.oe_neworder.specs.Program.{position_of, IsBeforeLines};
 ghost use Rattle.oe_neworder.specs.Rows.{HoldsTaken, Steps};
 
 use crate::fillings::Filling;
@@ -15,8 +15,8 @@ use oe_formulas::orders::Seen;
 use oe_requests::{NewOrderReply, NewOrderRequest, Refusal};
 use oe_values::{OrderNumber, Rate};
 
-/// Where a New-Order stands: the row that it comes to next, with what the rows before have read. Its request lies with whoever
-/// carries it out. It is of fixed size, and any value of it is a place of any request.
+/// Where a New-Order stands: the stage that it comes to next, with what the stages before have read. Its request lies with whoever
+/// carries it out. It is of fixed size, and any value of it is a position of any request.
 #[derive(Drop, Debug)]
 pub enum Program {
     Warehouse,
@@ -30,7 +30,7 @@ pub enum Program {
 }
 
 impl Program {
-    /// At its first row.
+    /// At its first stage.
     pub fn new() -> Self
         ensures { result ≡ Program.Warehouse }
     {
@@ -53,10 +53,10 @@ impl Program {
         }
     }
 
-    /// The reply, once all rows of the request are done; none before that.
+    /// The reply, once all stages of the request are done; none before that.
     pub fn reply(&self, request: &NewOrderRequest) -> Option<NewOrderReply>
         ensures { option_map Reply.NewOrder result
-            ≡ new_order_reply (place_of request.now self.now) }
+            ≡ new_order_reply (position_of request.now self.now) }
     {
         match self {
             Program::Lines(filling) => filling.reply(request),
@@ -64,18 +64,18 @@ impl Program {
         }
     }
 
-    // One row before the lines.
+    // One stage before the lines.
     fn row(
         &self,
         request: &NewOrderRequest,
         engine: &mut Engine,
         tx: &Tx,
     ) -> Result<Program, Refusal>
-        requires place { IsBeforeLines self.now }
+        requires position { IsBeforeLines self.now }
         requires open { IsOpen engine.old tx.now }
         requires held { HoldsTaken request.now tx.now engine.old
-            (place_of request.now self.now) }
-        ensures { Steps request.now tx.now engine.old (place_of request.now self.now)
+            (position_of request.now self.now) }
+        ensures { Steps request.now tx.now engine.old (position_of request.now self.now)
             result engine.new }
     {
         match self {
@@ -90,18 +90,18 @@ impl Program {
         }
     }
 
-    /// One row of the order: its lock and its one change. The names that the rows before have taken are held: the order's for
+    /// One stage of the order: its lock and its one change. The names that the stages before have taken are held: the order's for
     /// its NEW-ORDER row and its lines.
     ///
     /// The order of refusals is `NoCustomer` or `InvalidItem`, which stop before the lock, `Busy`, `Overflow`, and `NoMemory`
-    /// where memory was refused. A refused row leaves the program, the tables and the locks as they were. Each row of an order is
+    /// where memory was refused. A refused stage leaves the program, the tables and the locks as they were. Each stage of an order is
     /// told the same request.
     pub fn next(&mut self, request: &NewOrderRequest, engine: &mut Engine, tx: &Tx) -> Progress
         requires { IsOpen engine.old tx.now →
-            HoldsTaken request.now tx.now engine.old (place_of request.now self.old) }
+            HoldsTaken request.now tx.now engine.old (position_of request.now self.old) }
         ensures { Progresses (Request.NewOrder request.now) tx.now
-            engine.old (InNewOrder request.now (place_of request.now self.old)) result
-            engine.new (InNewOrder request.now (place_of request.now self.new)) }
+            engine.old (InNewOrder request.now (position_of request.now self.old)) result
+            engine.new (InNewOrder request.now (position_of request.now self.new)) }
     {
         if !engine.is_open(tx) {
             return Progress::Refused(Refusal::NotOpen);

@@ -1,8 +1,8 @@
-//! The rows of a New-Order before its lines, each done on an engine or refused by it.
+//! The stages of a New-Order before its lines, each done on an engine or refused by it.
 ghost use Rattle.std.specs.Prelude.{◌≡◌, IsSome};
 ghost use Rattle.oe_keys.specs.declared.locks.Name.TheVariants as name;
 ghost use Rattle.oe_model.specs.Keys.{order_in};
-ghost use Rattle.oe_model.specs.Places.{NewOrderWarehouse, NewOrderDistrict, NewOrderCustomer, NewOrderOrder, NewOrderQueue};
+ghost use Rattle.oe_model.specs.Positions.{NewOrderWarehouse, NewOrderDistrict, NewOrderCustomer, NewOrderOrder, NewOrderQueue};
 ghost use Rattle.oe_formulas.specs.Orders.{seen_by};
 ghost use Rattle.oe_engine.specs.View.{view_of, IsOpen};
 ghost use Rattle.oe_neworder.specs.Rows.{Steps};

@@ -1,3 +1,3 @@
 pub mod ChoiceFacts
 pub mod StepFacts
-pub mod DeedFacts
+pub mod StageFacts

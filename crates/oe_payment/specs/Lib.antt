@@ -1,4 +1,4 @@
 -- What the clauses of this crate cite.
 pub mod Choice
 pub mod Program
-pub mod Deeds
+pub mod Stages

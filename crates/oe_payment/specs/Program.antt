@@ -1,12 +1,12 @@
 -- What a payment's program stands for.
-use Rattle.oe_model.specs.Places.{PaymentPlace, PaymentWarehouse, PaymentDistrict, PaymentCustomer, PaymentHistory, PaymentEnd}
-use Rattle.oe_payment.specs.declared.places.Place.{Place}
-use Rattle.oe_payment.specs.declared.places.Place.TheVariants as place
+use Rattle.oe_model.specs.Positions.{PaymentPosition, PaymentWarehouse, PaymentDistrict, PaymentCustomer, PaymentHistory, PaymentEnd}
+use Rattle.oe_payment.specs.declared.positions.Position.{Position}
+use Rattle.oe_payment.specs.declared.positions.Position.TheVariants as position
 
--- the place of the model
-abbrev pub place_in : Place → PaymentPlace
-place_in place.Warehouse = PaymentWarehouse
-place_in (place.District w) = PaymentDistrict w
-place_in (place.Customer w d) = PaymentCustomer w d
-place_in (place.History d y) = PaymentHistory d y
-place_in (place.End y) = PaymentEnd y
+-- the position of the model
+abbrev pub position_in : Position → PaymentPosition
+position_in position.Warehouse = PaymentWarehouse
+position_in (position.District w) = PaymentDistrict w
+position_in (position.Customer w d) = PaymentCustomer w d
+position_in (position.History d y) = PaymentHistory d y
+position_in (position.End y) = PaymentEnd y

@@ -1,6 +1,6 @@
 -- What this crate's proofs rest on.
 mod RangeFacts
-mod PlaceFacts
+mod SplitFacts
 mod StockFacts
 mod LineFacts
 mod LevelFacts

@@ -12,12 +12,12 @@ use Rattle.oe_requests.specs.declared.replies.LineReply.{LineReply}
 use Rattle.oe_requests.specs.declared.requests.RequestLine.{RequestLine}
 use Rattle.oe_requests.specs.declared.requests.NewOrderRequest.{NewOrderRequest}
 use Rattle.oe_model.specs.Rows.{Rows}
-use Rattle.oe_model.specs.Places.{Filled}
+use Rattle.oe_model.specs.Positions.{Filled}
 use Rattle.oe_model.specs.Effects.{◌>>=◌, in_range}
 use Rattle.oe_model.specs.NewOrder.{stock_of, stock_out, after_lines, item_at, fill, filled, all_filled, replies_of}
 use Rattle.oe_reference.specs.declared.orders.FilledLine.{FilledLine}
 use Rattle.oe_reference.specs.After.{filled_by, AreFilled}
-use Rattle.oe_reference.proofs.PlaceFacts.{take_one, split_at}
+use Rattle.oe_reference.proofs.SplitFacts.{take_one, split_at}
 use Rattle.oe_reference.proofs.StockFacts.{le_true}
 
 pub map_replies : (fs : List FilledLine) → map (λ l. l.reply) fs ≡ replies_of (map filled_by fs)

@@ -12,7 +12,7 @@ use Rattle.oe_requests.specs.declared.refusals.Column.TheVariants as column
 use Rattle.oe_keys.proofs.KeyFacts.{stock_total, exact_stock}
 use Rattle.oe_model.specs.Effects.{in_range}
 use Rattle.oe_model.proofs.MapFacts.{is_same}
-use Rattle.oe_reference.proofs.PlaceFacts.{take_one, split_at}
+use Rattle.oe_reference.proofs.SplitFacts.{take_one, split_at}
 use Rattle.oe_model.specs.NewOrder.{supplied, stock_of, asked, after_lines, stock_out}
 
 pub after-append : (home : ℕ) (a b : List RequestLine) (k : StockKey) (x : Stock) → after_lines home (a ++ b) k x ≡ after_lines home b k (after_lines home a k x)
@@ -99,7 +99,7 @@ not_asked k l small none = by_test (eq_by_cmp stock_cmp k (stock_of l)) refl
         let own : k.item ≡ l.item = ap (λ (j : StockKey). j.item) (is_same stock_total exact_stock k (stock_of l) e) in
         absurd (none (let h : l.item ≤ 100000 = omega arith in h))
 
--- lines that are taken one at a time, of which l stands at place i
+-- lines that are taken one at a time, of which l stands at index i
 pub none_after : (home : ℕ) (ls : List RequestLine) (i : ℕ) (l : RequestLine) (k : StockKey) (x y : Stock) → i < length ls → l ≡ get_or ls i l → y ≡ after_lines home (take i ls) k x
     → None ≡ in_range stock_out (after_lines home (l ∷ []) k y) → None ≡ in_range stock_out (after_lines home ls k x)
 none_after home ls i l k x y h at is e =

@@ -19,7 +19,7 @@ use Rattle.oe_requests.specs.declared.replies.Reply.TheVariants as reply
 use Rattle.oe_model.specs.Keys.{warehouse_of_district, customer_in, order_in, new_order_in, order_of_line}
 use Rattle.oe_model.specs.Rows.{Rows}
 use Rattle.oe_model.specs.Maps.{each, with_all}
-use Rattle.oe_model.specs.Places.{Filled}
+use Rattle.oe_model.specs.Positions.{Filled}
 use Rattle.oe_model.specs.Effects.{in_range}
 use Rattle.oe_model.specs.Payment.{history_key, payment_effect}
 use Rattle.oe_model.specs.NewOrder.{stock_of, stock_out, after_lines, filled, all_filled, new_order_row, line_entries, new_order_effect}
@@ -48,14 +48,16 @@ IsPaymentEffect t k q r o = payment_effect t k q r ≡ option_map (after_payment
 
 -- the STOCK row that a line asks for, after that line and those before it
 abbrev pub stock_after : ℕ → List RequestLine → RequestLine → Stock → Option Stock
-stock_after home before l x = in_range stock_out (after_lines home (before ++ l ∷ []) (stock_of l) x)
+stock_after home before l x =
+    in_range stock_out (after_lines home (before ++ l ∷ []) (stock_of l) x)
 
 -- a line as the model has it
 abbrev pub filled_by : FilledLine → Filled
 filled_by l = record { number = l.number; row = l.row; reply = l.reply }
 
 -- the line was filled after these, or can't be and there is none
-abbrev pub IsFilled : NewOrderRequest → Rows → List RequestLine → RequestLine → Option FilledLine → Type 0
+abbrev pub IsFilled : NewOrderRequest → Rows → List RequestLine → RequestLine → Option FilledLine
+    → Type 0
 IsFilled q r before l o = option_map filled_by o ≡ filled q r before l
 
 -- the first lines of the order, in turn, are these
@@ -64,7 +66,8 @@ AreFilled q r done = all_filled q r [] (take (length done) q.lines) ≡ Some (ma
 
 -- the line after those that were filled, or there is none and not all lines can be filled
 abbrev pub IsNextFilled : NewOrderRequest → Rows → List FilledLine → Option FilledLine → Type 0
-IsNextFilled q r done o = MatchOption o (all_filled q r [] q.lines ≡ None) (λ f. AreFilled q r (done ++ f ∷ []))
+IsNextFilled q r done o =
+    MatchOption o (all_filled q r [] q.lines ≡ None) (λ f. AreFilled q r (done ++ f ∷ []))
 
 -- all lines, or there is none and not all can be filled
 abbrev pub AreAllFilled : NewOrderRequest → Rows → Option (Vec FilledLine) → Type 0
@@ -78,7 +81,8 @@ after_order q r o = (
     orders = insert r.orders (order_in q.district o.reply.order) o.order;
     new_orders = insert r.new_orders (new_order_in q.district o.reply.order) new_order_row;
     order_lines =
-        with_all (line_entries (order_in q.district o.reply.order) (map filled_by o.lines.items)) r.order_lines;
+        with_all (line_entries (order_in q.district o.reply.order)
+        (map filled_by o.lines.items)) r.order_lines;
     stocks = each (after_lines q.district.warehouse q.lines) r.stocks;
   },
   reply.NewOrder o.reply,
@@ -90,7 +94,8 @@ IsOrderEffect q r o = new_order_effect q r ≡ option_map (after_order q r) o
 
 -- the lines are those that were filled
 abbrev pub HasFilledLines : NewOrderRequest → Rows → Option Ordered → Type 0
-HasFilledLines q r o = IfSome o (λ x. all_filled q r [] q.lines ≡ Some (map filled_by x.lines.items))
+HasFilledLines q r o =
+    IfSome o (λ x. all_filled q r [] q.lines ≡ Some (map filled_by x.lines.items))
 
 -- the sum of the OL_AMOUNTs of an order's lines
 abbrev pub worth_of : OrderKey → Rows → ℕ
@@ -116,7 +121,8 @@ after_delivery q r (Delivered d) = (
     new_orders = remove r.new_orders (new_order_in q.district d.reply.order);
     orders = insert r.orders (order_in q.district d.reply.order) d.order;
     order_lines =
-        each (λ k x. cond (eq_by_cmp order_cmp (order_of_line k) (order_in q.district d.reply.order)) (dated q.stamp x) x)
+        each (λ k x. cond (eq_by_cmp order_cmp (order_of_line k)
+        (order_in q.district d.reply.order)) (dated q.stamp x) x)
         r.order_lines;
     customers = insert r.customers (customer_in q.district d.reply.customer) d.customer;
   },
@@ -129,6 +135,7 @@ IsDeliveryEffect q r o = delivery_effect q r ≡ option_map (after_delivery q r)
 
 -- the lines are those of the order that was delivered, dated
 abbrev pub HasDatedLines : DeliveryRequest → Rows → Option DistrictEffect → Type 0
-HasDatedLines q r (Some (Delivered d)) = d.lines.items ≡ dated_lines (order_in q.district d.reply.order) q.stamp r
+HasDatedLines q r (Some (Delivered d)) =
+    d.lines.items ≡ dated_lines (order_in q.district d.reply.order) q.stamp r
 HasDatedLines q r (Some Skipped) = Unit {0}
 HasDatedLines q r None = Unit {0}

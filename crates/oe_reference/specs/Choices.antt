@@ -13,7 +13,8 @@ use Rattle.oe_model.specs.Choice.{namesakes, comes_before}
 -- the key is of the district, and the name has this C_LAST
 abbrev pub is_named : DistrictKey → List ℕ → CustomerKey → CustomerName → Bool
 is_named h last k name =
-    eq_by_cmp district_cmp (district_of_customer k) h && eq_by_cmp (slice_cmp nat_cmp) name.last last
+    eq_by_cmp district_cmp (district_of_customer k) h
+    && eq_by_cmp (slice_cmp nat_cmp) name.last last
 
 -- C_FIRST and C_ID of each customer of the district with this C_LAST
 abbrev pub namesakes_in : DistrictKey → List ℕ → Rows → List (List ℕ × ℕ)

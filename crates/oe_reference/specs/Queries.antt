@@ -36,14 +36,16 @@ abbrev pub newest_told : CustomerKey → Rows → Option OrderStatus
 newest_told k r = status_of r.order_lines (last_order k r.orders)
 
 abbrev pub order_told : NewestOrder → OrderStatus
-order_told o = record { number = o.number; entry = o.entry; carrier = o.carrier; lines = o.lines.items }
+order_told o =
+    record { number = o.number; entry = o.entry; carrier = o.carrier; lines = o.lines.items }
 
 -- the customer's newest order, or there is none
 abbrev pub IsNewest : CustomerKey → Rows → Option NewestOrder → Type 0
 IsNewest k r o = option_map order_told o ≡ newest_told k r
 
 abbrev pub status_told : Status → StatusReply
-status_told s = record { customer = s.customer; balance = s.balance; order = option_map order_told s.order }
+status_told s =
+    record { customer = s.customer; balance = s.balance; order = option_map order_told s.order }
 
 -- Order-Status answers this, or that there is no such customer and there is none
 abbrev pub IsStatus : StatusQuery → Rows → Option Status → Type 0
@@ -53,7 +55,8 @@ IsStatus q r o =
 
 -- one of the district's recent lines names the item, where its next order has this number
 abbrev pub is_recently_sold : DistrictKey → ℕ → ℕ → Rows → Bool
-is_recently_sold h next item r = list_any (λ e. e.1.item == item) (recent_lines h next r.order_lines)
+is_recently_sold h next item r =
+    list_any (λ e. e.1.item == item) (recent_lines h next r.order_lines)
 
 -- a STOCK row is low, where the district's next order has this number
 abbrev pub is_low_before : LevelQuery → ℕ → Rows → StockKey × Stock → Bool
@@ -72,4 +75,5 @@ IsLevel q r o =
 -- they are the items of the low STOCK rows, of the district's D_NEXT_O_ID
 abbrev pub AreLow : LevelQuery → Rows → Option (Vec ℕ) → Type 0
 AreLow q r o =
-    option_map (λ v. v.items) o ≡ option_map (λ x. low_before q x.next_order r) (get r.districts q.district)
+    option_map (λ v. v.items) o
+    ≡ option_map (λ x. low_before q x.next_order r) (get r.districts q.district)

@@ -19,7 +19,7 @@ pub type Namesake = (Text<0, 16>, CustomerNumber);
 fn is_named(key: &CustomerKey, name: &CustomerName, district: &DistrictKey, last: &LastName) -> bool
     ensures { result ≡ is_named district.now last.now key.now name.now }
 {
-    key.district_key().compare(*district) == Ordering::Equal
+    key.district_key().cmp(district) == Ordering::Equal
         && name.last.as_str().cmp(last.as_str()) == Ordering::Equal
 }
 

@@ -27,7 +27,7 @@ fn asks_for(line: &RequestLine, key: &StockKey) -> bool
 {
     let _item = key.item.get();
     match stock_key(*line) {
-        Some(asked) => key.compare(asked) == Ordering::Equal,
+        Some(asked) => key.cmp(&asked) == Ordering::Equal,
         None => false,
     }
 }

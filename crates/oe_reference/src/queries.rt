@@ -41,7 +41,7 @@ fn is_own(key: &OrderKey, order: &Order, customer: &CustomerKey) -> bool
     ensures { result ≡ eq_by_cmp customer_cmp (customer_of_order key.now order.now) customer.now }
 {
     let owner = key.district_key().customer(order.customer);
-    owner.compare(*customer) == Ordering::Equal
+    owner.cmp(customer) == Ordering::Equal
 }
 
 /// Whether an order of the customer has a larger O_ID.
@@ -134,7 +134,7 @@ pub fn order_status(
 fn is_recent(district: &DistrictKey, next: OrderNumber, key: &OrderLineKey) -> bool
     ensures { result ≡ is_recent district.now next key.now }
 {
-    key.order_key().district_key().compare(*district) == Ordering::Equal
+    key.order_key().district_key().cmp(district) == Ordering::Equal
         && next.get() <= key.order.get() + 20
         && key.order < next
 }

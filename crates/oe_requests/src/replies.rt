@@ -252,7 +252,8 @@ impl Default for LineReply {
 impl Default for StatusLine {
     ghost use Rattle.std.specs.Prelude.{◌≡◌, None};
 
-    ghost is_default = { λ l. l ≡ record { supply = 1; item = 1; quantity = 0; amount = 0; delivery = None } };
+    ghost is_default = { λ l.
+        l ≡ record { supply = 1; item = 1; quantity = 0; amount = 0; delivery = None } };
 
     fn default() -> Self {
         StatusLine {

@@ -27,7 +27,8 @@ lengths_of ss = map (λ s. length s.bytes) ss
 -- how many extents all segments fill
 abbrev pub used_of : Segments → ℕ
 used_of v =
-    sum_by (λ ss. (filled (lengths_of ss)).0) v.active + sum_by (λ ss. (filled (lengths_of ss)).0) v.committed
+    sum_by (λ ss. (filled (lengths_of ss)).0) v.active
+    + sum_by (λ ss. (filled (lengths_of ss)).0) v.committed
 
 -- for how many commits there is memory, those that are there included
 abbrev pub capacity_of : Segments → ℕ

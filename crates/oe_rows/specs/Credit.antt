@@ -10,7 +10,8 @@ use Rattle.oe_rows.specs.declared.customers.Customer.{Customer}
 -- the total of an order in cents, of its lines' amounts; rates are in ten-thousandths, and a half cent rounds up
 abbrev pub order_total : List ℕ → ℕ → ℕ → ℕ → ℕ
 order_total amounts discount warehouse_tax district_tax =
-    (sum amounts * (10000 - discount) * (10000 + warehouse_tax + district_tax) + 50000000) / 100000000
+    (sum amounts * (10000 - discount) * (10000 + warehouse_tax + district_tax)
+    + 50000000) / 100000000
 
 -- an amount of money in two decimals
 abbrev pub money_text : ℕ → List ℕ
@@ -19,7 +20,8 @@ money_text cents = decimal (cents / 100) ++ 46 ∷ two_digits (cents % 100)
 -- C_ID, C_D_ID, C_W_ID, D_ID, W_ID and H_AMOUNT, parted by blanks, and a bar
 abbrev pub credit_entry : CreditIds → ℕ → List ℕ
 credit_entry ids amount =
-    join_with_byte 32 (decimal ids.customer.customer ∷ decimal ids.customer.district ∷ decimal ids.customer.warehouse
+    join_with_byte 32 (decimal ids.customer.customer ∷ decimal ids.customer.district
+    ∷ decimal ids.customer.warehouse
     ∷ decimal ids.district.district ∷ decimal ids.district.warehouse ∷ money_text amount ∷ [])
     ++ 124 ∷ []
 

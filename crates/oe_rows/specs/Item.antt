@@ -25,4 +25,9 @@ pub record IsStock (s : Stock) : Type 0 where
 -- a row with these counters
 abbrev pub with_counters : StockCounters → Stock → Stock
 with_counters n s =
-    record s { quantity = n.quantity; ytd = n.ytd; order_count = n.order_count; remote_count = n.remote_count }
+    record s {
+      quantity = n.quantity;
+      ytd = n.ytd;
+      order_count = n.order_count;
+      remote_count = n.remote_count;
+    }

@@ -16,6 +16,4 @@ mod refusals;
 #[cfg(test)]
 mod shelves;
 #[cfg(test)]
-mod tables;
-#[cfg(test)]
 mod values;

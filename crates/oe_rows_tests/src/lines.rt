@@ -2,9 +2,13 @@
 use crate::made::district_key;
 use oe_keys::Table;
 use oe_lines::{Command, MomentChoice, command};
-use oe_requests::{CustomerChoice, NewOrderRequest, PaymentRequest, Request, RequestLine};
+use oe_requests::{
+    CustomerChoice, LevelQuery, NewOrderRequest, PaymentRequest, Query, Request, RequestLine,
+    StatusQuery,
+};
 use oe_rows::Scale;
 use oe_steps::Condition;
+use oe_values::texts::LastName;
 use oe_values::{Lines, Moment, Number, Stamp};
 use std::process::Abort;
 
@@ -66,6 +70,31 @@ fn orders_are_read(rt: HostRuntime) {
     assert_said(&rt, fifteen, new_order(15));
 }
 
+/// At the last moment, by the longest name.
+fn status() -> Option<Command> {
+    let query = StatusQuery {
+        district: district_key(16, 10)?,
+        customer: CustomerChoice::LastName(LastName::read("ABCDEFGHIJKLMNOP")?),
+    };
+    let moment = MomentChoice::At(Moment::new(999_999_999_999)?);
+    Some(Command::Read(moment, Query::Status(query)))
+}
+
+fn level() -> Option<Command> {
+    let query = LevelQuery {
+        district: district_key(2, 3)?,
+        threshold: Number::new(10)?,
+    };
+    Some(Command::Read(MomentChoice::Now, Query::Level(query)))
+}
+
+#[test]
+fn queries_are_read(rt: HostRuntime) {
+    let by_name = "read 999999999999 status 16 10 ABCDEFGHIJKLMNOP";
+    assert_said(&rt, by_name, status());
+    assert_said(&rt, "read now level 2 3 10", level());
+}
+
 #[test]
 fn lines_are_read(rt: HostRuntime) {
     assert_said(&rt, "open 16 3000 100000 4096", opening());
@@ -80,6 +109,11 @@ fn lines_are_read(rt: HostRuntime) {
         ("back 5", Command::Back(terminal)),
         ("rollback 5", Command::Rollback(terminal)),
         ("dump neworder", Command::Dump(Table::NewOrder)),
+        ("purge now", Command::Purge(MomentChoice::Now)),
+        (
+            "rewind 999999999999",
+            Command::Rewind(MomentChoice::At(last)),
+        ),
         (
             "audit 1 now",
             Command::Audit(Condition::First, MomentChoice::Now),
@@ -112,6 +146,21 @@ fn other_lines_are_none(rt: HostRuntime) {
         "audit 1 00",
         "begin 1 payment 1 1 1 1 1 1,000.00 2001-01-01T00:00:00",
         "begin 1 payment 1 1 1 1 1 1.00 2001-01-01T00:00:0\u{e9}",
+    ] {
+        assert!(rt; command(line.as_bytes()).is_none(), "{line}");
+    }
+}
+
+/// Queries of no moment, of none there is, without a customer, and below the least threshold.
+#[test]
+fn other_queries_are_none(rt: HostRuntime) {
+    for line in [
+        "read status 2 3 4",
+        "read 1000000000000 status 2 3 4",
+        "read now status 2 3",
+        "read now status 2 3 ABc",
+        "read now level 2 3 9",
+        "read now level 2 3 10 ",
     ] {
         assert!(rt; command(line.as_bytes()).is_none(), "{line}");
     }

@@ -41,7 +41,7 @@ fn history_key() -> Option<HistoryKey> {
     Some(HistoryKey {
         terminal: Number::new(64)?,
         number: Number::new(4_294_967_295)?,
-        place: Number::new(1)?,
+        ordinal: Number::new(1)?,
     })
 }
 

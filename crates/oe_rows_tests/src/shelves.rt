@@ -14,7 +14,7 @@ fn order(district: u32, number: u32) -> Option<OrderKey> {
     Some(district.order(OrderNumber::new(number)?))
 }
 
-/// A table with these orders on two shelves, far apart and not in their order; each row is its place in the list.
+/// A table with these orders on two shelves, far apart and not in their order; each row is its index in the list.
 fn filled(alloc: Global) -> Option<Shelves<OrderKey, u32>> {
     let mut table = Shelves::new(alloc);
     let mut row = 0u32;

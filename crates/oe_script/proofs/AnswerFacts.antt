@@ -1,16 +1,24 @@
 -- Each step of today is answered, and so is each run of them.
 use Rattle.std.proofs.Common.{◌≡◌, ℕ, zero, suc, ◌<◌, ◌≤◌, cond, Bool, true, false, Option, None, Some, List, [], ◌∷◌, refl, sym, subst, inl, inr, arith}
-use Rattle.std.specs.Prelude.{◌⊎◌, ◌≢◌, is_some, nat_le}
+use Rattle.std.specs.Prelude.{◌⊎◌, ◌≢◌, is_some, nat_le, count_by}
+use Rattle.std.specs.FinMap.{get, entries}
 use Rattle.std.proofs.lemmas.Bool.{cases_order}
+use Rattle.oe_theory.specs.Machine.{Outcome, Here, Missing}
 use Rattle.oe_theory.specs.World.{World, Open, at, horizon, newest, tables, number}
 use Rattle.oe_theory.specs.Next as theory
-use Rattle.oe_theory.specs.Next.{Next, begun, put_active, Begin, Advance, Save, Back, Rollback, Audit, begins, goes_on, commits, saves, goes_back, rolls_back, audits, stops, fails, is_busy, is_full, is_rejected, is_open, number_is_rejected, not_open, too_old, future, lacks_memory}
+use Rattle.oe_theory.specs.Next.{Next, begun, put_active, Begin, Advance, Save, Back, Rollback, Read, Audit, Purge, Rewind, begins, goes_on, commits, saves, goes_back, rolls_back, reads, audits, purges, rewinds, stops, fails, is_busy, is_full, is_rejected, is_open, number_is_rejected, query_is_rejected, misses, not_open, too_old, future, not_quiet, lacks_memory}
 use Rattle.oe_theory.specs.Theorems.{IsReached}
 use Rattle.oe_theory.proofs.Theorems.{each_is_answered, abort_is_its_own}
 use Rattle.oe_keys.specs.declared.keys.Key.TheVariants as key
+use Rattle.oe_rows.specs.declared.customers.Customer.{Customer}
+use Rattle.oe_rows.specs.declared.districts.District.{District}
 use Rattle.oe_requests.specs.declared.refusals.Column.TheVariants as column
 use Rattle.oe_requests.specs.declared.requests.Request.{Request}
 use Rattle.oe_requests.specs.declared.requests.Request.TheVariants as request
+use Rattle.oe_requests.specs.declared.requests.Query.{Query}
+use Rattle.oe_requests.specs.declared.requests.Query.TheVariants as query
+use Rattle.oe_requests.specs.declared.replies.QueryReply.{QueryReply}
+use Rattle.oe_requests.specs.declared.replies.QueryReply.TheVariants as told
 use Rattle.oe_requests.specs.declared.refusals.Refusal.{Refusal}
 use Rattle.oe_requests.specs.declared.refusals.Refusal.TheVariants as refusal
 use Rattle.oe_steps.specs.declared.steps.Step.{Step}
@@ -22,7 +30,10 @@ use Rattle.oe_steps.specs.declared.audits.Verdict.{Verdict}
 use Rattle.oe_steps.specs.declared.audits.Verdict.TheVariants as verdict
 use Rattle.oe_model.specs.Audits as model
 use Rattle.oe_model.specs.Rows.{Rows, row_at}
-use Rattle.oe_model.specs.Requests.{MayRefuse, PaymentMayRefuse, NewOrderMayRefuse, DeliveryMayRefuse, first_absent, rejection, number_rejection, warehouse_no, warehouses_of}
+use Rattle.oe_model.specs.Requests.{MayRefuse, PaymentMayRefuse, NewOrderMayRefuse, DeliveryMayRefuse, first_absent, rejection, query_rejection, number_rejection, warehouse_no, warehouses_of}
+use Rattle.oe_model.specs.Keys.{customer_in}
+use Rattle.oe_model.specs.Choice.{chosen}
+use Rattle.oe_model.specs.Queries.{found, last_order, status_of, recent_lines, is_low, answer_of}
 use Rattle.oe_model.specs.System.{system, terminal_limit}
 use Rattle.oe_model.proofs.SystemLaws.{laws}
 use Rattle.oe_audit.specs.Verdict.{condition_of, verdict_of}
@@ -164,6 +175,21 @@ told_begin w t q low high b = by_case (rejection q (tables system w)) refl (w.ac
       begins t q (record { terminal = (low, in_limit t high); valid = b; known = r; closed = f; counted = g }),
     )
 
+-- MOMENTS
+
+-- a moment that is asked for is kept, or it is before the horizon, or after the newest
+by_moment : {A : Type 0} (w : World system) (m : ℕ) → (horizon system w ≤ m → m ≤ newest system w → A) → (m < horizon system w → A) → (newest system w < m → A) → A
+by_moment {A} w m kept early late = by_case (cases_order m (horizon system w)) (cases_order m (newest system w))
+  where
+    by_case : (m ≡ horizon system w) ⊎ ((m < horizon system w) ⊎ (horizon system w < m)) → (m ≡ newest system w) ⊎ ((m < newest system w) ⊎ (newest system w < m)) → A
+    by_case (inl h) (inl n) = kept (omega arith) (omega arith)
+    by_case (inl h) (inr (inl n)) = kept (omega arith) (omega arith)
+    by_case (inl h) (inr (inr n)) = late n
+    by_case (inr (inl h)) n = early h
+    by_case (inr (inr h)) (inl n) = kept (omega arith) (omega arith)
+    by_case (inr (inr h)) (inr (inl n)) = kept (omega arith) (omega arith)
+    by_case (inr (inr h)) (inr (inr n)) = late n
+
 -- AUDITS
 
 verdict_out : model.Verdict → Verdict
@@ -176,7 +202,7 @@ in_out model.Holds = refl
 in_out (model.Fails k) = refl
 
 pub told_audit : (w : World system) (c : Condition) (m : ℕ) → IsTold w (step.Audit c m)
-told_audit w c m = by_case (cases_order m (horizon system w)) (cases_order m (newest system w))
+told_audit w c m = by_moment {A = IsTold w (step.Audit c m)} w m kept early late
   where
     kept : horizon system w ≤ m → m ≤ newest system w → IsTold w (step.Audit c m)
     kept low high =
@@ -192,15 +218,77 @@ told_audit w c m = by_case (cases_order m (horizon system w)) (cases_order m (ne
     late : newest system w < m → IsTold w (step.Audit c m)
     late b = (answer.Refused (refusal.Future (newest system w)), w, future (Audit m (condition_of c)) m refl tt b)
 
-    by_case : (m ≡ horizon system w) ⊎ ((m < horizon system w) ⊎ (horizon system w < m)) → (m ≡ newest system w) ⊎ ((m < newest system w) ⊎ (newest system w < m))
-        → IsTold w (step.Audit c m)
-    by_case (inl h) (inl n) = kept (omega arith) (omega arith)
-    by_case (inl h) (inr (inl n)) = kept (omega arith) (omega arith)
-    by_case (inl h) (inr (inr n)) = late n
-    by_case (inr (inl h)) n = early h
-    by_case (inr (inr h)) (inl n) = kept (omega arith) (omega arith)
-    by_case (inr (inr h)) (inr (inl n)) = kept (omega arith) (omega arith)
-    by_case (inr (inr h)) (inr (inr n)) = late n
+-- QUERIES
+
+own_query : (m : ℕ) (q : Query) (e : Refusal) → IsOwn e → answer_in (step.Read m q) (answer.Refused e) ≡ theory.Rejected e
+own_query m q (refusal.NoSuchRow k) h = refl
+own_query m q (refusal.Overflow c) h = refl
+own_query m q refusal.InvalidItem h = refl
+own_query m q refusal.NoCustomer h = refl
+own_query m q _ h = absurd h
+
+own_turned_away : (q : Query) (r : Rows) (e : Refusal) → query_rejection q r ≡ Some e → IsOwn e
+own_turned_away (query.Status q) r e h = own_absent (q.district.warehouse ∷ []) r e h
+own_turned_away (query.Level q) r e h = own_absent (q.district.warehouse ∷ []) r e h
+
+-- what is told of what is found, or the refusal where nothing is
+own_told : {A : Type 0} (d : Refusal) (o : Option A) (k : A → QueryReply) (e : Refusal) → IsOwn d → found d o (λ x. Here (k x)) ≡ Missing e → IsOwn e
+own_told d None k e own h = let same : d ≡ e = cc in subst IsOwn same own
+own_told d (Some x) k e own h = let no : ⊥ = cc in absurd no
+
+own_chosen : (o : Option ℕ) (at : ℕ → Option Customer) (k : ℕ → Customer → QueryReply) (e : Refusal)
+    → found refusal.NoCustomer o (λ c. found refusal.NoCustomer (at c) (λ x. Here (k c x))) ≡ Missing e → IsOwn e
+own_chosen None at k e h = let same : refusal.NoCustomer ≡ e = cc in subst IsOwn same tt
+own_chosen (Some c) at k e h = own_told {A = Customer} refusal.NoCustomer (at c) (k c) e tt h
+
+own_missing : (q : Query) (r : Rows) (e : Refusal) → answer_of q r ≡ Missing e → IsOwn e
+own_missing (query.Status q) r e h =
+    own_chosen (chosen q.district q.customer r.customers) (λ c. get r.customers (customer_in q.district c))
+    (λ c x. told.Status (record { customer = c; balance = x.account.balance; order = status_of r.order_lines (last_order (customer_in q.district c) r.orders) })) e h
+own_missing (query.Level q) r e h =
+    own_told {A = District} (refusal.NoSuchRow (key.District q.district)) (get r.districts q.district)
+    (λ x. told.Level (count_by (is_low q (recent_lines q.district x.next_order r.order_lines)) (entries r.stocks))) e tt h
+
+-- a query whose warehouse is not there, or of a moment that is not kept, or that finds nothing or its reply
+pub told_read : (w : World system) (m : ℕ) (q : Query) → IsTold w (step.Read m q)
+told_read w m q = by_rejection (query_rejection q (tables system w)) refl
+  where
+    rejected : (e : Refusal) → IsOwn e → Next system w (Read m q) (theory.Rejected e) w → IsTold w (step.Read m q)
+    rejected e h n = (answer.Refused e, w, subst (λ (z : theory.Answer system). Next system w (Read m q) z w) (sym (own_query m q e h)) n)
+
+    by_answer : query_rejection q (tables system w) ≡ None → horizon system w ≤ m → m ≤ newest system w
+        → (o : Outcome QueryReply Refusal) → answer_of q (at system w m) ≡ o → IsTold w (step.Read m q)
+    by_answer k low high (Here y) a = (answer.Replied y, w, reads m q y k low high a)
+    by_answer k low high (Missing e) a = rejected e (own_missing q (at system w m) e a) (misses m q e k low high a)
+
+    by_rejection : (x : Option Refusal) → query_rejection q (tables system w) ≡ x → IsTold w (step.Read m q)
+    by_rejection (Some e) r = rejected e (own_turned_away q (tables system w) e r) (query_is_rejected m q e r)
+    by_rejection None r =
+        by_moment {A = IsTold w (step.Read m q)} w m (λ low high. by_answer r low high (answer_of q (at system w m)) refl)
+        (λ b. (answer.Refused (refusal.TooOld (horizon system w)), w, too_old (Read m q) m refl r b))
+        (λ b. (answer.Refused (refusal.Future (newest system w)), w, future (Read m q) m refl r b))
+
+-- PURGES AND REWINDS
+
+pub told_purge : (w : World system) (m : ℕ) → IsTold w (step.Purge m)
+told_purge w m =
+    by_moment {A = IsTold w (step.Purge m)} w m (λ low high. (answer.Purged m, _, purges m low high))
+    (λ b. (answer.Refused (refusal.TooOld (horizon system w)), w, too_old (Purge m) m refl tt b))
+    (λ b. (answer.Refused (refusal.Future (newest system w)), w, future (Purge m) m refl tt b))
+
+named_rewind : (w : World system) (i : theory.Step system) (a : theory.Answer system) (w' : World system) (m : ℕ) → Next system w i a w' → i ≡ Rewind m → Named (step.Rewind m) a
+named_rewind w _ _ _ m (rewinds n q l u) i = (answer.Rewound _, refl)
+named_rewind w _ _ _ m (not_quiet n k e) i = (answer.Refused (refusal.NotQuiet (suc k)), refl)
+named_rewind w _ _ _ m (not_open s u e f) i = (answer.Refused refusal.NotOpen, refl)
+named_rewind w _ _ _ m (too_old s n e p b) i = (answer.Refused (refusal.TooOld _), refl)
+named_rewind w _ _ _ m (future s n e p b) i = (answer.Refused (refusal.Future _), refl)
+named_rewind w _ _ _ m n i = let no : ⊥ = cc in absurd no
+
+pub told_rewind : (w : World system) (m : ℕ) → IsReached system w → IsTold w (step.Rewind m)
+told_rewind w m l =
+    let a = each_is_answered system laws w (Rewind m) l tt in
+    let x = named_rewind w (Rewind m) a.answer a.after m a.next refl in
+    (x.0, a.after, subst (λ (z : theory.Answer system). Next system w (Rewind m) z a.after) (sym x.1) a.next)
 
 -- RUNS
 

@@ -38,7 +38,7 @@ use Rattle.oe_script.specs.Ports.{Sink, Sent, Cut, Streams}
 use Rattle.oe_script.specs.Outcome.{IsAnswer, Replies}
 use Rattle.oe_script.proofs.WorldFacts.{live_step, live_runs}
 use Rattle.oe_script.proofs.Streaming.{sent_waits, sent_then, sent_cut, cut_more}
-use Rattle.oe_script.proofs.AnswerFacts.{IsTold, told_advance, told_save, told_back, told_rollback, told_begin, told_audit, told_run}
+use Rattle.oe_script.proofs.AnswerFacts.{IsTold, told_advance, told_save, told_back, told_rollback, told_begin, told_audit, told_read, told_purge, told_rewind, told_run}
 
 -- THE FORMS OF LINES
 
@@ -84,6 +84,9 @@ live_answers None (command.Back t) text s' f l a = absurd a
 live_answers None (command.Rollback t) text s' f l a = absurd a
 live_answers None (command.Dump t) text s' f l a = absurd a
 live_answers None (command.Audit c m) text s' f l a = absurd a
+live_answers None (command.Read m q) text s' f l a = absurd a
+live_answers None (command.Purge m) text s' f l a = absurd a
+live_answers None (command.Rewind m) text s' f l a = absurd a
 live_answers (Some w) (command.Open scale extents) text s' f l a = absurd a
 live_answers (Some w) (command.Begin t q) text s' f l a = live_stepped w (step.Begin t q) text s' (has_program q f.1) l a
 live_answers (Some w) (command.Next t) text s' f l a = live_stepped w (step.Advance t) text s' tt l a
@@ -93,6 +96,9 @@ live_answers (Some w) (command.Back t) text s' f l a = live_stepped w (step.Back
 live_answers (Some w) (command.Rollback t) text s' f l a = live_stepped w (step.Rollback t) text s' tt l a
 live_answers (Some w) (command.Dump t) text s' f l a = subst IsLive (sym a.1) l
 live_answers (Some w) (command.Audit c m) text s' f l a = live_stepped w (step.Audit c (moment_in w m)) text s' tt l a
+live_answers (Some w) (command.Read m q) text s' f l a = live_stepped w (step.Read (moment_in w m) q) text s' tt l a
+live_answers (Some w) (command.Purge m) text s' f l a = live_stepped w (step.Purge (moment_in w m)) text s' tt l a
+live_answers (Some w) (command.Rewind m) text s' f l a = live_stepped w (step.Rewind (moment_in w m)) text s' tt l a
 
 pub live_line : (s : State) (n : ℕ) (line text : List ℕ) (s' : State) → IsLive s → LineAnswer s n line text s' → IsLive s'
 live_line s n line text s' l (inl (c, asks, a)) = live_answers s c text s' asks.says.form l a
@@ -120,6 +126,9 @@ answered None (command.Back t) f l a = absurd a
 answered None (command.Rollback t) f l a = absurd a
 answered None (command.Dump t) f l a = absurd a
 answered None (command.Audit c m) f l a = absurd a
+answered None (command.Read m q) f l a = absurd a
+answered None (command.Purge m) f l a = absurd a
+answered None (command.Rewind m) f l a = absurd a
 answered (Some w) (command.Open scale extents) f l a = absurd a
 answered (Some w) (command.Begin t q) f l a = stepped w (step.Begin t q) (told_begin w t q f.0.0 f.0.1 (is_request q (has_program q f.1)))
 answered (Some w) (command.Next t) f l a = stepped w (step.Advance t) (told_advance w t l.0)
@@ -129,6 +138,9 @@ answered (Some w) (command.Back t) f l a = stepped w (step.Back t) (told_back w 
 answered (Some w) (command.Rollback t) f l a = stepped w (step.Rollback t) (told_rollback w t)
 answered (Some w) (command.Dump t) f l a = (dump_text t (tables system w), Some w, (refl, refl))
 answered (Some w) (command.Audit c m) f l a = stepped w (step.Audit c (moment_in w m)) (told_audit w c (moment_in w m))
+answered (Some w) (command.Read m q) f l a = stepped w (step.Read (moment_in w m) q) (told_read w (moment_in w m) q)
+answered (Some w) (command.Purge m) f l a = stepped w (step.Purge (moment_in w m)) (told_purge w (moment_in w m))
+answered (Some w) (command.Rewind m) f l a = stepped w (step.Rewind (moment_in w m)) (told_rewind w (moment_in w m) l.0)
 
 allowed : (s : State) (c : Command) → IsAllowed s c ⊎ (IsAllowed s c → ⊥)
 allowed None (command.Open scale extents) = inl tt
@@ -140,6 +152,9 @@ allowed None (command.Back t) = inr (λ h. h)
 allowed None (command.Rollback t) = inr (λ h. h)
 allowed None (command.Dump t) = inr (λ h. h)
 allowed None (command.Audit c m) = inr (λ h. h)
+allowed None (command.Read m q) = inr (λ h. h)
+allowed None (command.Purge m) = inr (λ h. h)
+allowed None (command.Rewind m) = inr (λ h. h)
 allowed (Some w) (command.Open scale extents) = inr (λ h. h)
 allowed (Some w) (command.Begin t q) = inl tt
 allowed (Some w) (command.Next t) = inl tt
@@ -149,6 +164,9 @@ allowed (Some w) (command.Back t) = inl tt
 allowed (Some w) (command.Rollback t) = inl tt
 allowed (Some w) (command.Dump t) = inl tt
 allowed (Some w) (command.Audit c m) = inl tt
+allowed (Some w) (command.Read m q) = inl tt
+allowed (Some w) (command.Purge m) = inl tt
+allowed (Some w) (command.Rewind m) = inl tt
 
 -- the text of a line, and the state after it
 abbrev pub IsLineAnswered : State → ℕ → List ℕ → Type 0

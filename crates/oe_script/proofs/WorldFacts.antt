@@ -25,7 +25,7 @@ use Rattle.oe_model.specs.Rows.{Rows}
 use Rattle.oe_model.specs.Changes.{Change, DeleteNewOrder}
 use Rattle.oe_model.specs.Choice.{chosen}
 use Rattle.oe_model.specs.Effects.{Doing}
-use Rattle.oe_model.specs.Places.{Place, InPayment, InNewOrder, InDelivery, NoProgram, PaymentPlace, PaymentWarehouse, PaymentDistrict, PaymentCustomer, PaymentHistory, PaymentEnd, NewOrderPlace, NewOrderWarehouse, NewOrderDistrict, NewOrderCustomer, NewOrderOrder, NewOrderQueue, NewOrderStock, NewOrderLine, DeliveryPlace, DeliveryQueue, DeliveryNothing, DeliveryOrder, DeliveryLine, DeliveryEnd}
+use Rattle.oe_model.specs.Positions.{Position, InPayment, InNewOrder, InDelivery, NoProgram, PaymentPosition, PaymentWarehouse, PaymentDistrict, PaymentCustomer, PaymentHistory, PaymentEnd, NewOrderPosition, NewOrderWarehouse, NewOrderDistrict, NewOrderCustomer, NewOrderOrder, NewOrderQueue, NewOrderStock, NewOrderLine, DeliveryPosition, DeliveryQueue, DeliveryNothing, DeliveryOrder, DeliveryLine, DeliveryEnd}
 use Rattle.oe_model.specs.NewOrder.{item_at, stock_of}
 use Rattle.oe_model.specs.Delivery.{oldest, lines_of}
 use Rattle.oe_model.specs.System.{system, ask, act, start_of}
@@ -41,7 +41,7 @@ rank_waiting q r None = 1
 rank_waiting q r (Some o) = 3 + length (lines_of (order_in q.district o) r.order_lines)
 
 -- how many rows of its program a payment, an order or a delivery has left before its commit, with these tables
-abbrev pub rank : Rows → Place → ℕ
+abbrev pub rank : Rows → Position → ℕ
 rank r (InPayment q PaymentWarehouse) = 4
 rank r (InPayment q (PaymentDistrict w)) = 3
 rank r (InPayment q (PaymentCustomer w d)) = 2
@@ -61,20 +61,20 @@ rank r p = 0
 
 abbrev pub rank_of : Rows → Option (Open system) → ℕ
 rank_of r None = 0
-rank_of r (Some o) = rank r o.now.place
+rank_of r (Some o) = rank r o.now.position
 
 abbrev pub left : World system → ℕ → ℕ
 left w t = rank_of (tables system w) (w.active t)
 
--- a row that goes on leads to such a place, with fewer rows left in the tables after it
+-- a row that goes on leads to such a position, with fewer rows left in the tables after it
 abbrev Falls : Rows → ℕ → Doing → Type 0
 Falls r n (Go c z) = IsServed z × (rank (with_change system (Go c z) r) z < n)
 Falls r n d = Unit {0}
 
-lands : (r : Rows) (d c : Option Change) (p z : Place) (n : ℕ) → ◌≡◌ {A = Doing} (Go d p) (Go c z) → IsServed p → rank (with_change system (Go d p) r) p < n → Falls r n (Go c z)
+lands : (r : Rows) (d c : Option Change) (p z : Position) (n : ℕ) → ◌≡◌ {A = Doing} (Go d p) (Go c z) → IsServed p → rank (with_change system (Go d p) r) p < n → Falls r n (Go c z)
 lands r d c p z n e a b = subst (Falls r n) e (a, b)
 
-payment_goes : (x : Tx Request) (q : PaymentRequest) (p : PaymentPlace) (r : Rows) (c : Option Change) (z : Place) → act x (InPayment q p) r ≡ Go c z
+payment_goes : (x : Tx Request) (q : PaymentRequest) (p : PaymentPosition) (r : Rows) (c : Option Change) (z : Position) → act x (InPayment q p) r ≡ Go c z
     → Falls r (rank r (InPayment q p)) (Go c z)
 payment_goes x q PaymentWarehouse r c z e =
     let (y, here, e1) = given_goes (refusal.NoSuchRow (key.Warehouse (warehouse_of_district q.district))) (get r.warehouses (warehouse_of_district q.district)) _ c z e in
@@ -94,7 +94,7 @@ payment_goes x q (PaymentHistory d y) r c z e =
     lands r _ c _ z 1 e tt less
 payment_goes x q (PaymentEnd y) r c z e = let no : ⊥ = cc in absurd no
 
-new_order_goes : (x : Tx Request) (q : NewOrderRequest) (p : NewOrderPlace) (r : Rows) (c : Option Change) (z : Place) → act x (InNewOrder q p) r ≡ Go c z
+new_order_goes : (x : Tx Request) (q : NewOrderRequest) (p : NewOrderPosition) (r : Rows) (c : Option Change) (z : Position) → act x (InNewOrder q p) r ≡ Go c z
     → Falls r (rank r (InNewOrder q p)) (Go c z)
 new_order_goes x q NewOrderWarehouse r c z e =
     let (y, here, e1) = given_goes (refusal.NoSuchRow (key.Warehouse (warehouse_of_district q.district))) (get r.warehouses (warehouse_of_district q.district)) _ c z e in
@@ -139,7 +139,7 @@ queue_goes q r (Some o) =
     let less : 2 + n < 3 + n = omega arith in
     (tt, less)
 
-delivery_goes : (x : Tx Request) (q : DeliveryRequest) (p : DeliveryPlace) (r : Rows) (c : Option Change) (z : Place) → act x (InDelivery q p) r ≡ Go c z
+delivery_goes : (x : Tx Request) (q : DeliveryRequest) (p : DeliveryPosition) (r : Rows) (c : Option Change) (z : Position) → act x (InDelivery q p) r ≡ Go c z
     → Falls r (rank r (InDelivery q p)) (Go c z)
 delivery_goes x q DeliveryQueue r c z e = subst (Falls r (rank r (InDelivery q DeliveryQueue))) e (queue_goes q r (oldest q.district r.new_orders))
 delivery_goes x q DeliveryNothing r c z e = let no : ⊥ = cc in absurd no
@@ -159,7 +159,7 @@ delivery_goes x q (DeliveryLine o k (n ∷ ns) sum) r c z e =
     lands r _ c _ z (1 + length (n ∷ ns)) e1 tt less
 delivery_goes x q (DeliveryEnd o k sum) r c z e = let no : ⊥ = cc in absurd no
 
-goes : (x : Tx Request) (p : Place) (r : Rows) (c : Option Change) (z : Place) → IsServed p → act x p r ≡ Go c z → Falls r (rank r p) (Go c z)
+goes : (x : Tx Request) (p : Position) (r : Rows) (c : Option Change) (z : Position) → IsServed p → act x p r ≡ Go c z → Falls r (rank r p) (Go c z)
 goes x (InPayment q p) r c z h e = payment_goes x q p r c z e
 goes x (InNewOrder q p) r c z h e = new_order_goes x q p r c z e
 goes x (InDelivery q p) r c z h e = delivery_goes x q p r c z e
@@ -192,7 +192,7 @@ starts (request.Rename q) h = absurd h
 served_stay : (w : World system) (i : theory.Step system) (a : theory.Answer system) (w' : World system) → IsBegun i → AreServing w → Next system w i a w' → AreServing w'
 served_stay w _ _ _ b h (begins t q m) = placed t (Some (begun system w t q)) w.active h (starts q b, starts q b)
 served_stay w _ _ _ b h (goes_on t o c p e g r room) =
-    placed t (Some (moved system o _ c p (tables system w))) w.active h ((goes (tx_of system t o) o.now.place (tables system w) c p (here w h t o e).0 r).0, (here w h t o e).1)
+    placed t (Some (moved system o _ c p (tables system w))) w.active h ((goes (tx_of system t o) o.now.position (tables system w) c p (here w h t o e).0 r).0, (here w h t o e).1)
 served_stay w _ _ _ b h (commits t o reply e g r) = placed t None w.active h tt
 served_stay w _ _ _ b h (saves t o e) = placed t (Some (record o { mark = o.now; mark_lengths = o.lengths })) w.active h ((here w h t o e).0, (here w h t o e).0)
 served_stay w _ _ _ b h (goes_back t o e) = placed t (Some (record o { now = o.mark; lengths = o.mark_lengths })) w.active h ((here w h t o e).1, (here w h t o e).1)
@@ -228,9 +228,9 @@ live_step w (step.Advance t) a w' b l n = next_live w _ a w' tt l n
 live_step w (step.Save t) a w' b l n = next_live w _ a w' tt l n
 live_step w (step.Back t) a w' b l n = next_live w _ a w' tt l n
 live_step w (step.Rollback t) a w' b l n = next_live w _ a w' tt l n
-live_step w (step.Read m q) a w' b l n = absurd b
-live_step w (step.Purge m) a w' b l n = absurd b
-live_step w (step.Rewind m) a w' b l n = absurd b
+live_step w (step.Read m q) a w' b l n = next_live w _ a w' tt l n
+live_step w (step.Purge m) a w' b l n = next_live w _ a w' tt l n
+live_step w (step.Rewind m) a w' b l n = next_live w _ a w' tt l n
 live_step w (step.Audit c m) a w' b l n = next_live w _ a w' tt l n
 
 pub live_runs : (n : ℕ) (w : World system) (t : ℕ) (x : Answer) (w' : World system) → IsLive (Some w) → RunsIn n w t x w' → IsLive (Some w')
@@ -240,8 +240,8 @@ live_runs (suc n) w t x w' l r = live_runs n r.0 t x w' (live_step w (step.Advan
 -- A RUN ENDS
 
 -- the tables after a row that went on
-tables_on : (w : World system) (t : ℕ) (o : Open system) (c : Option Change) (p : Place) (v : World system) → IsReached system w → w.active t ≡ Some o
-    → act (tx_of system t o) o.now.place (tables system w) ≡ Go c p → Next system w (Advance t) More v → tables system v ≡ with_change system (Go c p) (tables system w)
+tables_on : (w : World system) (t : ℕ) (o : Open system) (c : Option Change) (p : Position) (v : World system) → IsReached system w → w.active t ≡ Some o
+    → act (tx_of system t o) o.now.position (tables system w) ≡ Go c p → Next system w (Advance t) More v → tables system v ≡ with_change system (Go c p) (tables system w)
 tables_on w t o c p v l e r n =
     let (u, k) = world_has_records system laws w l in
     tables_follow system laws w v u (Advance t) More l k n
@@ -250,15 +250,15 @@ tables_on w t o c p v l e r n =
 falls_by : (w : World system) (i : theory.Step system) (a : theory.Answer system) (w' : World system) (t : ℕ) → IsLive (Some w) → Next system w i a w' → i ≡ Advance t → a ≡ More → left w' t < left w t
 falls_by w _ _ _ t l (goes_on u o c p e g r room) i a =
     let same : u ≡ t = cc in
-    let next : Open system = moved system o (ask (tx_of system u o) o.now.place (tables system w)) c p (tables system w) in
+    let next : Open system = moved system o (ask (tx_of system u o) o.now.position (tables system w)) c p (tables system w) in
     let before : Rows = tables system w in
     let after : Rows = with_change system (Go c p) before in
-    let less : rank after p < rank before o.now.place = (goes (tx_of system u o) o.now.place before c p (here w l.1 u o e).0 r).1 in
+    let less : rank after p < rank before o.now.position = (goes (tx_of system u o) o.now.position before c p (here w l.1 u o e).0 r).1 in
     let follows : tables system (theory.put_active system u (Some next) w) ≡ after =
     tables_on w u o c p (theory.put_active system u (Some next) w) l.0 e r (goes_on u o c p e g r room) in
     let now : left (theory.put_active system u (Some next) w) u ≡ rank after p =
     ap (λ (s : Rows). rank_of s (set u (Some next) w.active u)) follows ∙ ap (rank_of after) (set_same u (Some next) w.active u refl) in
-    let had : left w u ≡ rank before o.now.place = ap (rank_of before) e in
+    let had : left w u ≡ rank before o.now.position = ap (rank_of before) e in
     let own : left (theory.put_active system u (Some next) w) u < left w u = omega (arith, less, now, had) in
     subst (λ (v : ℕ). left (theory.put_active system u (Some next) w) v < left w v) same own
 falls_by w _ _ _ t l n i a = cc

@@ -81,6 +81,9 @@ Answers (Some w) (command.Back t) text s = Stepped w (step.Back t) text s
 Answers (Some w) (command.Rollback t) text s = Stepped w (step.Rollback t) text s
 Answers (Some w) (command.Dump t) text s = (text ≡ dump_text t (tables system w)) × (s ≡ Some w)
 Answers (Some w) (command.Audit c m) text s = Stepped w (step.Audit c (moment_in w m)) text s
+Answers (Some w) (command.Read m q) text s = Stepped w (step.Read (moment_in w m) q) text s
+Answers (Some w) (command.Purge m) text s = Stepped w (step.Purge (moment_in w m)) text s
+Answers (Some w) (command.Rewind m) text s = Stepped w (step.Rewind (moment_in w m)) text s
 
 -- the line, without its end, is taken for this command
 pub record Asks (s : State) (line : List ℕ) (c : Command) : Type 0 where

@@ -2,7 +2,7 @@
 use Rattle.std.specs.Prelude.{◌≡◌, ℕ, ◌+◌, ◌^◌, ◌<◌, ◌≤◌, ◌⊎◌, Bool, List, [], ◌++◌, length, ⊤, Option, Some, None, Result, Ok, Err, MatchResult}
 use Rattle.oe_theory.specs.World.{Open, World}
 use Rattle.oe_theory.specs.Theorems.{IsReached}
-use Rattle.oe_model.specs.Places.{Place, InPayment, InNewOrder, InDelivery}
+use Rattle.oe_model.specs.Positions.{Position, InPayment, InNewOrder, InDelivery}
 use Rattle.oe_model.specs.System.{system}
 use Rattle.oe_core.specs.Core.{Stored, world_of}
 use Rattle.oe_script.specs.declared.session.Fault.{Fault}
@@ -15,8 +15,8 @@ abbrev pub state_of : Option Stored → State
 state_of None = None
 state_of (Some c) = Some (world_of c)
 
--- a place of a program that steps of today run: a payment's, an order's, or a delivery's
-abbrev pub IsServed : Place → Type 0
+-- a position of a program that steps of today run: a payment's, an order's, or a delivery's
+abbrev pub IsServed : Position → Type 0
 IsServed (InPayment q p) = Unit {0}
 IsServed (InNewOrder q p) = Unit {0}
 IsServed (InDelivery q p) = Unit {0}
@@ -25,7 +25,7 @@ IsServed p = ⊥
 -- an open transaction runs one of them, here and at its mark
 abbrev pub IsServing : Option (Open system) → Type 0
 IsServing None = Unit {0}
-IsServing (Some o) = IsServed o.now.place × IsServed o.mark.place
+IsServing (Some o) = IsServed o.now.position × IsServed o.mark.position
 
 -- each of them does
 abbrev pub AreServing : World system → Type 0

@@ -21,7 +21,7 @@ use crate::output::{bad, make_room};
 use crate::ports::{Failed, Outlet};
 use oe_core::{Advanced, Core};
 use oe_lines::{Command, ExtentCount, MomentChoice, command};
-use oe_requests::{Refusal, Request};
+use oe_requests::{Query, Refusal, Request};
 use oe_rows::Scale;
 use oe_steps::{Answer, Condition, Step};
 use oe_store::{NoMemory, populate};
@@ -163,6 +163,18 @@ fn later<W: Outlet>(
             tell_audit(core, *condition, *moment, out);
             Ok(())
         }
+        Command::Read(moment, query) => {
+            tell_read(core, *moment, query, out);
+            Ok(())
+        }
+        Command::Purge(moment) => {
+            tell_purge(core, *moment, out);
+            Ok(())
+        }
+        Command::Rewind(moment) => {
+            tell_rewind(core, *moment, out);
+            Ok(())
+        }
     }
 }
 
@@ -256,6 +268,38 @@ fn tell_audit(core: &mut Core, condition: Condition, moment: MomentChoice, out: 
         Answer::Audited(verdict) => audited(out, condition, &verdict),
         given => answer(out, &given),
     }
+}
+
+/// Answers a query of the moment that is asked for.
+#[inline(never)]
+fn tell_read(core: &mut Core, moment: MomentChoice, query: &Query, out: &mut Pending)
+    requires { array_vec_len out.old + LONGEST ≤ SIZE }
+    ensures { Tells (world_of core.old)
+        (Step.Read (moment_in (world_of core.old) moment) query.now)
+        (world_of core.new) out.old.items out.new.items }
+{
+    let moment = moment_of(core, moment);
+    tell(core, Step::Read(moment, query.copied()), out);
+}
+
+/// Lets go of what is older than the moment that is asked for.
+fn tell_purge(core: &mut Core, moment: MomentChoice, out: &mut Pending)
+    requires { array_vec_len out.old + LONGEST ≤ SIZE }
+    ensures { Tells (world_of core.old) (Step.Purge (moment_in (world_of core.old) moment))
+        (world_of core.new) out.old.items out.new.items }
+{
+    let moment = moment_of(core, moment);
+    tell(core, Step::Purge(moment), out);
+}
+
+/// Takes the tables back to the moment that is asked for.
+fn tell_rewind(core: &mut Core, moment: MomentChoice, out: &mut Pending)
+    requires { array_vec_len out.old + LONGEST ≤ SIZE }
+    ensures { Tells (world_of core.old) (Step.Rewind (moment_in (world_of core.old) moment))
+        (world_of core.new) out.old.items out.new.items }
+{
+    let moment = moment_of(core, moment);
+    tell(core, Step::Rewind(moment), out);
 }
 
 /// The moment that is asked for.

@@ -52,7 +52,7 @@ const ANSWERED: [(&str, &str); 12] = [
     // lines that are none of the forms, or not here
     (
         "open 1 10 20 1\ndump item\nopen 1 10 20 64\nopen 1 10 20 64\nnext 01\nnext  1\nbegin 1 payment 1 1 1 1 1 1.00 2001-02-29T00:00:00\nread now level 1 1 9\nbegin 1 neworder 1 1 1 2001-01-01T00:00:00 1:1:1 1:2:1 1:3:1 1:4:1\n\npurge 1000000000000\npurge 999999999999\nbegin 1 payment 1 1 1 1 1 1.0 2001-01-01T00:00:00\nnext 65\naudit 5 now\naudit 1 1\nnext 5\n",
-        "error 1 BadLine 1\nerror 1 BadLine 2\nopened\nerror 1 BadLine 4\nerror 1 BadLine 5\nerror 1 BadLine 6\nerror 1 BadLine 7\nerror 1 BadLine 8\nerror 1 BadLine 9\nerror 1 BadLine 10\nerror 1 BadLine 11\nerror 1 BadLine 12\nerror 1 BadLine 13\nerror 1 BadLine 14\nerror 1 BadLine 15\nerror 15 Future 0\nerror 10 NotOpen\n",
+        "error 1 BadLine 1\nerror 1 BadLine 2\nopened\nerror 1 BadLine 4\nerror 1 BadLine 5\nerror 1 BadLine 6\nerror 1 BadLine 7\nerror 1 BadLine 8\nerror 1 BadLine 9\nerror 1 BadLine 10\nerror 1 BadLine 11\nerror 15 Future 0\nerror 1 BadLine 13\nerror 1 BadLine 14\nerror 1 BadLine 15\nerror 15 Future 0\nerror 10 NotOpen\n",
     ),
 ];
 

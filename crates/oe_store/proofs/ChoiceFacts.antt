@@ -107,11 +107,13 @@ module _ (h : DistrictKey) where
       let less : length (filter_map (λ e. named h last e.0 e.1) (entries_of district_cmp district_of_customer h m)) ≤ 3_000 = omega arith in
       subst (λ (ps : List (List ℕ × ℕ)). length ps ≤ 3_000) (of_district h last m) less
 
--- walks over the rows of the district begin with all namesakes
-module _ (h : DistrictKey) (last : List ℕ) (m : FinMap customer_cmp Customer) (es : List (CustomerKey × Customer)) (are : es ≡ entries_of district_cmp district_of_customer h m) where
-  all_taken : filter_map (λ e. named h last e.0 e.1) es ≡ namesakes h last m
-  all_taken = ap (filter_map (λ e. named h last e.0 e.1)) are ∙ of_district h last m
+-- a loop's walk meets what the walk that it is made of meets
+pub met : (h : DistrictKey) (last : List ℕ) {es walk : List (CustomerKey × Customer)} {xs : List (List ℕ × ℕ)} → es ≡ walk → filter_map (λ e. named h last e.0 e.1) walk ≡ xs
+    → filter_map (λ e. named h last e.0 e.1) es ≡ xs
+met h last is all = ap (filter_map (λ e. named h last e.0 e.1)) is ∙ all
 
+-- walks begin with all namesakes
+module _ (h : DistrictKey) (last : List ℕ) (m : FinMap customer_cmp Customer) (es : List (CustomerKey × Customer)) (all_taken : filter_map (λ e. named h last e.0 e.1) es ≡ namesakes h last m) where
   pub count_starts : 0 + length (filter_map (λ e. named h last e.0 e.1) es) ≡ length (namesakes h last m)
   count_starts = zero-add (length (filter_map (λ e. named h last e.0 e.1) es)) ∙ ap length all_taken
 

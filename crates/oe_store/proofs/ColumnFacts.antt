@@ -1,5 +1,5 @@
 -- Tables of which one row was changed in its place.
-use Rattle.std.proofs.Common.{◌≡◌, sym, ap, ◌∙◌, subst, List, Option, Some}
+use Rattle.std.proofs.Common.{◌≡◌, refl, sym, ap, ◌∙◌, subst, List, Option, Some, None}
 use Rattle.std.specs.Prelude.{is_some, IsSome}
 use Rattle.std.specs.Option.{OnSome, option_copied_mut}
 use Rattle.std.specs.Borrow.{MutBor}
@@ -37,6 +37,11 @@ module _ {R : Type 0} (lent : Option (MutBor R)) (row : MutBor R) (is : lent ≡
 
   pub same_row : (o : Option R) (x : R) → option_copied_mut lent ≡ o → o ≡ Some x → row.now ≡ x
   same_row o x same found = some_inj row.now x (sym (row_was o same) ∙ found)
+
+-- the row of a key that has one
+pub some_row : {R : Type 0} (o : Option R) → IsSome o → (x : R) × (o ≡ Some x)
+some_row None h = cc
+some_row (Some x) h = (x, refl)
 
 -- what is left of the tables after a change of one row in its place
 pub record IsLeft (c : Change) (old new : Stored) : Type 0 where

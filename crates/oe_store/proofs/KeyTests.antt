@@ -60,8 +60,8 @@ same_line o n k =
     ∙ sym (is_eq-then (nat_cmp k.warehouse o.warehouse) (ordering_then (nat_cmp k.district o.district) (ordering_then (nat_cmp k.order o.order) (nat_cmp k.number n))))
 
 -- the districts by their count
-pub same_place : (place : ℕ) (h : DistrictKey) → ((district_count h == place + 1) && is_any_district h) ≡ is_district (record { warehouse = place / 10 + 1; district = place % 10 + 1 }) h
-same_place place h = grind (arith, nat_tests)
+pub same_ordinal : (ordinal : ℕ) (h : DistrictKey) → ((district_count h == ordinal + 1) && is_any_district h) ≡ is_district (record { warehouse = ordinal / 10 + 1; district = ordinal % 10 + 1 }) h
+same_ordinal ordinal h = grind (arith, nat_tests)
 
 pub all_districts : (w : ℕ) (h : DistrictKey) → (counts_to w h.warehouse && counts_to 10 h.district) ≡ (counts_to (10 * w) (district_count h) && is_any_district h)
 all_districts w h = grind (arith, nat_tests)

@@ -16,9 +16,10 @@ use Rattle.oe_keys.specs.declared.keys.OrderKey.{OrderKey}
 use Rattle.oe_rows.specs.declared.orders.Order.{Order}
 use Rattle.oe_keys.proofs.KeyFacts.{district_total, exact_district, customer_total, exact_customer, order_total, exact_order}
 use Rattle.oe_model.specs.Keys.{district_of_customer, district_of_order, customer_of_order}
-use Rattle.oe_model.specs.Queries.{last_order}
+use Rattle.oe_model.specs.Queries.{orders_of, last_order}
 use Rattle.oe_model.proofs.MapFacts.{is_same, is_self}
 use Rattle.oe_model.proofs.EntryFacts.{EachOf, each_of}
+use Rattle.oe_finders.specs.Own.{own_of}
 use Rattle.oe_store.specs.Stored.{entries_of}
 use Rattle.oe_store.specs.Newest.{newest_from}
 use Rattle.oe_store.proofs.GroupFacts.{kept_alike}
@@ -135,13 +136,18 @@ module _ (k : CustomerKey) where
       )
       by false t rest = rest
 
-  -- a walk over the district begins with all of the customer's orders
-  pub newest_starts : (h : DistrictKey) → h ≡ district_of_customer k → (m : FinMap order_cmp Order) (es : List (OrderKey × Order)) → es ≡ entries_of district_cmp district_of_order h m
-      → newest_from None (filter (λ e. eq_by_cmp customer_cmp (customer_of_order e.0 e.1) k) es) ≡ option_map (λ e. e.0.order) (last_order k m)
-  newest_starts h is m es are =
-      ap (λ (xs : List (OrderKey × Order)). newest_from None (filter is_own xs))
+  -- a walk over the district meets all of the customer's orders
+  pub own_in : (h : DistrictKey) → h ≡ district_of_customer k → (m : FinMap order_cmp Order) (es : List (OrderKey × Order)) → es ≡ entries_of district_cmp district_of_order h m
+      → own_of k es ≡ orders_of k m
+  own_in h is m es are =
+      ap (filter is_own)
       (are ∙ sym (kept_alike order_total exact_order m (λ j. eq_by_cmp district_cmp (district_of_order j) h) (λ j. eq_by_cmp district_cmp (district_of_order j) h) (λ j x e. refl)))
-      ∙ ap (newest_from None)
-      (stricter (λ e. eq_by_cmp district_cmp (district_of_order e.0) h) is_own
-      (λ e t. ap (λ d. eq_by_cmp district_cmp d h) (own_district e t ∙ sym is) ∙ is_self district_total exact_district h) (entries m))
+      ∙ stricter (λ e. eq_by_cmp district_cmp (district_of_order e.0) h) is_own
+      (λ e t. ap (λ d. eq_by_cmp district_cmp d h) (own_district e t ∙ sym is) ∙ is_self district_total exact_district h) (entries m)
+
+  -- a walk that meets them ends at the last
+  pub newest_starts : (m : FinMap order_cmp Order) (es walk : List (OrderKey × Order)) → es ≡ walk → own_of k walk ≡ orders_of k m
+      → newest_from None (own_of k es) ≡ option_map (λ e. e.0.order) (last_order k m)
+  newest_starts m es walk is all =
+      ap (λ (xs : List (OrderKey × Order)). newest_from None (own_of k xs)) is ∙ ap (newest_from None) all
       ∙ sym (last_is_newest (filter is_own (entries m)) (own_rise (entries m) (entries_sorted m)))

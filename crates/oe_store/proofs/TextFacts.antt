@@ -1,4 +1,4 @@
--- Texts of the population: their digits, place by place, and their letters.
+-- Texts of the population: their digits, one by one, and their letters.
 use Rattle.std.proofs.Common.{◌≡◌, ℕ, ◌+◌, ◌-◌, ◌/◌, ◌%◌, true, ◌<◌, ◌≤◌, List, [], ◌∷◌, ◌++◌, length, take, drop, set, refl, sym, ap, ◌∙◌, arith, length-append, append_assoc, add-one}
 use Rattle.std.specs.Prelude.{map, codes}
 use Rattle.std.specs.Int.{IsInRange}

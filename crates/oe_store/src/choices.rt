@@ -7,12 +7,14 @@ ghost use Rattle.oe_keys.specs.Key.{district_cmp, customer_cmp};
 ghost use Rattle.oe_model.specs.Keys.{district_of_customer, customer_of_order};
 ghost use Rattle.oe_model.specs.Choice.{namesakes, comes_before, middle};
 ghost use Rattle.oe_model.specs.Delivery.{oldest};
-ghost use Rattle.oe_model.specs.Queries.{last_order};
+ghost use Rattle.oe_model.specs.Queries.{orders_of, last_order};
+ghost use Rattle.oe_finders.specs.Own.{named_of, own_of};
 ghost use Rattle.oe_store.specs.Stored.{rows};
 
 use crate::tables::Tables;
+use oe_finders::Found;
 use oe_keys::{CustomerKey, DistrictKey, OrderKey};
-use oe_rows::{CustomerName, Order};
+use oe_rows::{Customer, CustomerName, Order};
 use oe_values::{CustomerNumber, OrderNumber, Text};
 use std::cmp::Ordering;
 
@@ -23,7 +25,9 @@ fn is_named(
     district: &DistrictKey,
     last: &Text<0, 16>,
 ) -> bool
-    ensures { result ≡ (eq_by_cmp district_cmp (district_of_customer key.now) district.now && eq_by_cmp (slice_cmp nat_cmp) name.now.last last.now) }
+    ensures { result ≡
+        (eq_by_cmp district_cmp (district_of_customer key.now) district.now && eq_by_cmp
+        (slice_cmp nat_cmp) name.now.last last.now) }
 {
     key.district_key().compare(*district) == Ordering::Equal
         && name.last.as_str().cmp(last.as_str()) == Ordering::Equal
@@ -54,6 +58,27 @@ fn is_own(key: &OrderKey, order: &Order, customer: &CustomerKey) -> bool
 }
 
 impl Tables {
+    /// A walk that meets a customer's orders in their keys' order, and few others.
+    pub fn orders_of_customer(&self, customer: &CustomerKey) -> Found<'_, OrderKey, Order>
+        ensures { own_of customer.now result ≡ orders_of customer.now (rows self.now).orders }
+    {
+        let others = self.orders_of(customer.district_key());
+        self.orders.of_customer(customer, others)
+    }
+
+    /// A walk that meets the customers of a district with that C_LAST in their keys' order, and few others.
+    fn namesakes_of(
+        &self,
+        district: &DistrictKey,
+        last: &Text<0, 16>,
+    ) -> Found<'_, CustomerKey, Customer>
+        ensures { named_of district.now last.now result
+            ≡ namesakes district.now last.now (rows self.now).customers }
+    {
+        let others = self.customers_of(*district);
+        self.customers.namesakes(district, last, others)
+    }
+
     /// The least NO_O_ID of a district's orders that are not delivered (clause 2.7.4.2).
     pub fn oldest(&self, district: &DistrictKey) -> Option<OrderNumber>
         ensures { result ≡ oldest district.now (rows self.now).new_orders }
@@ -65,12 +90,13 @@ impl Tables {
 
     /// How many customers of a district with that C_LAST there are.
     fn namesakes(&self, district: &DistrictKey, last: &Text<0, 16>) -> u32
-        ensures count { result ≡ length (namesakes district.now last.now (rows self.now).customers) }
+        ensures count { result ≡ length
+            (namesakes district.now last.now (rows self.now).customers) }
         ensures few { result ≤ 3_000 }
     {
         let _known = &self.customers;
         let mut count = 0u32;
-        for (key, customer) in self.customers_of(*district) {
+        for (key, customer) in self.namesakes_of(district, last) {
             if is_named(key, &customer.name, district, last) {
                 count += 1;
             }
@@ -86,12 +112,13 @@ impl Tables {
         first: &Text<0, 16>,
         own: CustomerNumber,
     ) -> u32
-        ensures count { result ≡ count_by (λ y. comes_before y (first.now, own)) (namesakes district.now last.now (rows self.now).customers) }
+        ensures count { result ≡ count_by (λ y. comes_before y (first.now, own))
+            (namesakes district.now last.now (rows self.now).customers) }
         ensures few { result ≤ 3_000 }
     {
         let _known = &self.customers;
         let mut before = 0u32;
-        for (key, customer) in self.customers_of(*district) {
+        for (key, customer) in self.namesakes_of(district, last) {
             if is_named(key, &customer.name, district, last)
                 && is_before(&customer.name.first, key.customer, first, own)
             {
@@ -101,17 +128,24 @@ impl Tables {
         before
     }
 
-    /// Whether that one is in the middle of them, rounded up.
+    /// Whether that one is in the middle of them, rounded up, where their number is known.
     fn is_middle(
         &self,
+        count: u32,
         district: &DistrictKey,
         last: &Text<0, 16>,
         first: &Text<0, 16>,
         own: CustomerNumber,
     ) -> bool
-        ensures { result ≡ (count_by (λ y. comes_before y (first.now, own)) (namesakes district.now last.now (rows self.now).customers) + 1 == (length (namesakes district.now last.now (rows self.now).customers) + 1) / 2) }
+        requires counted { count ≡ length
+            (namesakes district.now last.now (rows self.now).customers) }
+        requires few { count ≤ 3_000 }
+        ensures { result ≡
+            (count_by (λ y. comes_before y (first.now, own))
+            (namesakes district.now last.now (rows self.now).customers) + 1 ==
+            (length (namesakes district.now last.now (rows self.now).customers) + 1) / 2) }
     {
-        self.rank(district, last, first, own) + 1 == (self.namesakes(district, last) + 1) / 2
+        self.rank(district, last, first, own) + 1 == (count + 1) / 2
     }
 
     /// C_ID of the customer of a district and last name in position n / 2, rounded up, of n, by C_FIRST and where that ties
@@ -119,9 +153,10 @@ impl Tables {
     pub fn middle(&self, district: &DistrictKey, last: &Text<0, 16>) -> Option<CustomerNumber>
         ensures { result ≡ middle (namesakes district.now last.now (rows self.now).customers) }
     {
-        for (key, customer) in self.customers_of(*district) {
+        let count = self.namesakes(district, last);
+        for (key, customer) in self.namesakes_of(district, last) {
             if is_named(key, &customer.name, district, last)
-                && self.is_middle(district, last, &customer.name.first, key.customer)
+                && self.is_middle(count, district, last, &customer.name.first, key.customer)
             {
                 return Some(key.customer);
             }
@@ -131,10 +166,11 @@ impl Tables {
 
     /// O_ID of a customer's last order, which is the greatest (clause 2.6.2.2).
     pub fn last_order(&self, customer: &CustomerKey) -> Option<OrderNumber>
-        ensures { result ≡ option_map (λ e. e.0.order) (last_order customer.now (rows self.now).orders) }
+        ensures { result ≡ option_map (λ e. e.0.order)
+            (last_order customer.now (rows self.now).orders) }
     {
         let mut last = None;
-        for (key, order) in self.orders_of(customer.district_key()) {
+        for (key, order) in self.orders_of_customer(customer) {
             if is_own(key, order, customer) {
                 last = Some(key.order);
             }

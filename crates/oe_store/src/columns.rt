@@ -55,8 +55,7 @@ impl Tables {
         ensures rows { (c : Customer) → get (rows self.old).customers key.now ≡ Some c → rows self.new ≡ changed (UpdateCustomer key.now (record c { account = account.now })) (rows self.old) }
         ensures places { SamePlaces self.old self.new }
     {
-        let customer = self.customers.row_mut(key).unwrap();
-        customer.account = *account;
+        self.customers.set_account(key, account);
     }
 
     /// Sets the account of the CUSTOMER row of a key, and puts an entry before C_DATA, of which what passes 500 bytes is
@@ -66,9 +65,7 @@ impl Tables {
         ensures rows { (c : Customer) → get (rows self.old).customers key.now ≡ Some c → rows self.new ≡ changed (UpdateCustomer key.now (with_entry account.now entry.now c)) (rows self.old) }
         ensures places { SamePlaces self.old self.new }
     {
-        let debtor = self.customers.row_mut(key).unwrap();
-        debtor.account = *account;
-        debtor.data = entry.before(&debtor.data);
+        self.customers.set_bad_credit(key, account, entry);
     }
 
     /// Sets O_CARRIER_ID of the ORDER row of a key.
@@ -77,8 +74,7 @@ impl Tables {
         ensures rows { (o : Order) → get (rows self.old).orders key.now ≡ Some o → rows self.new ≡ changed (UpdateOrder key.now (record o { carrier = Some carrier })) (rows self.old) }
         ensures places { SamePlaces self.old self.new }
     {
-        let order = self.orders.row_mut(key).unwrap();
-        order.carrier = Some(carrier);
+        self.orders.set_carrier(key, carrier);
     }
 
     /// Sets OL_DELIVERY_D of the ORDER-LINE row of a key.

@@ -12,13 +12,12 @@ use crate::formulas::{
     line_count, line_row, order_row, stock_row, warehouse_row,
 };
 use crate::numbers::number;
+use oe_finders::{Customers, Orders};
 use oe_keys::{
     CustomerKey, DistrictKey, HistoryKey, ItemKey, NewOrderKey, OrderKey, OrderLineKey, StockKey,
     WarehouseKey,
 };
-use oe_rows::{
-    Customer, District, History, Item, NewOrder, Order, OrderLine, Scale, Stock, Warehouse,
-};
+use oe_rows::{District, History, Item, NewOrder, Order, OrderLine, Scale, Stock, Warehouse};
 use oe_table::shelves::Shelves;
 use oe_table::tables::NoMemory;
 use oe_values::{CustomerNumber, WarehouseNumber};
@@ -41,14 +40,14 @@ pub(crate) fn warehouses(
     Ok(table)
 }
 
-/// The district of a place from 0 on, where districts stand in the order of their keys.
-fn district_at(place: u32) -> DistrictKey
-    requires { place < 160 }
-    ensures { result ≡ record { warehouse = place / 10 + 1; district = place % 10 + 1 } }
+/// The district of an ordinal from 0 on, where districts stand in the order of their keys.
+fn district_at(ordinal: u32) -> DistrictKey
+    requires { ordinal < 160 }
+    ensures { result ≡ record { warehouse = ordinal / 10 + 1; district = ordinal % 10 + 1 } }
 {
     DistrictKey {
-        warehouse: number(place / 10 + 1),
-        district: number(place % 10 + 1),
+        warehouse: number(ordinal / 10 + 1),
+        district: number(ordinal % 10 + 1),
     }
 }
 
@@ -60,8 +59,8 @@ pub(crate) fn districts(
     ensures { IfOk result (λ t. Fills (has_district scale.now) (λ k. district_of scale.now k.district) empty (rows_of district_cmp t)) }
 {
     let mut table = Shelves::new(alloc);
-    for place in 0..10 * scale.warehouses.get() {
-        let key = district_at(place);
+    for ordinal in 0..10 * scale.warehouses.get() {
+        let key = district_at(ordinal);
         table.put_new(key, district_row(scale, key.district))?;
     }
     Ok(table)
@@ -69,7 +68,7 @@ pub(crate) fn districts(
 
 /// Puts the customers of a district.
 fn fill_customers(
-    table: &mut Shelves<CustomerKey, Customer>,
+    table: &mut Customers,
     scale: &Scale,
     district: DistrictKey,
 ) -> Result<(), NoMemory>
@@ -88,15 +87,12 @@ fn fill_customers(
 }
 
 /// The customers of all districts.
-pub(crate) fn customers(
-    alloc: Global,
-    scale: &Scale,
-) -> Result<Shelves<CustomerKey, Customer>, NoMemory>
+pub(crate) fn customers(alloc: Global, scale: &Scale) -> Result<Customers, NoMemory>
     ensures { IfOk result (λ t. Fills (has_customer scale.now) (λ k. customer_of k.customer) empty (rows_of customer_cmp t)) }
 {
-    let mut table = Shelves::new(alloc);
-    for place in 0..10 * scale.warehouses.get() {
-        fill_customers(&mut table, scale, district_at(place))?;
+    let mut table = Customers::new(alloc);
+    for ordinal in 0..10 * scale.warehouses.get() {
+        fill_customers(&mut table, scale, district_at(ordinal))?;
     }
     Ok(table)
 }
@@ -130,8 +126,8 @@ pub(crate) fn histories(
     ensures { IfOk result (λ t. Fills (has_history scale.now) (λ k. history_of (counted_customer scale.now k.number)) empty (rows_of history_cmp t)) }
 {
     let mut table = Shelves::new(alloc);
-    for place in 0..10 * scale.warehouses.get() {
-        fill_histories(&mut table, scale, district_at(place))?;
+    for ordinal in 0..10 * scale.warehouses.get() {
+        fill_histories(&mut table, scale, district_at(ordinal))?;
     }
     Ok(table)
 }
@@ -179,18 +175,14 @@ pub(crate) fn new_orders(
     ensures { IfOk result (λ t. Fills (has_new_order scale.now) (λ k. no_columns) empty (rows_of new_order_cmp t)) }
 {
     let mut table = Shelves::new(alloc);
-    for place in 0..10 * scale.warehouses.get() {
-        fill_new_orders(&mut table, scale, district_at(place))?;
+    for ordinal in 0..10 * scale.warehouses.get() {
+        fill_new_orders(&mut table, scale, district_at(ordinal))?;
     }
     Ok(table)
 }
 
 /// Puts the orders of a district.
-fn fill_orders(
-    table: &mut Shelves<OrderKey, Order>,
-    scale: &Scale,
-    district: DistrictKey,
-) -> Result<(), NoMemory>
+fn fill_orders(table: &mut Orders, scale: &Scale, district: DistrictKey) -> Result<(), NoMemory>
     requires { IsFree (orders_in district scale.now) (rows_of order_cmp table.old) }
     ensures { OnOk result (Fills (orders_in district scale.now) (λ k. order_of scale.now k.order) (rows_of order_cmp table.old) (rows_of order_cmp table.new)) }
 {
@@ -209,12 +201,12 @@ fn fill_orders(
 }
 
 /// As many orders of each district as it has customers.
-pub(crate) fn orders(alloc: Global, scale: &Scale) -> Result<Shelves<OrderKey, Order>, NoMemory>
+pub(crate) fn orders(alloc: Global, scale: &Scale) -> Result<Orders, NoMemory>
     ensures { IfOk result (λ t. Fills (has_order scale.now) (λ k. order_of scale.now k.order) empty (rows_of order_cmp t)) }
 {
-    let mut table = Shelves::new(alloc);
-    for place in 0..10 * scale.warehouses.get() {
-        fill_orders(&mut table, scale, district_at(place))?;
+    let mut table = Orders::new(alloc);
+    for ordinal in 0..10 * scale.warehouses.get() {
+        fill_orders(&mut table, scale, district_at(ordinal))?;
     }
     Ok(table)
 }
@@ -268,8 +260,8 @@ pub(crate) fn order_lines(
     ensures { IfOk result (λ t. Fills (has_line scale.now) (line_of scale.now) empty (rows_of order_line_cmp t)) }
 {
     let mut table = Shelves::new(alloc);
-    for place in 0..10 * scale.warehouses.get() {
-        fill_lines(&mut table, scale, district_at(place))?;
+    for ordinal in 0..10 * scale.warehouses.get() {
+        fill_lines(&mut table, scale, district_at(ordinal))?;
     }
     Ok(table)
 }

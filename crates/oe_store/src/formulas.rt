@@ -114,11 +114,11 @@ pub(crate) fn customer_row(customer: CustomerNumber) -> Customer
 pub(crate) fn history_key_of(scale: &Scale, customer: &CustomerKey) -> HistoryKey
     ensures { result ≡ history_key scale.now customer.now }
 {
-    let place = (customer.warehouse.get() - 1) * 10 + (customer.district.get() - 1);
+    let ordinal = (customer.warehouse.get() - 1) * 10 + (customer.district.get() - 1);
     HistoryKey {
         terminal: number(0),
-        number: number(place * scale.customers.get() + customer.customer.get()),
-        place: number(1),
+        number: number(ordinal * scale.customers.get() + customer.customer.get()),
+        ordinal: number(1),
     }
 }
 

@@ -14,7 +14,8 @@ impl Tables {
     /// Inserts a HISTORY row at a key that has none, where the rows that it refers to are there.
     pub fn insert_history(&mut self, key: HistoryKey, row: History) -> Result<(), NoMemory>
         requires { Accepts (InsertHistory key row) (rows self.old) }
-        ensures rows { OnOk result (rows self.new ≡ changed (InsertHistory key row) (rows self.old)) }
+        ensures rows { OnOk result
+            (rows self.new ≡ changed (InsertHistory key row) (rows self.old)) }
         ensures place { OnOk result (AddsPlace self.old self.new (Key.History key)) }
         ensures no_place { OnErr result (¬ HasPlace self.old (Key.History key)) }
         ensures err { OnErr result (self.new ≡ self.old) }
@@ -25,7 +26,8 @@ impl Tables {
     /// Inserts a NEW-ORDER row at a key that has none, where the rows that it refers to are there.
     pub fn insert_new_order(&mut self, key: NewOrderKey, row: NewOrder) -> Result<(), NoMemory>
         requires { Accepts (InsertNewOrder key row) (rows self.old) }
-        ensures rows { OnOk result (rows self.new ≡ changed (InsertNewOrder key row) (rows self.old)) }
+        ensures rows { OnOk result
+            (rows self.new ≡ changed (InsertNewOrder key row) (rows self.old)) }
         ensures place { OnOk result (AddsPlace self.old self.new (Key.NewOrder key)) }
         ensures no_place { OnErr result (¬ HasPlace self.old (Key.NewOrder key)) }
         ensures err { OnErr result (self.new ≡ self.old) }
@@ -49,7 +51,8 @@ impl Tables {
     /// Inserts an ORDER-LINE row at a key that has none, where the rows that it refers to are there.
     pub fn insert_order_line(&mut self, key: OrderLineKey, row: OrderLine) -> Result<(), NoMemory>
         requires { Accepts (InsertOrderLine key row) (rows self.old) }
-        ensures rows { OnOk result (rows self.new ≡ changed (InsertOrderLine key row) (rows self.old)) }
+        ensures rows { OnOk result
+            (rows self.new ≡ changed (InsertOrderLine key row) (rows self.old)) }
         ensures place { OnOk result (AddsPlace self.old self.new (Key.OrderLine key)) }
         ensures no_place { OnErr result (¬ HasPlace self.old (Key.OrderLine key)) }
         ensures err { OnErr result (self.new ≡ self.old) }

@@ -6,6 +6,7 @@ ghost use Rattle.oe_store.specs.Numbered.{AreNumbered};
 ghost use Rattle.oe_store.specs.Stored.{rows, HasPlace};
 ghost use Rattle.oe_model.specs.Meets.{Meets};
 
+use oe_finders::{Customers, Orders};
 use oe_keys::{
     CustomerKey, DistrictKey, HistoryKey, ItemKey, NewOrderKey, OrderKey, OrderLineKey, StockKey,
     WarehouseKey,
@@ -19,16 +20,15 @@ use std::marker::Model;
 /// ten districts, and each column is in its range. A key that lost its row keeps its place, so that to put a row back
 /// takes no memory.
 ///
-/// The indexes of customers by last name, of undelivered orders and of customers' last orders will stand beside the
-/// tables, kept by the same calls.
+/// The customers are found by last name too, and the orders by customer.
 #[derive(Drop)]
 pub struct Tables {
     pub(crate) warehouses: Shelves<WarehouseKey, Warehouse>,
     pub(crate) districts: Shelves<DistrictKey, District>,
-    pub(crate) customers: Shelves<CustomerKey, Customer>,
+    pub(crate) customers: Customers,
     pub(crate) histories: Shelves<HistoryKey, History>,
     pub(crate) new_orders: Shelves<NewOrderKey, NewOrder>,
-    pub(crate) orders: Shelves<OrderKey, Order>,
+    pub(crate) orders: Orders,
     pub(crate) order_lines: Shelves<OrderLineKey, OrderLine>,
     pub(crate) items: Shelves<ItemKey, Item>,
     pub(crate) stocks: Shelves<StockKey, Stock>,
@@ -39,9 +39,30 @@ impl Model for Tables {
 
     ghost Value = { Stored };
 
-    ghost view = { λ t. record { warehouses = t.warehouses; districts = t.districts; customers = t.customers; histories = t.histories; new_orders = t.new_orders; orders = t.orders; order_lines = t.order_lines; items = t.items; stocks = t.stocks } };
+    ghost view = { λ t. record {
+      warehouses = t.warehouses;
+      districts = t.districts;
+      customers = t.customers;
+      histories = t.histories;
+      new_orders = t.new_orders;
+      orders = t.orders;
+      order_lines = t.order_lines;
+      items = t.items;
+      stocks = t.stocks;
+    } };
 
-    ghost invariant = { λ t. IsSound (rows (record { warehouses = t.warehouses; districts = t.districts; customers = t.customers; histories = t.histories; new_orders = t.new_orders; orders = t.orders; order_lines = t.order_lines; items = t.items; stocks = t.stocks })) };
+    ghost invariant = { λ t. IsSound
+        (rows (record {
+          warehouses = t.warehouses;
+          districts = t.districts;
+          customers = t.customers;
+          histories = t.histories;
+          new_orders = t.new_orders;
+          orders = t.orders;
+          order_lines = t.order_lines;
+          items = t.items;
+          stocks = t.stocks;
+        })) };
 }
 
 impl Tables {
@@ -54,10 +75,10 @@ impl Tables {
         Tables {
             warehouses: Shelves::new(alloc),
             districts: Shelves::new(alloc),
-            customers: Shelves::new(alloc),
+            customers: Customers::new(alloc),
             histories: Shelves::new(alloc),
             new_orders: Shelves::new(alloc),
-            orders: Shelves::new(alloc),
+            orders: Orders::new(alloc),
             order_lines: Shelves::new(alloc),
             items: Shelves::new(alloc),
             stocks: Shelves::new(alloc),

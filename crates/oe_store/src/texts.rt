@@ -18,16 +18,16 @@ static ALPHABETS: [u8; 546] = *b"\
     ABCDEFGHIJKLMNOPQRSTUVWXYZABCDEFGHIJKLMNOPQRSTUVWXYZABCDEFGHIJKLMNOPQRSTUVWXYZ\
     ABCDEFGHIJKLMNOPQRSTUVWXYZABCDEFGHIJKLMNOPQRSTUVWXYZABCDEFGHIJKLMNOPQRSTUVWXYZ";
 
-/// Writes a number into the places, in decimal digits with leading zeros.
+/// Writes a number into the cells, in decimal digits with leading zeros.
 #[inline(always)]
-fn write_digits(places: &mut [u8], number: u32)
-    ensures { places.new ≡ dec number (length places.old) }
+fn write_digits(cells: &mut [u8], number: u32)
+    ensures { cells.new ≡ dec number (length cells.old) }
 {
     let mut left = number;
-    let mut place = places.len();
-    while place > 0 {
-        place -= 1;
-        places[place] = b'0' + (left % 10) as u8;
+    let mut offset = cells.len();
+    while offset > 0 {
+        offset -= 1;
+        cells[offset] = b'0' + (left % 10) as u8;
         left /= 10;
     }
 }

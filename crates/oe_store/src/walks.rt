@@ -102,7 +102,8 @@ impl Tables {
 
     /// The DISTRICT rows of a warehouse, in the keys' order.
     pub fn districts_of(&self, warehouse: WarehouseKey) -> Rows<'_, DistrictKey, District>
-        ensures { result ≡ entries_of warehouse_cmp warehouse_of_district warehouse (rows self.now).districts }
+        ensures { result ≡ entries_of warehouse_cmp warehouse_of_district warehouse
+            (rows self.now).districts }
     {
         let first = DistrictKey {
             warehouse: warehouse.warehouse,
@@ -117,7 +118,8 @@ impl Tables {
 
     /// The CUSTOMER rows of a district, in the keys' order.
     pub fn customers_of(&self, district: DistrictKey) -> Rows<'_, CustomerKey, Customer>
-        ensures { result ≡ entries_of district_cmp district_of_customer district (rows self.now).customers }
+        ensures { result ≡ entries_of district_cmp district_of_customer district
+            (rows self.now).customers }
     {
         let first = CustomerKey {
             warehouse: district.warehouse,
@@ -133,7 +135,8 @@ impl Tables {
 
     /// The ORDER rows of a district, in the keys' order.
     pub fn orders_of(&self, district: DistrictKey) -> Rows<'_, OrderKey, Order>
-        ensures { result ≡ entries_of district_cmp district_of_order district (rows self.now).orders }
+        ensures { result ≡ entries_of district_cmp district_of_order district
+            (rows self.now).orders }
     {
         let first = OrderKey {
             warehouse: district.warehouse,
@@ -149,7 +152,8 @@ impl Tables {
 
     /// The NEW-ORDER rows of a district, in the keys' order.
     pub fn new_orders_of(&self, district: DistrictKey) -> Rows<'_, NewOrderKey, NewOrder>
-        ensures { result ≡ entries_of district_cmp district_of_new_order district (rows self.now).new_orders }
+        ensures { result ≡ entries_of district_cmp district_of_new_order district
+            (rows self.now).new_orders }
     {
         let first = NewOrderKey {
             warehouse: district.warehouse,
@@ -185,7 +189,8 @@ impl Tables {
         &self,
         district: DistrictKey,
     ) -> Rows<'_, OrderLineKey, OrderLine>
-        ensures { result ≡ entries_of district_cmp (λ k. district_of_order (order_of_line k)) district (rows self.now).order_lines }
+        ensures { result ≡ entries_of district_cmp
+            (λ k. district_of_order (order_of_line k)) district (rows self.now).order_lines }
     {
         let lowest = OrderLineKey {
             warehouse: district.warehouse,

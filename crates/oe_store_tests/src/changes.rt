@@ -105,12 +105,12 @@ fn stock_update(alloc: Global, tables: &Tables) -> Option<Change> {
 /// How many changes the script has.
 const LENGTH: u32 = 31;
 
-/// The change at a place of the script: four inserts for each of the orders from 5 to 10, six updates, and a delete.
-fn scripted(alloc: Global, tables: &Tables, place: u32) -> Option<Change> {
-    if place < 24 {
-        return insert(tables, place % 4, 5 + place / 4);
+/// The change at an index of the script: four inserts for each of the orders from 5 to 10, six updates, and a delete.
+fn scripted(alloc: Global, tables: &Tables, index: u32) -> Option<Change> {
+    if index < 24 {
+        return insert(tables, index % 4, 5 + index / 4);
     }
-    match place {
+    match index {
         24 => warehouse_update(tables),
         25 => district_update(tables),
         26 => customer_update(alloc, tables),
@@ -169,21 +169,21 @@ fn make(rt: &impl Abort, alloc: Global, tables: &mut Tables, change: &Change) ->
     apply(tables, copy).expect(rt, "the change")
 }
 
-/// Makes the changes of the script from a place on, and undoes them, the newest first.
-fn there_and_back(rt: &impl Abort, alloc: Global, tables: &mut Tables, place: u32)
+/// Makes the changes of the script from an index on, and undoes them, the newest first.
+fn there_and_back(rt: &impl Abort, alloc: Global, tables: &mut Tables, index: u32)
     ensures rows { rows tables.new ≡ rows tables.old }
     ensures places { (k : Key) → HasPlace tables.old k → HasPlace tables.new k }
 {
-    if place >= LENGTH {
+    if index >= LENGTH {
         let there = [true, false, true, false, true, true];
         assert_facts(rt, tables, &Some(([900, 14, 90, 0], there)));
         return;
     }
     tables.schema_holds();
-    let change = scripted(alloc, tables, place).expect(rt, "a change");
+    let change = scripted(alloc, tables, index).expect(rt, "a change");
     let facts = facts(tables);
     let before = make(rt, alloc, tables, &change);
-    there_and_back(rt, alloc, tables, place + 1);
+    there_and_back(rt, alloc, tables, index + 1);
     undo(tables, before);
     assert_facts(rt, tables, &facts);
 }

@@ -20,7 +20,7 @@ pub(crate) fn history_key(terminal: u32, number: u32) -> Option<HistoryKey> {
     Some(HistoryKey {
         terminal: Number::new(terminal)?,
         number: Number::new(number)?,
-        place: Number::new(1)?,
+        ordinal: Number::new(1)?,
     })
 }
 

@@ -45,9 +45,9 @@ fn account(tables: &Tables, number: u32) -> Option<Account> {
 const ENTRY: &str = "3 3 2 6 1 8.00|";
 
 /// Writes to the rows of a warehouse, of a district and of customers.
-fn of_payments(tables: &Tables, place: u32) -> Option<Write> {
+fn of_payments(tables: &Tables, index: u32) -> Option<Write> {
     let district = &district_key(2, 3)?;
-    match place {
+    match index {
         0 => Some(Write::WarehouseYtd(district.warehouse_key(), YearToDate::new(900)?)),
         1 => Some(Write::DistrictYtd(*district, YearToDate::new(801)?)),
         2 => Some(Write::CustomerAccount(customer_key(4)?, account(tables, 4)?)),
@@ -65,8 +65,8 @@ fn counters() -> Option<StockCounters> {
 }
 
 /// Writes to the rows of a district, of a stock, of order 4 and of a line of it.
-fn of_orders(place: u32) -> Option<Write> {
-    match place {
+fn of_orders(index: u32) -> Option<Write> {
+    match index {
         4 => Some(Write::NextOrder(district_key(2, 3)?, Number::new(14)?)),
         5 => Some(Write::StockCounters(stock_key()?, counters()?)),
         6 => Some(Write::Carrier(order_key(2, 3, 4)?, Number::new(9)?)),
@@ -75,9 +75,9 @@ fn of_orders(place: u32) -> Option<Write> {
 }
 
 /// The inserts of order 5 and of a line of it like those of order 3, of a HISTORY row, and of a NEW-ORDER row, and its delete.
-fn of_rows(tables: &Tables, place: u32) -> Option<Write> {
+fn of_rows(tables: &Tables, index: u32) -> Option<Write> {
     let order = &order_key(2, 3, 5)?;
-    match place {
+    match index {
         8 => Some(Write::InsertOrder(*order, tables.order(order_key(2, 3, 3)?)?.copied())),
         9 => Some(Write::InsertNewOrder(order.new_order_key())),
         10 => Some(Write::InsertOrderLine(line_key(5)?, tables.order_line(line_key(3)?)?.copied())),
@@ -92,15 +92,15 @@ fn of_rows(tables: &Tables, place: u32) -> Option<Write> {
 /// How many writes the script has.
 const LENGTH: u32 = 13;
 
-/// The write at a place of the script.
-fn scripted(tables: &Tables, place: u32) -> Option<Write> {
-    if place < 4 {
-        return of_payments(tables, place);
+/// The write at an index of the script.
+fn scripted(tables: &Tables, index: u32) -> Option<Write> {
+    if index < 4 {
+        return of_payments(tables, index);
     }
-    if place < 8 {
-        return of_orders(place);
+    if index < 8 {
+        return of_orders(index);
     }
-    of_rows(tables, place)
+    of_rows(tables, index)
 }
 
 /// W_YTD and D_YTD in cents, D_NEXT_O_ID, C_PAYMENT_CNT of customers 3 and 4, S_QUANTITY and S_REMOTE_CNT, and O_CARRIER_ID of
@@ -180,21 +180,21 @@ fn make(rt: &impl Abort, alloc: Global, tables: &mut Tables, what: &Write) -> Be
     write(alloc, tables, what).expect(rt, "the write")
 }
 
-/// Makes the writes of the script from a place on, and undoes them, the newest first.
-fn there_and_back(rt: &impl Abort, alloc: Global, tables: &mut Tables, place: u32)
+/// Makes the writes of the script from an index on, and undoes them, the newest first.
+fn there_and_back(rt: &impl Abort, alloc: Global, tables: &mut Tables, index: u32)
     ensures rows { rows tables.new ≡ rows tables.old }
     ensures places { (k : Key) → HasPlace tables.old k → HasPlace tables.new k }
 {
-    if place >= LENGTH {
+    if index >= LENGTH {
         let there = [true, false, true, true, true, true, true, false];
         assert_facts(rt, tables, &Some(([900, 801, 14, 31, 31, 90, 7, 9], there)));
         return;
     }
     tables.schema_holds();
-    let what = scripted(tables, place).expect(rt, "a write");
+    let what = scripted(tables, index).expect(rt, "a write");
     let facts = facts(tables);
     let before = make(rt, alloc, tables, &what);
-    there_and_back(rt, alloc, tables, place + 1);
+    there_and_back(rt, alloc, tables, index + 1);
     undo(tables, before);
     assert_facts(rt, tables, &facts);
 }

@@ -6,3 +6,4 @@ pub mod ShelfFacts
 pub mod ShelvesFacts
 mod RangeFacts
 mod ShelfSweepFacts
+mod PassedFacts

@@ -1,8 +1,5 @@
 -- What a sweep leaves at each key.
 use Rattle.std.proofs.Common.{◌≡◌, refl, sym, ap, subst, Bool, true, false, cond, List, [], ◌∷◌, Option, Some, None}
-use Rattle.std.specs.List.Sorted.{IsStrictlySortedBy}
-use Rattle.std.specs.Map.{keys_of}
-use Rattle.std.specs.Map.Calls.{RetainsPairs}
 use Rattle.std.specs.Ordering.{is_eq}
 use Rattle.std.specs.declared.cmp.Ordering.{Ordering}
 use Rattle.std.specs.FinMap.{IsAntisymmetric}
@@ -38,15 +35,3 @@ module _ {K R : Type 0} (cmp : K → K → Ordering) (exact : IsAntisymmetric cm
       let P : K → Type 0 = λ x. Sweeps (Answers x) (Some p) (place cmp (cond kept ((key, p) ∷ new) new) x) in
       subst P (sym same) (here key p kept new judged (rw none at (rest key)) (rw same at at))
   step key q p kept old new false at judged none rest = rw (apart key q p kept new at) (rest q)
-
-  -- a closure `keeps`, a call of which is T, that judges each place and stays as it was
-  module _ {F : Type 0} (T : F → K → Option R → Bool → Option R → F → Type 0) (keeps : F)
-      (call : (key : K) (p : Option R) (kept : Bool) (left : Option R) (after : F) → T keeps key p kept left after → Judges (Answers key) p kept × (left ≡ p) × (after ≡ keeps)) where
-    pub swept : (old new : List (K × Option R)) → IsStrictlySortedBy cmp (keys_of old) → RetainsPairs T keeps old new
-        → (q : K) → Sweeps (Answers q) (place cmp old q) (place cmp new q)
-    unfolding IsStrictlySortedBy
-    swept [] new sorted is q = rw is refl
-    swept ((key, p) ∷ old) new sorted (kept, left, after, rest, called, later, is) q =
-        let same = call key p kept left after called in
-        let tail : RetainsPairs T keeps old rest = subst (λ f. RetainsPairs T f old rest) same.2 later in
-        rw (is, same.1) (step key q p kept old rest (is_eq (cmp q key)) refl same.0 (place-below cmp key old sorted.0) (swept old rest sorted.1 tail))

@@ -69,10 +69,6 @@ module _ {K R : Type 0} where
   live-filter test ((key, Some row) ∷ t) =
       live-some (test key) key row (filter (λ e. test e.0) t) ∙ ap (λ l. cond (test key) ((key, row) ∷ l) l) (live-filter test t)
 
-  pub filter-all : (t : List (K × Option R)) → filter (λ e. true) t ≡ t
-  filter-all [] = refl
-  filter-all (e ∷ t) = ap (λ l. e ∷ l) (filter-all t)
-
   -- the rows of a part by keys are that part of the rows
   pub live-between : (cmp : K → K → Ordering) → IsTotalOrder cmp → IsAntisymmetric cmp → (test : K → Bool) (t part : List (K × Option R)) → IsStrictlySortedBy cmp (keys_of t)
       → part ≡ filter (λ e. test e.0) t → live part ≡ filter (λ e. test e.0) (entries (rows_of cmp t))

@@ -1,6 +1,5 @@
 -- What the clauses of this crate cite.
 pub mod Table
-pub mod Lends
 pub mod Shelf
 pub mod ShelfLends
 pub mod ShelvesLends

@@ -2,8 +2,7 @@
 #![tactic(auto)]
 
 pub mod keys;
-mod shelf;
+pub mod shelf;
 pub mod shelf_walks;
 pub mod shelves;
 pub mod tables;
-pub mod walks;

@@ -1,13 +1,14 @@
 //! One shelf of a table: its keys ascend, each with its row or, where it was blanked, none.
 //!
-//! That the keys ascend is asked of each call and is the invariant of the table that has the shelf. Only `put` takes memory, for a
-//! key without a place; where that is refused the shelf is as before.
-ghost use Rattle.std.specs.Prelude.{◌≡◌, ◌+◌, ◌<◌, ◌≤◌, ◌↔◌, Some, None, List, Option, [], Err, IsTrue, OnOk, OnErr, length};
+//! That the keys ascend is asked of each call and is the invariant of the table that has the shelf. By its own invariant a shelf
+//! knows of some slots at its beginning that they are blanked, so that a walk over rows can pass them. Only `put` takes memory, for
+//! a key without a place; where that is refused the shelf is as before.
+ghost use Rattle.std.specs.Prelude.{◌≡◌, ◌+◌, ◌<◌, ◌≤◌, ◌↔◌, Some, None, List, Option, [], Err, IsTrue, OnOk, OnErr, length, take};
 ghost use Rattle.std.specs.List.{insert};
 ghost use Rattle.std.specs.Option.{option_copied, option_copied_mut};
 ghost use Rattle.std.specs.Borrow.{sem};
 ghost use Rattle.std.specs.Fn.{FnReturnsAt};
-ghost use Rattle.oe_table.specs.Table.{place, Judges};
+ghost use Rattle.oe_table.specs.Table.{place, live, Judges};
 ghost use Rattle.oe_table.specs.ShelfSweep.{SweepsShelf};
 ghost use Rattle.oe_table.specs.Shelf.{IsAscending, StandsAt, IsFound, put_at, lower, upper};
 
@@ -19,7 +20,7 @@ use std::marker::Model;
 
 /// A key's place: its row, or none where it was blanked.
 #[derive(Drop)]
-pub(crate) struct Slot<K, R> {
+pub struct Slot<K, R> {
     key: K,
     content: Option<R>,
 }
@@ -34,7 +35,7 @@ impl<K, R> Slot<K, R> {
     ghost use Rattle.oe_table.specs.ShelfLends.{lends_content};
 
     /// The key and what stands at it.
-    pub(crate) fn parts(&self) -> (&K, &Option<R>)
+    pub fn parts(&self) -> (&K, &Option<R>)
         ensures { (result.0.now, result.1.now) ≡ self.now }
     {
         (&self.key, &self.content)
@@ -50,34 +51,85 @@ impl<K, R> Slot<K, R> {
 
 /// The slots of a shelf, in their keys' order. That the keys ascend is kept by the table that has the shelf.
 #[derive(Drop)]
-pub(crate) struct Shelf<K, R> {
+pub struct Shelf<K, R> {
     slots: Vec<Slot<K, R>>,
+    // So many slots at the beginning have no row.
+    blanked: usize,
 }
 
 impl<K, R> Model for Shelf<K, R> {
     ghost Value = { List (K × Option R) };
 
     ghost view = { λ s. s.slots.items };
+
+    ghost invariant = { λ s. live (take s.blanked s.slots.items) ≡ [] };
 }
 
 impl<K, R> Shelf<K, R> {
     /// A shelf without a slot, which takes no memory.
-    pub(crate) fn empty(alloc: Global) -> Self
+    pub fn empty(alloc: Global) -> Self
         ensures { result ≡ [] }
     {
         Shelf {
             slots: Vec::new(alloc),
+            blanked: 0,
         }
     }
 }
 
 impl<K, R> Shelf<K, R> {
     /// The slots, in their keys' order.
-    pub(crate) fn slots(&self) -> &[Slot<K, R>]
+    pub fn slots(&self) -> &[Slot<K, R>]
         ensures { result.now ≡ self.now }
     {
         &self.slots
     }
+
+    /// A number of slots at the beginning that have no row.
+    pub(crate) fn blanked(&self) -> usize
+        ensures { live (take result self.now) ≡ [] }
+    {
+        self.blanked
+    }
+
+    // How many slots at the beginning have no row, from those on that are known to have none.
+    fn front(&self) -> usize
+        ensures { live (take result self.now) ≡ [] }
+    {
+        let mut passed = self.blanked;
+        while let Some(slot) = self.slots.get(passed) {
+            if slot.content.is_some() {
+                return passed;
+            }
+            passed += 1;
+        }
+        passed
+    }
+
+    /// Passes the slots at the beginning that have no row, so that no walk over rows meets them again.
+    pub(crate) fn pass_blanked(&mut self)
+        ensures { self.new ≡ self.old }
+    {
+        self.blanked = self.front();
+    }
+}
+
+// Drops exactly those blanked slots whose key the test does not keep.
+fn sweep_slots<K: Drop, R: Drop, F: Fn(&K) -> bool>(slots: &mut Vec<Slot<K, R>>, keeps: &F)
+    requires { F.IsAlwaysCallable keeps.now }
+    ensures { SweepsShelf (FnReturnsAt F.Fn keeps.now) slots.old.items slots.new.items }
+{
+    slots.retain(
+        |slot: &Slot<K, R>| -> bool
+            requires { F.IsAlwaysCallable keeps.now }
+            ensures { Judges (FnReturnsAt F.Fn keeps.entry.now slot.now.0) slot.now.1 result }
+        {
+            match slot.content {
+                Some(_) => true,
+                None => keeps(&slot.key),
+            }
+        },
+    );
 }
 
 impl<K: ShelvedKey, R> Shelf<K, R> {
@@ -190,11 +242,12 @@ impl<K: ShelvedKey, R> Shelf<K, R> {
         ensures value { option_copied_mut result ≡ place K.cmp self.old key.now }
     {
         let at = self.position(key);
+        self.blanked = at.min(self.blanked);
         Some(self.slots.get_mut(at)?.content_mut())
     }
 
     /// Puts a row at a key, into its place or a new one.
-    pub(crate) fn put(&mut self, key: K, row: R) -> Result<(), NoMemory>
+    pub fn put(&mut self, key: K, row: R) -> Result<(), NoMemory>
     where
         K: Drop,
         R: Drop,
@@ -205,6 +258,7 @@ impl<K: ShelvedKey, R> Shelf<K, R> {
     {
         match self.find(&key) {
             Ok(at) => {
+                self.blanked = self.blanked.min(at);
                 *self.slots[at].content_mut() = Some(row);
                 Ok(())
             }
@@ -225,10 +279,11 @@ impl<K: ShelvedKey, R> Shelf<K, R> {
             key,
             content: Some(row),
         };
-        match self.slots.insert(at, slot) {
-            Ok(()) => Ok(()),
-            Err(_) => Err(NoMemory),
+        if let Err(_refused) = self.slots.insert(at, slot) {
+            return Err(NoMemory);
         }
+        self.blanked = self.blanked.min(at);
+        Ok(())
     }
 
     /// Gives up the places of exactly those blanked keys that the test does not keep.
@@ -239,16 +294,7 @@ impl<K: ShelvedKey, R> Shelf<K, R> {
         requires { F.IsAlwaysCallable keeps.now }
         ensures { SweepsShelf (FnReturnsAt F.Fn keeps.now) self.old self.new }
     {
-        self.slots.retain(
-            |slot: &Slot<K, R>| -> bool
-                requires { F.IsAlwaysCallable keeps.now }
-                ensures { Judges (FnReturnsAt F.Fn keeps.entry.now slot.now.0) slot.now.1 result }
-            {
-                match slot.content {
-                    Some(_) => true,
-                    None => keeps(&slot.key),
-                }
-            },
-        );
+        sweep_slots(&mut self.slots, keeps);
+        self.blanked = 0;
     }
 }

@@ -25,7 +25,8 @@ pub(crate) struct Slots<'a, K, R> {
 impl<'a, K, R> Model for Slots<'a, K, R> {
     ghost Value = { List (K × Option R) };
 
-    ghost view = { λ it. iter_rest it.front ++ (joined (iter_rest it.shelves) ++ iter_rest it.back) };
+    ghost view = { λ it. iter_rest it.front
+        ++ (joined (iter_rest it.shelves) ++ iter_rest it.back) };
 }
 
 impl<'a, K, R> Iterator for Slots<'a, K, R> {

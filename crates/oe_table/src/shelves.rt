@@ -1,7 +1,8 @@
 //! A table whose keys lie by number: shelf by shelf, and on its shelf each key after those that are less.
 //!
 //! By the invariant the keys of the n-th shelf are those that name it, and ascend; so all keys ascend from shelf to shelf. A `Cut`
-//! is a place between two slots, from which walks begin and at which they end. Only `put_new` takes memory, for a key without a
+//! is a place between two slots, from which walks begin and at which they end. A walk over rows passes what is blanked at the
+//! beginning of its first shelf, and so goes over no row that was taken before all others. Only `put_new` takes memory, for a key without a
 //! place and for the shelves up to its own; where that is refused the table is as before.
 ghost use Rattle.std.specs.Prelude.{◌≡◌, ◌+◌, ◌<◌, ◌≤◌, ℕ, Some, None, OnOk, OnErr, IsSome, IsTrue, ◌↔◌, List, [], ◌++◌, Option, vec_len, replicate, length, slice_index_or, take, drop};
 ghost use Rattle.std.specs.List.Sorted.{IsStrictlySortedBy};
@@ -13,7 +14,7 @@ ghost use Rattle.std.specs.Option.{option_copied, option_copied_mut};
 ghost use Rattle.std.specs.Borrow.{sem};
 ghost use Rattle.std.specs.FinMap as map;
 ghost use Rattle.std.specs.Fn.{FnReturnsAt};
-ghost use Rattle.oe_table.specs.Table.{place, rows_of, IsBlanked, SetsPlace, SweepsPlaces};
+ghost use Rattle.oe_table.specs.Table.{place, live, rows_of, IsBlanked, SetsPlace, SweepsPlaces};
 ghost use Rattle.oe_table.specs.ShelfSweep.{SweepsShelves};
 ghost use Rattle.oe_table.specs.Shelf.{joined, AreShelves, lower, upper, cut_between};
 
@@ -43,13 +44,13 @@ impl<K: ShelvedKey, R> Model for Shelves<K, R> {
     ghost invariant = { λ t. AreShelves K.cmp K.shelf_of 0 t.shelves.items };
 }
 
-// Puts empty shelves after the others, until there is one of a number.
-fn reach<K: Drop, R: Drop>(
+/// Puts empty shelves after the others, until there is one of a number below 1,000,000.
+pub fn reach<K: Drop, R: Drop>(
     shelves: &mut Vec<Shelf<K, R>>,
     alloc: Global,
     number: usize,
 ) -> Result<(), NoMemory>
-    requires { number < 1024 }
+    requires { number < 1_000_000 }
     ensures padded { (n : ℕ) × (shelves.new.items ≡ shelves.old.items ++ replicate n []) }
     ensures reached { OnOk result (number < vec_len shelves.new) }
     ensures short { OnErr result (vec_len shelves.old ≤ number) }
@@ -171,6 +172,51 @@ fn slots_between<K, R>(shelves: &[Shelf<K, R>], from: Cut, to: Cut) -> Slots<'_,
     }
 }
 
+// How many slots at the beginning of a shelf are known to have no row.
+fn blanked_on<K, R>(shelves: &[Shelf<K, R>], number: usize) -> usize
+    ensures { live (take result (slice_index_or shelves.now number [])) ≡ [] }
+{
+    match shelves.get(number) {
+        Some(shelf) => shelf.blanked(),
+        None => 0,
+    }
+}
+
+// How far a walk from one cut to another may begin later than at the first: at what is blanked of the first's shelf.
+fn row_cut<K, R>(shelves: &[Shelf<K, R>], from: Cut, to: Cut) -> usize
+    requires within { from.slot ≤ length (slice_index_or shelves.now from.shelf []) }
+    requires ends { to.slot ≤ length (slice_index_or shelves.now to.shelf []) }
+    requires same { from.shelf ≡ to.shelf → from.slot ≤ to.slot }
+    ensures within { result ≤ length (slice_index_or shelves.now from.shelf []) }
+    ensures same { from.shelf ≡ to.shelf → result ≤ to.slot }
+    ensures later { from.slot ≤ result }
+    ensures blanked { live (drop from.slot (take result (slice_index_or shelves.now from.shelf [])))
+        ≡ [] }
+{
+    let end = if from.shelf == to.shelf {
+        to.slot
+    } else {
+        slots_on(shelves, from.shelf).len()
+    };
+    from.slot.max(blanked_on(shelves, from.shelf).min(end))
+}
+
+// The rows between two cuts.
+fn rows_between<K, R>(shelves: &[Shelf<K, R>], from: Cut, to: Cut) -> Rows<'_, K, R>
+    requires forward { from.shelf ≤ to.shelf }
+    requires within { from.slot ≤ length (slice_index_or shelves.now from.shelf []) }
+    requires ends { to.slot ≤ length (slice_index_or shelves.now to.shelf []) }
+    requires same { from.shelf ≡ to.shelf → from.slot ≤ to.slot }
+    ensures { result ≡ live (cut_between shelves.now from.shelf from.slot to.shelf to.slot) }
+{
+    let start = Cut {
+        shelf: from.shelf,
+        slot: row_cut(shelves, from, to),
+    };
+    let slots = slots_between(shelves, start, to);
+    Rows { slots }
+}
+
 impl<K: ShelvedKey, R> Shelves<K, R> {
     ghost use Rattle.oe_table.specs.ShelvesLends.{lends_place, lends_row};
 
@@ -270,7 +316,19 @@ impl<K: ShelvedKey, R> Shelves<K, R> {
         ensures rows { rows_of K.cmp self.new ≡ map.remove (rows_of K.cmp self.old) key.now }
     {
         let slot = self.slot_mut(key).unwrap();
-        slot.take().unwrap()
+        let row = slot.take().unwrap();
+        self.pass_blanked(key);
+        row
+    }
+
+    // Has the key's shelf pass what is blanked at its beginning.
+    fn pass_blanked(&mut self, key: &K)
+        ensures { self.new ≡ self.old }
+    {
+        let number = key.shelf();
+        if let Some(shelf) = self.shelves.get_mut(number) {
+            shelf.pass_blanked();
+        }
     }
 
     /// Puts a row in the place of a blanked key.
@@ -330,8 +388,9 @@ impl<K: ShelvedKey, R> Shelves<K, R> {
         ensures { result
             ≡ entries_between K.cmp (Included from) (Included to) (entries (rows_of K.cmp self.now)) }
     {
-        let slots = self.slots_up_to(&from, &to);
-        Rows { slots }
+        let start = cut_before(&self.shelves, &from);
+        let end = cut_after(&self.shelves, &to);
+        rows_between(&self.shelves, start, end)
     }
 
     /// The keys from `from` on and before `to` that have a place, in their order, each with its row or,

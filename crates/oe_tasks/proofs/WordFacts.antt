@@ -1,4 +1,4 @@
--- Words in their places.
+-- Words in their order.
 use Rattle.std.proofs.Common.{◌≡◌, ◌==◌, ℕ, false, List, [], ◌∷◌, length, map, get_or, slice_index, codes, Bor, refl, sym, ap, ◌∙◌, inl, inr, arith}
 use Rattle.std.proofs.lemmas.Bool.{eq-eqb, both_ways}
 use Rattle.oe_tasks.specs.Words.{Asks, IsPlain}

@@ -48,39 +48,51 @@ to 64. What stands behind the colon is the answer:
   begin T delivery WAREHOUSE DISTRICT CARRIER STAMP
                      terminal T begins the delivery of the oldest order of the district that
                      is not delivered: carriers are 1 to 10: begun
-  next T             carries out the next step of T's transaction: more, or, at its end,
+  next T             carries out the next stage of T's transaction: more, or, at its end,
                      commit MOMENT payment CUSTOMER LAST_NAME CREDIT BALANCE, or
                      commit MOMENT neworder ORDER LAST_NAME CREDIT TOTAL and for each item
                      B:STOCK:AMOUNT (B where item and stock are both original) or
                      G:STOCK:AMOUNT, or
                      commit MOMENT delivery ORDER CUSTOMER SUM, or
                      commit MOMENT delivery skipped, where no order waits
-  run T              carries out its steps up to the first that is not answered more: that
-                     step's answer alone
+  run T              carries out its stages up to the first that is not answered more: that
+                     stage's answer alone
   save T             marks where T's transaction stands: saved
-  back T             undoes its steps since the mark: back
-  rollback T         undoes all its steps, and ends it: rolled back
+  back T             undoes its stages since the mark: back
+  rollback T         undoes all its stages, and ends it: rolled back
   audit N M          audits condition N (1 to 4) at moment M: now, which is the number of
                      commits, or a lesser number; what is open is not seen: condition N holds,
                      or condition N fails at, and the key of the first row at which it does
+  read M status WAREHOUSE DISTRICT CUSTOMER
+                     the balance and the newest order of a customer at moment M, as above:
+                     status CUSTOMER BALANCE ORDER STAMP CARRIER, and for each line
+                     SUPPLY_WAREHOUSE:ITEM:QUANTITY:AMOUNT:STAMP of the delivery (- for a carrier
+                     or a delivery that is not there), or status CUSTOMER BALANCE no order
+  read M level WAREHOUSE DISTRICT THRESHOLD
+                     how many items of the district's last 20 orders its warehouse had less
+                     of than the threshold (10 to 20) at moment M: level COUNT
+  purge M            moment M becomes the oldest that can be read; the tables stay: purged M
+  rewind M           takes the commits after moment M back, while nothing is open: rewound M
   dump TABLE         shows warehouse, district, customer, history, neworder, order,
                      orderline, item or stock: a line for each row, and rows COUNT
 
-A step that is refused is answered error NUMBER CAUSE. It changes nothing, but that an
-Overflow at a step, NoCustomer and an item that is not valid roll their transaction back;
+A step that is refused is answered error NUMBER CAUSE. It changes nothing, but that at a
+stage Overflow, NoCustomer and an item that is not valid roll the transaction back;
 the next line is answered as ever. Any other line is answered error 1 BadLine and its
 number from 1.
 
 The status is 0 at the end of the input, whatever the answers; 1 after a fault, which
 standard error names (fault: read, fault: write, fault: output closed, fault: no memory),
 and for a FILE that can't be opened; and 2 where the command line is none of these.
-docs/SCRIPTS.md is the manual: steps, locks, refusals, columns and worked scripts.";
+docs/SCRIPTS.md is the manual: stages, locks, refusals, columns and worked scripts.";
 
 /// What these words ask for, of which the first is the program's name.
 ///
 /// An error is a command line that is none of the forms, a request for help, or a want of memory.
 pub fn job<'a, S: AsStr>(alloc: Global, words: &'a [S]) -> Result<Task<'a>, Error>
-    ensures { MatchResult result (Asks (map S.text words.now)) (λ _. (task : Task) → Asks (map S.text words.now) task → ⊥) }
+    ensures { MatchResult result
+        (Asks (map S.text words.now))
+        (λ _. (task : Task) → Asks (map S.text words.now) task → ⊥) }
 {
     match asked(words) {
         Some(task) => Ok(task),
@@ -90,7 +102,9 @@ pub fn job<'a, S: AsStr>(alloc: Global, words: &'a [S]) -> Result<Task<'a>, Erro
 
 /// The task that these words ask for.
 fn asked<'a, S: AsStr>(words: &'a [S]) -> Option<Task<'a>>
-    ensures { MatchOption result ((task : Task) → Asks (map S.text words.now) task → ⊥) (Asks (map S.text words.now)) }
+    ensures { MatchOption result
+        ((task : Task) → Asks (map S.text words.now) task → ⊥)
+        (Asks (map S.text words.now)) }
 {
     if words.len() < 2 || words[1].as_str() != "script" {
         return None;

@@ -10,7 +10,7 @@ use Rattle.jiff_core.proofs.SignedLemmas.{signed_arith}
 use Rattle.oe_values.specs.Stamp.{SaysStamp}
 use Rattle.oe_texts.specs.Stamp.{year_and_day, month_and_day, day_text, stamp_text}
 
--- a year from `first` to `last`, and the place in it of the day that lies `day` days after the first of them begins
+-- a year from `first` to `last`, and the number in it of the day that lies `day` days after the first of them begins
 record IsYearOf (first last day : ℕ) (r : ℕ × ℕ) : Type 0 where
   pub same : day_count (pos r.0) 1 1 + r.1 ≡ day_count (pos first) 1 1 + day
   pub within : r.1 < days_in_year (pos r.0)
@@ -92,7 +92,7 @@ stamp_text_says n h =
     let thirty_one = day_count-day (pos y.0) 12 31 1 (lit≤ tt) (lit≤ tt) in
     let m = month_and_day 11 (pos y.0) 1 y.1 in
     let month = months 11 (pos y.0) 1 12 y.1 refl (lit≤ tt) (omega (arith, year.within, whole, december, thirty_one)) in
-    let place = day_count-day (pos y.0) m.0 (m.1 + 1) 1 (omega arith) (lit≤ tt) in
+    let offset = day_count-day (pos y.0) m.0 (m.1 + 1) 1 (omega arith) (lit≤ tt) in
     record {
       year = y.0;
       month = m.0;
@@ -103,7 +103,7 @@ stamp_text_says n h =
       counted = record {
         is_date = dated y.0 m.0 (m.1 + 1) year.low year.high month.low month.high (omega arith) (omega (arith, month.within));
         is_time = clock (n % 86_400) (omega arith);
-        count = count y.0 m.0 (m.1 + 1) n (omega (arith, place, month.same, year.same, day_count-1900));
+        count = count y.0 m.0 (m.1 + 1) n (omega (arith, offset, month.same, year.same, day_count-1900));
         before_2101 = h;
       };
       spelled = refl;

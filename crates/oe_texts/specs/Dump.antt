@@ -62,14 +62,14 @@ customer_columns k c =
     ++ standing_columns c ++ account_columns c.account ++ c.data ∷ []
 
 -- H_C_ID, H_C_D_ID, H_C_W_ID, H_D_ID, H_W_ID
-abbrev pub place_columns : CustomerKey → DistrictKey → List (List ℕ)
-place_columns c d =
+abbrev pub reference_columns : CustomerKey → DistrictKey → List (List ℕ)
+reference_columns c d =
     decimal c.customer ∷ decimal c.district ∷ decimal c.warehouse ∷ decimal d.district ∷ decimal d.warehouse ∷ []
 
--- the terminal, the transaction's number, the row's place, the places, H_DATE, H_AMOUNT, H_DATA
+-- the terminal, the transaction's number, the row's ordinal, the customer's key, the district's, H_DATE, H_AMOUNT, H_DATA
 abbrev pub history_columns : HistoryKey → History → List (List ℕ)
 history_columns k h =
-    key_texts (key.History k) ++ place_columns h.customer h.district
+    key_texts (key.History k) ++ reference_columns h.customer h.district
     ++ stamp_text h.date ∷ money_text h.amount ∷ h.data ∷ []
 
 -- NO_W_ID, NO_D_ID, NO_O_ID

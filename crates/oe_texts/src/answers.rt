@@ -31,7 +31,8 @@ fn verdict(out: &mut Pending, verdict: &Verdict)
 /// `commit <moment> <reply>`.
 fn commit(out: &mut Pending, moment: Moment, given: &Reply)
     requires { array_vec_len out.old + 1239 ≤ SIZE }
-    ensures items { out.new.items ≡ out.old.items ++ answer_text (Answer.Committed moment given.now) }
+    ensures items { out.new.items ≡ out.old.items
+        ++ answer_text (Answer.Committed moment given.now) }
     ensures len { array_vec_len out.new ≤ array_vec_len out.old + 1239 }
 {
     text(out, b"commit ");
@@ -97,7 +98,8 @@ pub fn more(out: &mut Pending)
 /// Appends the line of a commit with this reply.
 pub fn committed(out: &mut Pending, moment: Moment, given: &Reply)
     requires { array_vec_len out.old + LONGEST ≤ SIZE }
-    ensures items { out.new.items ≡ out.old.items ++ answer_line (Answer.Committed moment given.now) }
+    ensures items { out.new.items ≡ out.old.items
+        ++ answer_line (Answer.Committed moment given.now) }
     ensures len { array_vec_len out.new ≤ array_vec_len out.old + LONGEST }
 {
     commit(out, moment, given);

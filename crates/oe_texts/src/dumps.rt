@@ -2,7 +2,7 @@
 ghost use Rattle.std.specs.Prelude.{◌≡◌, ◌≤◌, ◌+◌, ◌++◌, length};
 ghost use Rattle.arrayvec.specs.ArrayVec.{array_vec_len};
 ghost use Rattle.oe_texts.specs.Column.{line_of, tabbed};
-ghost use Rattle.oe_texts.specs.Dump.{address_columns, name_columns, account_columns, standing_columns, supply_columns, count_columns, warehouse_columns, district_columns, customer_columns, place_columns, history_columns, new_order_columns, order_columns, order_line_columns, item_columns, stock_columns, count_line};
+ghost use Rattle.oe_texts.specs.Dump.{address_columns, name_columns, account_columns, standing_columns, supply_columns, count_columns, warehouse_columns, district_columns, customer_columns, reference_columns, history_columns, new_order_columns, order_columns, order_line_columns, item_columns, stock_columns, count_line};
 
 use crate::columns::{
     balance_then, credit_then, flag_then, money_then, nullable_carrier_then, nullable_stamp_then,
@@ -111,9 +111,10 @@ pub fn customer_row(out: &mut Pending, key: CustomerKey, row: &Customer)
 }
 
 /// H_C_ID, H_C_D_ID, H_C_W_ID, H_D_ID and H_W_ID.
-fn places(out: &mut Pending, customer: CustomerKey, district: DistrictKey)
+fn references(out: &mut Pending, customer: CustomerKey, district: DistrictKey)
     requires { array_vec_len out.old + 55 ≤ SIZE }
-    ensures items { out.new.items ≡ out.old.items ++ tabbed (place_columns customer district) }
+    ensures items { out.new.items
+        ≡ out.old.items ++ tabbed (reference_columns customer district) }
     ensures len { array_vec_len out.new ≤ array_vec_len out.old + 55 }
 {
     small_then(out, customer.customer.get(), b'\t');
@@ -130,7 +131,7 @@ pub fn history_row(out: &mut Pending, key: HistoryKey, row: &History)
     ensures len { array_vec_len out.new ≤ array_vec_len out.old + LONGEST }
 {
     tabbed(out, &Key::History(key));
-    places(out, row.customer, row.district);
+    references(out, row.customer, row.district);
     stamp_then(out, row.date, b'\t');
     money_then(out, row.amount.cents(), b'\t');
     text_then(out, row.data.as_str(), b'\n');

@@ -17,7 +17,8 @@ use oe_keys::{
 /// D_W_ID, D_ID.
 fn district(out: &mut Pending, key: DistrictKey, between: u8)
     requires { array_vec_len out.old + 21 ≤ SIZE }
-    ensures items { out.new.items ≡ out.old.items ++ join_with_byte between (key_texts (Key.District key)) }
+    ensures items { out.new.items ≡ out.old.items
+        ++ join_with_byte between (key_texts (Key.District key)) }
     ensures len { array_vec_len out.new ≤ array_vec_len out.old + 21 }
 {
     small_then(out, key.warehouse.get(), between);
@@ -27,7 +28,8 @@ fn district(out: &mut Pending, key: DistrictKey, between: u8)
 /// C_W_ID, C_D_ID, C_ID.
 fn customer(out: &mut Pending, key: CustomerKey, between: u8)
     requires { array_vec_len out.old + 32 ≤ SIZE }
-    ensures items { out.new.items ≡ out.old.items ++ join_with_byte between (key_texts (Key.Customer key)) }
+    ensures items { out.new.items ≡ out.old.items
+        ++ join_with_byte between (key_texts (Key.Customer key)) }
     ensures len { array_vec_len out.new ≤ array_vec_len out.old + 32 }
 {
     small_then(out, key.warehouse.get(), between);
@@ -35,21 +37,23 @@ fn customer(out: &mut Pending, key: CustomerKey, between: u8)
     small(out, key.customer.get());
 }
 
-/// The terminal, the transaction's number, the row's place.
+/// The terminal, the transaction's number, the row's ordinal.
 fn history(out: &mut Pending, key: HistoryKey, between: u8)
     requires { array_vec_len out.old + 32 ≤ SIZE }
-    ensures items { out.new.items ≡ out.old.items ++ join_with_byte between (key_texts (Key.History key)) }
+    ensures items { out.new.items ≡ out.old.items
+        ++ join_with_byte between (key_texts (Key.History key)) }
     ensures len { array_vec_len out.new ≤ array_vec_len out.old + 32 }
 {
     small_then(out, key.terminal.get(), between);
     small_then(out, key.number.get(), between);
-    small(out, key.place.get());
+    small(out, key.ordinal.get());
 }
 
 /// NO_W_ID, NO_D_ID, NO_O_ID: those of its order.
 fn new_order(out: &mut Pending, key: NewOrderKey, between: u8)
     requires { array_vec_len out.old + 32 ≤ SIZE }
-    ensures items { out.new.items ≡ out.old.items ++ join_with_byte between (key_texts (Key.NewOrder key)) }
+    ensures items { out.new.items ≡ out.old.items
+        ++ join_with_byte between (key_texts (Key.NewOrder key)) }
     ensures len { array_vec_len out.new ≤ array_vec_len out.old + 32 }
 {
     order(out, key.order_key(), between);
@@ -58,7 +62,8 @@ fn new_order(out: &mut Pending, key: NewOrderKey, between: u8)
 /// O_W_ID, O_D_ID, O_ID.
 fn order(out: &mut Pending, key: OrderKey, between: u8)
     requires { array_vec_len out.old + 32 ≤ SIZE }
-    ensures items { out.new.items ≡ out.old.items ++ join_with_byte between (key_texts (Key.Order key)) }
+    ensures items { out.new.items ≡ out.old.items
+        ++ join_with_byte between (key_texts (Key.Order key)) }
     ensures len { array_vec_len out.new ≤ array_vec_len out.old + 32 }
 {
     small_then(out, key.warehouse.get(), between);
@@ -69,7 +74,8 @@ fn order(out: &mut Pending, key: OrderKey, between: u8)
 /// OL_W_ID, OL_D_ID, OL_O_ID, OL_NUMBER.
 fn order_line(out: &mut Pending, key: OrderLineKey, between: u8)
     requires { array_vec_len out.old + 43 ≤ SIZE }
-    ensures items { out.new.items ≡ out.old.items ++ join_with_byte between (key_texts (Key.OrderLine key)) }
+    ensures items { out.new.items ≡ out.old.items
+        ++ join_with_byte between (key_texts (Key.OrderLine key)) }
     ensures len { array_vec_len out.new ≤ array_vec_len out.old + 43 }
 {
     small_then(out, key.warehouse.get(), between);
@@ -81,7 +87,8 @@ fn order_line(out: &mut Pending, key: OrderLineKey, between: u8)
 /// S_W_ID, S_I_ID.
 fn stock(out: &mut Pending, key: StockKey, between: u8)
     requires { array_vec_len out.old + 21 ≤ SIZE }
-    ensures items { out.new.items ≡ out.old.items ++ join_with_byte between (key_texts (Key.Stock key)) }
+    ensures items { out.new.items ≡ out.old.items
+        ++ join_with_byte between (key_texts (Key.Stock key)) }
     ensures len { array_vec_len out.new ≤ array_vec_len out.old + 21 }
 {
     small_then(out, key.warehouse.get(), between);

@@ -12,7 +12,7 @@ use Rattle.oe_theory.proofs.Tables.{same_ever}
 use Rattle.oe_theory.proofs.Steps.{row_alone, reads_alone, acts_alone, sound_drop, next_sound}
 
 module _ (M : Machine) (L : Laws M) where
-  open M use {row_at, key_of, record_of, size_of, Change, Name, Request, Query, Place, Refusal, ask, act, rejection, query_rejection}
+  open M use {row_at, key_of, record_of, size_of, Change, Name, Request, Query, Position, Refusal, ask, act, rejection, query_rejection}
   open L use {rejection_same, query_rejection_same}
 
   abbrev pub forget : ℕ → World M → World M
@@ -36,7 +36,7 @@ module _ (M : Machine) (L : Laws M) where
   own_step : (w : World M) (t : ℕ) (o : Open M) → w.active t ≡ Some o → (i : Step M) (a : Answer M) (v : World M) → works_on M i ≡ Some t → Next M w i a v → Own_step w t a v
   own_step w t o l _ _ _ h (begins u q b) = absurd (some_none t (sym h))
   own_step w t o l _ _ _ h (goes_on u p c q e g r room) =
-      let p' = moved M p (ask (tx_of M u p) p.now.place (tables M w)) c q (tables M w) in
+      let p' = moved M p (ask (tx_of M u p) p.now.position (tables M w)) c q (tables M w) in
       went_on refl p' (set_same u (Some p') w.active t (sym (some_inj u t h))) (put_own w t u p' (some_inj u t h))
   own_step w t o l _ _ _ h (commits u p reply e g r) = was_committed refl refl
   own_step w t o l _ _ _ h (saves u p e) =
@@ -80,31 +80,31 @@ module _ (M : Machine) (L : Laws M) where
   same_unasked w s t q = query_rejection_same q (tables M w) (tables M (forget t w)) (ever_without w s t)
 
   same_ask : (w : World M) → Sound M w → (t u : ℕ) (o : Open M) → u ≢ t → w.active u ≡ Some o
-      → ask (tx_of M u o) o.now.place (tables M w) ≡ ask (tx_of M u o) o.now.place (tables M (forget t w))
+      → ask (tx_of M u o) o.now.position (tables M w) ≡ ask (tx_of M u o) o.now.position (tables M (forget t w))
   same_ask w s t u o ne e = reads_alone M L w s u o e ∙ sym (reads_alone M L (forget t w) (sound_drop M L w s t) u o (live_without w t u (Some o) ne e))
 
   granted : (w : World M) → Sound M w → (t u : ℕ) (o : Open M) → u ≢ t → w.active u ≡ Some o
-      → IsGranted M w u (ask (tx_of M u o) o.now.place (tables M w)) → IsGranted M (forget t w) u (ask (tx_of M u o) o.now.place (tables M (forget t w)))
-  granted w s t u o ne e g = subst (IsGranted M (forget t w) u) (same_ask w s t u o ne e) (granted_without w t u (ask (tx_of M u o) o.now.place (tables M w)) g)
+      → IsGranted M w u (ask (tx_of M u o) o.now.position (tables M w)) → IsGranted M (forget t w) u (ask (tx_of M u o) o.now.position (tables M (forget t w)))
+  granted w s t u o ne e g = subst (IsGranted M (forget t w) u) (same_ask w s t u o ne e) (granted_without w t u (ask (tx_of M u o) o.now.position (tables M w)) g)
 
   same_act : (w : World M) → Sound M w → (t u : ℕ) (o : Open M) → u ≢ t → w.active u ≡ Some o
-      → IsGranted M w u (ask (tx_of M u o) o.now.place (tables M w))
-      → act (tx_of M u o) o.now.place (tables M w) ≡ act (tx_of M u o) o.now.place (tables M (forget t w))
+      → IsGranted M w u (ask (tx_of M u o) o.now.position (tables M w))
+      → act (tx_of M u o) o.now.position (tables M w) ≡ act (tx_of M u o) o.now.position (tables M (forget t w))
   same_act w s t u o ne e g =
       acts_alone M L w s u o e g
       ∙ sym (acts_alone M L (forget t w) (sound_drop M L w s t) u o (live_without w t u (Some o) ne e) (granted w s t u o ne e g))
 
-  same_row : (w : World M) → Sound M w → (t u : ℕ) (o : Open M) (c : Change) (p : Place) → u ≢ t → w.active u ≡ Some o
-      → IsGranted M w u (ask (tx_of M u o) o.now.place (tables M w))
-      → act (tx_of M u o) o.now.place (tables M w) ≡ Go (Some c) p
+  same_row : (w : World M) → Sound M w → (t u : ℕ) (o : Open M) (c : Change) (p : Position) → u ≢ t → w.active u ≡ Some o
+      → IsGranted M w u (ask (tx_of M u o) o.now.position (tables M w))
+      → act (tx_of M u o) o.now.position (tables M w) ≡ Go (Some c) p
       → row_at (tables M w) (key_of c) ≡ row_at (tables M (forget t w)) (key_of c)
   same_row w s t u o c p ne e g r =
       row_alone M L w s u o c p e g r
       ∙ sym (row_alone M L (forget t w) (sound_drop M L w s t) u o c p (live_without w t u (Some o) ne e) (granted w s t u o ne e g) (sym (same_act w s t u o ne e g) ∙ r))
 
-  same_lengths : (w : World M) → Sound M w → (t u : ℕ) (o : Open M) (c : Option Change) (p : Place) → u ≢ t → w.active u ≡ Some o
-      → IsGranted M w u (ask (tx_of M u o) o.now.place (tables M w))
-      → act (tx_of M u o) o.now.place (tables M w) ≡ Go c p
+  same_lengths : (w : World M) → Sound M w → (t u : ℕ) (o : Open M) (c : Option Change) (p : Position) → u ≢ t → w.active u ≡ Some o
+      → IsGranted M w u (ask (tx_of M u o) o.now.position (tables M w))
+      → act (tx_of M u o) o.now.position (tables M w) ≡ Go c p
       → add_length M c (tables M w) o.lengths ≡ add_length M c (tables M (forget t w)) o.lengths
   same_lengths w s t u o None p ne e g r = refl
   same_lengths w s t u o (Some c) p ne e g r = ap (λ v. size_of (record_of c v) ∷ o.lengths) (same_row w s t u o c p ne e g r)
@@ -119,9 +119,9 @@ module _ (M : Machine) (L : Laws M) where
       go (inl q) i = let z : used_by M (set t None active n) ≡ 0 = ap (used_by M) (set_same t None active n q) in omega arith
       go (inr ne) i = let z : used_by M (set t None active n) ≡ used_by M (active n) = ap (used_by M) (set_other t None active n ne) in omega arith
 
-  same_room : (w : World M) → Sound M w → (t u : ℕ) (o : Open M) (c : Option Change) (p : Place) → u ≢ t → w.active u ≡ Some o
-      → IsGranted M w u (ask (tx_of M u o) o.now.place (tables M w))
-      → act (tx_of M u o) o.now.place (tables M w) ≡ Go c p
+  same_room : (w : World M) → Sound M w → (t u : ℕ) (o : Open M) (c : Option Change) (p : Position) → u ≢ t → w.active u ≡ Some o
+      → IsGranted M w u (ask (tx_of M u o) o.now.position (tables M w))
+      → act (tx_of M u o) o.now.position (tables M w) ≡ Go c p
       → HasRoom M w o c → HasRoom M (forget t w) o c
   same_room w s t u o None p ne e g r room = room
   same_room w s t u o (Some c) p ne e g r (inl fits) = inl (subst (λ v. size_of (record_of c v) ≤ (filled M o.lengths).1) (same_row w s t u o c p ne e g r) fits)
@@ -141,7 +141,7 @@ module _ (M : Machine) (L : Laws M) where
       (subst (Next M (forget t w) (Begin u q) Begun) (put_other w t u (Some p) ne) (begins u q (record { terminal = b.terminal; valid = b.valid; known = sym (same_turned w s t q) ∙ b.known; closed = live_without w t u None ne b.closed; counted = b.counted })))
   other_step w s t o l _ _ _ h (goes_on u p c q e g r room) =
       let ne : u ≢ t = λ z. h (ap Some z) in
-      let a = ask (tx_of M u p) p.now.place (tables M w) in
+      let a = ask (tx_of M u p) p.now.position (tables M w) in
       let p' = moved M p a c q (tables M w) in
       stands refl o (still_open w t u o (Some p') ne l)
       (subst (Next M (forget t w) (Advance u) More) (put_other w t u (Some p') ne)

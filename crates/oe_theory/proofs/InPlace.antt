@@ -14,7 +14,7 @@ use Rattle.oe_theory.proofs.Undo.{top_other, top_own, at_other, tables_stand}
 use Rattle.oe_theory.proofs.Records.{forgets, goes_to_mark, commits_unwound}
 
 module _ (M : Machine) (L : Laws M) where
-  open M use {Map, Key, Row, Change, Place, Reply, Refusal, is_key, row_at, key_of, row_of, put, ask, act, whole, terminal_limit}
+  open M use {Map, Key, Row, Change, Position, Reply, Refusal, is_key, row_at, key_of, row_of, put, ask, act, whole, terminal_limit}
   open L use {key_true, at_put, same_map}
 
   -- a transaction with no other changes
@@ -56,9 +56,9 @@ module _ (M : Machine) (L : Laws M) where
           ap (λ z. upon M L z (upon M L (net M o.now.changes k) (row_at (latest M w) k))) (top_own M L w s t o e None k v h)
           ∙ (ap (λ z. upon M L z (row_at (latest M w) k)) h ∙ sym (tables_stand M L w s t o e k v h))
 
-  of_goes : (w : World M) → Sound M w → (t : ℕ) (o : Open M) (c : Option Change) (p : Place) → w.active t ≡ Some o
-      → Sound M (put_active M t (Some (moved M o (ask (tx_of M t o) o.now.place (tables M w)) c p (tables M w))) w)
-      → tables M (put_active M t (Some (moved M o (ask (tx_of M t o) o.now.place (tables M w)) c p (tables M w))) w) ≡ with_change M (Go c p) (tables M w)
+  of_goes : (w : World M) → Sound M w → (t : ℕ) (o : Open M) (c : Option Change) (p : Position) → w.active t ≡ Some o
+      → Sound M (put_active M t (Some (moved M o (ask (tx_of M t o) o.now.position (tables M w)) c p (tables M w))) w)
+      → tables M (put_active M t (Some (moved M o (ask (tx_of M t o) o.now.position (tables M w)) c p (tables M w))) w) ≡ with_change M (Go c p) (tables M w)
   of_goes w s t o None p e s' = same_changes w t _ (λ k. ap (λ z. net_of M L z k) e)
   of_goes w s t o (Some c) p e s' = one_change w t o _ c e refl s'
 

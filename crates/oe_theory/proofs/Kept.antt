@@ -15,7 +15,7 @@ use Rattle.oe_theory.proofs.Steps.{good_version, good_latest, sound_put}
 use Rattle.oe_theory.proofs.Undo.{at_other, undo_goes_back, undo_whole}
 
 module _ (M : Machine) (L : Laws M) where
-  open M use {Map, Key, Change, Record, Name, Request, Place, ask, act, taken, put, whole}
+  open M use {Map, Key, Change, Record, Name, Request, Position, ask, act, taken, put, whole}
 
   overlay-append : (xs ys : List Change) (r : Map) → overlay M xs (overlay M ys r) ≡ overlay M (xs ++ ys) r
   overlay-append [] ys r = refl
@@ -54,8 +54,8 @@ module _ (M : Machine) (L : Laws M) where
     way_keeps f held x r r' g a p _ (one_more s None q w i e) = way_keeps f held x r r' g a p s w
     way_keeps f held x r r' g a p _ (one_more s (Some c) q w i e) =
         kept c (overlay M s.changes r')
-        (L.accepts_same x s.place (overlay M s.changes r) (overlay M s.changes r') c q (asked_all M L held _ i)
-        (alike_fewer M L _ _ x _ _ (λ n. asked_held M L held (ask x s.place (overlay M s.changes r)) (taken x s.place) i (taken_held M L held x r s w) n _)
+        (L.accepts_same x s.position (overlay M s.changes r) (overlay M s.changes r') c q (asked_all M L held _ i)
+        (alike_fewer M L _ _ x _ _ (λ n. asked_held M L held (ask x s.position (overlay M s.changes r)) (taken x s.position) i (taken_held M L held x r s w) n _)
         (alike_overlay M L (held_of M held) x s.changes r r' a))
         e
         (change_law M (M.MayRefuse x.request) M.Accepts x r s c q _ (L.ends f x r g) (reached_more M L held (all_held M) x r (λ n m h. tt) s w) (asked_all M L held _ i) e))
@@ -76,7 +76,7 @@ module _ (M : Machine) (L : Laws M) where
 
     -- also while a transaction is undone, a record at a time
     undone_keeps : (w : World M) → Sound M w → (t : ℕ) (o : Open M) → w.active t ≡ Some o → (n : ℕ) → P (unwind M (take n (records_of M (latest M w) o.now.changes)) (tables M w))
-    undone_keeps w s t o e n = subst P (sym (in_place ∙ back)) (tables_keep (put_active M t (Some (at_mark)) marked) sound)
+    undone_keeps w s t o e n = subst P (sym (in_slot ∙ back)) (tables_keep (put_active M t (Some (at_mark)) marked) sound)
       where
         old : Before o.held (tx_of M t o) (latest M w) o.now n
         old = before o.held (tx_of M t o) (latest M w) o.now (s.each t o e).now n
@@ -132,8 +132,8 @@ module _ (M : Machine) (L : Laws M) where
         here : tables M w ≡ tables M marked
         here = L.same_map _ _ (λ k. at_other M L w t (Some o') k (ap (λ z. net_of M L z k) e))
 
-        in_place : unwind M (take n (records_of M (latest M w) o.now.changes)) (tables M w) ≡ unwind M (records_of M (overlay M old.state.changes (latest M w)) (take n o.now.changes)) (tables M marked)
-        in_place =
+        in_slot : unwind M (take n (records_of M (latest M w) o.now.changes)) (tables M w) ≡ unwind M (records_of M (overlay M old.state.changes (latest M w)) (take n o.now.changes)) (tables M marked)
+        in_slot =
             ap (λ z. unwind M z (tables M w)) (take-records n o.now.changes (latest M w) ∙ ap (λ (z : List Change). records_of M (overlay M z (latest M w)) (take n o.now.changes)) (sym old.fewer))
             ∙ ap (unwind M (records_of M (overlay M old.state.changes (latest M w)) (take n o.now.changes))) here
 

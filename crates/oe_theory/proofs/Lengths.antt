@@ -10,7 +10,7 @@ module _ (M : Machine) (f : M.Record → ℕ) where
   N = with_lengths M f
 
   abbrev same_state : State N → State M
-  same_state s = record { place = s.place; changes = s.changes }
+  same_state s = record { position = s.position; changes = s.changes }
 
   same_alike : (P : M.Name → Mode → Type 0) (x : Tx M.Request) (r s : M.Map) → Alike N P x r s → Alike M P x r s
   same_alike P x r s a = record { rows = a.rows; parts = a.parts }
@@ -22,7 +22,7 @@ module _ (M : Machine) (f : M.Record → ℕ) where
   same_way held x r _ at_start = at_start
   same_way held x r _ (one_more s c p w i e) = one_more (same_state s) c p (same_way held x r s w) i e
 
-  same_end : (x : Tx M.Request) (Only : M.Refusal → Type 0) (Fits : M.Change → M.Map → Type 0) (p : M.Place) (r : M.Map) (end : Option (M.Map × M.Reply))
+  same_end : (x : Tx M.Request) (Only : M.Refusal → Type 0) (Fits : M.Change → M.Map → Type 0) (p : M.Position) (r : M.Map) (end : Option (M.Map × M.Reply))
       → Ends M x Only Fits p r end → Ends N x Only Fits p r end
   same_end x Only Fits _ _ _ (stops_here p r e why s) = stops_here p r e why s
   same_end x Only Fits _ _ _ (fails_here p r e why g b) = fails_here p r e why g b

@@ -78,9 +78,6 @@ module _ (M : Machine) (L : Laws M) where
       (drop-drop (newest M (rewound M w m) - k) (newest M w - m) w.history
       ∙ ap (λ (n : ℕ). drop n w.history) (omega (arith, rewound_newest w m l h)))
 
-  pub rewound_tables : (w : World M) (m : ℕ) → IsQuiet M w → horizon M w ≤ m → m ≤ newest M w → tables M (rewound M w m) ≡ at M w m
-  rewound_tables w m q l h = quiet_tables (rewound M w m) q
-
   pub purged_horizon : (w : World M) → Sound M w → (m : ℕ) → horizon M w ≤ m → m ≤ newest M w → horizon M (purged M w m) ≡ m
   purged_horizon w s m l h =
       omega (arith, total_after w.counts w.base (drop (newest M w - m) w.history) (serial_drop w.counts w.base (newest M w - m) w.history s.serial), length-drop (newest M w - m) w.history)

@@ -16,7 +16,7 @@ use Rattle.oe_theory.proofs.Past.{quiet_tables}
 use Rattle.oe_theory.proofs.Undo.{undo_whole, undo_forgets, undo_goes_back}
 
 module _ (M : Machine) (L : Laws M) where
-  open M use {Map, Key, Row, Change, Record, Name, Place, Reply, Refusal, is_key, row_at, key_of, row_of, record_of, record_key, restore, size_of, governs, ask, act, marks, whole}
+  open M use {Map, Key, Row, Change, Record, Name, Position, Reply, Refusal, is_key, row_at, key_of, row_of, record_of, record_key, restore, size_of, governs, ask, act, marks, whole}
   open L use {key_refl, at_put_back}
 
   readable : (held : Name → Option Mode) (x : Tx M.Request) (g : Guard Name) → MayWrite M (held_of M held) x g → MayRead M (held_of M held) x g
@@ -33,7 +33,7 @@ module _ (M : Machine) (L : Laws M) where
       ap (λ z. record_of c z ∷ records_of M r s.changes)
       ((alike_overlay M L (held_of M held) x s.changes r r' a).rows (key_of c)
       (readable held x (governs (key_of c))
-      (reached_writes M L held x r (record { place = p; changes = c ∷ s.changes }) (one_more s (Some c) p w i e) (key_of c) (row_of c)
+      (reached_writes M L held x r (record { position = p; changes = c ∷ s.changes }) (one_more s (Some c) p w i e) (key_of c) (row_of c)
       (ap (λ z. cond z (Some (row_of c)) (net M s.changes (key_of c))) (key_refl (key_of c))))))
       ∙ ap (λ z. record_on M c (overlay M s.changes r') ∷ z) (records_alike held x r r' a s w)
 
@@ -97,18 +97,18 @@ module _ (M : Machine) (L : Laws M) where
       }
 
   -- a row that goes on
-  keeps_goes : (w : World M) → Sound M w → (u : Undo M) → Keeps M w u → (t : ℕ) (o : Open M) (c : Option Change) (p : Place) → w.active t ≡ Some o
-      → IsGranted M w t (ask (tx_of M t o) o.now.place (tables M w))
-      → act (tx_of M t o) o.now.place (tables M w) ≡ Go c p
-      → IsOfOpen M (latest M w) (moved M o (ask (tx_of M t o) o.now.place (tables M w)) c p (tables M w)) (with_record M (Go c p) (tables M w) (u.active t))
+  keeps_goes : (w : World M) → Sound M w → (u : Undo M) → Keeps M w u → (t : ℕ) (o : Open M) (c : Option Change) (p : Position) → w.active t ≡ Some o
+      → IsGranted M w t (ask (tx_of M t o) o.now.position (tables M w))
+      → act (tx_of M t o) o.now.position (tables M w) ≡ Go c p
+      → IsOfOpen M (latest M w) (moved M o (ask (tx_of M t o) o.now.position (tables M w)) c p (tables M w)) (with_record M (Go c p) (tables M w) (u.active t))
   keeps_goes w s u k t o c p e g r =
       record {
         records = pushes c r;
         lengths = longer c;
-        mark_lengths = marked (marks o.now.place);
+        mark_lengths = marked (marks o.now.position);
       }
     where
-      pushes : (c : Option Change) → act (tx_of M t o) o.now.place (tables M w) ≡ Go c p
+      pushes : (c : Option Change) → act (tx_of M t o) o.now.position (tables M w) ≡ Go c p
           → with_record M (Go c p) (tables M w) (u.active t) ≡ records_of M (latest M w) (add M c o.now.changes)
       pushes None r = (k.opens t o e).records
       pushes (Some c) r =
@@ -189,8 +189,8 @@ module _ (M : Machine) (L : Laws M) where
   commits_drop b (suc j) (c ∷ cs) (s ∷ ss) h = commits_drop b j cs ss h.1
 
   keeps_commits : (w : World M) → Sound M w → (u : Undo M) → Keeps M w u → (t : ℕ) (o : Open M) (y : Reply) → w.active t ≡ Some o
-      → IsGranted M w t (ask (tx_of M t o) o.now.place (tables M w))
-      → act (tx_of M t o) o.now.place (tables M w) ≡ Ready y
+      → IsGranted M w t (ask (tx_of M t o) o.now.position (tables M w))
+      → act (tx_of M t o) o.now.position (tables M w) ≡ Ready y
       → Keeps M (committed M w t o y) (record { active = set t [] u.active; history = u.active t ∷ u.history })
   keeps_commits w s u k t o y e g r =
       record {
@@ -218,9 +218,9 @@ module _ (M : Machine) (L : Laws M) where
       keeps_same w u k t (begun M w t q)
       (record { records = k.others t b.closed; lengths = ap (lengths_of M) (sym (k.others t b.closed)); mark_lengths = refl })
   keeps_next w s u k _ _ _ (goes_on t o c p e g r room) =
-      subst (λ (z : Option (Open M)). Keeps M (put_active M t (Some (moved M o (ask (tx_of M t o) o.now.place (tables M w)) c p (tables M w))) w) (put_records M t (pushed M w t z (u.active t)) u)) (sym e)
-      (subst (λ (z : Act Change Place Reply Refusal). Keeps M (put_active M t (Some (moved M o (ask (tx_of M t o) o.now.place (tables M w)) c p (tables M w))) w) (put_records M t (with_record M z (tables M w) (u.active t)) u)) (sym r)
-      (keeps_put w u k t (moved M o (ask (tx_of M t o) o.now.place (tables M w)) c p (tables M w)) (with_record M (Go c p) (tables M w) (u.active t)) (keeps_goes w s u k t o c p e g r)))
+      subst (λ (z : Option (Open M)). Keeps M (put_active M t (Some (moved M o (ask (tx_of M t o) o.now.position (tables M w)) c p (tables M w))) w) (put_records M t (pushed M w t z (u.active t)) u)) (sym e)
+      (subst (λ (z : Act Change Position Reply Refusal). Keeps M (put_active M t (Some (moved M o (ask (tx_of M t o) o.now.position (tables M w)) c p (tables M w))) w) (put_records M t (with_record M z (tables M w) (u.active t)) u)) (sym r)
+      (keeps_put w u k t (moved M o (ask (tx_of M t o) o.now.position (tables M w)) c p (tables M w)) (with_record M (Go c p) (tables M w) (u.active t)) (keeps_goes w s u k t o c p e g r)))
   keeps_next w s u k _ _ _ (commits t o y e g r) = keeps_commits w s u k t o y e g r
   keeps_next w s u k _ _ _ (saves t o e) =
       let h = k.opens t o e in

@@ -7,7 +7,7 @@ use Rattle.oe_theory.specs.Laws.{Holds, with_asked, MayRead, MayReadPart, MayWri
 use Rattle.oe_theory.proofs.Sets.{enough_up, some_none}
 
 module _ (M : Machine) (L : Laws M) where
-  open M use {Map, Key, Row, Change, Facet, is_key, row_at, key_of, row_of, facet_key, part, Name, governs, governs_part, Request, Place, Refusal, ask, act, taken}
+  open M use {Map, Key, Row, Change, Facet, is_key, row_at, key_of, row_of, facet_key, part, Name, governs, governs_part, Request, Position, Refusal, ask, act, taken}
   open L use {key_true, at_put, start_takes, ask_same, act_same, next_takes, may_write, keeps_part}
 
   -- what changes leave at a key
@@ -72,11 +72,11 @@ module _ (M : Machine) (L : Laws M) where
 
   -- the names taken on the way are held
   pub taken_held : (held : Name → Option Mode) (x : Tx Request) (r : Map) (s : State M) → Reached M held x r s
-      → (n : Name) (m : Mode) → Holds M (taken x s.place) n m → IsEnough (held n) m
+      → (n : Name) (m : Mode) → Holds M (taken x s.position) n m → IsEnough (held n) m
   taken_held held x r _ at_start n m h = absurd (subst (λ hs. Holds M hs n m) (start_takes x) h)
   taken_held held x r _ (one_more s c p w i e) n m h =
-      asked_held held (ask x s.place (overlay M s.changes r)) (taken x s.place) i (taken_held held x r s w) n m
-      (next_takes x s.place (overlay M s.changes r) c p (asked_all held _ i) e n m h)
+      asked_held held (ask x s.position (overlay M s.changes r)) (taken x s.position) i (taken_held held x r s w) n m
+      (next_takes x s.position (overlay M s.changes r) c p (asked_all held _ i) e n m h)
 
   -- each key that has changed may be written
   pub reached_writes : (held : Name → Option Mode) (x : Tx Request) (r : Map) (s : State M) → Reached M held x r s
@@ -87,7 +87,7 @@ module _ (M : Machine) (L : Laws M) where
       go (is_key k (key_of c)) refl (λ g. reached_writes held x r s w k v g) h
     where
       let_write : MayWrite M (held_of M held) x (governs (key_of c))
-      let_write = write_more (Holds M (with_asked M (ask x s.place (overlay M s.changes r)) (taken x s.place))) (held_of M held) x (λ n. asked_held held (ask x s.place (overlay M s.changes r)) (taken x s.place) i (taken_held held x r s w) n Exclusive) (governs (key_of c)) (may_write x s.place (overlay M s.changes r) c p (asked_all held _ i) e)
+      let_write = write_more (Holds M (with_asked M (ask x s.position (overlay M s.changes r)) (taken x s.position))) (held_of M held) x (λ n. asked_held held (ask x s.position (overlay M s.changes r)) (taken x s.position) i (taken_held held x r s w) n Exclusive) (governs (key_of c)) (may_write x s.position (overlay M s.changes r) c p (asked_all held _ i) e)
 
       go : (b : Bool) → is_key k (key_of c) ≡ b → (net M s.changes k ≡ Some v → MayWrite M (held_of M held) x (governs k)) → cond b (Some (row_of c)) (net M s.changes k) ≡ Some v → MayWrite M (held_of M held) x (governs k)
       go true q f h = subst (λ z. MayWrite M (held_of M held) x (governs z)) (sym (key_true k (key_of c) q)) let_write
@@ -102,7 +102,7 @@ module _ (M : Machine) (L : Laws M) where
   pub reached_more : (held held' : Name → Option Mode) (x : Tx Request) (r : Map) → ((n : Name) (m : Mode) → IsEnough (held n) m → IsEnough (held' n) m)
       → (s : State M) → Reached M held x r s → Reached M held' x r s
   reached_more held held' x r f _ at_start = at_start
-  reached_more held held' x r f _ (one_more s c p w i e) = one_more s c p (reached_more held held' x r f s w) (asked_more held held' f (ask x s.place (overlay M s.changes r)) i) e
+  reached_more held held' x r f _ (one_more s c p w i e) = one_more s c p (reached_more held held' x r f s w) (asked_more held held' f (ask x s.position (overlay M s.changes r)) i) e
 
   -- a row has the facet of the old one, or the facet may be written
   abbrev Stands : (Name → Option Mode) → Tx Request → Facet → Option Row → Option Row → Type 0
@@ -115,14 +115,14 @@ module _ (M : Machine) (L : Laws M) where
   reached_parts held x r _ (one_more s None p w i e) f = reached_parts held x r s w f
   reached_parts held x r _ (one_more s (Some c) p w i e) f = go (is_key (facet_key f) (key_of c)) refl (reached_parts held x r s w f)
     where
-      writes : MayWrite M (Holds M (with_asked M (ask x s.place (overlay M s.changes r)) (taken x s.place))) x (governs_part f) → MayWrite M (held_of M held) x (governs_part f)
-      writes = write_more (Holds M (with_asked M (ask x s.place (overlay M s.changes r)) (taken x s.place))) (held_of M held) x
-          (λ n. asked_held held (ask x s.place (overlay M s.changes r)) (taken x s.place) i (taken_held held x r s w) n Exclusive) (governs_part f)
+      writes : MayWrite M (Holds M (with_asked M (ask x s.position (overlay M s.changes r)) (taken x s.position))) x (governs_part f) → MayWrite M (held_of M held) x (governs_part f)
+      writes = write_more (Holds M (with_asked M (ask x s.position (overlay M s.changes r)) (taken x s.position))) (held_of M held) x
+          (λ n. asked_held held (ask x s.position (overlay M s.changes r)) (taken x s.position) i (taken_held held x r s w) n Exclusive) (governs_part f)
 
       mine : facet_key f ≡ key_of c → Stands held x f (row_at (overlay M s.changes r) (facet_key f)) (row_at r (facet_key f)) → Stands held x f (row_of c) (row_at r (facet_key f))
-      mine q h = two (keeps_part x r s c p (reached_more held (all_held M) x r (λ n m h. tt) s w) (asked_all held (ask x s.place (overlay M s.changes r)) i) e f q) h
+      mine q h = two (keeps_part x r s c p (reached_more held (all_held M) x r (λ n m h. tt) s w) (asked_all held (ask x s.position (overlay M s.changes r)) i) e f q) h
         where
-          two : (part f (row_of c) ≡ part f (row_at (overlay M s.changes r) (key_of c))) ⊎ MayWrite M (Holds M (with_asked M (ask x s.place (overlay M s.changes r)) (taken x s.place))) x (governs_part f)
+          two : (part f (row_of c) ≡ part f (row_at (overlay M s.changes r) (key_of c))) ⊎ MayWrite M (Holds M (with_asked M (ask x s.position (overlay M s.changes r)) (taken x s.position))) x (governs_part f)
               → Stands held x f (row_at (overlay M s.changes r) (facet_key f)) (row_at r (facet_key f)) → Stands held x f (row_of c) (row_at r (facet_key f))
           two (inl a) (inl b) = inl (a ∙ (ap (λ z. part f (row_at (overlay M s.changes r) z)) (sym q) ∙ b))
           two (inl a) (inr b) = inr b
@@ -138,12 +138,12 @@ module _ (M : Machine) (L : Laws M) where
 
   -- what the program asks and does is the same on maps that are alike by the names held
   pub ask_alike : (held : Name → Option Mode) (x : Tx Request) (r : Map) (s : State M) → Reached M held x r s
-      → (a b : Map) → Alike M (held_of M held) x a b → ask x s.place a ≡ ask x s.place b
-  ask_alike held x r s w a b h = ask_same x s.place a b (alike_fewer _ _ x a b (λ n. taken_held held x r s w n Shared) h)
+      → (a b : Map) → Alike M (held_of M held) x a b → ask x s.position a ≡ ask x s.position b
+  ask_alike held x r s w a b h = ask_same x s.position a b (alike_fewer _ _ x a b (λ n. taken_held held x r s w n Shared) h)
 
   pub act_alike : (held : Name → Option Mode) (x : Tx Request) (r : Map) (s : State M) → Reached M held x r s
-      → (a b : Map) → Alike M (held_of M held) x a b → IsAsked M held (ask x s.place a) → act x s.place a ≡ act x s.place b
-  act_alike held x r s w a b h i = act_same x s.place a b (asked_all held _ i) (alike_fewer _ _ x a b (λ n. asked_held held (ask x s.place a) (taken x s.place) i (taken_held held x r s w) n Shared) h)
+      → (a b : Map) → Alike M (held_of M held) x a b → IsAsked M held (ask x s.position a) → act x s.position a ≡ act x s.position b
+  act_alike held x r s w a b h i = act_same x s.position a b (asked_all held _ i) (alike_fewer _ _ x a b (λ n. asked_held held (ask x s.position a) (taken x s.position) i (taken_held held x r s w) n Shared) h)
 
   -- the same way leads there from a map that is alike
   pub reached_alike : (held : Name → Option Mode) (x : Tx Request) (r r' : Map) → Alike M (held_of M held) x r r' → (s : State M) → Reached M held x r s → Reached M held x r' s

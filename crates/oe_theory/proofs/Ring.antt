@@ -163,5 +163,5 @@ module _ (M : Machine) (L : Laws M) where
   pub full_step : (w : World M) → used M w ≤ w.extents → (i : Step M) (a : Answer M) (v : World M) (t : ℕ) → Next M w i a v → i ≡ Advance t → a ≡ Undo_full → Is_full M w t
   full_step w h _ _ _ t (is_full u o c p e g r full) i a =
       let same : u ≡ t = cc in
-      subst (Is_full M w) same (record { was = o; is_open = e; change = c; place = p; makes = r; too_long = full.0; all_used = omega (arith, full.1, h) })
+      subst (Is_full M w) same (record { was = o; is_open = e; change = c; position = p; makes = r; too_long = full.0; all_used = omega (arith, full.1, h) })
   full_step w h _ _ _ t n i a = cc

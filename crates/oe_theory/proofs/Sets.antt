@@ -13,7 +13,7 @@ module _ {A : Type 0} where
   pub set_other : (t : ℕ) (v : A) (f : ℕ → A) (u : ℕ) → u ≢ t → set t v f u ≡ f u
   set_other t v f u e = cond-false (u == t) v (f u) (ne_eqb u t e)
 
-  -- of two places set in turn, the order does not matter
+  -- of two arguments set in turn, the order does not matter
   pub set_swap : (t u : ℕ) (v w : A) (f : ℕ → A) → u ≢ t → set t v (set u w f) ≡ set u w (set t v f)
   set_swap t u v w f ne = fun_ext (λ k. at_each k (cases_eq k t) (cases_eq k u))
     where
@@ -23,7 +23,7 @@ module _ {A : Type 0} where
       at_each k (inr n) (inl e) = (set_other t v (set u w f) k n ∙ set_same u w f k e) ∙ sym (set_same u w (set t v f) k e)
       at_each k (inr n) (inr n') = (set_other t v (set u w f) k n ∙ set_other u w f k n') ∙ sym (set_other u w (set t v f) k n' ∙ set_other t v f k n)
 
-  -- of two values at one place, the later stays
+  -- of two values at one argument, the later stays
   pub set_twice : (t : ℕ) (v w : A) (f : ℕ → A) → set t v (set t w f) ≡ set t v f
   set_twice t v w f = fun_ext (λ k. at_each k (cases_eq k t))
     where
@@ -39,7 +39,7 @@ module _ {A : Type 0} where
       at_each k (inl q) = set_same t v f k q ∙ (sym e ∙ ap f (sym q))
       at_each k (inr n) = set_other t v f k n
 
--- the two ways in which a place that was set has a value
+-- the two ways in which an argument that was set has a value
 pub set_cases : {A : Type 0} (t : ℕ) (v : Option A) (f : ℕ → Option A) (u : ℕ) (o : A) → set t v f u ≡ Some o → ((u ≡ t) × (v ≡ Some o)) ⊎ ((u ≢ t) × (f u ≡ Some o))
 set_cases {A} t v f u o e = go (cases_eq u t)
   where

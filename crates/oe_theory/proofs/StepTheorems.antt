@@ -16,7 +16,7 @@ use Rattle.oe_theory.proofs.Theorems.{reached_sound, run_is_reached, commit_is_w
 module _ (M : Machine) (L : Laws M) where
   open M use {terminal_limit}
 
-  -- how many transactions a place has
+  -- how many transactions a slot has
   abbrev one : Option (Open M) → ℕ
   one None = 0
   one (Some o) = 1
@@ -35,7 +35,7 @@ module _ (M : Machine) (L : Laws M) where
       ∙ (ap (λ z. count_open M (set t v active) n + one z) (set_other t v active n (λ e. omega (arith, e, h)))
       ∙ (ap (λ z. z + one (active n)) (count_above active t n v (omega (arith, h))) ∙ sym (count_next active n)))
 
-  -- one place's share in the count: what was there against what is there now
+  -- one slot's share in the count: what was there against what is there now
   count_set : (active : ℕ → Option (Open M)) (t n : ℕ) (v : Option (Open M)) → t < n → count_open M (set t v active) n + one (active t) ≡ count_open M active n + one v
   count_set active t zero v h = absurd (omega (arith, h))
   count_set active t (suc n) v h = go (cases_eq n t) (count_set active t n v)
@@ -92,11 +92,6 @@ module _ (M : Machine) (L : Laws M) where
 
   pub endings_are_whole : Endings_are_whole M
   endings_are_whole w v i a r n = ending w r i a v n
-
-  -- an audit ends no transaction
-  pub audit_ends_none : (w v : World M) (a : Answer M) (m : ℕ) (c : M.Condition) → IsEnding M w a (Audit m c) v
-  audit_ends_none w v (Committed n y) m c = tt
-  audit_ends_none w v _ m c = tt
 
   -- what holds of worlds and of steps holds all along a run
   module _ (P : World M → Type 0) (R : World M → Answer M → Step M → World M → Type 0)

@@ -13,7 +13,7 @@ use Rattle.oe_theory.proofs.Endings.{ready_law, fail_law, stop_law, change_law}
 use Rattle.oe_theory.proofs.Tables.{alike_tables, alike_other, same_ever}
 
 module _ (M : Machine) (L : Laws M) where
-  open M use {Map, Change, row_at, key_of, Name, is_name, governs, Request, Place, Reply, Refusal, ask, act, marks, taken, whole, Good}
+  open M use {Map, Change, row_at, key_of, Name, is_name, governs, Request, Position, Reply, Refusal, ask, act, marks, taken, whole, Good}
   open L use {name_true, name_refl, may_write, ends, stays_good}
 
   -- versions are good
@@ -77,21 +77,21 @@ module _ (M : Machine) (L : Laws M) where
 
   -- what a step of an open transaction reads is what its program alone would read
   pub reads_alone : (w : World M) → Sound M w → (t : ℕ) (o : Open M) → w.active t ≡ Some o
-      → ask (tx_of M t o) o.now.place (tables M w) ≡ ask (tx_of M t o) o.now.place (overlay M o.now.changes (latest M w))
+      → ask (tx_of M t o) o.now.position (tables M w) ≡ ask (tx_of M t o) o.now.position (overlay M o.now.changes (latest M w))
   reads_alone w s t o e =
       ask_alike M L o.held (tx_of M t o) (latest M w) o.now (s.each t o e).now (tables M w) (overlay M o.now.changes (latest M w))
       (alike_tables M L w s t o e o.held (λ u p ne q. s.apart t u o p ne e q))
 
   -- the locks after the step that the tables ask for
   pub held_next : World M → ℕ → Open M → Name → Option Mode
-  held_next w t o = held_after M (ask (tx_of M t o) o.now.place (tables M w)) o.held
+  held_next w t o = held_after M (ask (tx_of M t o) o.now.position (tables M w)) o.held
 
   pub acts_alone : (w : World M) → Sound M w → (t : ℕ) (o : Open M) → w.active t ≡ Some o
-      → IsGranted M w t (ask (tx_of M t o) o.now.place (tables M w))
-      → act (tx_of M t o) o.now.place (tables M w) ≡ act (tx_of M t o) o.now.place (overlay M o.now.changes (latest M w))
+      → IsGranted M w t (ask (tx_of M t o) o.now.position (tables M w))
+      → act (tx_of M t o) o.now.position (tables M w) ≡ act (tx_of M t o) o.now.position (overlay M o.now.changes (latest M w))
   unfolding held_next
   acts_alone w s t o e g =
-      let a = ask (tx_of M t o) o.now.place (tables M w) in
+      let a = ask (tx_of M t o) o.now.position (tables M w) in
       act_alike M L (held_next w t o) (tx_of M t o) (latest M w) o.now
       (reached_more M L o.held (held_next w t o) (tx_of M t o) (latest M w) (after_keeps a o.held) o.now (s.each t o e).now)
       (tables M w) (overlay M o.now.changes (latest M w))
@@ -104,24 +104,24 @@ module _ (M : Machine) (L : Laws M) where
   write_to_read held x (Own i j) h = h
 
   -- and the row that it changes is the one that its program alone would find
-  pub row_alone : (w : World M) → Sound M w → (t : ℕ) (o : Open M) (c : Change) (p : Place) → w.active t ≡ Some o
-      → IsGranted M w t (ask (tx_of M t o) o.now.place (tables M w))
-      → act (tx_of M t o) o.now.place (tables M w) ≡ Go (Some c) p
+  pub row_alone : (w : World M) → Sound M w → (t : ℕ) (o : Open M) (c : Change) (p : Position) → w.active t ≡ Some o
+      → IsGranted M w t (ask (tx_of M t o) o.now.position (tables M w))
+      → act (tx_of M t o) o.now.position (tables M w) ≡ Go (Some c) p
       → row_at (tables M w) (key_of c) ≡ row_at (overlay M o.now.changes (latest M w)) (key_of c)
   unfolding held_next
   row_alone w s t o c p e g r =
       let x = tx_of M t o in
-      let a = ask x o.now.place (tables M w) in
+      let a = ask x o.now.position (tables M w) in
       let held = held_next w t o in
       let asked = after_asked w t a o.held g in
       let way = reached_more M L o.held held x (latest M w) (after_keeps a o.held) o.now (s.each t o e).now in
       let like = alike_tables M L w s t o e held (λ u q ne h. after_apart w t a o.held g u q ne h (s.apart t u o q ne e h)) in
       like.rows (key_of c)
       (write_to_read held x (governs (key_of c))
-      (write_more M L (Holds M (with_asked M a (taken x o.now.place))) (held_of M held) x
-      (λ n. asked_held M L held a (taken x o.now.place) asked (taken_held M L held x (latest M w) o.now way) n Exclusive)
+      (write_more M L (Holds M (with_asked M a (taken x o.now.position))) (held_of M held) x
+      (λ n. asked_held M L held a (taken x o.now.position) asked (taken_held M L held x (latest M w) o.now way) n Exclusive)
       (governs (key_of c))
-      (may_write x o.now.place (tables M w) c p (asked_all M L held a asked) r)))
+      (may_write x o.now.position (tables M w) c p (asked_all M L held a asked) r)))
 
   alike_back : (P : Name → Mode → Type 0) (x : Tx Request) (r r' : Map) → Alike M P x r r' → Alike M P x r' r
   alike_back P x r r' a = record { rows = λ k h. sym (a.rows k h); parts = λ f h. sym (a.parts f h) }
@@ -136,29 +136,29 @@ module _ (M : Machine) (L : Laws M) where
   to_alone w s t o e = reached_more M L o.held (all_held M) (tx_of M t o) (latest M w) (λ n m h. tt) o.now (s.each t o e).now
 
   -- the tables accept the change of a row, as the newest version with one's own changes does
-  pub change_accepted : (w : World M) → Sound M w → (t : ℕ) (o : Open M) (c : Change) (p : Place) → w.active t ≡ Some o
-      → IsGranted M w t (ask (tx_of M t o) o.now.place (tables M w))
-      → act (tx_of M t o) o.now.place (tables M w) ≡ Go (Some c) p
+  pub change_accepted : (w : World M) → Sound M w → (t : ℕ) (o : Open M) (c : Change) (p : Position) → w.active t ≡ Some o
+      → IsGranted M w t (ask (tx_of M t o) o.now.position (tables M w))
+      → act (tx_of M t o) o.now.position (tables M w) ≡ Go (Some c) p
       → M.Accepts c (tables M w)
   unfolding held_next
   change_accepted w s t o c p e g r =
       let x = tx_of M t o in
       let own = overlay M o.now.changes (latest M w) in
       let held = held_next w t o in
-      let asked : IsAsked M held (ask x o.now.place own) = subst (IsAsked M held) (reads_alone w s t o e) (after_asked w t (ask x o.now.place (tables M w)) o.held g) in
-      let way = reached_more M L o.held held x (latest M w) (after_keeps (ask x o.now.place (tables M w)) o.held) o.now (s.each t o e).now in
-      let like = alike_tables M L w s t o e held (λ u q ne h. after_apart w t (ask x o.now.place (tables M w)) o.held g u q ne h (s.apart t u o q ne e h)) in
+      let asked : IsAsked M held (ask x o.now.position own) = subst (IsAsked M held) (reads_alone w s t o e) (after_asked w t (ask x o.now.position (tables M w)) o.held g) in
+      let way = reached_more M L o.held held x (latest M w) (after_keeps (ask x o.now.position (tables M w)) o.held) o.now (s.each t o e).now in
+      let like = alike_tables M L w s t o e held (λ u q ne h. after_apart w t (ask x o.now.position (tables M w)) o.held g u q ne h (s.apart t u o q ne e h)) in
       let does = sym (acts_alone w s t o e g) ∙ r in
-      L.accepts_same x o.now.place own (tables M w) c p (asked_all M L held _ asked)
-      (alike_fewer M L _ _ x own (tables M w) (λ n. asked_held M L held (ask x o.now.place own) (taken x o.now.place) asked (taken_held M L held x (latest M w) o.now way) n Shared)
+      L.accepts_same x o.now.position own (tables M w) c p (asked_all M L held _ asked)
+      (alike_fewer M L _ _ x own (tables M w) (λ n. asked_held M L held (ask x o.now.position own) (taken x o.now.position) asked (taken_held M L held x (latest M w) o.now way) n Shared)
       (alike_back (held_of M held) x (tables M w) own like))
       does
       (change_law M (M.MayRefuse o.request) M.Accepts x (latest M w) o.now c p _ (ends (counts_now M w) x (latest M w) (good_latest w s t o e)) (to_alone w s t o e) (asked_all M L held _ asked) does)
 
   -- at a commit the changes made step by step are the whole effect on the newest version
   pub commit_whole : (w : World M) → Sound M w → (t : ℕ) (o : Open M) (reply : Reply) → w.active t ≡ Some o
-      → IsGranted M w t (ask (tx_of M t o) o.now.place (tables M w))
-      → act (tx_of M t o) o.now.place (tables M w) ≡ Ready reply
+      → IsGranted M w t (ask (tx_of M t o) o.now.position (tables M w))
+      → act (tx_of M t o) o.now.position (tables M w) ≡ Ready reply
       → whole (tx_of M t o) (latest M w) ≡ Some (overlay M o.now.changes (latest M w), reply)
   commit_whole w s t o reply e g r =
       ready_law M (M.MayRefuse o.request) M.Accepts (tx_of M t o) (latest M w) o.now reply _ (ends (counts_now M w) (tx_of M t o) (latest M w) (good_latest w s t o e)) (to_alone w s t o e)
@@ -167,8 +167,8 @@ module _ (M : Machine) (L : Laws M) where
 
   -- and where its program fails or stops the whole effect is none
   pub fail_whole : (w : World M) → Sound M w → (t : ℕ) (o : Open M) (x : Refusal) → w.active t ≡ Some o
-      → IsGranted M w t (ask (tx_of M t o) o.now.place (tables M w))
-      → act (tx_of M t o) o.now.place (tables M w) ≡ Fail x
+      → IsGranted M w t (ask (tx_of M t o) o.now.position (tables M w))
+      → act (tx_of M t o) o.now.position (tables M w) ≡ Fail x
       → whole (tx_of M t o) (latest M w) ≡ None
   fail_whole w s t o x e g r =
       fail_law M (M.MayRefuse o.request) M.Accepts (tx_of M t o) (latest M w) o.now x _ (ends (counts_now M w) (tx_of M t o) (latest M w) (good_latest w s t o e)) (to_alone w s t o e)
@@ -176,7 +176,7 @@ module _ (M : Machine) (L : Laws M) where
       (sym (acts_alone w s t o e g) ∙ r)
 
   pub stop_whole : (w : World M) → Sound M w → (t : ℕ) (o : Open M) (x : Refusal) → w.active t ≡ Some o
-      → ask (tx_of M t o) o.now.place (tables M w) ≡ Stop x
+      → ask (tx_of M t o) o.now.position (tables M w) ≡ Stop x
       → whole (tx_of M t o) (latest M w) ≡ None
   stop_whole w s t o x e r =
       stop_law M (M.MayRefuse o.request) M.Accepts (tx_of M t o) (latest M w) o.now x _ (ends (counts_now M w) (tx_of M t o) (latest M w) (good_latest w s t o e)) (to_alone w s t o e)
@@ -184,9 +184,9 @@ module _ (M : Machine) (L : Laws M) where
 
   -- its program alone comes to the same refusal
   pub fail_alone : (w : World M) → Sound M w → (t : ℕ) (o : Open M) (x : Refusal) → w.active t ≡ Some o
-      → IsGranted M w t (ask (tx_of M t o) o.now.place (tables M w))
-      → act (tx_of M t o) o.now.place (tables M w) ≡ Fail x
-      → IsAsked M (all_held M) (ask (tx_of M t o) o.now.place (overlay M o.now.changes (latest M w))) × (act (tx_of M t o) o.now.place (overlay M o.now.changes (latest M w)) ≡ Fail x)
+      → IsGranted M w t (ask (tx_of M t o) o.now.position (tables M w))
+      → act (tx_of M t o) o.now.position (tables M w) ≡ Fail x
+      → IsAsked M (all_held M) (ask (tx_of M t o) o.now.position (overlay M o.now.changes (latest M w))) × (act (tx_of M t o) o.now.position (overlay M o.now.changes (latest M w)) ≡ Fail x)
   fail_alone w s t o x e g r = (subst (IsAsked M (all_held M)) (reads_alone w s t o e) (alone_asked w t _ g), sym (acts_alone w s t o e g) ∙ r)
 
   -- a transaction that changes, and one that ends, leave a sound world
@@ -234,12 +234,12 @@ module _ (M : Machine) (L : Laws M) where
   added_since None all since old e = e
   added_since (Some c) all since old e = ap (λ cs. c ∷ cs) e
 
-  sound_goes : (w : World M) → Sound M w → (t : ℕ) (o : Open M) (c : Option Change) (p : Place) → w.active t ≡ Some o
-      → IsGranted M w t (ask (tx_of M t o) o.now.place (tables M w))
-      → act (tx_of M t o) o.now.place (tables M w) ≡ Go c p
-      → Sound M (put_active M t (Some (moved M o (ask (tx_of M t o) o.now.place (tables M w)) c p (tables M w))) w)
+  sound_goes : (w : World M) → Sound M w → (t : ℕ) (o : Open M) (c : Option Change) (p : Position) → w.active t ≡ Some o
+      → IsGranted M w t (ask (tx_of M t o) o.now.position (tables M w))
+      → act (tx_of M t o) o.now.position (tables M w) ≡ Go c p
+      → Sound M (put_active M t (Some (moved M o (ask (tx_of M t o) o.now.position (tables M w)) c p (tables M w))) w)
   sound_goes w s t o c p e g r =
-      let a = ask (tx_of M t o) o.now.place (tables M w) in
+      let a = ask (tx_of M t o) o.now.position (tables M w) in
       let more = reached_more M L o.held (held_after M a o.held) (tx_of M t o) (latest M w) (after_keeps a o.held) in
       sound_put w s t (moved M o a c p (tables M w))
       (record {
@@ -250,9 +250,9 @@ module _ (M : Machine) (L : Laws M) where
         now = one_more o.now c p (more o.now (s.each t o e).now)
             (subst (IsAsked M (held_after M a o.held)) (reads_alone w s t o e) (after_asked w t a o.held g))
             (sym (acts_alone w s t o e g) ∙ r);
-        mark = more (cond (marks o.now.place) o.now o.mark) (mark_way (marks o.now.place));
-        since = add M c (cond (marks o.now.place) [] (s.each t o e).since);
-        split = added_since c o.now.changes (cond (marks o.now.place) [] (s.each t o e).since) (cond (marks o.now.place) o.now o.mark).changes (mark_split (marks o.now.place));
+        mark = more (cond (marks o.now.position) o.now o.mark) (mark_way (marks o.now.position));
+        since = add M c (cond (marks o.now.position) [] (s.each t o e).since);
+        split = added_since c o.now.changes (cond (marks o.now.position) [] (s.each t o e).since) (cond (marks o.now.position) o.now o.mark).changes (mark_split (marks o.now.position));
       })
       (λ u q ne h. (after_apart w t a o.held g u q ne h (s.apart t u o q ne e h), after_apart' w t a o.held g u q ne h (s.apart u t q o (λ z. ne (sym z)) h e)))
     where

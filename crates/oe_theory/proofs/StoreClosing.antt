@@ -128,9 +128,9 @@ module _ (M : Machine) (L : Laws M) where
         good = subst (IsGood M s.counts (tx_in M t p)) there
             (subst (λ (f : ℕ → ℕ). IsGood M f (tx_in M t p) (latest M w)) (counts_here M L s h) (good_latest M L w sound t o i));
         alone = subst (λ (r : Map). Alone M (tx_in M t p) r o.now) there (to_alone M L w sound t o i);
-        asks = sym (asks_here M L s h t p) ∙ (reads_alone M L w sound t o i ∙ ap (λ (r : Map). M.ask (tx_in M t p) p.place (overlay M o.now.changes r)) there);
+        asks = sym (asks_here M L s h t p) ∙ (reads_alone M L w sound t o i ∙ ap (λ (r : Map). M.ask (tx_in M t p) p.position (overlay M o.now.changes r)) there);
         acts = λ g. sym (acts_here M L s h t p)
-            ∙ (acts_alone M L w sound t o i (granted_here M L s h t p g) ∙ ap (λ (r : Map). M.act (tx_in M t p) p.place (overlay M o.now.changes r)) there);
+            ∙ (acts_alone M L w sound t o i (granted_here M L s h t p g) ∙ ap (λ (r : Map). M.act (tx_in M t p) p.position (overlay M o.now.changes r)) there);
       }
 
   -- a rollback, also where none is open, leaves the newest version

@@ -60,8 +60,8 @@ module _ (M : Machine) (L : Laws M) where
 
   lack_back : (s : Store M) → IsStanding M s → (t : ℕ) (p : Slot M) (a : Ask Name Refusal) → MayLackMemory M (world_of M s) t (open_in M L s t p) a → MayLackMemoryIn M s t p a
   lack_back s h t p (Stop e) l = l
-  lack_back s h t p Plain l = (l.0, l.1, subst (GivesWay M (M.yields (tx_in M t p) p.place)) (acts_here M L s h t p) l.2)
-  lack_back s h t p (Take n m) l = (granted_back s t (Take n m) l.0, l.1, subst (GivesWay M (M.yields (tx_in M t p) p.place)) (acts_here M L s h t p) l.2)
+  lack_back s h t p Plain l = (l.0, l.1, subst (GivesWay M (M.yields (tx_in M t p) p.position)) (acts_here M L s h t p) l.2)
+  lack_back s h t p (Take n m) l = (granted_back s t (Take n m) l.0, l.1, subst (GivesWay M (M.yields (tx_in M t p) p.position)) (acts_here M L s h t p) l.2)
 
   past_back : (s : Store M) → IsStanding M s → (i : Step M) → IsPast M (world_of M s) i → IsPastIn M s i
   past_back s h (Begin t q) x = x

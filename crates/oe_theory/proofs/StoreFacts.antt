@@ -40,8 +40,8 @@ module _ (M : Machine) (L : Laws M) where
       λ i. Some (record {
         number = o.number;
         request = o.request;
-        now = record { place = o.now.place; changes = now i };
-        mark = record { place = o.mark.place; changes = mark i };
+        now = record { position = o.now.position; changes = now i };
+        mark = record { position = o.mark.position; changes = mark i };
         held = o.held;
         lengths = lengths i;
         mark_lengths = mark_lengths i;

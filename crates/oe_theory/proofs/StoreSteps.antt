@@ -18,7 +18,7 @@ use Rattle.oe_theory.proofs.StoreFacts.{world_same}
 use Rattle.oe_theory.proofs.Theorems.{reached_sound, opening_is_reached, run_is_reached}
 
 module _ (M : Machine) (L : Laws M) where
-  open M use {Map, Change, Record, Name, Request, Place, Reply, Refusal, ask, act, marks, terminal_limit}
+  open M use {Map, Change, Record, Name, Request, Position, Reply, Refusal, ask, act, marks, terminal_limit}
 
   same_store : (r r' : Map) (u : Undo M) (f f' : ℕ → Option (Slot M)) (d d' : List (Seal M)) (c c' : ℕ → ℕ) (n n' : ℕ) → r ≡ r' → f ≡ f' → d ≡ d' → c ≡ c' → n ≡ n'
       → ◌≡◌ {A = Store M} (record { tables = r; undo = u; slots = f; seals = d; counts = c; extents = n }) (record { tables = r'; undo = u; slots = f'; seals = d'; counts = c'; extents = n' })
@@ -120,8 +120,8 @@ module _ (M : Machine) (L : Laws M) where
           Some (record {
             number = n;
             request = q;
-            place = M.start (record { terminal = t; number = n; request = q });
-            mark_place = M.start (record { terminal = t; number = n; request = q });
+            position = M.start (record { terminal = t; number = n; request = q });
+            mark_position = M.start (record { terminal = t; number = n; request = q });
             mark_count = 0;
             held = λ _. None;
           })
@@ -164,11 +164,11 @@ module _ (M : Machine) (L : Laws M) where
   unfolding mark_of
   mark_here s h t p e = ap mark_of (slot_here s h t p e)
 
-  pub asks_here : (s : Store M) → IsStanding M s → (t : ℕ) (p : Slot M) → ask (tx_in M t p) p.place (tables M (world_of M s)) ≡ ask (tx_in M t p) p.place s.tables
-  asks_here s h t p = ap (ask (tx_in M t p) p.place) (tables_here s h)
+  pub asks_here : (s : Store M) → IsStanding M s → (t : ℕ) (p : Slot M) → ask (tx_in M t p) p.position (tables M (world_of M s)) ≡ ask (tx_in M t p) p.position s.tables
+  asks_here s h t p = ap (ask (tx_in M t p) p.position) (tables_here s h)
 
-  pub acts_here : (s : Store M) → IsStanding M s → (t : ℕ) (p : Slot M) → act (tx_in M t p) p.place (tables M (world_of M s)) ≡ act (tx_in M t p) p.place s.tables
-  acts_here s h t p = ap (act (tx_in M t p) p.place) (tables_here s h)
+  pub acts_here : (s : Store M) → IsStanding M s → (t : ℕ) (p : Slot M) → act (tx_in M t p) p.position (tables M (world_of M s)) ≡ act (tx_in M t p) p.position s.tables
+  acts_here s h t p = ap (act (tx_in M t p) p.position) (tables_here s h)
 
   pub granted : (s : Store M) (t : ℕ) (a : Ask Name Refusal) → IsGrantedIn M s.slots t a → IsGranted M (world_of M s) t a
   granted s t (Stop e) g = g
@@ -176,8 +176,8 @@ module _ (M : Machine) (L : Laws M) where
   granted s t (Take n m) g =
       λ u o ne e. let f = found (s.undo.active u) s.tables (s.slots u) o e in subst (λ (z : Name → Option Mode). go_together m (z n) ≡ true) f.2 (g u f.0 ne f.1)
 
-  pub granted_here : (s : Store M) → IsStanding M s → (t : ℕ) (p : Slot M) → IsGrantedIn M s.slots t (ask (tx_in M t p) p.place s.tables)
-      → IsGranted M (world_of M s) t (ask (tx_in M t p) p.place (tables M (world_of M s)))
+  pub granted_here : (s : Store M) → IsStanding M s → (t : ℕ) (p : Slot M) → IsGrantedIn M s.slots t (ask (tx_in M t p) p.position s.tables)
+      → IsGranted M (world_of M s) t (ask (tx_in M t p) p.position (tables M (world_of M s)))
   granted_here s h t p g = subst (IsGranted M (world_of M s) t) (sym (asks_here s h t p)) (granted s t _ g)
 
   pub used_here : (s : Store M) → IsStanding M s → used M (world_of M s) ≡ used_of M s.undo
@@ -193,18 +193,18 @@ module _ (M : Machine) (L : Laws M) where
   is_room_here z s t (Some c) = inl (let e = z (record_on M c s.tables) in omega (arith, e))
 
   -- a row that goes on
-  slot_moved : (o : Open M) (p : Slot M) (n : ℕ) (a a' : Ask Name Refusal) (c : Option Change) (q : Place) (r : Map) → slot_of M (Some o) ≡ Some p → length o.now.changes ≡ n
+  slot_moved : (o : Open M) (p : Slot M) (n : ℕ) (a a' : Ask Name Refusal) (c : Option Change) (q : Position) (r : Map) → slot_of M (Some o) ≡ Some p → length o.now.changes ≡ n
       → a ≡ a' → slot_of M (Some (moved M o a c q r)) ≡ Some (slot_after M p n a' q)
   slot_moved o p n a a' c q r e l f =
-      subst (λ (z : Slot M). slot_of M (Some (moved M o a c q r)) ≡ Some (slot_after M z n a' q)) (some_inj _ p e) (go (marks o.now.place))
+      subst (λ (z : Slot M). slot_of M (Some (moved M o a c q r)) ≡ Some (slot_after M z n a' q)) (some_inj _ p e) (go (marks o.now.position))
     where
       go : (b : Bool)
-          → ◌≡◌ {A = Option (Slot M)} (Some (record { number = o.number; request = o.request; place = q; mark_place = (cond b o.now o.mark).place; mark_count = length (cond b o.now o.mark).changes; held = held_after M a o.held }))
-          (Some (record { number = o.number; request = o.request; place = q; mark_place = cond b o.now.place o.mark.place; mark_count = cond b n (length o.mark.changes); held = held_after M a' o.held }))
-      go true = λ i. Some (record { number = o.number; request = o.request; place = q; mark_place = o.now.place; mark_count = l i; held = held_after M (f i) o.held })
-      go false = λ i. Some (record { number = o.number; request = o.request; place = q; mark_place = o.mark.place; mark_count = length o.mark.changes; held = held_after M (f i) o.held })
+          → ◌≡◌ {A = Option (Slot M)} (Some (record { number = o.number; request = o.request; position = q; mark_position = (cond b o.now o.mark).position; mark_count = length (cond b o.now o.mark).changes; held = held_after M a o.held }))
+          (Some (record { number = o.number; request = o.request; position = q; mark_position = cond b o.now.position o.mark.position; mark_count = cond b n (length o.mark.changes); held = held_after M a' o.held }))
+      go true = λ i. Some (record { number = o.number; request = o.request; position = q; mark_position = o.now.position; mark_count = l i; held = held_after M (f i) o.held })
+      go false = λ i. Some (record { number = o.number; request = o.request; position = q; mark_position = o.mark.position; mark_count = length o.mark.changes; held = held_after M (f i) o.held })
 
-  changed_is : (w : World M) (t : ℕ) (o : Open M) (c : Option Change) (q : Place) → w.active t ≡ Some o → act (tx_of M t o) o.now.place (tables M w) ≡ Go c q
+  changed_is : (w : World M) (t : ℕ) (o : Open M) (c : Option Change) (q : Position) → w.active t ≡ Some o → act (tx_of M t o) o.now.position (tables M w) ≡ Go c q
       → changed M w t (w.active t) ≡ with_change_of M c (tables M w)
   changed_is w t o c q e r = ap (changed M w t) e ∙ (ap (λ z. with_change M z (tables M w)) r ∙ go c)
     where
@@ -212,7 +212,7 @@ module _ (M : Machine) (L : Laws M) where
       go None = refl
       go (Some c) = refl
 
-  pushed_is : (w : World M) (t : ℕ) (o : Open M) (c : Option Change) (q : Place) (bs : List Record) → w.active t ≡ Some o → act (tx_of M t o) o.now.place (tables M w) ≡ Go c q
+  pushed_is : (w : World M) (t : ℕ) (o : Open M) (c : Option Change) (q : Position) (bs : List Record) → w.active t ≡ Some o → act (tx_of M t o) o.now.position (tables M w) ≡ Go c q
       → pushed M w t (w.active t) bs ≡ with_record_of M c (tables M w) bs
   pushed_is w t o c q bs e r = ap (λ z. pushed M w t z bs) e ∙ (ap (λ z. with_record M z (tables M w) bs) r ∙ go c)
     where
@@ -225,7 +225,7 @@ module _ (M : Machine) (L : Laws M) where
       let o = open_in s t p in
       let r' = acts_here s h t p ∙ r in
       leads s h (Advance t) More _ (goes_on t o c q (is_open_in s t p e) (granted_here s h t p g) r' (has_room s h t p c room))
-      (went_on M t p (ask (tx_in M t p) p.place s.tables) c q s)
+      (went_on M t p (ask (tx_in M t p) p.position s.tables) c q s)
       (ap (λ bs. put_records M t bs s.undo) (pushed_is (world_of M s) t o c q (s.undo.active t) (is_open_in s t p e) r' ∙ ap (λ z. with_record_of M c z (s.undo.active t)) (tables_here s h)))
       (changed_is (world_of M s) t o c q (is_open_in s t p e) r' ∙ ap (with_change_of M c) (tables_here s h))
       (slots_put s h t _ _
@@ -275,8 +275,8 @@ module _ (M : Machine) (L : Laws M) where
 
   pub may_lack : (s : Store M) → IsStanding M s → (t : ℕ) (p : Slot M) (a : Ask Name Refusal) → MayLackMemoryIn M s t p a → MayLackMemory M (world_of M s) t (open_in s t p) a
   may_lack s h t p (Stop e) l = l
-  may_lack s h t p Plain l = (l.0, l.1, subst (GivesWay M (M.yields (tx_in M t p) p.place)) (sym (acts_here s h t p)) l.2)
-  may_lack s h t p (Take n m) l = (granted s t (Take n m) l.0, l.1, subst (GivesWay M (M.yields (tx_in M t p) p.place)) (sym (acts_here s h t p)) l.2)
+  may_lack s h t p Plain l = (l.0, l.1, subst (GivesWay M (M.yields (tx_in M t p) p.position)) (sym (acts_here s h t p)) l.2)
+  may_lack s h t p (Take n m) l = (granted s t (Take n m) l.0, l.1, subst (GivesWay M (M.yields (tx_in M t p) p.position)) (sym (acts_here s h t p)) l.2)
 
   pub lacks_memory_here : Lacks_memory_here M
   lacks_memory_here s t p h e l =
@@ -290,7 +290,7 @@ module _ (M : Machine) (L : Laws M) where
   saves_here s t p h e =
       leads s h (Save t) Saved _ (saves t (open_in s t p) (is_open_in s t p e)) (marked M t p s) refl (tables_here s h)
       (slots_put s h t _ _
-      (λ i. Some (record { number = p.number; request = p.request; place = p.place; mark_place = p.place; mark_count = length_here s h t p e i; held = p.held })))
+      (λ i. Some (record { number = p.number; request = p.request; position = p.position; mark_position = p.position; mark_count = length_here s h t p e i; held = p.held })))
       (seals_here s h) (counts_here s h) refl
 
   pub goes_back_here : Goes_back_here M
@@ -303,7 +303,7 @@ module _ (M : Machine) (L : Laws M) where
       (ap (λ z. put_records M t (cut M z bs) s.undo) is ∙ ap (λ (n : ℕ). put_records M t (drop (length bs - n) bs) s.undo) mark)
       (ap (λ z. unwind M (since_mark M z bs) (tables M (world_of M s))) is
       ∙ (ap (λ (n : ℕ). unwind M (take (length bs - n) bs) (tables M (world_of M s))) mark ∙ ap (unwind M (take (length bs - p.mark_count) bs)) (tables_here s h)))
-      (slots_put s h t _ _ (λ i. Some (record { number = p.number; request = p.request; place = p.mark_place; mark_place = p.mark_place; mark_count = mark i; held = p.held })))
+      (slots_put s h t _ _ (λ i. Some (record { number = p.number; request = p.request; position = p.mark_position; mark_position = p.mark_position; mark_count = mark i; held = p.held })))
       (seals_here s h) (counts_here s h) refl
 
   pub is_not_open_here : Is_not_open_here M

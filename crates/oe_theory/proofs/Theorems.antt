@@ -86,13 +86,13 @@ module _ (M : Machine) (L : Laws M) where
   abort_has_no_effect w w' t x r y = none_step w (reached_sound w r) (Advance t) (Aborted x) w' t x y refl refl
 
   -- a refusal is one that its program may end with
-  stop_cause_here : (w : World M) → Sound M w → (t : ℕ) (o : Open M) (x : M.Refusal) → w.active t ≡ Some o → M.ask (tx_of M t o) o.now.place (tables M w) ≡ Stop x → M.MayRefuse o.request x
+  stop_cause_here : (w : World M) → Sound M w → (t : ℕ) (o : Open M) (x : M.Refusal) → w.active t ≡ Some o → M.ask (tx_of M t o) o.now.position (tables M w) ≡ Stop x → M.MayRefuse o.request x
   stop_cause_here w s t o x e r =
       stop_cause_law M (M.MayRefuse o.request) M.Accepts (tx_of M t o) (latest M w) o.now x _ (L.ends (counts_now M w) (tx_of M t o) (latest M w) (good_latest M L w s t o e))
       (to_alone M L w s t o e) (sym (reads_alone M L w s t o e) ∙ r)
 
   fail_cause_here : (w : World M) → Sound M w → (t : ℕ) (o : Open M) (x : M.Refusal) → w.active t ≡ Some o
-      → IsGranted M w t (M.ask (tx_of M t o) o.now.place (tables M w)) → M.act (tx_of M t o) o.now.place (tables M w) ≡ Fail x → M.MayRefuse o.request x
+      → IsGranted M w t (M.ask (tx_of M t o) o.now.position (tables M w)) → M.act (tx_of M t o) o.now.position (tables M w) ≡ Fail x → M.MayRefuse o.request x
   fail_cause_here w s t o x e g r =
       let f = fail_alone M L w s t o x e g r in
       fail_cause_law M (M.MayRefuse o.request) M.Accepts (tx_of M t o) (latest M w) o.now x _ (L.ends (counts_now M w) (tx_of M t o) (latest M w) (good_latest M L w s t o e))

@@ -9,7 +9,7 @@ use Rattle.oe_theory.specs.Laws.{Sound}
 use Rattle.oe_theory.specs.Theorems.{IsStep, IsAnswered}
 
 module _ (M : Machine) where
-  open M use {Name, Change, Place, Reply, Refusal, Request, ask, act, size_of, rejection, number_rejection, query_rejection, find, terminal_limit}
+  open M use {Name, Change, Position, Reply, Refusal, Request, ask, act, size_of, rejection, number_rejection, query_rejection, find, terminal_limit}
 
   either : (a b : ℕ) → (a ≤ b) ⊎ (b < a)
   either a b = go (cases_order a b)
@@ -55,8 +55,8 @@ module _ (M : Machine) where
       go (inr h) = inr h
 
   -- a row
-  of_deed : (w : World M) (t : ℕ) (o : Open M) → w.active t ≡ Some o → IsGranted M w t (ask (tx_of M t o) o.now.place (tables M w))
-      → (d : Act Change Place Reply Refusal) → act (tx_of M t o) o.now.place (tables M w) ≡ d → IsAnswered M w (Advance t)
+  of_deed : (w : World M) (t : ℕ) (o : Open M) → w.active t ≡ Some o → IsGranted M w t (ask (tx_of M t o) o.now.position (tables M w))
+      → (d : Act Change Position Reply Refusal) → act (tx_of M t o) o.now.position (tables M w) ≡ d → IsAnswered M w (Advance t)
   of_deed w t o e g (Fail x) r = record { answer = _; after = _; next = fails t o x e g r; other = λ z. cc }
   of_deed w t o e g (Ready y) r = record { answer = _; after = _; next = commits t o y e g r; other = λ z. cc }
   of_deed w t o e g (Go None p) r = record { answer = _; after = _; next = goes_on t o None p e g r tt; other = λ z. cc }
@@ -68,7 +68,7 @@ module _ (M : Machine) where
       room (inr long) (inr free) = record { answer = _; after = _; next = goes_on t o (Some c) p e g r (inr free); other = λ z. cc }
       room (inr long) (inl full) = record { answer = _; after = _; next = is_full t o c p e g r (long, full); other = λ z. cc }
 
-  of_ask : (w : World M) → Sound M w → (t : ℕ) (o : Open M) → w.active t ≡ Some o → (a : Ask Name Refusal) → ask (tx_of M t o) o.now.place (tables M w) ≡ a
+  of_ask : (w : World M) → Sound M w → (t : ℕ) (o : Open M) → w.active t ≡ Some o → (a : Ask Name Refusal) → ask (tx_of M t o) o.now.position (tables M w) ≡ a
       → IsAnswered M w (Advance t)
   of_ask w s t o e (Stop x) r = record { answer = _; after = _; next = stops t o x e r; other = λ z. cc }
   of_ask w s t o e Plain r = of_deed w t o e (subst (IsGranted M w t) (sym r) tt) _ refl

@@ -8,7 +8,7 @@ use Rattle.oe_theory.specs.Next.{record_on, filled, used, IsGranted, GivesWay, M
 use Rattle.oe_theory.specs.Theorems.{Stands_for, begins_else, goes_else, full_else, stops_else, Want_stands_for}
 
 module _ (M : Machine) where
-  open M use {Name, Change, Place, Reply, Refusal, ask, act, size_of, yields}
+  open M use {Name, Change, Position, Reply, Refusal, ask, act, size_of, yields}
 
   either : (a b : ℕ) → (a ≤ b) ⊎ (b < a)
   either a b = go (cases_order a b)
@@ -18,9 +18,9 @@ module _ (M : Machine) where
       go (inr (inl l)) = inl (omega (arith, l))
       go (inr (inr l)) = inr l
 
-  of_deed : (w : World M) (t : ℕ) (o : Open M) → w.active t ≡ Some o → IsGranted M w t (ask (tx_of M t o) o.now.place (tables M w))
-      → (d : Act Change Place Reply Refusal) → act (tx_of M t o) o.now.place (tables M w) ≡ d
-      → GivesWay M (yields (tx_of M t o) o.now.place) d → Stands_for M w (Advance t)
+  of_deed : (w : World M) (t : ℕ) (o : Open M) → w.active t ≡ Some o → IsGranted M w t (ask (tx_of M t o) o.now.position (tables M w))
+      → (d : Act Change Position Reply Refusal) → act (tx_of M t o) o.now.position (tables M w) ≡ d
+      → GivesWay M (yields (tx_of M t o) o.now.position) d → Stands_for M w (Advance t)
   of_deed w t o e g (Fail x) r h = stops_else t o x _ e h (fails t o x e g r)
   of_deed w t o e g (Ready y) r h = absurd h
   of_deed w t o e g (Go None p) r h = goes_else t _ (goes_on t o None p e g r tt)
@@ -32,7 +32,7 @@ module _ (M : Machine) where
       room (inr long) (inr free) = goes_else t _ (goes_on t o (Some c) p e g r (inr free))
       room (inr long) (inl full) = full_else t (is_full t o c p e g r (long, full))
 
-  of_ask : (w : World M) (t : ℕ) (o : Open M) → w.active t ≡ Some o → (a : Ask Name Refusal) → ask (tx_of M t o) o.now.place (tables M w) ≡ a
+  of_ask : (w : World M) (t : ℕ) (o : Open M) → w.active t ≡ Some o → (a : Ask Name Refusal) → ask (tx_of M t o) o.now.position (tables M w) ≡ a
       → MayLackMemory M w t o a → Stands_for M w (Advance t)
   of_ask w t o e (Stop x) r h = stops_else t o x _ e h (stops t o x e r)
   of_ask w t o e Plain r h = of_deed w t o e (subst (IsGranted M w t) (sym r) h.0) _ refl h.2

@@ -4,7 +4,7 @@ use Rattle.oe_theory.specs.Machine.{Machine, Mode, Shared, Exclusive, Guard, Fre
 use Rattle.oe_theory.specs.World.{IsEnough, bump, State, Open, World, IsTerminal, tx_of, overlay, add, latest, counts_now, IsSerial}
 
 module _ (M : Machine) where
-  open M use {Map, Key, Change, Facet, is_key, row_at, key_of, row_of, put, facet_key, part, Name, is_name, governs, governs_part, Request, Query, Place, Reply, Refusal, start, ask, act, taken, whole, Good, terminal_limit}
+  open M use {Map, Key, Change, Facet, is_key, row_at, key_of, row_of, put, facet_key, part, Name, is_name, governs, governs_part, Request, Query, Position, Reply, Refusal, start, ask, act, taken, whole, Good, terminal_limit}
 
   -- some hold of the list is of this name, and enough for this mode
   abbrev pub Holds : List (Hold Name) → Name → Mode → Type 0
@@ -56,15 +56,15 @@ module _ (M : Machine) where
 
   -- where each program begins
   abbrev pub first : Tx Request → State M
-  first x = record { place = start x; changes = [] }
+  first x = record { position = start x; changes = [] }
 
   -- the program alone, from the map r, comes to this state by locks that are held
   pub data Reached (held : Name → Option Mode) (x : Tx Request) (r : Map) : State M → Type 0 where
     at_start : Reached held x r (first x)
-    one_more : (s : State M) (c : Option Change) (p : Place) → Reached held x r s
-        → IsAsked held (ask x s.place (overlay M s.changes r))
-        → act x s.place (overlay M s.changes r) ≡ Go c p
-        → Reached held x r (record { place = p; changes = add M c s.changes })
+    one_more : (s : State M) (c : Option Change) (p : Position) → Reached held x r s
+        → IsAsked held (ask x s.position (overlay M s.changes r))
+        → act x s.position (overlay M s.changes r) ≡ Go c p
+        → Reached held x r (record { position = p; changes = add M c s.changes })
 
   -- with each lock granted
   abbrev pub Alone : Tx Request → Map → State M → Type 0
@@ -92,13 +92,13 @@ module _ (M : Machine) where
   Fit Fits None r = Unit {0}
   Fit Fits (Some c) r = Fits c r
 
-  -- The program alone, from this place and map, each lock granted, ends with this map and reply, or with none and one of
+  -- The program alone, from this position and map, each lock granted, ends with this map and reply, or with none and one of
   -- these refusals; and each change that it makes fits the map on which it is made.
-  pub data Ends (x : Tx Request) (Only : Refusal → Type 0) (Fits : Change → Map → Type 0) : Place → Map → Option (Map × Reply) → Type 0 where
-    stops_here : (p : Place) (r : Map) (e : Refusal) → Only e → ask x p r ≡ Stop e → Ends x Only Fits p r None
-    fails_here : (p : Place) (r : Map) (e : Refusal) → Only e → IsAsked all_held (ask x p r) → act x p r ≡ Fail e → Ends x Only Fits p r None
-    ends_here : (p : Place) (r : Map) (reply : Reply) → IsAsked all_held (ask x p r) → act x p r ≡ Ready reply → Ends x Only Fits p r (Some (r, reply))
-    goes_here : (p : Place) (r : Map) (c : Option Change) (q : Place) (end : Option (Map × Reply)) → IsAsked all_held (ask x p r) → act x p r ≡ Go c q → Fit Fits c r
+  pub data Ends (x : Tx Request) (Only : Refusal → Type 0) (Fits : Change → Map → Type 0) : Position → Map → Option (Map × Reply) → Type 0 where
+    stops_here : (p : Position) (r : Map) (e : Refusal) → Only e → ask x p r ≡ Stop e → Ends x Only Fits p r None
+    fails_here : (p : Position) (r : Map) (e : Refusal) → Only e → IsAsked all_held (ask x p r) → act x p r ≡ Fail e → Ends x Only Fits p r None
+    ends_here : (p : Position) (r : Map) (reply : Reply) → IsAsked all_held (ask x p r) → act x p r ≡ Ready reply → Ends x Only Fits p r (Some (r, reply))
+    goes_here : (p : Position) (r : Map) (c : Option Change) (q : Position) (end : Option (Map × Reply)) → IsAsked all_held (ask x p r) → act x p r ≡ Go c q → Fit Fits c r
         → Ends x Only Fits q (after c r) end → Ends x Only Fits p r end
 
   -- what a machine has to meet
@@ -118,22 +118,22 @@ module _ (M : Machine) where
     pub name_refl : (a : Name) → is_name a a ≡ true
     -- programs, a row at a time
     pub start_takes : (x : Tx Request) → taken x (start x) ≡ []
-    pub ask_same : (x : Tx Request) (p : Place) (r s : Map) → Alike (Holds (taken x p)) x r s → ask x p r ≡ ask x p s
+    pub ask_same : (x : Tx Request) (p : Position) (r s : Map) → Alike (Holds (taken x p)) x r s → ask x p r ≡ ask x p s
     -- (these three where the row does not stop)
-    pub act_same : (x : Tx Request) (p : Place) (r s : Map) → IsAsked all_held (ask x p r) → Alike (Holds (with_asked (ask x p r) (taken x p))) x r s → act x p r ≡ act x p s
-    pub next_takes : (x : Tx Request) (p : Place) (r : Map) (c : Option Change) (q : Place) → IsAsked all_held (ask x p r) → act x p r ≡ Go c q
+    pub act_same : (x : Tx Request) (p : Position) (r s : Map) → IsAsked all_held (ask x p r) → Alike (Holds (with_asked (ask x p r) (taken x p))) x r s → act x p r ≡ act x p s
+    pub next_takes : (x : Tx Request) (p : Position) (r : Map) (c : Option Change) (q : Position) → IsAsked all_held (ask x p r) → act x p r ≡ Go c q
         → (n : Name) (m : Mode) → Holds (taken x q) n m → Holds (with_asked (ask x p r) (taken x p)) n m
-    pub may_write : (x : Tx Request) (p : Place) (r : Map) (c : Change) (q : Place) → IsAsked all_held (ask x p r) → act x p r ≡ Go (Some c) q
+    pub may_write : (x : Tx Request) (p : Position) (r : Map) (c : Change) (q : Position) → IsAsked all_held (ask x p r) → act x p r ≡ Go (Some c) q
         → MayWrite (Holds (with_asked (ask x p r) (taken x p))) x (governs (key_of c))
     -- (and this one where the program alone may come to the row)
-    pub keeps_part : (x : Tx Request) (r : Map) (s : State M) (c : Change) (q : Place) → Alone x r s
-        → IsAsked all_held (ask x s.place (overlay M s.changes r))
-        → act x s.place (overlay M s.changes r) ≡ Go (Some c) q
+    pub keeps_part : (x : Tx Request) (r : Map) (s : State M) (c : Change) (q : Position) → Alone x r s
+        → IsAsked all_held (ask x s.position (overlay M s.changes r))
+        → act x s.position (overlay M s.changes r) ≡ Go (Some c) q
         → (f : Facet) → facet_key f ≡ key_of c
         → (part f (row_of c) ≡ part f (row_at (overlay M s.changes r) (key_of c)))
-        ⊎ MayWrite (Holds (with_asked (ask x s.place (overlay M s.changes r)) (taken x s.place))) x (governs_part f)
+        ⊎ MayWrite (Holds (with_asked (ask x s.position (overlay M s.changes r)) (taken x s.position))) x (governs_part f)
     -- whether the tables accept a row's change is the same where what may be read is alike
-    pub accepts_same : (x : Tx Request) (p : Place) (r s : Map) (c : Change) (q : Place) → IsAsked all_held (ask x p r) → Alike (Holds (with_asked (ask x p r) (taken x p))) x r s
+    pub accepts_same : (x : Tx Request) (p : Position) (r s : Map) (c : Change) (q : Position) → IsAsked all_held (ask x p r) → Alike (Holds (with_asked (ask x p r) (taken x p))) x r s
         → act x p r ≡ Go (Some c) q → M.Accepts c r → M.Accepts c s
     -- what a request or a query is rejected for reads what never changes
     pub rejection_same : (q : Request) (r s : Map) → IsSameEver r s → M.rejection q r ≡ M.rejection q s

@@ -20,10 +20,10 @@ pub data Ask (Name Refusal : Type 0) : Type 0 where
   Take : Name → Mode → Ask Name Refusal
 
 -- what a row of a program does: it may fail, make at most one change and go on, or be ready
-pub data Act (Change Place Reply Refusal : Type 0) : Type 0 where
-  Fail : Refusal → Act Change Place Reply Refusal
-  Go : Option Change → Place → Act Change Place Reply Refusal
-  Ready : Reply → Act Change Place Reply Refusal
+pub data Act (Change Position Reply Refusal : Type 0) : Type 0 where
+  Fail : Refusal → Act Change Position Reply Refusal
+  Go : Option Change → Position → Act Change Position Reply Refusal
+  Ready : Reply → Act Change Position Reply Refusal
 
 -- what a query comes to on a version
 pub data Outcome (Found Refusal : Type 0) : Type 0 where
@@ -77,19 +77,19 @@ pub record Machine : Type 1 where
   pub governs_part : Facet → Guard Name
   -- programs
   pub Request : Type 0
-  pub Place : Type 0
+  pub Position : Type 0
   pub Reply : Type 0
   pub Refusal : Type 0
   -- a request within the ranges of what terminals may ask for, and the refusals that its program may end with
   pub IsRequest : Request → Type 0
   pub MayRefuse : Request → Refusal → Type 0
-  pub start : Tx Request → Place
-  pub ask : Tx Request → Place → Map → Ask Name Refusal
-  pub act : Tx Request → Place → Map → Act Change Place Reply Refusal
-  -- the row at this place first moves the transaction's mark here
-  pub marks : Place → Bool
-  -- the locks that were taken on the way to this place
-  pub taken : Tx Request → Place → List (Hold Name)
+  pub start : Tx Request → Position
+  pub ask : Tx Request → Position → Map → Ask Name Refusal
+  pub act : Tx Request → Position → Map → Act Change Position Reply Refusal
+  -- the row at this position first moves the transaction's mark here
+  pub marks : Position → Bool
+  -- the locks that were taken on the way to this position
+  pub taken : Tx Request → Position → List (Hold Name)
   -- the whole effect at once
   pub whole : Tx Request → Map → Option (Map × Reply)
   -- what holds of the tables between transactions, with the number of commits of each terminal
@@ -97,9 +97,9 @@ pub record Machine : Type 1 where
   -- why a request is turned away before anything else is looked at, and why a transaction of this number can't begin
   pub rejection : Request → Map → Option Refusal
   pub number_rejection : ℕ → Option Refusal
-  -- memory: the row at this place may need some beyond its lock's, and a want of it may stand in this refusal's place
-  pub may_allocate : Tx Request → Place → Bool
-  pub yields : Tx Request → Place → Refusal → Bool
+  -- memory: the row at this position may need some beyond its lock's, and a want of it may stand in this refusal's place
+  pub may_allocate : Tx Request → Position → Bool
+  pub yields : Tx Request → Position → Refusal → Bool
   -- reads: why a query is turned away, and what it comes to; and audits
   pub Query : Type 0
   pub Found : Type 0
@@ -143,7 +143,7 @@ with_lengths M f =
       governs = M.governs;
       governs_part = M.governs_part;
       Request = M.Request;
-      Place = M.Place;
+      Position = M.Position;
       Reply = M.Reply;
       Refusal = M.Refusal;
       IsRequest = M.IsRequest;

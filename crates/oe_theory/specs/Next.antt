@@ -4,7 +4,7 @@ use Rattle.oe_theory.specs.Machine.{Machine, Mode, Ask, Stop, Plain, Take, Act, 
 use Rattle.oe_theory.specs.World.{go_together, risen, set, State, Open, Commit, World, IsTerminal, tx_of, add, counts_after, horizon, newest, at, number, tables}
 
 module _ (M : Machine) where
-  open M use {Map, Change, Record, row_at, key_of, record_of, size_of, extent, Name, is_name, Request, Place, Reply, Refusal, start, ask, act, marks, rejection, number_rejection, may_allocate, yields, Query, Found, query_rejection, find, Condition, Verdict, verdict, terminal_limit}
+  open M use {Map, Change, Record, row_at, key_of, record_of, size_of, extent, Name, is_name, Request, Position, Reply, Refusal, start, ask, act, marks, rejection, number_rejection, may_allocate, yields, Query, Found, query_rejection, find, Condition, Verdict, verdict, terminal_limit}
 
   -- steps and answers
   pub data Step : Type 0 where
@@ -49,7 +49,7 @@ module _ (M : Machine) where
   -- a transaction that has just begun
   abbrev pub begun : World M → ℕ → Request → Open M
   begun w t q =
-      let first : State M = record { place = start (record { terminal = t; number = number M w t; request = q }); changes = [] } in
+      let first : State M = record { position = start (record { terminal = t; number = number M w t; request = q }); changes = [] } in
       record { number = number M w t; request = q; now = first; mark = first; held = λ _. None; lengths = []; mark_lengths = [] }
 
   -- the locks after what was asked for was granted
@@ -68,16 +68,16 @@ module _ (M : Machine) where
   add_length (Some c) r ls = size_of (record_on c r) ∷ ls
 
   -- the transaction after a row; where the row begins at a mark of the program's own, the mark has moved there first
-  abbrev pub moved : Open M → Ask Name Refusal → Option Change → Place → Map → Open M
+  abbrev pub moved : Open M → Ask Name Refusal → Option Change → Position → Map → Open M
   moved o a c p r =
       record {
         number = o.number;
         request = o.request;
-        now = record { place = p; changes = add M c o.now.changes };
-        mark = cond (marks o.now.place) o.now o.mark;
+        now = record { position = p; changes = add M c o.now.changes };
+        mark = cond (marks o.now.position) o.now o.mark;
         held = held_after a o.held;
         lengths = add_length c r o.lengths;
-        mark_lengths = cond (marks o.now.place) o.lengths o.mark_lengths;
+        mark_lengths = cond (marks o.now.position) o.lengths o.mark_lengths;
       }
 
   -- how many extents records of these lengths fill in order, and how much is left of the last one
@@ -138,17 +138,17 @@ module _ (M : Machine) where
   IsNew held (Take n m) = held n ≡ None
 
   -- a want of memory may be answered in place of this deed: of one that goes on, with room or not, or of a refusal that yields
-  abbrev pub GivesWay : (Refusal → Bool) → Act Change Place Reply Refusal → Type 0
+  abbrev pub GivesWay : (Refusal → Bool) → Act Change Position Reply Refusal → Type 0
   GivesWay f (Fail e) = f e ≡ true
   GivesWay f (Go c p) = Unit {0}
   GivesWay f (Ready y) = ⊥
 
   -- and so it may be in place of this row
   abbrev pub MayLackMemory : World M → ℕ → Open M → Ask Name Refusal → Type 0
-  MayLackMemory w t o (Stop e) = yields (tx_of M t o) o.now.place e ≡ true
+  MayLackMemory w t o (Stop e) = yields (tx_of M t o) o.now.position e ≡ true
   MayLackMemory w t o a =
-      IsGranted w t a × (IsNew o.held a ⊎ (may_allocate (tx_of M t o) o.now.place ≡ true))
-      × GivesWay (yields (tx_of M t o) o.now.place) (act (tx_of M t o) o.now.place (tables M w))
+      IsGranted w t a × (IsNew o.held a ⊎ (may_allocate (tx_of M t o) o.now.position ≡ true))
+      × GivesWay (yields (tx_of M t o) o.now.position) (act (tx_of M t o) o.now.position (tables M w))
 
   -- the world after a commit
   abbrev pub committed : World M → ℕ → Open M → Reply → World M
@@ -226,14 +226,14 @@ module _ (M : Machine) where
   -- From w the step may be answered so, and leave the last world.
   pub data Next (w : World M) : Step → Answer → World M → Type 0 where
     begins : (t : ℕ) (q : Request) → MayBegin w t q → Next w (Begin t q) Begun (put_active t (Some (begun w t q)) w)
-    goes_on : (t : ℕ) (o : Open M) (c : Option Change) (p : Place) → w.active t ≡ Some o
-        → IsGranted w t (ask (tx_of M t o) o.now.place (tables M w))
-        → act (tx_of M t o) o.now.place (tables M w) ≡ Go c p
+    goes_on : (t : ℕ) (o : Open M) (c : Option Change) (p : Position) → w.active t ≡ Some o
+        → IsGranted w t (ask (tx_of M t o) o.now.position (tables M w))
+        → act (tx_of M t o) o.now.position (tables M w) ≡ Go c p
         → HasRoom w o c
-        → Next w (Advance t) More (put_active t (Some (moved o (ask (tx_of M t o) o.now.place (tables M w)) c p (tables M w))) w)
+        → Next w (Advance t) More (put_active t (Some (moved o (ask (tx_of M t o) o.now.position (tables M w)) c p (tables M w))) w)
     commits : (t : ℕ) (o : Open M) (reply : Reply) → w.active t ≡ Some o
-        → IsGranted w t (ask (tx_of M t o) o.now.place (tables M w))
-        → act (tx_of M t o) o.now.place (tables M w) ≡ Ready reply
+        → IsGranted w t (ask (tx_of M t o) o.now.position (tables M w))
+        → act (tx_of M t o) o.now.position (tables M w) ≡ Ready reply
         → Next w (Advance t) (Committed (suc (newest M w)) reply) (committed w t o reply)
     saves : (t : ℕ) (o : Open M) → w.active t ≡ Some o → Next w (Save t) Saved (put_active t (Some (record o { mark = o.now; mark_lengths = o.lengths })) w)
     goes_back : (t : ℕ) (o : Open M) → w.active t ≡ Some o → Next w (Back t) Gone_back (put_active t (Some (record o { now = o.mark; lengths = o.mark_lengths })) w)
@@ -246,20 +246,20 @@ module _ (M : Machine) where
     rewinds : (m : ℕ) → IsQuiet w → horizon M w ≤ m → m ≤ newest M w → Next w (Rewind m) (Rewound m) (rewound w m)
     -- refusals that roll the transaction back
     stops : (t : ℕ) (o : Open M) (e : Refusal) → w.active t ≡ Some o
-        → ask (tx_of M t o) o.now.place (tables M w) ≡ Stop e
+        → ask (tx_of M t o) o.now.position (tables M w) ≡ Stop e
         → Next w (Advance t) (Aborted e) (put_active t None w)
     fails : (t : ℕ) (o : Open M) (e : Refusal) → w.active t ≡ Some o
-        → IsGranted w t (ask (tx_of M t o) o.now.place (tables M w))
-        → act (tx_of M t o) o.now.place (tables M w) ≡ Fail e
+        → IsGranted w t (ask (tx_of M t o) o.now.position (tables M w))
+        → act (tx_of M t o) o.now.position (tables M w) ≡ Fail e
         → Next w (Advance t) (Aborted e) (put_active t None w)
     -- refusals that change nothing
     is_busy : (t : ℕ) (o : Open M) (n : Name) (m : Mode) (u : ℕ) → w.active t ≡ Some o
-        → ask (tx_of M t o) o.now.place (tables M w) ≡ Take n m
+        → ask (tx_of M t o) o.now.position (tables M w) ≡ Take n m
         → IsInTheWay w t n m u
         → Next w (Advance t) (Busy n u) w
-    is_full : (t : ℕ) (o : Open M) (c : Change) (p : Place) → w.active t ≡ Some o
-        → IsGranted w t (ask (tx_of M t o) o.now.place (tables M w))
-        → act (tx_of M t o) o.now.place (tables M w) ≡ Go (Some c) p
+    is_full : (t : ℕ) (o : Open M) (c : Change) (p : Position) → w.active t ≡ Some o
+        → IsGranted w t (ask (tx_of M t o) o.now.position (tables M w))
+        → act (tx_of M t o) o.now.position (tables M w) ≡ Go (Some c) p
         → IsFull w o c
         → Next w (Advance t) Undo_full w
     is_rejected : (t : ℕ) (q : Request) (e : Refusal) → rejection q (tables M w) ≡ Some e → Next w (Begin t q) (Rejected e) w
@@ -277,7 +277,7 @@ module _ (M : Machine) where
     not_quiet : (m : ℕ) (n : ℕ) → count_open w.active terminal_limit ≡ suc n → Next w (Rewind m) (Not_quiet (suc n)) w
     -- wants of memory, which change nothing
     lacks_memory_at_begin : (t : ℕ) (q : Request) → MayBegin w t q → Next w (Begin t q) No_memory w
-    lacks_memory : (t : ℕ) (o : Open M) → w.active t ≡ Some o → MayLackMemory w t o (ask (tx_of M t o) o.now.place (tables M w)) → Next w (Advance t) No_memory w
+    lacks_memory : (t : ℕ) (o : Open M) → w.active t ≡ Some o → MayLackMemory w t o (ask (tx_of M t o) o.now.position (tables M w)) → Next w (Advance t) No_memory w
 
   -- these steps, so answered, lead from w to the last world
   abbrev pub Runs : World M → List Step → List Answer → World M → Type 0

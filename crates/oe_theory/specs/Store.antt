@@ -6,15 +6,15 @@ use Rattle.oe_theory.specs.Next.{record_on, filled, held_after, IsNew, GivesWay,
 use Rattle.oe_theory.specs.Undo.{Undo, lengths_of, unwind, unwind_open, unwind_commits, no_records, put_records, used_of}
 
 module _ (M : Machine) where
-  open M use {Map, Change, Record, Name, Request, Place, Reply, Refusal, put, put_back, redo, size_of, start, act, marks, rejection, number_rejection, query_rejection, may_allocate, yields, terminal_limit}
+  open M use {Map, Change, Record, Name, Request, Position, Reply, Refusal, put, put_back, redo, size_of, start, act, marks, rejection, number_rejection, query_rejection, may_allocate, yields, terminal_limit}
 
   -- of an open transaction, beside its records
   pub record Slot : Type 0 where
     pub number : ℕ
     pub request : Request
-    pub place : Place
-    -- its mark: the place, and the number of records there
-    pub mark_place : Place
+    pub position : Position
+    -- its mark: the position, and the number of records there
+    pub mark_position : Position
     pub mark_count : ℕ
     pub held : Name → Option Mode
 
@@ -51,8 +51,8 @@ module _ (M : Machine) where
       record {
         number = p.number;
         request = p.request;
-        now = record { place = p.place; changes = changes_of bs r };
-        mark = record { place = p.mark_place; changes = drop (length bs - p.mark_count) (changes_of bs r) };
+        now = record { position = p.position; changes = changes_of bs r };
+        mark = record { position = p.mark_position; changes = drop (length bs - p.mark_count) (changes_of bs r) };
         held = p.held;
         lengths = lengths_of M bs;
         mark_lengths = drop (length bs - p.mark_count) (lengths_of M bs);
@@ -102,7 +102,7 @@ module _ (M : Machine) where
   abbrev pub slot_of : Option (Open M) → Option Slot
   slot_of None = None
   slot_of (Some o) =
-      Some (record { number = o.number; request = o.request; place = o.now.place; mark_place = o.mark.place; mark_count = length o.mark.changes; held = o.held })
+      Some (record { number = o.number; request = o.request; position = o.now.position; mark_position = o.mark.position; mark_count = length o.mark.changes; held = o.held })
 
   -- of commits
   abbrev pub seals_of : List (Commit M) → List Seal
@@ -145,8 +145,8 @@ module _ (M : Machine) where
   -- a transaction at its first row
   abbrev pub first_slot : Store → ℕ → Request → Slot
   first_slot s t q =
-      let p : Place = start (record { terminal = t; number = suc (s.counts t); request = q }) in
-      record { number = suc (s.counts t); request = q; place = p; mark_place = p; mark_count = 0; held = λ _. None }
+      let p : Position = start (record { terminal = t; number = suc (s.counts t); request = q }) in
+      record { number = suc (s.counts t); request = q; position = p; mark_position = p; mark_count = 0; held = λ _. None }
 
   -- a transaction rolled back: its records put back, and its slot empty
   abbrev pub dropped : ℕ → Store → Store
@@ -163,19 +163,19 @@ module _ (M : Machine) where
   with_change_of (Some c) r = put c r
 
   -- the slot after a row, where n records stood before it; where the row begins at a mark of the program's own, the mark has moved there
-  abbrev pub slot_after : Slot → ℕ → Ask Name Refusal → Place → Slot
+  abbrev pub slot_after : Slot → ℕ → Ask Name Refusal → Position → Slot
   slot_after p n a q =
       record {
         number = p.number;
         request = p.request;
-        place = q;
-        mark_place = cond (marks p.place) p.place p.mark_place;
-        mark_count = cond (marks p.place) n p.mark_count;
+        position = q;
+        mark_position = cond (marks p.position) p.position p.mark_position;
+        mark_count = cond (marks p.position) n p.mark_count;
         held = held_after M a p.held;
       }
 
   -- a transaction that went on: its change made and recorded, and its slot moved
-  abbrev pub went_on : ℕ → Slot → Ask Name Refusal → Option Change → Place → Store → Store
+  abbrev pub went_on : ℕ → Slot → Ask Name Refusal → Option Change → Position → Store → Store
   went_on t p a c q s =
       record s {
         tables = with_change_of c s.tables;
@@ -203,12 +203,12 @@ module _ (M : Machine) where
       record s {
         tables = unwind M (take (count_since t p s) (s.undo.active t)) s.tables;
         undo = put_records M t (drop (count_since t p s) (s.undo.active t)) s.undo;
-        slots = set t (Some (record p { place = p.mark_place })) s.slots;
+        slots = set t (Some (record p { position = p.mark_position })) s.slots;
       }
 
   -- a transaction's mark set where it stands
   abbrev pub marked : ℕ → Slot → Store → Store
-  marked t p s = put_slot t (Some (record p { mark_place = p.place; mark_count = length (s.undo.active t) })) s
+  marked t p s = put_slot t (Some (record p { mark_position = p.position; mark_count = length (s.undo.active t) })) s
 
   -- the records and seals of the commits up to a moment gone
   abbrev pub purged_to : ℕ → Store → Store
@@ -274,10 +274,10 @@ module _ (M : Machine) where
 
   -- a want of memory may be answered in place of the row of this slot, which asks so
   abbrev pub MayLackMemoryIn : Store → ℕ → Slot → Ask Name Refusal → Type 0
-  MayLackMemoryIn s t p (Stop e) = yields (tx_in t p) p.place e ≡ true
+  MayLackMemoryIn s t p (Stop e) = yields (tx_in t p) p.position e ≡ true
   MayLackMemoryIn s t p a =
-      IsGrantedIn s.slots t a × (IsNew M p.held a ⊎ (may_allocate (tx_in t p) p.place ≡ true))
-      × GivesWay M (yields (tx_in t p) p.place) (act (tx_in t p) p.place s.tables)
+      IsGrantedIn s.slots t a × (IsNew M p.held a ⊎ (may_allocate (tx_in t p) p.position ≡ true))
+      × GivesWay M (yields (tx_in t p) p.position) (act (tx_in t p) p.position s.tables)
 
   -- no transaction is open
   abbrev pub IsQuietIn : (ℕ → Option Slot) → Type 0

@@ -62,11 +62,11 @@ module _ (M : Machine) where
   -- a row whose lock is granted makes its change, if it makes one and its record has room, and the transaction goes on
   abbrev pub Goes_on_here : Type 0
   Goes_on_here =
-      (s : Store M) (t : ℕ) (p : Slot M) (c : Option M.Change) (q : M.Place) → IsStanding s → s.slots t ≡ Some p
-      → IsGrantedIn M s.slots t (M.ask (tx_in M t p) p.place s.tables)
-      → M.act (tx_in M t p) p.place s.tables ≡ Go c q
+      (s : Store M) (t : ℕ) (p : Slot M) (c : Option M.Change) (q : M.Position) → IsStanding s → s.slots t ≡ Some p
+      → IsGrantedIn M s.slots t (M.ask (tx_in M t p) p.position s.tables)
+      → M.act (tx_in M t p) p.position s.tables ≡ Go c q
       → HasRoomIn M s t c
-      → Leads s (Advance t) More (went_on M t p (M.ask (tx_in M t p) p.place s.tables) c q s)
+      → Leads s (Advance t) More (went_on M t p (M.ask (tx_in M t p) p.position s.tables) c q s)
 
   -- where no record takes room there is always some
   abbrev pub Is_room_here : Type 0
@@ -76,39 +76,39 @@ module _ (M : Machine) where
   abbrev pub Commits_here : Type 0
   Commits_here =
       (s : Store M) (t : ℕ) (p : Slot M) (reply : M.Reply) → IsStanding s → s.slots t ≡ Some p
-      → IsGrantedIn M s.slots t (M.ask (tx_in M t p) p.place s.tables)
-      → M.act (tx_in M t p) p.place s.tables ≡ Ready reply
+      → IsGrantedIn M s.slots t (M.ask (tx_in M t p) p.position s.tables)
+      → M.act (tx_in M t p) p.position s.tables ≡ Ready reply
       → Leads s (Advance t) (Committed (suc (newest_of M s)) reply) (sealed M t p reply s)
 
   -- a row that stops before its lock rolls its transaction back
   abbrev pub Stops_here : Type 0
   Stops_here =
       (s : Store M) (t : ℕ) (p : Slot M) (e : M.Refusal) → IsStanding s → s.slots t ≡ Some p
-      → M.ask (tx_in M t p) p.place s.tables ≡ Stop e
+      → M.ask (tx_in M t p) p.position s.tables ≡ Stop e
       → Leads s (Advance t) (Aborted e) (dropped M t s)
 
   -- and so does one that fails
   abbrev pub Fails_here : Type 0
   Fails_here =
       (s : Store M) (t : ℕ) (p : Slot M) (e : M.Refusal) → IsStanding s → s.slots t ≡ Some p
-      → IsGrantedIn M s.slots t (M.ask (tx_in M t p) p.place s.tables)
-      → M.act (tx_in M t p) p.place s.tables ≡ Fail e
+      → IsGrantedIn M s.slots t (M.ask (tx_in M t p) p.position s.tables)
+      → M.act (tx_in M t p) p.position s.tables ≡ Fail e
       → Leads s (Advance t) (Aborted e) (dropped M t s)
 
   -- a lock that another transaction has is refused with the least terminal that is in the way, and nothing changes
   abbrev pub Is_busy_here : Type 0
   Is_busy_here =
       (s : Store M) (t : ℕ) (p : Slot M) (n : M.Name) (m : Mode) (u : ℕ) → IsStanding s → s.slots t ≡ Some p
-      → M.ask (tx_in M t p) p.place s.tables ≡ Take n m
+      → M.ask (tx_in M t p) p.position s.tables ≡ Take n m
       → IsInTheWayIn M s.slots t n m u
       → Leads s (Advance t) (Busy n u) s
 
   -- a change whose record has no room is not made
   abbrev pub Is_full_here : Type 0
   Is_full_here =
-      (s : Store M) (t : ℕ) (p : Slot M) (c : M.Change) (q : M.Place) → IsStanding s → s.slots t ≡ Some p
-      → IsGrantedIn M s.slots t (M.ask (tx_in M t p) p.place s.tables)
-      → M.act (tx_in M t p) p.place s.tables ≡ Go (Some c) q
+      (s : Store M) (t : ℕ) (p : Slot M) (c : M.Change) (q : M.Position) → IsStanding s → s.slots t ≡ Some p
+      → IsGrantedIn M s.slots t (M.ask (tx_in M t p) p.position s.tables)
+      → M.act (tx_in M t p) p.position s.tables ≡ Go (Some c) q
       → IsFullIn M s t c
       → Leads s (Advance t) Undo_full s
 
@@ -116,7 +116,7 @@ module _ (M : Machine) where
   abbrev pub Lacks_memory_here : Type 0
   Lacks_memory_here =
       (s : Store M) (t : ℕ) (p : Slot M) → IsStanding s → s.slots t ≡ Some p
-      → MayLackMemoryIn M s t p (M.ask (tx_in M t p) p.place s.tables)
+      → MayLackMemoryIn M s t p (M.ask (tx_in M t p) p.position s.tables)
       → Leads s (Advance t) No_memory s
 
   -- the mark moves to where the transaction stands
@@ -269,14 +269,14 @@ module _ (M : Machine) where
   abbrev pub Store_is_orderly : Type 0
   Store_is_orderly = (s : Store M) → IsStanding s → Is_orderly s
 
-  -- an open transaction's program alone, from the newest version, comes to its place, and finds there what it finds in the tables
+  -- an open transaction's program alone, from the newest version, comes to its position, and finds there what it finds in the tables
   pub record Is_alone (s : Store M) (t : ℕ) (p : Slot M) : Type 0 where
     pub known : M.rejection p.request (newest_version M s) ≡ None
     pub good : IsGood M s.counts (tx_in M t p) (newest_version M s)
-    pub alone : Alone M (tx_in M t p) (newest_version M s) (record { place = p.place; changes = changes_of M (s.undo.active t) s.tables })
-    pub asks : M.ask (tx_in M t p) p.place s.tables ≡ M.ask (tx_in M t p) p.place (overlay M (changes_of M (s.undo.active t) s.tables) (newest_version M s))
-    pub acts : IsGrantedIn M s.slots t (M.ask (tx_in M t p) p.place s.tables)
-        → M.act (tx_in M t p) p.place s.tables ≡ M.act (tx_in M t p) p.place (overlay M (changes_of M (s.undo.active t) s.tables) (newest_version M s))
+    pub alone : Alone M (tx_in M t p) (newest_version M s) (record { position = p.position; changes = changes_of M (s.undo.active t) s.tables })
+    pub asks : M.ask (tx_in M t p) p.position s.tables ≡ M.ask (tx_in M t p) p.position (overlay M (changes_of M (s.undo.active t) s.tables) (newest_version M s))
+    pub acts : IsGrantedIn M s.slots t (M.ask (tx_in M t p) p.position s.tables)
+        → M.act (tx_in M t p) p.position s.tables ≡ M.act (tx_in M t p) p.position (overlay M (changes_of M (s.undo.active t) s.tables) (newest_version M s))
 
   -- for each open transaction
   abbrev pub Runs_alone_here : Type 0

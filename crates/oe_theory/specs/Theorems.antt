@@ -75,9 +75,9 @@ module _ (M : Machine) where
     pub good : IsGood M (counts_now M w) (tx_of M t was) (latest M w)
     pub alone : Alone M (tx_of M t was) (latest M w) was.now
     pub cause : M.MayRefuse was.request e
-    pub refuses : (M.ask (tx_of M t was) was.now.place (overlay M was.now.changes (latest M w)) ≡ Stop e)
-        ⊎ (IsAsked M (all_held M) (M.ask (tx_of M t was) was.now.place (overlay M was.now.changes (latest M w)))
-        × (M.act (tx_of M t was) was.now.place (overlay M was.now.changes (latest M w)) ≡ Fail e))
+    pub refuses : (M.ask (tx_of M t was) was.now.position (overlay M was.now.changes (latest M w)) ≡ Stop e)
+        ⊎ (IsAsked M (all_held M) (M.ask (tx_of M t was) was.now.position (overlay M was.now.changes (latest M w)))
+        × (M.act (tx_of M t was) was.now.position (overlay M was.now.changes (latest M w)) ≡ Fail e))
 
   -- at each refusal that ends a transaction
   abbrev pub Abort_is_its_own : Type 0
@@ -86,9 +86,9 @@ module _ (M : Machine) where
   -- the tables accept each change that a row makes, beside others' open work
   abbrev pub Changes_are_accepted : Type 0
   Changes_are_accepted =
-      (w : World M) (t : ℕ) (o : Open M) (c : M.Change) (p : M.Place) → IsReached w → w.active t ≡ Some o
-      → IsGranted M w t (M.ask (tx_of M t o) o.now.place (tables M w))
-      → M.act (tx_of M t o) o.now.place (tables M w) ≡ Go (Some c) p
+      (w : World M) (t : ℕ) (o : Open M) (c : M.Change) (p : M.Position) → IsReached w → w.active t ≡ Some o
+      → IsGranted M w t (M.ask (tx_of M t o) o.now.position (tables M w))
+      → M.act (tx_of M t o) o.now.position (tables M w) ≡ Go (Some c) p
       → M.Accepts c (tables M w)
 
   -- the history is that of its transactions run one at a time, each on the version before it, with its reply
@@ -178,8 +178,8 @@ module _ (M : Machine) where
     pub was : Open M
     pub is_open : w.active t ≡ Some was
     pub change : M.Change
-    pub place : M.Place
-    pub makes : M.act (tx_of M t was) was.now.place (tables M w) ≡ Go (Some change) place
+    pub position : M.Position
+    pub makes : M.act (tx_of M t was) was.now.position (tables M w) ≡ Go (Some change) position
     pub too_long : (filled M was.lengths).1 < M.size_of (record_on M change (tables M w))
     pub all_used : used M w ≡ w.extents
 
@@ -228,7 +228,7 @@ module _ (M : Machine) where
     begins_else : (t : ℕ) (q : M.Request) (v : World M) → Next M w (Begin t q) Begun v → Stands_for w (Begin t q)
     goes_else : (t : ℕ) (v : World M) → Next M w (Advance t) More v → Stands_for w (Advance t)
     full_else : (t : ℕ) → Next M w (Advance t) Undo_full w → Stands_for w (Advance t)
-    stops_else : (t : ℕ) (o : Open M) (e : M.Refusal) (v : World M) → w.active t ≡ Some o → M.yields (tx_of M t o) o.now.place e ≡ true
+    stops_else : (t : ℕ) (o : Open M) (e : M.Refusal) (v : World M) → w.active t ≡ Some o → M.yields (tx_of M t o) o.now.position e ≡ true
         → Next M w (Advance t) (Aborted e) v → Stands_for w (Advance t)
 
   -- a want of memory is answered only so

@@ -6,7 +6,7 @@ use Rattle.oe_theory.specs.Next.{record_on, filled, Step, Advance, Back, Rollbac
 use Rattle.oe_theory.specs.Laws.{Alone}
 
 module _ (M : Machine) where
-  open M use {Map, Key, Row, Change, Record, Place, Reply, Refusal, is_key, record_key, restore, put_back, size_of, act, whole, terminal_limit}
+  open M use {Map, Key, Row, Change, Record, Position, Reply, Refusal, is_key, record_key, restore, put_back, size_of, act, whole, terminal_limit}
 
   -- the records that are stored: of each open transaction and of each commit, the newest first in each
   pub record Undo : Type 0 where
@@ -103,7 +103,7 @@ module _ (M : Machine) where
   pub record IsOfCommit (r : Map) (c : Commit M) (bs : List Record) : Type 0 where
     pub last : State M
     pub alone : Alone M c.tx r last
-    pub ready : act c.tx last.place (overlay M last.changes r) ≡ Ready c.reply
+    pub ready : act c.tx last.position (overlay M last.changes r) ≡ Ready c.reply
     pub effect : whole c.tx r ≡ Some (overlay M last.changes r, c.reply)
     pub records : bs ≡ records_of r last.changes
     pub lengths : c.lengths ≡ lengths_of bs
@@ -146,7 +146,7 @@ module _ (M : Machine) where
   no_records = record { active = λ _. []; history = [] }
 
   -- what a step does to the store
-  abbrev pub with_record : Act Change Place Reply Refusal → Map → List Record → List Record
+  abbrev pub with_record : Act Change Position Reply Refusal → Map → List Record → List Record
   with_record (Go (Some c) p) r bs = record_on M c r ∷ bs
   with_record (Go None p) r bs = bs
   with_record (Fail e) r bs = bs
@@ -155,7 +155,7 @@ module _ (M : Machine) where
   -- the records of a terminal after a row that went on
   abbrev pub pushed : World M → ℕ → Option (Open M) → List Record → List Record
   pushed w t None bs = bs
-  pushed w t (Some o) bs = with_record (act (tx_of M t o) o.now.place (tables M w)) (tables M w) bs
+  pushed w t (Some o) bs = with_record (act (tx_of M t o) o.now.position (tables M w)) (tables M w) bs
 
   -- the records at the mark
   abbrev pub cut : Option (Open M) → List Record → List Record
@@ -178,7 +178,7 @@ module _ (M : Machine) where
   undo_after w u a i = u
 
   -- what a step does to the tables, in place
-  abbrev pub with_change : Act Change Place Reply Refusal → Map → Map
+  abbrev pub with_change : Act Change Position Reply Refusal → Map → Map
   with_change (Go (Some c) p) r = M.put c r
   with_change (Go None p) r = r
   with_change (Fail e) r = r
@@ -187,7 +187,7 @@ module _ (M : Machine) where
   -- the tables after a terminal's row that went on
   abbrev pub changed : World M → ℕ → Option (Open M) → Map
   changed w t None = tables M w
-  changed w t (Some o) = with_change (act (tx_of M t o) o.now.place (tables M w)) (tables M w)
+  changed w t (Some o) = with_change (act (tx_of M t o) o.now.position (tables M w)) (tables M w)
 
   -- a terminal's records since its mark
   abbrev pub since_mark : Option (Open M) → List Record → List Record

@@ -22,7 +22,7 @@ risen Exclusive old = Exclusive
 risen Shared None = Shared
 risen Shared (Some m) = m
 
--- the function with one place changed
+-- the function with one value changed
 abbrev pub set : {A : Type 0} → ℕ → A → (ℕ → A) → ℕ → A
 set t v f u = cond (u == t) v (f u)
 
@@ -36,11 +36,11 @@ total zero f = 0
 total (suc n) f = total n f + f n
 
 module _ (M : Machine) where
-  open M use {Map, Key, Row, Change, is_key, key_of, row_of, put, Name, Request, Place, Reply, IsRequest, whole, rejection, first_terminal, terminal_limit}
+  open M use {Map, Key, Row, Change, is_key, key_of, row_of, put, Name, Request, Position, Reply, IsRequest, whole, rejection, first_terminal, terminal_limit}
 
   -- where a program is, and what it has changed
   pub record State : Type 0 where
-    pub place : Place
+    pub position : Position
     -- newest first
     pub changes : List Change
 

@@ -1,9 +1,10 @@
 -- What each call makes of the log, in the words of the theory of transactions.
-use Rattle.std.proofs.Common.{◌≡◌, ℕ, suc, zero, add-one, add-zero, ◌+◌, ◌-◌, ◌<◌, ◌≤◌, ◌==◌, refl, sym, ap, ◌∙◌, subst, inl, inr, arith, cond, List, [], ◌∷◌, length, get_or, set, take, drop, Option, None, Some, is_some}
+use Rattle.std.proofs.Common.{◌≡◌, ℕ, suc, zero, add-one, add-zero, ◌+◌, ◌-◌, ◌<◌, ◌≤◌, ◌==◌, Bool, true, false, refl, sym, ap, ◌∙◌, subst, inl, inr, arith, cond, List, [], ◌∷◌, length, map, get_or, set, take, drop, Option, None, Some, is_some}
 use mathlib.Core.Path.{fun_ext}
 use Rattle.std.specs.List.{sum_by, count_by}
 use Rattle.std.proofs.lemmas.Bool.{cases_eq, cases_lt, eq-eqb, ne_eqb, cond-true, cond-false}
-use Rattle.std.proofs.lemmas.List.{get_or-set_same, get_or-set_other, get_or_past, set_past, take_all, length-map}
+use Rattle.std.proofs.lemmas.List.{get_or-set_same, get_or-set_other, get_or_past, set_past, take_all, length-map, take-map}
+use Rattle.std.proofs.Math.Seq.{drop-nil, take-nil}
 use Rattle.std.proofs.lemmas.List.Sums.{sum_by_more}
 use Rattle.oe_requests.specs.declared.requests.Request.{Request}
 use Rattle.oe_requests.specs.declared.replies.Reply.{Reply}
@@ -13,13 +14,13 @@ use Rattle.oe_model.specs.Changes.{Record}
 use Rattle.oe_model.specs.System.{system, terminal_limit}
 use Rattle.oe_theory.specs.World.{total}
 use Rattle.oe_theory.specs.Undo.{no_records}
-use Rattle.oe_theory.specs.Store.{Slot, count_slots}
-use Rattle.oe_undo.specs.declared.segments.Place.{Place}
+use Rattle.oe_theory.specs.Store.{Slot, Seal, count_slots, commit_count, counts_before}
+use Rattle.oe_undo.specs.declared.segments.Address.{Address}
 use Rattle.oe_undo.specs.declared.undo.TerminalState.{TerminalState}
-use Rattle.oe_undo.specs.Segments.{Placed, Open, popped_from}
-use Rattle.oe_undo.specs.Undo.{Stored, idle, state_at, records_in, active_at, records_at, count_at, total_count, open_total, changed, idle_terminals, no_segments, opened, with_room, pushed, popped_at, sealed, dropped}
+use Rattle.oe_undo.specs.Segments.{Addressed, Open, Committed, popped_from}
+use Rattle.oe_undo.specs.Undo.{Stored, idle, state_at, records_in, active_at, records_at, count_at, total_count, open_total, changed, idle_terminals, no_segments, opened, with_room, pushed, popped_at, sealed, dropped, with_newest, uncounted, without_newest}
 use Rattle.oe_undo.specs.Stands.{model_records, undo_of, seal_of, seals_of, counts_of}
-use Rattle.oe_undo.specs.Laws.{StandAlike, StandsWith, StandsSealed}
+use Rattle.oe_undo.specs.Laws.{StandAlike, StandsWith, StandsSealed, StandsCut, StandsRewound}
 use Rattle.oe_undo.proofs.KeptFacts.{idle_at}
 
 -- what is seen of the terminals' states where one is replaced
@@ -89,15 +90,15 @@ room_changed room (Some o) = refl
 pub reserves : (v : Stored) (t room : ℕ) → StandAlike (with_room v t room) v
 reserves v t room = alike v t _ (ap model_records (room_changed room (active_at v t))) refl
 
-push_changed : (p : Place) (b : Before) (a : Option Open) (o : Open) → a ≡ Some o
-    → model_records (records_in (changed (λ z. record z { records = record { place = p; before = b } ∷ z.records; room = z.room - 1 }) a)) ≡ record_of_before b ∷ model_records (records_in a)
+push_changed : (p : Address) (b : Before) (a : Option Open) (o : Open) → a ≡ Some o
+    → model_records (records_in (changed (λ z. record z { records = record { address = p; before = b } ∷ z.records; room = z.room - 1 }) a)) ≡ record_of_before b ∷ model_records (records_in a)
 push_changed p b None o e = cc
 push_changed p b (Some a) o e = refl
 
-pub pushes : (v : Stored) (t : ℕ) (o : Open) (p : Place) (b : Before) → active_at v t ≡ Some o → StandsWith (pushed v t p b) v t (record_of_before b ∷ (undo_of v).active t)
+pub pushes : (v : Stored) (t : ℕ) (o : Open) (p : Address) (b : Before) → active_at v t ≡ Some o → StandsWith (pushed v t p b) v t (record_of_before b ∷ (undo_of v).active t)
 pushes v t o p b is = with_records v t o _ _ is (push_changed p b (active_at v t) o is) refl
 
-drop_popped : (o : Open) (rs : List Placed) → o.records ≡ rs → model_records (popped_from o rs).records ≡ drop 1 (model_records rs)
+drop_popped : (o : Open) (rs : List Addressed) → o.records ≡ rs → model_records (popped_from o rs).records ≡ drop 1 (model_records rs)
 drop_popped o [] e = ap model_records e
 drop_popped o (r ∷ rs) e = refl
 
@@ -120,6 +121,96 @@ seals v t o q y is =
 
 pub drops : (v : Stored) (t : ℕ) → records_at v t ≡ [] → StandAlike (dropped v t) v
 drops v t empty = alike v t _ (sym (ap model_records empty)) refl
+
+-- the newest commits alone
+pub cuts : (v : Stored) (n : ℕ) → StandsCut (with_newest n v) v n
+cuts v n =
+    let history = sym (take-map (λ (c : Committed). model_records c.records) n v.committed) in
+    record {
+      undo = λ i. record { active = (undo_of v).active; history = history i };
+      seals = sym (take-map seal_of n v.committed);
+      counts = refl;
+    }
+
+minus_none : (n : ℕ) → n ≡ n - 0
+minus_none n = omega arith
+
+none_less : (n k : ℕ) → n ≡ 0 → n ≡ n - k
+none_less n k e = omega arith
+
+-- a terminal's count, where a commit is no longer counted
+less_counted : (v : Stored) (c : Committed) (u : ℕ)
+    → (get_or (set v.terminals c.terminal (record { count = count_at v c.terminal - 1; active = active_at v c.terminal })) u idle).count
+    ≡ count_at v u - cond (u == c.terminal) 1 0
+less_counted v c u =
+    elim (cases_eq u c.terminal) [
+      | inl e ↦ elim (cases_lt c.terminal (length v.terminals)) [
+        | inl within ↦
+            ap (λ z. (get_or (set v.terminals c.terminal s) z idle).count) e ∙ ap see_count (get_or-set_same v.terminals c.terminal s idle within)
+            ∙ ap (λ z. count_at v z - 1) (sym e) ∙ ap (λ z. count_at v u - z) (sym (cond-true (u == c.terminal) 1 0 (eq-eqb u c.terminal e)))
+        | inr past ↦
+            let none : count_at v u ≡ 0 = ap (λ z. count_at v z) e ∙ ap see_count (get_or_past v.terminals c.terminal idle past) in
+            ap (λ z. (get_or z u idle).count) (set_past v.terminals c.terminal s past) ∙ none_less (count_at v u) (cond (u == c.terminal) 1 0) none
+      ]
+      | inr ne ↦ ap see_count (get_or-set_other v.terminals c.terminal u s idle ne) ∙ minus_none (count_at v u) ∙ ap (λ z. count_at v u - z) (sym (cond-false (u == c.terminal) 1 0 (ne_eqb u c.terminal ne)))
+    ]
+  where
+    s : TerminalState
+    s = record { count = count_at v c.terminal - 1; active = active_at v c.terminal }
+
+none_plus : (n : ℕ) → 0 + n ≡ n
+none_plus n = omega arith
+
+one_plus : (n : ℕ) → 1 + n ≡ suc n
+one_plus n = omega arith
+
+-- the newest commit gone
+one_less : (v : Stored) (cs : List Committed) → v.committed ≡ cs → StandsRewound (uncounted v cs) v 1
+one_less v [] e = record {
+  undo = λ i. record { active = (undo_of v).active; history = (ap (map (λ (c : Committed). model_records c.records)) e ∙ ap (λ z. drop 1 (map (λ (c : Committed). model_records c.records) z)) (sym e)) i };
+  seals = ap (map seal_of) e ∙ ap (λ z. drop 1 (map seal_of z)) (sym e);
+  counts = fun_ext (λ u. minus_none (count_at v u) ∙ ap (λ z. count_at v u - commit_count system u (take 1 (map seal_of z))) (sym e));
+}
+one_less v (c ∷ cs) e =
+    let s : TerminalState = record { count = count_at v c.terminal - 1; active = active_at v c.terminal } in
+    let active = seen_same see_records v.terminals c.terminal s refl in
+    let history : map (λ (c : Committed). model_records c.records) cs ≡ drop 1 (undo_of v).history = ap (λ z. drop 1 (map (λ (c : Committed). model_records c.records) z)) (sym e) in
+    record {
+      undo = λ i. record { active = λ u. active u i; history = history i };
+      seals = ap (λ z. drop 1 (map seal_of z)) (sym e);
+      counts = fun_ext (λ u. less_counted v c u ∙ ap (λ z. count_at v u - commit_count system u (take 1 (map seal_of z))) (sym e));
+    }
+
+drop_more : {A : Type 0} (n : ℕ) (xs : List A) → drop n (drop 1 xs) ≡ drop (suc n) xs
+drop_more n [] = drop-nil n
+drop_more n (x ∷ xs) = refl
+
+count_more : (u n : ℕ) (cs : List (Seal system)) → commit_count system u (take 1 cs) + commit_count system u (take n (drop 1 cs)) ≡ commit_count system u (take (suc n) cs)
+count_more u n [] = none_plus (commit_count system u (take n [])) ∙ ap (commit_count system u) (take-nil n)
+count_more u n (c ∷ cs) = go (u == c.tx.terminal)
+  where
+    go : (b : Bool) → cond b 1 0 + commit_count system u (take n cs) ≡ cond b (suc (commit_count system u (take n cs))) (commit_count system u (take n cs))
+    go true = one_plus (commit_count system u (take n cs))
+    go false = none_plus (commit_count system u (take n cs))
+
+-- the newest commits gone, one after another
+pub rewinds : (v : Stored) (n : ℕ) → StandsRewound (without_newest n v) v n
+rewinds v zero = record { undo = refl; seals = refl; counts = fun_ext (λ u. minus_none (counts_of v u)) }
+rewinds v (suc n) =
+    let w : Stored = uncounted v v.committed in
+    let one = one_less v v.committed refl in
+    let rest = rewinds w n in
+    record {
+      undo = rest.undo ∙ (λ i. record { active = (one.undo i).active; history = drop n (one.undo i).history })
+          ∙ (λ i. record { active = (undo_of v).active; history = drop_more n (undo_of v).history i });
+      seals = rest.seals ∙ (λ i. drop n (one.seals i)) ∙ drop_more n (seals_of v);
+      counts = rest.counts ∙ (λ i. counts_before system (one.counts i) (take n (one.seals i)))
+          ∙ fun_ext (λ u. minus_minus (counts_of v u) (commit_count system u (take 1 (seals_of v))) (commit_count system u (take n (drop 1 (seals_of v))))
+          ∙ ap (λ z. counts_of v u - z) (count_more u n (seals_of v)));
+    }
+  where
+    minus_minus : (a b c : ℕ) → a - b - c ≡ a - (b + c)
+    minus_minus a b c = omega arith
 
 pub begun : (e : ℕ) → (undo_of (no_segments e) ≡ no_records system) × (seals_of (no_segments e) ≡ []) × (counts_of (no_segments e) ≡ (λ t. 0))
 unfolding idle_terminals

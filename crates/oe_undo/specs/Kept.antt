@@ -2,25 +2,26 @@
 use Rattle.std.specs.Prelude.{◌≡◌, ℕ, suc, ◌+◌, ◌<◌, ◌≤◌, ⊤, List, [], ◌∷◌, length, take, slice_get, get_or, None, Some, is_some}
 use Rattle.std.specs.List.{All, sum_by, count_by}
 use Rattle.oe_undo.specs.declared.undo.TerminalState.{TerminalState}
-use Rattle.oe_undo.specs.Segments.{Placed, Open, Committed, place_of}
+use Rattle.oe_undo.specs.Segments.{Addressed, Open, Committed, address_of}
 use Rattle.oe_undo.specs.Undo.{idle, commits_of}
 
--- records of a transaction have its places, by the number of older ones
-abbrev pub ArePlaced : ℕ → ℕ → List Placed → Type 0
+-- records of a transaction have its addresses, by the number of older ones
+abbrev pub ArePlaced : ℕ → ℕ → List Addressed → Type 0
 ArePlaced t n [] = ⊤
-ArePlaced t n (r ∷ rs) = (r.place ≡ place_of t n (length rs)) × ArePlaced t n rs
+ArePlaced t n (r ∷ rs) = (r.address ≡ address_of t n (length rs)) × ArePlaced t n rs
 
 -- an open segment of a terminal with this many commits
 pub record IsOf (t count : ℕ) (o : Open) : Type 0 where
   pub terminal : o.terminal ≡ t
   pub number : o.number ≡ suc count
   pub below : count < 4_294_967_295
-  pub places : ArePlaced t (suc count) o.records
+  pub addresses : ArePlaced t (suc count) o.records
 
 -- the segment of a commit that its terminal has counted
 pub record IsCounted (terminals : List TerminalState) (c : Committed) : Type 0 where
+  pub first : 1 ≤ c.number
   pub number : c.number ≤ (get_or terminals c.terminal idle).count
-  pub places : ArePlaced c.terminal c.number c.records
+  pub addresses : ArePlaced c.terminal c.number c.records
 
 -- the number of each commit, newest first, is its terminal's count less the terminal's newer commits
 abbrev pub AreNumbered : (ℕ → ℕ) → List Committed → Type 0

@@ -5,11 +5,11 @@ use Rattle.oe_model.specs.System.{system}
 use Rattle.oe_theory.specs.Undo.{Undo}
 use Rattle.oe_theory.specs.Store.{Seal}
 use Rattle.oe_records.specs.Befores.{record_of_before}
-use Rattle.oe_undo.specs.Segments.{Placed, Committed}
+use Rattle.oe_undo.specs.Segments.{Addressed, Committed}
 use Rattle.oe_undo.specs.Undo.{Stored, records_at, count_at}
 
 -- the model's records, newest first
-abbrev pub model_records : List Placed → List Record
+abbrev pub model_records : List Addressed → List Record
 model_records rs = map (λ r. record_of_before r.before) rs
 
 -- the records of each open transaction and of each commit

@@ -1,12 +1,12 @@
 -- The undo log as plain data, and what its calls do to it.
-use Rattle.std.specs.Prelude.{◌≢◌, ℕ, suc, ◌-◌, ◌==◌, cond, List, [], ◌∷◌, get_or, set, replicate, Option, None, Some, is_some}
+use Rattle.std.specs.Prelude.{◌≢◌, ℕ, zero, suc, ◌-◌, ◌==◌, cond, List, [], ◌∷◌, get_or, set, take, replicate, Option, None, Some, is_some}
 use Rattle.std.specs.List.{All, sum_by, count_by}
 use Rattle.oe_requests.specs.declared.requests.Request.{Request}
 use Rattle.oe_requests.specs.declared.replies.Reply.{Reply}
 use Rattle.oe_records.specs.declared.befores.Before.{Before}
-use Rattle.oe_undo.specs.declared.segments.Place.{Place}
+use Rattle.oe_undo.specs.declared.segments.Address.{Address}
 use Rattle.oe_undo.specs.declared.undo.TerminalState.{TerminalState}
-use Rattle.oe_undo.specs.Segments.{Placed, Open, Committed, popped}
+use Rattle.oe_undo.specs.Segments.{Addressed, Open, Committed, popped}
 
 -- all that is stored
 pub record Stored : Type 0 where
@@ -31,12 +31,12 @@ count_at v t = (state_at v t).count
 abbrev pub active_at : Stored → ℕ → Option Open
 active_at v t = (state_at v t).active
 
-abbrev pub records_in : Option Open → List Placed
+abbrev pub records_in : Option Open → List Addressed
 records_in None = []
 records_in (Some o) = o.records
 
 -- the records of its open segment, newest first
-abbrev pub records_at : Stored → ℕ → List Placed
+abbrev pub records_at : Stored → ℕ → List Addressed
 records_at v t = records_in (active_at v t)
 
 abbrev pub room_in : Option Open → ℕ
@@ -60,10 +60,10 @@ abbrev pub commits_of : ℕ → List Committed → ℕ
 commits_of t [] = 0
 commits_of t (c ∷ cs) = cond (t == c.terminal) (suc (commits_of t cs)) (commits_of t cs)
 
--- no record of the terminals' open segments or of a commit stands at this place
-pub record IsFresh (v : Stored) (p : Place) : Type 0 where
-  pub active : (t : ℕ) → All (λ r. r.place ≢ p) (records_at v t)
-  pub committed : All (λ c. All (λ r. r.place ≢ p) c.records) v.committed
+-- no record of the terminals' open segments or of a commit stands at this address
+pub record IsFresh (v : Stored) (p : Address) : Type 0 where
+  pub active : (t : ℕ) → All (λ r. r.address ≢ p) (records_at v t)
+  pub committed : All (λ c. All (λ r. r.address ≢ p) c.records) v.committed
 
 -- 65 idle terminals; shut, so that no proof counts them
 unfoldable pub idle_terminals : List TerminalState
@@ -95,9 +95,9 @@ abbrev pub with_room : Stored → ℕ → ℕ → Stored
 with_room v t room = with_active v t (changed (λ o. record o { room = room }) (active_at v t))
 
 -- one record more, which takes a room
-abbrev pub pushed : Stored → ℕ → Place → Before → Stored
+abbrev pub pushed : Stored → ℕ → Address → Before → Stored
 pushed v t p b =
-    with_active v t (changed (λ o. record o { records = record { place = p; before = b } ∷ o.records; room = o.room - 1 }) (active_at v t))
+    with_active v t (changed (λ o. record o { records = record { address = p; before = b } ∷ o.records; room = o.room - 1 }) (active_at v t))
 
 -- the newest record taken off
 abbrev pub popped_at : Stored → ℕ → Stored
@@ -115,3 +115,22 @@ sealed v t q y =
 -- the open segment gone
 abbrev pub dropped : Stored → ℕ → Stored
 dropped v t = with_active v t None
+
+-- the newest n commits alone
+abbrev pub with_newest : ℕ → Stored → Stored
+with_newest n v = record v { committed = take n v.committed }
+
+-- the first of these commits gone, which its terminal no longer counts
+abbrev pub uncounted : Stored → List Committed → Stored
+uncounted v [] = v
+uncounted v (c ∷ cs) =
+    record {
+      terminals = set v.terminals c.terminal (record { count = count_at v c.terminal - 1; active = active_at v c.terminal });
+      committed = cs;
+      extents = v.extents;
+    }
+
+-- the newest n commits gone
+abbrev pub without_newest : ℕ → Stored → Stored
+without_newest zero v = v
+without_newest (suc n) v = without_newest n (uncounted v v.committed)

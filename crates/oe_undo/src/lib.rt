@@ -9,5 +9,5 @@ pub mod segments;
 pub mod undo;
 
 pub use records::Records;
-pub use segments::{CommittedSegment, Place, Segment};
+pub use segments::{Address, CommittedSegment, Segment};
 pub use undo::Undo;

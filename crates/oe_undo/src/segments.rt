@@ -1,5 +1,5 @@
 //! Segments: the records of one transaction.
-ghost use Rattle.std.specs.Prelude.{◌≡◌, ◌<◌, ◌≤◌, ◌+◌, ℕ, [], ◌∷◌, length, OnOk, OnErr};
+ghost use Rattle.std.specs.Prelude.{◌≡◌, ◌<◌, ◌≤◌, ◌+◌, ℕ, [], ◌∷◌, length, drop, OnOk, OnErr};
 ghost use Rattle.oe_undo.specs.Segments.{records_of, newest_of, popped};
 
 use crate::records::Records;
@@ -40,7 +40,7 @@ impl Segment {
         self.owner
     }
 
-    /// The terminal's place among all.
+    /// The terminal's number among all.
     pub(crate) fn slot(self) -> usize
         ensures value { result ≡ self }
         ensures low { 1 ≤ result }
@@ -53,7 +53,7 @@ impl Segment {
 
 /// Where a record stands.
 #[derive(Clone, Copy, Debug, PartialEq, Eq)]
-pub struct Place {
+pub struct Address {
     terminal: Terminal,
     number: TransactionNumber,
     older: usize,
@@ -69,11 +69,16 @@ pub struct OpenSegment {
 
 impl Model for OpenSegment {
     ghost use Rattle.std.specs.Prelude.{◌-◌, reverse, vec_len, vec_capacity};
-    ghost use Rattle.oe_undo.specs.Segments.{Open, placed};
+    ghost use Rattle.oe_undo.specs.Segments.{Open, addressed};
 
     ghost Value = { Open };
 
-    ghost view = { λ s. record { terminal = s.terminal; number = s.number; records = placed s.terminal s.number (reverse s.records.items); room = vec_capacity s.records - vec_len s.records } };
+    ghost view = { λ s. record {
+      terminal = s.terminal;
+      number = s.number;
+      records = addressed s.terminal s.number (reverse s.records.items);
+      room = vec_capacity s.records - vec_len s.records;
+    } };
 }
 
 impl OpenSegment {
@@ -111,19 +116,30 @@ impl OpenSegment {
     }
 
     /// Appends a record.
-    pub(crate) fn push(&mut self, before: Before) -> Place
+    pub(crate) fn push(&mut self, before: Before) -> Address
         requires { 0 < self.old.room }
-        ensures pushed { self.new ≡ record self.old { records = record { place = result; before = before } ∷ self.old.records; room = self.new.room } }
+        ensures pushed { self.new
+            ≡ record self.old {
+              records = record {
+                address = result;
+                before = before;
+              } ∷ self.old.records;
+              room = self.new.room;
+            } }
         ensures room { self.new.room + 1 ≡ self.old.room }
-        ensures place { result ≡ record { terminal = self.old.terminal; number = self.old.number; older = length self.old.records } }
+        ensures address { result ≡ record {
+          terminal = self.old.terminal;
+          number = self.old.number;
+          older = length self.old.records;
+        } }
     {
-        let place = Place {
+        let address = Address {
             terminal: self.terminal,
             number: self.number,
             older: self.records.len(),
         };
         self.records.push_reserved(before);
-        place
+        address
     }
 
     /// Takes the newest record off, where there is one.
@@ -145,7 +161,13 @@ impl OpenSegment {
 
     /// The same records as those of a commit.
     pub(crate) fn seal(self, request: Request, reply: Reply) -> CommittedSegment
-        ensures { result ≡ record { terminal = self.terminal; number = self.number; request = request; reply = reply; records = self.records } }
+        ensures { result ≡ record {
+          terminal = self.terminal;
+          number = self.number;
+          request = request;
+          reply = reply;
+          records = self.records;
+        } }
     {
         let OpenSegment {
             terminal,
@@ -174,11 +196,17 @@ pub struct CommittedSegment {
 
 impl Model for CommittedSegment {
     ghost use Rattle.std.specs.Prelude.{reverse};
-    ghost use Rattle.oe_undo.specs.Segments.{Committed, placed};
+    ghost use Rattle.oe_undo.specs.Segments.{Committed, addressed};
 
     ghost Value = { Committed };
 
-    ghost view = { λ s. record { terminal = s.terminal; number = s.number; request = s.request; reply = s.reply; records = placed s.terminal s.number (reverse s.records.items) } };
+    ghost view = { λ s. record {
+      terminal = s.terminal;
+      number = s.number;
+      request = s.request;
+      reply = s.reply;
+      records = addressed s.terminal s.number (reverse s.records.items);
+    } };
 }
 
 impl CommittedSegment {
@@ -216,5 +244,13 @@ impl CommittedSegment {
     {
         let oldest_first = self.records.as_slice();
         Records { oldest_first }
+    }
+
+    /// Takes the newest record off; none exactly where none is left.
+    pub fn pop(&mut self) -> Option<Before>
+        ensures newest { result ≡ newest_of self.old.records }
+        ensures popped { self.new ≡ record self.old { records = drop 1 self.old.records } }
+    {
+        self.records.pop()
     }
 }

@@ -2,10 +2,10 @@
 ghost use Rattle.std.specs.Prelude.{◌≡◌, ◌<◌, ◌≤◌, ◌+◌, ◌-◌, ◌↔◌, [], length, take, slice_get, IfSome, IsTrue, IsSome, Some, None, IfOk, OnOk, OnErr, IfErr};
 ghost use Rattle.std.specs.Option.{option_copied};
 ghost use Rattle.oe_undo.specs.Segments.{records_of, newest_of};
-ghost use Rattle.oe_undo.specs.Undo.{no_segments, idle_terminals, commits_of, count_at, active_at, records_at, room_at, total_count, open_total, opened, with_room, pushed, popped_at, sealed, dropped, IsFresh};
+ghost use Rattle.oe_undo.specs.Undo.{no_segments, idle_terminals, commits_of, count_at, active_at, records_at, room_at, total_count, open_total, opened, with_room, pushed, popped_at, sealed, dropped, with_newest, without_newest, IsFresh};
 
 use crate::records::Records;
-use crate::segments::{CommittedSegment, OpenSegment, Place, Segment};
+use crate::segments::{Address, CommittedSegment, OpenSegment, Segment};
 use oe_records::Before;
 use oe_requests::refusals::Refusal;
 use oe_requests::replies::Reply;
@@ -26,9 +26,9 @@ pub struct TerminalState {
 /// The segments of undo records: the open one of each terminal, and those of commits, the newest first; and the terminals'
 /// counts of commits. Moment `newest` less k is that before the k newest commits.
 ///
-/// Memory is taken by `new`, `open_segment` and `reserve` alone. A segment of a commit stays as long as the log: calls that give
-/// up the oldest, for a purge, or the newest with its count, for a rewind, are still to come. So is a ring of extents for the
-/// records; today these lie in lists, and the number of extents is kept and limits nothing.
+/// Memory is taken by `new`, `open_segment` and `reserve` alone. A segment of a commit stays until it is the oldest and is taken,
+/// for a purge, or the newest and is taken with its count, for a rewind. A ring of extents for the records is still to come:
+/// today these lie in lists, and the number of extents is kept and limits nothing.
 #[derive(Drop)]
 pub struct Undo {
     // By the terminals' numbers; 0 is nobody's.
@@ -48,9 +48,14 @@ impl Model for Undo {
 
     ghost Value = { Stored };
 
-    ghost view = { λ u. record { terminals = u.terminals.items; committed = u.committed.items; extents = u.extents } };
+    ghost view = { λ u. record {
+      terminals = u.terminals.items;
+      committed = u.committed.items;
+      extents = u.extents;
+    } };
 
-    ghost invariant = { λ u. IsKept u.terminals.items u.committed.items (deque_len u.committed) (deque_capacity u.committed) u.newest u.open_count };
+    ghost invariant = { λ u. IsKept u.terminals.items u.committed.items (deque_len u.committed)
+        (deque_capacity u.committed) u.newest u.open_count };
 }
 
 /// The terminals before anything was committed.
@@ -138,7 +143,9 @@ impl Undo {
     /// How many terminals have a segment open.
     pub fn open_count(&self) -> u32
         ensures value { result ≡ open_total self.now }
-        ensures slots { (slots : ℕ → Option (Slot system)) → ((t : ℕ) → is_some (slots t) ≡ is_some (active_at self.now t)) → result ≡ count_slots system slots terminal_limit }
+        ensures slots { (slots : ℕ → Option (Slot system))
+            → ((t : ℕ) → is_some (slots t) ≡ is_some (active_at self.now t))
+            → result ≡ count_slots system slots terminal_limit }
         ensures most { result ≤ 64 }
     {
         self.open_count
@@ -155,7 +162,8 @@ impl Undo {
     /// The oldest moment that can be read: as many commits ago as segments of commits are kept.
     pub fn horizon(&self) -> Moment
         ensures value { result + length self.now.committed ≡ total_count self.now }
-        ensures moment { result ≡ total terminal_limit (counts_of self.now) - length (seals_of self.now) }
+        ensures moment { result ≡ total terminal_limit (counts_of self.now) - length
+            (seals_of self.now) }
     {
         let kept = self.committed.len() as u64;
         Moment::new(self.newest.get() - kept).unwrap()
@@ -164,7 +172,9 @@ impl Undo {
     /// The segment of a commit, by the number of later ones. Its number is its terminal's count less the terminal's later commits.
     pub fn committed(&self, later: usize) -> Option<&CommittedSegment>
         ensures commit { option_copied result ≡ slice_get self.now.committed later }
-        ensures number { IfSome result (λ s. s.now.number + commits_of s.now.terminal (take later self.now.committed) ≡ count_at self.now s.now.terminal) }
+        ensures number { IfSome result
+            (λ s. s.now.number + commits_of s.now.terminal (take later self.now.committed)
+            ≡ count_at self.now s.now.terminal) }
     {
         self.committed.get(later)
     }
@@ -198,7 +208,8 @@ impl Undo {
     pub fn open_segment(&mut self, terminal: Terminal) -> Result<Segment, NoMemory>
         requires closed { active_at self.old terminal ≡ None }
         requires counted { count_at self.old terminal < 4_294_967_295 }
-        ensures opened { OnOk result (self.new ≡ opened self.old terminal (room_at self.new terminal)) }
+        ensures opened { OnOk result
+            (self.new ≡ opened self.old terminal (room_at self.new terminal)) }
         ensures segment { IfOk result (λ s. s ≡ terminal) }
         ensures err { OnErr result (self.new ≡ self.old) }
     {
@@ -229,8 +240,8 @@ impl Undo {
         }
     }
 
-    /// Appends a record to an open segment that has room for it, and answers its place, where no other record is.
-    pub fn push(&mut self, segment: Segment, before: Before) -> Place
+    /// Appends a record to an open segment that has room for it, and answers its address, where no other record is.
+    pub fn push(&mut self, segment: Segment, before: Before) -> Address
         requires open { IsSome (active_at self.old segment) }
         requires room { 0 < room_at self.old segment }
         ensures pushed { self.new ≡ pushed self.old segment result before }
@@ -284,5 +295,34 @@ impl Undo {
         let state = &mut self.terminals[segment.slot()];
         state.active = None;
         self.open_count -= 1;
+    }
+}
+
+impl Undo {
+    ghost use Rattle.std.specs.Prelude.{ℕ};
+
+    /// Takes the segment of the oldest commit that is kept; none exactly where none is. Its terminal counts it still. It takes no
+    /// memory.
+    pub fn take_oldest(&mut self) -> Option<CommittedSegment>
+        ensures oldest { result ≡ slice_get self.old.committed (length self.old.committed - 1) }
+        ensures taken { self.new ≡ with_newest (length self.old.committed - 1) self.old }
+    {
+        self.committed.pop_back()
+    }
+
+    /// Takes the segment of the newest commit, where no segment is open; none exactly where no commit is kept. Its terminal no
+    /// longer counts it, and the moment before it is the newest. It takes no memory.
+    pub fn take_newest(&mut self) -> Option<CommittedSegment>
+        requires { (t : ℕ) → active_at self.old t ≡ None }
+        ensures newest { result ≡ slice_get self.old.committed 0 }
+        ensures taken { self.new ≡ without_newest 1 self.old }
+    {
+        let Some(segment) = self.committed.pop_front() else {
+            return None;
+        };
+        let state = &mut self.terminals[segment.terminal().get() as usize];
+        state.count -= 1;
+        self.newest = Moment::new(self.newest.get() - 1).unwrap();
+        Some(segment)
     }
 }

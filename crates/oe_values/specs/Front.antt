@@ -17,7 +17,8 @@ after_of (f ∷ fs) (b ∷ s) = if b == f then after_of fs s else None
 unfoldable pub pair_of : List ℕ → Option (ℕ × List ℕ)
 pair_of [] = None
 pair_of (a ∷ []) = None
-pair_of (a ∷ b ∷ s) = if is_ascii_digit a && is_ascii_digit b then Some ((a - 48) * 10 + (b - 48), s) else None
+pair_of (a ∷ b ∷ s) =
+    if is_ascii_digit a && is_ascii_digit b then Some ((a - 48) * 10 + (b - 48), s) else None
 
 -- the number that goes on with the digits at the front, up to 15 of them in all, and what follows them
 abbrev pub digits_from : ℕ → List ℕ → Option (ℕ × List ℕ)

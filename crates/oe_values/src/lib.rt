@@ -10,7 +10,7 @@ pub mod texts;
 
 pub use lines::Lines;
 pub use numbers::{
-    Amount, Balance, Carrier, Cents, Count, CustomerNumber, DistrictNumber, HistoryPlace,
+    Amount, Balance, Carrier, Cents, Count, CustomerNumber, DistrictNumber, HistoryOrdinal,
     HistoryTerminal, ImageNumber, ItemNumber, LineAmount, LineCount, LineNumber, LineQuantity,
     LowStock, Moment, Number, OrderNumber, PaymentAmount, Price, Quantity, Rate, RequestedItem,
     StockYtd, Terminal, TerminalCount, Threshold, TransactionNumber, WarehouseNumber, YearToDate,

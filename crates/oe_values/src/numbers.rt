@@ -103,7 +103,7 @@ pub type HistoryTerminal = Number<0, 64>;
 pub type TransactionNumber = Number<0, 4_294_967_295>;
 
 /// The ordinal of a history row in its transaction, which inserts one.
-pub type HistoryPlace = Number<1, 1>;
+pub type HistoryOrdinal = Number<1, 1>;
 
 /// An item as a request names it, which may be none of the table's (clause 2.4.1.5).
 pub type RequestedItem = Number<1, 999_999>;

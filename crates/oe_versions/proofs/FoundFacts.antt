@@ -16,7 +16,7 @@ use Rattle.oe_model.proofs.SystemLaws.{laws}
 use Rattle.oe_records.specs.declared.befores.Before.{Before}
 use Rattle.oe_records.specs.Befores.{record_of_before}
 use Rattle.oe_undo.specs.Stands.{undo_of, model_records}
-use Rattle.oe_undo.specs.Segments.{Placed, Committed, records_of}
+use Rattle.oe_undo.specs.Segments.{Addressed, Committed, records_of}
 use Rattle.oe_undo.specs.Undo.{records_at}
 use Rattle.oe_undo.specs.Undo as undo
 use Rattle.oe_versions.specs.Versions.{store_with, newest}
@@ -136,10 +136,10 @@ all_taken (x ∷ xs) (suc count) = all_taken xs count
 pub all_commits : (k : Key) (u : undo.Stored) (count : ℕ) (o : Option Record) → left_commits k u count count o ≡ o
 all_commits k u count o = ap (λ ss. oldest_of_commits k ss o) (all_taken (undo_of u).history count)
 
--- records without their places, as those of the model
-pub without_places : (rs : List Placed) → map record_of_before (records_of rs) ≡ model_records rs
-without_places [] = refl
-without_places (r ∷ rs) = ap (λ z. record_of_before r.before ∷ z) (without_places rs)
+-- records without their addresses, as those of the model
+pub without_addresses : (rs : List Addressed) → map record_of_before (records_of rs) ≡ model_records rs
+without_addresses [] = refl
+without_addresses (r ∷ rs) = ap (λ z. record_of_before r.before ∷ z) (without_addresses rs)
 
 -- a walk over records, one at a time
 module _ (k : Key) (b : Before) (bs all : List Before) (o end : Option Record) (r : Bool) where
@@ -162,7 +162,7 @@ pub open_goes : (k : Key) (u : undo.Stored) (lower t : ℕ) (rs : List Before) (
     → rs ≡ records_of (records_at u t) → o' ≡ oldest_in k (map record_of_before rs) o → left_open k u lower o ≡ end → left_open k u (lower + 1) o' ≡ end
 open_goes k u lower t rs o o' end h is at found so_far =
     let these : map record_of_before rs ≡ (undo_of u).active (64 - lower) =
-    ap (map record_of_before) at ∙ without_places (records_at u t) ∙ ap (λ x. (undo_of u).active x) is
+    ap (map record_of_before) at ∙ without_addresses (records_at u t) ∙ ap (λ x. (undo_of u).active x) is
     in
     ap (left_open k u (lower + 1)) (found ∙ ap (λ bs. oldest_in k bs o) these) ∙ sym (next_open k u lower o h) ∙ so_far
 
@@ -177,7 +177,7 @@ pub commit_goes : (k : Key) (u : undo.Stored) (count later : ℕ) (c : Committed
     → slice_get u.committed later ≡ Some c → rs ≡ records_of c.records → o' ≡ oldest_in k (map record_of_before rs) o → left_commits k u count later o ≡ end
     → left_commits k u count (later + 1) o' ≡ end
 commit_goes k u count later c rs o o' end h at is found so_far =
-    let these : map record_of_before rs ≡ model_records c.records = ap (map record_of_before) is ∙ without_places c.records in
+    let these : map record_of_before rs ≡ model_records c.records = ap (map record_of_before) is ∙ without_addresses c.records in
     ap (left_commits k u count (later + 1)) (found ∙ ap (λ bs. oldest_in k bs o) these) ∙ sym (next_commit k u count later c o at h) ∙ so_far
 
 pub commits_end : (k : Key) (u : undo.Stored) (count later : ℕ) (o end : Option Record) → later ≡ count → left_commits k u count later o ≡ end → o ≡ end

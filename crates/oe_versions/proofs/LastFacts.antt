@@ -19,15 +19,15 @@ use Rattle.oe_rows.specs.declared.rows.Row.TheVariants as row
 use Rattle.oe_model.specs.Keys.{district_of_customer, district_of_order, customer_of_order, customer_in}
 use Rattle.oe_model.specs.Queries.{orders_of, last_order}
 use Rattle.oe_model.proofs.MapFacts.{is_same, is_self}
-use Rattle.oe_model.proofs.EntryFacts.{EachOf, each_of, kept_at}
+use Rattle.oe_model.proofs.EntryFacts.{EachOf, each_of, kept_at, entries_at}
 use Rattle.oe_model.proofs.ListFacts.{not_above}
 use Rattle.oe_model.proofs.PresenceFacts.{some-map}
-use Rattle.oe_store.specs.Stored.{rows, entries_of}
+use Rattle.oe_store.specs.Stored.{rows}
 use Rattle.oe_store.specs.Stored as tables
 use Rattle.oe_undo.specs.Undo as undo
 use Rattle.oe_versions.specs.Versions.{store_with, version, Stand}
 use Rattle.oe_versions.proofs.LastingFacts.{order_is, rows_last}
-use Rattle.oe_versions.proofs.ChosenFacts.{rows_at, kept_is}
+use Rattle.oe_versions.proofs.ChosenFacts.{rows_at, rows_some, rows_none, all_is}
 use Rattle.oe_versions.proofs.LineFacts.{left, right, lower, same_number}
 
 abbrev Entry : Type 0
@@ -148,7 +148,7 @@ module _ (c : CustomerKey) where
       let same : customer_of_order e.0 e.1 ≡ c = is_same customer_total exact_customer (customer_of_order e.0 e.1) c t in
       ap (λ (k : CustomerKey). eq_by_cmp district_cmp (district_of_order e.0) (district_of_customer k)) (sym same) ∙ is_self district_total exact_district (district_of_order e.0)
 
-  pub last_is : (m : FinMap order_cmp Order) → last_order c m ≡ final None (filter is_own (group (district_of_customer c) m))
+  pub last_is : (m : FinMap order_cmp Order) → last_order c m ≡ final None (orders_of c m)
   last_is m =
       let es : List Entry = group (district_of_customer c) m in
       let owned : orders_of c m ≡ filter is_own es =
@@ -156,80 +156,74 @@ module _ (c : CustomerKey) where
       in
       ap (λ xs. find (λ e. not (has_larger e xs)) xs) owned
       ∙ find_last (filter is_own es) (filter is_own es) (rises_filtered is_own es (group_rises (district_of_customer c) m)) (each_refl (filter is_own es))
+      ∙ ap (final None) (sym owned)
     where
       each_refl : (xs : List Entry) → EachOf (λ e. has_larger e (filter is_own (group (district_of_customer c) m)) ≡ has_larger e (filter is_own (group (district_of_customer c) m))) xs
       each_refl [] = tt
       each_refl (x ∷ xs) = (refl, each_refl xs)
 
--- the rows at a list's keys, of which the first is another's, or none, or the customer's
+-- the rows that stood at a list's keys
 module _ (ts : tables.Stored) (u : undo.Stored) (m : ℕ) (c : CustomerKey) where
   abbrev past : FinMap order_cmp Order
   past = (version ts u m).orders
 
-  -- what is left of a walk over the orders that stand leads from the last that was found so far to the last order
-  pub record Walks (last : Option Entry) (es : List Entry) : Type 0 where
-    pub rest : final last (filter (is_own c) (rows_at past es)) ≡ last_order c past
-    pub each : EachOf (λ e. (in_district (district_of_customer c) e.0 ≡ true) × (get (rows ts).orders e.0 ≡ Some e.1)) es
+  abbrev now : FinMap order_cmp Order
+  now = (rows ts).orders
 
-  pub begins : Stand ts u → Walks None (entries_of district_cmp district_of_order (district_of_customer c) (rows ts).orders)
-  begins h = record {
-    rest =
-        sym (last_is c past
-        ∙ ap (λ es. final None (filter (is_own c) es)) (kept_is past order_total exact_order (rows ts).orders (in_district (district_of_customer c)) (λ q there. there_now q (get past q) refl there)));
-    each = kept_at order_total exact_order (rows ts).orders (in_district (district_of_customer c));
-  }
-    where
-      there_now : (q : OrderKey) (v : Option Order) → get past q ≡ v → IsSome v → IsSome (get (rows ts).orders q)
-      there_now q None e i = let no : ⊥ = cc in absurd no
-      there_now q (Some x) e i =
-          let y = rows_last (record (store_with (rows ts) u) { slots = h.0 }) m (key.Order q) h.1 x (ap (option_map row.Order) e) in
-          sym (some-map row.Order (get (rows ts).orders q)) ∙ ap is_some y.1
+  -- what is left of a walk leads from the last of the customer's orders that was found so far to the last order
+  pub record Walks (last : Option Entry) (es : List Entry) : Type 0 where
+    pub rest : final last (rows_at past (filter (is_own c) es)) ≡ last_order c past
 
   -- an order has the customer that it has now
-  same_customer : Stand ts u → (e : Entry) (x : Order) → get (rows ts).orders e.0 ≡ Some e.1 → get past e.0 ≡ Some x → x.customer ≡ e.1.customer
-  same_customer h e x now at =
+  same_customer : Stand ts u → (e : Entry) (x : Order) → get now e.0 ≡ Some e.1 → get past e.0 ≡ Some x → x.customer ≡ e.1.customer
+  same_customer h e x stands at =
       let y = rows_last (record (store_with (rows ts) u) { slots = h.0 }) m (key.Order e.0) h.1 x (ap (option_map row.Order) at) in
-      let is : y.0 ≡ e.1 = order_is y.0 e.1 (sym y.1 ∙ ap (option_map row.Order) now) in
+      let is : y.0 ≡ e.1 = order_is y.0 e.1 (sym y.1 ∙ ap (option_map row.Order) stands) in
       sym y.2 ∙ ap (λ (z : Order). z.customer) is
 
-  owner : (e : OrderKey) (x : Order) → in_district (district_of_customer c) e ≡ true → x.customer ≡ c.customer → is_own c (e, x) ≡ true
-  owner e x t is =
-      let d : district_of_order e ≡ district_of_customer c = is_same district_total exact_district (district_of_order e) (district_of_customer c) t in
-      ap (λ (k : CustomerKey). eq_by_cmp customer_cmp k c) (λ i. customer_in (d i) (is i)) ∙ is_self customer_total exact_customer c
+  there_now : Stand ts u → (q : OrderKey) (v : Option Order) → get past q ≡ v → IsSome v → IsSome (get now q)
+  there_now h q None e i = let no : ⊥ = cc in absurd no
+  there_now h q (Some x) e i =
+      let y = rows_last (record (store_with (rows ts) u) { slots = h.0 }) m (key.Order q) h.1 x (ap (option_map row.Order) e) in
+      sym (some-map row.Order (get now q)) ∙ ap is_some y.1
 
-  stranger : (e : OrderKey) (x : Order) → (x.customer ≡ c.customer → ⊥) → (b : Bool) → is_own c (e, x) ≡ b → b ≡ false
-  stranger e x other true t = absurd (other (ap (λ (k : CustomerKey). k.customer) (is_same customer_total exact_customer (customer_of_order e x) c t)))
-  stranger e x other false t = refl
+  -- the customer's orders are those of the same keys
+  same_own : Stand ts u → (es : List Entry) → EachOf (λ e. get now e.0 ≡ Some e.1) es → filter (is_own c) (rows_at past es) ≡ rows_at past (filter (is_own c) es)
+  same_own h [] stand = refl
+  same_own h (e ∷ es) stand = go (get past e.0) refl (is_own c e) refl (same_own h es stand.1)
+    where
+      go : (v : Option Order) → get past e.0 ≡ v → (b : Bool) → is_own c e ≡ b → filter (is_own c) (rows_at past es) ≡ rows_at past (filter (is_own c) es)
+          → filter (is_own c) (cons_option (option_map (λ x. (e.0, x)) v) (rows_at past es)) ≡ rows_at past (cond b (e ∷ filter (is_own c) es) (filter (is_own c) es))
+      go None at true t rest = rest ∙ sym (rows_none past e (filter (is_own c) es) at)
+      go None at false t rest = rest
+      go (Some x) at b t rest =
+          let owner : is_own c (e.0, x) ≡ b =
+          ap (λ n. eq_by_cmp customer_cmp (customer_in (district_of_order e.0) n) c) (same_customer h e x stand.0 at) ∙ t
+          in
+          ap (λ z. cond z ((e.0, x) ∷ filter (is_own c) (rows_at past es)) (filter (is_own c) (rows_at past es))) owner ∙ by b rest
+        where
+          by : (z : Bool) → filter (is_own c) (rows_at past es) ≡ rows_at past (filter (is_own c) es)
+              → cond z ((e.0, x) ∷ filter (is_own c) (rows_at past es)) (filter (is_own c) (rows_at past es)) ≡ rows_at past (cond z (e ∷ filter (is_own c) es) (filter (is_own c) es))
+          by true same = ap (λ zs. (e.0, x) ∷ zs) same ∙ sym (rows_some past e (filter (is_own c) es) x at)
+          by false same = same
 
-  pub misses : (last : Option Entry) (e : Entry) (es : List Entry) → Walks last (e ∷ es) → get past e.0 ≡ None → Walks last es
-  misses last e es w none = record {
-    rest = sym (ap (λ v. final last (filter (is_own c) (cons_option (option_map (λ x. (e.0, x)) v) (rows_at past es)))) none) ∙ w.rest;
-    each = w.each.1;
+  pub begins : Stand ts u → (es : List Entry) → filter (is_own c) es ≡ orders_of c now → Walks None es
+  begins h es all = record {
+    rest =
+        ap (λ xs. final None (rows_at past xs)) all
+        ∙ ap (final None) (sym (same_own h (entries now) (entries_at order_total now)))
+        ∙ ap (λ xs. final None (filter (is_own c) xs)) (sym (all_is past order_total exact_order now (λ q there. there_now h q (get past q) refl there)))
+        ∙ sym (last_is c past);
   }
 
-  pub finds : (last : Option Entry) (e : Entry) (es : List Entry) (x : Order) → Stand ts u → Walks last (e ∷ es) → get past e.0 ≡ Some x → e.1.customer ≡ c.customer
-      → Walks (Some (e.0, x)) es
-  finds last e es x h w at own =
-      let mine : is_own c (e.0, x) ≡ true = owner e.0 x w.each.0.0 (same_customer h e x w.each.0.1 at ∙ own) in
-      record {
-        rest =
-            sym (ap (λ v. final last (filter (is_own c) (cons_option (option_map (λ x. (e.0, x)) v) (rows_at past es)))) at
-            ∙ ap (λ b. final last (cond b ((e.0, x) ∷ filter (is_own c) (rows_at past es)) (filter (is_own c) (rows_at past es)))) mine)
-            ∙ w.rest;
-        each = w.each.1;
-      }
+  taken : (last : Option Entry) (e : Entry) (es : List Entry) → is_own c e ≡ true → Walks last (e ∷ es) → final last (rows_at past (e ∷ filter (is_own c) es)) ≡ last_order c past
+  taken last e es own w = sym (ap (λ b. final last (rows_at past (cond b (e ∷ filter (is_own c) es) (filter (is_own c) es)))) own) ∙ w.rest
 
-  pub passes : (last : Option Entry) (e : Entry) (es : List Entry) → Stand ts u → Walks last (e ∷ es) → (e.1.customer ≡ c.customer → ⊥) → Walks last es
-  passes last e es h w other = go (get past e.0) refl
-    where
-      go : (v : Option Order) → get past e.0 ≡ v → Walks last es
-      go None at = misses last e es w at
-      go (Some x) at =
-          let theirs : is_own c (e.0, x) ≡ false = stranger e.0 x (λ is. other (sym (same_customer h e x w.each.0.1 at) ∙ is)) (is_own c (e.0, x)) refl in
-          record {
-            rest =
-                sym (ap (λ v. final last (filter (is_own c) (cons_option (option_map (λ x. (e.0, x)) v) (rows_at past es)))) at
-                ∙ ap (λ b. final last (cond b ((e.0, x) ∷ filter (is_own c) (rows_at past es)) (filter (is_own c) (rows_at past es)))) theirs)
-                ∙ w.rest;
-            each = w.each.1;
-          }
+  pub misses : (last : Option Entry) (e : Entry) (es : List Entry) → is_own c e ≡ true → Walks last (e ∷ es) → get past e.0 ≡ None → Walks last es
+  misses last e es own w none = record { rest = sym (ap (final last) (rows_none past e (filter (is_own c) es) none)) ∙ taken last e es own w }
+
+  pub finds : (last : Option Entry) (e : Entry) (es : List Entry) (x : Order) → is_own c e ≡ true → Walks last (e ∷ es) → get past e.0 ≡ Some x → Walks (Some (e.0, x)) es
+  finds last e es x own w at = record { rest = sym (ap (final last) (rows_some past e (filter (is_own c) es) x at)) ∙ taken last e es own w }
+
+  pub passes : (last : Option Entry) (e : Entry) (es : List Entry) → is_own c e ≡ false → Walks last (e ∷ es) → Walks last es
+  passes last e es other w = record { rest = sym (ap (λ b. final last (rows_at past (cond b (e ∷ filter (is_own c) es) (filter (is_own c) es)))) other) ∙ w.rest }

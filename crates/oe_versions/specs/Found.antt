@@ -30,7 +30,8 @@ oldest_of_commits k (bs ∷ ss) newer = oldest_of_commits k ss (oldest_in k bs n
 -- among all open transactions and so many of the newest commits
 abbrev pub oldest_after : Key → undo.Stored → ℕ → Option Record
 oldest_after k u count =
-    oldest_of_commits k (take count (undo_of u).history) (oldest_open k (undo_of u).active (all_below system terminal_limit) None)
+    oldest_of_commits k (take count (undo_of u).history)
+    (oldest_open k (undo_of u).active (all_below system terminal_limit) None)
 
 -- the row that a record has, or the one that stands where there is no record
 abbrev pub row_found : Option Record → Option Row → Option Row
@@ -43,4 +44,5 @@ record_found o = option_map record_of_before o
 
 -- whatever rows stand, the key's row of the moment is found so
 abbrev pub HasRow : undo.Stored → ℕ → Key → Option Record → Type 0
-HasRow u m k o = (r : Rows) → row_at (version_of system (store_with r u) m) k ≡ row_found o (row_at r k)
+HasRow u m k o =
+    (r : Rows) → row_at (version_of system (store_with r u) m) k ≡ row_found o (row_at r k)

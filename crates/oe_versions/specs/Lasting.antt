@@ -25,14 +25,18 @@ Lasts (key.District k) before now = is_some before ≡ is_some now
 Lasts (key.Customer k) before now = names_of before ≡ names_of now
 Lasts (key.History k) before now = IsSome before → IsSome now
 Lasts (key.NewOrder k) before now = Unit {0}
-Lasts (key.Order k) before now = (x : Order) → before ≡ Some (row.Order x) → (y : Order) × (now ≡ Some (row.Order y)) × (y.customer ≡ x.customer)
+Lasts (key.Order k) before now =
+    (x : Order) → before ≡ Some (row.Order x)
+    → (y : Order) × (now ≡ Some (row.Order y)) × (y.customer ≡ x.customer)
 Lasts (key.OrderLine k) before now = IsSome before → IsSome now
 Lasts (key.Item k) before now = is_some before ≡ is_some now
 Lasts (key.Stock k) before now = is_some before ≡ is_some now
 
 -- so it is of each moment
 abbrev pub Rows_last : Type 0
-Rows_last = (s : Store system) (m : ℕ) (k : Key) → IsStanding system s → Lasts k (row_at (version_of system s m) k) (row_at s.tables k)
+Rows_last =
+    (s : Store system) (m : ℕ) (k : Key) → IsStanding system s
+    → Lasts k (row_at (version_of system s m) k) (row_at s.tables k)
 
 -- and so each last name has the same customers in a district at each moment
 abbrev pub Names_last : Type 0

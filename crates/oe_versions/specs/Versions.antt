@@ -13,7 +13,15 @@ use Rattle.oe_undo.specs.Undo as undo
 
 -- rows as they stand and a log, without the slots of open transactions, at which no version looks
 abbrev pub store_with : Rows → undo.Stored → Store system
-store_with r u = record { tables = r; undo = undo_of u; slots = λ t. None; seals = seals_of u; counts = counts_of u; extents = u.extents }
+store_with r u =
+    record {
+      tables = r;
+      undo = undo_of u;
+      slots = λ t. None;
+      seals = seals_of u;
+      counts = counts_of u;
+      extents = u.extents;
+    }
 
 -- the tables of a moment: what all commits up to it have left, without anybody's open work
 abbrev pub version : tables.Stored → undo.Stored → ℕ → Rows
@@ -39,4 +47,6 @@ IsOutside u m e = ⊥
 
 -- beside some open transactions, rows and a log stand for a world that steps led to
 abbrev pub Stand : tables.Stored → undo.Stored → Type 0
-Stand ts u = (slots : ℕ → Option (Slot system)) × IsStanding system (record (store_with (rows ts) u) { slots = slots })
+Stand ts u =
+    (slots : ℕ → Option (Slot system))
+    × IsStanding system (record (store_with (rows ts) u) { slots = slots })

@@ -1,5 +1,8 @@
 //! The last order of a customer as it stood at a moment.
-ghost use Rattle.std.specs.Prelude.{◌≡◌, ◌↔◌, IsTrue, IfOk, IfErr, OnOk};
+ghost use Rattle.std.specs.Prelude.{◌≡◌, IfOk, IfErr, OnOk};
+ghost use Rattle.std.specs.Ordering.{eq_by_cmp};
+ghost use Rattle.oe_keys.specs.Key.{customer_cmp};
+ghost use Rattle.oe_model.specs.Keys.{customer_of_order};
 ghost use Rattle.oe_model.specs.Queries.{last_order};
 ghost use Rattle.oe_versions.specs.Versions.{version, Stand, IsReadable, IsOutside};
 
@@ -11,18 +14,19 @@ use oe_rows::Order;
 use oe_store::Tables;
 use oe_undo::Undo;
 use oe_values::Moment;
+use std::cmp::Ordering;
 
-/// Whether an order of the customer's district is the customer's.
-fn is_own(order: &Order, customer: &CustomerKey) -> bool
-    ensures { IsTrue result ↔ (order.now.customer ≡ customer.now.customer) }
+/// Whether the order is the customer's.
+fn is_own(key: &OrderKey, order: &Order, customer: &CustomerKey) -> bool
+    ensures { result
+        ≡ eq_by_cmp customer_cmp (customer_of_order key.now order.now) customer.now }
 {
-    order.customer == customer.customer
+    let owner = key.district_key().customer(order.customer);
+    owner.compare(*customer) == Ordering::Equal
 }
 
 /// The order with the largest O_ID that a customer had at a moment, with its key, if there was any (clause 2.6.2.2). It is
 /// refused as `row_at`.
-///
-/// It walks over the orders of the customer's district; with an index of the customer's own it will look at these alone.
 pub fn last_order_at(
     tables: &Tables,
     undo: &Undo,
@@ -30,14 +34,15 @@ pub fn last_order_at(
     moment: Moment,
 ) -> Result<Option<(OrderKey, Order)>, Refusal>
     requires { Stand tables.now undo.now }
-    ensures order { IfOk result (λ e. e ≡ last_order customer (version tables.now undo.now moment).orders) }
+    ensures order { IfOk result (λ e.
+        e ≡ last_order customer (version tables.now undo.now moment).orders) }
     ensures readable { OnOk result (IsReadable undo.now moment) }
     ensures refusal { IfErr result (λ e. IsOutside undo.now moment e) }
 {
     commits_after(undo, moment)?;
     let mut last = None;
-    for (key, row) in tables.orders_of(customer.district_key()) {
-        if is_own(row, &customer) {
+    for (key, row) in tables.orders_of_customer(&customer) {
+        if is_own(key, row, &customer) {
             let found = order_at(tables, undo, key, moment)?;
             if let Some(order) = found {
                 last = Some((*key, *order));

@@ -34,7 +34,9 @@ pub fn lines_at(
     moment: Moment,
 ) -> Result<StatusLines, Refusal>
     requires { Stand tables.now undo.now }
-    ensures lines { IfOk result (λ l. l ≡ map (λ e. status_line e.1) (lines_of order (version tables.now undo.now moment).order_lines)) }
+    ensures lines { IfOk result (λ l. l
+        ≡ map (λ e. status_line e.1)
+        (lines_of order (version tables.now undo.now moment).order_lines)) }
     ensures readable { OnOk result (IsReadable undo.now moment) }
     ensures refusal { IfErr result (λ e. IsOutside undo.now moment e) }
 {

@@ -22,7 +22,8 @@ pub fn names_at(
     moment: Moment,
 ) -> Result<Option<CustomerNumber>, Refusal>
     requires { Stand tables.now undo.now }
-    ensures customer { IfOk result (λ c. c ≡ middle (namesakes district.now last.now (version tables.now undo.now moment).customers)) }
+    ensures customer { IfOk result (λ c. c
+        ≡ middle (namesakes district.now last.now (version tables.now undo.now moment).customers)) }
     ensures readable { OnOk result (IsReadable undo.now moment) }
     ensures refusal { IfErr result (λ e. IsOutside undo.now moment e) }
 {

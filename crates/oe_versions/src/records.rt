@@ -45,7 +45,9 @@ fn is_of(before: &Before, key: &Key) -> bool
 /// The oldest of these records that is of the key; the newer one where none is.
 #[tactic(auto, using(crate::proofs::FoundFacts::takes, crate::proofs::FoundFacts::passes))]
 fn oldest_in<'a>(records: Records<'a>, key: &Key, newer: Option<&'a Before>) -> Option<&'a Before>
-    ensures { record_found (option_copied result) ≡ oldest_in key.now (map record_of_before records.entry) (record_found (option_copied newer.entry)) }
+    ensures { record_found (option_copied result)
+        ≡ oldest_in key.now (map record_of_before records.entry)
+        (record_found (option_copied newer.entry)) }
 {
     let mut oldest = newer;
     for before in records {
@@ -67,7 +69,8 @@ fn falling(lower: u32) -> Terminal
 /// The oldest record of the key in the open segments, by falling terminals.
 #[tactic(auto, using(crate::proofs::FoundFacts::open_goes, crate::proofs::FoundFacts::open_ends))]
 fn oldest_open<'a>(undo: &'a Undo, key: &Key) -> Option<&'a Before>
-    ensures { record_found (option_copied result) ≡ oldest_open key.now (undo_of undo.now).active (all_below system terminal_limit) None }
+    ensures { record_found (option_copied result)
+        ≡ oldest_open key.now (undo_of undo.now).active (all_below system terminal_limit) None }
 {
     let mut oldest = None;
     for lower in 0..64u32 {
@@ -99,7 +102,8 @@ pub(crate) fn found_at<'a>(
     key: &Key,
     moment: Moment,
 ) -> Result<Option<&'a Before>, Refusal>
-    ensures found { IfOk result (λ b. HasRow undo.now moment key.now (record_found (option_copied b))) }
+    ensures found { IfOk result (λ b.
+        HasRow undo.now moment key.now (record_found (option_copied b))) }
     ensures readable { OnOk result (IsReadable undo.now moment) }
     ensures refusal { IfErr result (λ e. IsOutside undo.now moment e) }
 {

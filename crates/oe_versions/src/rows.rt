@@ -79,7 +79,8 @@ pub fn row_at(
 
 /// The row that a record has, where it is one of WAREHOUSE.
 fn warehouse_before(before: &Before) -> Option<&Warehouse>
-    ensures { option_copied result ≡ option_and_then as_warehouse (row_before (record_of_before before.now)) }
+    ensures { option_copied result
+        ≡ option_and_then as_warehouse (row_before (record_of_before before.now)) }
 {
     match before {
         Before::UpdatedWarehouse(_, row) => Some(row),
@@ -94,7 +95,8 @@ pub fn warehouse_at<'a>(
     key: &WarehouseKey,
     moment: Moment,
 ) -> Result<Option<&'a Warehouse>, Refusal>
-    ensures row { IfOk result (λ x. option_copied x ≡ get (version tables.now undo.now moment).warehouses key.now) }
+    ensures row { IfOk result (λ x.
+        option_copied x ≡ get (version tables.now undo.now moment).warehouses key.now) }
     ensures readable { OnOk result (IsReadable undo.now moment) }
     ensures refusal { IfErr result (λ e. IsOutside undo.now moment e) }
 {
@@ -107,7 +109,8 @@ pub fn warehouse_at<'a>(
 
 /// The row that a record has, where it is one of CUSTOMER.
 fn customer_before(before: &Before) -> Option<&Customer>
-    ensures { option_copied result ≡ option_and_then as_customer (row_before (record_of_before before.now)) }
+    ensures { option_copied result
+        ≡ option_and_then as_customer (row_before (record_of_before before.now)) }
 {
     match before {
         Before::UpdatedCustomer(_, row) => Some(row.row()),
@@ -122,7 +125,8 @@ pub fn customer_at<'a>(
     key: &CustomerKey,
     moment: Moment,
 ) -> Result<Option<&'a Customer>, Refusal>
-    ensures row { IfOk result (λ x. option_copied x ≡ get (version tables.now undo.now moment).customers key.now) }
+    ensures row { IfOk result (λ x.
+        option_copied x ≡ get (version tables.now undo.now moment).customers key.now) }
     ensures readable { OnOk result (IsReadable undo.now moment) }
     ensures refusal { IfErr result (λ e. IsOutside undo.now moment e) }
 {
@@ -135,7 +139,8 @@ pub fn customer_at<'a>(
 
 /// The row that a record has, where it is one of DISTRICT.
 fn district_before(before: &Before) -> Option<&District>
-    ensures { option_copied result ≡ option_and_then as_district (row_before (record_of_before before.now)) }
+    ensures { option_copied result
+        ≡ option_and_then as_district (row_before (record_of_before before.now)) }
 {
     match before {
         Before::UpdatedDistrict(_, row) => Some(row),
@@ -150,7 +155,8 @@ pub fn district_at<'a>(
     key: &DistrictKey,
     moment: Moment,
 ) -> Result<Option<&'a District>, Refusal>
-    ensures row { IfOk result (λ x. option_copied x ≡ get (version tables.now undo.now moment).districts key.now) }
+    ensures row { IfOk result (λ x.
+        option_copied x ≡ get (version tables.now undo.now moment).districts key.now) }
     ensures readable { OnOk result (IsReadable undo.now moment) }
     ensures refusal { IfErr result (λ e. IsOutside undo.now moment e) }
 {
@@ -163,7 +169,8 @@ pub fn district_at<'a>(
 
 /// Whether a record has a row, where it is one of NEW-ORDER: that has no column but its key's.
 fn has_new_order_before(before: &Before) -> bool
-    ensures { result ≡ is_some (option_and_then as_new_order (row_before (record_of_before before.now))) }
+    ensures { result
+        ≡ is_some (option_and_then as_new_order (row_before (record_of_before before.now))) }
 {
     matches!(before, Before::DeletedNewOrder(_))
 }
@@ -175,7 +182,8 @@ pub fn has_new_order_at(
     key: &NewOrderKey,
     moment: Moment,
 ) -> Result<bool, Refusal>
-    ensures row { IfOk result (λ b. b ≡ is_some (get (version tables.now undo.now moment).new_orders key.now)) }
+    ensures row { IfOk result (λ b.
+        b ≡ is_some (get (version tables.now undo.now moment).new_orders key.now)) }
     ensures readable { OnOk result (IsReadable undo.now moment) }
     ensures refusal { IfErr result (λ e. IsOutside undo.now moment e) }
 {
@@ -188,7 +196,8 @@ pub fn has_new_order_at(
 
 /// The row that a record has, where it is one of ORDER.
 fn order_before(before: &Before) -> Option<&Order>
-    ensures { option_copied result ≡ option_and_then as_order (row_before (record_of_before before.now)) }
+    ensures { option_copied result
+        ≡ option_and_then as_order (row_before (record_of_before before.now)) }
 {
     match before {
         Before::UpdatedOrder(_, row) => Some(row),
@@ -203,7 +212,8 @@ pub fn order_at<'a>(
     key: &OrderKey,
     moment: Moment,
 ) -> Result<Option<&'a Order>, Refusal>
-    ensures row { IfOk result (λ x. option_copied x ≡ get (version tables.now undo.now moment).orders key.now) }
+    ensures row { IfOk result (λ x.
+        option_copied x ≡ get (version tables.now undo.now moment).orders key.now) }
     ensures readable { OnOk result (IsReadable undo.now moment) }
     ensures refusal { IfErr result (λ e. IsOutside undo.now moment e) }
 {
@@ -216,7 +226,8 @@ pub fn order_at<'a>(
 
 /// The row that a record has, where it is one of ORDER-LINE.
 fn order_line_before(before: &Before) -> Option<&OrderLine>
-    ensures { option_copied result ≡ option_and_then as_order_line (row_before (record_of_before before.now)) }
+    ensures { option_copied result
+        ≡ option_and_then as_order_line (row_before (record_of_before before.now)) }
 {
     match before {
         Before::UpdatedOrderLine(_, row) => Some(row),
@@ -231,7 +242,8 @@ pub fn order_line_at<'a>(
     key: &OrderLineKey,
     moment: Moment,
 ) -> Result<Option<&'a OrderLine>, Refusal>
-    ensures row { IfOk result (λ x. option_copied x ≡ get (version tables.now undo.now moment).order_lines key.now) }
+    ensures row { IfOk result (λ x.
+        option_copied x ≡ get (version tables.now undo.now moment).order_lines key.now) }
     ensures readable { OnOk result (IsReadable undo.now moment) }
     ensures refusal { IfErr result (λ e. IsOutside undo.now moment e) }
 {
@@ -244,7 +256,8 @@ pub fn order_line_at<'a>(
 
 /// The row that a record has, where it is one of STOCK.
 fn stock_before(before: &Before) -> Option<&Stock>
-    ensures { option_copied result ≡ option_and_then as_stock (row_before (record_of_before before.now)) }
+    ensures { option_copied result
+        ≡ option_and_then as_stock (row_before (record_of_before before.now)) }
 {
     match before {
         Before::UpdatedStock(_, row) => Some(row.row()),
@@ -259,7 +272,8 @@ pub fn stock_at<'a>(
     key: &StockKey,
     moment: Moment,
 ) -> Result<Option<&'a Stock>, Refusal>
-    ensures row { IfOk result (λ x. option_copied x ≡ get (version tables.now undo.now moment).stocks key.now) }
+    ensures row { IfOk result (λ x.
+        option_copied x ≡ get (version tables.now undo.now moment).stocks key.now) }
     ensures readable { OnOk result (IsReadable undo.now moment) }
     ensures refusal { IfErr result (λ e. IsOutside undo.now moment e) }
 {

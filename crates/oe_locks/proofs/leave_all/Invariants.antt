@@ -4,8 +4,8 @@ use Rattle.oe_locks.proofs.leave_all.Given as goal
 
 abbrev pub invariant-loop-name : goal.invariant-loop-name
 invariant-loop-name l = record {
-  listed : IsListed l.holders.entries l.terminal l.names.items;
-  others : OthersKeep l.initial.holders.entries l.holders.entries l.terminal;
+  listed : IsListed l.holders l.terminal l.names.items;
+  others : OthersKeep l.initial.holders l.holders l.terminal;
 }
 
 abbrev pub decreases-loop-name : goal.decreases-loop-name

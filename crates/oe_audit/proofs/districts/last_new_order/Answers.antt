@@ -1,12 +1,21 @@
-use Rattle.std.proofs.Common.{sym, ◌∙◌, rules}
-use Rattle.std.proofs.lemmas.Iterator.{YieldsList-from_map}
-use Rattle.std.proofs.lemmas.Iterator.Adapters.{option_map_id}
-use Rattle.std.proofs.lemmas.Iterator.Consumers.{YieldsList-at, YieldsList-from_first, max_from_yields_List}
-use Rattle.oe_audit.proofs.NumberFacts.{greatest_reduced}
+use Rattle.std.proofs.Common.{sym, ◌∙◌, ap, map, None, List, ℕ}
+use Rattle.oe_model.specs.Audits.{new_order_numbers}
+use Rattle.oe_keys.specs.declared.keys.OrderKey.{OrderKey}
+use Rattle.oe_keys.specs.declared.keys.NewOrderKey.{NewOrderKey}
+use Rattle.oe_rows.specs.declared.orders.NewOrder.{NewOrder}
+use Rattle.oe_rows.specs.declared.orders.Order.{Order}
+use Rattle.oe_model.specs.Rows.{Rows}
+use Rattle.oe_audit.specs.AsOf.{rows_then, stood_among}
+use Rattle.oe_audit.proofs.StoodFacts.{as_new, new_orders_are}
+use Rattle.oe_audit.proofs.WalkFacts.{highest_from, highest_is}
 use Rattle.oe_audit.proofs.districts.last_new_order.Goals as goal
 
-pub returns : goal.returns
-returns c =
-    sym (option_map_id _)
-    ∙ max_from_yields_List c.map.result _ c.max.ensures.ran (YieldsList-from_map _ (λ e. e.0.order) (YieldsList-at c.map.ensures.source (YieldsList-from_first (λ p. (p.0.now, p.1.now)) (λ s. s) _ c.new_orders_of.ensures)) c.map.ensures.closure (λ x r q k. search rules))
-    ∙ greatest_reduced _
+abbrev numbers : List (NewOrderKey × NewOrder) → List ℕ
+numbers es = map (λ e. e.0.order) es
+
+pub loop-order-init : goal.loop-order-init
+loop-order-init c =
+    let past : Rows = rows_then c.args.tables.now c.args.when.now in
+    ap (λ (es : List (OrderKey × Order)). highest_from None (numbers (stood_among past.new_orders (as_new es)))) (c.into_iter-order-iterator.ensures.into_iter_gives ∙ c.orders_of-order-items.ensures)
+    ∙ ap (λ es. highest_from None (numbers es)) (sym (new_orders_are c.args.tables.now c.args.when.now c.requires c.args.key.now))
+    ∙ highest_is (new_order_numbers c.args.key.now past.new_orders)

@@ -1,4 +1,4 @@
-use Rattle.std.proofs.Common.{◌≡◌, ◌↔◌, sym, ◌∙◌, ap, Bool, true, false}
+use Rattle.std.proofs.Common.{◌≡◌, ◌↔◌, sym, ◌∙◌, ap, Bool, false}
 use Rattle.std.specs.Prelude.{◌&&◌, IsTrue}
 use Rattle.oe_model.specs.PopulationTest.{has_stocks}
 use Rattle.oe_store.specs.Stored.{rows}

@@ -1,4 +1,4 @@
--- The bytes of the number are put at their place.
+-- The bytes of the number are put at their offset.
 use Rattle.std.proofs.Common.{◌≡◌, ◌+◌, ◌-◌, length, arith}
 use Rattle.byteorder.specs.Endian.{big_bytes}
 use Rattle.byteorder.specs.Numbers.{length-bytes_high_first}

@@ -1,4 +1,4 @@
--- The bytes are put at their place.
+-- The bytes are put at their offset.
 use Rattle.std.proofs.Common.{◌≡◌, ◌+◌, ◌-◌, length, take, drop, arith, [], refl}
 use Rattle.std.proofs.lemmas.List.{append-nil, drop_all, length-take}
 use Rattle.oe_bytes.proofs.WriteFacts.{Writes-mid}

@@ -5,11 +5,11 @@ use Rattle.oe_requests.specs.declared.requests.Request.TheVariants as request
 use Rattle.oe_model.specs.Keys.{customer_in}
 use Rattle.oe_model.specs.Changes.{UpdateCustomer}
 use Rattle.oe_model.specs.Delivery.{delivered_to, delivered_out}
-use Rattle.oe_model.specs.Places.{DeliveryEnd, InDelivery}
+use Rattle.oe_model.specs.Positions.{DeliveryEnd, InDelivery}
 use Rattle.oe_formulas.specs.Checks.{checked}
 use Rattle.oe_engine.specs.View.{view_of}
 use Rattle.oe_engine.specs.Programs.{GoesOn}
-use Rattle.oe_delivery.specs.Program.{line_place}
+use Rattle.oe_delivery.specs.Program.{line_position}
 use Rattle.oe_delivery.proofs.RowFacts.{customer_asks, customer_does}
 use Rattle.oe_delivery.proofs.rows.credit_customer.Goals.{After-put}
 use Rattle.oe_delivery.proofs.rows.credit_customer.Goals as goal
@@ -26,11 +26,11 @@ fits c = subst (λ n. Ok (record c.in-Some.row.now { account = c.in-Ok.account }
 pub returns-in-Ok-put : goal.returns-in-Ok-put
 returns-in-Ok-put c =
     let h = (goal.at.returns-in-Ok-put c).After-put in
-    subst (λ y. GoesOn c.args.engine.now c.args.tx.now (request.Delivery c.args.request.now) (InDelivery c.args.request.now (line_place c.args.remainder.now))
+    subst (λ y. GoesOn c.args.engine.now c.args.tx.now (request.Delivery c.args.request.now) (InDelivery c.args.request.now (line_position c.args.remainder.now))
     c.put.new.engine (InDelivery c.args.request.now (DeliveryEnd y.order y.customer y.sum))) (sym c.delivered.ensures)
     (c.in-Ok-put.ensures.does (UpdateCustomer c.customer-2.result (record c.in-Some.row.now { account = c.in-Ok.account }))
     (ap (option_map (λ z. UpdateCustomer c.customer-2.result (record z { account = c.in-Ok.account }))) (found h))
-    (request.Delivery c.args.request.now) (InDelivery c.args.request.now (line_place c.args.remainder.now))
+    (request.Delivery c.args.request.now) (InDelivery c.args.request.now (line_position c.args.remainder.now))
     (InDelivery c.args.request.now (DeliveryEnd c.args.remainder.now.order c.args.remainder.now.customer c.args.remainder.now.sum))
     (customer_asks c.args.engine.now c.args.tx.now c.args.request.now c.args.remainder.now c.requires.last c.customer-2.result (payer_is h))
     (customer_does c.args.engine.now c.args.tx.now c.args.request.now c.args.remainder.now c.requires.last c.customer-2.result (payer_is h)
@@ -41,7 +41,7 @@ returns-in-Err-put c =
     let h = (goal.at.returns-in-Err-put c).After-put in (
       c.in-Err-put.ensures.does (UpdateCustomer c.customer-2.result (record c.in-Some.row.now { account = c.in-Ok.account }))
           (ap (option_map (λ z. UpdateCustomer c.customer-2.result (record z { account = c.in-Ok.account }))) (found h))
-          (request.Delivery c.args.request.now) (InDelivery c.args.request.now (line_place c.args.remainder.now))
+          (request.Delivery c.args.request.now) (InDelivery c.args.request.now (line_position c.args.remainder.now))
           (InDelivery c.args.request.now (DeliveryEnd c.args.remainder.now.order c.args.remainder.now.customer c.args.remainder.now.sum))
           (customer_asks c.args.engine.now c.args.tx.now c.args.request.now c.args.remainder.now c.requires.last c.customer-2.result (payer_is h))
           (customer_does c.args.engine.now c.args.tx.now c.args.request.now c.args.remainder.now c.requires.last c.customer-2.result (payer_is h)

@@ -7,11 +7,11 @@ use Rattle.oe_requests.specs.declared.requests.Request.TheVariants as request
 use Rattle.oe_model.specs.Keys.{order_of_line, order_in, line_in}
 use Rattle.oe_model.specs.Changes.{UpdateOrderLine}
 use Rattle.oe_model.specs.Delivery.{dated}
-use Rattle.oe_model.specs.Places.{DeliveryLine, InDelivery}
+use Rattle.oe_model.specs.Positions.{DeliveryLine, InDelivery}
 use Rattle.oe_store.specs.Stored.{rows}
 use Rattle.oe_engine.specs.View.{view_of}
 use Rattle.oe_engine.specs.Programs.{GoesOn}
-use Rattle.oe_delivery.specs.Program.{line_place}
+use Rattle.oe_delivery.specs.Program.{line_position}
 use Rattle.oe_delivery.proofs.RowFacts.{line_asks, line_does, order_held}
 use Rattle.oe_delivery.proofs.rows.date_line.Goals.{After-line, After-put_held}
 use Rattle.oe_delivery.proofs.rows.date_line.Goals as goal
@@ -29,11 +29,11 @@ put_held-requires-clause-held c = λ o.
 
 pub returns-in-Ok : goal.returns-in-Ok
 returns-in-Ok c =
-    subst (λ l. GoesOn c.args.engine.now c.args.tx.now (request.Delivery c.args.request.now) (InDelivery c.args.request.now (line_place c.args.remainder.now))
-    c.put_held.new.engine (InDelivery c.args.request.now (line_place l))) (sym c.pass.ensures)
+    subst (λ l. GoesOn c.args.engine.now c.args.tx.now (request.Delivery c.args.request.now) (InDelivery c.args.request.now (line_position c.args.remainder.now))
+    c.put_held.new.engine (InDelivery c.args.request.now (line_position l))) (sym c.pass.ensures)
     (c.in-Ok.ensures.does (UpdateOrderLine c.line.result (dated c.args.request.now.stamp c.in-Some.row.now))
     (ap (option_map (λ z. UpdateOrderLine c.line.result (dated c.args.request.now.stamp z))) (found (goal.at.returns-in-Ok c).After-put_held))
-    (request.Delivery c.args.request.now) (InDelivery c.args.request.now (line_place c.args.remainder.now))
+    (request.Delivery c.args.request.now) (InDelivery c.args.request.now (line_position c.args.remainder.now))
     (InDelivery c.args.request.now (DeliveryLine c.args.remainder.now.order c.args.remainder.now.customer (drop 1 c.args.remainder.now.numbers) (c.args.remainder.now.sum + c.in-Some.row.now.amount)))
     (line_asks c.args.engine.now c.args.tx.now c.args.request.now c.args.remainder.now c.args.number c.requires.next)
     (line_does c.args.engine.now c.args.tx.now c.args.request.now c.args.remainder.now c.args.number c.requires.next c.line.result
@@ -43,7 +43,7 @@ pub returns-in-Err : goal.returns-in-Err
 returns-in-Err c = (
   c.in-Err.ensures.does (UpdateOrderLine c.line.result (dated c.args.request.now.stamp c.in-Some.row.now))
       (ap (option_map (λ z. UpdateOrderLine c.line.result (dated c.args.request.now.stamp z))) (found (goal.at.returns-in-Err c).After-put_held))
-      (request.Delivery c.args.request.now) (InDelivery c.args.request.now (line_place c.args.remainder.now))
+      (request.Delivery c.args.request.now) (InDelivery c.args.request.now (line_position c.args.remainder.now))
       (InDelivery c.args.request.now (DeliveryLine c.args.remainder.now.order c.args.remainder.now.customer (drop 1 c.args.remainder.now.numbers) (c.args.remainder.now.sum + c.in-Some.row.now.amount)))
       (line_asks c.args.engine.now c.args.tx.now c.args.request.now c.args.remainder.now c.args.number c.requires.next)
       (line_does c.args.engine.now c.args.tx.now c.args.request.now c.args.remainder.now c.args.number c.requires.next c.line.result

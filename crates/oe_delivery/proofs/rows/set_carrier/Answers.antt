@@ -2,9 +2,9 @@ use Rattle.std.proofs.Common.{◌≡◌, Some, sym, ap, subst}
 use Rattle.std.specs.Prelude.{option_map}
 use Rattle.std.specs.FinMap.{get}
 use Rattle.oe_requests.specs.declared.requests.Request.TheVariants as request
-use Rattle.oe_model.specs.Places.{DeliveryOrder, InDelivery}
+use Rattle.oe_model.specs.Positions.{DeliveryOrder, InDelivery}
 use Rattle.oe_delivery.specs.Remainder.{remainder_of}
-use Rattle.oe_delivery.specs.Program.{line_place}
+use Rattle.oe_delivery.specs.Program.{line_position}
 use Rattle.oe_delivery.proofs.RowFacts.{CarrierDeed, carrier_deed}
 use Rattle.oe_delivery.proofs.rows.set_carrier.Goals.{After-put}
 use Rattle.oe_delivery.proofs.rows.set_carrier.Goals as goal
@@ -18,13 +18,13 @@ pub returns-in-Ok : goal.returns-in-Ok
 returns-in-Ok c =
     let d = deed (goal.at.returns-in-Ok c).After-put in
     c.in-Ok.ensures.does d.0 d.1 (request.Delivery c.args.request.now) (InDelivery c.args.request.now (DeliveryOrder c.args.order))
-    (InDelivery c.args.request.now (line_place c.in-Some.remainder)) d.2 d.3
+    (InDelivery c.args.request.now (line_position c.in-Some.remainder)) d.2 d.3
 
 pub returns-in-Err : goal.returns-in-Err
 returns-in-Err c =
     let d = deed (goal.at.returns-in-Err c).After-put in (
       c.in-Err.ensures.does d.0 d.1 (request.Delivery c.args.request.now) (InDelivery c.args.request.now (DeliveryOrder c.args.order))
-          (InDelivery c.args.request.now (line_place c.in-Some.remainder)) d.2 d.3,
+          (InDelivery c.args.request.now (line_position c.in-Some.remainder)) d.2 d.3,
       c.in-Err.ensures.err,
       c.in-Err.ensures.name,
     )

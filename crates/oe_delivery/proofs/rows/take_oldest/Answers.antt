@@ -5,7 +5,7 @@ use Rattle.oe_requests.specs.declared.requests.Request.TheVariants as request
 use Rattle.oe_model.specs.Keys.{district_of_new_order}
 use Rattle.oe_model.specs.Changes.{DeleteNewOrder}
 use Rattle.oe_model.specs.Delivery.{oldest}
-use Rattle.oe_model.specs.Places.{DeliveryQueue, DeliveryNothing, DeliveryOrder, InDelivery}
+use Rattle.oe_model.specs.Positions.{DeliveryQueue, DeliveryNothing, DeliveryOrder, InDelivery}
 use Rattle.oe_engine.specs.View.{view_of}
 use Rattle.oe_delivery.proofs.RowFacts.{none_waits, one_waits}
 use Rattle.oe_delivery.proofs.rows.take_oldest.Goals.{After-hold, After-put}

@@ -5,28 +5,28 @@ use Rattle.oe_locks.proofs.HeldFacts.{in_map, own-changed, others-changed, none-
 use Rattle.oe_locks.proofs.Locks.change.Goals.{After-replace}
 use Rattle.oe_locks.proofs.Locks.change.Goals as goal
 
-others : (c : After-replace) (u : ℕ) → u ≢ c.args.terminal → mode_among c.args.after u ≡ held c.self.inside.holders.entries u c.args.name.now
+others : (c : After-replace) (u : ℕ) → u ≢ c.args.terminal → mode_among c.args.after u ≡ held c.self.inside.holders u c.args.name.now
 others c = rw c.self.view_is c.requires.others
 
-some : (c : After-replace) → IsSome (held c.self.inside.holders.entries c.args.terminal c.args.name.now)
+some : (c : After-replace) → IsSome (held c.self.inside.holders c.args.terminal c.args.name.now)
 some c = rw c.self.view_is c.requires.held
 
 pub replace-requires : goal.replace-requires
-replace-requires c = in_map c.self.inside.holders.entries c.args.terminal c.args.name.now (rw c.self.view_is c.requires.held)
+replace-requires c = in_map c.self.inside.holders c.args.terminal c.args.name.now (rw c.self.view_is c.requires.held)
 
 pub invariant_of-self : goal.invariant_of-self
 invariant_of-self c = (
   c.self.invariant.0,
-  listed-kept c.self.inside.names.items c.self.inside.holders.entries c.replace.new.holders.entries c.args.terminal
-      (others-changed c.self.inside.holders.entries c.replace.new.holders.entries c.args.name.now (Some c.args.after) c.replace.ensures c.args.terminal (others c))
-      (none-changed c.self.inside.holders.entries c.replace.new.holders.entries c.args.terminal c.args.name.now _
-      (own-changed c.self.inside.holders.entries c.replace.new.holders.entries c.args.name.now (Some c.args.after) c.replace.ensures c.args.terminal) (some c)) c.self.invariant.1,
+  listed-kept c.self.inside.names.items c.self.inside.holders c.replace.new.self c.args.terminal
+      (others-changed c.self.inside.holders c.replace.new.self c.args.name.now (Some c.args.after) c.replace.ensures c.args.terminal (others c))
+      (none-changed c.self.inside.holders c.replace.new.self c.args.terminal c.args.name.now _
+      (own-changed c.self.inside.holders c.replace.new.self c.args.name.now (Some c.args.after) c.replace.ensures c.args.terminal) (some c)) c.self.invariant.1,
 )
 
 pub returns-clause-own : goal.returns-clause-own
 returns-clause-own c =
-    rw (← c.self.view_is) (own-changed c.self.inside.holders.entries c.replace.new.holders.entries c.args.name.now (Some c.args.after) c.replace.ensures c.args.terminal)
+    rw (← c.self.view_is) (own-changed c.self.inside.holders c.replace.new.self c.args.name.now (Some c.args.after) c.replace.ensures c.args.terminal)
 
 pub returns-clause-others : goal.returns-clause-others
 returns-clause-others c =
-    rw (← c.self.view_is) (others-changed c.self.inside.holders.entries c.replace.new.holders.entries c.args.name.now (Some c.args.after) c.replace.ensures c.args.terminal (others c))
+    rw (← c.self.view_is) (others-changed c.self.inside.holders c.replace.new.self c.args.name.now (Some c.args.after) c.replace.ensures c.args.terminal (others c))

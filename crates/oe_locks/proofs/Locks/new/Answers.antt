@@ -3,7 +3,7 @@ use Rattle.oe_locks.proofs.HeldFacts.{idle-empty}
 use Rattle.oe_locks.proofs.Locks.new.Goals as goal
 
 pub invariant_of-result : goal.invariant_of-result
-invariant_of-result c = (omega (arith, c.loop.invariant), λ i q s. idle-empty _ c.new-2.ensures.empty (suc i) q)
+invariant_of-result c = (omega (arith, c.loop.invariant), λ i q s. idle-empty _ c.new-2.ensures (suc i) q)
 
 pub returns : goal.returns
-returns c = idle-empty _ c.new-2.ensures.empty
+returns c = idle-empty _ c.new-2.ensures

@@ -5,22 +5,22 @@ use Rattle.oe_locks.proofs.Locks.take.Goals as goal
 
 pub invariant_of-self : goal.invariant_of-self
 invariant_of-self c =
-    let room : c.place.result < length c.self.inside.names.items = omega (arith, c.self.invariant.0) in
+    let room : c.slot.result < length c.self.inside.names.items = omega (arith, c.self.invariant.0) in
     let kept =
-    entered c.self.inside.holders.entries c.join.new.holders.entries c.args.terminal c.args.name.now (Some c.args.after) c.index_mut-names.result.now.items c.join.new.names.items c.join.result
+    entered c.self.inside.holders c.join.new.holders c.args.terminal c.args.name.now (Some c.args.after) c.index_mut-names.result.now.items c.join.new.names.items c.join.result
     c.join.ensures.map c.join.ensures.list c.join.ensures.err (rw c.self.view_is c.requires)
-    (listed-at c.self.inside.names.items c.place.result c.args.terminal c.index_mut-names.result.now c.place.ensures.value room c.self.inside.holders.entries c.index_mut-names.ensures.value c.self.invariant.1)
+    (listed-at c.self.inside.names.items c.slot.result c.args.terminal c.index_mut-names.result.now c.slot.ensures.value room c.self.inside.holders c.index_mut-names.ensures.value c.self.invariant.1)
     in (
       c.self.invariant.0,
-      listed-set c.self.inside.names.items c.place.result c.args.terminal c.join.new.names c.place.ensures.value room c.self.inside.holders.entries c.join.new.holders.entries c.self.invariant.1 kept.0 kept.1,
+      listed-set c.self.inside.names.items c.slot.result c.args.terminal c.join.new.names c.slot.ensures.value room c.self.inside.holders c.join.new.holders c.self.invariant.1 kept.0 kept.1,
     )
 
 pub returns-clause-own : goal.returns-clause-own
 returns-clause-own c =
     rw (← c.self.view_is)
-    (on_ok_weaker c.join.result (λ is. own-changed c.self.inside.holders.entries c.join.new.holders.entries c.args.name.now (Some c.args.after) is c.args.terminal) c.join.ensures.map)
+    (on_ok_weaker c.join.result (λ is. own-changed c.self.inside.holders c.join.new.holders c.args.name.now (Some c.args.after) is c.args.terminal) c.join.ensures.map)
 
 pub returns-clause-others : goal.returns-clause-others
 returns-clause-others c =
     rw (← c.self.view_is)
-    (on_ok_weaker c.join.result (λ is. others-changed c.self.inside.holders.entries c.join.new.holders.entries c.args.name.now (Some c.args.after) is c.args.terminal (rw c.self.view_is c.requires)) c.join.ensures.map)
+    (on_ok_weaker c.join.result (λ is. others-changed c.self.inside.holders c.join.new.holders c.args.name.now (Some c.args.after) is c.args.terminal (rw c.self.view_is c.requires)) c.join.ensures.map)

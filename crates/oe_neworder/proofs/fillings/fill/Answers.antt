@@ -1,6 +1,6 @@
 use Rattle.std.proofs.Common.{◌∷◌, refl, inl, subst}
 use Rattle.oe_requests.specs.declared.requests.Request.TheVariants as request
-use Rattle.oe_model.specs.Places.{NewOrderStock, NewOrderLine, InNewOrder}
+use Rattle.oe_model.specs.Positions.{NewOrderStock, NewOrderLine, InNewOrder}
 use Rattle.oe_neworder.specs.Looks.{IsSupply}
 use Rattle.oe_neworder.specs.Program.{filled_by}
 use Rattle.oe_neworder.specs.declared.looks.Supply.TheVariants as supply

@@ -5,7 +5,7 @@ use Rattle.oe_model.specs.Keys.{district_of_new_order}
 use Rattle.oe_requests.specs.declared.requests.Request.TheVariants as request
 use Rattle.oe_formulas.specs.Orders.{seen_by}
 use Rattle.oe_model.specs.Changes.{InsertNewOrder}
-use Rattle.oe_model.specs.Places.{NewOrderQueue, NewOrderStock, InNewOrder}
+use Rattle.oe_model.specs.Positions.{NewOrderQueue, NewOrderStock, InNewOrder}
 use Rattle.oe_engine.specs.Programs.{GoesOn}
 use Rattle.oe_neworder.proofs.LineFacts.{lines_begin}
 use Rattle.oe_neworder.proofs.rows.insert_new_order.Goals as goal

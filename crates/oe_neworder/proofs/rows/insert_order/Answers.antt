@@ -4,7 +4,7 @@ use Rattle.oe_keys.specs.declared.locks.Name.TheVariants as name
 use Rattle.oe_requests.specs.declared.requests.Request.TheVariants as request
 use Rattle.oe_formulas.specs.Orders.{seen_by}
 use Rattle.oe_model.specs.Changes.{InsertOrder}
-use Rattle.oe_model.specs.Places.{NewOrderOrder, NewOrderQueue, InNewOrder}
+use Rattle.oe_model.specs.Positions.{NewOrderOrder, NewOrderQueue, InNewOrder}
 use Rattle.oe_neworder.proofs.rows.insert_order.Goals as goal
 
 pub returns-in-Ok : goal.returns-in-Ok

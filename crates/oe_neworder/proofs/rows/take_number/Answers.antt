@@ -1,6 +1,6 @@
 use Rattle.std.proofs.Common.{Ok, Err, refl, subst}
 use Rattle.oe_requests.specs.declared.requests.Request.TheVariants as request
-use Rattle.oe_model.specs.Places.{NewOrderDistrict, NewOrderCustomer, InNewOrder}
+use Rattle.oe_model.specs.Positions.{NewOrderDistrict, NewOrderCustomer, InNewOrder}
 use Rattle.oe_neworder.specs.Looks.{TakesNumber}
 use Rattle.oe_neworder.proofs.rows.take_number.Goals as goal
 

@@ -49,6 +49,21 @@ returns-in-Rollback g c = λ line short says.
     told_here (world_of c.args.core.now) (world_of c.tell-in-Rollback.new.core) c.args.number line c.args.asked.now (command.Rollback c.in-Rollback.terminal) (g.W.Outlet.sink c.args.to.now) c.args.out.now.items c.tell-in-Rollback.new.out.items _
     short says c.in-Rollback.is tt (c.tell-in-Rollback.ensures.0, world_of c.tell-in-Rollback.new.core, c.tell-in-Rollback.ensures.1, refl, refl) c.tell-in-Rollback.ensures.2
 
+pub returns-in-Read : goal.returns-in-Read
+returns-in-Read g c = λ line short says.
+    told_here (world_of c.args.core.now) (world_of c.tell_read.new.core) c.args.number line c.args.asked.now (command.Read c.in-Read.moment c.in-Read.query) (g.W.Outlet.sink c.args.to.now) c.args.out.now.items c.tell_read.new.out.items _
+    short says c.in-Read.is tt (c.tell_read.ensures.0, world_of c.tell_read.new.core, c.tell_read.ensures.1, refl, refl) c.tell_read.ensures.2
+
+pub returns-in-Purge : goal.returns-in-Purge
+returns-in-Purge g c = λ line short says.
+    told_here (world_of c.args.core.now) (world_of c.tell_purge.new.core) c.args.number line c.args.asked.now (command.Purge c.in-Purge.moment) (g.W.Outlet.sink c.args.to.now) c.args.out.now.items c.tell_purge.new.out.items _
+    short says c.in-Purge.is tt (c.tell_purge.ensures.0, world_of c.tell_purge.new.core, c.tell_purge.ensures.1, refl, refl) c.tell_purge.ensures.2
+
+pub returns-in-Rewind : goal.returns-in-Rewind
+returns-in-Rewind g c = λ line short says.
+    told_here (world_of c.args.core.now) (world_of c.tell_rewind.new.core) c.args.number line c.args.asked.now (command.Rewind c.in-Rewind.moment) (g.W.Outlet.sink c.args.to.now) c.args.out.now.items c.tell_rewind.new.out.items _
+    short says c.in-Rewind.is tt (c.tell_rewind.ensures.0, world_of c.tell_rewind.new.core, c.tell_rewind.ensures.1, refl, refl) c.tell_rewind.ensures.2
+
 pub returns-in-Audit : goal.returns-in-Audit
 returns-in-Audit g c = λ line short says.
     told_here (world_of c.args.core.now) (world_of c.tell_audit.new.core) c.args.number line c.args.asked.now (command.Audit c.in-Audit.condition c.in-Audit.moment) (g.W.Outlet.sink c.args.to.now) c.args.out.now.items c.tell_audit.new.out.items _

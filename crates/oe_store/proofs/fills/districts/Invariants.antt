@@ -7,5 +7,5 @@ use Rattle.oe_store.specs.Fill.{Fills}
 use Rattle.oe_store.specs.Group.{is_any_district, district_count}
 use Rattle.oe_store.proofs.fills.districts.Given as goal
 
-abbrev pub invariant-loop-place : goal.invariant-loop-place
-invariant-loop-place l = Fills (λ k. counts_to l.place (district_count k) && is_any_district k) (λ k. district_of l.scale k.district) empty (rows_of district_cmp l.table)
+abbrev pub invariant-loop-ordinal : goal.invariant-loop-ordinal
+invariant-loop-ordinal l = Fills (λ k. counts_to l.ordinal (district_count k) && is_any_district k) (λ k. district_of l.scale k.district) empty (rows_of district_cmp l.table)

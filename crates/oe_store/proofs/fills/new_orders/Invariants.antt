@@ -8,5 +8,5 @@ use Rattle.oe_store.specs.Fill.{Fills}
 use Rattle.oe_store.specs.Group.{is_any_district, district_count, no_columns}
 use Rattle.oe_store.proofs.fills.new_orders.Given as goal
 
-abbrev pub invariant-loop-place : goal.invariant-loop-place
-invariant-loop-place l = Fills (λ k. ((counts_to l.place (district_count (district_of_new_order k)) && is_any_district (district_of_new_order k)) && counts_to l.scale.customers k.order) && not (is_delivered l.scale k.order)) (λ k. no_columns) empty (rows_of new_order_cmp l.table)
+abbrev pub invariant-loop-ordinal : goal.invariant-loop-ordinal
+invariant-loop-ordinal l = Fills (λ k. ((counts_to l.ordinal (district_count (district_of_new_order k)) && is_any_district (district_of_new_order k)) && counts_to l.scale.customers k.order) && not (is_delivered l.scale k.order)) (λ k. no_columns) empty (rows_of new_order_cmp l.table)

@@ -8,5 +8,5 @@ use Rattle.oe_store.specs.Fill.{Fills}
 use Rattle.oe_store.specs.Group.{is_any_district, district_count}
 use Rattle.oe_store.proofs.fills.order_lines.Given as goal
 
-abbrev pub invariant-loop-place : goal.invariant-loop-place
-invariant-loop-place l = Fills (λ k. ((counts_to l.place (district_count (district_of_order (order_of_line k))) && is_any_district (district_of_order (order_of_line k))) && counts_to l.scale.customers k.order) && counts_to (lines_of k.order) k.number) (line_of l.scale) empty (rows_of order_line_cmp l.table)
+abbrev pub invariant-loop-ordinal : goal.invariant-loop-ordinal
+invariant-loop-ordinal l = Fills (λ k. ((counts_to l.ordinal (district_count (district_of_order (order_of_line k))) && is_any_district (district_of_order (order_of_line k))) && counts_to l.scale.customers k.order) && counts_to (lines_of k.order) k.number) (line_of l.scale) empty (rows_of order_line_cmp l.table)

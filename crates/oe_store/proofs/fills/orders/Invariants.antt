@@ -8,5 +8,5 @@ use Rattle.oe_store.specs.Fill.{Fills}
 use Rattle.oe_store.specs.Group.{is_any_district, district_count}
 use Rattle.oe_store.proofs.fills.orders.Given as goal
 
-abbrev pub invariant-loop-place : goal.invariant-loop-place
-invariant-loop-place l = Fills (λ k. (counts_to l.place (district_count (district_of_order k)) && is_any_district (district_of_order k)) && counts_to l.scale.customers k.order) (λ k. order_of l.scale k.order) empty (rows_of order_cmp l.table)
+abbrev pub invariant-loop-ordinal : goal.invariant-loop-ordinal
+invariant-loop-ordinal l = Fills (λ k. (counts_to l.ordinal (district_count (district_of_order k)) && is_any_district (district_of_order k)) && counts_to l.scale.customers k.order) (λ k. order_of l.scale k.order) empty (rows_of order_cmp l.table)

@@ -16,12 +16,12 @@ pub returns-in_default : goal.returns-in_default
 returns-in_default c =
     rw (← c.self.view_is)
     (carries (nothing_open (record { engine = c.self.inside.engine; txs = c.self.inside.txs.items; works = c.self.inside.works.items }) c.self.invariant (Advance c.args.terminal) c.args.terminal refl
-    (lent_tx c.self.invariant c.place.ensures.value c.place.ensures.high c.index.ensures c.in_default.is)))
+    (lent_tx c.self.invariant c.slot.ensures.value c.slot.ensures.high c.index.ensures c.in_default.is)))
 
--- the transaction in its place
+-- the transaction in its slot
 is_there : (c : In-Some-index_mut) → HasOpen (record { engine = c.self.inside.engine; txs = c.self.inside.txs.items; works = c.self.inside.works.items }) c.args.terminal c.in-Some.tx c.in-Some-index_mut.work
 is_there c =
-    lent_here c.self.invariant c.place.ensures.value c.place.ensures.high c.index.ensures c.in-Some.is c.place-2.ensures.value c.place-2.ensures.high c.index_mut.ensures.value c.in-Some-index_mut.is
+    lent_here c.self.invariant c.slot.ensures.value c.slot.ensures.high c.index.ensures c.in-Some.is c.slot-2.ensures.value c.slot-2.ensures.high c.index_mut.ensures.value c.in-Some-index_mut.is
 
 pub next-requires-clause-of : goal.next-requires-clause-of
 next-requires-clause-of c = (own_work (is_there (goal.at.next-requires-clause-of c).In-Some-index_mut)).program
@@ -31,10 +31,10 @@ next-requires-clause-held c = λ o. holds_taken (is_there (goal.at.next-requires
 
 -- the row went on
 went_on : (c : After-self-in-More-1) → Moves (record { engine = c.self.inside.engine; txs = c.self.inside.txs.items; works = c.self.inside.works.items }) (Advance c.args.terminal) More
-    (record { engine = c.next.new.engine; txs = c.self.inside.txs.items; works = slice_set c.self.inside.works.items c.place-2.result (Some (record c.in-Some-index_mut.work { program = c.next.new.self })) })
+    (record { engine = c.next.new.engine; txs = c.self.inside.txs.items; works = slice_set c.self.inside.works.items c.slot-2.result (Some (record c.in-Some-index_mut.work { program = c.next.new.self })) })
 went_on c =
     went_on_here (is_there (goal.at.returns-in-More c).In-Some-index_mut) c.next.new.self c.next.new.engine _ c.in-More.ensures.progresses c.in-More.ensures.of
-    (ap (λ (k : ℕ). slice_set c.self.inside.works.items k (Some (record c.in-Some-index_mut.work { program = c.next.new.self }))) c.place-2.ensures.value)
+    (ap (λ (k : ℕ). slice_set c.self.inside.works.items k (Some (record c.in-Some-index_mut.work { program = c.next.new.self }))) c.slot-2.ensures.value)
 
 pub invariant_of-self : goal.invariant_of-self
 invariant_of-self c = (went_on c).orderly
@@ -61,7 +61,7 @@ commit-requires-clause-ready c =
     subst IsSome (sym (has_its_reply at.In-Ready (is_there at.In-Some-index_mut))) refl
 
 committed_now : (c : After-self-in-Ready-1) → Moves (record { engine = c.self.inside.engine; txs = c.self.inside.txs.items; works = c.self.inside.works.items }) (Advance c.args.terminal) (Committed c.commit.result c.in-Ready.ensures.progresses.0.0)
-    (record { engine = c.commit.new.engine; txs = c.open_tx-open.new.txs.items; works = slice_set c.self.inside.works.items c.place-2.result (Some (record c.in-Some-index_mut.work { program = c.next.new.self })) })
+    (record { engine = c.commit.new.engine; txs = c.open_tx-open.new.txs.items; works = slice_set c.self.inside.works.items c.slot-2.result (Some (record c.in-Some-index_mut.work { program = c.next.new.self })) })
 committed_now c =
     let here = is_there (goal.at.returns-in-Ready c).In-Some-index_mut in
     let ready = c.in-Ready.ensures.progresses in
@@ -70,7 +70,7 @@ committed_now c =
     ready.0.1 ready.1 c.commit.ensures.moment
     (subst (λ o. IfSome o (λ y. view_of c.commit.new.engine ≡ committed c.open_tx-open.result.terminal c.in-Some-index_mut.work.request y (view_of c.next.new.engine))) reply c.commit.ensures.committed)
     c.commit.ensures.name c.open_tx-open.ensures.after
-    (ap (λ (k : ℕ). slice_set c.self.inside.works.items k (Some (record c.in-Some-index_mut.work { program = c.next.new.self }))) c.place-2.ensures.value)
+    (ap (λ (k : ℕ). slice_set c.self.inside.works.items k (Some (record c.in-Some-index_mut.work { program = c.next.new.self }))) c.slot-2.ensures.value)
 
 pub invariant_of-self-in-Ready : goal.invariant_of-self-in-Ready
 invariant_of-self-in-Ready c = (committed_now c).orderly
@@ -80,12 +80,12 @@ returns-in-Ready c = rw (← c.self.view_is) (told_newest (committed_now c))
 
 -- it was refused, and the transaction stays open where it stands
 kept : (c : Then-keeps_open) → Moves (record { engine = c.self.inside.engine; txs = c.self.inside.txs.items; works = c.self.inside.works.items }) (Advance c.args.terminal) (refusal_in (step.Advance c.args.terminal) c.in-Refused.refusal)
-    (record { engine = c.next.new.engine; txs = c.self.inside.txs.items; works = slice_set c.self.inside.works.items c.place-2.result (Some (record c.in-Some-index_mut.work { program = c.next.new.self })) })
+    (record { engine = c.next.new.engine; txs = c.self.inside.txs.items; works = slice_set c.self.inside.works.items c.slot-2.result (Some (record c.in-Some-index_mut.work { program = c.next.new.self })) })
 kept c =
     let refused = c.in-Refused.ensures.progresses in
     kept_here (is_there (goal.at.returns-then-keeps_open c).In-Some-index_mut) c.next.new.self c.next.new.engine _ c.in-Refused.refusal
     (sym c.keeps_open.ensures ∙ c.if-keeps_open.true) refused.0 refused.1 refused.2 c.in-Refused.ensures.of refused.3
-    (ap (λ (k : ℕ). slice_set c.self.inside.works.items k (Some (record c.in-Some-index_mut.work { program = c.next.new.self }))) c.place-2.ensures.value)
+    (ap (λ (k : ℕ). slice_set c.self.inside.works.items k (Some (record c.in-Some-index_mut.work { program = c.next.new.self }))) c.slot-2.ensures.value)
 
 pub invariant_of-self-then-keeps_open : goal.invariant_of-self-then-keeps_open
 invariant_of-self-then-keeps_open c = (kept c).orderly
@@ -93,21 +93,21 @@ invariant_of-self-then-keeps_open c = (kept c).orderly
 pub returns-then-keeps_open : goal.returns-then-keeps_open
 returns-then-keeps_open c = rw (← c.self.view_is) (carries (kept c))
 
--- it was refused: the transaction is taken out of its place, and rolled back
+-- it was refused: the transaction is taken out of its slot, and rolled back
 pub roll_back-requires : goal.roll_back-requires
 roll_back-requires c =
     taken_is_open (is_there (goal.at.roll_back-requires c).In-Some-index_mut) c.open_tx-open-in-Refused.result c.open_tx-open-in-Refused.ensures.value c.next.new.engine
     c.in-Refused.ensures.progresses.1 c.in-Refused.ensures.progresses.2
 
 given_up : (c : After-roll_back) → Moves (record { engine = c.self.inside.engine; txs = c.self.inside.txs.items; works = c.self.inside.works.items }) (Advance c.args.terminal) (refusal_in (step.Advance c.args.terminal) c.in-Refused.refusal)
-    (record { engine = c.roll_back.new.engine; txs = c.open_tx-open-in-Refused.new.txs.items; works = slice_set c.self.inside.works.items c.place-2.result (Some (record c.in-Some-index_mut.work { program = c.next.new.self })) })
+    (record { engine = c.roll_back.new.engine; txs = c.open_tx-open-in-Refused.new.txs.items; works = slice_set c.self.inside.works.items c.slot-2.result (Some (record c.in-Some-index_mut.work { program = c.next.new.self })) })
 given_up c =
     let here = is_there (goal.at.returns-else-keeps_open c).In-Some-index_mut in
     let refused = c.in-Refused.ensures.progresses in
     let out = c.open_tx-open-in-Refused in
     given_up_here here out.result (taken_is here out.result out.ensures.value) c.next.new.engine c.roll_back.new.engine _ _ (Some (record c.in-Some-index_mut.work { program = c.next.new.self })) c.in-Refused.refusal
     (sym c.keeps_open.ensures ∙ c.if-keeps_open.false) refused.0 refused.1 refused.2 c.roll_back.ensures.rolled_back c.roll_back.ensures.name out.ensures.after
-    (ap (λ (k : ℕ). slice_set c.self.inside.works.items k (Some (record c.in-Some-index_mut.work { program = c.next.new.self }))) c.place-2.ensures.value)
+    (ap (λ (k : ℕ). slice_set c.self.inside.works.items k (Some (record c.in-Some-index_mut.work { program = c.next.new.self }))) c.slot-2.ensures.value)
 
 pub invariant_of-self-in-Refused : goal.invariant_of-self-in-Refused
 invariant_of-self-in-Refused c = (given_up c).orderly

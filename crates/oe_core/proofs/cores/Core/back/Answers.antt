@@ -9,12 +9,12 @@ pub returns-in_default : goal.returns-in_default
 returns-in_default c =
     rw (← c.self.view_is)
     (carries (nothing_open (record { engine = c.self.inside.engine; txs = c.self.inside.txs.items; works = c.self.inside.works.items }) c.self.invariant (Back c.args.terminal) c.args.terminal refl
-    (lent_tx c.self.invariant c.place.ensures.value c.place.ensures.high c.index.ensures c.in_default.is)))
+    (lent_tx c.self.invariant c.slot.ensures.value c.slot.ensures.high c.index.ensures c.in_default.is)))
 
--- the transaction in its place
+-- the transaction in its slot
 is_there : (c : In-Some-index_mut) → HasOpen (record { engine = c.self.inside.engine; txs = c.self.inside.txs.items; works = c.self.inside.works.items }) c.args.terminal c.in-Some.tx c.in-Some-index_mut.work
 is_there c =
-    lent_here c.self.invariant c.place.ensures.value c.place.ensures.high c.index.ensures c.in-Some.is c.place-2.ensures.value c.place-2.ensures.high c.index_mut.ensures.value c.in-Some-index_mut.is
+    lent_here c.self.invariant c.slot.ensures.value c.slot.ensures.high c.index.ensures c.in-Some.is c.slot-2.ensures.value c.slot-2.ensures.high c.index_mut.ensures.value c.in-Some-index_mut.is
 
 pub rollback_to-requires-clause-open : goal.rollback_to-requires-clause-open
 rollback_to-requires-clause-open c = (own_work (is_there (goal.at.rollback_to-requires-clause-open c).In-Some-index_mut)).is_open
@@ -24,10 +24,10 @@ rollback_to-requires-clause-mark c = mark_within (is_there (goal.at.rollback_to-
 
 -- the transaction is back at its mark
 gone_back : (c : After-self-2-1) → Moves (record { engine = c.self.inside.engine; txs = c.self.inside.txs.items; works = c.self.inside.works.items }) (Back c.args.terminal) Gone_back
-    (record { engine = c.rollback_to.new.self; txs = c.self.inside.txs.items; works = slice_set c.self.inside.works.items c.place-2.result (Some (record c.in-Some-index_mut.work { program = c.go_to.new.self })) })
+    (record { engine = c.rollback_to.new.self; txs = c.self.inside.txs.items; works = slice_set c.self.inside.works.items c.slot-2.result (Some (record c.in-Some-index_mut.work { program = c.go_to.new.self })) })
 gone_back c =
     gone_back_here (is_there (goal.at.returns c).In-Some-index_mut) c.go_to.new.self c.rollback_to.new.self _ c.go_to.ensures c.rollback_to.ensures.back c.rollback_to.ensures.name
-    (ap (λ (k : ℕ). slice_set c.self.inside.works.items k (Some (record c.in-Some-index_mut.work { program = c.go_to.new.self }))) c.place-2.ensures.value)
+    (ap (λ (k : ℕ). slice_set c.self.inside.works.items k (Some (record c.in-Some-index_mut.work { program = c.go_to.new.self }))) c.slot-2.ensures.value)
 
 pub invariant_of-self : goal.invariant_of-self
 invariant_of-self c = (gone_back c).orderly

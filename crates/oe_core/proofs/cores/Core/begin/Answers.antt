@@ -1,11 +1,11 @@
-use Rattle.std.proofs.Common.{rules, None, Some, ℕ, slice_set, sym, ap, ◌∙◌}
+use Rattle.std.proofs.Common.{rules, None, sym, ap, ◌∙◌}
 use Rattle.oe_theory.specs.Next.{Begin, Begun}
 use Rattle.oe_model.specs.Requests.{rejection}
 use Rattle.oe_core.specs.Core.{Moves}
-use Rattle.oe_core.proofs.PlaceFacts.{slice_of}
+use Rattle.oe_core.proofs.SlotFacts.{slice_of}
 use Rattle.oe_core.proofs.MoveFacts.{carries, begun_here, no_tx}
 use Rattle.oe_core.proofs.BeginFacts.{rejected_here, not_begun}
-use Rattle.oe_core.proofs.cores.Core.begin.Goals.{After-self-1}
+use Rattle.oe_core.proofs.cores.Core.begin.Goals.{After-begin_work}
 use Rattle.oe_core.proofs.cores.Core.begin.Goals as goal
 
 pub returns-in-Some : goal.returns-in-Some
@@ -17,16 +17,15 @@ pub put_tx-requires-clause-free : goal.put_tx-requires-clause-free
 put_tx-requires-clause-free c = slice_of c.self.inside.txs.items c.args.terminal None None (search rules) (no_tx c.self.inside.engine c.args.terminal _ _ (c.self.invariant.works c.args.terminal) c.in-Ok.ensures.closed)
 
 -- the transaction has begun
-begun : (c : After-self-1) → Moves (record { engine = c.self.inside.engine; txs = c.self.inside.txs.items; works = c.self.inside.works.items }) (Begin c.args.terminal c.args.request.now) Begun
-    (record { engine = c.begin.new.self; txs = c.put_tx.new.txs.items; works = slice_set c.self.inside.works.items c.place.result (Some c.begun_work.result) })
+begun : (c : After-begin_work) → Moves (record { engine = c.self.inside.engine; txs = c.self.inside.txs.items; works = c.self.inside.works.items }) (Begin c.args.terminal c.args.request.now) Begun
+    (record { engine = c.begin.new.self; txs = c.put_tx.new.txs.items; works = c.begin_work.new.works.items })
 begun c =
-    let work = c.begun_work.ensures in
-    begun_here _ c.self.invariant c.args.terminal c.put_tx.ensures.low c.put_tx.ensures.high c.args.request.now c.requires c.in-Ok.tx c.begun_work.result c.begin.new.self _ _
+    let work = c.begin_work.ensures.after in
+    begun_here _ c.self.invariant c.args.terminal c.put_tx.ensures.low c.put_tx.ensures.high c.args.request.now c.requires c.in-Ok.tx work.0 c.begin.new.self _ _
     (ap (rejection c.args.request.now) (sym c.tables.ensures) ∙ sym c.in_default.ensures) c.in-Ok.ensures.counted
     c.in-Ok.ensures.closed c.begin.ensures.idle c.in-Ok.ensures.begun c.begin.ensures.name
-    c.in-Ok.ensures.handle work.request work.of work.place work.mark
-    c.put_tx.ensures.after
-    (ap (λ (k : ℕ). slice_set c.self.inside.works.items k (Some c.begun_work.result)) c.place.ensures.value)
+    c.in-Ok.ensures.handle work.1
+    c.put_tx.ensures.after work.2
 
 pub invariant_of-self : goal.invariant_of-self
 invariant_of-self c = (begun c).orderly

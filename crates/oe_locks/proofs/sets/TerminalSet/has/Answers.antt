@@ -5,5 +5,5 @@ use Rattle.oe_locks.proofs.sets.TerminalSet.has.Goals as goal
 pub returns : goal.returns
 returns c =
     let within : c.get.result - 1 < 64 = omega arith in
-    let place : c.get.result - 1 + 1 ≡ c.args.terminal = omega arith in
-    rw (← c.self.view_is) (has-at c.self.inside.bits (c.get.result - 1) c.args.terminal within place)
+    let slot : c.get.result - 1 + 1 ≡ c.args.terminal = omega arith in
+    rw (← c.self.view_is) (has-at c.self.inside.bits (c.get.result - 1) c.args.terminal within slot)

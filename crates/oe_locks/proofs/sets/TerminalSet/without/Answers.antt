@@ -6,5 +6,5 @@ pub returns : goal.returns
 returns c =
     let fits : c.self.inside.bits < 2 ^ 64 = omega arith in
     let within : c.get.result - 1 < 64 = omega arith in
-    let place : c.get.result - 1 + 1 ≡ c.args.terminal = omega arith in
-    rw (← c.self.view_is) (has-without c.self.inside.bits (c.get.result - 1) c.args.terminal within place fits)
+    let slot : c.get.result - 1 + 1 ≡ c.args.terminal = omega arith in
+    rw (← c.self.view_is) (has-without c.self.inside.bits (c.get.result - 1) c.args.terminal within slot fits)

@@ -2,8 +2,8 @@ use Rattle.std.proofs.Common.{refl, sym, subst, None}
 use Rattle.oe_engine.specs.View.{view_of}
 use Rattle.oe_engine.specs.Programs.{GoesOn}
 use Rattle.oe_requests.specs.declared.requests.Request.TheVariants as request
-use Rattle.oe_model.specs.Places.{InNewOrder}
-use Rattle.oe_neworder.specs.Program.{line_place}
+use Rattle.oe_model.specs.Positions.{InNewOrder}
+use Rattle.oe_neworder.specs.Program.{line_position}
 use Rattle.oe_neworder.proofs.LineFacts.{inserts_on, insert_refused, order_at_line}
 use Rattle.oe_neworder.proofs.fillings.Filling.end_next.Goals as goal
 
@@ -14,8 +14,8 @@ insert-requires c = λ o.
 
 pub returns-in-Ok : goal.returns-in-Ok
 returns-in-Ok c =
-    subst (λ ys. GoesOn c.args.engine.now c.args.tx.now (request.NewOrder c.args.request.now) (InNewOrder c.args.request.now (line_place c.args.request.now c.args.self.now))
-    c.insert.new.engine (InNewOrder c.args.request.now (line_place c.args.request.now (record { seen = c.args.self.now.seen; done = ys; filled = None }))))
+    subst (λ ys. GoesOn c.args.engine.now c.args.tx.now (request.NewOrder c.args.request.now) (InNewOrder c.args.request.now (line_position c.args.request.now c.args.self.now))
+    c.insert.new.engine (InNewOrder c.args.request.now (line_position c.args.request.now (record { seen = c.args.self.now.seen; done = ys; filled = None }))))
     (sym c.push.ensures)
     (inserts_on c.args.request.now c.args.self.now c.args.line.now c.requires.next c.args.engine.now c.args.tx.now c.insert.new.engine c.in-Some.filled
     c.in-Ok.field-0 c.in-Some.is c.in-Ok.ensures.does)

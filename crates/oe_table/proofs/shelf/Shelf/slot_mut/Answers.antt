@@ -1,7 +1,8 @@
-use Rattle.std.proofs.Common.{refl}
+use Rattle.std.proofs.Common.{refl, arith}
 use Rattle.oe_table.specs.Shelf.{IsAscending}
 use Rattle.oe_table.proofs.ShelfFacts.{slot-answer, set-answer}
 use Rattle.oe_table.proofs.ShelvesFacts.{none-written}
+use Rattle.oe_table.proofs.PassedFacts.{none-set}
 use Rattle.oe_table.proofs.shelf.Shelf.slot_mut.Goals as goal
 
 pub returns-in_err-self-inside : goal.returns-in_err-self-inside
@@ -10,6 +11,9 @@ returns-in_err-self-inside g c =
       (rw c.from_residual.ensures refl, (λ w. rw (← c.self.view_is) (none-written g.K.Ord.cmp g.K.ShelvedKey.shelf_of g.met.K.TableKey.exact c.self.inside.slots.items c.args.key.now w none)), c.self.view_is),
       record { writes_back = tt; value = rw (c.from_residual.ensures, ← c.self.view_is, none) refl },
     )
+
+pub invariant_of-self-lent : goal.invariant_of-self-lent
+invariant_of-self-lent g c w = none-set c.self.inside.slots.items c.self.inside.blanked c.min-self-inside.result c.position-at.result _ (omega (arith, c.min-self-inside.ensures)) c.self.invariant
 
 pub returns : goal.returns
 returns g c =

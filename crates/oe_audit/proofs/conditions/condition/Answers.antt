@@ -1,0 +1,6 @@
+use Rattle.oe_store.specs.Stored.{rows}
+use Rattle.oe_audit.proofs.PassedFacts.{passed_now}
+use Rattle.oe_audit.proofs.conditions.condition.Goals as goal
+
+pub found-requires : goal.found-requires
+found-requires c = passed_now (rows c.args.tables.now) c.schema_holds.ensures

@@ -1,0 +1,83 @@
+-- When an audit looks at the rows, and what its walks of the rows that stand find then.
+use Rattle.std.specs.Prelude.{ℕ, Bool, List, length, Option, None, Some, IsSome, option_map, max}
+use Rattle.std.specs.List.{filter_map}
+use Rattle.std.specs.declared.cmp.Ordering.{Ordering}
+use Rattle.std.specs.FinMap.{FinMap, get}
+use Rattle.oe_keys.specs.declared.keys.WarehouseKey.{WarehouseKey}
+use Rattle.oe_keys.specs.declared.keys.DistrictKey.{DistrictKey}
+use Rattle.oe_keys.specs.declared.keys.OrderKey.{OrderKey}
+use Rattle.oe_keys.specs.declared.keys.OrderLineKey.{OrderLineKey}
+use Rattle.oe_keys.specs.declared.keys.NewOrderKey.{NewOrderKey}
+use Rattle.oe_rows.specs.declared.districts.District.{District}
+use Rattle.oe_rows.specs.declared.orders.OrderLine.{OrderLine}
+use Rattle.oe_requests.specs.declared.refusals.Refusal.{Refusal}
+use Rattle.oe_model.specs.Keys.{order_of_new_order}
+use Rattle.oe_model.specs.Rows.{Rows}
+use Rattle.oe_model.specs.Audits.{Condition, Second, Third, Fourth, passes_2}
+use Rattle.oe_store.specs.Stored.{rows}
+use Rattle.oe_store.specs.Stored as tables
+use Rattle.oe_versions.specs.Versions.{version, IsOutside}
+use Rattle.oe_audit.specs.Tests.{are_counted, lines_agree}
+use Rattle.oe_audit.specs.declared.as_of.AsOf.{AsOf}
+use Rattle.oe_audit.specs.declared.as_of.AsOf.TheVariants as when
+use Rattle.oe_audit.specs.declared.conditions.DistrictCondition.{DistrictCondition}
+use Rattle.oe_audit.specs.declared.conditions.DistrictCondition.TheVariants as of_districts
+
+-- the rows as they stand, or stood at a moment
+abbrev pub rows_then : tables.Stored → AsOf → Rows
+rows_then ts when.Now = rows ts
+rows_then ts (when.Moment u m) = version ts u.now m
+
+-- why they can't be read: never as they stand
+abbrev pub IsUnread : AsOf → Refusal → Type 0
+IsUnread when.Now e = ⊥
+IsUnread (when.Moment u m) e = IsOutside u.now m e
+
+-- what a key has then, where it has this row now
+abbrev pub row_then : {K X : Type 0} {R : K → K → Ordering} → AsOf → FinMap R X → K → X → Option X
+row_then when.Now m k x = Some x
+row_then (when.Moment u n) m k x = get m k
+
+-- what the keys of these rows have then
+abbrev pub stood : {K X : Type 0} {R : K → K → Ordering}
+    → AsOf → FinMap R X → List (K × X) → List (K × X)
+stood w m es = filter_map (λ e. option_map (λ x. (e.0, x)) (row_then w m e.0 e.1)) es
+
+-- the rows that a table has at the keys of these
+abbrev pub stood_among : {K X Y : Type 0} {R : K → K → Ordering}
+    → FinMap R X → List (K × Y) → List (K × X)
+stood_among m es = filter_map (λ e. option_map (λ x. (e.0, x)) (get m e.0)) es
+
+-- how many of these ORDER-LINE rows stood then
+abbrev pub lines_stood : tables.Stored → AsOf → List (OrderLineKey × OrderLine) → ℕ
+lines_stood ts w es = length (stood w (rows_then ts w).order_lines es)
+
+-- the key has a row
+abbrev pub Has : {K X : Type 0} {R : K → K → Ordering} → FinMap R X → K → Type 0
+Has m k = IsSome (get m k)
+
+-- a walk of the rows that stand passes each key that had a row then; a NEW-ORDER row has its ORDER row
+pub record ArePassed (past now : Rows) : Type 0 where
+  pub warehouses : (k : WarehouseKey) → Has past.warehouses k → Has now.warehouses k
+  pub districts : (k : DistrictKey) → Has past.districts k → Has now.districts k
+  pub orders : (k : OrderKey) → Has past.orders k → Has now.orders k
+  pub order_lines : (k : OrderLineKey) → Has past.order_lines k → Has now.order_lines k
+  pub new_orders : (k : NewOrderKey)
+      → Has past.new_orders k → Has past.orders (order_of_new_order k)
+
+-- a condition of districts, as the model's
+abbrev pub model_condition : DistrictCondition → Condition
+model_condition of_districts.Second = Second
+model_condition of_districts.Third = Third
+model_condition of_districts.Fourth = Fourth
+
+-- a district passes it
+abbrev pub passes : DistrictCondition → Rows → DistrictKey → District → Bool
+passes of_districts.Second r h x = passes_2 r h x
+passes of_districts.Third r h x = are_counted r h
+passes of_districts.Fourth r h x = lines_agree r h
+
+-- the greater of a number and the one before it, where there is one
+abbrev pub greater_of : Option ℕ → ℕ → ℕ
+greater_of None n = n
+greater_of (Some b) n = max b n

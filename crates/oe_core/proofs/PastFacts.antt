@@ -1,0 +1,137 @@
+-- Commits that are forgotten or undone.
+use Rattle.std.proofs.Common.{◌≡◌, ℕ, zero, suc, ◌<◌, ◌≤◌, Bool, true, false, refl, sym, ap, ◌∙◌, subst, arith, List, [], ◌∷◌, ◌++◌}
+use Rattle.std.specs.Prelude.{Option, None, Some, is_some}
+use mathlib.Core.Path.{fun_ext}
+use Rattle.oe_requests.specs.declared.refusals.Refusal.{Refusal}
+use Rattle.oe_requests.specs.declared.refusals.Refusal.TheVariants.{TooOld, Future, NotQuiet}
+use Rattle.oe_steps.specs.declared.steps.Step.TheVariants as step
+use Rattle.oe_theory.specs.Next.{Purge, Rewind, Purged, Rewound}
+use Rattle.oe_theory.specs.Next as theory
+use Rattle.oe_theory.specs.Undo.{unwind, Finds, GoesBack, commit_records}
+use Rattle.oe_theory.specs.Store.{horizon_of, newest_of, count_slots}
+use Rattle.oe_theory.specs.Store as stored
+use Rattle.oe_theory.proofs.StoreClosing.{each_goes_back_here}
+use Rattle.oe_model.specs.Rows.{Rows, row_at}
+use Rattle.oe_model.specs.Changes.{Record, key_of, put_back}
+use Rattle.oe_model.specs.Meets.{Meets}
+use Rattle.oe_model.specs.System.{system, terminal_limit}
+use Rattle.oe_model.proofs.ChangeFacts.{accepted_meets}
+use Rattle.oe_model.proofs.SystemLaws.{laws}
+use Rattle.oe_change.specs.PutBack.{Stands}
+use Rattle.oe_past.specs.GoesBack.{CanUnwind, CanUnwindAll}
+use Rattle.oe_past.specs.Moments.{IsBetween, IsOutside}
+use Rattle.oe_engine.specs.View.{View, view_of, Handle}
+use Rattle.oe_engine.specs.View as engine
+use Rattle.oe_engine.specs.Calls.{newest, horizon, IsQuiet, CantRewind, purged_to, rewound_to}
+use Rattle.oe_engine.proofs.CoveredFacts.{stands_left}
+use Rattle.oe_core.specs.Core.{Stored, in_slot, work_of, work_at, open_at, store_with, store_of, position_of, Works, IsOrderly, Moves}
+use Rattle.oe_core.specs.Steps.{refusal_in}
+use Rattle.oe_core.specs.declared.slots.Work.{Work}
+use Rattle.oe_core.proofs.MoveFacts.{standing, closed, stays, the_steps, same_parts, no_tx, is_shut, open_still}
+
+-- a slot stands for the same where its terminal's count and its names are the same
+same_slot : (v v' : View) (u : ℕ) (w : Option Work) → v'.counts u ≡ v.counts u → v'.held u ≡ v.held u → open_at v' u w ≡ open_at v u w
+same_slot v v' u None a b = refl
+same_slot v v' u (Some w) a b =
+    λ i. Some (record { number = suc (a i); request = w.request; position = position_of w.request w.program; mark_position = position_of w.request w.mark.program; mark_count = w.mark.records; held = b i })
+
+-- where the same transactions are open, their work is what it was
+works_still : (e e' : engine.Stored) → (view_of e').is_open ≡ (view_of e).is_open → e'.name ≡ e.name → (u : ℕ) (y : Option Handle) (z : Option Work) → Works e u y z → Works e' u y z
+works_still e e' b name u None z h = ap (λ (f : ℕ → Bool). f u) b ∙ h
+works_still e e' b name u (Some y) None h = absurd h
+works_still e e' b name u (Some y) (Some z) h =
+    record { is_open = open_still e e' y b name h.is_open; terminal = h.terminal; program = h.program; mark = h.mark }
+
+-- a step that was refused has left the engine as it was
+pub unchanged : {s : Stored} {i : theory.Step system} {a : theory.Answer system} → (e' : engine.Stored) → e' ≡ s.engine → Moves s i a s → Moves s i a (record { engine = e'; txs = s.txs; works = s.works })
+unchanged {s} {i} {a} e' same m = subst (λ (z : engine.Stored). Moves s i a (record { engine = z; txs = s.txs; works = s.works })) (sym same) m
+
+-- a purge
+pub purged_here : (s : Stored) → IsOrderly s → (e' : engine.Stored) (m : ℕ) → IsBetween (horizon (view_of s.engine)) (newest (view_of s.engine)) m
+    → view_of e' ≡ purged_to m (view_of s.engine) → e'.name ≡ s.engine.name
+    → Moves s (Purge m) (Purged m) (record { engine = e'; txs = s.txs; works = s.works })
+purged_here s o e' m kept now name =
+    let v = view_of s.engine in
+    closed s (record { engine = e'; txs = s.txs; works = s.works }) (Purge m) (Purged m) (stored.purged_to system m (store_of s))
+    (the_steps.purges (store_of s) m (standing s o) kept.old kept.new)
+    (ap (λ (z : View). store_with z (work_at s)) now
+    ∙ same_parts _ _ _ _ _ _ _ _ _ _ _ _ refl refl (fun_ext (λ u. same_slot v (purged_to m v) u (work_at s u) refl refl)) refl refl refl)
+    o.tx_slots o.work_slots
+    (λ u. works_still s.engine e' (ap (λ (z : View). z.is_open) now) name u (in_slot s.txs u) (in_slot s.works u) (o.works u))
+
+pub purge_refused : (s : Stored) → IsOrderly s → (m : ℕ) (e : Refusal) → IsOutside (horizon (view_of s.engine)) (newest (view_of s.engine)) m e
+    → Moves s (Purge m) (refusal_in (step.Purge m) e) s
+purge_refused s o m (TooOld k) i =
+    subst (λ (z : ℕ). Moves s (Purge m) (theory.Too_old z) s) (sym i.0)
+    (stays s o (Purge m) (theory.Too_old (horizon_of system (store_of s))) (the_steps.is_too_old (store_of s) (Purge m) m (standing s o) refl tt (subst (λ (z : ℕ). m < z) i.0 i.1)))
+purge_refused s o m (Future k) i =
+    subst (λ (z : ℕ). Moves s (Purge m) (theory.Future z) s) (sym i.0)
+    (stays s o (Purge m) (theory.Future (newest_of system (store_of s))) (the_steps.is_future (store_of s) (Purge m) m (standing s o) refl tt (subst (λ (z : ℕ). z < m) i.0 i.1)))
+purge_refused s o m _ i = absurd i
+
+-- where nothing is open no slot has work
+none_at : (s : Stored) → IsOrderly s → IsQuiet (view_of s.engine) → (t : ℕ) → work_at s t ≡ None
+none_at s o quiet t = ap (λ (z : Option Handle). work_of z (in_slot s.works t)) (no_tx s.engine t (in_slot s.txs t) (in_slot s.works t) (o.works t) (quiet t))
+
+-- a rewind
+pub rewound_here : (s : Stored) → IsOrderly s → (e' : engine.Stored) (m : ℕ) → IsQuiet (view_of s.engine) → IsBetween (horizon (view_of s.engine)) (newest (view_of s.engine)) m
+    → view_of e' ≡ rewound_to m (view_of s.engine) → e'.name ≡ s.engine.name
+    → Moves s (Rewind m) (Rewound m) (record { engine = e'; txs = s.txs; works = s.works })
+rewound_here s o e' m quiet kept now name =
+    let v = view_of s.engine in
+    let none : (t : ℕ) → work_at s t ≡ None = none_at s o quiet in
+    closed s (record { engine = e'; txs = s.txs; works = s.works }) (Rewind m) (Rewound m) (stored.rewound_to system m (store_of s))
+    (the_steps.rewinds (store_of s) m (standing s o) (λ t. is_shut s o t (quiet t)) kept.old kept.new)
+    (ap (λ (z : View). store_with z (work_at s)) now
+    ∙ same_parts _ _ _ _ _ _ _ _ _ _ _ _ refl refl (fun_ext (λ u. ap (open_at (rewound_to m v) u) (none u) ∙ sym (ap (open_at v u) (none u)))) refl refl refl)
+    o.tx_slots o.work_slots
+    (λ u. works_still s.engine e' (ap (λ (z : View). z.is_open) now) name u (in_slot s.txs u) (in_slot s.works u) (o.works u))
+
+-- a slot is taken exactly where its terminal has a transaction open
+taken_is : (e : engine.Stored) (v : View) (t : ℕ) (x : Option Handle) (y : Option Work) → view_of e ≡ v → Works e t x y → is_some (open_at v t (work_of x y)) ≡ v.is_open t
+taken_is e v t None y is h = sym h ∙ ap (λ (z : View). z.is_open t) is
+taken_is e v t (Some x) None is h = absurd h
+taken_is e v t (Some x) (Some w) is h = sym (ap (view_of e).is_open (sym h.terminal) ∙ h.is_open.terminal) ∙ ap (λ (z : View). z.is_open t) is
+
+pub rewind_refused : (s : Stored) → IsOrderly s → (m : ℕ) (e : Refusal) → CantRewind (view_of s.engine) m e → Moves s (Rewind m) (refusal_in (step.Rewind m) e) s
+rewind_refused s o m (NotQuiet n) i =
+    many n (i.0 (store_of s).slots (λ t. taken_is s.engine (view_of s.engine) t (in_slot s.txs t) (in_slot s.works t) refl (o.works t))) i.1
+  where
+    many : (k : ℕ) → count_slots system (store_of s).slots terminal_limit ≡ k → 0 < k → Moves s (Rewind m) (theory.Not_quiet k) s
+    many zero c h = let no : ⊥ = omega arith in absurd no
+    many (suc k) c h = stays s o (Rewind m) (theory.Not_quiet (suc k)) (the_steps.is_not_quiet (store_of s) m k (standing s o) c)
+rewind_refused s o m (TooOld k) i =
+    let cause = i.1 in
+    subst (λ (z : ℕ). Moves s (Rewind m) (theory.Too_old z) s) (sym cause.0)
+    (stays s o (Rewind m) (theory.Too_old (horizon_of system (store_of s)))
+    (the_steps.is_too_old (store_of s) (Rewind m) m (standing s o) refl (λ t. is_shut s o t (i.0 t)) (subst (λ (z : ℕ). m < z) cause.0 cause.1)))
+rewind_refused s o m (Future k) i =
+    let cause = i.1 in
+    subst (λ (z : ℕ). Moves s (Rewind m) (theory.Future z) s) (sym cause.0)
+    (stays s o (Rewind m) (theory.Future (newest_of system (store_of s)))
+    (the_steps.is_future (store_of s) (Rewind m) m (standing s o) refl (λ t. is_shut s o t (i.0 t)) (subst (λ (z : ℕ). z < m) cause.0 cause.1)))
+rewind_refused s o m _ i = absurd i.1
+
+-- Records of commits can be put back. A record finds the row that its change left
+stands_found : (b : Record) (r : Rows) → Finds system b r → Stands b r
+stands_found b r f = subst (λ (z : Record). Stands z r) (sym f.is_of) (stands_left f.change (row_at f.on (key_of f.change)) r f.left)
+
+first_holds : (bs : List Record) (r : Rows) → GoesBack system Meets bs r → Meets r
+first_holds [] r h = h
+first_holds (b ∷ bs) r h = h.0
+
+one_by_one : (bs cs : List Record) (r : Rows) → GoesBack system Meets (bs ++ cs) r → CanUnwind bs r × GoesBack system Meets cs (unwind system bs r)
+one_by_one [] cs r h = (tt, h)
+one_by_one (b ∷ bs) cs r h =
+    let rest = one_by_one bs cs (put_back b r) h.2 in
+    ((stands_found b r h.1, first_holds (bs ++ cs) (put_back b r) h.2, rest.0), rest.1)
+
+all_by_one : (ss : List (List Record)) (r : Rows) → GoesBack system Meets (commit_records system ss) r → CanUnwindAll ss r
+all_by_one [] r h = tt
+all_by_one (bs ∷ ss) r h = let first = one_by_one bs (commit_records system ss) r h in (first.0, all_by_one ss (unwind system bs r) first.1)
+
+pub commits_go_back : (s : Stored) → IsOrderly s → IsQuiet (view_of s.engine) → CanUnwindAll (view_of s.engine).undo.history (view_of s.engine).rows
+commits_go_back s o quiet =
+    all_by_one (view_of s.engine).undo.history (view_of s.engine).rows
+    (each_goes_back_here system laws Meets (record { between = λ f r g. g.meets; kept = accepted_meets }) (store_of s) [] (standing s o)
+    (λ t p e. let no : None ≡ Some p = sym (is_shut s o t (quiet t)) ∙ e in absurd (cc)))

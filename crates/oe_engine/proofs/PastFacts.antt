@@ -1,0 +1,188 @@
+-- What a purge and a rewind make of what an engine stands for, and that it keeps its promise.
+use Rattle.std.proofs.Common.{◌≡◌, ℕ, zero, suc, ◌-◌, ◌<◌, true, false, refl, sym, ap, ◌∙◌, subst, List, [], ◌∷◌, length, take, drop}
+use Rattle.std.specs.Prelude.{Option, None, Some, is_some, Result, Ok, Err, OnOk, OnErr, IfErr}
+use Rattle.std.proofs.lemmas.List.{length-set}
+use mathlib.Core.Path.{fun_ext}
+use Rattle.oe_requests.specs.declared.refusals.Refusal.{Refusal}
+use Rattle.oe_requests.specs.declared.refusals.Refusal.TheVariants.{TooOld, Future, NotQuiet}
+use Rattle.oe_theory.specs.Store.{Slot, rewound_to}
+use Rattle.oe_model.specs.Rows.{Rows}
+use Rattle.oe_model.specs.Changes.{Record}
+use Rattle.oe_model.specs.Meets.{Meets}
+use Rattle.oe_model.specs.System.{system, terminal_limit}
+use Rattle.oe_store.specs.Stored.{rows, SamePlaces}
+use Rattle.oe_store.specs.Stored as tables
+use Rattle.oe_undo.specs.Segments.{Committed}
+use Rattle.oe_undo.specs.Undo.{Stored, active_at, open_total, with_newest, uncounted, without_newest, records_in}
+use Rattle.oe_undo.specs.Stands.{model_records, undo_of}
+use Rattle.oe_undo.proofs.StandsFacts as stands
+use Rattle.oe_past.specs.GoesBack.{HavePlaces, AllHavePlaces}
+use Rattle.oe_past.specs.Moments.{store_with}
+use Rattle.oe_past.specs.Moments as past
+use Rattle.oe_past.proofs.PastFacts.{more_places, all_more_places, none_open, quiet_still}
+use Rattle.oe_locks.specs.Held.{Holdings}
+use Rattle.oe_engine.specs.View.{View, view_from}
+use Rattle.oe_engine.specs.Covered.{AreOwned, Unwinds, IsSafe}
+use Rattle.oe_engine.specs.Kept.{IsKept, IsSound}
+use Rattle.oe_engine.specs.Calls.{IsQuiet, CantRewind, purged_to}
+use Rattle.oe_engine.specs.Calls as calls
+use Rattle.oe_engine.proofs.CoveredFacts.{none_unwinds}
+use Rattle.oe_engine.proofs.LockFacts.{held_of}
+
+-- the commits that are kept have places
+taken_places : (ts : tables.Stored) (n : ℕ) (ss : List (List Record)) → AllHavePlaces ts ss → AllHavePlaces ts (take n ss)
+taken_places ts zero ss h = tt
+taken_places ts (suc n) [] h = tt
+taken_places ts (suc n) (bs ∷ ss) h = (h.0, taken_places ts n ss h.1)
+
+left_places : (ts : tables.Stored) (n : ℕ) (ss : List (List Record)) → AllHavePlaces ts ss → AllHavePlaces ts (drop n ss)
+left_places ts zero ss h = h
+left_places ts (suc n) [] h = tt
+left_places ts (suc n) (bs ∷ ss) h = left_places ts n ss h.1
+
+-- A purge
+purged_kept : (ts : tables.Stored) (u : Stored) (ls : Holdings) (n : ℕ) → IsKept ts u ls → IsKept ts (with_newest n u) ls
+purged_kept ts u ls n k = record {
+  size = k.size;
+  active = k.active;
+  history = subst (λ z. AllHavePlaces ts z.history) (sym (stands.cuts u n).undo) (taken_places ts n (undo_of u).history k.history);
+  idle = k.idle;
+  counted = k.counted;
+}
+
+purged_view : (ts : tables.Stored) (u : Stored) (ls : Holdings) (m : ℕ) → view_from ts (with_newest (past.newest u - m) u) ls ≡ purged_to m (view_from ts u ls)
+unfolding view_from
+purged_view ts u ls m =
+    let c = stands.cuts u (past.newest u - m) in
+    λ i. record {
+      rows = rows ts;
+      undo = c.undo i;
+      seals = c.seals i;
+      counts = c.counts i;
+      held = held_of ls;
+      is_open = λ t. is_some (active_at u t);
+      extents = u.extents;
+    }
+
+safe_purged : (m : ℕ) (v : View) → IsSafe v → IsSafe (purged_to m v)
+safe_purged m v s = record { owned = s.owned; alone = s.alone; unwinds = s.unwinds }
+
+pub purge_sound : {T E : Type 0} (r : Result T E) (ts : tables.Stored) (u u' : Stored) (ls : Holdings) (m : ℕ) → OnOk r (u' ≡ with_newest (past.newest u - m) u)
+    → OnErr r (u' ≡ u) → IsSound ts u ls → IsSound ts u' ls
+purge_sound (Ok x) ts u u' ls m is same s =
+    subst (λ z. IsSound ts z ls) (sym is)
+    (record {
+      kept = purged_kept ts u ls (past.newest u - m) s.kept;
+      safe = subst IsSafe (sym (purged_view ts u ls m)) (safe_purged m (view_from ts u ls) s.safe);
+    })
+purge_sound (Err e) ts u u' ls m is same s = subst (λ z. IsSound ts z ls) (sym same) s
+
+pub purge_view : {T E : Type 0} (r : Result T E) (ts : tables.Stored) (u u' : Stored) (ls : Holdings) (m : ℕ) → OnOk r (u' ≡ with_newest (past.newest u - m) u)
+    → OnOk r (view_from ts u' ls ≡ purged_to m (view_from ts u ls))
+purge_view (Ok x) ts u u' ls m is = ap (λ z. view_from ts z ls) is ∙ purged_view ts u ls m
+purge_view (Err e) ts u u' ls m is = tt
+
+-- A rewind. No segment is open after it either
+quiet_rewound : (n : ℕ) (v : Stored) → ((t : ℕ) → active_at v t ≡ None) → (t : ℕ) → active_at (without_newest n v) t ≡ None
+quiet_rewound zero v h = h
+quiet_rewound (suc n) v h = quiet_rewound n (uncounted v v.committed) (quiet_still v v.committed h)
+
+size_rewound : (n : ℕ) (v : Stored) → length (without_newest n v).terminals ≡ length v.terminals
+size_rewound zero v = refl
+size_rewound (suc n) v = size_rewound n (uncounted v v.committed) ∙ one v.committed
+  where
+    one : (cs : List Committed) → length (uncounted v cs).terminals ≡ length v.terminals
+    one [] = refl
+    one (c ∷ cs) = length-set v.terminals c.terminal _
+
+rewound_kept : (ts ts' : tables.Stored) (u : Stored) (ls : Holdings) (n : ℕ) → SamePlaces ts ts' → ((t : ℕ) → active_at u t ≡ None)
+    → IsKept ts u ls → IsKept ts' (without_newest n u) ls
+rewound_kept ts ts' u ls n same quiet k =
+    let r = stands.rewinds u n in
+    record {
+      size = size_rewound n u ∙ k.size;
+      active = λ t. subst (λ z. HavePlaces ts' (z.active t)) (sym r.undo) (more_places ts ts' (λ j h. (same j).1 h) ((undo_of u).active t) (k.active t));
+      history = subst (λ z. AllHavePlaces ts' z.history) (sym r.undo)
+          (left_places ts' n (undo_of u).history (all_more_places ts ts' (λ j h. (same j).1 h) (undo_of u).history k.history));
+      idle = λ t e. k.idle t (ap is_some (quiet t));
+      counted = λ t e. let no : false ≡ true = sym (ap is_some (quiet_rewound n u quiet t)) ∙ e in cc;
+    }
+
+rewound_view : (ts ts' : tables.Stored) (u : Stored) (ls : Holdings) (m : ℕ) → ((t : ℕ) → active_at u t ≡ None)
+    → ((slots : ℕ → Option (Slot system)) → store_with (rows ts') (without_newest (past.newest u - m) u) slots ≡ rewound_to system m (store_with (rows ts) u slots))
+    → view_from ts' (without_newest (past.newest u - m) u) ls ≡ calls.rewound_to m (view_from ts u ls)
+unfolding view_from
+rewound_view ts ts' u ls m quiet is =
+    let s = is (λ t. None) in
+    let opens : (λ (t : ℕ). is_some (active_at (without_newest (past.newest u - m) u) t)) ≡ (λ (t : ℕ). is_some (active_at u t)) =
+    fun_ext (λ t. ap is_some (quiet_rewound (past.newest u - m) u quiet t ∙ sym (quiet t))) in
+    λ i. record {
+      rows = (s i).tables;
+      undo = (s i).undo;
+      seals = (s i).seals;
+      counts = (s i).counts;
+      held = held_of ls;
+      is_open = opens i;
+      extents = (s i).extents;
+    }
+
+safe_rewound : (m : ℕ) (v : View) → ((t : ℕ) → v.undo.active t ≡ []) → Meets (calls.rewound_to m v).rows → IsSafe v → IsSafe (calls.rewound_to m v)
+safe_rewound m v empty meets s =
+    let w : View = calls.rewound_to m v in
+    let none : ◌≡◌ {A = ℕ → List Record} (λ t. []) v.undo.active = fun_ext (λ t. sym (empty t)) in
+    record {
+      owned = λ t. subst (AreOwned (v.held t) t (suc (w.counts t))) (sym (empty t)) tt;
+      alone = s.alone;
+      unwinds = λ ts. subst (λ (z : ℕ → List Record). Unwinds z w.rows ts) none (none_unwinds ts w.rows meets);
+    }
+
+no_records_of : (u : Stored) → ((t : ℕ) → active_at u t ≡ None) → (t : ℕ) → (undo_of u).active t ≡ []
+no_records_of u quiet t = ap (λ a. model_records (records_in a)) (quiet t)
+
+pub rewind_sound : {T E : Type 0} (r : Result T E) (ts ts' : tables.Stored) (u u' : Stored) (ls : Holdings) (m : ℕ) → OnOk r (open_total u ≡ 0)
+    → OnOk r (u' ≡ without_newest (past.newest u - m) u)
+    → OnOk r ((slots : ℕ → Option (Slot system)) → store_with (rows ts') u' slots ≡ rewound_to system m (store_with (rows ts) u slots))
+    → SamePlaces ts ts' → OnErr r (u' ≡ u) → OnErr r (ts' ≡ ts) → Meets (rows ts') → IsSound ts u ls → IsSound ts' u' ls
+unfolding view_from
+rewind_sound (Ok x) ts ts' u u' ls m none log is places same same_tables meets s =
+    let quiet = none_open u none in
+    let stored = subst (λ z. (slots : ℕ → Option (Slot system)) → store_with (rows ts') z slots ≡ rewound_to system m (store_with (rows ts) u slots)) log is in
+    let there : rows ts' ≡ (calls.rewound_to m (view_from ts u ls)).rows = ap (λ z. z.tables) (stored (λ t. None)) in
+    subst (λ z. IsSound ts' z ls) (sym log)
+    (record {
+      kept = rewound_kept ts ts' u ls (past.newest u - m) places quiet s.kept;
+      safe = subst IsSafe (sym (rewound_view ts ts' u ls m quiet stored)) (safe_rewound m (view_from ts u ls) (no_records_of u quiet) (subst Meets there meets) s.safe);
+    })
+rewind_sound (Err e) ts ts' u u' ls m none log is places same same_tables meets s =
+    subst (λ z. IsSound z u' ls) (sym same_tables) (subst (λ z. IsSound ts z ls) (sym same) s)
+
+pub rewind_view : {T E : Type 0} (r : Result T E) (ts ts' : tables.Stored) (u u' : Stored) (ls : Holdings) (m : ℕ) → OnOk r (open_total u ≡ 0)
+    → OnOk r (u' ≡ without_newest (past.newest u - m) u)
+    → OnOk r ((slots : ℕ → Option (Slot system)) → store_with (rows ts') u' slots ≡ rewound_to system m (store_with (rows ts) u slots))
+    → OnOk r (view_from ts' u' ls ≡ calls.rewound_to m (view_from ts u ls))
+rewind_view (Ok x) ts ts' u u' ls m none log is =
+    let stored = subst (λ z. (slots : ℕ → Option (Slot system)) → store_with (rows ts') z slots ≡ rewound_to system m (store_with (rows ts) u slots)) log is in
+    ap (λ z. view_from ts' z ls) log ∙ rewound_view ts ts' u ls m (none_open u none) stored
+rewind_view (Err e) ts ts' u u' ls m none log is = tt
+
+-- quiet in the view
+pub is_quiet : (ts : tables.Stored) (u : Stored) (ls : Holdings) → open_total u ≡ 0 → IsQuiet (view_from ts u ls)
+unfolding view_from
+is_quiet ts u ls none t = ap is_some (none_open u none t)
+
+pub rewind_quiet : {T E : Type 0} (r : Result T E) (ts : tables.Stored) (u : Stored) (ls : Holdings) → OnOk r (open_total u ≡ 0) → OnOk r (IsQuiet (view_from ts u ls))
+rewind_quiet (Ok x) ts u ls none = is_quiet ts u ls none
+rewind_quiet (Err e) ts u ls none = tt
+
+-- why it is refused
+cause_is : (ts : tables.Stored) (u : Stored) (ls : Holdings) (m : ℕ) (e : Refusal) → length u.terminals ≡ 65 → past.CantRewind u m e → CantRewind (view_from ts u ls) m e
+unfolding view_from
+cause_is ts u ls m (NotQuiet n) size h = (λ slots same. stands.slots_counted u slots size same ∙ sym h.0, h.1)
+cause_is ts u ls m (TooOld k) size h = (is_quiet ts u ls h.0, h.1)
+cause_is ts u ls m (Future k) size h = (is_quiet ts u ls h.0, h.1)
+cause_is ts u ls m _ size h = absurd h.1
+
+pub rewind_cause : {T : Type 0} (r : Result T Refusal) (ts : tables.Stored) (u : Stored) (ls : Holdings) (m : ℕ) → length u.terminals ≡ 65
+    → IfErr r (past.CantRewind u m) → IfErr r (CantRewind (view_from ts u ls) m)
+rewind_cause (Ok x) ts u ls m size h = tt
+rewind_cause (Err e) ts u ls m size h = cause_is ts u ls m e size h

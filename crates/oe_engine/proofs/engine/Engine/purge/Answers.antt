@@ -1,0 +1,12 @@
+use Rattle.oe_engine.specs.View.{view_of}
+use Rattle.oe_engine.proofs.PastFacts.{purge_sound, purge_view}
+use Rattle.oe_engine.proofs.engine.Engine.purge.Goals as goal
+
+pub invariant_of-self : goal.invariant_of-self
+invariant_of-self c =
+    purge_sound c.purge.result c.self.inside.tables c.self.inside.undo c.purge.new.undo c.self.inside.locks c.args.moment c.purge.ensures.log c.purge.ensures.err c.self.invariant
+
+pub returns-clause-purged : goal.returns-clause-purged
+unfolding view_of
+returns-clause-purged c =
+    rw (← c.self.view_is) (purge_view c.purge.result c.self.inside.tables c.self.inside.undo c.purge.new.undo c.self.inside.locks c.args.moment c.purge.ensures.log)

@@ -1,0 +1,50 @@
+//! Commits that are forgotten or undone.
+ghost use Rattle.std.specs.Prelude.{◌≡◌, IfErr, OnOk, OnErr};
+ghost use Rattle.oe_past.specs.GoesBack.{CanUnwindAll};
+ghost use Rattle.oe_past.specs.Moments.{IsOutside};
+ghost use Rattle.oe_engine.specs.View.{view_of};
+ghost use Rattle.oe_engine.specs.Calls.{newest, horizon, IsQuiet, IsKeptMoment, CantRewind, purged_to, rewound_to};
+
+use crate::engine::Engine;
+use oe_requests::Refusal;
+use oe_values::Moment;
+
+impl Engine {
+    /// Forgets the commits up to a moment, which becomes the oldest that can be read. The tables, open work and the later commits
+    /// stay as they are. It takes no memory.
+    ///
+    /// `TooOld` with the oldest, `Future` with the newest moment: the moment is not between the two. Nothing has changed then.
+    #[tactic(auto, unfolding(crate::specs::View::view_of, crate::specs::View::view_from))]
+    pub fn purge(&mut self, moment: Moment) -> Result<(), Refusal>
+        ensures kept { OnOk result (IsKeptMoment (view_of self.old) moment) }
+        ensures purged { OnOk result (view_of self.new ≡ purged_to moment (view_of self.old)) }
+        ensures name { self.new.name ≡ self.old.name }
+        ensures cause { IfErr result
+            (IsOutside (horizon (view_of self.old)) (newest (view_of self.old)) moment) }
+        ensures err { OnErr result (self.new ≡ self.old) }
+    {
+        oe_past::purge(&mut self.undo, moment)
+    }
+
+    /// Undoes the commits after a moment, the newest first, while no transaction is open: the moment becomes the newest, and the
+    /// next commit the one after it. It takes no memory. That the records of commits can be put back is the caller's to know, as
+    /// of a store that stands.
+    ///
+    /// `NotQuiet`: so many transactions are open. `TooOld` with the oldest, `Future` with the newest moment: the moment is not
+    /// between the two. The first of these is named, and nothing has changed then.
+    #[tactic(auto, unfolding(crate::specs::View::view_of, crate::specs::View::view_from))]
+    pub fn rewind(&mut self, moment: Moment) -> Result<(), Refusal>
+        requires { IsQuiet (view_of self.old)
+            → CanUnwindAll (view_of self.old).undo.history (view_of self.old).rows }
+        ensures quiet { OnOk result (IsQuiet (view_of self.old)) }
+        ensures kept { OnOk result (IsKeptMoment (view_of self.old) moment) }
+        ensures rewound { OnOk result (view_of self.new ≡ rewound_to moment (view_of self.old)) }
+        ensures name { self.new.name ≡ self.old.name }
+        ensures cause { IfErr result (CantRewind (view_of self.old) moment) }
+        ensures err { OnErr result (self.new ≡ self.old) }
+    {
+        let answer = oe_past::rewind(&mut self.tables, &mut self.undo, moment);
+        self.tables.schema_holds();
+        answer
+    }
+}

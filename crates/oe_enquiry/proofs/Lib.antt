@@ -1,0 +1,6 @@
+pub mod ListedFacts
+pub mod LevelFacts
+pub mod ShortFacts
+pub mod LastFacts
+pub mod AnswerFacts
+pub mod FewFacts

@@ -1,0 +1,37 @@
+-- The items that Stock-Level counts, as they are gathered (clause 2.8.2.2).
+use Rattle.std.specs.Prelude.{ℕ, zero, suc, ◌-◌, ◌==◌, Bool, false, cond, not, ◌&&◌, List, [], ◌∷◌, ◌++◌, map, nat_le, None, Some}
+use Rattle.std.specs.List.{list_any}
+use Rattle.std.specs.FinMap.{FinMap, get}
+use Rattle.oe_keys.specs.Key.{order_line_cmp}
+use Rattle.oe_keys.specs.declared.keys.DistrictKey.{DistrictKey}
+use Rattle.oe_keys.specs.declared.keys.OrderKey.{OrderKey}
+use Rattle.oe_keys.specs.declared.keys.StockKey.{StockKey}
+use Rattle.oe_rows.specs.declared.orders.OrderLine.{OrderLine}
+use Rattle.oe_requests.specs.declared.requests.LevelQuery.{LevelQuery}
+use Rattle.oe_model.specs.Keys.{order_in}
+use Rattle.oe_model.specs.Rows.{Rows}
+use Rattle.oe_model.specs.Delivery.{lines_of}
+
+abbrev pub stock_in : ℕ → ℕ → StockKey
+stock_in w i = record { warehouse = w; item = i }
+
+-- the district's warehouse has less of the item than the threshold
+abbrev pub is_short : LevelQuery → Rows → ℕ → Bool
+is_short q r i = elim (get r.stocks (stock_in q.district.warehouse i)) [ None ↦ false | Some x ↦ nat_le (suc x.quantity) q.threshold ]
+
+abbrev pub is_listed : List ℕ → ℕ → Bool
+is_listed items i = list_any (λ j. j == i) items
+
+-- the items that are listed, and behind them those that pass and are not listed yet
+abbrev pub listed : (ℕ → Bool) → List ℕ → List ℕ → List ℕ
+listed p items [] = items
+listed p items (i ∷ is) = listed p (cond (not (is_listed items i) && p i) (items ++ i ∷ []) items) is
+
+-- the items of an order's lines
+abbrev pub items_of : OrderKey → FinMap order_line_cmp OrderLine → List ℕ
+items_of k lines = map (λ e. e.1.item) (lines_of k lines)
+
+-- those of so many orders before the district's next one
+abbrev pub sold : DistrictKey → ℕ → FinMap order_line_cmp OrderLine → ℕ → List ℕ
+sold h next lines zero = []
+sold h next lines (suc n) = items_of (order_in h (next - suc n)) lines ++ sold h next lines n

@@ -1,0 +1,6 @@
+-- What this crate's own proofs rest on.
+mod FoundFacts
+mod ListFacts
+mod NameFacts
+mod NumberFacts
+mod OwnerFacts

@@ -1,0 +1,48 @@
+-- Keys in lists under numbers, and the rows that are found by a list.
+use Rattle.std.specs.Prelude.{◌≡◌, ℕ, ⊤, Bool, true, false, List, [], ◌∷◌, Option, None, Some, IsSome, slice_index_or}
+use Rattle.std.specs.Ordering.{eq_by_cmp, nat_cmp}
+use Rattle.std.specs.Cmp.Lexicographic.{slice_cmp}
+use Rattle.std.specs.declared.cmp.Ordering.{Ordering}
+use Rattle.std.specs.FinMap.{FinMap, get}
+use Rattle.oe_table.specs.Table.{place}
+use Rattle.oe_table.specs.Shelf.{IsAscending}
+use Rattle.oe_rows.specs.declared.customers.Customer.{Customer}
+
+-- a list of keys
+abbrev pub Keys : Type 0 → Type 0
+Keys K = List (K × Option (Unit {0}))
+
+-- a key and its row, if it has one, before others
+abbrev pub with_row : {K X : Type 0} → K → Option X → List (K × X) → List (K × X)
+with_row k None es = es
+with_row k (Some x) es = (k, x) ∷ es
+
+module _ {K : Type 0} (cmp : K → K → Ordering) where
+  -- the key is in the list under the number
+  abbrev pub IsListed : List (Keys K) → ℕ → K → Type 0
+  IsListed ls n k = IsSome (place cmp (slice_index_or ls n []) k)
+
+  -- each key that was listed is listed
+  abbrev pub ListsMore : List (Keys K) → List (Keys K) → Type 0
+  ListsMore old new = (n : ℕ) (k : K) → IsListed old n k → IsListed new n k
+
+  -- the keys of each list ascend
+  abbrev pub AreLists : List (Keys K) → Type 0
+  AreLists [] = ⊤
+  AreLists (l ∷ ls) = IsAscending cmp l × AreLists ls
+
+  module _ {X : Type 0} where
+    -- the rows at the keys of a list
+    abbrev pub found : FinMap cmp X → Keys K → List (K × X)
+    found m [] = []
+    found m (e ∷ es) = with_row e.0 (get m e.0) (found m es)
+
+    -- each row's key is in the list of its number, unless the lists were given up
+    abbrev pub AreListed : (K → X → ℕ) → Bool → List (Keys K) → FinMap cmp X → Type 0
+    AreListed number_of listed ls m =
+        listed ≡ true → (k : K) (x : X) → get m k ≡ Some x → IsListed ls (number_of k x) k
+
+-- whether the row is of that C_LAST
+abbrev pub is_name : List ℕ → Option Customer → Bool
+is_name last None = false
+is_name last (Some x) = eq_by_cmp (slice_cmp nat_cmp) x.name.last last

@@ -1,0 +1,34 @@
+-- The numbers of lists: that of the customers of a district and last name, and that of a customer's orders.
+use Rattle.std.specs.Prelude.{ℕ, ◌+◌, ◌*◌, ◌%◌, List, [], ◌∷◌}
+use Rattle.oe_keys.specs.declared.keys.DistrictKey.{DistrictKey}
+use Rattle.oe_keys.specs.declared.keys.CustomerKey.{CustomerKey}
+use Rattle.oe_keys.specs.declared.keys.OrderKey.{OrderKey}
+use Rattle.oe_rows.specs.declared.customers.Customer.{Customer}
+use Rattle.oe_rows.specs.declared.orders.Order.{Order}
+use Rattle.oe_model.specs.Keys.{district_of_customer, customer_of_order}
+
+-- a number below 1,009 of a name's bytes, from that of those before them
+abbrev pub name_number_from : ℕ → List ℕ → ℕ
+name_number_from n [] = n
+name_number_from n (b ∷ bs) = name_number_from ((n * 31 + b) % 1_009) bs
+
+abbrev pub name_number : List ℕ → ℕ
+name_number last = name_number_from 0 last
+
+-- 1,009 numbers for each district
+abbrev pub number_in : DistrictKey → ℕ → ℕ
+number_in h n = (h.warehouse * 16 + h.district) * 1_009 + n
+
+-- by last name
+abbrev pub list_number : DistrictKey → List ℕ → ℕ
+list_number h last = number_in h (name_number last)
+
+abbrev pub list_of_name : CustomerKey → Customer → ℕ
+list_of_name k x = list_number (district_of_customer k) x.name.last
+
+-- by customer
+abbrev pub owner_number : CustomerKey → ℕ
+owner_number k = number_in (district_of_customer k) (k.customer % 1_009)
+
+abbrev pub list_of_owner : OrderKey → Order → ℕ
+list_of_owner k x = owner_number (customer_of_order k x)

@@ -1,0 +1,9 @@
+//! Whether two things are so. Nothing can fail.
+ghost use Rattle.std.specs.Prelude.{◌≡◌, ◌&&◌};
+
+/// Whether both are so.
+pub(crate) fn are_both(first: bool, second: bool) -> bool
+    ensures { result ≡ (first && second) }
+{
+    first && second
+}

@@ -1,0 +1,171 @@
+-- What every script keeps.
+use Rattle.std.specs.Prelude.{◌≡◌, ◌≢◌, ℕ, ◌+◌, ◌≤◌, ◌<◌, ◌⊎◌, true, List, [], ◌∷◌, ◌++◌, length, Some, None}
+use Rattle.std.specs.List.{flat_map}
+use Rattle.oe_theory.specs.Machine.{Outcome, Here, Missing}
+use Rattle.oe_theory.specs.World.{World, horizon, newest, at, tables}
+use Rattle.oe_theory.specs.Theorems.{IsReached, opened}
+use Rattle.oe_rows.specs.declared.scales.Scale.{Scale}
+use Rattle.oe_requests.specs.declared.refusals.Refusal.{Refusal}
+use Rattle.oe_requests.specs.declared.refusals.Refusal.TheVariants as refusal
+use Rattle.oe_requests.specs.declared.replies.QueryReply.{QueryReply}
+use Rattle.oe_requests.specs.declared.requests.Query.{Query}
+use Rattle.oe_requests.specs.declared.requests.Request.{Request}
+use Rattle.oe_steps.specs.declared.answers.Answer.TheVariants as answer
+use Rattle.oe_steps.specs.declared.audits.Condition.{Condition}
+use Rattle.oe_steps.specs.declared.audits.Verdict.{Verdict}
+use Rattle.oe_steps.specs.declared.audits.Verdict.TheVariants as verdict
+use Rattle.oe_steps.specs.declared.steps.Step.TheVariants as step
+use Rattle.oe_model.specs.Headline.{Is_consistent}
+use Rattle.oe_model.specs.Population.{IsPopulated}
+use Rattle.oe_model.specs.Rows.{Rows}
+use Rattle.oe_model.specs.Queries.{answer_of}
+use Rattle.oe_model.specs.Requests.{query_rejection}
+use Rattle.oe_model.specs.System.{system}
+use Rattle.oe_lines.specs.Grammar.{Says}
+use Rattle.oe_lines.specs.declared.commands.Command.TheVariants as command
+use Rattle.oe_lines.specs.declared.commands.MomentChoice.{MomentChoice}
+use Rattle.oe_lines.specs.declared.commands.MomentChoice.TheVariants as moment
+use Rattle.oe_core.specs.Run.{Ran}
+use Rattle.oe_texts.specs.Answer.{answer_line, audit_line}
+use Rattle.oe_script.specs.Script.{State, moment_in, Asks, LineAnswer, RunOfLines, ended, last_text, Output}
+use Rattle.oe_headline.specs.Deeds.{Deed, No_form, Opening, Dump, Steps, Entry, Passed, lines_of, texts_of, steps_of, answers_of}
+use Rattle.oe_headline.specs.Without.{is_rolled_back, Without}
+
+-- each run of lines is lines one after another, of each of which it is known what it was; and the other way round
+pub record Lines_are_deeds : Type 0 where
+  pub each : (s : State) (n : ℕ) (lines : List (List ℕ)) (text : List ℕ) (s' : State) → RunOfLines s n lines text s'
+      → (es : List Entry) × Passed s es s' × (lines_of es ≡ lines) × (texts_of n es ≡ text)
+  pub back : (s : State) (n : ℕ) (es : List Entry) (s' : State) → Passed s es s' → RunOfLines s n (lines_of es) (texts_of n es) s'
+
+-- nothing is open yet, or a world that steps led to from a population
+abbrev pub IsReachedState : State → Type 0
+IsReachedState None = Unit {0}
+IsReachedState (Some w) = IsReached system w
+
+-- each state that the lines of a script pass through is such a one
+pub record Worlds_are_reached : Type 0 where
+  -- whatever number of lines came before
+  pub of_lines : (s : State) (n : ℕ) (lines : List (List ℕ)) (text : List ℕ) (s' : State) → IsReachedState s → RunOfLines s n lines text s' → IsReachedState s'
+  -- at each place between two lines
+  pub between : (before after : List (List ℕ)) (text : List ℕ) (s : State) → RunOfLines None 0 (before ++ after) text s
+      → (mid : State) × (first : List ℕ) × (rest : List ℕ) × RunOfLines None 0 before first mid × IsReachedState mid
+      × RunOfLines mid (length before) after rest s × (text ≡ first ++ rest)
+  -- at the end
+  pub of_output : (input out : List ℕ) (o : Output input out) → IsReachedState o.state
+
+-- conditions 1 to 4 (clauses 3.3.2.1 to 3.3.2.4) hold there of the version of each moment, and of the tables where nothing is open
+abbrev pub IsConsistentState : State → Type 0
+IsConsistentState None = Unit {0}
+IsConsistentState (Some w) = Is_consistent w
+
+-- an audit of a moment that is kept is answered that the condition holds, whatever is open; of any other it is refused
+abbrev pub IsAudited : World system → Condition → ℕ → List ℕ → Type 0
+IsAudited w c m text =
+    ((horizon system w ≤ m) × (m ≤ newest system w) × (text ≡ audit_line c verdict.Holds))
+    ⊎ ((m < horizon system w) × (text ≡ answer_line (answer.Refused (refusal.TooOld (horizon system w)))))
+    ⊎ ((newest system w < m) × (text ≡ answer_line (answer.Refused (refusal.Future (newest system w)))))
+
+pub record Audits_hold : Type 0 where
+  -- at each place between two lines
+  pub conditions : (n : ℕ) (lines : List (List ℕ)) (text : List ℕ) (s : State) → RunOfLines None n lines text s → IsConsistentState s
+  -- each line that asks for an audit
+  pub answered : (w : World system) (n : ℕ) (line text : List ℕ) (s : State) (c : Condition) (m : MomentChoice) → IsReached system w
+      → Asks (Some w) line (command.Audit c m) → LineAnswer (Some w) n line text s → IsAudited w c (moment_in w m) text × (s ≡ Some w)
+  -- one of `now` is never refused
+  pub now : (w : World system) (n : ℕ) (line text : List ℕ) (s : State) (c : Condition) → IsReached system w
+      → Asks (Some w) line (command.Audit c moment.Now) → LineAnswer (Some w) n line text s → text ≡ audit_line c verdict.Holds
+  -- in a script no verdict is that a condition fails
+  pub verdicts : (s s' : State) (before after : List Entry) (e : Entry) (n : ℕ) (c : Condition) (m : ℕ) (v : Verdict) → IsReachedState s
+      → Passed s (before ++ e ∷ after) s' → e.deed ≡ Steps n (step.Audit c m) (answer.Audited v) → v ≡ verdict.Holds
+
+-- A query of a moment is told what is found in the version of that moment, which has the commits up to it and nobody's open work,
+-- or what is missed there. It is refused where its warehouse is absent, or where the moment is not kept
+abbrev pub Tells : Outcome QueryReply Refusal → List ℕ → Type 0
+Tells (Here f) text = text ≡ answer_line (answer.Replied f)
+Tells (Missing e) text = text ≡ answer_line (answer.Refused e)
+
+abbrev pub IsReadAt : World system → Query → ℕ → List ℕ → Type 0
+IsReadAt w q m text =
+    ((horizon system w ≤ m) × (m ≤ newest system w) × Tells (answer_of q (at system w m)) text)
+    ⊎ ((m < horizon system w) × (text ≡ answer_line (answer.Refused (refusal.TooOld (horizon system w)))))
+    ⊎ ((newest system w < m) × (text ≡ answer_line (answer.Refused (refusal.Future (newest system w)))))
+
+abbrev pub IsRead : World system → Query → ℕ → List ℕ → Type 0
+IsRead w q m text =
+    ((e : Refusal) × (query_rejection q (tables system w) ≡ Some e) × (text ≡ answer_line (answer.Refused e)))
+    ⊎ ((query_rejection q (tables system w) ≡ None) × IsReadAt w q m text)
+
+-- so it is with each line that asks a query
+abbrev pub Reads_are_of_moments : Type 0
+Reads_are_of_moments =
+    (w : World system) (n : ℕ) (line text : List ℕ) (s : State) (m : MomentChoice) (q : Query) → Asks (Some w) line (command.Read m q)
+    → LineAnswer (Some w) n line text s → IsRead w q (moment_in w m) text × (s ≡ Some w)
+
+-- The lines of a script up to its opening, and what follows of those after it. They are one run of the machine, from the
+-- population that was opened: each of its transactions ends whole, although others overlap it; the commits are those of
+-- transactions run one at a time; conditions 1 to 4 hold all the way
+pub record IsOneRun (es : List Entry) (w : World system) : Type 0 where
+  pub before : List Entry
+  pub opening : Entry
+  pub after : List Entry
+  pub lines : es ≡ before ++ opening ∷ after
+  pub scale : Scale
+  pub extents : ℕ
+  pub rows : Rows
+  pub says : Says opening.line (command.Open scale extents)
+  pub populated : IsPopulated scale rows
+  pub closed : Passed None before None
+  pub ran : Ran (opened system rows extents) (steps_of after) (answers_of after) w
+
+pub record Scripts_are_runs : Type 0 where
+  -- of a whole script
+  pub from_start : (es : List Entry) (w : World system) → Passed None es (Some w) → IsOneRun es w
+  -- and from each world that steps led to
+  pub from_world : (w : World system) (es : List Entry) (s : State) → IsReached system w → Passed (Some w) es s
+      → (w' : World system) × (s ≡ Some w') × Ran w (steps_of es) (answers_of es) w'
+
+-- A transaction begins in the line `first`, and is rolled back in those that follow. Without its lines the others are answered
+-- the same, and leave the same state
+abbrev pub Lines_without_rollback : Type 0
+Lines_without_rollback =
+    (s s' : State) (before after : List Entry) (first : Entry) (t : ℕ) (q : Request) → IsReachedState s
+    → first.deed ≡ Steps 0 (step.Begin t q) answer.Begun → Passed s (before ++ first ∷ after) s' → is_rolled_back t after ≡ true
+    → (left : List Entry) × Without t after left × Passed s (before ++ left) s'
+
+-- these are the lines of an output, and its answers
+pub record IsTold (input out : List ℕ) (o : Output input out) (es : List Entry) : Type 0 where
+  pub passed : Passed None es o.state
+  pub lines : lines_of es ≡ o.lines
+  pub answers : texts_of 0 es ≡ o.answers
+
+-- the input may be answered by this output, and leave this state
+abbrev pub OutputTo : List ℕ → List ℕ → State → Type 0
+OutputTo input out s = (o : Output input out) × (o.state ≡ s)
+
+-- so it is of a whole input and its output
+abbrev pub Outputs_without_rollback : Type 0
+Outputs_without_rollback =
+    (input out : List ℕ) (o : Output input out) (before after : List Entry) (first : Entry) (t : ℕ) (q : Request)
+    → IsTold input out o (before ++ first ∷ after) → first.deed ≡ Steps 0 (step.Begin t q) answer.Begun → is_rolled_back t after ≡ true
+    → (left : List Entry) × Without t after left
+    × OutputTo (flat_map ended (lines_of (before ++ left)) ++ o.last) (texts_of 0 (before ++ left) ++ last_text (length (lines_of (before ++ left)) + 1) o.last) o.state
+
+-- the line was not refused memory
+abbrev pub HasMemory : Deed → Type 0
+HasMemory No_form = Unit {0}
+HasMemory (Opening text) = text ≢ answer_line (answer.Refused refusal.NoMemory)
+HasMemory (Dump text) = Unit {0}
+HasMemory (Steps n i x) = x ≢ answer.Refused refusal.NoMemory
+
+-- no line was
+abbrev pub HaveMemory : List Entry → Type 0
+HaveMemory [] = Unit {0}
+HaveMemory (e ∷ es) = HasMemory e.deed × HaveMemory es
+
+-- Where no line is refused memory, the lines determine what each was and the state that they leave
+pub record Answers_are_determined : Type 0 where
+  pub of_lines : (s s₁ s₂ : State) (es fs : List Entry) → Passed s es s₁ → Passed s fs s₂ → lines_of es ≡ lines_of fs → HaveMemory es → HaveMemory fs
+      → (es ≡ fs) × (s₁ ≡ s₂)
+  -- so an input determines its output
+  pub of_output : (input out out' : List ℕ) (o : Output input out) (o' : Output input out') (es fs : List Entry) → IsTold input out o es → IsTold input out' o' fs
+      → HaveMemory es → HaveMemory fs → (out ≡ out') × (o.state ≡ o'.state)

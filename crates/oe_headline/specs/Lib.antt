@@ -1,0 +1,5 @@
+-- What the clauses of this crate cite.
+pub mod Beside
+pub mod Deeds
+pub mod Without
+pub mod Laws

@@ -1,4 +1,0 @@
--- What the clauses of this crate cite.
-pub mod Orders
-pub mod Groups
-pub mod Sets

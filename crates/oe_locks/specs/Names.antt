@@ -1,0 +1,11 @@
+-- Names that are held, as a list of entries.
+use Rattle.std.specs.Prelude.{◌≡◌, Option, cond}
+use Rattle.std.specs.Map.{lookup}
+use Rattle.oe_keys.specs.declared.locks.Name.{Name}
+use Rattle.oe_keys.specs.contracts.locks.NamePartialEq.TheImpl.{ghosts}
+use Rattle.oe_locks.specs.declared.holders.Holders.{Holders}
+use Rattle.oe_locks.specs.Held.{Holdings}
+
+-- a name has other holders, or none, and every other name those that it had
+abbrev pub Changes : Holdings → Holdings → Name → Option Holders → Type 0
+Changes old new n after = (q : Name) → lookup (ghosts.eq q) new ≡ cond (ghosts.eq n q) after (lookup (ghosts.eq q) old)

@@ -1,0 +1,181 @@
+//! Which names are held, and by whom. The first few lie on a short list, where a name is found by comparing it with each, and only
+//! those beyond it in a map: so the names of a few transactions are never hashed. Nothing is moved from one to the other. Only
+//! `insert` takes memory, and only it can fail.
+ghost use Rattle.std.specs.Prelude.{◌≡◌, [], IsSome, None, Some, OnOk, OnErr, true, false};
+ghost use Rattle.std.specs.Map.{lookup};
+ghost use Rattle.oe_keys.specs.contracts.locks.NamePartialEq.TheImpl.{ghosts};
+ghost use Rattle.oe_locks.specs.Names.{Changes};
+
+use crate::holders::Holders;
+use oe_keys::Name;
+use std::alloc::{AllocError, Global};
+use std::collections::HashMap;
+use std::marker::Model;
+
+/// How many names lie on the list at most.
+const FEW: usize = 8;
+
+/// The names that are held, each with its holders, which clauses see as a list.
+#[derive(Debug, Drop)]
+pub(crate) struct NameMap {
+    few: Vec<(Name, Holders)>,
+    // At most 64 transactions' names are keys, so nobody can make many of them collide.
+    rest: HashMap<Name, Holders>,
+}
+
+impl Model for NameMap {
+    ghost use Rattle.std.specs.Prelude.{◌++◌};
+    ghost use Rattle.oe_locks.specs.Held.{Holdings};
+
+    ghost Value = { Holdings };
+
+    ghost view = { λ m. m.few.items ++ m.rest.entries };
+}
+
+// The holders of the first entry with the name.
+fn listed(entries: &[(Name, Holders)], name: &Name) -> Option<Holders>
+    ensures { result ≡ lookup (ghosts.eq name.now) entries.now }
+{
+    for entry in entries {
+        if *name == entry.0 {
+            return Some(entry.1);
+        }
+    }
+    None
+}
+
+// The holders of the map's entry with the name.
+fn mapped(entries: &HashMap<Name, Holders>, name: &Name) -> Option<Holders>
+    ensures { result ≡ lookup (ghosts.eq name.now) entries.now.entries }
+{
+    if entries.is_empty() {
+        return None;
+    }
+    Some(*entries.get(name)?)
+}
+
+// Puts other holders into the first entry with the name, if there is one, and answers whether there is.
+fn put(entries: &mut Vec<(Name, Holders)>, name: &Name, after: &Holders) -> bool
+    ensures put { result ≡ true →
+        Changes entries.old.items entries.new.items name.now (Some after.now) }
+    ensures absent { result ≡ false → lookup (ghosts.eq name.now) entries.old.items ≡ None }
+    ensures same { result ≡ false → entries.new.items ≡ entries.old.items }
+{
+    for i in 0..entries.len() {
+        if *name == entries[i].0 {
+            entries[i] = (*name, *after);
+            return true;
+        }
+    }
+    false
+}
+
+// Takes all entries with the name off the list.
+fn strike_listed(entries: &mut Vec<(Name, Holders)>, name: &Name)
+    ensures { Changes entries.old.items entries.new.items name.now None }
+{
+    entries.retain(|entry| *name != entry.0);
+}
+
+// Puts the name's entry into the map. After an error nothing has changed.
+fn insert_mapped(
+    entries: &mut HashMap<Name, Holders>,
+    name: &Name,
+    holders: &Holders,
+) -> Result<(), AllocError>
+    ensures changes { OnOk result
+        (Changes entries.old.entries entries.new.entries name.now (Some holders.now)) }
+    ensures err { OnErr result (entries.new.entries ≡ entries.old.entries) }
+{
+    let Ok(_) = entries.insert(*name, *holders) else {
+        return Err(AllocError);
+    };
+    Ok(())
+}
+
+// Puts other holders into the map's entry with the name.
+fn replace_mapped(entries: &mut HashMap<Name, Holders>, name: &Name, after: &Holders)
+    requires { IsSome (lookup (ghosts.eq name.now) entries.old.entries) }
+    ensures { Changes entries.old.entries entries.new.entries name.now (Some after.now) }
+{
+    if let Some(before) = entries.get_mut(name) {
+        *before = *after;
+    }
+}
+
+// Takes the name's entry out of the map, if there is one.
+fn strike_mapped(entries: &mut HashMap<Name, Holders>, name: &Name)
+    ensures { Changes entries.old.entries entries.new.entries name.now None }
+{
+    if entries.is_empty() {
+        return;
+    }
+    entries.remove(name);
+}
+
+impl NameMap {
+    /// No name.
+    pub(crate) fn new(alloc: Global) -> NameMap
+        ensures { result ≡ [] }
+    {
+        NameMap {
+            few: Vec::new(alloc),
+            rest: HashMap::new(alloc),
+        }
+    }
+
+    /// Who holds the name, if anybody does.
+    pub(crate) fn get(&self, name: &Name) -> Option<Holders>
+        ensures { result ≡ lookup (ghosts.eq name.now) self.now }
+    {
+        match listed(&self.few, name) {
+            Some(holders) => Some(holders),
+            None => mapped(&self.rest, name),
+        }
+    }
+
+    /// Takes a name that nobody holds. After an error nothing has changed.
+    pub(crate) fn insert(&mut self, name: &Name, holders: &Holders) -> Result<(), AllocError>
+        requires { lookup (ghosts.eq name.now) self.old ≡ None }
+        ensures changes { OnOk result (Changes self.old self.new name.now (Some holders.now)) }
+        ensures err { OnErr result (self.new ≡ self.old) }
+    {
+        if self.few.len() < FEW {
+            let Ok(_) = self.few.push((*name, *holders)) else {
+                return Err(AllocError);
+            };
+            return Ok(());
+        }
+        insert_mapped(&mut self.rest, name, holders)
+    }
+
+    /// Gives a name other holders. Takes no memory for a name that somebody holds, and after an error nothing has changed.
+    pub(crate) fn set(&mut self, name: &Name, after: &Holders) -> Result<(), AllocError>
+        ensures changes { OnOk result (Changes self.old self.new name.now (Some after.now)) }
+        ensures err { OnErr result (self.new ≡ self.old) }
+    {
+        if put(&mut self.few, name, after) {
+            return Ok(());
+        }
+        insert_mapped(&mut self.rest, name, after)
+    }
+
+    /// Gives a name that somebody holds other holders.
+    pub(crate) fn replace(&mut self, name: &Name, after: &Holders)
+        requires { IsSome (lookup (ghosts.eq name.now) self.old) }
+        ensures { Changes self.old self.new name.now (Some after.now) }
+    {
+        if put(&mut self.few, name, after) {
+            return;
+        }
+        replace_mapped(&mut self.rest, name, after);
+    }
+
+    /// Lets go of a name. Nobody holds it then.
+    pub(crate) fn remove(&mut self, name: &Name)
+        ensures { Changes self.old self.new name.now None }
+    {
+        strike_listed(&mut self.few, name);
+        strike_mapped(&mut self.rest, name);
+    }
+}

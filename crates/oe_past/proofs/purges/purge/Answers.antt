@@ -1,0 +1,12 @@
+use Rattle.std.proofs.Common.{◌≡◌, ◌-◌, ◌∙◌, ap, arith, length}
+use Rattle.oe_undo.specs.Undo.{with_newest}
+use Rattle.oe_past.specs.Moments.{store_with, newest}
+use Rattle.oe_past.proofs.PastFacts.{purged_is}
+use Rattle.oe_past.proofs.purges.purge.Goals as goal
+
+pub returns-in-Ok-clause-purged : goal.returns-in-Ok-clause-purged
+returns-in-Ok-clause-purged c =
+    let left : length c.args.undo.now.committed - (c.kept.result - c.in-Ok.later) ≡ newest c.args.undo.now - c.args.moment =
+    omega (arith, c.kept.ensures, c.in-Ok.ensures.count, c.in-Ok.ensures.within) in
+    λ r slots.
+    ap (λ z. store_with r z slots) (c.take_oldest.ensures ∙ ap (λ n. with_newest n c.args.undo.now) left) ∙ purged_is c.args.undo.now c.args.moment r slots

@@ -1,0 +1,180 @@
+-- What the stages of a payment ask for and do, of the rows as they are.
+use Rattle.std.proofs.Common.{◌≡◌, ℕ, refl, sym, ap, ◌∙◌, subst, suc, List, Option, None, Some, Result, Ok, Err}
+use Rattle.std.specs.Prelude.{option_map}
+use Rattle.std.specs.FinMap.{get}
+use Rattle.oe_theory.specs.Machine.{Ask, Stop, Take, Fail, Go, Exclusive}
+use Rattle.oe_keys.specs.declared.keys.Key.TheVariants as key
+use Rattle.oe_keys.specs.declared.locks.Name.{Name}
+use Rattle.oe_keys.specs.declared.locks.Name.TheVariants as name
+use Rattle.oe_rows.specs.Credit.{credit_entry, with_entry}
+use Rattle.oe_rows.specs.declared.warehouses.Warehouse.{Warehouse}
+use Rattle.oe_rows.specs.declared.districts.District.{District}
+use Rattle.oe_rows.specs.declared.customers.Account.{Account}
+use Rattle.oe_rows.specs.declared.customers.Credit.TheVariants.{Good, Bad}
+use Rattle.oe_rows.specs.declared.customers.Customer.{Customer}
+use Rattle.oe_rows.specs.declared.histories.History.{History}
+use Rattle.oe_requests.specs.declared.requests.PaymentRequest.{PaymentRequest}
+use Rattle.oe_requests.specs.declared.requests.Request.TheVariants as request
+use Rattle.oe_requests.specs.declared.replies.PaymentReply.{PaymentReply}
+use Rattle.oe_requests.specs.declared.refusals.Column.{Column}
+use Rattle.oe_requests.specs.declared.refusals.Refusal.{Refusal}
+use Rattle.oe_requests.specs.declared.refusals.Refusal.TheVariants.{NoSuchRow, NoCustomer, Overflow}
+use Rattle.oe_model.specs.Keys.{warehouse_of_district, customer_in}
+use Rattle.oe_model.specs.Changes.{InsertHistory, UpdateWarehouse, UpdateDistrict, UpdateCustomer}
+use Rattle.oe_model.specs.Choice.{chosen}
+use Rattle.oe_model.specs.Effects.{Doing, given, within}
+use Rattle.oe_model.specs.Positions.{PaymentWarehouse, PaymentDistrict, PaymentCustomer, PaymentHistory, PaymentEnd, InPayment}
+use Rattle.oe_model.specs.Payment.{paid_warehouse, paid_warehouse_out, paid_district, paid_district_out, paid_customer, paid_customer_out, history_data, history_row, history_key, paid_reply}
+use Rattle.oe_records.specs.declared.writes.Write.TheVariants as write
+use Rattle.oe_formulas.specs.Checks.{checked, paid_with}
+use Rattle.oe_engine.specs.View.{Stored, view_of, Handle}
+use Rattle.oe_engine.specs.Programs.{ask_here, act_here}
+use Rattle.oe_payment.specs.Stages.{IsStage}
+use Rattle.oe_payment.specs.Choice.{meant}
+use Rattle.oe_payment.proofs.ChoiceFacts.{IsChosen, nobody, absent}
+
+-- a row whose columns are in their ranges goes on with the stage after it, and another fails
+module _ {A : Type 0} (out : A → Option Column) (x : A) (d : A → Doing) where
+  goes_within : (after : A) → ◌≡◌ {A = Result A Column} (Ok after) (checked out x) → within (out x) (d x) ≡ d after
+  goes_within after e = go (out x) e
+    where
+      go : (o : Option Column) → ◌≡◌ {A = Result A Column} (Ok after) (elim o [ None ↦ Ok x | Some c ↦ Err c ]) → within o (d x) ≡ d after
+      go None e = let same : after ≡ x = cc in ap d (sym same)
+      go (Some c) e = let no : ⊥ = cc in absurd no
+
+  fails_within : (c : Column) → ◌≡◌ {A = Result A Column} (Err c) (checked out x) → within (out x) (d x) ≡ Fail (Overflow c)
+  fails_within c e = go (out x) e
+    where
+      go : (o : Option Column) → ◌≡◌ {A = Result A Column} (Err c) (elim o [ None ↦ Ok x | Some b ↦ Err b ]) → within o (d x) ≡ Fail (Overflow c)
+      go None e = let no : ⊥ = cc in absurd no
+      go (Some b) e = let same : c ≡ b = cc in ap (λ z. Fail (Overflow z)) (sym same)
+
+module _ (q : PaymentRequest) (x : Handle) (s : Stored) where
+  -- WAREHOUSE
+  abbrev on_warehouse : Warehouse → Warehouse → Doing
+  on_warehouse w after = Go (Some (UpdateWarehouse (warehouse_of_district q.district) after)) (InPayment q (PaymentDistrict w.name))
+
+  abbrev do_warehouse : Warehouse → Doing
+  do_warehouse w = within (paid_warehouse_out (paid_warehouse q w)) (on_warehouse w (paid_warehouse q w))
+
+  pub warehouse_absent : get (view_of s).rows.warehouses (warehouse_of_district q.district) ≡ None
+      → act_here s x (request.Payment q) (InPayment q PaymentWarehouse) ≡ Fail (NoSuchRow (key.Warehouse (warehouse_of_district q.district)))
+  warehouse_absent e = ap (λ o. given (NoSuchRow (key.Warehouse (warehouse_of_district q.district))) o do_warehouse) e
+
+  pub warehouse_fails : (w : Warehouse) (c : Column) → get (view_of s).rows.warehouses (warehouse_of_district q.district) ≡ Some w
+      → Err c ≡ checked paid_warehouse_out (paid_warehouse q w) → act_here s x (request.Payment q) (InPayment q PaymentWarehouse) ≡ Fail (Overflow c)
+  warehouse_fails w c e out =
+      ap (λ o. given (NoSuchRow (key.Warehouse (warehouse_of_district q.district))) o do_warehouse) e
+      ∙ fails_within paid_warehouse_out (paid_warehouse q w) (on_warehouse w) c out
+
+  pub warehouse_stage : (w : Warehouse) (y : ℕ) → get (view_of s).rows.warehouses (warehouse_of_district q.district) ≡ Some w
+      → Ok (record w { ytd = y }) ≡ checked paid_warehouse_out (paid_warehouse q w)
+      → IsStage q x s PaymentWarehouse (write.WarehouseYtd (warehouse_of_district q.district) y) (UpdateWarehouse (warehouse_of_district q.district) (record w { ytd = y })) (PaymentDistrict w.name)
+  warehouse_stage w y e within_range = record {
+    asks = refl;
+    does = ap (λ o. given (NoSuchRow (key.Warehouse (warehouse_of_district q.district))) o do_warehouse) e
+        ∙ goes_within paid_warehouse_out (paid_warehouse q w) (on_warehouse w) (record w { ytd = y }) within_range;
+    written = ap (option_map (λ z. UpdateWarehouse (warehouse_of_district q.district) (record z { ytd = y }))) e;
+  }
+
+  -- DISTRICT
+  module _ (name_of : List ℕ) where
+    abbrev on_district : District → District → Doing
+    on_district d after = Go (Some (UpdateDistrict q.district after)) (InPayment q (PaymentCustomer name_of d.name))
+
+    abbrev do_district : District → Doing
+    do_district d = within (paid_district_out (paid_district q d)) (on_district d (paid_district q d))
+
+    pub district_absent : get (view_of s).rows.districts q.district ≡ None
+        → act_here s x (request.Payment q) (InPayment q (PaymentDistrict name_of)) ≡ Fail (NoSuchRow (key.District q.district))
+    district_absent e = ap (λ o. given (NoSuchRow (key.District q.district)) o do_district) e
+
+    pub district_fails : (d : District) (c : Column) → get (view_of s).rows.districts q.district ≡ Some d
+        → Err c ≡ checked paid_district_out (paid_district q d) → act_here s x (request.Payment q) (InPayment q (PaymentDistrict name_of)) ≡ Fail (Overflow c)
+    district_fails d c e out =
+        ap (λ o. given (NoSuchRow (key.District q.district)) o do_district) e ∙ fails_within paid_district_out (paid_district q d) (on_district d) c out
+
+    pub district_stage : (d : District) (y : ℕ) → get (view_of s).rows.districts q.district ≡ Some d
+        → Ok (record d { ytd = y }) ≡ checked paid_district_out (paid_district q d)
+        → IsStage q x s (PaymentDistrict name_of) (write.DistrictYtd q.district y) (UpdateDistrict q.district (record d { ytd = y })) (PaymentCustomer name_of d.name)
+    district_stage d y e within_range = record {
+      asks = refl;
+      does = ap (λ o. given (NoSuchRow (key.District q.district)) o do_district) e
+          ∙ goes_within paid_district_out (paid_district q d) (on_district d) (record d { ytd = y }) within_range;
+      written = ap (option_map (λ z. UpdateDistrict q.district (record z { ytd = y }))) e;
+    }
+
+  -- CUSTOMER
+  module _ (w d : List ℕ) where
+    abbrev lock_of : Option ℕ → Ask Name Refusal
+    lock_of o = elim o [ None ↦ Stop NoCustomer | Some c ↦ Take (name.Customer (customer_in q.customer_district c)) Exclusive ]
+
+    abbrev on_customer : ℕ → Customer → Doing
+    on_customer c after = Go (Some (UpdateCustomer (customer_in q.customer_district c) after)) (InPayment q (PaymentHistory (history_data w d) (paid_reply c after)))
+
+    abbrev do_customer : ℕ → Customer → Doing
+    do_customer c z = within (paid_customer_out (paid_customer c q z)) (on_customer c (paid_customer c q z))
+
+    abbrev do_chosen : ℕ → Doing
+    do_chosen c = given NoCustomer (get (view_of s).rows.customers (customer_in q.customer_district c)) (do_customer c)
+
+    customer_stops : chosen q.customer_district q.customer (view_of s).rows.customers ≡ None → ask_here s x (request.Payment q) (InPayment q (PaymentCustomer w d)) ≡ Stop NoCustomer
+    customer_stops e = ap lock_of e
+
+    pub nobody_stops : meant q.customer_district q.customer (view_of s).rows.customers ≡ None → ask_here s x (request.Payment q) (InPayment q (PaymentCustomer w d)) ≡ Stop NoCustomer
+    nobody_stops e = customer_stops (nobody q (view_of s).rows.customers e)
+
+    pub absent_stops : (n : ℕ) → meant q.customer_district q.customer (view_of s).rows.customers ≡ Some n
+        → get (view_of s).rows.customers (customer_in q.customer_district n) ≡ None → ask_here s x (request.Payment q) (InPayment q (PaymentCustomer w d)) ≡ Stop NoCustomer
+    absent_stops n e row = customer_stops (absent q (view_of s).rows.customers n e row)
+
+    module _ (n : ℕ) (z : Customer) (h : IsChosen q (view_of s).rows.customers n z) where
+      pub customer_asks : ask_here s x (request.Payment q) (InPayment q (PaymentCustomer w d)) ≡ Take (name.Customer (customer_in q.customer_district n)) Exclusive
+      customer_asks = ap lock_of h.number
+
+      does_customer : act_here s x (request.Payment q) (InPayment q (PaymentCustomer w d)) ≡ do_customer n z
+      does_customer = ap (λ o. given NoCustomer o do_chosen) h.number ∙ ap (λ o. given NoCustomer o (do_customer n)) h.row
+
+      pub customer_fails : (c : Column) → Err c ≡ checked paid_customer_out (paid_customer n q z)
+          → act_here s x (request.Payment q) (InPayment q (PaymentCustomer w d)) ≡ Fail (Overflow c)
+      customer_fails c out = does_customer ∙ fails_within paid_customer_out (paid_customer n q z) (on_customer n) c out
+
+      module _ (a : Account) (within_range : Ok (paid_with n q z a) ≡ checked paid_customer_out (paid_customer n q z)) where
+        goes_customer : act_here s x (request.Payment q) (InPayment q (PaymentCustomer w d)) ≡ on_customer n (paid_with n q z a)
+        goes_customer = does_customer ∙ goes_within paid_customer_out (paid_customer n q z) (on_customer n) (paid_with n q z a) within_range
+
+        -- of good credit, whose data stay
+        pub good_stage : z.credit ≡ Good
+            → IsStage q x s (PaymentCustomer w d) (write.CustomerAccount (customer_in q.customer_district n) a) (UpdateCustomer (customer_in q.customer_district n) (paid_with n q z a)) (PaymentHistory (history_data w d) (paid_reply n (paid_with n q z a)))
+        good_stage good = record {
+          asks = customer_asks;
+          does = goes_customer;
+          written = ap (option_map (λ y. UpdateCustomer (customer_in q.customer_district n) (record y { account = a }))) h.row ∙ ap (λ y. Some (UpdateCustomer (customer_in q.customer_district n) y)) (good_data good);
+        }
+          where
+            good_data : z.credit ≡ Good → record z { account = a } ≡ paid_with n q z a
+            good_data good = rw good refl
+
+        -- and of bad credit
+        pub bad_stage : (entry : List ℕ) → z.credit ≡ Bad
+            → entry ≡ credit_entry (record { customer = customer_in q.customer_district n; district = q.district }) q.amount
+            → IsStage q x s (PaymentCustomer w d) (write.BadCredit (customer_in q.customer_district n) a entry) (UpdateCustomer (customer_in q.customer_district n) (paid_with n q z a)) (PaymentHistory (history_data w d) (paid_reply n (paid_with n q z a)))
+        bad_stage entry bad is = record {
+          asks = customer_asks;
+          does = goes_customer;
+          written = ap (option_map (λ y. UpdateCustomer (customer_in q.customer_district n) (with_entry a entry y))) h.row ∙ ap (λ y. Some (UpdateCustomer (customer_in q.customer_district n) y)) (bad_data bad is);
+        }
+          where
+            bad_data : z.credit ≡ Bad → entry ≡ credit_entry (record { customer = customer_in q.customer_district n; district = q.district }) q.amount
+                → with_entry a entry z ≡ paid_with n q z a
+            bad_data bad is = rw (bad, is) refl
+
+  -- HISTORY
+  pub history_stage : (joined : List ℕ) (y : PaymentReply) (row : History) → row ≡ history_row q y.customer joined
+      → IsStage q x s (PaymentHistory joined y) (write.InsertHistory (history_key x.terminal (suc ((view_of s).counts x.terminal))) row)
+      (InsertHistory (history_key x.terminal (suc ((view_of s).counts x.terminal))) (history_row q y.customer joined)) (PaymentEnd y)
+  history_stage joined y row is = record {
+    asks = refl;
+    does = refl;
+    written = ap (λ z. Some (InsertHistory (history_key x.terminal (suc ((view_of s).counts x.terminal))) z)) is;
+  }
