@@ -1,0 +1,3 @@
+pub mod MoveFacts
+pub mod GoneFacts
+pub mod HistoryFacts
