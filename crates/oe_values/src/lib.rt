@@ -13,7 +13,8 @@ pub use numbers::{
     Amount, Balance, Carrier, Cents, Count, CustomerNumber, DistrictNumber, HistoryOrdinal,
     HistoryTerminal, ImageNumber, ItemNumber, LineAmount, LineCount, LineNumber, LineQuantity,
     LowStock, Moment, Number, OrderNumber, PaymentAmount, Price, Quantity, Rate, RequestedItem,
-    StockYtd, Terminal, TerminalCount, Threshold, TransactionNumber, WarehouseNumber, YearToDate,
+    StockYtd, TERMINALS, Terminal, TerminalCount, Threshold, TransactionNumber, WarehouseNumber,
+    YearToDate,
 };
-pub use stamps::Stamp;
+pub use stamps::{SECONDS, Stamp};
 pub use texts::{FirstName, LastName, Text};

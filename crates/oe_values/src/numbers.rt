@@ -90,14 +90,17 @@ pub type ImageNumber = Number<1, 200_000>;
 /// O_OL_CNT, the number of an order's lines (clause 2.4.1.3).
 pub type LineCount = Number<5, 15>;
 
+/// How many terminals there are.
+pub const TERMINALS: u32 = 64;
+
 /// A terminal.
-pub type Terminal = Number<1, 64>;
+pub type Terminal = Number<1, TERMINALS>;
 
 /// How many terminals have a transaction open, where any has.
-pub type TerminalCount = Number<1, 64>;
+pub type TerminalCount = Number<1, TERMINALS>;
 
 /// The terminal in a history row's key; 0 is the population's.
-pub type HistoryTerminal = Number<0, 64>;
+pub type HistoryTerminal = Number<0, TERMINALS>;
 
 /// The number of a transaction among its terminal's, from 1 on, in a history row's key. The population's begin at 1 too.
 pub type TransactionNumber = Number<0, 4_294_967_295>;

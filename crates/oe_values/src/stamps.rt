@@ -6,6 +6,7 @@ ghost use Rattle.jiff_core.specs.DateTime.{civil_seconds};
 ghost use Rattle.oe_values.specs.Reading.{date_of, time_of, numbers_of, IsDay, IsSecond};
 ghost use Rattle.oe_values.specs.Stamp.{date_text, time_text, IsCounted, SaysStamp};
 ghost use Rattle.oe_values.specs.Text.{IsPrintable};
+ghost use Rattle.oe_values.specs.declared.stamps.TheConstants.{SECONDS};
 
 use crate::fronts::{after, pair};
 use crate::texts::Text;
@@ -17,6 +18,9 @@ const BEFORE_1900: u32 = 4_346_020;
 
 /// The days from 1900-01-01 to 2101-01-01.
 const DAYS: u32 = 73_414;
+
+/// The seconds from 1900-01-01T00:00:00 to 2101-01-01T00:00:00: one more than the last stamp has.
+pub const SECONDS: u64 = 6_342_969_600;
 
 /// The year, month and day of `YYYY-MM-DD` at the front, and what follows it.
 #[inline]
@@ -116,7 +120,7 @@ fn read_seconds(text: &[u8]) -> Option<u64>
 
 /// The date and time that many seconds after 1900-01-01T00:00:00.
 fn moment_at(seconds: u64) -> civil::DateTime
-    requires { seconds < 6_342_969_600 }
+    requires { seconds < SECONDS }
     ensures seconds { pos seconds ≡ civil_seconds result +ℤ pos 2_208_988_800 }
     ensures since_1900 { pos 1900 ≤ℤ result.date.year }
 {
@@ -170,7 +174,7 @@ impl Model for Stamp {
 
     ghost view = { λ s. s.since_1900 };
 
-    ghost invariant = { λ s. s.since_1900 < 6_342_969_600 };
+    ghost invariant = { λ s. s.since_1900 < SECONDS };
 
     ghost inverse = { λ n. record { since_1900 = n } };
 }
@@ -219,10 +223,10 @@ impl Stamp {
     /// The seconds after 1900-01-01T00:00:00, where a stamp has so many: to 2100-12-31T23:59:59.
     #[inline]
     pub fn from_seconds(seconds: u64) -> Option<Stamp>
-        ensures variant { IsSome result ↔ (seconds < 6_342_969_600) }
+        ensures variant { IsSome result ↔ (seconds < SECONDS) }
         ensures value { IfSome result (λ s. s ≡ seconds) }
     {
-        if seconds >= 6_342_969_600 {
+        if seconds >= SECONDS {
             return None;
         }
         Some(Stamp {
@@ -234,7 +238,7 @@ impl Stamp {
     #[inline]
     pub fn seconds(self) -> u64
         ensures value { result ≡ self }
-        ensures high { result < 6_342_969_600 }
+        ensures high { result < SECONDS }
     {
         self.since_1900
     }
