@@ -1,5 +1,6 @@
 -- The key at the front of bytes, and those behind it: column after column, each in its range.
 use Rattle.std.specs.Prelude.{◌≡◌, ℕ, List, Option}
+use Rattle.oe_values.specs.declared.numbers.TheConstants.{TERMINALS}
 use Rattle.oe_keys.specs.Key.{table_of}
 use Rattle.oe_keys.specs.declared.keys.WarehouseKey.{WarehouseKey}
 use Rattle.oe_keys.specs.declared.keys.DistrictKey.{DistrictKey}
@@ -33,7 +34,7 @@ customer_key_at bytes =
 unfoldable pub history_key_at : List ℕ → Option (HistoryKey × List ℕ)
 history_key_at bytes =
     seen (λ p. record { terminal = p.0; number = p.1.0; ordinal = p.1.1 })
-    (pair_at (ranged_at 2 0 64) (pair_at (ranged_at 4 0 4_294_967_295) (ranged_at 1 1 1)) bytes)
+    (pair_at (ranged_at 2 0 TERMINALS) (pair_at (ranged_at 4 0 4_294_967_295) (ranged_at 1 1 1)) bytes)
 
 unfoldable pub new_order_key_at : List ℕ → Option (NewOrderKey × List ℕ)
 new_order_key_at bytes =

@@ -2,6 +2,7 @@
 use Rattle.std.specs.Prelude.{ℕ, List, ◌++◌}
 use Rattle.std.specs.Int.{IsInRange}
 use Rattle.oe_bytes.specs.Spelling.{number}
+use Rattle.oe_values.specs.declared.numbers.TheConstants.{TERMINALS}
 use Rattle.oe_keys.specs.Key.{IsDistrictKey, IsCustomerKey}
 use Rattle.oe_keys.specs.declared.keys.WarehouseKey.{WarehouseKey}
 use Rattle.oe_keys.specs.declared.keys.DistrictKey.{DistrictKey}
@@ -61,7 +62,7 @@ abbrev pub IsWarehouseKey : WarehouseKey → Type 0
 IsWarehouseKey k = IsInRange 1 16 k.warehouse
 
 pub record IsHistoryKey (k : HistoryKey) : Type 0 where
-  pub terminal : IsInRange 0 64 k.terminal
+  pub terminal : IsInRange 0 TERMINALS k.terminal
   pub number_of_terminal : IsInRange 0 4_294_967_295 k.number
   pub ordinal : IsInRange 1 1 k.ordinal
 

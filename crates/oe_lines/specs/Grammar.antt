@@ -3,6 +3,7 @@ use Rattle.std.specs.Prelude.{◌≡◌, ℕ, ◌≤◌, List, [], ◌∷◌, ma
 use Rattle.std.specs.Int.{IsInRange}
 use Rattle.std.specs.List.{join_with_byte}
 use Rattle.oe_rows.specs.Credit.{money_text}
+use Rattle.oe_values.specs.declared.numbers.TheConstants.{TERMINALS}
 use Rattle.oe_keys.specs.Key.{table_name}
 use Rattle.oe_requests.specs.declared.requests.CustomerChoice.{CustomerChoice}
 use Rattle.oe_requests.specs.declared.requests.CustomerChoice.TheVariants as choice
@@ -92,12 +93,12 @@ IsMoment (moment.At m) = m ≤ 999_999_999_999
 -- a command that has a form, with its numbers in their ranges
 abbrev pub HasForm : Command → Type 0
 HasForm (command.Open s extents) = IsScale s × IsInRange 2 4_096 extents
-HasForm (command.Begin terminal r) = IsInRange 1 64 terminal × IsRequest r
-HasForm (command.Next terminal) = IsInRange 1 64 terminal
-HasForm (command.Run terminal) = IsInRange 1 64 terminal
-HasForm (command.Save terminal) = IsInRange 1 64 terminal
-HasForm (command.Back terminal) = IsInRange 1 64 terminal
-HasForm (command.Rollback terminal) = IsInRange 1 64 terminal
+HasForm (command.Begin terminal r) = IsInRange 1 TERMINALS terminal × IsRequest r
+HasForm (command.Next terminal) = IsInRange 1 TERMINALS terminal
+HasForm (command.Run terminal) = IsInRange 1 TERMINALS terminal
+HasForm (command.Save terminal) = IsInRange 1 TERMINALS terminal
+HasForm (command.Back terminal) = IsInRange 1 TERMINALS terminal
+HasForm (command.Rollback terminal) = IsInRange 1 TERMINALS terminal
 HasForm (command.Dump table) = Unit {0}
 HasForm (command.Audit c m) = IsMoment m
 HasForm (command.Read m q) = IsMoment m × IsQuery q

@@ -22,6 +22,7 @@ use Rattle.oe_lines.specs.declared.commands.Command.TheVariants as command
 use Rattle.oe_lines.specs.declared.commands.MomentChoice.{MomentChoice}
 use Rattle.oe_lines.specs.declared.commands.MomentChoice.TheVariants as moment
 use Rattle.oe_values.specs.Front.{◌>>=◌, after_of, decimal_of, alone}
+use Rattle.oe_values.specs.declared.numbers.TheConstants.{TERMINALS}
 use Rattle.oe_lines.specs.Words.{is_word, within, number_of, number_then, number_before, last_number, amount_before, stamp_of, stamp_before, last_name_of, name_before}
 
 unfoldable pub table_of : List ℕ → Option Table
@@ -190,13 +191,13 @@ reading_of s = do
 
 unfoldable pub beginning_of : List ℕ → Option Command
 beginning_of s = do
-  t ← number_before 1 64 s
+  t ← number_before 1 TERMINALS s
   r ← request_of t.1
   Some (command.Begin t.0 r)
 
 -- a command whose one word is a terminal
 abbrev pub terminal_of : (ℕ → Command) → List ℕ → Option Command
-terminal_of made s = option_map made (last_number 1 64 s)
+terminal_of made s = option_map made (last_number 1 TERMINALS s)
 
 unfoldable pub rare_command_of : List ℕ → Option Command
 rare_command_of line =

@@ -5,6 +5,7 @@ use Rattle.std.specs.Str.{bytes_eq}
 use Rattle.jiff_core.specs.Calendar.{days_from_civil}
 use Rattle.oe_texts.specs.Stamp.{stamp_text}
 use Rattle.oe_values.specs.Front.{◌>>=◌, after_of, pair_of, decimal_of, alone}
+use Rattle.oe_values.specs.declared.stamps.TheConstants.{SECONDS}
 
 -- two texts are one; it stays closed in the dispatch on a word
 unfoldable pub is_word : List ℕ → List ℕ → Bool
@@ -60,7 +61,7 @@ counted s =
 
 -- the stamp whose text this is
 unfoldable pub stamp_of : List ℕ → Option ℕ
-stamp_of s = let n = counted s in if nat_lt n 6_342_969_600 && bytes_eq (stamp_text n) s then Some n else None
+stamp_of s = let n = counted s in if nat_lt n SECONDS && bytes_eq (stamp_text n) s then Some n else None
 
 -- the same of the first 19 bytes before a space, which is passed over
 unfoldable pub stamp_before : List ℕ → Option (ℕ × List ℕ)

@@ -9,6 +9,7 @@
 ghost use Rattle.std.specs.Prelude.{◌≡◌, ◌≢◌, ◌+◌, ◌<◌, [], ◌++◌, ◌∷◌, ℕ, not, MatchOption, OnOk, OnErr, IfOk, IfErr, IfNone, IsSome, Some, None};
 ghost use Rattle.std.specs.List.{filter};
 ghost use Rattle.std.specs.Map.{lookup};
+ghost use Rattle.oe_values.specs.declared.numbers.TheConstants.{TERMINALS};
 ghost use Rattle.oe_keys.specs.contracts.locks.NamePartialEq.TheImpl.{ghosts};
 ghost use Rattle.oe_requests.specs.declared.refusals.Refusal.TheVariants.{NoMemory};
 ghost use Rattle.oe_locks.specs.Held.{held, is_name, IsIdle, IsFreeFor, IsInTheWay, Takes, GivesBack, HoldsNothing, OthersKeep, IsCause, IsBelow};
@@ -24,12 +25,9 @@ use holders::Holders;
 use name_map::NameMap;
 use oe_keys::{Mode, Name};
 use oe_requests::Refusal;
-use oe_values::Terminal;
+use oe_values::{TERMINALS, Terminal};
 use std::alloc::{AllocError, Global};
 use std::marker::Model;
-
-/// How many terminals there are.
-const TERMINALS: u32 = 64;
 
 /// Which terminals hold which names, each in a mode: shared or exclusive.
 #[derive(Debug, Drop)]
@@ -42,6 +40,7 @@ pub struct Locks {
 
 impl Model for Locks {
     ghost use Rattle.std.specs.Prelude.{◌≡◌, vec_len};
+    ghost use Rattle.oe_values.specs.declared.numbers.TheConstants.{TERMINALS};
     ghost use Rattle.oe_locks.specs.Held.{Holdings};
     ghost use Rattle.oe_locks.specs.Listed.{AreListed};
 
@@ -49,13 +48,13 @@ impl Model for Locks {
 
     ghost view = { λ s. s.holders };
 
-    ghost invariant = { λ s. (vec_len s.names ≡ 64) × AreListed s.holders s.names.items };
+    ghost invariant = { λ s. (vec_len s.names ≡ TERMINALS) × AreListed s.holders s.names.items };
 }
 
 // Where the terminal's names are.
 fn slot(terminal: Terminal) -> usize
     ensures value { result + 1 ≡ terminal }
-    ensures within { result < 64 }
+    ensures within { result < TERMINALS }
 {
     terminal.get() as usize - 1
 }

@@ -3,6 +3,7 @@ use Rattle.std.specs.Prelude.{ℕ, ◌<◌, cond, is_some, nat_le, List, [], ◌
 use Rattle.std.specs.List.{All}
 use Rattle.std.specs.Int.{IsInRange}
 use Rattle.oe_values.specs.Text.{IsLastName}
+use Rattle.oe_values.specs.declared.stamps.TheConstants.{SECONDS}
 use Rattle.oe_keys.specs.declared.keys.WarehouseKey.{WarehouseKey}
 use Rattle.oe_keys.specs.declared.keys.DistrictKey.{DistrictKey}
 use Rattle.oe_keys.specs.declared.keys.Key.TheVariants as key
@@ -31,7 +32,7 @@ IsChoice (LastName last) = IsLastName last
 
 -- before 2101
 abbrev pub IsStamp : ℕ → Type 0
-IsStamp n = n < 6342969600
+IsStamp n = n < SECONDS
 
 -- clause 2.5.1: the amount is 1.00 to 5,000.00
 pub record IsPayment (q : PaymentRequest) : Type 0 where

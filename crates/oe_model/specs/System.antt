@@ -1,6 +1,7 @@
 -- The server's machine: tables, locks, programs and whole effects, as the theory of transactions takes them.
-use Rattle.std.specs.Prelude.{ℕ, Bool, true, false, List, [], Option, None}
+use Rattle.std.specs.Prelude.{ℕ, suc, Bool, true, false, List, [], Option, None}
 use Rattle.oe_theory.specs.Machine.{Machine, Ask, Stop, Fail, Tx, Hold}
+use Rattle.oe_values.specs.declared.numbers.TheConstants.{TERMINALS}
 use Rattle.oe_keys.specs.declared.keys.Key.{Key}
 use Rattle.oe_rows.specs.declared.rows.Row.{Row}
 use Rattle.oe_keys.specs.declared.locks.Name.{Name}
@@ -98,7 +99,7 @@ record_length AsValues b = 0
 
 -- terminals are 1 to 64, and 0 is the population's in HISTORY; shut, so that no proof counts them
 unfoldable pub terminal_limit : ℕ
-terminal_limit = 65
+terminal_limit = suc TERMINALS
 
 -- the machine, by the layout of its undo records
 abbrev pub machine : Layout → Machine

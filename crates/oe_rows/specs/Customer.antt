@@ -2,6 +2,7 @@
 use Rattle.std.specs.Prelude.{◌≤◌, ◌<◌}
 use Rattle.oe_values.specs.Number.{IsWithin}
 use Rattle.oe_values.specs.Text.{IsText}
+use Rattle.oe_values.specs.declared.stamps.TheConstants.{SECONDS}
 use Rattle.oe_rows.specs.Warehouse.{IsAddress}
 use Rattle.oe_rows.specs.declared.customers.CustomerName.{CustomerName}
 use Rattle.oe_rows.specs.declared.customers.Account.{Account}
@@ -24,6 +25,6 @@ pub record IsCustomer (c : Customer) : Type 0 where
   pub name : IsCustomerName c.name
   pub address : IsAddress c.address
   pub phone : IsText 16 16 c.phone
-  pub since : c.since < 6_342_969_600
+  pub since : c.since < SECONDS
   pub account : IsAccount c.account
   pub text : IsText 0 500 c.data

@@ -2,6 +2,7 @@
 ghost use Rattle.std.specs.Prelude.{◌≡◌, ◌+◌, ◌-◌, ◌<◌, map, IfOk, IfErr, OnOk, None};
 ghost use Rattle.std.specs.Option.{option_copied};
 ghost use Rattle.oe_theory.specs.Store.{all_below};
+ghost use Rattle.oe_values.specs.declared.numbers.TheConstants.{TERMINALS};
 ghost use Rattle.oe_model.specs.Rows.{is_key};
 ghost use Rattle.oe_model.specs.Changes.{record_key};
 ghost use Rattle.oe_model.specs.System.{system, terminal_limit};
@@ -14,7 +15,7 @@ use oe_keys::Key;
 use oe_records::Before;
 use oe_requests::Refusal;
 use oe_undo::{Records, Undo};
-use oe_values::{Moment, Terminal};
+use oe_values::{Moment, TERMINALS, Terminal};
 
 /// How many commits came after a moment; `TooOld` with the horizon, or `Future` with the newest moment, exactly where it is not
 /// between the two.
@@ -60,10 +61,10 @@ fn oldest_in<'a>(records: Records<'a>, key: &Key, newer: Option<&'a Before>) -> 
 
 /// The terminal before which there are so many of greater numbers.
 fn falling(lower: u32) -> Terminal
-    requires { lower < 64 }
-    ensures { result ≡ 64 - lower }
+    requires { lower < TERMINALS }
+    ensures { result ≡ TERMINALS - lower }
 {
-    Terminal::new(64 - lower).unwrap()
+    Terminal::new(TERMINALS - lower).unwrap()
 }
 
 /// The oldest record of the key in the open segments, by falling terminals.
@@ -73,7 +74,7 @@ fn oldest_open<'a>(undo: &'a Undo, key: &Key) -> Option<&'a Before>
         ≡ oldest_open key.now (undo_of undo.now).active (all_below system terminal_limit) None }
 {
     let mut oldest = None;
-    for lower in 0..64u32 {
+    for lower in 0..TERMINALS {
         let records = undo.open_records(falling(lower));
         oldest = oldest_in(records, key, oldest);
     }
