@@ -1,6 +1,7 @@
 -- What an undo log keeps of itself.
 use Rattle.std.specs.Prelude.{◌≡◌, ℕ, suc, ◌+◌, ◌<◌, ◌≤◌, ⊤, List, [], ◌∷◌, length, take, slice_get, get_or, None, Some, is_some}
 use Rattle.std.specs.List.{All, sum_by, count_by}
+use Rattle.oe_values.specs.declared.numbers.TheConstants.{TERMINALS}
 use Rattle.oe_undo.specs.declared.undo.TerminalState.{TerminalState}
 use Rattle.oe_undo.specs.Segments.{Addressed, Open, Committed, address_of}
 use Rattle.oe_undo.specs.Undo.{idle, commits_of}
@@ -28,7 +29,7 @@ abbrev pub AreNumbered : (ℕ → ℕ) → List Committed → Type 0
 AreNumbered counts cs = (later : ℕ) (c : Committed) → slice_get cs later ≡ Some c → c.number + commits_of c.terminal (take later cs) ≡ counts c.terminal
 
 pub record IsKept (terminals : List TerminalState) (committed : List Committed) (len capacity newest open_count : ℕ) : Type 0 where
-  pub size : length terminals ≡ 65
+  pub size : length terminals ≡ suc TERMINALS
   pub nobody : (get_or terminals 0 idle).active ≡ None
   pub counts : All (λ s. s.count < 4_294_967_296) terminals
   pub active : (t : ℕ) (o : Open) → (get_or terminals t idle).active ≡ Some o → IsOf t (get_or terminals t idle).count o

@@ -1,6 +1,7 @@
 -- The undo log as plain data, and what its calls do to it.
 use Rattle.std.specs.Prelude.{◌≢◌, ℕ, zero, suc, ◌-◌, ◌==◌, cond, List, [], ◌∷◌, get_or, set, take, replicate, Option, None, Some, is_some}
 use Rattle.std.specs.List.{All, sum_by, count_by}
+use Rattle.oe_values.specs.declared.numbers.TheConstants.{TERMINALS}
 use Rattle.oe_requests.specs.declared.requests.Request.{Request}
 use Rattle.oe_requests.specs.declared.replies.Reply.{Reply}
 use Rattle.oe_records.specs.declared.befores.Before.{Before}
@@ -65,9 +66,9 @@ pub record IsFresh (v : Stored) (p : Address) : Type 0 where
   pub active : (t : ℕ) → All (λ r. r.address ≢ p) (records_at v t)
   pub committed : All (λ c. All (λ r. r.address ≢ p) c.records) v.committed
 
--- 65 idle terminals; shut, so that no proof counts them
+-- nobody and the terminals, all idle; shut, so that no proof counts them
 unfoldable pub idle_terminals : List TerminalState
-idle_terminals = replicate 65 idle
+idle_terminals = replicate (suc TERMINALS) idle
 
 -- nothing recorded, nothing committed
 abbrev pub no_segments : ℕ → Stored

@@ -7,7 +7,7 @@ use oe_records::Before;
 use oe_requests::replies::Reply;
 use oe_requests::requests::Request;
 use oe_table::tables::NoMemory;
-use oe_values::numbers::{Terminal, TransactionNumber};
+use oe_values::numbers::{TERMINALS, Terminal, TransactionNumber};
 use std::alloc::Global;
 use std::marker::Model;
 
@@ -44,7 +44,7 @@ impl Segment {
     pub(crate) fn slot(self) -> usize
         ensures value { result ≡ self }
         ensures low { 1 ≤ result }
-        ensures high { result ≤ 64 }
+        ensures high { result ≤ TERMINALS }
     {
         let owner = self.owner;
         owner.get() as usize

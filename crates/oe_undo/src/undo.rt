@@ -11,7 +11,7 @@ use oe_requests::refusals::Refusal;
 use oe_requests::replies::Reply;
 use oe_requests::requests::Request;
 use oe_table::tables::NoMemory;
-use oe_values::numbers::{Moment, Terminal, TransactionNumber};
+use oe_values::numbers::{Moment, TERMINALS, Terminal, TransactionNumber};
 use std::alloc::Global;
 use std::collections::VecDeque;
 use std::marker::Model;
@@ -62,10 +62,10 @@ impl Model for Undo {
 fn idle_terminals(alloc: Global) -> Result<Vec<TerminalState>, NoMemory>
     ensures { IfOk result (λ v. v.items ≡ idle_terminals) }
 {
-    let Ok(mut terminals) = Vec::with_capacity(alloc, 65) else {
+    let Ok(mut terminals) = Vec::with_capacity(alloc, TERMINALS as usize + 1) else {
         return Err(NoMemory);
     };
-    for _ in 0..65u8 {
+    for _ in 0..TERMINALS + 1 {
         terminals.push_reserved(TerminalState {
             count: 0,
             active: None,
@@ -146,7 +146,7 @@ impl Undo {
         ensures slots { (slots : ℕ → Option (Slot system))
             → ((t : ℕ) → is_some (slots t) ≡ is_some (active_at self.now t))
             → result ≡ count_slots system slots terminal_limit }
-        ensures most { result ≤ 64 }
+        ensures most { result ≤ TERMINALS }
     {
         self.open_count
     }
