@@ -1,4 +1,4 @@
--- What a program's row may read and write: lemmas that serve each program.
+-- What a program's stage may read and write: lemmas that serve each program.
 use Rattle.std.proofs.Common.{cond, ◌≡◌, ℕ, refl, sym, ◌∙◌, ap, subst, Bool, true, false, List, [], ◌∷◌, ◌++◌, Option, Some, None, inl, inr}
 use Rattle.std.specs.Prelude.{option_map, is_some, IsSome, option_and_then}
 use Rattle.std.specs.FinMap.{get}
@@ -54,7 +54,7 @@ use Rattle.oe_model.proofs.RowFacts.{out-map, un_warehouse, un_district, un_cust
 abbrev pub IsAskedNow : Tx Request → Position → Rows → Type 0
 IsAskedNow x p r = IsAsked system (all_held system) (ask x p r)
 
--- the names that are held in a row of a program
+-- the names that are held in a stage of a program
 abbrev pub HeldThen : Tx Request → Position → Rows → Name → Mode → Type 0
 HeldThen x p r = Holds system (with_asked system (ask x p r) (taken x p))
 

@@ -1,4 +1,4 @@
--- How a program's row ends, where it needs a value, a row within its ranges, or a lock.
+-- How a program's stage ends, where it needs a value, a row within its ranges, or a lock.
 use Rattle.std.proofs.Common.{◌≡◌, refl, sym, ◌∙◌, ap, subst, Option, Some, None}
 use Rattle.std.specs.Prelude.{option_map}
 use Rattle.oe_theory.specs.Machine.{Mode, Ask, Stop, Take, Tx}

@@ -1,4 +1,4 @@
--- Delivery of one district (clause 2.7): its whole effect, and its program, a row at a time.
+-- Delivery of one district (clause 2.7): its whole effect, and its program, a stage at a time.
 use Rattle.std.specs.Prelude.{ℕ, ◌+◌, pos, ◌+ℤ◌, cond, List, [], ◌∷◌, map, sum_by, Option, None, Some}
 use Rattle.std.specs.Ordering.{eq_by_cmp}
 use Rattle.std.specs.FinMap.{FinMap, get, insert, remove, entries, retain_keys}
@@ -86,7 +86,7 @@ delivery_of q o r = do
 abbrev pub delivery_effect : DeliveryRequest → Rows → Option (Rows × Reply)
 delivery_effect q r = elim (oldest q.district r.new_orders) [ None ↦ Some (r, reply.Delivery Skipped) | Some o ↦ delivery_of q o r ]
 
--- the program: the lock of each row
+-- the program: the lock of each stage
 abbrev pub delivery_ask : DeliveryRequest → DeliveryPosition → Rows → Ask Name Refusal
 delivery_ask q DeliveryQueue r = Take (name.Queue q.district) Exclusive
 delivery_ask q DeliveryNothing r = Plain
@@ -95,7 +95,7 @@ delivery_ask q (DeliveryLine o c (n ∷ ns) sum) r = Plain
 delivery_ask q (DeliveryLine o c [] sum) r = Take (name.Customer (customer_in q.district c)) Exclusive
 delivery_ask q (DeliveryEnd o c sum) r = Plain
 
--- the work of each row
+-- the work of each stage
 abbrev pub delivery_act : DeliveryRequest → DeliveryPosition → Rows → Doing
 delivery_act q DeliveryQueue r =
     elim (oldest q.district r.new_orders) [
@@ -116,7 +116,7 @@ delivery_act q (DeliveryLine o c [] sum) r =
     (Go (Some (UpdateCustomer (customer_in q.district c) (delivered_to sum x))) (InDelivery q (DeliveryEnd o c sum))))
 delivery_act q (DeliveryEnd o c sum) r = Ready (delivered_reply o c sum)
 
--- the locks that were taken before each row
+-- the locks that were taken before each stage
 abbrev pub delivery_taken : DeliveryRequest → DeliveryPosition → List (Hold Name)
 delivery_taken q position =
     let one = hold (name.Queue q.district) Exclusive ∷ [] in

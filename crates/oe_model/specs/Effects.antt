@@ -23,7 +23,7 @@ first_out (e ∷ es) = cond e.1 (first_out es) (Some e.0)
 abbrev pub in_range : {A : Type 0} → (A → Option Column) → A → Option A
 in_range out x = elim (out x) [ None ↦ Some x | Some c ↦ None ]
 
--- what a row of a program does
+-- what a stage of a program does
 abbrev pub Doing : Type 0
 Doing = Act Change Position Reply Refusal
 

@@ -1,4 +1,4 @@
--- New-Order (clause 2.4): its whole effect, and its program, a row at a time.
+-- New-Order (clause 2.4): its whole effect, and its program, a stage at a time.
 use Rattle.std.specs.Prelude.{ℕ, ◌+◌, ◌-◌, ◌*◌, ◌==◌, Bool, true, false, cond, ◌&&◌, ◌||◌, List, [], ◌∷◌, ◌++◌, map, length, fold, get_or, Option, None, Some, nat_le, codes}
 use Rattle.std.specs.List.{list_all}
 use Rattle.std.specs.Ordering.{eq_by_cmp}
@@ -180,7 +180,7 @@ new_order_effect q r = do
     reply.NewOrder (ordered_reply (seen warehouse district customer) (replies_of fs)),
   )
 
--- the program: the lock of each row
+-- the program: the lock of each stage
 abbrev pub new_order_ask : NewOrderRequest → NewOrderPosition → Rows → Ask Name Refusal
 new_order_ask q NewOrderWarehouse r = Take (name.Warehouse (warehouse_of_district q.district)) Shared
 new_order_ask q (NewOrderDistrict w) r = Take (name.District q.district) Exclusive
@@ -196,7 +196,7 @@ new_order_ask q (NewOrderStock s before done (l ∷ ls)) r =
     elim (item_at l.item r.items) [ None ↦ Stop InvalidItem | Some x ↦ Take (name.Stock (stock_of l)) Exclusive ]
 new_order_ask q (NewOrderLine s before done l f ls) r = Plain
 
--- the work of each row
+-- the work of each stage
 abbrev pub new_order_act : NewOrderRequest → NewOrderPosition → Rows → Doing
 new_order_act q NewOrderWarehouse r =
     given (NoSuchRow (key.Warehouse (warehouse_of_district q.district))) (get r.warehouses (warehouse_of_district q.district)) (λ x.
@@ -228,7 +228,7 @@ new_order_act q (NewOrderLine s before done l f ls) r =
     Go (Some (InsertOrderLine (line_in (order_in q.district s.order) f.number) f.row))
     (InNewOrder q (NewOrderStock s (before ++ l ∷ []) (done ++ f.reply ∷ []) ls))
 
--- the locks that were taken before each row
+-- the locks that were taken before each stage
 abbrev pub stock_holds : List RequestLine → List (Hold Name)
 stock_holds ls = map (λ l. hold (name.Stock (stock_of l)) Exclusive) ls
 

@@ -1,4 +1,4 @@
--- Payment (clause 2.5): its whole effect, and its program, a row at a time.
+-- Payment (clause 2.5): its whole effect, and its program, a stage at a time.
 use Rattle.std.specs.Prelude.{ℕ, ◌+◌, pos, neg_ℤ, ◌-ℤ◌, ℤ, Bool, ◌&&◌, List, [], ◌∷◌, ◌++◌, Option, None, Some, nat_le, int_le, codes}
 use Rattle.std.specs.FinMap.{get, insert}
 use Rattle.oe_theory.specs.Machine.{Exclusive, Ask, Stop, Plain, Take, Go, Ready, Hold}
@@ -106,7 +106,7 @@ payment_effect t k q r = do
     reply.Payment (paid_reply c customer'),
   )
 
--- the program: the lock of each row
+-- the program: the lock of each stage
 abbrev pub payment_ask : PaymentRequest → PaymentPosition → Rows → Ask Name Refusal
 payment_ask q PaymentWarehouse r = Take (name.Warehouse (warehouse_of_district q.district)) Exclusive
 payment_ask q (PaymentDistrict w) r = Take (name.District q.district) Exclusive
@@ -118,7 +118,7 @@ payment_ask q (PaymentCustomer w d) r =
 payment_ask q (PaymentHistory d y) r = Plain
 payment_ask q (PaymentEnd y) r = Plain
 
--- the work of each row
+-- the work of each stage
 abbrev pub payment_act : ℕ → ℕ → PaymentRequest → PaymentPosition → Rows → Doing
 payment_act t k q PaymentWarehouse r =
     given (NoSuchRow (key.Warehouse (warehouse_of_district q.district))) (get r.warehouses (warehouse_of_district q.district)) (λ x.
@@ -137,7 +137,7 @@ payment_act t k q (PaymentCustomer w d) r =
 payment_act t k q (PaymentHistory d y) r = Go (Some (InsertHistory (history_key t k) (history_row q y.customer d))) (InPayment q (PaymentEnd y))
 payment_act t k q (PaymentEnd y) r = Ready (reply.Payment y)
 
--- the locks that were taken before each row, the last one first
+-- the locks that were taken before each stage, the last one first
 abbrev pub payment_taken : PaymentRequest → PaymentPosition → List (Hold Name)
 payment_taken q position =
     let one = hold (name.Warehouse (warehouse_of_district q.district)) Exclusive ∷ [] in

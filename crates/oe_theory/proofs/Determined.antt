@@ -11,17 +11,17 @@ use Rattle.oe_theory.proofs.Sets.{some_inj, some_none}
 module _ (M : Machine) where
   open M use {Change, Name, Request, Position, Reply, Refusal, ask, act, rejection, number_rejection, Found, query_rejection, find, verdict, terminal_limit}
 
-  data Deed (w : World M) (t : ℕ) (o : Open M) (a : Answer M) (v : World M) : Type 0 where
+  data Done (w : World M) (t : ℕ) (o : Open M) (a : Answer M) (v : World M) : Type 0 where
     went : (c : Option Change) (p : Position) → act (tx_of M t o) o.now.position (tables M w) ≡ Go c p → HasRoom M w o c → a ≡ More
-        → v ≡ put_active M t (Some (moved M o (ask (tx_of M t o) o.now.position (tables M w)) c p (tables M w))) w → Deed w t o a v
-    was_full : (c : Change) (p : Position) → act (tx_of M t o) o.now.position (tables M w) ≡ Go (Some c) p → IsFull M w o c → a ≡ Undo_full → v ≡ w → Deed w t o a v
-    was_ready : (y : Reply) → act (tx_of M t o) o.now.position (tables M w) ≡ Ready y → a ≡ Committed (suc (newest M w)) y → v ≡ committed M w t o y → Deed w t o a v
-    failed : (e : Refusal) → act (tx_of M t o) o.now.position (tables M w) ≡ Fail e → a ≡ Aborted e → v ≡ put_active M t None w → Deed w t o a v
+        → v ≡ put_active M t (Some (moved M o (ask (tx_of M t o) o.now.position (tables M w)) c p (tables M w))) w → Done w t o a v
+    was_full : (c : Change) (p : Position) → act (tx_of M t o) o.now.position (tables M w) ≡ Go (Some c) p → IsFull M w o c → a ≡ Undo_full → v ≡ w → Done w t o a v
+    was_ready : (y : Reply) → act (tx_of M t o) o.now.position (tables M w) ≡ Ready y → a ≡ Committed (suc (newest M w)) y → v ≡ committed M w t o y → Done w t o a v
+    failed : (e : Refusal) → act (tx_of M t o) o.now.position (tables M w) ≡ Fail e → a ≡ Aborted e → v ≡ put_active M t None w → Done w t o a v
 
   data Turn (w : World M) (t : ℕ) (o : Open M) (a : Answer M) (v : World M) : Type 0 where
     stopped : (e : Refusal) → ask (tx_of M t o) o.now.position (tables M w) ≡ Stop e → a ≡ Aborted e → v ≡ put_active M t None w → Turn w t o a v
     waited : (n : Name) (m : Mode) (u : ℕ) → ask (tx_of M t o) o.now.position (tables M w) ≡ Take n m → IsInTheWay M w t n m u → a ≡ Busy n u → v ≡ w → Turn w t o a v
-    acted : IsGranted M w t (ask (tx_of M t o) o.now.position (tables M w)) → Deed w t o a v → Turn w t o a v
+    acted : IsGranted M w t (ask (tx_of M t o) o.now.position (tables M w)) → Done w t o a v → Turn w t o a v
 
   abbrev OfOpen : World M → ℕ → Answer M → World M → Answer M → (Open M → World M) → Type 0
   OfOpen w t a v a' f = ((o : Open M) × (w.active t ≡ Some o) × (a ≡ a') × (v ≡ f o)) ⊎ ((w.active t ≡ None) × (a ≡ Not_open) × (v ≡ w))
@@ -138,37 +138,37 @@ module _ (M : Machine) where
   no_room w o c (inl h) f = omega (arith, h, f.0)
   no_room w o c (inr h) f = omega (arith, h, f.1)
 
-  same_deed : (w : World M) (t : ℕ) (o : Open M) (a a' : Answer M) (v v' : World M) → Deed w t o a v → Deed w t o a' v' → Same a v a' v'
-  same_deed w t o a a' v v' (went c p r h e f) (went c' p' r' h' e' f') =
+  same_done : (w : World M) (t : ℕ) (o : Open M) (a a' : Answer M) (v v' : World M) → Done w t o a v → Done w t o a' v' → Same a v a' v'
+  same_done w t o a a' v v' (went c p r h e f) (went c' p' r' h' e' f') =
       let same : ◌≡◌ {A = Act Change Position Reply Refusal} (Go c p) (Go c' p') = sym r ∙ r' in
       let i : c ≡ c' = cc in
       let j : p ≡ p' = cc in
       let x = ask (tx_of M t o) o.now.position (tables M w) in
       same_by a a' More v v' _ e f e' (f' ∙ (ap (λ z. put_active M t (Some (moved M o x z p' (tables M w))) w) (sym i) ∙ ap (λ z. put_active M t (Some (moved M o x c z (tables M w))) w) (sym j)))
-  same_deed w t o a a' v v' (went c p r h e f) (was_full c' p' r' h' e' f') =
+  same_done w t o a a' v v' (went c p r h e f) (was_full c' p' r' h' e' f') =
       let same : ◌≡◌ {A = Act Change Position Reply Refusal} (Go c p) (Go (Some c') p') = sym r ∙ r' in
       let i : c ≡ Some c' = cc in
       absurd (no_room w o c' (subst (HasRoom M w o) i h) h')
-  same_deed w t o a a' v v' (went c p r h e f) (was_ready y r' e' f') = let same : ◌≡◌ {A = Act Change Position Reply Refusal} (Go c p) (Ready y) = sym r ∙ r' in cc
-  same_deed w t o a a' v v' (went c p r h e f) (failed y r' e' f') = let same : ◌≡◌ {A = Act Change Position Reply Refusal} (Go c p) (Fail y) = sym r ∙ r' in cc
-  same_deed w t o a a' v v' (was_full c p r h e f) (went c' p' r' h' e' f') =
+  same_done w t o a a' v v' (went c p r h e f) (was_ready y r' e' f') = let same : ◌≡◌ {A = Act Change Position Reply Refusal} (Go c p) (Ready y) = sym r ∙ r' in cc
+  same_done w t o a a' v v' (went c p r h e f) (failed y r' e' f') = let same : ◌≡◌ {A = Act Change Position Reply Refusal} (Go c p) (Fail y) = sym r ∙ r' in cc
+  same_done w t o a a' v v' (was_full c p r h e f) (went c' p' r' h' e' f') =
       let same : ◌≡◌ {A = Act Change Position Reply Refusal} (Go (Some c) p) (Go c' p') = sym r ∙ r' in
       let i : Some c ≡ c' = cc in
       absurd (no_room w o c (subst (HasRoom M w o) (sym i) h') h)
-  same_deed w t o a a' v v' (was_full c p r h e f) (was_full c' p' r' h' e' f') = same_by a a' Undo_full v v' w e f e' f'
-  same_deed w t o a a' v v' (was_full c p r h e f) (was_ready y r' e' f') = let same : ◌≡◌ {A = Act Change Position Reply Refusal} (Go (Some c) p) (Ready y) = sym r ∙ r' in cc
-  same_deed w t o a a' v v' (was_full c p r h e f) (failed y r' e' f') = let same : ◌≡◌ {A = Act Change Position Reply Refusal} (Go (Some c) p) (Fail y) = sym r ∙ r' in cc
-  same_deed w t o a a' v v' (was_ready y r e f) (went c p r' h' e' f') = let same : ◌≡◌ {A = Act Change Position Reply Refusal} (Ready y) (Go c p) = sym r ∙ r' in cc
-  same_deed w t o a a' v v' (was_ready y r e f) (was_full c p r' h' e' f') = let same : ◌≡◌ {A = Act Change Position Reply Refusal} (Ready y) (Go (Some c) p) = sym r ∙ r' in cc
-  same_deed w t o a a' v v' (was_ready y r e f) (was_ready y' r' e' f') =
+  same_done w t o a a' v v' (was_full c p r h e f) (was_full c' p' r' h' e' f') = same_by a a' Undo_full v v' w e f e' f'
+  same_done w t o a a' v v' (was_full c p r h e f) (was_ready y r' e' f') = let same : ◌≡◌ {A = Act Change Position Reply Refusal} (Go (Some c) p) (Ready y) = sym r ∙ r' in cc
+  same_done w t o a a' v v' (was_full c p r h e f) (failed y r' e' f') = let same : ◌≡◌ {A = Act Change Position Reply Refusal} (Go (Some c) p) (Fail y) = sym r ∙ r' in cc
+  same_done w t o a a' v v' (was_ready y r e f) (went c p r' h' e' f') = let same : ◌≡◌ {A = Act Change Position Reply Refusal} (Ready y) (Go c p) = sym r ∙ r' in cc
+  same_done w t o a a' v v' (was_ready y r e f) (was_full c p r' h' e' f') = let same : ◌≡◌ {A = Act Change Position Reply Refusal} (Ready y) (Go (Some c) p) = sym r ∙ r' in cc
+  same_done w t o a a' v v' (was_ready y r e f) (was_ready y' r' e' f') =
       let same : ◌≡◌ {A = Act Change Position Reply Refusal} (Ready y) (Ready y') = sym r ∙ r' in
       let i : y' ≡ y = cc in
       same_by a a' _ v v' _ e f (e' ∙ ap (λ z. Committed (suc (newest M w)) z) i) (f' ∙ ap (committed M w t o) i)
-  same_deed w t o a a' v v' (was_ready y r e f) (failed y' r' e' f') = let same : ◌≡◌ {A = Act Change Position Reply Refusal} (Ready y) (Fail y') = sym r ∙ r' in cc
-  same_deed w t o a a' v v' (failed y r e f) (went c p r' h' e' f') = let same : ◌≡◌ {A = Act Change Position Reply Refusal} (Fail y) (Go c p) = sym r ∙ r' in cc
-  same_deed w t o a a' v v' (failed y r e f) (was_full c p r' h' e' f') = let same : ◌≡◌ {A = Act Change Position Reply Refusal} (Fail y) (Go (Some c) p) = sym r ∙ r' in cc
-  same_deed w t o a a' v v' (failed y r e f) (was_ready y' r' e' f') = let same : ◌≡◌ {A = Act Change Position Reply Refusal} (Fail y) (Ready y') = sym r ∙ r' in cc
-  same_deed w t o a a' v v' (failed y r e f) (failed y' r' e' f') =
+  same_done w t o a a' v v' (was_ready y r e f) (failed y' r' e' f') = let same : ◌≡◌ {A = Act Change Position Reply Refusal} (Ready y) (Fail y') = sym r ∙ r' in cc
+  same_done w t o a a' v v' (failed y r e f) (went c p r' h' e' f') = let same : ◌≡◌ {A = Act Change Position Reply Refusal} (Fail y) (Go c p) = sym r ∙ r' in cc
+  same_done w t o a a' v v' (failed y r e f) (was_full c p r' h' e' f') = let same : ◌≡◌ {A = Act Change Position Reply Refusal} (Fail y) (Go (Some c) p) = sym r ∙ r' in cc
+  same_done w t o a a' v v' (failed y r e f) (was_ready y' r' e' f') = let same : ◌≡◌ {A = Act Change Position Reply Refusal} (Fail y) (Ready y') = sym r ∙ r' in cc
+  same_done w t o a a' v v' (failed y r e f) (failed y' r' e' f') =
       let same : ◌≡◌ {A = Act Change Position Reply Refusal} (Fail y) (Fail y') = sym r ∙ r' in
       let i : y' ≡ y = cc in
       same_by a a' _ v v' _ e f (e' ∙ ap Aborted i) f'
@@ -201,7 +201,7 @@ module _ (M : Machine) where
   same_turn w t o a a' v v' (waited n m u r b e f) (acted g d) = absurd (not_both w t n m u b (subst (IsGranted M w t) r g))
   same_turn w t o a a' v v' (acted g d) (stopped y r e f) = absurd (subst (IsGranted M w t) r g)
   same_turn w t o a a' v v' (acted g d) (waited n m u r b e f) = absurd (not_both w t n m u b (subst (IsGranted M w t) r g))
-  same_turn w t o a a' v v' (acted g d) (acted g' d') = same_deed w t o a a' v v' d d'
+  same_turn w t o a a' v v' (acted g d) (acted g' d') = same_done w t o a a' v v' d d'
 
   same_open : (w : World M) (t : ℕ) (a a' b : Answer M) (v v' : World M) (f : Open M → World M) → OfOpen w t a v b f → OfOpen w t a' v' b f → Same a v a' v'
   same_open w t a a' b v v' f (inl h) (inl k) = same_by a a' b v v' _ h.2 h.3 k.2 (k.3 ∙ ap f (some_inj k.0 h.0 (sym k.1 ∙ h.1)))

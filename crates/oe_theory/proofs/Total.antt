@@ -55,12 +55,12 @@ module _ (M : Machine) where
       go (inr h) = inr h
 
   -- a row
-  of_deed : (w : World M) (t : ℕ) (o : Open M) → w.active t ≡ Some o → IsGranted M w t (ask (tx_of M t o) o.now.position (tables M w))
+  of_act : (w : World M) (t : ℕ) (o : Open M) → w.active t ≡ Some o → IsGranted M w t (ask (tx_of M t o) o.now.position (tables M w))
       → (d : Act Change Position Reply Refusal) → act (tx_of M t o) o.now.position (tables M w) ≡ d → IsAnswered M w (Advance t)
-  of_deed w t o e g (Fail x) r = record { answer = _; after = _; next = fails t o x e g r; other = λ z. cc }
-  of_deed w t o e g (Ready y) r = record { answer = _; after = _; next = commits t o y e g r; other = λ z. cc }
-  of_deed w t o e g (Go None p) r = record { answer = _; after = _; next = goes_on t o None p e g r tt; other = λ z. cc }
-  of_deed w t o e g (Go (Some c) p) r = room (either (size_of (record_on M c (tables M w))) (filled M o.lengths).1) (either w.extents (used M w))
+  of_act w t o e g (Fail x) r = record { answer = _; after = _; next = fails t o x e g r; other = λ z. cc }
+  of_act w t o e g (Ready y) r = record { answer = _; after = _; next = commits t o y e g r; other = λ z. cc }
+  of_act w t o e g (Go None p) r = record { answer = _; after = _; next = goes_on t o None p e g r tt; other = λ z. cc }
+  of_act w t o e g (Go (Some c) p) r = room (either (size_of (record_on M c (tables M w))) (filled M o.lengths).1) (either w.extents (used M w))
     where
       room : (size_of (record_on M c (tables M w)) ≤ (filled M o.lengths).1) ⊎ ((filled M o.lengths).1 < size_of (record_on M c (tables M w)))
           → (w.extents ≤ used M w) ⊎ (used M w < w.extents) → IsAnswered M w (Advance t)
@@ -71,11 +71,11 @@ module _ (M : Machine) where
   of_ask : (w : World M) → Sound M w → (t : ℕ) (o : Open M) → w.active t ≡ Some o → (a : Ask Name Refusal) → ask (tx_of M t o) o.now.position (tables M w) ≡ a
       → IsAnswered M w (Advance t)
   of_ask w s t o e (Stop x) r = record { answer = _; after = _; next = stops t o x e r; other = λ z. cc }
-  of_ask w s t o e Plain r = of_deed w t o e (subst (IsGranted M w t) (sym r) tt) _ refl
+  of_ask w s t o e Plain r = of_act w t o e (subst (IsGranted M w t) (sym r) tt) _ refl
   of_ask w s t o e (Take n m) r = go (search_way w t n m terminal_limit)
     where
       go : IsFreeBelow w t n m terminal_limit ⊎ ((u : ℕ) × IsInTheWay M w t n m u) → IsAnswered M w (Advance t)
-      go (inl f) = of_deed w t o e (subst (IsGranted M w t) (sym r) (λ v p ne h. f v p (s.each v p h).terminal.1 ne h)) _ refl
+      go (inl f) = of_act w t o e (subst (IsGranted M w t) (sym r) (λ v p ne h. f v p (s.each v p h).terminal.1 ne h)) _ refl
       go (inr h) = record { answer = _; after = _; next = is_busy t o n m h.0 e r h.1; other = λ z. cc }
 
   -- a begin

@@ -18,13 +18,13 @@ module _ (M : Machine) where
       go (inr (inl l)) = inl (omega (arith, l))
       go (inr (inr l)) = inr l
 
-  of_deed : (w : World M) (t : ℕ) (o : Open M) → w.active t ≡ Some o → IsGranted M w t (ask (tx_of M t o) o.now.position (tables M w))
+  of_act : (w : World M) (t : ℕ) (o : Open M) → w.active t ≡ Some o → IsGranted M w t (ask (tx_of M t o) o.now.position (tables M w))
       → (d : Act Change Position Reply Refusal) → act (tx_of M t o) o.now.position (tables M w) ≡ d
       → GivesWay M (yields (tx_of M t o) o.now.position) d → Stands_for M w (Advance t)
-  of_deed w t o e g (Fail x) r h = stops_else t o x _ e h (fails t o x e g r)
-  of_deed w t o e g (Ready y) r h = absurd h
-  of_deed w t o e g (Go None p) r h = goes_else t _ (goes_on t o None p e g r tt)
-  of_deed w t o e g (Go (Some c) p) r h = room (either (size_of (record_on M c (tables M w))) (filled M o.lengths).1) (either w.extents (used M w))
+  of_act w t o e g (Fail x) r h = stops_else t o x _ e h (fails t o x e g r)
+  of_act w t o e g (Ready y) r h = absurd h
+  of_act w t o e g (Go None p) r h = goes_else t _ (goes_on t o None p e g r tt)
+  of_act w t o e g (Go (Some c) p) r h = room (either (size_of (record_on M c (tables M w))) (filled M o.lengths).1) (either w.extents (used M w))
     where
       room : (size_of (record_on M c (tables M w)) ≤ (filled M o.lengths).1) ⊎ ((filled M o.lengths).1 < size_of (record_on M c (tables M w)))
           → (w.extents ≤ used M w) ⊎ (used M w < w.extents) → Stands_for M w (Advance t)
@@ -35,8 +35,8 @@ module _ (M : Machine) where
   of_ask : (w : World M) (t : ℕ) (o : Open M) → w.active t ≡ Some o → (a : Ask Name Refusal) → ask (tx_of M t o) o.now.position (tables M w) ≡ a
       → MayLackMemory M w t o a → Stands_for M w (Advance t)
   of_ask w t o e (Stop x) r h = stops_else t o x _ e h (stops t o x e r)
-  of_ask w t o e Plain r h = of_deed w t o e (subst (IsGranted M w t) (sym r) h.0) _ refl h.2
-  of_ask w t o e (Take n m) r h = of_deed w t o e (subst (IsGranted M w t) (sym r) h.0) _ refl h.2
+  of_ask w t o e Plain r h = of_act w t o e (subst (IsGranted M w t) (sym r) h.0) _ refl h.2
+  of_ask w t o e (Take n m) r h = of_act w t o e (subst (IsGranted M w t) (sym r) h.0) _ refl h.2
 
   want : (w : World M) (i : Step M) (a : Answer M) (v : World M) → Next M w i a v → a ≡ No_memory → (v ≡ w) × Stands_for M w i
   want w _ _ _ (lacks_memory_at_begin t q b) e = (refl, begins_else t q _ (begins t q b))

@@ -116,23 +116,23 @@ module _ (M : Machine) where
     -- names
     pub name_true : (a b : Name) → is_name a b ≡ true → a ≡ b
     pub name_refl : (a : Name) → is_name a a ≡ true
-    -- programs, a row at a time
+    -- programs, a stage at a time
     pub start_takes : (x : Tx Request) → taken x (start x) ≡ []
     pub ask_same : (x : Tx Request) (p : Position) (r s : Map) → Alike (Holds (taken x p)) x r s → ask x p r ≡ ask x p s
-    -- (these three where the row does not stop)
+    -- (these three where the stage does not stop)
     pub act_same : (x : Tx Request) (p : Position) (r s : Map) → IsAsked all_held (ask x p r) → Alike (Holds (with_asked (ask x p r) (taken x p))) x r s → act x p r ≡ act x p s
     pub next_takes : (x : Tx Request) (p : Position) (r : Map) (c : Option Change) (q : Position) → IsAsked all_held (ask x p r) → act x p r ≡ Go c q
         → (n : Name) (m : Mode) → Holds (taken x q) n m → Holds (with_asked (ask x p r) (taken x p)) n m
     pub may_write : (x : Tx Request) (p : Position) (r : Map) (c : Change) (q : Position) → IsAsked all_held (ask x p r) → act x p r ≡ Go (Some c) q
         → MayWrite (Holds (with_asked (ask x p r) (taken x p))) x (governs (key_of c))
-    -- (and this one where the program alone may come to the row)
+    -- (and this one where the program alone may come to the stage)
     pub keeps_part : (x : Tx Request) (r : Map) (s : State M) (c : Change) (q : Position) → Alone x r s
         → IsAsked all_held (ask x s.position (overlay M s.changes r))
         → act x s.position (overlay M s.changes r) ≡ Go (Some c) q
         → (f : Facet) → facet_key f ≡ key_of c
         → (part f (row_of c) ≡ part f (row_at (overlay M s.changes r) (key_of c)))
         ⊎ MayWrite (Holds (with_asked (ask x s.position (overlay M s.changes r)) (taken x s.position))) x (governs_part f)
-    -- whether the tables accept a row's change is the same where what may be read is alike
+    -- whether the tables accept a stage's change is the same where what may be read is alike
     pub accepts_same : (x : Tx Request) (p : Position) (r s : Map) (c : Change) (q : Position) → IsAsked all_held (ask x p r) → Alike (Holds (with_asked (ask x p r) (taken x p))) x r s
         → act x p r ≡ Go (Some c) q → M.Accepts c r → M.Accepts c s
     -- what a request or a query is rejected for reads what never changes

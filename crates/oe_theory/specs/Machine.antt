@@ -13,13 +13,13 @@ pub data Guard (Name : Type 0) : Type 0 where
   Under : Name → Guard Name
   Own : ℕ → ℕ → Guard Name
 
--- what a program asks for before a row of it: it may stop, go on with no lock, or take a lock
+-- what a program asks for before a stage of it: it may stop, go on with no lock, or take a lock
 pub data Ask (Name Refusal : Type 0) : Type 0 where
   Stop : Refusal → Ask Name Refusal
   Plain : Ask Name Refusal
   Take : Name → Mode → Ask Name Refusal
 
--- what a row of a program does: it may fail, make at most one change and go on, or be ready
+-- what a stage of a program does: it may fail, make at most one change and go on, or be ready
 pub data Act (Change Position Reply Refusal : Type 0) : Type 0 where
   Fail : Refusal → Act Change Position Reply Refusal
   Go : Option Change → Position → Act Change Position Reply Refusal
@@ -86,7 +86,7 @@ pub record Machine : Type 1 where
   pub start : Tx Request → Position
   pub ask : Tx Request → Position → Map → Ask Name Refusal
   pub act : Tx Request → Position → Map → Act Change Position Reply Refusal
-  -- the row at this position first moves the transaction's mark here
+  -- the stage at this position first moves the transaction's mark here
   pub marks : Position → Bool
   -- the locks that were taken on the way to this position
   pub taken : Tx Request → Position → List (Hold Name)
@@ -97,7 +97,7 @@ pub record Machine : Type 1 where
   -- why a request is turned away before anything else is looked at, and why a transaction of this number can't begin
   pub rejection : Request → Map → Option Refusal
   pub number_rejection : ℕ → Option Refusal
-  -- memory: the row at this position may need some beyond its lock's, and a want of it may stand in this refusal's place
+  -- memory: the stage at this position may need some beyond its lock's, and a want of it may stand in this refusal's place
   pub may_allocate : Tx Request → Position → Bool
   pub yields : Tx Request → Position → Refusal → Bool
   -- reads: why a query is turned away, and what it comes to; and audits

@@ -67,7 +67,7 @@ module _ (M : Machine) where
   add_length None r ls = ls
   add_length (Some c) r ls = size_of (record_on c r) ∷ ls
 
-  -- the transaction after a row; where the row begins at a mark of the program's own, the mark has moved there first
+  -- the transaction after a stage; where the stage begins at a mark of the program's own, the mark has moved there first
   abbrev pub moved : Open M → Ask Name Refusal → Option Change → Position → Map → Open M
   moved o a c p r =
       record {
@@ -131,19 +131,19 @@ module _ (M : Machine) where
     pub conflicts : go_together m (who.held n) ≡ false
     pub least : (v : ℕ) (o : Open M) → v < u → v ≢ t → w.active v ≡ Some o → go_together m (o.held n) ≡ true
 
-  -- memory is wanted for a lock whose name isn't held yet in any mode, or by the row itself
+  -- memory is wanted for a lock whose name isn't held yet in any mode, or by the stage itself
   abbrev pub IsNew : (Name → Option Mode) → Ask Name Refusal → Type 0
   IsNew held (Stop e) = ⊥
   IsNew held Plain = ⊥
   IsNew held (Take n m) = held n ≡ None
 
-  -- a want of memory may be answered in place of this deed: of one that goes on, with room or not, or of a refusal that yields
+  -- a want of memory may be answered in place of this act: of one that goes on, with room or not, or of a refusal that yields
   abbrev pub GivesWay : (Refusal → Bool) → Act Change Position Reply Refusal → Type 0
   GivesWay f (Fail e) = f e ≡ true
   GivesWay f (Go c p) = Unit {0}
   GivesWay f (Ready y) = ⊥
 
-  -- and so it may be in place of this row
+  -- and so it may be in place of this stage
   abbrev pub MayLackMemory : World M → ℕ → Open M → Ask Name Refusal → Type 0
   MayLackMemory w t o (Stop e) = yields (tx_of M t o) o.now.position e ≡ true
   MayLackMemory w t o a =

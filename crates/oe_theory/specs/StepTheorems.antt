@@ -42,14 +42,14 @@ module _ (M : Machine) where
   abbrev pub Steps_are_counted : Type 0
   Steps_are_counted = (w v : World M) (i : Step M) (a : Answer M) → IsReached M w → Next M w i a v → Is_counted w a v
 
-  -- The row that ends its transaction: at a commit the changes made row by row are the whole effect on the newest version, and
+  -- The stage that ends its transaction: at a commit the changes made stage by stage are the whole effect on the newest version, and
   -- make the next moment; where it is rolled back that effect is none, and the refusal is the program's own there
   abbrev pub IsEnding : World M → Answer M → Step M → World M → Type 0
   IsEnding w (Committed m y) (Advance t) v = Is_whole M w t y v × (m ≡ newest M v) × (newest M v ≡ suc (newest M w))
   IsEnding w (Aborted e) (Advance t) v = Is_none M w t × Is_refused M w t e
   IsEnding w a i v = Unit {0}
 
-  -- so it is with each row
+  -- so it is with each stage
   abbrev pub Endings_are_whole : Type 0
   Endings_are_whole = (w v : World M) (i : Step M) (a : Answer M) → IsReached M w → Next M w i a v → IsEnding w a i v
 

@@ -142,7 +142,7 @@ module _ (M : Machine) where
   abbrev pub put_slot : ℕ → Option Slot → Store → Store
   put_slot t v s = record s { slots = set t v s.slots }
 
-  -- a transaction at its first row
+  -- a transaction at its first stage
   abbrev pub first_slot : Store → ℕ → Request → Slot
   first_slot s t q =
       let p : Position = start (record { terminal = t; number = suc (s.counts t); request = q }) in
@@ -162,7 +162,7 @@ module _ (M : Machine) where
   with_change_of None r = r
   with_change_of (Some c) r = put c r
 
-  -- the slot after a row, where n records stood before it; where the row begins at a mark of the program's own, the mark has moved there
+  -- the slot after a stage, where n records stood before it; where the stage begins at a mark of the program's own, the mark has moved there
   abbrev pub slot_after : Slot → ℕ → Ask Name Refusal → Position → Slot
   slot_after p n a q =
       record {
@@ -272,7 +272,7 @@ module _ (M : Machine) where
   abbrev pub TakesNoRoom : Type 0
   TakesNoRoom = (b : Record) → size_of b ≡ 0
 
-  -- a want of memory may be answered in place of the row of this slot, which asks so
+  -- a want of memory may be answered in place of the stage of this slot, which asks so
   abbrev pub MayLackMemoryIn : Store → ℕ → Slot → Ask Name Refusal → Type 0
   MayLackMemoryIn s t p (Stop e) = yields (tx_in t p) p.position e ≡ true
   MayLackMemoryIn s t p a =

@@ -59,7 +59,7 @@ module _ (M : Machine) where
   abbrev pub Lacks_memory_at_begin_here : Type 0
   Lacks_memory_at_begin_here = (s : Store M) (t : ℕ) (q : M.Request) → IsStanding s → MayBeginIn M s t q → Leads s (Begin t q) No_memory s
 
-  -- a row whose lock is granted makes its change, if it makes one and its record has room, and the transaction goes on
+  -- a stage whose lock is granted makes its change, if it makes one and its record has room, and the transaction goes on
   abbrev pub Goes_on_here : Type 0
   Goes_on_here =
       (s : Store M) (t : ℕ) (p : Slot M) (c : Option M.Change) (q : M.Position) → IsStanding s → s.slots t ≡ Some p
@@ -72,7 +72,7 @@ module _ (M : Machine) where
   abbrev pub Is_room_here : Type 0
   Is_room_here = TakesNoRoom M → (s : Store M) (t : ℕ) (c : Option M.Change) → HasRoomIn M s t c
 
-  -- a row that is ready commits its transaction, at the next moment
+  -- a stage that is ready commits its transaction, at the next moment
   abbrev pub Commits_here : Type 0
   Commits_here =
       (s : Store M) (t : ℕ) (p : Slot M) (reply : M.Reply) → IsStanding s → s.slots t ≡ Some p
@@ -80,7 +80,7 @@ module _ (M : Machine) where
       → M.act (tx_in M t p) p.position s.tables ≡ Ready reply
       → Leads s (Advance t) (Committed (suc (newest_of M s)) reply) (sealed M t p reply s)
 
-  -- a row that stops before its lock rolls its transaction back
+  -- a stage that stops before its lock rolls its transaction back
   abbrev pub Stops_here : Type 0
   Stops_here =
       (s : Store M) (t : ℕ) (p : Slot M) (e : M.Refusal) → IsStanding s → s.slots t ≡ Some p
