@@ -57,6 +57,13 @@ fn is_own(key: &OrderKey, order: &Order, customer: &CustomerKey) -> bool
     owner.compare(*customer) == Ordering::Equal
 }
 
+/// How many customers of a last name there are, and how many of them come before one.
+#[derive(Drop)]
+struct Standing {
+    count: u32,
+    before: u32,
+}
+
 impl Tables {
     /// A walk that meets a customer's orders in their keys' order, and few others.
     pub fn orders_of_customer(&self, customer: &CustomerKey) -> Found<'_, OrderKey, Order>
@@ -88,64 +95,49 @@ impl Tables {
         Some(key.order)
     }
 
-    /// How many customers of a district with that C_LAST there are.
-    fn namesakes(&self, district: &DistrictKey, last: &Text<0, 16>) -> u32
-        ensures count { result ≡ length
-            (namesakes district.now last.now (rows self.now).customers) }
-        ensures few { result ≤ 3_000 }
-    {
-        let _known = &self.customers;
-        let mut count = 0u32;
-        for (key, customer) in self.namesakes_of(district, last) {
-            if is_named(key, &customer.name, district, last) {
-                count += 1;
-            }
-        }
-        count
-    }
-
-    /// How many of them come before that one.
-    fn rank(
+    /// How one stands among the customers of a district with that C_LAST.
+    fn standing(
         &self,
         district: &DistrictKey,
         last: &Text<0, 16>,
         first: &Text<0, 16>,
         own: CustomerNumber,
-    ) -> u32
-        ensures count { result ≡ count_by (λ y. comes_before y (first.now, own))
+    ) -> Standing
+        ensures count { result.count ≡ length
             (namesakes district.now last.now (rows self.now).customers) }
-        ensures few { result ≤ 3_000 }
+        ensures before { result.before ≡ count_by (λ y. comes_before y (first.now, own))
+            (namesakes district.now last.now (rows self.now).customers) }
+        ensures few { (result.count ≤ 3_000) × (result.before ≤ 3_000) }
     {
         let _known = &self.customers;
+        let mut count = 0u32;
         let mut before = 0u32;
         for (key, customer) in self.namesakes_of(district, last) {
-            if is_named(key, &customer.name, district, last)
-                && is_before(&customer.name.first, key.customer, first, own)
-            {
-                before += 1;
+            if is_named(key, &customer.name, district, last) {
+                count += 1;
+                if is_before(&customer.name.first, key.customer, first, own) {
+                    before += 1;
+                }
             }
         }
-        before
+        Standing { count, before }
     }
 
-    /// Whether that one is in the middle of them, rounded up, where their number is known.
+    /// Whether that one is in the middle of them, rounded up.
     fn is_middle(
         &self,
-        count: u32,
         district: &DistrictKey,
         last: &Text<0, 16>,
         first: &Text<0, 16>,
         own: CustomerNumber,
     ) -> bool
-        requires counted { count ≡ length
-            (namesakes district.now last.now (rows self.now).customers) }
-        requires few { count ≤ 3_000 }
         ensures { result ≡
             (count_by (λ y. comes_before y (first.now, own))
             (namesakes district.now last.now (rows self.now).customers) + 1 ==
             (length (namesakes district.now last.now (rows self.now).customers) + 1) / 2) }
     {
-        self.rank(district, last, first, own) + 1 == (count + 1) / 2
+        let standing = self.standing(district, last, first, own);
+        standing.before + 1 == (standing.count + 1) / 2
     }
 
     /// C_ID of the customer of a district and last name in position n / 2, rounded up, of n, by C_FIRST and where that ties
@@ -153,10 +145,9 @@ impl Tables {
     pub fn middle(&self, district: &DistrictKey, last: &Text<0, 16>) -> Option<CustomerNumber>
         ensures { result ≡ middle (namesakes district.now last.now (rows self.now).customers) }
     {
-        let count = self.namesakes(district, last);
         for (key, customer) in self.namesakes_of(district, last) {
             if is_named(key, &customer.name, district, last)
-                && self.is_middle(count, district, last, &customer.name.first, key.customer)
+                && self.is_middle(district, last, &customer.name.first, key.customer)
             {
                 return Some(key.customer);
             }
