@@ -225,7 +225,7 @@ same_number n = grind (arith, nat_tests)
 framed_again : (n : ℕ) (v : Previous × OwnRecord) → framed_by n (Some ((n, (v, n)), [])) ≡ Some v
 framed_again n v = rw (same_number n) refl
 
-record_finds : (v : Previous × OwnRecord) (bytes : List ℕ) → IsBody v → bytes ≡ record_image v.0 (record_of_own v.1) → record_at bytes ≡ Some v
+pub record_finds : (v : Previous × OwnRecord) (bytes : List ℕ) → IsBody v → bytes ≡ record_image v.0 (record_of_own v.1) → record_at bytes ≡ Some v
 unfolding record_at
 record_finds v bytes h e =
     let n = record_length (record_of_own v.1) in

@@ -8,6 +8,7 @@ pub mod kinds;
 pub mod laws;
 pub mod lent;
 pub mod links;
+pub mod ranges;
 pub mod reading;
 pub mod records;
 
