@@ -8,6 +8,9 @@ use Rattle.oe_extent.specs.Free.{AllTaken, IsPool}
 pub some_at : {X : Type 0} (xs : List (Option X)) (i : ℕ) → i < length xs → get_or (map is_some xs) i false ≡ is_some (get_or xs i None)
 some_at xs i lt = get_or-map is_some xs i None false lt
 
+pub as_many : {X : Type 0} (xs : List (Option X)) → length (map is_some xs) ≡ length xs
+as_many xs = length-map xs is_some
+
 pub taken_more : (free : List Bool) (i j : ℕ) → AllTaken free i j → get_or free j false ≡ false → AllTaken free i (suc j)
 taken_more free i j h e k lo hi = elim (cases_eq k j) [
   | inl q ↦ subst (λ (n : ℕ). get_or free n false ≡ false) (sym q) e

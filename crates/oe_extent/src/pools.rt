@@ -76,6 +76,14 @@ impl Pool {
         })
     }
 
+    /// How many extents it was made with, whether they are free or taken.
+    #[tactic(auto, using(crate::proofs::PoolFacts::as_many))]
+    pub fn len(&self) -> usize
+        ensures { result ≡ length self.now.is_free }
+    {
+        self.extents.len()
+    }
+
     /// Takes the next free extent from the cursor on, and behind the last from 0 on, and answers it with its number. `None` where
     /// none is free.
     pub fn take(&mut self) -> Option<(usize, Box<Extent>)>

@@ -153,6 +153,19 @@ sealing free os ss t r lt = record {
     sealed-cons x ss h k zero = h
     sealed-cons x ss h k (suc i) = k i
 
+pub reopening : (free : List Bool) (os ss : List (List Contents)) (t : ℕ) (x : List Contents) → IsRing free os (x ∷ ss) → t < length os → get_or os t [] ≡ []
+    → IsRing free (set os t x) ss
+reopening free os ss t x r lt none = record {
+  held = same_held free (uses os (x ∷ ss)) (uses (set os t x) ss) (extent_count os (x ∷ ss)) (extent_count (set os t x) ss) r.held
+      (λ e. omega (arith, uses-set os ss t x e lt, ap (λ (l : List Contents). times e (numbers_of l)) none, sum_by-cons (λ s. times e (numbers_of s)) x ss))
+      (omega (arith, extent_count-set os ss t x lt, ap length none, sum_by-cons length x ss));
+  active_packed = λ u. elim (cases_eq u t) [
+    | inl same ↦ subst (λ (v : ℕ). ArePacked (get_or (set os t x) v [])) (sym same) (subst ArePacked (sym (get_or-set_same os t x [] lt)) (r.committed_packed 0))
+    | inr other ↦ subst ArePacked (sym (get_or-set_other os t u x [] other)) (r.active_packed u)
+  ];
+  committed_packed = λ i. r.committed_packed (suc i);
+}
+
 -- ---- commits given up
 
 within_all : (free : List Bool) (os : List (List Contents)) (older : List (List Contents)) (x : List Contents) (newer : List (List Contents))

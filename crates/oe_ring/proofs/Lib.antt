@@ -4,3 +4,4 @@ pub mod ChangeFacts
 pub mod SlotFacts
 pub mod CommitFacts
 pub mod AddressFacts
+pub mod FreshFacts

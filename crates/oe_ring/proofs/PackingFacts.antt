@@ -58,15 +58,15 @@ pub record More (ss ts : List Contents) (s : Addressed) : Type 0 where
   pub numbers : numbers_of ts ≡ numbers_of ss
   pub size : length ts ≡ length ss
 
-fills-more : (r : ℕ) (x : List ℕ) (xs : List (List ℕ)) → FillsUp r xs → length x ≤ 4096 - length (joined xs) → FillsUp r (x ∷ xs)
-fills-more r x [] f h = absurd f
-fills-more r x (y ∷ ys) f h = (f.0, omega (arith, h, f.1, length-joined x (y ∷ ys)))
+fills-more : (r : ℕ) (x : List ℕ) (xs : List (List ℕ)) → FillsUp r xs → length x ≤ 4096 - length (joined xs) → 0 < length x → FillsUp r (x ∷ xs)
+fills-more r x [] f h some = absurd f
+fills-more r x (y ∷ ys) f h some = (f.0, omega (arith, h, f.1, length-joined x (y ∷ ys)), (some, f.2))
 
 pub more_here : (x : List ℕ) (ss : List Contents) (a : Address) → ArePacked ss → length x ≤ rest_of ss → 0 < length x → a ≡ end_of ss
     → More ss (with_string x ss) (record { address = a; bytes = x })
 more_here x [] a h room some e = absurd (omega (arith, room, some))
 more_here x (s ∷ ss) a h room some e = record {
-  packed = (fills-more (rest_of ss) x s.strings h.0 room, h.1);
+  packed = (fills-more (rest_of ss) x s.strings h.0 room some, h.1);
   strings = rw e refl;
   numbers = refl;
   size = refl;
@@ -76,7 +76,7 @@ pub more_new : (x : List ℕ) (ss : List Contents) (n : ℕ) → ArePacked ss �
     → ArePacked (record { number = n; strings = x ∷ [] } ∷ ss)
     × (addressed_of (record { number = n; strings = x ∷ [] } ∷ ss) ≡ record { address = record { extent = n; offset = 0 }; bytes = x } ∷ addressed_of ss)
 unfolding joined
-more_new x ss n h full small = (((full, omega (arith, small, length-one x)), h), refl)
+more_new x ss n h full small = (((full, omega (arith, small, length-one x), (omega (arith, full), tt)), h), refl)
 
 -- ---- a string less
 
@@ -88,6 +88,15 @@ some_newest (s ∷ ss) h some = go s.strings h.0
     go [] f = absurd f
     go (x ∷ xs) f = omega arith
 
+-- where there are no strings there is no extent
+pub no_strings : (ss : List Contents) → ArePacked ss → addressed_of ss ≡ [] → ss ≡ []
+no_strings [] h none = refl
+no_strings (s ∷ ss) h none = absurd (go s.strings h.0 none)
+  where
+    go : (xs : List (List ℕ)) → FillsUp (rest_of ss) xs → addressed_in s.number xs ++ addressed_of ss ≡ [] → ⊥
+    go [] f none = f
+    go (x ∷ xs) f none = let size = ap length none in omega (arith, size)
+
 pub record Less (ss ts : List Contents) : Type 0 where
   pub packed : ArePacked ts
   pub strings : addressed_of ts ≡ drop 1 (addressed_of ss)
@@ -96,7 +105,7 @@ less_of : (n r : ℕ) (xs : List (List ℕ)) (ps : List Addressed) → FillsUp r
     → FillsUp r (drop 1 xs) × (addressed_in n (drop 1 xs) ++ ps ≡ drop 1 (addressed_in n xs ++ ps))
 less_of n r [] ps f h = absurd f
 less_of n r (x ∷ []) ps f h = absurd (omega arith)
-less_of n r (x ∷ y ∷ ys) ps f h = ((f.0, omega (arith, f.1, length-joined x (y ∷ ys))), refl)
+less_of n r (x ∷ y ∷ ys) ps f h = ((f.0, omega (arith, f.1, length-joined x (y ∷ ys)), f.2.1), refl)
 
 less_without : (ss : List Contents) → ArePacked ss → 1 < length (newest_strings ss)
     → Less ss (without_newest ss) × (numbers_of (without_newest ss) ≡ numbers_of ss) × (length (without_newest ss) ≡ length ss)

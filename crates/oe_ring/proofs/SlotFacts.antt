@@ -4,10 +4,10 @@ use Rattle.std.proofs.lemmas.List.{get_or_default, length-map, length-set, map-s
 use Rattle.oe_extent.specs.declared.segments.Address.{Address}
 use Rattle.oe_extent.specs.Free.{FreeExtents, AllTaken}
 use Rattle.oe_extent.specs.Segments.{Contents, numbers_of, newest_strings, rest_of, end_of, with_string, LosesString, LosesExtent}
-use Rattle.oe_ring.specs.Segments.{Addressed, Segments, IsFull, pushed_at, popped_at, sealed_at}
+use Rattle.oe_ring.specs.Segments.{Addressed, Segments, IsFull, pushed_at, popped_at, sealed_at, reopened_at}
 use Rattle.oe_ring.specs.Kept.{addressed_of, ArePacked, IsRing}
-use Rattle.oe_ring.proofs.PackingFacts.{More, more_here, more_new, Less, less_here, less_own, some_newest}
-use Rattle.oe_ring.proofs.ChangeFacts.{shown, changed_same, changed_more, changed_less, full, strings_at_slot, rest_at, sealing}
+use Rattle.oe_ring.proofs.PackingFacts.{More, more_here, more_new, Less, less_here, less_own, some_newest, no_strings}
+use Rattle.oe_ring.proofs.ChangeFacts.{shown, changed_same, changed_more, changed_less, full, strings_at_slot, rest_at, sealing, reopening}
 
 -- the ring keeps its promise, and is seen so
 pub record Stands (free : List Bool) (os cs : List (List Contents)) (room : ℕ) (v : Segments) : Type 0 where
@@ -106,4 +106,14 @@ module _ (free : List Bool) (os cs : List (List Contents)) (room t : ℕ) (r : I
       record {
         ring = rw (ey, items) (sealing free os cs t r within);
         view = rw (ey, items, map-set addressed_of os t [], strings_at_slot os t within) refl;
+      }
+
+  pub reopen_all : (ts : List (List Contents)) (more : ℕ) (x y : List Contents) → get_or (map addressed_of os) t [] ≡ [] → cs ≡ x ∷ ts → y ≡ x
+      → Stands free (set os t y) ts more (record (reopened_at (shown free os cs room) t) { room = more })
+  reopen_all ts more x y none items same =
+      let empty : get_or os t [] ≡ [] = no_strings (get_or os t []) (r.active_packed t) (sym (strings_at_slot os t within) ∙ none) in
+      let ring : IsRing free os (x ∷ ts) = subst (λ (l : List (List Contents)). IsRing free os l) items r in
+      record {
+        ring = subst (λ (z : List Contents). IsRing free (set os t z) ts) (sym same) (reopening free os ts t x ring within empty);
+        view = rw (same, items, map-set addressed_of os t x) refl;
       }

@@ -1,6 +1,6 @@
 -- How the strings of segments lie in extents: what a ring keeps of itself.
 use Rattle.std.specs.Prelude.{◌≡◌, ◌<◌, ◌≤◌, ◌+◌, ◌==◌, ℕ, Bool, true, false, List, [], ◌∷◌, ◌++◌, length, get_or, ⊤, if◌then◌else◌}
-use Rattle.std.specs.List.{sum_by}
+use Rattle.std.specs.List.{AllByRecursion, sum_by}
 use Rattle.oe_extent.specs.Strings.{joined}
 use Rattle.oe_extent.specs.Segments.{Contents, numbers_of, rest_of}
 use Rattle.oe_extent.specs.Free.{count_of_free}
@@ -23,10 +23,15 @@ abbrev pub Opens : ℕ → List ℕ → List (List ℕ) → Type 0
 Opens rest x [] = rest < length x
 Opens rest x (y ∷ ys) = Opens rest y ys
 
+-- none of these strings is empty
+abbrev pub HaveBytes : List (List ℕ) → Type 0
+HaveBytes xs = AllByRecursion (λ x. 0 < length x) xs
+
 -- these strings are those of one extent, where so many bytes are left of the one before
 abbrev pub FillsUp : ℕ → List (List ℕ) → Type 0
 FillsUp rest [] = ⊥
-FillsUp rest (x ∷ xs) = Opens rest x xs × (length (joined (x ∷ xs)) ≤ 4096)
+FillsUp rest (x ∷ xs) =
+    Opens rest x xs × (length (joined (x ∷ xs)) ≤ 4096) × HaveBytes (x ∷ xs)
 
 -- each extent has strings, the first of which did not fit into the one before
 abbrev pub ArePacked : List Contents → Type 0

@@ -1,6 +1,6 @@
 -- The segments of a ring, and what each call makes of them.
-use Rattle.std.specs.Prelude.{◌≡◌, ◌<◌, ◌≤◌, ◌⊎◌, ◌+◌, ◌-◌, ℕ, suc, nat_le, cond, List, [], ◌∷◌, length, map, take, drop, get_or, set, replicate}
-use Rattle.std.specs.List.{sum_by}
+use Rattle.std.specs.Prelude.{◌≡◌, ◌≢◌, ◌<◌, ◌≤◌, ◌⊎◌, ◌+◌, ◌-◌, ℕ, suc, nat_le, cond, List, [], ◌∷◌, length, map, take, drop, get_or, set, replicate}
+use Rattle.std.specs.List.{AllByRecursion, sum_by}
 use Rattle.oe_extent.specs.declared.segments.Address.{Address}
 
 -- a string with its address
@@ -68,10 +68,27 @@ pub record HasAddress (ss : List Addressed) (a : Address) : Type 0 where
 abbrev pub IsStringAt : List Addressed → Address → List ℕ → Type 0
 IsStringAt ss a bytes = (s : List ℕ) → StandsAt a s ss → bytes ≡ s
 
+-- none of these strings is at that address
+abbrev pub StandElsewhere : Address → List Addressed → Type 0
+StandElsewhere a ss = AllByRecursion (λ s. s.address ≢ a) ss
+
+-- no string of a slot or of a commit is at that address
+pub record IsFresh (v : Segments) (a : Address) : Type 0 where
+  pub active : (slot : ℕ) → StandElsewhere a (get_or v.active slot [])
+  pub committed : (commit : ℕ) → StandElsewhere a (get_or v.committed commit [])
+
 -- a slot's strings are those of the newest commit, and it has none
 abbrev pub sealed_at : Segments → ℕ → Segments
 sealed_at v slot =
     record v { active = set v.active slot []; committed = get_or v.active slot [] ∷ v.committed }
+
+-- a slot has the strings of the newest commit, which is gone
+abbrev pub reopened_at : Segments → ℕ → Segments
+reopened_at v slot =
+    record v {
+      active = set v.active slot (get_or v.committed 0 []);
+      committed = drop 1 v.committed;
+    }
 
 -- other commits
 abbrev pub with_commits : Segments → List (List Addressed) → ℕ → Segments

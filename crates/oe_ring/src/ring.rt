@@ -7,7 +7,7 @@
 //! nothing then. No other call can be refused.
 ghost use Rattle.std.specs.Prelude.{◌≡◌, ◌<◌, ◌≤◌, ◌+◌, ◌↔◌, [], length, get_or, replicate, IsErr, IfOk, OnOk, OnErr};
 ghost use Rattle.oe_extent.specs.Strings.{IsFramed};
-ghost use Rattle.oe_ring.specs.Segments.{IsFull, no_segments, pushed_at, popped_at, sealed_at, newest_bytes, without_oldest, without_newest, capacity_of, HasAddress, IsStringAt};
+ghost use Rattle.oe_ring.specs.Segments.{used_of, IsFull, IsFresh, no_segments, pushed_at, popped_at, sealed_at, reopened_at, newest_bytes, without_oldest, without_newest, capacity_of, HasAddress, IsStringAt};
 
 use oe_bytes::Written;
 use oe_extent::{Address, Pool, Segment};
@@ -72,10 +72,19 @@ impl Ring {
         })
     }
 
+    /// How many extents there are. The strings of all segments fill no more.
+    pub fn extents(&self) -> usize
+        ensures value { result ≡ self.now.extents }
+        ensures used { used_of self.now ≤ result }
+    {
+        self.pool.len()
+    }
+
     /// Makes room for so many commits more; an error where memory is refused.
     pub fn reserve(&mut self, additional: usize) -> Result<(), AllocError>
         ensures same { self.new ≡ record self.old { room = self.new.room } }
         ensures room { OnOk result (additional ≤ self.new.room) }
+        ensures more { self.old.room ≤ self.new.room }
     {
         self.committed.reserve(additional)
     }
@@ -91,7 +100,22 @@ impl Ring {
         self.committed.push_front_reserved(segment);
     }
 
-    /// Appends a string of 4 to 4,096 bytes to a slot's open segment, and answers its address.
+    /// Makes the newest commit's segment the open one of a slot that has no strings. There is room for a commit more.
+    pub fn reopen_newest(&mut self, slot: usize)
+        requires slot { slot < length self.old.active }
+        requires empty { get_or self.old.active slot [] ≡ [] }
+        requires some { 0 < length self.old.committed }
+        ensures reopened { self.new ≡ record (reopened_at self.old slot) { room = self.new.room } }
+        ensures room { capacity_of self.new ≡ capacity_of self.old }
+    {
+        let newest = self.committed.pop_front();
+        let Some(segment) = newest else {
+            unreachable!()
+        };
+        self.active[slot] = segment;
+    }
+
+    /// Appends a string of 4 to 4,096 bytes to a slot's open segment, and answers its address, where no other string is.
     pub fn push<S: Written>(&mut self, slot: usize, string: &S) -> Result<Address, Full>
         requires slot { slot < length self.old.active }
         requires framed { IsFramed (S.spelling string.now) }
@@ -100,6 +124,9 @@ impl Ring {
             self.new ≡ pushed_at self.old slot a (S.spelling string.now)) }
         ensures same { OnErr result (self.new ≡ self.old) }
         ensures full { IsErr result ↔ IsFull self.old slot (length (S.spelling string.now)) }
+        ensures fresh { IfOk result (IsFresh self.old) }
+        ensures extent { IfOk result (λ a. a.extent < self.old.extents) }
+        ensures offset { IfOk result (λ a. a.offset < 4096) }
     {
         if string.size() <= self.active[slot].rest() {
             let address = self.active[slot].end();

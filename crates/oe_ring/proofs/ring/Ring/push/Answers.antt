@@ -4,6 +4,7 @@ use Rattle.oe_extent.specs.Free.{FreeExtents}
 use Rattle.oe_ring.specs.Segments.{Segments}
 use Rattle.oe_ring.proofs.ChangeFacts.{not_full}
 use Rattle.oe_ring.proofs.SlotFacts.{push_here, push_other, fits_here, is_full}
+use Rattle.oe_ring.proofs.FreshFacts.{fresh_here, fresh_other}
 use Rattle.oe_ring.proofs.ring.Ring.push.Goals as goal
 
 pub invariant_of-self : goal.invariant_of-self
@@ -67,3 +68,45 @@ returns-clause-full g c =
     let fits = not_full c.self.inside.pool.is_free c.self.inside.active.items c.self.inside.committed.items
     (deque_capacity c.self.inside.committed - deque_len c.self.inside.committed) c.in-Some.number c.self.invariant c.in-Some.ensures.next.is_free in
     rw (← c.self.view_is) (λ e. absurd cc, λ f. absurd (fits f.1))
+
+pub returns-then-size-rest-clause-fresh : goal.returns-then-size-rest-clause-fresh
+returns-then-size-rest-clause-fresh g c =
+    let slot = subst (λ (v : Segments). c.args.slot < length v.active) (sym c.self.view_is) c.requires.slot in
+    let now = fresh_here c.self.inside.pool.is_free c.self.inside.active.items c.self.inside.committed.items
+    (deque_capacity c.self.inside.committed - deque_len c.self.inside.committed) c.args.slot c.self.invariant slot
+    c.index.result.now c.index-then-size-rest.result.now c.end-address.result c.size.result c.rest.result
+    c.index.ensures c.index-then-size-rest.ensures c.rest.ensures (omega (arith, c.if-size-rest.true))
+    (omega (arith, c.size.ensures, c.requires.framed.long)) c.end-address.ensures in
+    rw (← c.self.view_is) now.fresh
+
+pub returns-then-size-rest-clause-extent : goal.returns-then-size-rest-clause-extent
+returns-then-size-rest-clause-extent g c =
+    let slot = subst (λ (v : Segments). c.args.slot < length v.active) (sym c.self.view_is) c.requires.slot in
+    let now = fresh_here c.self.inside.pool.is_free c.self.inside.active.items c.self.inside.committed.items
+    (deque_capacity c.self.inside.committed - deque_len c.self.inside.committed) c.args.slot c.self.invariant slot
+    c.index.result.now c.index-then-size-rest.result.now c.end-address.result c.size.result c.rest.result
+    c.index.ensures c.index-then-size-rest.ensures c.rest.ensures (omega (arith, c.if-size-rest.true))
+    (omega (arith, c.size.ensures, c.requires.framed.long)) c.end-address.ensures in
+    rw (← c.self.view_is) now.extent
+
+pub returns-then-size-rest-clause-offset : goal.returns-then-size-rest-clause-offset
+returns-then-size-rest-clause-offset g c =
+    let slot = subst (λ (v : Segments). c.args.slot < length v.active) (sym c.self.view_is) c.requires.slot in
+    let now = fresh_here c.self.inside.pool.is_free c.self.inside.active.items c.self.inside.committed.items
+    (deque_capacity c.self.inside.committed - deque_len c.self.inside.committed) c.args.slot c.self.invariant slot
+    c.index.result.now c.index-then-size-rest.result.now c.end-address.result c.size.result c.rest.result
+    c.index.ensures c.index-then-size-rest.ensures c.rest.ensures (omega (arith, c.if-size-rest.true))
+    (omega (arith, c.size.ensures, c.requires.framed.long)) c.end-address.ensures in
+    now.offset
+
+pub returns-clause-fresh : goal.returns-clause-fresh
+returns-clause-fresh g c =
+    let now = fresh_other c.self.inside.pool.is_free c.self.inside.active.items c.self.inside.committed.items
+    (deque_capacity c.self.inside.committed - deque_len c.self.inside.committed) c.in-Some.number c.self.invariant c.in-Some.ensures.next.is_free in
+    rw (← c.self.view_is) now.fresh
+
+pub returns-clause-extent : goal.returns-clause-extent
+returns-clause-extent g c =
+    let now = fresh_other c.self.inside.pool.is_free c.self.inside.active.items c.self.inside.committed.items
+    (deque_capacity c.self.inside.committed - deque_len c.self.inside.committed) c.in-Some.number c.self.invariant c.in-Some.ensures.next.is_free in
+    rw (← c.self.view_is) now.extent
