@@ -1,0 +1,5 @@
+pub mod RecordFacts
+pub mod RoomFacts
+pub mod LogFacts
+pub mod CommitFacts
+pub mod ReadFacts

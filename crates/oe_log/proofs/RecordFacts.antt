@@ -1,0 +1,151 @@
+-- Strings of the ring that are records.
+use Rattle.std.proofs.Common.{◌≡◌, ◌≢◌, ℕ, zero, suc, ◌<◌, List, [], ◌∷◌, length, map, drop, get_or, set, Option, None, Some, option_map, refl, sym, ap, ◌∙◌, subst, arith}
+use Rattle.std.specs.List.{AllByRecursion}
+use Rattle.oe_extent.specs.declared.segments.Address.{Address}
+use Rattle.oe_ring.specs.Segments as ring
+use Rattle.oe_model.specs.Changes.{Record}
+use Rattle.oe_layout.specs.declared.links.RecordAddress.{RecordAddress}
+use Rattle.oe_layout.specs.declared.links.Previous.{Previous}
+use Rattle.oe_layout.specs.declared.records.OwnRecord.{OwnRecord}
+use Rattle.oe_layout.specs.declared.records.OwnRecord.TheVariants as own
+use Rattle.oe_layout.specs.declared.lent.LentRecord.{LentRecord}
+use Rattle.oe_layout.specs.declared.lent.LentRecord.TheVariants as lent
+use Rattle.oe_layout.specs.Lengths.{record_length}
+use Rattle.oe_layout.specs.Links.{IsPrevious}
+use Rattle.oe_layout.specs.Records.{record_image, record_of_own, record_of_lent, IsInRanges}
+use Rattle.oe_layout.specs.RecordFronts.{record_at, ReadsRecord}
+use Rattle.oe_layout.proofs.LengthFacts.{record_long}
+use Rattle.oe_layout.proofs.RecordFacts.{record_finds}
+use Rattle.oe_log.specs.Log.{Logged, newest_of, lengths, StandElsewhere}
+use Rattle.oe_log.specs.Kept.{record_address, before_others, records_in, IsRecord, AreRecords}
+
+-- what is read for what was lent
+abbrev Owned : LentRecord → Type 0
+Owned l = (b : OwnRecord) × (record_of_own b ≡ record_of_lent l)
+
+owned : (l : LentRecord) → Owned l
+owned (lent.InsertedHistory k) = (own.InsertedHistory k, refl)
+owned (lent.InsertedNewOrder k) = (own.InsertedNewOrder k, refl)
+owned (lent.InsertedOrder k) = (own.InsertedOrder k, refl)
+owned (lent.InsertedOrderLine k) = (own.InsertedOrderLine k, refl)
+owned (lent.UpdatedWarehouse k x) = (own.UpdatedWarehouse k x.now, refl)
+owned (lent.UpdatedDistrict k x) = (own.UpdatedDistrict k x.now, refl)
+owned (lent.UpdatedCustomer k x) = (own.UpdatedCustomer k x.now, refl)
+owned (lent.UpdatedOrder k x) = (own.UpdatedOrder k x.now, refl)
+owned (lent.UpdatedOrderLine k x) = (own.UpdatedOrderLine k x.now, refl)
+owned (lent.UpdatedStock k x) = (own.UpdatedStock k x.now, refl)
+owned (lent.DeletedNewOrder k) = (own.DeletedNewOrder k, refl)
+
+-- what was lent is a record, once it is written
+pub written_is : (p : Previous) (l : LentRecord) → IsPrevious p → IsInRanges (record_of_lent l) → IsRecord (record_image p (record_of_lent l))
+written_is p l hp hb =
+    let o = owned l in
+    record {
+      previous = p;
+      before = o.0;
+      link = hp;
+      ranges = subst IsInRanges (sym o.1) hb;
+      image = ap (record_image p) (sym o.1);
+    }
+
+-- ---- one record
+
+abbrev pub record_of : Address → (s : List ℕ) → IsRecord s → Logged
+record_of a s h = record { address = record_address a; previous = h.previous; before = record_of_own h.before }
+
+is_read : (s : List ℕ) (h : IsRecord s) → record_at s ≡ Some (h.previous, h.before)
+is_read s h = record_finds (h.previous, h.before) s (h.link, h.ranges) h.image
+
+pub seen : (s : ring.Addressed) (ss : List (ring.Addressed)) (h : IsRecord s.bytes) → records_in (s ∷ ss) ≡ record_of s.address s.bytes h ∷ records_in ss
+seen s ss h = ap (λ (r : Option (Previous × OwnRecord)). before_others s.address r (records_in ss)) (is_read s.bytes h)
+
+long : (s : List ℕ) (h : IsRecord s) → record_length (record_of_own h.before) ≡ length s
+long s h = sym (ap length h.image ∙ (record_long h.previous (record_of_own h.before) h.ranges).is)
+
+pub some_bytes : (s : List ℕ) → IsRecord s → 0 < length s
+some_bytes s h = omega (arith, long s h)
+
+-- a record that was lent is seen where it was written
+pub seen_lent : (a : Address) (p : Previous) (l : LentRecord) (ss : List (ring.Addressed)) → IsPrevious p → IsInRanges (record_of_lent l)
+    → records_in (record { address = a; bytes = record_image p (record_of_lent l) } ∷ ss)
+    ≡ record { address = record_address a; previous = p; before = record_of_lent l } ∷ records_in ss
+unfolding owned written_is
+seen_lent a p l ss hp hb =
+    let o = owned l in
+    seen (record { address = a; bytes = record_image p (record_of_lent l) }) ss (written_is p l hp hb)
+    ∙ ap (λ (b : Record). record { address = record_address a; previous = p; before = b } ∷ records_in ss) o.1
+
+pub lent_long : (p : Previous) (l : LentRecord) → IsInRanges (record_of_lent l) → length (record_image p (record_of_lent l)) ≡ record_length (record_of_lent l)
+lent_long p l h = (record_long p (record_of_lent l) h).is
+
+-- ---- a segment's records
+
+pub length_is : (ss : List (ring.Addressed)) → AreRecords ss → length (records_in ss) ≡ length ss
+length_is [] h = refl
+length_is (s ∷ ss) h = omega (arith, ap length (seen s ss h.0), length_is ss h.1)
+
+pub older_is : (ss : List (ring.Addressed)) → AreRecords ss → records_in (drop 1 ss) ≡ drop 1 (records_in ss)
+older_is [] h = refl
+older_is (s ∷ ss) h = sym (ap (drop 1) (seen s ss h.0))
+
+pub older_are : (ss : List (ring.Addressed)) → AreRecords ss → AreRecords (drop 1 ss)
+older_are [] h = tt
+older_are (s ∷ ss) h = h.1
+
+pub lengths_are : (ss : List (ring.Addressed)) → AreRecords ss → lengths (records_in ss) ≡ ring.lengths_of ss
+lengths_are [] h = refl
+lengths_are (s ∷ ss) h =
+    ap lengths (seen s ss h.0) ∙ ap (λ (n : ℕ). n ∷ lengths (records_in ss)) (long s.bytes h.0)
+    ∙ ap (λ (ns : List ℕ). length s.bytes ∷ ns) (lengths_are ss h.1)
+
+pub none_in : (ss : List (ring.Addressed)) → AreRecords ss → records_in ss ≡ [] → ss ≡ []
+none_in [] h e = refl
+none_in (s ∷ ss) h e = absurd (let size = ap length (sym (seen s ss h.0) ∙ e) in omega (arith, size))
+
+-- the newest string is read as the newest record
+newest_read : (bytes : List ℕ) (r : Option (Previous × OwnRecord)) (h : IsRecord bytes) → ReadsRecord bytes r → r ≡ Some (h.previous, h.before)
+newest_read bytes r h reads = reads.finds h.previous h.before h.link h.ranges h.image
+
+abbrev told : Option (Previous × OwnRecord) → Option (Previous × Record)
+told r = option_map (λ x. (x.0, record_of_own x.1)) r
+
+pub newest_is : (ss : List (ring.Addressed)) (bytes : List ℕ) (r : Option (Previous × OwnRecord)) → AreRecords ss → 0 < length ss
+    → ring.newest_bytes ss ≡ bytes → ReadsRecord bytes r → told r ≡ newest_of (records_in ss)
+newest_is [] bytes r h some e reads = absurd (omega (arith, some))
+newest_is (s ∷ ss) bytes r h some e reads =
+    let here : ReadsRecord s.bytes r = subst (λ (b : List ℕ). ReadsRecord b r) (sym e) reads in
+    ap told (newest_read s.bytes r h.0 here) ∙ sym (ap newest_of (seen s ss h.0))
+
+-- ---- addresses
+
+abbrev pub ring_address : RecordAddress → Address
+ring_address a = record { extent = a.extent; offset = a.offset }
+
+same_address : (a b : Address) → record_address a ≡ record_address b → a ≡ b
+same_address a b e = ap ring_address e
+
+pub elsewhere : (a : Address) (ss : List (ring.Addressed)) → AreRecords ss → ring.StandElsewhere a ss → StandElsewhere (record_address a) (records_in ss)
+elsewhere a [] h k = tt
+elsewhere a (s ∷ ss) h k =
+    subst (StandElsewhere (record_address a)) (sym (seen s ss h.0)) ((λ e. k.0 (same_address s.address a e)), elsewhere a ss h.1 k.1)
+
+-- ---- the segments of all terminals, or of all commits
+
+pub at_slot : (xs : List (List (ring.Addressed))) (t : ℕ) → get_or (map records_in xs) t [] ≡ records_in (get_or xs t [])
+at_slot [] t = refl
+at_slot (x ∷ xs) zero = refl
+at_slot (x ∷ xs) (suc t) = at_slot xs t
+
+pub are_at : (xs : List (List (ring.Addressed))) (t : ℕ) → AllByRecursion AreRecords xs → AreRecords (get_or xs t [])
+are_at [] t h = tt
+are_at (x ∷ xs) zero h = h.0
+are_at (x ∷ xs) (suc t) h = are_at xs t h.1
+
+pub are_set : (xs : List (List (ring.Addressed))) (t : ℕ) (x : List (ring.Addressed)) → AllByRecursion AreRecords xs → AreRecords x → AllByRecursion AreRecords (set xs t x)
+are_set [] t x h k = tt
+are_set (y ∷ ys) zero x h k = (k, h.1)
+are_set (y ∷ ys) (suc t) x h k = (h.0, are_set ys t x h.1 k)
+
+pub all_elsewhere : (a : Address) (xs : List (List (ring.Addressed))) → AllByRecursion AreRecords xs → ((t : ℕ) → ring.StandElsewhere a (get_or xs t []))
+    → (t : ℕ) → StandElsewhere (record_address a) (get_or (map records_in xs) t [])
+all_elsewhere a xs h k t = subst (StandElsewhere (record_address a)) (sym (at_slot xs t)) (elsewhere a (get_or xs t []) (are_at xs t h) (k t))

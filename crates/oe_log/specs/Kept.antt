@@ -1,0 +1,58 @@
+-- How records lie in the ring as bytes: what an undo log keeps of itself.
+use Rattle.std.specs.Prelude.{◌≡◌, ◌≤◌, ◌+◌, ℕ, List, [], ◌∷◌, length, map, Option, None, Some}
+use Rattle.std.specs.List.{AllByRecursion}
+use Rattle.oe_extent.specs.declared.segments.Address.{Address}
+use Rattle.oe_ring.specs.Segments.{Addressed, Segments}
+use Rattle.oe_layout.specs.declared.links.RecordAddress.{RecordAddress}
+use Rattle.oe_layout.specs.declared.links.Previous.{Previous}
+use Rattle.oe_layout.specs.declared.records.OwnRecord.{OwnRecord}
+use Rattle.oe_layout.specs.Links.{IsPrevious}
+use Rattle.oe_layout.specs.Records.{record_image, record_of_own, IsInRanges}
+use Rattle.oe_layout.specs.RecordFronts.{record_at}
+use Rattle.oe_log.specs.Log.{Logged, Stored}
+
+abbrev pub record_address : Address → RecordAddress
+record_address a = record { extent = a.extent; offset = a.offset }
+
+-- a record that was read at that address, before others
+abbrev pub before_others : Address → Option (Previous × OwnRecord) → List Logged → List Logged
+before_others a None rs = rs
+before_others a (Some x) rs =
+    record { address = record_address a; previous = x.0; before = record_of_own x.1 } ∷ rs
+
+-- the records that strings of the ring are
+abbrev pub records_in : List Addressed → List Logged
+records_in [] = []
+records_in (s ∷ ss) = before_others s.address (record_at s.bytes) (records_in ss)
+
+-- these bytes are the image of a record in its ranges
+pub record IsRecord (bytes : List ℕ) : Type 0 where
+  pub previous : Previous
+  pub before : OwnRecord
+  pub link : IsPrevious previous
+  pub ranges : IsInRanges (record_of_own before)
+  pub image : bytes ≡ record_image previous (record_of_own before)
+
+abbrev pub AreRecords : List Addressed → Type 0
+AreRecords ss = AllByRecursion (λ s. IsRecord s.bytes) ss
+
+abbrev pub stored : Segments → ℕ → ℕ → Stored
+stored r opens newest =
+    record {
+      extents = r.extents;
+      opens = opens;
+      active = map records_in r.active;
+      committed = map records_in r.committed;
+      newest = newest;
+    }
+
+pub record IsLog (r : Segments) (lens committed_lens : List ℕ) (capacity opens newest : ℕ) : Type 0 where
+  pub slots : length r.active ≡ 65
+  pub extents : r.extents ≤ 4096
+  pub lens_are : lens ≡ map (λ ss. length ss) r.active
+  pub committed_lens_are : committed_lens ≡ map (λ ss. length ss) r.committed
+  pub active_are : AllByRecursion AreRecords r.active
+  pub committed_are : AllByRecursion AreRecords r.committed
+  pub room : opens ≤ r.room
+  pub lens_room : opens + length committed_lens ≤ capacity
+  pub moments : length r.committed ≤ newest

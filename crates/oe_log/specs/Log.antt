@@ -1,0 +1,140 @@
+-- The undo log as plain data, and what its calls do to it.
+use Rattle.std.specs.Prelude.{◌≡◌, ◌≢◌, ◌<◌, ◌≤◌, ◌+◌, ◌-◌, ◌⊎◌, ℕ, suc, List, [], ◌∷◌, length, map, take, drop, get_or, set, replicate, Option, None, Some}
+use Rattle.std.specs.List.{AllByRecursion, sum_by}
+use Rattle.oe_model.specs.Changes.{Record}
+use Rattle.oe_ring.specs.Segments.{filled}
+use Rattle.oe_layout.specs.Lengths.{record_length}
+use Rattle.oe_layout.specs.declared.links.RecordAddress.{RecordAddress}
+use Rattle.oe_layout.specs.declared.links.Previous.{Previous}
+
+-- an undo record with its address, and what leads to the previous record of its row
+pub record Logged : Type 0 where
+  pub address : RecordAddress
+  pub previous : Previous
+  pub before : Record
+
+abbrev pub logged : RecordAddress → Previous → Record → Logged
+logged a p b = record { address = a; previous = p; before = b }
+
+-- all that is stored
+pub record Stored : Type 0 where
+  pub extents : ℕ
+  -- how many segments are open
+  pub opens : ℕ
+  -- each terminal's records, the newest first, by the terminals' numbers, from 0, which is nobody's, to 64
+  pub active : List (List Logged)
+  -- those of commits, the newest commit first
+  pub committed : List (List Logged)
+  -- the moment of the newest commit
+  pub newest : ℕ
+
+-- a terminal's records
+abbrev pub records_at : Stored → ℕ → List Logged
+records_at v t = get_or v.active t []
+
+-- the newest of these records, if there is one
+abbrev pub newest_of : List Logged → Option (Previous × Record)
+newest_of [] = None
+newest_of (r ∷ rs) = Some (r.previous, r.before)
+
+-- for each slot none; shut, so that no proof counts them
+unfoldable pub no_lists : List (List Logged)
+no_lists = replicate 65 []
+
+unfoldable pub no_lens : List ℕ
+no_lens = replicate 65 0
+
+-- nothing recorded, nothing committed
+abbrev pub no_records : ℕ → Stored
+no_records e =
+    record { extents = e; opens = 0; active = no_lists; committed = []; newest = 0 }
+
+-- another segment open
+abbrev pub opened : Stored → Stored
+opened v = record v { opens = suc v.opens }
+
+-- one open segment less
+abbrev pub closed : Stored → Stored
+closed v = record v { opens = v.opens - 1 }
+
+-- a terminal has these records
+abbrev pub with_records : Stored → ℕ → List Logged → Stored
+with_records v t rs = record v { active = set v.active t rs }
+
+-- a terminal has a record more
+abbrev pub pushed : Stored → ℕ → Logged → Stored
+pushed v t r = with_records v t (r ∷ records_at v t)
+
+-- a terminal is without its newest record
+abbrev pub popped : Stored → ℕ → Stored
+popped v t = with_records v t (drop 1 (records_at v t))
+
+-- a terminal's records are those of the newest commit
+abbrev pub sealed : Stored → ℕ → Stored
+sealed v t =
+    record {
+      extents = v.extents;
+      opens = v.opens - 1;
+      active = set v.active t [];
+      committed = records_at v t ∷ v.committed;
+      newest = suc v.newest;
+    }
+
+-- a terminal has the records of the newest commit, which is gone, and its moment with it
+abbrev pub reopened : Stored → ℕ → Stored
+reopened v t =
+    record {
+      extents = v.extents;
+      opens = suc v.opens;
+      active = set v.active t (get_or v.committed 0 []);
+      committed = drop 1 v.committed;
+      newest = v.newest - 1;
+    }
+
+-- the oldest commit's records are gone, where there is one
+abbrev pub without_oldest : Stored → Stored
+without_oldest v = record v { committed = take (length v.committed - 1) v.committed }
+
+-- ---- when a record has no room
+
+abbrev pub lengths : List Logged → List ℕ
+lengths rs = map (λ r. record_length r.before) rs
+
+-- how many extents all records fill, those of each segment in order
+abbrev pub used_of : Stored → ℕ
+used_of v =
+    sum_by (λ rs. (filled (lengths rs)).0) v.active
+    + sum_by (λ rs. (filled (lengths rs)).0) v.committed
+
+-- a record of that length fits neither the rest of the terminal's last extent nor a free one
+abbrev pub IsFull : Stored → ℕ → ℕ → Type 0
+IsFull v t n = ((filled (lengths (records_at v t))).1 < n) × (v.extents ≤ used_of v)
+
+-- ---- addresses
+
+-- none of these records is at that address
+abbrev pub StandElsewhere : RecordAddress → List Logged → Type 0
+StandElsewhere a rs = AllByRecursion (λ r. r.address ≢ a) rs
+
+-- no record of a terminal or of a commit is at that address
+pub record IsFresh (v : Stored) (a : RecordAddress) : Type 0 where
+  pub active : (t : ℕ) → StandElsewhere a (records_at v t)
+  pub committed : (commit : ℕ) → StandElsewhere a (get_or v.committed commit [])
+
+-- ---- records by their addresses
+
+-- this record is one of those
+abbrev pub IsAmong : Logged → List Logged → Type 0
+IsAmong r [] = ⊥
+IsAmong r (x ∷ xs) = (x ≡ r) ⊎ IsAmong r xs
+
+-- one of these records is at that address
+pub record HasAddress (rs : List Logged) (a : RecordAddress) : Type 0 where
+  pub previous : Previous
+  pub before : Record
+  pub there : IsAmong (logged a previous before) rs
+
+-- what is told is the record at that address
+abbrev pub IsRecordAt : List Logged → RecordAddress → Previous × Record → Type 0
+IsRecordAt rs a told =
+    (p : Previous) (b : Record) → IsAmong (logged a p b) rs → told ≡ (p, b)
