@@ -4,6 +4,6 @@
 pub mod laws;
 pub mod numbers;
 pub mod runs;
-pub mod written;
+pub mod spellings;
 
-pub use written::Written;
+pub use spellings::Written;

@@ -1,7 +1,7 @@
 //! Extents of byte strings: all made at once, taken and given back by number, and linked to segments without memory.
 #![tactic(auto)]
 
-pub mod packed;
+pub mod packing;
 pub mod pools;
 pub mod segments;
 

@@ -7,7 +7,7 @@ ghost use Rattle.std.specs.Prelude.{◌≡◌, ◌<◌, ◌≤◌, ◌+◌, [], 
 ghost use Rattle.oe_extent.specs.Strings.{IsFramed, HasStringAt, IsStringAt};
 ghost use Rattle.oe_extent.specs.Segments.{number_of, numbers_of, strings_at, contents_in, newest_strings, rest_of, end_of, first_string, with_string, without_newest, IsFreshAt, LosesString, LosesExtent};
 
-use crate::packed::PackedStrings;
+use crate::packing::PackedStrings;
 use oe_bytes::Written;
 use std::alloc::{AllocError, Global};
 use std::marker::Model;

@@ -6,7 +6,7 @@ use Rattle.byteorder.specs.Numbers.{big_number-reads_back}
 use Rattle.oe_bytes.specs.Spelling.{number}
 use Rattle.oe_extent.specs.Strings.{last_length, IsFramed}
 use Rattle.oe_model.specs.Changes.{Record, record_key, row_before}
-use Rattle.oe_layout.specs.Lengths.{record_length}
+use Rattle.oe_model.specs.Lengths.{record_length}
 use Rattle.oe_layout.specs.Links.{link_image, link_numbers}
 use Rattle.oe_layout.specs.Kinds.{kind_image, kind_of}
 use Rattle.oe_layout.specs.Records.{contents, body_image, record_image}

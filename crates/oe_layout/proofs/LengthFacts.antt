@@ -29,7 +29,7 @@ use Rattle.oe_image.specs.Columns.{text, optional, flag, balance, credit, ten_te
 use Rattle.oe_image.specs.Keys.{warehouse_key, district_key, customer_key, history_key, new_order_key, order_key, order_line_key, item_key, stock_key, key_image}
 use Rattle.oe_image.specs.Rows.{address, warehouse, district, customer_name, account, customer, history, order, order_line, item, stock, row_image, IsRow}
 use Rattle.oe_model.specs.Changes.{Record, record_key, row_before}
-use Rattle.oe_layout.specs.Lengths.{text_length, optional_length, address_length, warehouse_length, district_length, name_length, customer_length, history_length, order_length, order_line_length, item_length, stock_length, row_length, key_length, before_length, record_length}
+use Rattle.oe_model.specs.Lengths.{text_length, optional_length, address_length, warehouse_length, district_length, name_length, customer_length, history_length, order_length, order_line_length, item_length, stock_length, row_length, key_length, before_length, record_length}
 use Rattle.oe_layout.specs.Links.{LinkNumbers, link_numbers, link_image}
 use Rattle.oe_layout.specs.Kinds.{kind_numbers, kind_image, kind_of}
 use Rattle.oe_layout.specs.Records.{followed, contents, body_image, record_image, IsInRanges}

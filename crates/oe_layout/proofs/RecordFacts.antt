@@ -16,7 +16,7 @@ use Rattle.oe_image.specs.Rows.{IsRow}
 use Rattle.oe_image.proofs.FrontFacts.{Takes, IsCodec, some_is, bind_some, both, IsBytes-drop, Takes-then, number_law, pair_law, found_as, finds_as}
 use Rattle.oe_image.proofs.KeyFacts.{warehouse_key_law, district_key_law, customer_key_law, history_key_law, new_order_key_law, order_key_law, order_line_key_law, stock_key_law}
 use Rattle.oe_image.proofs.RowFacts.{warehouse_law, district_law, customer_law, order_law, order_line_law, stock_law}
-use Rattle.oe_layout.specs.Lengths.{optional_length, key_length, row_length, before_length, record_length}
+use Rattle.oe_model.specs.Lengths.{optional_length, key_length, row_length, before_length, record_length}
 use Rattle.oe_layout.specs.Links.{previous_image, IsPrevious, previous_at}
 use Rattle.oe_layout.specs.Kinds.{kind_image, kind_of, kind_at}
 use Rattle.oe_layout.specs.Records.{contents, body_image, record_image, IsInRanges, record_of_own}

@@ -5,7 +5,7 @@ use Rattle.oe_rows.specs.declared.rows.Row.{Row}
 use Rattle.oe_image.specs.Keys.{key_image}
 use Rattle.oe_image.specs.Rows.{row_image, IsRow}
 use Rattle.oe_model.specs.Changes.{Record}
-use Rattle.oe_layout.specs.Lengths.{key_length, row_length, record_length}
+use Rattle.oe_model.specs.Lengths.{key_length, row_length, record_length}
 use Rattle.oe_layout.specs.Records.{record_image, IsInRanges}
 use Rattle.oe_layout.specs.declared.links.Previous.{Previous}
 

@@ -1,5 +1,4 @@
 -- What the clauses of this crate cite.
-pub mod Lengths
 pub mod Links
 pub mod Kinds
 pub mod Records

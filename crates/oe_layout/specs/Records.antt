@@ -5,14 +5,14 @@ use Rattle.oe_bytes.specs.Spelling.{number}
 use Rattle.oe_image.specs.Keys.{key_image, IsKey}
 use Rattle.oe_image.specs.Rows.{row_image, IsRow}
 use Rattle.oe_model.specs.Changes as model
-use Rattle.oe_layout.specs.Lengths.{record_length}
+use Rattle.oe_model.specs.Lengths.{record_length}
 use Rattle.oe_layout.specs.Links.{previous_image, IsPrevious}
 use Rattle.oe_layout.specs.Kinds.{kind_image, kind_of}
 use Rattle.oe_layout.specs.declared.links.Previous.{Previous}
 use Rattle.oe_layout.specs.declared.records.OwnRecord.{OwnRecord}
 use Rattle.oe_layout.specs.declared.records.OwnRecord.TheVariants as own
-use Rattle.oe_layout.specs.declared.lent.LentRecord.{LentRecord}
-use Rattle.oe_layout.specs.declared.lent.LentRecord.TheVariants as lent
+use Rattle.oe_layout.specs.declared.loans.LentRecord.{LentRecord}
+use Rattle.oe_layout.specs.declared.loans.LentRecord.TheVariants as lent
 
 -- a record's key and behind it the row before, if there is one
 abbrev pub followed : List ℕ → Option Row → List ℕ

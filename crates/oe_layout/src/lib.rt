@@ -6,13 +6,13 @@
 
 pub mod kinds;
 pub mod laws;
-pub mod lent;
 pub mod links;
+pub mod loans;
 pub mod ranges;
 pub mod reading;
 pub mod records;
 
-pub use lent::{LentRecord, LinkedRecord};
 pub use links::{Previous, RecordAddress};
+pub use loans::{LentRecord, LinkedRecord};
 pub use reading::read_record;
 pub use records::OwnRecord;

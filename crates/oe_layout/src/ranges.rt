@@ -10,8 +10,8 @@ ghost use Rattle.oe_keys.specs.Key.{IsDistrictKey, IsCustomerKey};
 ghost use Rattle.oe_layout.specs.Links.{IsRecordAddress, IsPrevious};
 ghost use Rattle.oe_layout.specs.Records.{record_of_lent, IsInRanges};
 
-use crate::lent::{LentRecord, LinkedRecord};
 use crate::links::{Previous, RecordAddress};
+use crate::loans::{LentRecord, LinkedRecord};
 use oe_keys::{
     CustomerKey, DistrictKey, HistoryKey, NewOrderKey, OrderKey, OrderLineKey, StockKey,
     WarehouseKey,

@@ -8,14 +8,14 @@ use Rattle.oe_log.specs.Log as log
 use Rattle.oe_log.specs.Log.{no_lens, no_lists}
 use Rattle.oe_log.specs.Kept.{record_address, records_in, AreRecords, stored, IsLog}
 use Rattle.oe_layout.specs.declared.links.Previous.{Previous}
-use Rattle.oe_layout.specs.declared.lent.LentRecord.{LentRecord}
+use Rattle.oe_layout.specs.declared.loans.LentRecord.{LentRecord}
 use Rattle.oe_layout.specs.Links.{IsPrevious}
 use Rattle.oe_layout.specs.Records.{record_image, record_of_lent, IsInRanges}
 use Rattle.oe_log.proofs.RecordFacts.{length_is, older_is, older_are, at_slot, are_at, are_set, all_elsewhere, written_is, seen_lent}
 use Rattle.oe_log.proofs.RoomFacts.{few}
 
 -- the log keeps its promise, and is seen so
-pub record Stands (r : ring.Segments) (lens cls : List ℕ) (capacity opens newest : ℕ) (v : log.Stored) : Type 0 where
+pub record Stands (r : ring.Segments) (lens cls : List ℕ) (capacity opens newest : ℕ) (v : log.RingLog) : Type 0 where
   pub kept : IsLog r lens cls capacity opens newest
   pub view : stored r opens newest ≡ v
 

@@ -8,9 +8,9 @@ use Rattle.oe_layout.specs.declared.links.RecordAddress.{RecordAddress}
 use Rattle.oe_layout.specs.declared.links.Previous.{Previous}
 use Rattle.oe_layout.specs.declared.records.OwnRecord.{OwnRecord}
 use Rattle.oe_layout.specs.declared.records.OwnRecord.TheVariants as own
-use Rattle.oe_layout.specs.declared.lent.LentRecord.{LentRecord}
-use Rattle.oe_layout.specs.declared.lent.LentRecord.TheVariants as lent
-use Rattle.oe_layout.specs.Lengths.{record_length}
+use Rattle.oe_layout.specs.declared.loans.LentRecord.{LentRecord}
+use Rattle.oe_layout.specs.declared.loans.LentRecord.TheVariants as lent
+use Rattle.oe_model.specs.Lengths.{record_length}
 use Rattle.oe_layout.specs.Links.{IsPrevious}
 use Rattle.oe_layout.specs.Records.{record_image, record_of_own, record_of_lent, IsInRanges}
 use Rattle.oe_layout.specs.RecordFronts.{record_at, ReadsRecord}

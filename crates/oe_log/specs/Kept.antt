@@ -1,6 +1,7 @@
 -- How records lie in the ring as bytes: what an undo log keeps of itself.
-use Rattle.std.specs.Prelude.{◌≡◌, ◌≤◌, ◌+◌, ℕ, List, [], ◌∷◌, length, map, Option, None, Some}
+use Rattle.std.specs.Prelude.{◌≡◌, ◌≤◌, ◌+◌, ℕ, suc, List, [], ◌∷◌, length, map, Option, None, Some}
 use Rattle.std.specs.List.{AllByRecursion}
+use Rattle.oe_values.specs.declared.numbers.TheConstants.{TERMINALS}
 use Rattle.oe_extent.specs.declared.segments.Address.{Address}
 use Rattle.oe_ring.specs.Segments.{Addressed, Segments}
 use Rattle.oe_layout.specs.declared.links.RecordAddress.{RecordAddress}
@@ -9,7 +10,7 @@ use Rattle.oe_layout.specs.declared.records.OwnRecord.{OwnRecord}
 use Rattle.oe_layout.specs.Links.{IsPrevious}
 use Rattle.oe_layout.specs.Records.{record_image, record_of_own, IsInRanges}
 use Rattle.oe_layout.specs.RecordFronts.{record_at}
-use Rattle.oe_log.specs.Log.{Logged, Stored}
+use Rattle.oe_log.specs.Log.{Logged, RingLog}
 
 abbrev pub record_address : Address → RecordAddress
 record_address a = record { extent = a.extent; offset = a.offset }
@@ -36,7 +37,7 @@ pub record IsRecord (bytes : List ℕ) : Type 0 where
 abbrev pub AreRecords : List Addressed → Type 0
 AreRecords ss = AllByRecursion (λ s. IsRecord s.bytes) ss
 
-abbrev pub stored : Segments → ℕ → ℕ → Stored
+abbrev pub stored : Segments → ℕ → ℕ → RingLog
 stored r opens newest =
     record {
       extents = r.extents;
@@ -47,7 +48,7 @@ stored r opens newest =
     }
 
 pub record IsLog (r : Segments) (lens committed_lens : List ℕ) (capacity opens newest : ℕ) : Type 0 where
-  pub slots : length r.active ≡ 65
+  pub slots : length r.active ≡ suc TERMINALS
   pub extents : r.extents ≤ 4096
   pub lens_are : lens ≡ map (λ ss. length ss) r.active
   pub committed_lens_are : committed_lens ≡ map (λ ss. length ss) r.committed

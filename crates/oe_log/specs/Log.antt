@@ -1,9 +1,10 @@
 -- The undo log as plain data, and what its calls do to it.
 use Rattle.std.specs.Prelude.{◌≡◌, ◌≢◌, ◌<◌, ◌≤◌, ◌+◌, ◌-◌, ◌⊎◌, ℕ, suc, List, [], ◌∷◌, length, map, take, drop, get_or, set, replicate, Option, None, Some}
 use Rattle.std.specs.List.{AllByRecursion, sum_by}
+use Rattle.oe_values.specs.declared.numbers.TheConstants.{TERMINALS}
 use Rattle.oe_model.specs.Changes.{Record}
 use Rattle.oe_ring.specs.Segments.{filled}
-use Rattle.oe_layout.specs.Lengths.{record_length}
+use Rattle.oe_model.specs.Lengths.{record_length}
 use Rattle.oe_layout.specs.declared.links.RecordAddress.{RecordAddress}
 use Rattle.oe_layout.specs.declared.links.Previous.{Previous}
 
@@ -17,7 +18,7 @@ abbrev pub logged : RecordAddress → Previous → Record → Logged
 logged a p b = record { address = a; previous = p; before = b }
 
 -- all that is stored
-pub record Stored : Type 0 where
+pub record RingLog : Type 0 where
   pub extents : ℕ
   -- how many segments are open
   pub opens : ℕ
@@ -29,7 +30,7 @@ pub record Stored : Type 0 where
   pub newest : ℕ
 
 -- a terminal's records
-abbrev pub records_at : Stored → ℕ → List Logged
+abbrev pub records_at : RingLog → ℕ → List Logged
 records_at v t = get_or v.active t []
 
 -- the newest of these records, if there is one
@@ -39,38 +40,38 @@ newest_of (r ∷ rs) = Some (r.previous, r.before)
 
 -- for each slot none; shut, so that no proof counts them
 unfoldable pub no_lists : List (List Logged)
-no_lists = replicate 65 []
+no_lists = replicate (suc TERMINALS) []
 
 unfoldable pub no_lens : List ℕ
-no_lens = replicate 65 0
+no_lens = replicate (suc TERMINALS) 0
 
 -- nothing recorded, nothing committed
-abbrev pub no_records : ℕ → Stored
+abbrev pub no_records : ℕ → RingLog
 no_records e =
     record { extents = e; opens = 0; active = no_lists; committed = []; newest = 0 }
 
 -- another segment open
-abbrev pub opened : Stored → Stored
+abbrev pub opened : RingLog → RingLog
 opened v = record v { opens = suc v.opens }
 
 -- one open segment less
-abbrev pub closed : Stored → Stored
+abbrev pub closed : RingLog → RingLog
 closed v = record v { opens = v.opens - 1 }
 
 -- a terminal has these records
-abbrev pub with_records : Stored → ℕ → List Logged → Stored
+abbrev pub with_records : RingLog → ℕ → List Logged → RingLog
 with_records v t rs = record v { active = set v.active t rs }
 
 -- a terminal has a record more
-abbrev pub pushed : Stored → ℕ → Logged → Stored
+abbrev pub pushed : RingLog → ℕ → Logged → RingLog
 pushed v t r = with_records v t (r ∷ records_at v t)
 
 -- a terminal is without its newest record
-abbrev pub popped : Stored → ℕ → Stored
+abbrev pub popped : RingLog → ℕ → RingLog
 popped v t = with_records v t (drop 1 (records_at v t))
 
 -- a terminal's records are those of the newest commit
-abbrev pub sealed : Stored → ℕ → Stored
+abbrev pub sealed : RingLog → ℕ → RingLog
 sealed v t =
     record {
       extents = v.extents;
@@ -81,7 +82,7 @@ sealed v t =
     }
 
 -- a terminal has the records of the newest commit, which is gone, and its moment with it
-abbrev pub reopened : Stored → ℕ → Stored
+abbrev pub reopened : RingLog → ℕ → RingLog
 reopened v t =
     record {
       extents = v.extents;
@@ -92,7 +93,7 @@ reopened v t =
     }
 
 -- the oldest commit's records are gone, where there is one
-abbrev pub without_oldest : Stored → Stored
+abbrev pub without_oldest : RingLog → RingLog
 without_oldest v = record v { committed = take (length v.committed - 1) v.committed }
 
 -- ---- when a record has no room
@@ -101,13 +102,13 @@ abbrev pub lengths : List Logged → List ℕ
 lengths rs = map (λ r. record_length r.before) rs
 
 -- how many extents all records fill, those of each segment in order
-abbrev pub used_of : Stored → ℕ
+abbrev pub used_of : RingLog → ℕ
 used_of v =
     sum_by (λ rs. (filled (lengths rs)).0) v.active
     + sum_by (λ rs. (filled (lengths rs)).0) v.committed
 
 -- a record of that length fits neither the rest of the terminal's last extent nor a free one
-abbrev pub IsFull : Stored → ℕ → ℕ → Type 0
+abbrev pub IsFull : RingLog → ℕ → ℕ → Type 0
 IsFull v t n = ((filled (lengths (records_at v t))).1 < n) × (v.extents ≤ used_of v)
 
 -- ---- addresses
@@ -117,7 +118,7 @@ abbrev pub StandElsewhere : RecordAddress → List Logged → Type 0
 StandElsewhere a rs = AllByRecursion (λ r. r.address ≢ a) rs
 
 -- no record of a terminal or of a commit is at that address
-pub record IsFresh (v : Stored) (a : RecordAddress) : Type 0 where
+pub record IsFresh (v : RingLog) (a : RecordAddress) : Type 0 where
   pub active : (t : ℕ) → StandElsewhere a (records_at v t)
   pub committed : (commit : ℕ) → StandElsewhere a (get_or v.committed commit [])
 

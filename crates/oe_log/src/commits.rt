@@ -3,7 +3,7 @@ ghost use Rattle.std.specs.Prelude.{◌≡◌, ◌<◌, ◌+◌, [], length};
 ghost use Rattle.oe_log.specs.Log.{records_at, sealed, reopened, without_oldest};
 
 use crate::log::Log;
-use oe_values::numbers::{Moment, Terminal};
+use oe_values::numbers::{Moment, TERMINALS, Terminal};
 
 impl Log {
     /// Makes a terminal's segment that of the newest commit, and answers the commit's moment. It takes no memory.
@@ -34,7 +34,7 @@ impl Log {
     /// Makes the newest commit's segment a terminal's open one again, for a rewind, which takes its records back one by one. The
     /// moment before is the newest. It takes no memory.
     pub fn reopen_newest(&mut self, terminal: Terminal)
-        requires few { self.old.opens < 64 }
+        requires few { self.old.opens < TERMINALS }
         requires some { 0 < length self.old.committed }
         requires empty { records_at self.old terminal ≡ [] }
         ensures { self.new ≡ reopened self.old terminal }

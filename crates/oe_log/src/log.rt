@@ -1,7 +1,7 @@
 //! The undo log.
 ghost use Rattle.std.specs.Prelude.{◌≡◌, ◌<◌, ◌↔◌, ◌-◌, [], length, get_or, replicate, IsErr, IfOk, OnOk, OnErr};
 ghost use Rattle.std.specs.Option.{option_map};
-ghost use Rattle.oe_layout.specs.Lengths.{record_length};
+ghost use Rattle.oe_model.specs.Lengths.{record_length};
 ghost use Rattle.oe_layout.specs.Records.{record_of_own, record_of_lent};
 ghost use Rattle.oe_log.specs.Log.{no_lens, no_records, records_at, newest_of, logged, opened, closed, pushed, popped, IsFull, IsFresh};
 
@@ -9,7 +9,7 @@ use oe_extent::Address;
 use oe_layout::{LinkedRecord, OwnRecord, Previous, RecordAddress, read_record};
 use oe_ring::{Full, Ring};
 use oe_table::tables::NoMemory;
-use oe_values::numbers::{Moment, Number, Terminal};
+use oe_values::numbers::{Moment, Number, TERMINALS, Terminal};
 use std::alloc::Global;
 use std::collections::VecDeque;
 use std::marker::Model;
@@ -37,10 +37,10 @@ pub struct Log {
 
 impl Model for Log {
     ghost use Rattle.std.specs.VecDeque.{deque_capacity};
-    ghost use Rattle.oe_log.specs.Log.{Stored};
+    ghost use Rattle.oe_log.specs.Log.{RingLog};
     ghost use Rattle.oe_log.specs.Kept.{stored, IsLog};
 
-    ghost Value = { Stored };
+    ghost Value = { RingLog };
 
     ghost view = { λ l. stored l.ring l.open_count l.newest };
 
@@ -53,10 +53,10 @@ impl Model for Log {
 fn no_lens(alloc: Global) -> Result<Vec<usize>, NoMemory>
     ensures { IfOk result (λ v. v.items ≡ no_lens) }
 {
-    let Ok(mut lens) = Vec::with_capacity(alloc, 65) else {
+    let Ok(mut lens) = Vec::with_capacity(alloc, TERMINALS as usize + 1) else {
         return Err(NoMemory);
     };
-    for _ in 0..65u8 {
+    for _ in 0..TERMINALS + 1 {
         lens.push_reserved(0);
     }
     Ok(lens)
@@ -83,7 +83,7 @@ impl Log {
         let Some(newest) = Moment::new(0) else {
             unreachable!()
         };
-        let Ok(ring) = Ring::new(alloc, count, 65) else {
+        let Ok(ring) = Ring::new(alloc, count, TERMINALS as usize + 1) else {
             return Err(NoMemory);
         };
         let lens = no_lens(alloc)?;
@@ -96,9 +96,16 @@ impl Log {
         })
     }
 
+    /// How many extents there are.
+    pub fn extents(&self) -> usize
+        ensures { result ≡ self.now.extents }
+    {
+        self.ring.extents()
+    }
+
     /// Counts one segment more as open, and takes all memory that its commit will need; `NoMemory` where that was refused.
     pub fn open_segment(&mut self) -> Result<(), NoMemory>
-        requires { self.old.opens < 64 }
+        requires { self.old.opens < TERMINALS }
         ensures opened { OnOk result (self.new ≡ opened self.old) }
         ensures err { OnErr result (self.new ≡ self.old) }
     {

@@ -10,6 +10,7 @@ pub mod Lists
 pub mod Changes
 pub mod Meets
 pub mod RowLaws
+pub mod Lengths
 pub mod Locks
 pub mod Positions
 pub mod Effects

@@ -16,6 +16,7 @@ use Rattle.oe_requests.specs.declared.refusals.Refusal.{Refusal}
 use Rattle.oe_requests.specs.declared.refusals.Refusal.TheVariants.{NoCustomer, Overflow, NotOpen}
 use Rattle.oe_model.specs.Rows.{Rows, is_key, row_at}
 use Rattle.oe_model.specs.Changes.{Change, key_of, row_of, changed, Record, record_of, record_key, row_before, put_back, redo}
+use Rattle.oe_model.specs.Lengths.{record_length}
 use Rattle.oe_model.specs.Meets.{Accepts}
 use Rattle.oe_model.specs.Locks.{is_name, governs, Facet, Part, facet_key, part, governs_part}
 use Rattle.oe_model.specs.Positions.{Position, InPayment, InNewOrder, InDelivery, NoProgram, PaymentWarehouse, PaymentEnd, NewOrderWarehouse, NewOrderCustomer, NewOrderStock, DeliveryQueue, DeliveryNothing, DeliveryEnd}
@@ -89,13 +90,15 @@ yields (InPayment q p) NoCustomer = by_number q.customer
 yields (InNewOrder q p) NoCustomer = true
 yields _ _ = false
 
--- how undo records lie in memory, which gives each its length: as values of the program, outside of any ring
+-- how undo records lie in memory, which gives each its length: as values of the program, outside of any ring, or as bytes in extents
 pub data Layout : Type 0 where
   AsValues : Layout
+  InExtents : Layout
 
 -- the length of a record; shut, so that no proof computes it
-unfoldable pub record_length : Layout → Record → ℕ
-record_length AsValues b = 0
+unfoldable pub length_in : Layout → Record → ℕ
+length_in AsValues b = 0
+length_in InExtents b = record_length b
 
 -- terminals are 1 to 64, and 0 is the population's in HISTORY; shut, so that no proof counts them
 unfoldable pub terminal_limit : ℕ
@@ -120,7 +123,7 @@ machine layout = record {
   restore = λ b now. row_before b;
   put_back = put_back;
   redo = redo;
-  size_of = record_length layout;
+  size_of = length_in layout;
   extent = 4096;
   Facet = Facet;
   Part = Part;

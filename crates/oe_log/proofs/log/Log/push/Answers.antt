@@ -1,7 +1,7 @@
 -- A record more, or no room for it.
 use Rattle.std.proofs.Common.{◌≡◌, ℕ, length, refl, sym, ◌∙◌, subst, arith, deque_capacity}
 use Rattle.oe_ring.specs.Segments as ring
-use Rattle.oe_layout.specs.Lengths.{record_length}
+use Rattle.oe_model.specs.Lengths.{record_length}
 use Rattle.oe_layout.specs.Records.{record_image, record_of_lent}
 use Rattle.oe_log.proofs.RoomFacts.{full_here, full_there}
 use Rattle.oe_log.proofs.LogFacts.{pushed, pushed_few, fresh}

@@ -2,20 +2,20 @@
 use Rattle.std.proofs.Common.{◌≡◌, ℕ, [], map, get_or, refl, sym, subst}
 use Rattle.oe_extent.specs.declared.segments.Address.{Address}
 use Rattle.oe_ring.specs.Segments as ring
-use Rattle.oe_log.specs.Log.{Stored, HasAddress, IsAmong, logged}
+use Rattle.oe_log.specs.Log.{RingLog, HasAddress, IsAmong, logged}
 use Rattle.oe_log.specs.Kept.{records_in}
 use Rattle.oe_log.proofs.ReadFacts.{has_string, some_read, told_there}
 use Rattle.oe_log.proofs.log.Log.record_at.Goals as goal
 
 pub at-bytes-requires-clause-some : goal.at-bytes-requires-clause-some
 at-bytes-requires-clause-some c =
-    let seen = subst (λ (v : Stored). HasAddress (get_or v.active c.args.terminal []) c.args.address) (sym c.self.view_is) c.requires in
+    let seen = subst (λ (v : RingLog). HasAddress (get_or v.active c.args.terminal []) c.args.address) (sym c.self.view_is) c.requires in
     let has = subst (λ (t : ℕ). HasAddress (get_or (map records_in c.self.inside.ring.active) t []) c.args.address) (sym c.get-slot.ensures.value) seen in
     rw c.ring_address-place.ensures (has_string c.args.address c.self.inside.ring.active c.get-slot.result c.self.invariant.active_are has)
 
 pub unwrap-requires : goal.unwrap-requires
 unwrap-requires c =
-    let seen = subst (λ (v : Stored). HasAddress (get_or v.active c.args.terminal []) c.args.address) (sym c.self.view_is) c.requires in
+    let seen = subst (λ (v : RingLog). HasAddress (get_or v.active c.args.terminal []) c.args.address) (sym c.self.view_is) c.requires in
     let has = subst (λ (t : ℕ). HasAddress (get_or (map records_in c.self.inside.ring.active) t []) c.args.address) (sym c.get-slot.ensures.value) seen in
     let stands = subst (λ (a : Address). ring.IsStringAt (get_or c.self.inside.ring.active c.get-slot.result []) a c.at-bytes.result.now) c.ring_address-place.ensures c.at-bytes.ensures in
     let read = some_read c.args.address c.self.inside.ring.active c.get-slot.result c.at-bytes.result.now c.read_record.result c.self.invariant.active_are has stands c.read_record.ensures in
@@ -23,7 +23,7 @@ unwrap-requires c =
 
 pub returns : goal.returns
 returns c p b k =
-    let seen = subst (λ (v : Stored). IsAmong (logged c.args.address p b) (get_or v.active c.args.terminal [])) (sym c.self.view_is) k in
+    let seen = subst (λ (v : RingLog). IsAmong (logged c.args.address p b) (get_or v.active c.args.terminal [])) (sym c.self.view_is) k in
     let there = subst (λ (t : ℕ). IsAmong (logged c.args.address p b) (get_or (map records_in c.self.inside.ring.active) t [])) (sym c.get-slot.ensures.value) seen in
     let stands = subst (λ (a : Address). ring.IsStringAt (get_or c.self.inside.ring.active c.get-slot.result []) a c.at-bytes.result.now) c.ring_address-place.ensures c.at-bytes.ensures in
     told_there c.args.address p b c.self.inside.ring.active c.get-slot.result c.at-bytes.result.now c.read_record.result c.unwrap.result c.self.invariant.active_are there stands c.read_record.ensures c.unwrap.ensures

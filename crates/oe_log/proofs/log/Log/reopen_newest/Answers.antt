@@ -1,13 +1,13 @@
 -- The newest commit's records are a terminal's again.
 use Rattle.std.proofs.Common.{◌≡◌, ℕ, ◌+◌, ◌-◌, [], map, get_or, set, refl, sym, subst, arith, rules, deque_capacity}
-use Rattle.oe_log.specs.Log.{Stored}
+use Rattle.oe_log.specs.Log.{RingLog}
 use Rattle.oe_log.specs.Kept.{records_in}
 use Rattle.oe_log.proofs.CommitFacts.{empty_slot, reopened}
 use Rattle.oe_log.proofs.log.Log.reopen_newest.Goals as goal
 
 pub reopen_newest-requires-clause-empty : goal.reopen_newest-requires-clause-empty
 reopen_newest-requires-clause-empty c =
-    let seen = subst (λ (v : Stored). get_or v.active c.args.terminal [] ≡ []) (sym c.self.view_is) c.requires.empty in
+    let seen = subst (λ (v : RingLog). get_or v.active c.args.terminal [] ≡ []) (sym c.self.view_is) c.requires.empty in
     let there = subst (λ (t : ℕ). get_or (map records_in c.self.inside.ring.active) t [] ≡ []) (sym c.get-slot.ensures.value) seen in
     empty_slot c.self.inside.ring c.self.inside.lens.items c.self.inside.committed_lens.items (deque_capacity c.self.inside.committed_lens) c.self.inside.open_count c.self.inside.newest c.self.invariant
     c.get-slot.result there

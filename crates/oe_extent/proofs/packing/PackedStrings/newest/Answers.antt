@@ -1,7 +1,7 @@
 -- The newest string.
 use Rattle.std.proofs.Common.{◌≡◌, ◌-◌, refl, arith}
 use Rattle.oe_extent.proofs.PackedFacts.{popped, long_enough}
-use Rattle.oe_extent.proofs.packed.PackedStrings.newest.Goals as goal
+use Rattle.oe_extent.proofs.packing.PackedStrings.newest.Goals as goal
 
 pub last_size-size-requires : goal.last_size-size-requires
 last_size-size-requires c = long_enough c.self.inside.count c.self.inside.fill c.self.inside.bytes c.self.invariant (rw c.self.view_is c.requires)

@@ -2,7 +2,7 @@
 use Rattle.std.proofs.Common.{refl, arith}
 use Rattle.oe_extent.proofs.PackedFacts.{AreStrings-none}
 use Rattle.oe_extent.specs.Strings.{cut}
-use Rattle.oe_extent.proofs.packed.PackedStrings.new.Goals as goal
+use Rattle.oe_extent.proofs.packing.PackedStrings.new.Goals as goal
 
 pub invariant_of-result : goal.invariant_of-result
 invariant_of-result c = record { small = omega arith; size = c.zeros.ensures; strings = AreStrings-none }

@@ -1,7 +1,7 @@
 -- The newest string is gone.
 use Rattle.std.proofs.Common.{drop, sym, ap, arith}
 use Rattle.oe_extent.proofs.PackedFacts.{popped, long_enough}
-use Rattle.oe_extent.proofs.packed.PackedStrings.pop.Goals as goal
+use Rattle.oe_extent.proofs.packing.PackedStrings.pop.Goals as goal
 
 pub last_size-requires : goal.last_size-requires
 last_size-requires c = long_enough c.self.inside.count c.self.inside.fill c.self.inside.bytes c.self.invariant (rw c.self.view_is c.requires)

@@ -2,7 +2,7 @@
 use Rattle.std.proofs.Common.{◌-◌, drop, ◌∙◌, arith}
 use Rattle.std.proofs.lemmas.List.{length-take, length-drop}
 use Rattle.oe_extent.proofs.PackedFacts.{amid, size_amid, string_amid}
-use Rattle.oe_extent.proofs.packed.PackedStrings.at.Goals as goal
+use Rattle.oe_extent.proofs.packing.PackedStrings.at.Goals as goal
 
 pub slice_bounds-read_u16-count : goal.slice_bounds-read_u16-count
 slice_bounds-read_u16-count c =

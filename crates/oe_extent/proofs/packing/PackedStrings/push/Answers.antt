@@ -1,7 +1,7 @@
 -- A string more.
 use Rattle.std.proofs.Common.{◌≡◌, suc, ◌+◌, arith}
 use Rattle.oe_extent.proofs.PackedFacts.{IsPacked-push}
-use Rattle.oe_extent.proofs.packed.PackedStrings.push.Goals as goal
+use Rattle.oe_extent.proofs.packing.PackedStrings.push.Goals as goal
 
 pub invariant_of-self : goal.invariant_of-self
 invariant_of-self g c =

@@ -1,7 +1,7 @@
 -- Key, row and 18 bytes beside them, of which two at each end are the length.
 use Rattle.oe_layout.specs.Records.{record_of_lent}
 use Rattle.oe_layout.proofs.FrameFacts.{whole_length, record_framed}
-use Rattle.oe_layout.proofs.lent.LinkedRecord.length.Goals as goal
+use Rattle.oe_layout.proofs.loans.LinkedRecord.length.Goals as goal
 
 pub returns-clause-image : goal.returns-clause-image
 returns-clause-image c =

@@ -3,7 +3,7 @@ ghost use Rattle.std.specs.Prelude.{◌≡◌, ◌≤◌, ◌+◌, length};
 ghost use Rattle.oe_bytes.specs.Spelling.{Writes};
 ghost use Rattle.oe_extent.specs.Strings.{IsFramed};
 ghost use Rattle.oe_layout.specs.Kinds.{kind_of};
-ghost use Rattle.oe_layout.specs.Lengths.{record_length};
+ghost use Rattle.oe_model.specs.Lengths.{record_length};
 ghost use Rattle.oe_layout.specs.Records.{contents, record_image, record_of_lent};
 
 use crate::kinds::RecordKind;

@@ -2,7 +2,7 @@
 use Rattle.oe_keys.specs.declared.keys.Key.TheVariants as key
 use Rattle.oe_rows.specs.declared.rows.Row.TheVariants as row
 use Rattle.oe_layout.proofs.LengthFacts.{key_alone, key_and_row, warehouse_long, district_long, customer_long, order_long, order_line_long, stock_long}
-use Rattle.oe_layout.proofs.lent.LentRecord.contents_length.Goals as goal
+use Rattle.oe_layout.proofs.loans.LentRecord.contents_length.Goals as goal
 
 pub returns-in-InsertedHistory-clause-sum : goal.returns-in-InsertedHistory-clause-sum
 returns-in-InsertedHistory-clause-sum c = rw c.in-InsertedHistory.is (key_alone (key.History c.in-InsertedHistory.key) _ c.length.ensures.value)

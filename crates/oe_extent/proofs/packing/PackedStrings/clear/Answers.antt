@@ -2,7 +2,7 @@
 use Rattle.std.proofs.Common.{refl, arith}
 use Rattle.oe_extent.proofs.PackedFacts.{AreStrings-none}
 use Rattle.oe_extent.specs.Strings.{cut}
-use Rattle.oe_extent.proofs.packed.PackedStrings.clear.Goals as goal
+use Rattle.oe_extent.proofs.packing.PackedStrings.clear.Goals as goal
 
 pub invariant_of-self : goal.invariant_of-self
 invariant_of-self c = record { small = omega arith; size = c.self.invariant.size; strings = AreStrings-none }
