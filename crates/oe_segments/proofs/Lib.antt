@@ -1,0 +1,5 @@
+pub mod HeadFacts
+pub mod ZipFacts
+pub mod CallFacts
+pub mod StandsFacts
+pub mod LawFacts

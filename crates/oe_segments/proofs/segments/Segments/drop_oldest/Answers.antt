@@ -1,0 +1,29 @@
+-- The oldest commit is no longer kept.
+use Rattle.std.proofs.Common.{◌≡◌, ◌-◌, Some, length, take, refl, ap, sym, ◌∙◌, deque_capacity}
+use Rattle.std.specs.Prelude.{option_map}
+use Rattle.oe_segments.proofs.HeadFacts.{last_found}
+use Rattle.oe_segments.proofs.ZipFacts.{head_owner}
+use Rattle.oe_segments.proofs.CallFacts.{oldest_found, cut}
+use Rattle.oe_segments.proofs.segments.Segments.drop_oldest.Goals.{in-Some, in-None}
+use Rattle.oe_segments.proofs.segments.Segments.drop_oldest.Goals as goal
+
+pub returns-clause-oldest : goal.returns-clause-oldest
+returns-clause-oldest c =
+    let found = last_found c.self.inside.commits.items _ c.pop_back.result c.self.inside.commits.ok.0 c.pop_back.ensures.variant.0 c.pop_back.ensures.value in
+    let told : c.match-pop_back.result ≡ option_map head_owner c.pop_back.result =
+    elim c.match-pop_back.branch [
+      | in-Some w ↦ w.result-is ∙ ap Some w.owner.ensures ∙ ap (option_map head_owner) (sym w.in-Some.is)
+      | in-None w ↦ w.result-is ∙ ap (option_map head_owner) (sym w.in-None.is)
+    ] in
+    rw (← c.self.view_is) (told ∙ oldest_found c.self.inside.terminals.items c.self.inside.commits.items (deque_capacity c.self.inside.commits) c.self.inside.log c.self.invariant c.pop_back.result found)
+
+pub invariant_of-self : goal.invariant_of-self
+invariant_of-self c =
+    (cut c.self.inside.terminals.items c.self.inside.commits.items (deque_capacity c.self.inside.commits) c.self.inside.log c.self.invariant (length c.self.inside.commits.items) (deque_capacity c.pop_back.new.self) c.pop_back.new.self.items c.drop_oldest.new.self
+    refl (c.pop_back.ensures.rest ∙ ap (λ n. take (n - 1) c.self.inside.commits.items) c.self.inside.commits.ok.0) c.pop_back.ensures.capacity c.drop_oldest.ensures).kept
+
+pub returns-clause-dropped : goal.returns-clause-dropped
+returns-clause-dropped c =
+    rw (← c.self.view_is)
+    ((cut c.self.inside.terminals.items c.self.inside.commits.items (deque_capacity c.self.inside.commits) c.self.inside.log c.self.invariant (length c.self.inside.commits.items) (deque_capacity c.pop_back.new.self) c.pop_back.new.self.items c.drop_oldest.new.self
+    refl (c.pop_back.ensures.rest ∙ ap (λ n. take (n - 1) c.self.inside.commits.items) c.self.inside.commits.ok.0) c.pop_back.ensures.capacity c.drop_oldest.ensures).view)

@@ -1,0 +1,155 @@
+-- Transactions' segments as plain data, and what their calls do to them.
+use Rattle.std.specs.Prelude.{ℕ, suc, ◌-◌, ◌==◌, cond, List, [], ◌∷◌, map, get_or, set, take, drop, replicate, option_map, Option, None, Some, is_some}
+use Rattle.std.specs.List.{sum_by, count_by}
+use Rattle.oe_values.specs.declared.numbers.TheConstants.{TERMINALS}
+use Rattle.oe_requests.specs.declared.requests.Request.{Request}
+use Rattle.oe_requests.specs.declared.replies.Reply.{Reply}
+use Rattle.oe_log.specs.Log.{Logged, RingLog}
+use Rattle.oe_segments.specs.declared.heads.SegmentOwner.{SegmentOwner}
+
+-- the open segment of a terminal's transaction with this number: its records are newest first
+pub record Open : Type 0 where
+  pub terminal : ℕ
+  pub number : ℕ
+  pub records : List Logged
+
+-- a terminal's commits so far, and its open segment, if it has one
+pub record TerminalState : Type 0 where
+  pub count : ℕ
+  pub active : Option Open
+
+-- the segment of a transaction that has committed: its records are newest first
+pub record Committed : Type 0 where
+  pub terminal : ℕ
+  pub number : ℕ
+  pub request : Request
+  pub reply : Reply
+  pub records : List Logged
+
+-- all that is stored
+pub record SegmentLog : Type 0 where
+  -- by the terminals' numbers, from 0, which is nobody's, to 64
+  pub terminals : List TerminalState
+  -- the newest first
+  pub committed : List Committed
+  pub extents : ℕ
+
+-- a terminal that has neither committed nor a segment open
+abbrev pub idle : TerminalState
+idle = record { count = 0; active = None }
+
+abbrev pub state_at : SegmentLog → ℕ → TerminalState
+state_at v t = get_or v.terminals t idle
+
+-- a terminal's commits so far
+abbrev pub count_at : SegmentLog → ℕ → ℕ
+count_at v t = (state_at v t).count
+
+-- its open segment
+abbrev pub active_at : SegmentLog → ℕ → Option Open
+active_at v t = (state_at v t).active
+
+abbrev pub records_in : Option Open → List Logged
+records_in None = []
+records_in (Some o) = o.records
+
+-- the records of its open segment, newest first
+abbrev pub records_at : SegmentLog → ℕ → List Logged
+records_at v t = records_in (active_at v t)
+
+abbrev pub records_of : Committed → List Logged
+records_of c = c.records
+
+-- the records of each commit, the newest commit first
+abbrev pub committed_records : SegmentLog → List (List Logged)
+committed_records v = map records_of v.committed
+
+-- whose a commit was
+abbrev pub owner_of : Committed → SegmentOwner
+owner_of c = record { terminal = c.terminal; number = c.number }
+
+-- all commits so far
+abbrev pub total_count : SegmentLog → ℕ
+total_count v = sum_by (λ s. s.count) v.terminals
+
+-- how many terminals have a segment open
+abbrev pub open_total : SegmentLog → ℕ
+open_total v = count_by (λ s. is_some s.active) v.terminals
+
+-- how many of these commits are a terminal's
+abbrev pub commits_of : ℕ → List Committed → ℕ
+commits_of t [] = 0
+commits_of t (c ∷ cs) = cond (t == c.terminal) (suc (commits_of t cs)) (commits_of t cs)
+
+-- the log of the same records
+abbrev pub log_of : SegmentLog → RingLog
+log_of v =
+    record {
+      extents = v.extents;
+      opens = open_total v;
+      active = map (λ s. records_in s.active) v.terminals;
+      committed = committed_records v;
+      newest = total_count v;
+    }
+
+-- nobody and the terminals, all idle; shut, so that no proof counts them
+unfoldable pub idle_terminals : List TerminalState
+idle_terminals = replicate (suc TERMINALS) idle
+
+-- nothing recorded, nothing committed
+abbrev pub no_segments : ℕ → SegmentLog
+no_segments e = record { terminals = idle_terminals; committed = []; extents = e }
+
+-- a terminal's state replaced
+abbrev pub with_state : SegmentLog → ℕ → TerminalState → SegmentLog
+with_state v t s = record v { terminals = set v.terminals t s }
+
+-- its open segment replaced
+abbrev pub with_active : SegmentLog → ℕ → Option Open → SegmentLog
+with_active v t a = with_state v t (record { count = count_at v t; active = a })
+
+-- the records of its open segment replaced, where it has one
+abbrev pub with_records : SegmentLog → ℕ → List Logged → SegmentLog
+with_records v t rs = with_active v t (option_map {T = Open} (λ o. record o { records = rs }) (active_at v t))
+
+-- an empty segment opened, of the terminal's next number
+abbrev pub opened : SegmentLog → ℕ → SegmentLog
+opened v t = with_active v t (Some (record { terminal = t; number = suc (count_at v t); records = [] }))
+
+-- one record more
+abbrev pub pushed : SegmentLog → ℕ → Logged → SegmentLog
+pushed v t r = with_records v t (r ∷ records_at v t)
+
+-- the newest record taken off
+abbrev pub popped : SegmentLog → ℕ → SegmentLog
+popped v t = with_records v t (drop 1 (records_at v t))
+
+-- the open segment made that of the newest commit
+abbrev pub sealed : SegmentLog → ℕ → Request → Reply → SegmentLog
+sealed v t q y =
+    record {
+      terminals = set v.terminals t (record { count = suc (count_at v t); active = None });
+      committed = record { terminal = t; number = suc (count_at v t); request = q; reply = y; records = records_at v t } ∷ v.committed;
+      extents = v.extents;
+    }
+
+-- the open segment gone
+abbrev pub dropped : SegmentLog → ℕ → SegmentLog
+dropped v t = with_active v t None
+
+-- the newest n commits alone
+abbrev pub with_newest : ℕ → SegmentLog → SegmentLog
+with_newest n v = record v { committed = take n v.committed }
+
+-- the first of these commits is its terminal's open segment again, and is no longer counted
+abbrev pub reopened : SegmentLog → List Committed → SegmentLog
+reopened v [] = v
+reopened v (c ∷ cs) =
+    record {
+      terminals = set v.terminals c.terminal (record {
+        count = count_at v c.terminal - 1;
+        active = Some (record { terminal = c.terminal; number = c.number; records = c.records });
+      });
+      committed = cs;
+      extents = v.extents;
+    }

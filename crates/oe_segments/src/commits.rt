@@ -1,0 +1,93 @@
+//! Commits: how an open segment becomes that of one, and how their segments are given up, or opened again.
+ghost use Rattle.std.specs.Prelude.{◌≡◌, ◌+◌, ◌-◌, ℕ, length, slice_get, option_map, None, IsSome};
+ghost use Rattle.oe_model.specs.System.{terminal_limit};
+ghost use Rattle.oe_theory.specs.World.{total};
+ghost use Rattle.oe_segments.specs.Segments.{active_at, total_count, owner_of, sealed, with_newest, reopened};
+ghost use Rattle.oe_segments.specs.Stands.{counts_of, seals_of};
+
+use crate::heads::{CommitHead, SegmentOwner};
+use crate::segments::{Segment, Segments};
+use oe_requests::replies::Reply;
+use oe_requests::requests::Request;
+use oe_values::numbers::Moment;
+use std::snapshot::Snapshot;
+
+impl Segments {
+    /// The newest moment: the number of all commits so far.
+    pub fn newest(&self) -> Moment
+        ensures value { result ≡ total_count self.now }
+        ensures moment { result ≡ total terminal_limit (counts_of self.now) }
+    {
+        self.log.newest()
+    }
+
+    /// The oldest moment that can be read: as many commits ago as segments of commits are kept.
+    pub fn horizon(&self) -> Moment
+        ensures value { result + length self.now.committed ≡ total_count self.now }
+        ensures moment { result ≡ total terminal_limit (counts_of self.now) - length
+            (seals_of self.now) }
+    {
+        self.log.horizon()
+    }
+
+    /// Makes an open segment that of the newest commit, and answers the commit's moment. It takes no memory, and keeps no byte of
+    /// request and reply.
+    pub fn seal(
+        &mut self,
+        segment: Segment,
+        request: Snapshot<Request>,
+        reply: Snapshot<Reply>,
+    ) -> Moment
+        requires { IsSome (active_at self.old segment) }
+        ensures sealed { self.new ≡ sealed self.old segment request.value reply.value }
+        ensures moment { result ≡ total_count self.old + 1 }
+    {
+        let terminal = segment.terminal();
+        let state = &mut self.terminals[terminal.get() as usize];
+        let Some(owner) = state.active.take() else {
+            unreachable!()
+        };
+        state.count += 1;
+        self.commits.push_front_reserved(CommitHead {
+            owner,
+            request,
+            reply,
+        });
+        self.log.seal(terminal)
+    }
+
+    /// Gives up the segment of the oldest commit that is kept, and answers whose it was; none exactly where none is. Its terminal
+    /// counts it still. It takes no memory.
+    pub fn drop_oldest(&mut self) -> Option<SegmentOwner>
+        ensures oldest { result
+            ≡ option_map owner_of
+            (slice_get self.old.committed (length self.old.committed - 1)) }
+        ensures dropped { self.new ≡ with_newest (length self.old.committed - 1) self.old }
+    {
+        self.log.drop_oldest();
+        match self.commits.pop_back() {
+            Some(head) => Some(head.owner()),
+            None => None,
+        }
+    }
+
+    /// Opens the segment of the newest commit again, where no segment is open, and answers it; none exactly where no commit is kept.
+    /// Its terminal no longer counts it, and the moment before it is the newest. It takes no memory.
+    pub fn reopen_newest(&mut self) -> Option<Segment>
+        requires { (t : ℕ) → active_at self.old t ≡ None }
+        ensures segment { result
+            ≡ option_map (λ c. c.terminal) (slice_get self.old.committed 0) }
+        ensures reopened { self.new ≡ reopened self.old self.old.committed }
+    {
+        let Some(head) = self.commits.pop_front() else {
+            return None;
+        };
+        let owner = head.owner();
+        let terminal = owner.terminal;
+        let state = &mut self.terminals[terminal.get() as usize];
+        state.count -= 1;
+        state.active = Some(owner);
+        self.log.reopen_newest(terminal);
+        Some(Segment::of(terminal))
+    }
+}

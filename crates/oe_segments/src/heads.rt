@@ -1,0 +1,52 @@
+//! Whose the segments are.
+ghost use Rattle.std.specs.Prelude.{◌≡◌};
+
+use oe_requests::replies::Reply;
+use oe_requests::requests::Request;
+use oe_values::numbers::{Terminal, TransactionNumber};
+use std::marker::Model;
+use std::snapshot::Snapshot;
+
+/// Whose a segment is: a transaction, by its terminal and its number among the terminal's, from 1.
+#[derive(Clone, Copy, Debug, PartialEq, Eq)]
+pub struct SegmentOwner {
+    pub terminal: Terminal,
+    pub number: TransactionNumber,
+}
+
+/// A terminal's commits so far, and its open transaction, if it has one.
+#[derive(Drop)]
+pub struct TerminalHead {
+    pub count: u32,
+    pub active: Option<SegmentOwner>,
+}
+
+/// A transaction that has committed. What it was begun with and what it answered are for clauses alone: no byte is kept of either.
+#[derive(Drop)]
+pub struct CommitHead {
+    pub(crate) owner: SegmentOwner,
+    pub(crate) request: Snapshot<Request>,
+    pub(crate) reply: Snapshot<Reply>,
+}
+
+impl Model for CommitHead {
+    ghost use Rattle.oe_segments.specs.Kept.{Head};
+
+    ghost Value = { Head };
+
+    ghost view = { λ c. record {
+      terminal = c.owner.terminal;
+      number = c.owner.number;
+      request = c.request.value;
+      reply = c.reply.value;
+    } };
+}
+
+impl CommitHead {
+    /// Whose it was.
+    pub(crate) fn owner(&self) -> SegmentOwner
+        ensures { result ≡ record { terminal = self.now.terminal; number = self.now.number } }
+    {
+        self.owner
+    }
+}

@@ -1,0 +1,95 @@
+//! What is known of terminals, and of records by their addresses.
+ghost use Rattle.std.specs.Prelude.{◌≡◌, ◌<◌, ◌≤◌, ◌+◌, ◌↔◌, ℕ, [], length, get_or, take, slice_get, option_map, Option, is_some, IsTrue, IsSome, IfSome};
+ghost use Rattle.oe_layout.specs.Records.{record_of_own};
+ghost use Rattle.oe_log.specs.Log.{HasAddress, IsRecordAt};
+ghost use Rattle.oe_model.specs.System.{system, terminal_limit};
+ghost use Rattle.oe_theory.specs.Store.{Slot, count_slots};
+ghost use Rattle.oe_segments.specs.Segments.{count_at, active_at, records_at, open_total, commits_of, committed_records, owner_of};
+
+use crate::heads::SegmentOwner;
+use crate::segments::Segments;
+use oe_layout::{OwnRecord, Previous, RecordAddress};
+use oe_values::numbers::{TERMINALS, Terminal, TransactionNumber};
+
+impl Segments {
+    /// How many extents there are.
+    pub fn extents(&self) -> usize
+        ensures { result ≡ self.now.extents }
+    {
+        self.log.extents()
+    }
+
+    /// Terminal 0 is nobody, and has no records. It does nothing: it is for proofs above, which see no invariant.
+    pub fn nobody_has_records(&self)
+        ensures { records_at self.now 0 ≡ [] }
+    {
+        let _known = &self.log;
+    }
+
+    /// How many transactions of a terminal have committed and were not rewound.
+    pub fn count(&self, terminal: Terminal) -> u32
+        ensures { result ≡ count_at self.now terminal }
+    {
+        self.terminals[terminal.get() as usize].count
+    }
+
+    /// The number of the transaction that a terminal has open or begins next.
+    pub fn number(&self, terminal: Terminal) -> TransactionNumber
+        requires { count_at self.now terminal < 4_294_967_295 }
+        ensures { result ≡ count_at self.now terminal + 1 }
+    {
+        TransactionNumber::new(self.count(terminal) + 1).unwrap()
+    }
+
+    /// Whether a terminal has a segment open.
+    pub fn is_open(&self, terminal: Terminal) -> bool
+        ensures { IsTrue result ↔ IsSome (active_at self.now terminal) }
+    {
+        self.terminals[terminal.get() as usize].active.is_some()
+    }
+
+    /// How many terminals have a segment open.
+    pub fn open_count(&self) -> u32
+        ensures value { result ≡ open_total self.now }
+        ensures slots { (slots : ℕ → Option (Slot system))
+            → ((t : ℕ) → is_some (slots t) ≡ is_some (active_at self.now t))
+            → result ≡ count_slots system slots terminal_limit }
+        ensures most { result ≤ TERMINALS }
+    {
+        self.log.open_count() as u32
+    }
+
+    /// Whose a commit was, by the number of later ones; none exactly where so many are not kept. Its number is its terminal's count
+    /// less the terminal's later commits.
+    pub fn committed(&self, later: usize) -> Option<SegmentOwner>
+        ensures commit { result ≡ option_map owner_of (slice_get self.now.committed later) }
+        ensures number { IfSome result
+            (λ n. n.number + commits_of n.terminal (take later self.now.committed)
+            ≡ count_at self.now n.terminal) }
+    {
+        match self.commits.get(later) {
+            Some(head) => Some(head.owner()),
+            None => None,
+        }
+    }
+
+    /// The record at that address of a terminal's open segment, with what leads to the previous one of its row.
+    pub fn record_at(&self, terminal: Terminal, address: RecordAddress) -> (Previous, OwnRecord)
+        requires { HasAddress (records_at self.now terminal) address }
+        ensures { IsRecordAt (records_at self.now terminal) address
+            (result.0, record_of_own result.1) }
+    {
+        self.log.record_at(terminal, address)
+    }
+
+    /// The record at that address of a commit's segment, with what leads to the previous one of its row. The commit is given by the
+    /// number of later ones.
+    pub fn committed_record(&self, later: usize, address: RecordAddress) -> (Previous, OwnRecord)
+        requires commit { later < length self.now.committed }
+        requires some { HasAddress (get_or (committed_records self.now) later []) address }
+        ensures { IsRecordAt (get_or (committed_records self.now) later []) address
+            (result.0, record_of_own result.1) }
+    {
+        self.log.committed_record(later, address)
+    }
+}
