@@ -171,9 +171,15 @@ impl Customers {
     ) -> Rows<'_, CustomerKey, Customer>
         requires { IsLeBy customer_cmp from to }
         ensures { result
-            ≡ entries_between customer_cmp (Included from) (Included to) (entries (rows_of customer_cmp self.now)) }
+            ≡ entries_between customer_cmp (Included from) (Included to)
+            (entries (rows_of customer_cmp self.now)) }
     {
         self.rows.range_inclusive(from, to)
+    }
+
+    /// Whether the lists stand, so that a walk over namesakes is not the other walk. It is a hint, on which no answer rests.
+    pub fn is_listed(&self) -> bool {
+        self.is_listed
     }
 
     /// A walk that meets the customers of a district with that C_LAST in their keys' order, and others (clause 2.5.2.2). Where the

@@ -136,7 +136,8 @@ impl Orders {
     pub fn set_carrier(&mut self, key: &OrderKey, carrier: Carrier)
         requires { IsSome (map.get (rows_of order_cmp self.old) key.now) }
         ensures { (o : Order) → map.get (rows_of order_cmp self.old) key.now ≡ Some o
-            → RewritesRow order_cmp self.old self.new key.now (record o { carrier = Some carrier }) }
+            → RewritesRow order_cmp self.old self.new key.now
+            (record o { carrier = Some carrier }) }
     {
         let order = self.rows.row_mut(key).unwrap();
         order.carrier = Some(carrier);

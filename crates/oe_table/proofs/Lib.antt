@@ -3,7 +3,10 @@ pub mod TableFacts
 mod WalkFacts
 mod SweepFacts
 pub mod ShelfFacts
+mod NearFacts
 pub mod ShelvesFacts
 mod RangeFacts
 mod ShelfSweepFacts
 mod PassedFacts
+mod GivenUpFacts
+mod FrontFacts

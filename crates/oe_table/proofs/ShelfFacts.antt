@@ -34,7 +34,7 @@ pub set-none : {K X : Type 0} (test : K → Bool) (s : List (K × X)) (w : X) �
 set-none test [] w none = refl
 set-none test (e ∷ s) w none = set-step (test e.0) e (e.0, w) s (set_value test s w) none (set-none test s w)
 
-found-later : {X : Type 0} (b : Bool) (x : X) (rest : Option X) → cond b (Some x) rest ≡ None → rest ≡ None
+pub found-later : {X : Type 0} (b : Bool) (x : X) (rest : Option X) → cond b (Some x) rest ≡ None → rest ≡ None
 found-later true x rest e = cc
 found-later false x rest e = e
 
@@ -44,13 +44,13 @@ lesser Equal e = cc
 lesser Greater e = cc
 
 module _ {K : Type 0} (cmp : K → K → Ordering) (total : IsTotalOrder cmp) where
-  greater : (a b : K) → cmp a b ≡ Less → cmp b a ≡ Greater
+  pub greater : (a b : K) → cmp a b ≡ Less → cmp b a ≡ Greater
   greater a b e = total.antisymm b a ∙ ap ordering_reverse e
 
-  less : (a b : K) → cmp a b ≡ Greater → cmp b a ≡ Less
+  pub less : (a b : K) → cmp a b ≡ Greater → cmp b a ≡ Less
   less a b e = total.antisymm b a ∙ ap ordering_reverse e
 
-  all-less : (a b : K) (ks : List K) → cmp a b ≡ Less → AllByRecursion (λ y. cmp b y ≡ Less) ks → AllByRecursion (λ y. cmp a y ≡ Less) ks
+  pub all-less : (a b : K) (ks : List K) → cmp a b ≡ Less → AllByRecursion (λ y. cmp b y ≡ Less) ks → AllByRecursion (λ y. cmp a y ≡ Less) ks
   all-less a b [] e h = tt
   all-less a b (k ∷ ks) e h = (total.trans a b k e h.0, all-less a b ks e h.1)
 
@@ -63,7 +63,7 @@ module _ {K : Type 0} (cmp : K → K → Ordering) (total : IsTotalOrder cmp) wh
 
 module _ {K X : Type 0} (cmp : K → K → Ordering) (total : IsTotalOrder cmp) where
   -- an earlier key is less than the one that stands at i
-  earlier : (e : K × X) (s : List (K × X)) (key : K) (i : ℕ) → AllByRecursion (λ y. cmp e.0 y ≡ Less) (keys_of s) → StandsAt cmp s key i → cmp e.0 key ≡ Less
+  pub earlier : (e : K × X) (s : List (K × X)) (key : K) (i : ℕ) → AllByRecursion (λ y. cmp e.0 y ≡ Less) (keys_of s) → StandsAt cmp s key i → cmp e.0 key ≡ Less
   earlier e s key i h at = sym (alike_right total (get_or s i e).0 key e.0 (at.1 e)) ∙ all-at (λ y. cmp e.0 y ≡ Less) s h i e at.0
 
   -- the slot at which a key stands is what stands at the key

@@ -157,25 +157,25 @@ module _ {K X : Type 0} (cmp : K → K → Ordering) (shelf_of : K → ℕ) wher
         (subst (AllByRecursion (λ k. shelf_of k ≡ i)) (sym (keys-set_value (is_at (cmp key)) (get_or ss i []) w)) (shelf-keys 0 ss i i (omega arith) h))
 
     -- what a change of the key's shelf says of each key
-    at-key : (old new : List (List (K × X))) (key q : K) (w : X) (b : Bool) → is_eq (cmp key q) ≡ b → AreShelves cmp shelf_of 0 old → AreShelves cmp shelf_of 0 new
+    at-key : (old new : List (List (K × X))) (key q : K) (o : Option X) (b : Bool) → is_eq (cmp key q) ≡ b → AreShelves cmp shelf_of 0 old → AreShelves cmp shelf_of 0 new
         → ((i : ℕ) → (i ≡ shelf_of key → ⊥) → get_or new i [] ≡ get_or old i [])
-        → ((x : K) → lookup (is_at (cmp x)) (get_or new (shelf_of key) []) ≡ cond (is_eq (cmp key x)) (Some w) (lookup (is_at (cmp x)) (get_or old (shelf_of key) [])))
+        → ((x : K) → lookup (is_at (cmp x)) (get_or new (shelf_of key) []) ≡ cond (is_eq (cmp key x)) o (lookup (is_at (cmp x)) (get_or old (shelf_of key) [])))
         → (same : Bool) → eqb (shelf_of q) (shelf_of key) ≡ same
-        → lookup (is_at (cmp q)) (joined new) ≡ cond b (Some w) (lookup (is_at (cmp q)) (joined old))
-    at-key old new key q w b at before after rest here true same =
+        → lookup (is_at (cmp q)) (joined new) ≡ cond b o (lookup (is_at (cmp q)) (joined old))
+    at-key old new key q o b at before after rest here true same =
         let e : shelf_of q ≡ shelf_of key = eqb-true _ _ same in
         place-on_shelf new q after ∙ ap (λ i. lookup (is_at (cmp q)) (get_or new i [])) e ∙ here q
-        ∙ ap (λ t. cond (is_eq (cmp key q)) (Some w) t) (ap (λ i. lookup (is_at (cmp q)) (get_or old i [])) (sym e) ∙ sym (place-on_shelf old q before)) ∙ ap (λ c. cond c (Some w) (lookup (is_at (cmp q)) (joined old))) at
-    at-key old new key q w b at before after rest here false same =
+        ∙ ap (λ t. cond (is_eq (cmp key q)) o t) (ap (λ i. lookup (is_at (cmp q)) (get_or old i [])) (sym e) ∙ sym (place-on_shelf old q before)) ∙ ap (λ c. cond c o (lookup (is_at (cmp q)) (joined old))) at
+    at-key old new key q o b at before after rest here false same =
         let other : shelf_of key ≡ shelf_of q → ⊥ = λ e. eqb-false _ _ same (sym e) in
         let e : b ≡ false = sym at ∙ apart cmp shelf_of exact key q other in
         rw e (place-on_shelf new q after ∙ ap (lookup (is_at (cmp q))) (rest (shelf_of q) (λ s. other (sym s))) ∙ sym (place-on_shelf old q before))
 
-    pub sets-on_shelf : (old new : List (List (K × X))) (key : K) (w : X) → AreShelves cmp shelf_of 0 old → AreShelves cmp shelf_of 0 new
+    pub changes-on_shelf : (old new : List (List (K × X))) (key : K) (o : Option X) → AreShelves cmp shelf_of 0 old → AreShelves cmp shelf_of 0 new
         → ((i : ℕ) → (i ≡ shelf_of key → ⊥) → get_or new i [] ≡ get_or old i [])
-        → ((x : K) → lookup (is_at (cmp x)) (get_or new (shelf_of key) []) ≡ cond (is_eq (cmp key x)) (Some w) (lookup (is_at (cmp x)) (get_or old (shelf_of key) [])))
-        → (q : K) → lookup (is_at (cmp q)) (joined new) ≡ cond (is_eq (cmp key q)) (Some w) (lookup (is_at (cmp q)) (joined old))
-    sets-on_shelf old new key w before after rest here q = at-key old new key q w (is_eq (cmp key q)) refl before after rest here (eqb (shelf_of q) (shelf_of key)) refl
+        → ((x : K) → lookup (is_at (cmp x)) (get_or new (shelf_of key) []) ≡ cond (is_eq (cmp key x)) o (lookup (is_at (cmp x)) (get_or old (shelf_of key) [])))
+        → (q : K) → lookup (is_at (cmp q)) (joined new) ≡ cond (is_eq (cmp key q)) o (lookup (is_at (cmp q)) (joined old))
+    changes-on_shelf old new key o before after rest here q = at-key old new key q o (is_eq (cmp key q)) refl before after rest here (eqb (shelf_of q) (shelf_of key)) refl
 
     pub past-shelves : (ss : List (List (K × X))) (key : K) → AreShelves cmp shelf_of 0 ss → length ss ≤ shelf_of key → lookup (is_at (cmp key)) (joined ss) ≡ None
     past-shelves ss key h under = place-on_shelf ss key h ∙ ap (lookup (is_at (cmp key))) (get_or_past ss (shelf_of key) [] under)
@@ -225,7 +225,7 @@ module _ {K X : Type 0} {cmp : K → K → Ordering} (total : IsTotalOrder cmp) 
   pub put-places : {A E : Type 0} (r : Result A E) (ss : List (List (K × X))) (s new : List (K × X)) (key : K) (w : X) → AreShelves cmp shelf_of 0 ss → shelf_of key < length ss → ((d : List (K × X)) → s ≡ get_or ss (shelf_of key) d)
       → OnOk r (new ≡ put_at cmp s key w) → OnOk r ((q : K) → lookup (is_at (cmp q)) (joined (set ss (shelf_of key) new)) ≡ cond (is_eq (cmp key q)) (Some w) (lookup (is_at (cmp q)) (joined ss)))
   put-places (Ok x) ss s new key w h within there ok =
-      sets-on_shelf cmp shelf_of exact ss (set ss (shelf_of key) new) key w h (shelves-put ss s new key w h there ok)
+      changes-on_shelf cmp shelf_of exact ss (set ss (shelf_of key) new) key (Some w) h (shelves-put ss s new key w h there ok)
       (λ i other. get_or-set_other ss (shelf_of key) i new [] other)
       (λ q. rw (get_or-set_same ss (shelf_of key) new [] within, ok, ← there []) (lookup-put cmp total s key w q))
   put-places (Err e) ss s new key w h within there ok = ok

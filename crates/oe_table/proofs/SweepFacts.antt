@@ -1,11 +1,10 @@
 -- What a sweep leaves at each key.
-use Rattle.std.proofs.Common.{◌≡◌, refl, sym, ap, subst, Bool, true, false, cond, List, [], ◌∷◌, Option, Some, None}
+use Rattle.std.proofs.Common.{◌≡◌, refl, sym, ap, subst, Bool, true, false, cond, List, ◌∷◌, Option, Some, None}
 use Rattle.std.specs.Ordering.{is_eq}
 use Rattle.std.specs.declared.cmp.Ordering.{Ordering}
 use Rattle.std.specs.FinMap.{IsAntisymmetric}
 use Rattle.oe_table.specs.Table.{place, Judges, Sweeps}
 use Rattle.oe_table.proofs.TableFacts.{row_in, tied}
-use Rattle.oe_table.proofs.WalkFacts.{place-below}
 
 pub row_in-Sweeps : {R : Type 0} (Answers : Bool → Type 0) (old new : Option (Option R)) → Sweeps Answers old new → row_in new ≡ row_in old
 row_in-Sweeps Answers None new h = ap row_in h

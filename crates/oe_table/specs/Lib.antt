@@ -4,3 +4,4 @@ pub mod Shelf
 pub mod ShelfLends
 pub mod ShelvesLends
 pub mod ShelfSweep
+pub mod FrontVecLends

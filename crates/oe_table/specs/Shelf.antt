@@ -1,5 +1,5 @@
 -- A shelf is the list of its places in the keys' order, and shelves stand one after another.
-use Rattle.std.specs.Prelude.{◌≡◌, ℕ, suc, ◌<◌, ◌≤◌, ⊤, Bool, cond, List, [], ◌∷◌, ◌++◌, length, None, is_some, Result, Ok, Err, ◌+◌, ◌==◌, take, drop, slice_index_or}
+use Rattle.std.specs.Prelude.{◌≡◌, ℕ, suc, ◌<◌, ◌≤◌, ⊤, Bool, cond, List, [], ◌∷◌, ◌++◌, length, Option, Some, None, is_some, Result, Ok, Err, ◌+◌, ◌==◌, take, drop, slice_index_or}
 use Rattle.std.specs.List.{AllByRecursion, HoldsAt, insert}
 use Rattle.std.specs.List.Sorted.{IsStrictlySortedBy}
 use Rattle.std.specs.Map.{keys_of, lookup, set_value}
@@ -56,3 +56,9 @@ module _ {K X : Type 0} (cmp : K → K → Ordering) where
   AreShelves shelf_of n [] = ⊤
   AreShelves shelf_of n (s ∷ ss) =
       IsAscending s × AllByRecursion (λ k. shelf_of k ≡ n) (keys_of s) × AreShelves shelf_of (suc n) ss
+
+-- the shelf without the key's place, where that is blanked
+abbrev pub without_blanked : {K R : Type 0} → (K → K → Ordering) → List (K × Option R) → K → List (K × Option R)
+without_blanked cmp [] key = []
+without_blanked cmp ((k, None) ∷ s) key = cond (is_at (cmp key) k) s ((k, None) ∷ without_blanked cmp s key)
+without_blanked cmp ((k, Some row) ∷ s) key = (k, Some row) ∷ without_blanked cmp s key

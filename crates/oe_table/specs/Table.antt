@@ -28,6 +28,12 @@ Sweeps Answers None new = new ≡ None
 Sweeps Answers (Some None) new = (keeps : Bool) × Answers keeps × (new ≡ cond keeps (Some None) None)
 Sweeps Answers (Some (Some row)) new = new ≡ Some (Some row)
 
+-- what is left of a place where a blanked one is given up
+abbrev pub left_of : {R : Type 0} → Option (Option R) → Option (Option R)
+left_of None = None
+left_of (Some None) = None
+left_of (Some (Some row)) = Some (Some row)
+
 module _ {K R : Type 0} (cmp : K → K → Ordering) where
   -- what stands at a key: nothing, a blanked place, or a row
   abbrev pub place : List (K × Option R) → K → Option (Option R)
@@ -44,6 +50,10 @@ module _ {K R : Type 0} (cmp : K → K → Ordering) where
   -- the place at `key` is now `p`, and each other key's is as before
   abbrev pub SetsPlace : List (K × Option R) → List (K × Option R) → K → Option R → Type 0
   SetsPlace old new key p = (other : K) → place new other ≡ cond (is_at (cmp key) other) (Some p) (place old other)
+
+  -- a blanked key has no place any more; a row, and each other key's place, is as before
+  abbrev pub GivesUpPlace : List (K × Option R) → List (K × Option R) → K → Type 0
+  GivesUpPlace old new key = (other : K) → place new other ≡ cond (is_at (cmp key) other) (left_of (place old key)) (place old other)
 
   -- each place is what a sweep leaves of it, where `Answers key b` says that the test may answer b at a key
   abbrev pub SweepsPlaces : (K → Bool → Type 0) → List (K × Option R) → List (K × Option R) → Type 0

@@ -1,6 +1,7 @@
 //! Tables whose blanked keys keep their places, so that to put a row back never takes memory.
 #![tactic(auto)]
 
+mod front_vec;
 pub mod keys;
 pub mod shelf;
 pub mod shelf_walks;

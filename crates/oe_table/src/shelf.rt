@@ -4,14 +4,15 @@
 //! knows of some slots at its beginning that they are blanked, so that a walk over rows can pass them. Only `put` takes memory, for
 //! a key without a place; where that is refused the shelf is as before.
 ghost use Rattle.std.specs.Prelude.{◌≡◌, ◌+◌, ◌<◌, ◌≤◌, ◌↔◌, Some, None, List, Option, [], Err, IsTrue, OnOk, OnErr, length, take};
-ghost use Rattle.std.specs.List.{insert};
-ghost use Rattle.std.specs.Option.{option_copied, option_copied_mut};
+ghost use Rattle.std.specs.List.{insert, remove};
+ghost use Rattle.std.specs.Option.{option_copied, option_copied_mut, ForSome};
 ghost use Rattle.std.specs.Borrow.{sem};
 ghost use Rattle.std.specs.Fn.{FnReturnsAt};
 ghost use Rattle.oe_table.specs.Table.{place, live, Judges};
 ghost use Rattle.oe_table.specs.ShelfSweep.{SweepsShelf};
-ghost use Rattle.oe_table.specs.Shelf.{IsAscending, StandsAt, IsFound, put_at, lower, upper};
+ghost use Rattle.oe_table.specs.Shelf.{IsAscending, StandsAt, IsFound, put_at, lower, upper, without_blanked};
 
+use crate::front_vec::FrontVec;
 use crate::keys::ShelvedKey;
 use crate::tables::NoMemory;
 use std::alloc::Global;
@@ -52,7 +53,7 @@ impl<K, R> Slot<K, R> {
 /// The slots of a shelf, in their keys' order. That the keys ascend is kept by the table that has the shelf.
 #[derive(Drop)]
 pub struct Shelf<K, R> {
-    slots: Vec<Slot<K, R>>,
+    slots: FrontVec<Slot<K, R>>,
     // So many slots at the beginning have no row.
     blanked: usize,
 }
@@ -60,9 +61,9 @@ pub struct Shelf<K, R> {
 impl<K, R> Model for Shelf<K, R> {
     ghost Value = { List (K × Option R) };
 
-    ghost view = { λ s. s.slots.items };
+    ghost view = { λ s. s.slots };
 
-    ghost invariant = { λ s. live (take s.blanked s.slots.items) ≡ [] };
+    ghost invariant = { λ s. live (take s.blanked s.slots) ≡ [] };
 }
 
 impl<K, R> Shelf<K, R> {
@@ -71,7 +72,7 @@ impl<K, R> Shelf<K, R> {
         ensures { result ≡ [] }
     {
         Shelf {
-            slots: Vec::new(alloc),
+            slots: FrontVec::new(alloc),
             blanked: 0,
         }
     }
@@ -82,7 +83,7 @@ impl<K, R> Shelf<K, R> {
     pub fn slots(&self) -> &[Slot<K, R>]
         ensures { result.now ≡ self.now }
     {
-        &self.slots
+        self.slots.as_slice()
     }
 
     /// A number of slots at the beginning that have no row.
@@ -97,7 +98,7 @@ impl<K, R> Shelf<K, R> {
         ensures { live (take result self.now) ≡ [] }
     {
         let mut passed = self.blanked;
-        while let Some(slot) = self.slots.get(passed) {
+        while let Some(slot) = self.slots.as_slice().get(passed) {
             if slot.content.is_some() {
                 return passed;
             }
@@ -114,10 +115,18 @@ impl<K, R> Shelf<K, R> {
     }
 }
 
+// How many of the first slots are left where one slot is taken out.
+fn passed_without(passed: usize, at: usize) -> usize
+    ensures before { at < passed → result + 1 ≡ passed }
+    ensures after { passed ≤ at → result ≡ passed }
+{
+    if at < passed { passed - 1 } else { passed }
+}
+
 // Drops exactly those blanked slots whose key the test does not keep.
-fn sweep_slots<K: Drop, R: Drop, F: Fn(&K) -> bool>(slots: &mut Vec<Slot<K, R>>, keeps: &F)
+fn sweep_slots<K: Drop, R: Drop, F: Fn(&K) -> bool>(slots: &mut FrontVec<Slot<K, R>>, keeps: &F)
     requires { F.IsAlwaysCallable keeps.now }
-    ensures { SweepsShelf (FnReturnsAt F.Fn keeps.now) slots.old.items slots.new.items }
+    ensures { SweepsShelf (FnReturnsAt F.Fn keeps.now) slots.old slots.new }
 {
     slots.retain(
         |slot: &Slot<K, R>| -> bool
@@ -132,12 +141,47 @@ fn sweep_slots<K: Drop, R: Drop, F: Fn(&K) -> bool>(slots: &mut Vec<Slot<K, R>>,
     );
 }
 
+// Where a key stands, or would stand, among slots whose keys ascend.
+fn search<K: ShelvedKey, R>(slots: &[Slot<K, R>], key: &K) -> Result<usize, usize>
+    requires { IsAscending K.cmp slots.now }
+    ensures { IsFound K.cmp slots.now key.now result }
+{
+    slots.binary_search_by(
+        |slot: &Slot<K, R>| -> Ordering
+            ensures { result ≡ K.cmp slot.now.0 key.entry.now }
+        { slot.key.cmp(key) },
+    )
+}
+
+// Where a key stands, or would stand, if 1,024 slots from one on tell: it is among them, or between two of them.
+fn search_from<K: ShelvedKey, R>(
+    slots: &[Slot<K, R>],
+    from: usize,
+    key: &K,
+) -> Option<Result<usize, usize>>
+    requires ascending { IsAscending K.cmp slots.now }
+    requires within { from ≤ length slots.now }
+    ensures { ForSome result (IsFound K.cmp slots.now key.now) }
+{
+    let (_, rest) = slots.split_at(from);
+    let (window, _) = rest.split_at(rest.len().min(1_024));
+    match search(window, key) {
+        Ok(at) => Some(Ok(at + from)),
+        Err(at) => {
+            if at == 0 || at == window.len() {
+                return None;
+            }
+            Some(Err(at + from))
+        }
+    }
+}
+
 impl<K: ShelvedKey, R> Shelf<K, R> {
     ghost use Rattle.oe_table.specs.ShelfLends.{lends_slot};
 
     // Where the key may stand, by the numbers of the first key and of this one.
     fn hint(&self, key: &K) -> usize {
-        match self.slots.first() {
+        match self.slots().first() {
             Some(first) => key.place().wrapping_sub(first.key.place()),
             None => 0,
         }
@@ -147,7 +191,7 @@ impl<K: ShelvedKey, R> Shelf<K, R> {
     fn stands_at(&self, at: usize, key: &K) -> bool
         ensures { IsTrue result ↔ StandsAt K.cmp self.now key.now at }
     {
-        match self.slots.get(at) {
+        match self.slots().get(at) {
             Some(slot) => slot.key.cmp(key).is_eq(),
             None => false,
         }
@@ -163,9 +207,32 @@ impl<K: ShelvedKey, R> Shelf<K, R> {
             return Ok(hint);
         }
         if self.ends_before(key) {
-            return Err(self.slots.len());
+            return Err(self.slots().len());
         }
-        self.search(key)
+        match self.find_near(key) {
+            Some(found) => found,
+            None => search(self.slots(), key),
+        }
+    }
+
+    // About where the key may stand, if keys lie between the first and the last one as evenly as their numbers.
+    fn guess(&self, key: &K) -> Option<usize> {
+        let first = self.slots().first()?.key.place();
+        let last = self.slots().last()?.key.place();
+        let ahead = key.place().wrapping_sub(first);
+        let span = last.wrapping_sub(first);
+        ahead.checked_mul(self.slots().len())?.checked_div(span)
+    }
+
+    // Where a key stands, or would stand, if the slots about the place that is guessed tell.
+    #[inline(never)]
+    fn find_near(&self, key: &K) -> Option<Result<usize, usize>>
+        requires { IsAscending K.cmp self.now }
+        ensures { ForSome result (IsFound K.cmp self.now key.now) }
+    {
+        let guess = self.guess(key)?;
+        let from = guess.saturating_sub(512).min(self.slots().len());
+        search_from(self.slots(), from, key)
     }
 
     // Whether the last key is less than this one.
@@ -173,21 +240,10 @@ impl<K: ShelvedKey, R> Shelf<K, R> {
         requires { IsAscending K.cmp self.now }
         ensures { IsTrue result → IsFound K.cmp self.now key.now (Err (length self.now)) }
     {
-        match self.slots.last() {
+        match self.slots().last() {
             Some(last) => last.key.cmp(key).is_lt(),
             None => true,
         }
-    }
-
-    fn search(&self, key: &K) -> Result<usize, usize>
-        requires { IsAscending K.cmp self.now }
-        ensures { IsFound K.cmp self.now key.now result }
-    {
-        self.slots.binary_search_by(
-            |slot: &Slot<K, R>| -> Ordering
-                ensures { result ≡ K.cmp slot.now.0 key.entry.now }
-            { slot.key.cmp(key) },
-        )
     }
 
     // Where a key stands, or past the last slot.
@@ -198,7 +254,7 @@ impl<K: ShelvedKey, R> Shelf<K, R> {
     {
         match self.find(key) {
             Ok(at) => at,
-            Err(_) => self.slots.len(),
+            Err(_) => self.slots().len(),
         }
     }
 
@@ -218,7 +274,7 @@ impl<K: ShelvedKey, R> Shelf<K, R> {
         requires { IsAscending K.cmp self.now }
         ensures { result ≡ upper K.cmp self.now key.now }
     {
-        let _known = self.slots.len();
+        let _known = self.slots().len();
         match self.find(key) {
             Ok(at) => at + 1,
             Err(at) => at,
@@ -231,7 +287,7 @@ impl<K: ShelvedKey, R> Shelf<K, R> {
         ensures { option_copied result ≡ place K.cmp self.now key.now }
     {
         let at = self.position(key);
-        let slot = self.slots.get(at)?;
+        let slot = self.slots().get(at)?;
         Some(&slot.content)
     }
 
@@ -242,8 +298,11 @@ impl<K: ShelvedKey, R> Shelf<K, R> {
         ensures value { option_copied_mut result ≡ place K.cmp self.old key.now }
     {
         let at = self.position(key);
+        if self.slots().len() <= at {
+            return None;
+        }
         self.blanked = at.min(self.blanked);
-        Some(self.slots.get_mut(at)?.content_mut())
+        Some(self.slots.item_mut(at).content_mut())
     }
 
     /// Puts a row at a key, into its place or a new one.
@@ -259,7 +318,7 @@ impl<K: ShelvedKey, R> Shelf<K, R> {
         match self.find(&key) {
             Ok(at) => {
                 self.blanked = self.blanked.min(at);
-                *self.slots[at].content_mut() = Some(row);
+                *self.slots.item_mut(at).content_mut() = Some(row);
                 Ok(())
             }
             Err(at) => self.put_new(at, key, row),
@@ -279,11 +338,42 @@ impl<K: ShelvedKey, R> Shelf<K, R> {
             key,
             content: Some(row),
         };
-        if let Err(_refused) = self.slots.insert(at, slot) {
-            return Err(NoMemory);
+        if let Err(refusal) = self.slots.insert(at, slot) {
+            return Err(refusal);
         }
         self.blanked = self.blanked.min(at);
         Ok(())
+    }
+
+    /// Gives up the place of a blanked key. Where the key has a row, or no place, nothing changes.
+    pub(crate) fn give_up(&mut self, key: &K)
+    where
+        K: Drop,
+        R: Drop,
+        requires { IsAscending K.cmp self.old }
+        ensures { self.new ≡ without_blanked K.cmp self.old key.now }
+    {
+        let at = self.position(key);
+        let Some(slot) = self.slots().get(at) else {
+            return;
+        };
+        let has_row = slot.content.is_some();
+        if has_row {
+            return;
+        }
+        self.remove(at);
+    }
+
+    // Takes a slot out.
+    fn remove(&mut self, at: usize)
+    where
+        K: Drop,
+        R: Drop,
+        requires { at < length self.old }
+        ensures { self.new ≡ remove self.old at }
+    {
+        self.blanked = passed_without(self.blanked, at);
+        self.slots.remove(at);
     }
 
     /// Gives up the places of exactly those blanked keys that the test does not keep.

@@ -14,7 +14,7 @@ ghost use Rattle.std.specs.Option.{option_copied, option_copied_mut};
 ghost use Rattle.std.specs.Borrow.{sem};
 ghost use Rattle.std.specs.FinMap as map;
 ghost use Rattle.std.specs.Fn.{FnReturnsAt};
-ghost use Rattle.oe_table.specs.Table.{place, live, rows_of, IsBlanked, SetsPlace, SweepsPlaces};
+ghost use Rattle.oe_table.specs.Table.{place, live, rows_of, IsBlanked, SetsPlace, GivesUpPlace, SweepsPlaces};
 ghost use Rattle.oe_table.specs.ShelfSweep.{SweepsShelves};
 ghost use Rattle.oe_table.specs.Shelf.{joined, AreShelves, lower, upper, cut_between};
 
@@ -25,7 +25,7 @@ use crate::tables::NoMemory;
 use std::alloc::Global;
 use std::marker::Model;
 
-/// A map from keys to rows, in which a key whose row was taken keeps its place, blanked, until a sweep.
+/// A map from keys to rows, in which a key whose row was taken keeps its place, blanked, until that is given up.
 ///
 /// Only `put_new` may take memory, and only for a key without a place: so each change of a row, and
 /// what undoes it, can be done without memory. Contracts see a table as the list of its places, and its
@@ -343,6 +343,21 @@ impl<K: ShelvedKey, R> Shelves<K, R> {
         *slot = Some(row);
     }
 
+    /// Gives up the place of a blanked key. Where the key has a row, or no place, nothing changes.
+    pub fn give_up(&mut self, key: &K)
+    where
+        K: Drop,
+        R: Drop,
+        ensures places { GivesUpPlace K.cmp self.old self.new key.now }
+        ensures rows { rows_of K.cmp self.new ≡ rows_of K.cmp self.old }
+    {
+        let number = key.shelf();
+        let Some(shelf) = self.shelves.get_mut(number) else {
+            return;
+        };
+        shelf.give_up(key);
+    }
+
     /// Gives up the places of exactly those blanked keys that the test does not keep.
     ///
     /// The rows are as before, and so is each blanked place that the test keeps.
@@ -374,7 +389,8 @@ impl<K: ShelvedKey, R> Shelves<K, R> {
         K: Drop,
         requires { IsLeBy K.cmp from to }
         ensures { result
-            ≡ entries_between K.cmp (Included from) (Excluded to) (entries (rows_of K.cmp self.now)) }
+            ≡ entries_between K.cmp (Included from) (Excluded to)
+            (entries (rows_of K.cmp self.now)) }
     {
         let slots = self.slots_before(&from, &to);
         Rows { slots }
@@ -386,7 +402,8 @@ impl<K: ShelvedKey, R> Shelves<K, R> {
         K: Drop,
         requires { IsLeBy K.cmp from to }
         ensures { result
-            ≡ entries_between K.cmp (Included from) (Included to) (entries (rows_of K.cmp self.now)) }
+            ≡ entries_between K.cmp (Included from) (Included to)
+            (entries (rows_of K.cmp self.now)) }
     {
         let start = cut_before(&self.shelves, &from);
         let end = cut_after(&self.shelves, &to);

@@ -5,4 +5,4 @@ use Rattle.oe_table.proofs.shelf.sweep_slots.Goals as goal
 
 pub returns : goal.returns
 returns g c =
-    filtered (FnReturnsAt g.F.Fn c.args.keeps.now) _ _ (λ e b q called. search rules) _ _ c.retain.ensures.filtered
+    filtered (FnReturnsAt g.F.Fn c.args.keeps.now) _ _ (λ e b q called. search rules) _ _ c.retain.ensures

@@ -5,5 +5,5 @@ use Rattle.oe_table.proofs.shelf.Shelf.ends_before.Goals as goal
 pub returns-in-Some : goal.returns-in-Some
 returns-in-Some g c =
     let e : g.row.K.Denot × Option g.row.R.Denot = (c.last-in-Some.inside.key, c.last-in-Some.inside.content) in
-    rw (← c.self.view_is, ← c.deref.ensures.value, c.is_lt.ensures, c.cmp.ensures)
-    (ends-answer g.K.Ord.cmp g.met.K.Ord.total c.deref.result.now e c.args.key.now (rw (c.deref.ensures.value, c.self.view_is) c.requires) (λ d. c.last-in-Some.view_is ∙ c.in-Some.ensures.item.3.1 d))
+    rw (← c.slots.ensures, c.is_lt.ensures, c.cmp.ensures)
+    (ends-answer g.K.Ord.cmp g.met.K.Ord.total c.slots.result.now e c.args.key.now (rw c.slots.ensures c.requires) (λ d. c.last-in-Some.view_is ∙ c.in-Some.ensures.item.3.1 d))

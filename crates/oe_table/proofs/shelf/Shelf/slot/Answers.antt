@@ -5,6 +5,6 @@ use Rattle.oe_table.proofs.shelf.Shelf.slot.Goals as goal
 pub returns : goal.returns
 returns g c =
     let e : g.row.K.Denot × Option g.row.R.Denot = (c.slot.inside.key, c.slot.inside.content) in
-    let all = c.deref.ensures.value ∙ c.self.view_is in
-    rw (← all) (slot-answer g.K.Ord.cmp g.met.K.Ord.total c.deref.result.now e c.args.key.now c.position-at.result (rw all c.requires)
+    let all = c.slots.ensures in
+    rw (← all) (slot-answer g.K.Ord.cmp g.met.K.Ord.total c.slots.result.now e c.args.key.now c.position-at.result (rw all c.requires)
     (rw all (c.position-at.ensures.stands (rw (← all) c.in_ok-slot.ensures.lookup.3.0))) (λ d. c.slot.view_is ∙ c.in_ok-slot.ensures.lookup.3.1 d))
