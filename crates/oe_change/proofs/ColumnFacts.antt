@@ -21,7 +21,7 @@ use Rattle.oe_model.specs.Keys.{supply_of_line}
 use Rattle.oe_model.specs.Rows.{as_warehouse, as_district, as_customer, as_order, as_order_line, as_stock}
 use Rattle.oe_model.specs.Meets.{Meets}
 use Rattle.oe_model.specs.Changes.{changed, UpdateWarehouse, UpdateDistrict, UpdateCustomer, UpdateOrder, UpdateOrderLine, UpdateStock, UpdatedWarehouse, UpdatedDistrict, UpdatedCustomer, UpdatedOrder, UpdatedOrderLine, UpdatedStock}
-use Rattle.oe_store.specs.Stored.{Stored, rows, SamePlaces}
+use Rattle.oe_store.specs.Places.{Places, rows, SamePlaces}
 use Rattle.oe_store.proofs.PlaceFacts.{place_of_row}
 use Rattle.oe_change.specs.Applies.{Applies}
 use Rattle.oe_change.proofs.PlaceFacts.{adds_own}
@@ -30,7 +30,7 @@ use Rattle.oe_change.proofs.PlaceFacts.{adds_own}
 pub by_row : {A B : Type 0} (f : A → B) (P : B → Type 0) (o : Option A) (x : A) → o ≡ Some x → P (f x) → IsSomeAnd (option_map f o) P
 by_row f P o x e h = subst (λ v. IsSomeAnd (option_map f v) P) (sym e) h
 
-module _ (old new : Stored) where
+module _ (old new : Places) where
   pub warehouse_applies : (k : WarehouseKey) (x y : Warehouse) → get (rows old).warehouses k ≡ Some y
       → rows new ≡ changed (UpdateWarehouse k x) (rows old) → SamePlaces old new → Applies (UpdateWarehouse k x) old new (UpdatedWarehouse k (Some y))
   warehouse_applies k x y was changes places = record {

@@ -10,7 +10,7 @@ use Rattle.oe_model.specs.Meets.{Meets}
 use Rattle.oe_model.proofs.RowFacts.{key_true, key_refl, at_changed, at_put_back, record_key_of, before, same_rows, undone}
 use Rattle.oe_model.proofs.PresenceFacts.{mapped_absent}
 use Rattle.oe_model.proofs.ChangeFacts.{accepted_meets}
-use Rattle.oe_store.specs.Stored.{Stored, rows, HasPlace}
+use Rattle.oe_store.specs.Places.{Places, rows, HasPlace}
 use Rattle.oe_change.specs.Applies.{Applies}
 use Rattle.oe_change.specs.PutBack.{Stands, CanPutBack}
 
@@ -43,7 +43,7 @@ stands (UpdateStock k x) v r e = ap is_some e
 stands (DeleteNewOrder k) v r e = mapped_absent row.NewOrder _ e
 
 -- while the change's key is as it left it, the change can be undone
-pub can_later : (c : Change) (v : Option Row) (s : Stored) → row_at (rows s) (key_of c) ≡ row_of c → HasPlace s (key_of c) → Meets (put_back (record_of c v) (rows s)) → CanPutBack s (record_of c v)
+pub can_later : (c : Change) (v : Option Row) (s : Places) → row_at (rows s) (key_of c) ≡ row_of c → HasPlace s (key_of c) → Meets (put_back (record_of c v) (rows s)) → CanPutBack s (record_of c v)
 can_later c v s left place schema = record {
   stands = stands c v (rows s) left;
   place = subst (λ (k : Key). HasPlace s k) (sym (record_key_of c v)) place;
@@ -54,7 +54,7 @@ left_at : (c : Change) (r : Rows) → row_at (changed c r) (key_of c) ≡ row_of
 left_at c r = at_changed c r (key_of c) ∙ ap (λ b. cond b (row_of c) (row_at r (key_of c))) (key_refl (key_of c))
 
 -- so it can at once
-pub can_at_once : (c : Change) (old new : Stored) (b : Record) → Meets (rows old) → Applies c old new b → CanPutBack new b
+pub can_at_once : (c : Change) (old new : Places) (b : Record) → Meets (rows old) → Applies c old new b → CanPutBack new b
 can_at_once c old new b schema a =
     subst (λ (d : Record). CanPutBack new d) (sym a.before)
     (can_later c (row_at (rows old) (key_of c)) new
@@ -63,11 +63,11 @@ can_at_once c old new b schema a =
     (subst Meets (sym (ap (put_back (record_of c (row_at (rows old) (key_of c)))) a.changes ∙ undone c (rows old))) schema))
 
 -- after a change the schema holds
-pub made_meets : (c : Change) (old new : Stored) (b : Record) → Meets (rows old) → Applies c old new b → Meets (rows new)
+pub made_meets : (c : Change) (old new : Places) (b : Record) → Meets (rows old) → Applies c old new b → Meets (rows new)
 made_meets c old new b schema a = subst Meets (sym a.changes) (accepted_meets c (rows old) a.accepted schema)
 
 -- a change that can be undone still can where the rows are the same and each place is kept
-pub still_can : (s t : Stored) (b : Record) → CanPutBack s b → rows t ≡ rows s → ((k : Key) → HasPlace s k → HasPlace t k) → CanPutBack t b
+pub still_can : (s t : Places) (b : Record) → CanPutBack s b → rows t ≡ rows s → ((k : Key) → HasPlace s k → HasPlace t k) → CanPutBack t b
 still_can s t b can same kept = record {
   stands = subst (Stands b) (sym same) can.stands;
   place = kept (record_key b) can.place;
@@ -75,5 +75,5 @@ still_can s t b can same kept = record {
 }
 
 -- the undo of a change brings the rows before it back
-pub gone_back : (c : Change) (old new : Stored) (b : Record) → Applies c old new b → put_back b (rows new) ≡ rows old
+pub gone_back : (c : Change) (old new : Places) (b : Record) → Applies c old new b → put_back b (rows new) ≡ rows old
 gone_back c old new b a = subst (λ (d : Record). put_back d (rows new) ≡ rows old) (sym a.before) (ap (put_back (record_of c (row_at (rows old) (key_of c)))) a.changes ∙ undone c (rows old))

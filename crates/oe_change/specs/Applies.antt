@@ -8,10 +8,10 @@ use Rattle.oe_model.specs.Changes.{Change, key_of, changed, Record, record_of}
 use Rattle.oe_model.specs.Meets.{Accepts, Cause, is_insert, referred}
 use Rattle.oe_records.specs.declared.befores.Before.{Before}
 use Rattle.oe_records.specs.Befores.{record_of_before}
-use Rattle.oe_store.specs.Stored.{Stored, rows, HasPlace, AddsPlace}
+use Rattle.oe_store.specs.Places.{Places, rows, HasPlace, AddsPlace}
 
 -- the tables accept the change, and it is made; `b` is its undo record
-pub record Applies (c : Change) (old new : Stored) (b : Record) : Type 0 where
+pub record Applies (c : Change) (old new : Places) (b : Record) : Type 0 where
   pub accepted : Accepts c (rows old)
   pub changes : rows new ≡ changed c (rows old)
   pub before : b ≡ record_of c (row_at (rows old) (key_of c))
@@ -19,11 +19,11 @@ pub record Applies (c : Change) (old new : Stored) (b : Record) : Type 0 where
   pub places : AddsPlace old new (key_of c)
 
 -- so it is, with a record as it is kept
-abbrev pub HasApplied : Change → Stored → Stored → Before → Type 0
+abbrev pub HasApplied : Change → Places → Places → Before → Type 0
 HasApplied c old new b = Applies c old new (record_of_before b)
 
 -- why a change is refused: the cause is there, or, for an insert that the tables accept, its key has no place and takes memory
-abbrev pub Refuses : Change → Stored → Refusal → Type 0
+abbrev pub Refuses : Change → Places → Refusal → Type 0
 Refuses c s NoMemory = (is_insert c ≡ true) × Accepts c (rows s) × (HasPlace s (key_of c) → ⊥)
 Refuses c s e = Cause c (rows s) e
 

@@ -5,7 +5,7 @@ use Rattle.oe_rows.specs.declared.rows.Row.{Row}
 use Rattle.oe_model.specs.Rows.{Rows, is_key, row_at}
 use Rattle.oe_model.specs.Changes.{Change, key_of, row_of, changed, Record, record_of, put_back}
 use Rattle.oe_model.specs.Meets.{Meets}
-use Rattle.oe_store.specs.Stored.{Stored, rows, HasPlace}
+use Rattle.oe_store.specs.Places.{Places, rows, HasPlace}
 use Rattle.oe_change.specs.Applies.{Applies}
 use Rattle.oe_change.specs.PutBack.{CanPutBack}
 
@@ -24,8 +24,8 @@ pub record Apply_then_undo_is_identity : Type 0 where
 
 -- a change that was made can be undone, at once and while its key is as the change left it
 pub record What_was_applied_can_be_undone : Type 0 where
-  pub at_once : (c : Change) (old new : Stored) (b : Record)
+  pub at_once : (c : Change) (old new : Places) (b : Record)
       → Meets (rows old) → Applies c old new b → CanPutBack new b
-  pub later : (c : Change) (before : Option Row) (s : Stored)
+  pub later : (c : Change) (before : Option Row) (s : Places)
       → row_at (rows s) (key_of c) ≡ row_of c → HasPlace s (key_of c)
       → Meets (put_back (record_of c before) (rows s)) → CanPutBack s (record_of c before)

@@ -2,7 +2,7 @@
 ghost use Rattle.std.specs.Prelude.{◌≡◌, IfOk, IfErr, OnErr};
 ghost use Rattle.oe_model.specs.Meets.{Accepts};
 ghost use Rattle.oe_records.specs.Changes.{change_of};
-ghost use Rattle.oe_store.specs.Stored.{rows};
+ghost use Rattle.oe_store.specs.Places.{rows};
 ghost use Rattle.oe_change.specs.Applies.{HasApplied, Refuses, IsFirst};
 
 use crate::inserts::{insert_history, insert_new_order, insert_order, insert_order_line};

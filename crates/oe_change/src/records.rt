@@ -2,7 +2,7 @@
 ghost use Rattle.std.specs.Prelude.{◌≡◌};
 ghost use Rattle.oe_model.specs.Changes.{put_back};
 ghost use Rattle.oe_records.specs.Befores.{record_of_before};
-ghost use Rattle.oe_store.specs.Stored.{rows, SamePlaces};
+ghost use Rattle.oe_store.specs.Places.{rows, SamePlaces};
 ghost use Rattle.oe_change.specs.PutBack.{CanPutBack};
 
 use oe_records::Before;

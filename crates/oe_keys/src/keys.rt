@@ -3,14 +3,13 @@
 //! A key has the columns of its table's primary key, in their order, each in its range by its type; its order is theirs from the
 //! left. Nothing can fail, and nothing takes memory.
 ghost use Rattle.std.specs.Prelude.{◌≡◌};
-ghost use Rattle.oe_keys.specs.Key.{table_of, table_name, district_cmp, customer_cmp, IsDistrictKey, IsCustomerKey};
+ghost use Rattle.oe_keys.specs.Key.{table_of, table_name, IsDistrictKey, IsCustomerKey};
 
 use crate::texts::write_key;
 use oe_values::numbers::{
     CustomerNumber, DistrictNumber, HistoryOrdinal, HistoryTerminal, ItemNumber, LineNumber,
     OrderNumber, TransactionNumber, WarehouseNumber,
 };
-use std::cmp::Ordering;
 use std::fmt;
 
 /// The key of a WAREHOUSE row: W_ID.
@@ -285,26 +284,6 @@ impl StockKey {
         WarehouseKey {
             warehouse: self.warehouse,
         }
-    }
-}
-
-impl DistrictKey {
-    /// The order of the keys, by their columns from the left.
-    #[inline]
-    pub fn compare(self, other: DistrictKey) -> Ordering
-        ensures { result ≡ district_cmp self other }
-    {
-        self.cmp(&other)
-    }
-}
-
-impl CustomerKey {
-    /// The order of the keys, by their columns from the left.
-    #[inline]
-    pub fn compare(self, other: CustomerKey) -> Ordering
-        ensures { result ≡ customer_cmp self other }
-    {
-        self.cmp(&other)
     }
 }
 

@@ -1,1 +1,2 @@
 pub mod PastFacts
+pub mod GivesUpFacts

@@ -5,7 +5,7 @@ use Rattle.oe_model.specs.Rows.{Rows}
 use Rattle.oe_model.specs.Changes.{Record, record_key, put_back}
 use Rattle.oe_model.specs.Meets.{Meets}
 use Rattle.oe_model.specs.System.{system}
-use Rattle.oe_store.specs.Stored.{Stored, HasPlace}
+use Rattle.oe_store.specs.Places.{Places, HasPlace}
 use Rattle.oe_change.specs.PutBack.{Stands}
 
 -- each finds the row that its change left, and the schema holds after each
@@ -19,11 +19,11 @@ CanUnwindAll [] r = Unit {0}
 CanUnwindAll (bs ∷ ss) r = CanUnwind bs r × CanUnwindAll ss (unwind system bs r)
 
 -- each record's key has a place, so that to put its row back takes no memory
-abbrev pub HavePlaces : Stored → List Record → Type 0
+abbrev pub HavePlaces : Places → List Record → Type 0
 HavePlaces ts [] = Unit {0}
 HavePlaces ts (b ∷ bs) = HasPlace ts (record_key b) × HavePlaces ts bs
 
 -- the same of the records of commits
-abbrev pub AllHavePlaces : Stored → List (List Record) → Type 0
+abbrev pub AllHavePlaces : Places → List (List Record) → Type 0
 AllHavePlaces ts [] = Unit {0}
 AllHavePlaces ts (bs ∷ ss) = HavePlaces ts bs × AllHavePlaces ts ss

@@ -5,9 +5,9 @@ use Rattle.oe_requests.specs.declared.refusals.Refusal.TheVariants.{TooOld, Futu
 use Rattle.oe_theory.specs.Store.{Slot, Store, newest_of, horizon_of}
 use Rattle.oe_model.specs.Rows.{Rows}
 use Rattle.oe_model.specs.System.{system}
-use Rattle.oe_store.specs.Stored.{no_rows}
+use Rattle.oe_store.specs.Places.{no_rows}
 use Rattle.oe_undo.specs.Stands.{undo_of, seals_of, counts_of}
-use Rattle.oe_undo.specs.Undo.{Stored, open_total}
+use Rattle.oe_undo.specs.Undo.{UndoLog, open_total}
 
 -- a moment from the horizon to the newest
 pub record IsBetween (low high m : ℕ) : Type 0 where
@@ -21,21 +21,21 @@ IsOutside low high m (Future n) = (n ≡ high) × (n < m)
 IsOutside low high m e = ⊥
 
 -- rows and a log as a store of the theory of transactions, beside the slots of open transactions
-abbrev pub store_with : Rows → Stored → (ℕ → Option (Slot system)) → Store system
+abbrev pub store_with : Rows → UndoLog → (ℕ → Option (Slot system)) → Store system
 store_with r u slots = record { tables = r; undo = undo_of u; slots = slots; seals = seals_of u; counts = counts_of u; extents = u.extents }
 
 -- the log tells the moments alone
-abbrev pub newest : Stored → ℕ
+abbrev pub newest : UndoLog → ℕ
 newest u = newest_of system (store_with no_rows u (λ t. None))
 
-abbrev pub horizon : Stored → ℕ
+abbrev pub horizon : UndoLog → ℕ
 horizon u = horizon_of system (store_with no_rows u (λ t. None))
 
 -- a moment of which the later commits are kept
-abbrev pub IsKeptMoment : Stored → ℕ → Type 0
+abbrev pub IsKeptMoment : UndoLog → ℕ → Type 0
 IsKeptMoment u m = IsBetween (horizon u) (newest u) m
 
 -- why a rewind is refused; the first in this order is named: transactions are open, so many, or the moment is outside
-abbrev pub CantRewind : Stored → ℕ → Refusal → Type 0
+abbrev pub CantRewind : UndoLog → ℕ → Refusal → Type 0
 CantRewind u m (NotQuiet n) = (n ≡ open_total u) × (0 < n)
 CantRewind u m e = (open_total u ≡ 0) × IsOutside (horizon u) (newest u) m e

@@ -3,7 +3,7 @@ ghost use Rattle.std.specs.Prelude.{◌≡◌, ◌-◌, ◌≤◌, ℕ, Option, 
 ghost use Rattle.oe_theory.specs.Undo.{unwind, unwind_commits};
 ghost use Rattle.oe_theory.specs.Store.{Slot, rewound_to};
 ghost use Rattle.oe_model.specs.System.{system};
-ghost use Rattle.oe_store.specs.Stored.{rows, SamePlaces};
+ghost use Rattle.oe_store.specs.Places.{rows, SamePlaces};
 ghost use Rattle.oe_undo.specs.Stands.{model_records, undo_of};
 ghost use Rattle.oe_undo.specs.Undo.{active_at, open_total, without_newest};
 ghost use Rattle.oe_past.specs.GoesBack.{CanUnwind, CanUnwindAll, HavePlaces, AllHavePlaces};

@@ -2,7 +2,7 @@
 ghost use Rattle.std.specs.Prelude.{◌≡◌, IfOk};
 ghost use Rattle.oe_model.specs.Changes.{key_of};
 
-use crate::boxed::Boxed;
+use crate::boxes::Boxed;
 use oe_keys::keys::{
     CustomerKey, DistrictKey, HistoryKey, Key, NewOrderKey, OrderKey, OrderLineKey, StockKey,
     WarehouseKey,

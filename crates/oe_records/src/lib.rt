@@ -3,12 +3,12 @@
 #![tactic(auto)]
 
 pub mod befores;
-pub mod boxed;
+pub mod boxes;
 pub mod changes;
 pub mod laws;
 pub mod writes;
 
 pub use befores::Before;
-pub use boxed::Boxed;
+pub use boxes::Boxed;
 pub use changes::Change;
 pub use writes::Write;

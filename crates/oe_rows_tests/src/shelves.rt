@@ -81,3 +81,100 @@ fn places_on_shelves_are_kept_until_swept(rt: HostRuntime) {
     };
     assert!(rt; seventh(&mut table) == Some((146_253, 106_253, 16_253, 8)));
 }
+
+/// A table with the orders 1 to 100 of district 1, of which 1 to 60, 81 and 100 were blanked; each row is its number.
+fn much_blanked(alloc: Global) -> Option<Shelves<OrderKey, u32>> {
+    let mut table = Shelves::new(alloc);
+    for number in 1..101u32 {
+        let key = order(1, number)?;
+        if table.get(&key).is_some() || table.put_new(key, number).is_err() {
+            return None;
+        }
+    }
+    for number in 1..101u32 {
+        let key = order(1, number)?;
+        let blanks = number < 61 || number == 81 || number == 100;
+        if blanks && table.get(&key).is_some() {
+            let _row = table.blank(&key);
+        }
+    }
+    Some(table)
+}
+
+/// How many places there are, how many of them have a row, and the sum of the rows.
+fn census(table: &Shelves<OrderKey, u32>) -> Option<(u32, u32, u32)> {
+    let first = order(1, 1)?;
+    let last = order(1, 10_000_000)?;
+    if first > last {
+        return None;
+    }
+    let mut places = 0u32;
+    let mut rows = 0u32;
+    let mut sum = 0u32;
+    for (_key, row) in table.candidates_inclusive(first, last) {
+        places = places.saturating_add(1);
+        if let Some(number) = row {
+            rows = rows.saturating_add(1);
+            sum = sum.saturating_add(*number);
+        }
+    }
+    Some((places, rows, sum))
+}
+
+/// The census after the places from one order to another were given up, where they may be.
+fn given_up(table: &mut Shelves<OrderKey, u32>, from: u32, to: u32) -> Option<(u32, u32, u32)> {
+    for number in from..to.saturating_add(1) {
+        let key = order(1, number)?;
+        table.give_up(&key);
+    }
+    census(table)
+}
+
+/// Whether each order from 61 to 99 but 81 is found, with its own row.
+fn all_found(table: &Shelves<OrderKey, u32>) -> Option<bool> {
+    for number in 61..100u32 {
+        let key = order(1, number)?;
+        if number != 81 && table.get(&key) != Some(&number) {
+            return Some(false);
+        }
+    }
+    Some(true)
+}
+
+/// The census after two orders, whose places were given up, were put on the table again.
+fn put_again(table: &mut Shelves<OrderKey, u32>) -> Option<(u32, u32, u32)> {
+    for number in [30, 100u32] {
+        let key = order(1, number)?;
+        if table.get(&key).is_some() || table.put_new(key, number).is_err() {
+            return None;
+        }
+    }
+    census(table)
+}
+
+#[test]
+fn blanked_keys_give_up_their_places_one_by_one(rt: HostRuntime) {
+    let Some(mut table) = much_blanked(rt.alloc()) else {
+        panic!(rt; "no memory")
+    };
+    let cases = [
+        // Order 200 has no place, and order 61 has a row.
+        (200, 200, 100),
+        (61, 61, 100),
+        // The first place, one among blanked ones, one between rows, and the last.
+        (1, 1, 99),
+        (31, 31, 98),
+        (81, 81, 97),
+        (100, 100, 96),
+        // The rest at the front, which are more than half of all; and all once more.
+        (2, 60, 38),
+        (1, 100, 38u32),
+    ];
+    for (from, to, places) in cases {
+        let left = given_up(&mut table, from, to);
+        assert!(rt; left == Some((places, 38, 3039)));
+        assert!(rt; all_found(&table) == Some(true));
+    }
+    assert!(rt; put_again(&mut table) == Some((40, 40, 3169)));
+    assert!(rt; all_found(&table) == Some(true));
+}

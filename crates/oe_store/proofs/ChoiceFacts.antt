@@ -20,7 +20,7 @@ use Rattle.oe_model.specs.Keys.{district_of_customer}
 use Rattle.oe_model.specs.Choice.{named, namesakes, comes_before, middle}
 use Rattle.oe_model.proofs.MapFacts.{is_same}
 use Rattle.oe_model.proofs.EntryFacts.{EachOf, each_of, kept_at}
-use Rattle.oe_store.specs.Stored.{entries_of, IsSound, rows, Stored}
+use Rattle.oe_store.specs.Places.{entries_of, IsSound, rows, Places}
 use Rattle.oe_store.proofs.GroupFacts.{kept_alike}
 use Rattle.oe_store.proofs.SoundFacts.{customer_numbered}
 
@@ -125,10 +125,10 @@ module _ (h : DistrictKey) (last : List ℕ) (m : FinMap customer_cmp Customer) 
   middle_starts = sym (ap (λ qs. option_map (λ x. x.1) (find (λ x. count_by (λ y. comes_before y x) (namesakes h last m) + 1 == (length (namesakes h last m) + 1) / 2) qs)) all_taken)
 
 -- of sound tables
-pub few_named : (h : DistrictKey) (last : List ℕ) (s : Stored) → IsSound (rows s) → length (namesakes h last (rows s).customers) ≤ 3_000
+pub few_named : (h : DistrictKey) (last : List ℕ) (s : Places) → IsSound (rows s) → length (namesakes h last (rows s).customers) ≤ 3_000
 few_named h last s sound = few h last (rows s).customers (λ k there. customer_numbered (rows s) k sound there)
 
-pub few_before : (h : DistrictKey) (last : List ℕ) (s : Stored) (p : List ℕ × ℕ → Bool) → IsSound (rows s) → count_by p (namesakes h last (rows s).customers) ≤ 3_000
+pub few_before : (h : DistrictKey) (last : List ℕ) (s : Places) (p : List ℕ × ℕ → Bool) → IsSound (rows s) → count_by p (namesakes h last (rows s).customers) ≤ 3_000
 few_before h last s p sound =
     let all : length (namesakes h last (rows s).customers) ≤ 3_000 = few_named h last s sound in
     let part : count_by p (namesakes h last (rows s).customers) ≤ length (namesakes h last (rows s).customers) = count_by-le-length p (namesakes h last (rows s).customers) in

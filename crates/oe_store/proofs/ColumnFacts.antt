@@ -22,7 +22,7 @@ use Rattle.oe_table.specs.Table.{RewritesRow}
 use Rattle.oe_theory.proofs.Sets.{some_inj}
 use Rattle.oe_model.specs.Keys.{supply_of_line}
 use Rattle.oe_model.specs.Changes.{Change, changed, UpdateWarehouse, UpdateDistrict, UpdateCustomer, UpdateOrder, UpdateOrderLine, UpdateStock}
-use Rattle.oe_store.specs.Stored.{Stored, rows, SamePlaces, IsSound}
+use Rattle.oe_store.specs.Places.{Places, rows, SamePlaces, IsSound}
 use Rattle.oe_store.proofs.PlaceFacts.{place_of_row, same_warehouses, same_districts, same_customers, same_orders, same_order_lines, same_stocks}
 use Rattle.oe_store.proofs.SoundFacts.{sound_changed, district_numbered, customer_numbered, order_numbered, order_line_numbered}
 
@@ -44,12 +44,12 @@ some_row None h = cc
 some_row (Some x) h = (x, refl)
 
 -- what is left of the tables after a change of one row in its place
-pub record IsLeft (c : Change) (old new : Stored) : Type 0 where
+pub record IsLeft (c : Change) (old new : Places) : Type 0 where
   pub sound : IsSound (rows new)
   pub rows : rows new ≡ changed c (rows old)
   pub places : SamePlaces old new
 
-pub warehouse_left : (s : Stored) (new : List (WarehouseKey × Option Warehouse)) (k : WarehouseKey) (x y : Warehouse) → RewritesRow warehouse_cmp s.warehouses new k x → get (rows s).warehouses k ≡ Some y
+pub warehouse_left : (s : Places) (new : List (WarehouseKey × Option Warehouse)) (k : WarehouseKey) (x y : Warehouse) → RewritesRow warehouse_cmp s.warehouses new k x → get (rows s).warehouses k ≡ Some y
     → IsSound (rows s) → IsLeft (UpdateWarehouse k x) s (record s { warehouses = new })
 warehouse_left s new k x y h was sound =
     let e : rows (record s { warehouses = new }) ≡ changed (UpdateWarehouse k x) (rows s) = ap (λ t. record (rows s) { warehouses = t }) h.rows in
@@ -59,7 +59,7 @@ warehouse_left s new k x y h was sound =
       places = same_warehouses s new k (Some x) h.places (place_of_row warehouse_total exact_warehouse s.warehouses k (ap is_some was));
     }
 
-pub district_left : (s : Stored) (new : List (DistrictKey × Option District)) (k : DistrictKey) (x y : District) → RewritesRow district_cmp s.districts new k x → get (rows s).districts k ≡ Some y
+pub district_left : (s : Places) (new : List (DistrictKey × Option District)) (k : DistrictKey) (x y : District) → RewritesRow district_cmp s.districts new k x → get (rows s).districts k ≡ Some y
     → IsSound (rows s) → IsLeft (UpdateDistrict k x) s (record s { districts = new })
 district_left s new k x y h was sound =
     let e : rows (record s { districts = new }) ≡ changed (UpdateDistrict k x) (rows s) = ap (λ t. record (rows s) { districts = t }) h.rows in
@@ -69,7 +69,7 @@ district_left s new k x y h was sound =
       places = same_districts s new k (Some x) h.places (place_of_row district_total exact_district s.districts k (ap is_some was));
     }
 
-pub customer_left : (s : Stored) (new : List (CustomerKey × Option Customer)) (k : CustomerKey) (x y : Customer) → RewritesRow customer_cmp s.customers new k x → get (rows s).customers k ≡ Some y → x.name.last ≡ y.name.last → x.name.first ≡ y.name.first
+pub customer_left : (s : Places) (new : List (CustomerKey × Option Customer)) (k : CustomerKey) (x y : Customer) → RewritesRow customer_cmp s.customers new k x → get (rows s).customers k ≡ Some y → x.name.last ≡ y.name.last → x.name.first ≡ y.name.first
     → IsSound (rows s) → IsLeft (UpdateCustomer k x) s (record s { customers = new })
 customer_left s new k x y h was last first sound =
     let e : rows (record s { customers = new }) ≡ changed (UpdateCustomer k x) (rows s) = ap (λ t. record (rows s) { customers = t }) h.rows in
@@ -79,7 +79,7 @@ customer_left s new k x y h was last first sound =
       places = same_customers s new k (Some x) h.places (place_of_row customer_total exact_customer s.customers k (ap is_some was));
     }
 
-pub order_left : (s : Stored) (new : List (OrderKey × Option Order)) (k : OrderKey) (x y : Order) → RewritesRow order_cmp s.orders new k x → get (rows s).orders k ≡ Some y → x.customer ≡ y.customer
+pub order_left : (s : Places) (new : List (OrderKey × Option Order)) (k : OrderKey) (x y : Order) → RewritesRow order_cmp s.orders new k x → get (rows s).orders k ≡ Some y → x.customer ≡ y.customer
     → IsSound (rows s) → IsLeft (UpdateOrder k x) s (record s { orders = new })
 order_left s new k x y h was same sound =
     let e : rows (record s { orders = new }) ≡ changed (UpdateOrder k x) (rows s) = ap (λ t. record (rows s) { orders = t }) h.rows in
@@ -89,7 +89,7 @@ order_left s new k x y h was same sound =
       places = same_orders s new k (Some x) h.places (place_of_row order_total exact_order s.orders k (ap is_some was));
     }
 
-pub order_line_left : (s : Stored) (new : List (OrderLineKey × Option OrderLine)) (k : OrderLineKey) (x y : OrderLine) → RewritesRow order_line_cmp s.order_lines new k x → get (rows s).order_lines k ≡ Some y → supply_of_line x ≡ supply_of_line y
+pub order_line_left : (s : Places) (new : List (OrderLineKey × Option OrderLine)) (k : OrderLineKey) (x y : OrderLine) → RewritesRow order_line_cmp s.order_lines new k x → get (rows s).order_lines k ≡ Some y → supply_of_line x ≡ supply_of_line y
     → IsSound (rows s) → IsLeft (UpdateOrderLine k x) s (record s { order_lines = new })
 order_line_left s new k x y h was same sound =
     let e : rows (record s { order_lines = new }) ≡ changed (UpdateOrderLine k x) (rows s) = ap (λ t. record (rows s) { order_lines = t }) h.rows in
@@ -99,7 +99,7 @@ order_line_left s new k x y h was same sound =
       places = same_order_lines s new k (Some x) h.places (place_of_row order_line_total exact_order_line s.order_lines k (ap is_some was));
     }
 
-pub stock_left : (s : Stored) (new : List (StockKey × Option Stock)) (k : StockKey) (x y : Stock) → RewritesRow stock_cmp s.stocks new k x → get (rows s).stocks k ≡ Some y
+pub stock_left : (s : Places) (new : List (StockKey × Option Stock)) (k : StockKey) (x y : Stock) → RewritesRow stock_cmp s.stocks new k x → get (rows s).stocks k ≡ Some y
     → IsSound (rows s) → IsLeft (UpdateStock k x) s (record s { stocks = new })
 stock_left s new k x y h was sound =
     let e : rows (record s { stocks = new }) ≡ changed (UpdateStock k x) (rows s) = ap (λ t. record (rows s) { stocks = t }) h.rows in

@@ -24,7 +24,7 @@ use Rattle.oe_rows.specs.declared.orders.Order.{Order}
 use Rattle.oe_rows.specs.declared.orders.OrderLine.{OrderLine}
 use Rattle.oe_keys.proofs.KeyFacts.{warehouse_total, district_total, exact_district, customer_total, exact_customer, new_order_total, exact_new_order, order_total, exact_order, order_line_total, exact_order_line}
 use Rattle.oe_model.specs.Keys.{warehouse_of_district, district_of_customer, district_of_new_order, district_of_order, order_of_line}
-use Rattle.oe_store.specs.Stored.{entries_of}
+use Rattle.oe_store.specs.Places.{entries_of}
 
 module _ {K X : Type 0} {R : K → K → Ordering} (total : IsTotalOrder R) (exact : IsAntisymmetric R) where
   by_row : (b c : Bool) (o : Option X) → ((x : X) → o ≡ Some x → b ≡ c) → cond b o None ≡ cond c o None

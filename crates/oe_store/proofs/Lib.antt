@@ -10,3 +10,4 @@ mod ChoiceFacts
 mod GroupFacts
 mod TextFacts
 mod NewestFacts
+mod GivenUpFacts

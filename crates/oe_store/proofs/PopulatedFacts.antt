@@ -16,7 +16,7 @@ use Rattle.oe_model.specs.Population.{IsScale, IsPopulated, formula, where_there
 use Rattle.oe_model.proofs.PopulationFacts.{population_is_one}
 use Rattle.oe_store.specs.Fill.{Fills}
 use Rattle.oe_store.specs.Group.{no_columns}
-use Rattle.oe_store.specs.Stored.{IsNumbered, IsSound}
+use Rattle.oe_store.specs.Places.{IsNumbered, IsSound}
 use Rattle.oe_store.proofs.KeyTests.{second_true}
 
 from_empty : {K X : Type 0} (R : K → K → Ordering) (test : K → Bool) (row : K → X) (m : FinMap R X) → Fills test row empty m → (k : K) → get m k ≡ where_there (test k) (row k)

@@ -31,7 +31,7 @@ use Rattle.oe_model.proofs.MapFacts.{get_own}
 use Rattle.oe_model.proofs.RowFacts.{key_true, at_changed, at_put_back}
 use Rattle.oe_model.proofs.PresenceFacts.{some-map}
 use Rattle.oe_model.proofs.ChangeFacts.{accepted_meets}
-use Rattle.oe_store.specs.Stored.{IsNumbered, IsSound, no_rows}
+use Rattle.oe_store.specs.Places.{IsNumbered, IsSound, no_rows}
 
 abbrev AllNumbered : Rows → Type 0
 AllNumbered r = (k : Key) → IsSome (row_at r k) → IsNumbered k

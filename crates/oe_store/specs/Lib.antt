@@ -1,5 +1,5 @@
 -- What the clauses of this crate cite.
-pub mod Stored
+pub mod Places
 pub mod Printable
 pub mod Fill
 pub mod Group

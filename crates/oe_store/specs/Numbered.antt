@@ -2,7 +2,7 @@
 use Rattle.std.specs.Prelude.{IsSome}
 use Rattle.oe_keys.specs.declared.keys.Key.{Key}
 use Rattle.oe_model.specs.Rows.{Rows, row_at}
-use Rattle.oe_store.specs.Stored.{IsNumbered}
+use Rattle.oe_store.specs.Places.{IsNumbered}
 
 -- the numbers in the key of each row are in their ranges
 abbrev pub AreNumbered : Rows → Type 0

@@ -9,7 +9,7 @@ ghost use Rattle.oe_model.specs.Choice.{namesakes, comes_before, middle};
 ghost use Rattle.oe_model.specs.Delivery.{oldest};
 ghost use Rattle.oe_model.specs.Queries.{orders_of, last_order};
 ghost use Rattle.oe_finders.specs.Own.{named_of, own_of};
-ghost use Rattle.oe_store.specs.Stored.{rows};
+ghost use Rattle.oe_store.specs.Places.{rows};
 
 use crate::tables::Tables;
 use oe_finders::Found;
@@ -29,7 +29,7 @@ fn is_named(
         (eq_by_cmp district_cmp (district_of_customer key.now) district.now && eq_by_cmp
         (slice_cmp nat_cmp) name.now.last last.now) }
 {
-    key.district_key().compare(*district) == Ordering::Equal
+    key.district_key().cmp(district) == Ordering::Equal
         && name.last.as_str().cmp(last.as_str()) == Ordering::Equal
 }
 
@@ -54,7 +54,7 @@ fn is_own(key: &OrderKey, order: &Order, customer: &CustomerKey) -> bool
     ensures { result ≡ eq_by_cmp customer_cmp (customer_of_order key.now order.now) customer.now }
 {
     let owner = key.district_key().customer(order.customer);
-    owner.compare(*customer) == Ordering::Equal
+    owner.cmp(customer) == Ordering::Equal
 }
 
 /// How many customers of a last name there are, and how many of them come before one.
@@ -82,6 +82,11 @@ impl Tables {
         ensures { named_of district.now last.now result
             ≡ namesakes district.now last.now (rows self.now).customers }
     {
+        if self.customers.is_listed() {
+            // Any walk that has them all will do, since the list is met.
+            let unmet = self.customers.iter();
+            return self.customers.namesakes(district, last, unmet);
+        }
         let others = self.customers_of(*district);
         self.customers.namesakes(district, last, others)
     }

@@ -11,7 +11,7 @@ ghost use Rattle.oe_rows.specs.declared.orders.Order.{Order};
 ghost use Rattle.oe_rows.specs.declared.orders.OrderLine.{OrderLine};
 ghost use Rattle.oe_rows.specs.declared.items.Stock.{Stock};
 ghost use Rattle.oe_model.specs.Changes.{changed, UpdateWarehouse, UpdateDistrict, UpdateCustomer, UpdateOrder, UpdateOrderLine, UpdateStock};
-ghost use Rattle.oe_store.specs.Stored.{rows, SamePlaces};
+ghost use Rattle.oe_store.specs.Places.{rows, SamePlaces};
 
 use crate::tables::Tables;
 use oe_keys::{CustomerKey, DistrictKey, OrderKey, OrderLineKey, StockKey, WarehouseKey};
@@ -22,7 +22,9 @@ impl Tables {
     /// Sets W_YTD of the WAREHOUSE row of a key.
     pub fn set_warehouse_ytd(&mut self, key: &WarehouseKey, ytd: YearToDate)
         requires { IsSome (get (rows self.old).warehouses key.now) }
-        ensures rows { (w : Warehouse) → get (rows self.old).warehouses key.now ≡ Some w → rows self.new ≡ changed (UpdateWarehouse key.now (record w { ytd = ytd })) (rows self.old) }
+        ensures rows { (w : Warehouse) → get (rows self.old).warehouses key.now ≡ Some w
+            → rows self.new ≡ changed (UpdateWarehouse key.now (record w { ytd = ytd }))
+            (rows self.old) }
         ensures places { SamePlaces self.old self.new }
     {
         let warehouse = self.warehouses.row_mut(key).unwrap();
@@ -32,7 +34,9 @@ impl Tables {
     /// Sets D_YTD of the DISTRICT row of a key.
     pub fn set_district_ytd(&mut self, key: &DistrictKey, ytd: YearToDate)
         requires { IsSome (get (rows self.old).districts key.now) }
-        ensures rows { (d : District) → get (rows self.old).districts key.now ≡ Some d → rows self.new ≡ changed (UpdateDistrict key.now (record d { ytd = ytd })) (rows self.old) }
+        ensures rows { (d : District) → get (rows self.old).districts key.now ≡ Some d
+            → rows self.new ≡ changed (UpdateDistrict key.now (record d { ytd = ytd }))
+            (rows self.old) }
         ensures places { SamePlaces self.old self.new }
     {
         let district = self.districts.row_mut(key).unwrap();
@@ -42,7 +46,9 @@ impl Tables {
     /// Sets D_NEXT_O_ID of the DISTRICT row of a key.
     pub fn set_next_order(&mut self, key: &DistrictKey, order: OrderNumber)
         requires { IsSome (get (rows self.old).districts key.now) }
-        ensures rows { (d : District) → get (rows self.old).districts key.now ≡ Some d → rows self.new ≡ changed (UpdateDistrict key.now (record d { next_order = order })) (rows self.old) }
+        ensures rows { (d : District) → get (rows self.old).districts key.now ≡ Some d
+            → rows self.new ≡ changed (UpdateDistrict key.now (record d { next_order = order }))
+            (rows self.old) }
         ensures places { SamePlaces self.old self.new }
     {
         let district = self.districts.row_mut(key).unwrap();
@@ -52,7 +58,9 @@ impl Tables {
     /// Sets the account of the CUSTOMER row of a key.
     pub fn set_account(&mut self, key: &CustomerKey, account: &Account)
         requires { IsSome (get (rows self.old).customers key.now) }
-        ensures rows { (c : Customer) → get (rows self.old).customers key.now ≡ Some c → rows self.new ≡ changed (UpdateCustomer key.now (record c { account = account.now })) (rows self.old) }
+        ensures rows { (c : Customer) → get (rows self.old).customers key.now ≡ Some c
+            → rows self.new ≡ changed (UpdateCustomer key.now (record c { account = account.now }))
+            (rows self.old) }
         ensures places { SamePlaces self.old self.new }
     {
         self.customers.set_account(key, account);
@@ -62,7 +70,9 @@ impl Tables {
     /// discarded (clause 2.5.2.2).
     pub fn set_bad_credit(&mut self, key: &CustomerKey, account: &Account, entry: &Text<0, 90>)
         requires { IsSome (get (rows self.old).customers key.now) }
-        ensures rows { (c : Customer) → get (rows self.old).customers key.now ≡ Some c → rows self.new ≡ changed (UpdateCustomer key.now (with_entry account.now entry.now c)) (rows self.old) }
+        ensures rows { (c : Customer) → get (rows self.old).customers key.now ≡ Some c
+            → rows self.new ≡ changed (UpdateCustomer key.now (with_entry account.now entry.now c))
+            (rows self.old) }
         ensures places { SamePlaces self.old self.new }
     {
         self.customers.set_bad_credit(key, account, entry);
@@ -71,7 +81,8 @@ impl Tables {
     /// Sets O_CARRIER_ID of the ORDER row of a key.
     pub fn set_carrier(&mut self, key: &OrderKey, carrier: Carrier)
         requires { IsSome (get (rows self.old).orders key.now) }
-        ensures rows { (o : Order) → get (rows self.old).orders key.now ≡ Some o → rows self.new ≡ changed (UpdateOrder key.now (record o { carrier = Some carrier })) (rows self.old) }
+        ensures rows { (o : Order) → get (rows self.old).orders key.now ≡ Some o → rows self.new
+            ≡ changed (UpdateOrder key.now (record o { carrier = Some carrier })) (rows self.old) }
         ensures places { SamePlaces self.old self.new }
     {
         self.orders.set_carrier(key, carrier);
@@ -80,7 +91,9 @@ impl Tables {
     /// Sets OL_DELIVERY_D of the ORDER-LINE row of a key.
     pub fn set_delivery(&mut self, key: &OrderLineKey, stamp: Stamp)
         requires { IsSome (get (rows self.old).order_lines key.now) }
-        ensures rows { (l : OrderLine) → get (rows self.old).order_lines key.now ≡ Some l → rows self.new ≡ changed (UpdateOrderLine key.now (record l { delivery = Some stamp })) (rows self.old) }
+        ensures rows { (l : OrderLine) → get (rows self.old).order_lines key.now ≡ Some l
+            → rows self.new ≡ changed (UpdateOrderLine key.now (record l { delivery = Some stamp }))
+            (rows self.old) }
         ensures places { SamePlaces self.old self.new }
     {
         let line = self.order_lines.row_mut(key).unwrap();
@@ -90,7 +103,8 @@ impl Tables {
     /// Sets S_QUANTITY, S_YTD, S_ORDER_CNT and S_REMOTE_CNT of the STOCK row of a key.
     pub fn set_counters(&mut self, key: &StockKey, counters: &StockCounters)
         requires { IsSome (get (rows self.old).stocks key.now) }
-        ensures rows { (s : Stock) → get (rows self.old).stocks key.now ≡ Some s → rows self.new ≡ changed (UpdateStock key.now (with_counters counters.now s)) (rows self.old) }
+        ensures rows { (s : Stock) → get (rows self.old).stocks key.now ≡ Some s → rows self.new
+            ≡ changed (UpdateStock key.now (with_counters counters.now s)) (rows self.old) }
         ensures places { SamePlaces self.old self.new }
     {
         let stock = self.stocks.row_mut(key).unwrap();

@@ -1,7 +1,7 @@
 //! Dumps of tables: all rows of one, in the keys' order.
 ghost use Rattle.std.specs.Prelude.{◌≡◌};
 ghost use Rattle.std.specs.Iterator.{YieldsFirstBy, item_count};
-ghost use Rattle.oe_store.specs.Stored.{rows};
+ghost use Rattle.oe_store.specs.Places.{rows};
 ghost use Rattle.oe_store.specs.Dump.{dumped};
 ghost use Rattle.oe_store.specs.Walk.{entry_of};
 

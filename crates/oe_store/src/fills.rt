@@ -28,7 +28,9 @@ pub(crate) fn warehouses(
     alloc: Global,
     scale: &Scale,
 ) -> Result<Shelves<WarehouseKey, Warehouse>, NoMemory>
-    ensures { IfOk result (λ t. Fills (has_warehouse scale.now) (λ k. warehouse_of scale.now k.warehouse) empty (rows_of warehouse_cmp t)) }
+    ensures { IfOk result
+        (λ t. Fills (has_warehouse scale.now) (λ k. warehouse_of scale.now k.warehouse) empty
+        (rows_of warehouse_cmp t)) }
 {
     let mut table = Shelves::new(alloc);
     for before in 0..scale.warehouses.get() {
@@ -56,7 +58,9 @@ pub(crate) fn districts(
     alloc: Global,
     scale: &Scale,
 ) -> Result<Shelves<DistrictKey, District>, NoMemory>
-    ensures { IfOk result (λ t. Fills (has_district scale.now) (λ k. district_of scale.now k.district) empty (rows_of district_cmp t)) }
+    ensures { IfOk result
+        (λ t. Fills (has_district scale.now) (λ k. district_of scale.now k.district) empty
+        (rows_of district_cmp t)) }
 {
     let mut table = Shelves::new(alloc);
     for ordinal in 0..10 * scale.warehouses.get() {
@@ -73,7 +77,9 @@ fn fill_customers(
     district: DistrictKey,
 ) -> Result<(), NoMemory>
     requires { IsFree (customers_in district scale.now) (rows_of customer_cmp table.old) }
-    ensures { OnOk result (Fills (customers_in district scale.now) (λ k. customer_of k.customer) (rows_of customer_cmp table.old) (rows_of customer_cmp table.new)) }
+    ensures { OnOk result
+        (Fills (customers_in district scale.now) (λ k. customer_of k.customer)
+        (rows_of customer_cmp table.old) (rows_of customer_cmp table.new)) }
 {
     for before in 0..scale.customers.get() {
         let key = CustomerKey {
@@ -88,7 +94,9 @@ fn fill_customers(
 
 /// The customers of all districts.
 pub(crate) fn customers(alloc: Global, scale: &Scale) -> Result<Customers, NoMemory>
-    ensures { IfOk result (λ t. Fills (has_customer scale.now) (λ k. customer_of k.customer) empty (rows_of customer_cmp t)) }
+    ensures { IfOk result
+        (λ t. Fills (has_customer scale.now) (λ k. customer_of k.customer) empty
+        (rows_of customer_cmp t)) }
 {
     let mut table = Customers::new(alloc);
     for ordinal in 0..10 * scale.warehouses.get() {
@@ -104,7 +112,10 @@ fn fill_histories(
     district: DistrictKey,
 ) -> Result<(), NoMemory>
     requires { IsFree (histories_in district scale.now) (rows_of history_cmp table.old) }
-    ensures { OnOk result (Fills (histories_in district scale.now) (λ k. history_of (counted_customer scale.now k.number)) (rows_of history_cmp table.old) (rows_of history_cmp table.new)) }
+    ensures { OnOk result
+        (Fills (histories_in district scale.now)
+        (λ k. history_of (counted_customer scale.now k.number)) (rows_of history_cmp table.old)
+        (rows_of history_cmp table.new)) }
 {
     for before in 0..scale.customers.get() {
         let customer = CustomerKey {
@@ -123,7 +134,9 @@ pub(crate) fn histories(
     alloc: Global,
     scale: &Scale,
 ) -> Result<Shelves<HistoryKey, History>, NoMemory>
-    ensures { IfOk result (λ t. Fills (has_history scale.now) (λ k. history_of (counted_customer scale.now k.number)) empty (rows_of history_cmp t)) }
+    ensures { IfOk result
+        (λ t. Fills (has_history scale.now)
+        (λ k. history_of (counted_customer scale.now k.number)) empty (rows_of history_cmp t)) }
 {
     let mut table = Shelves::new(alloc);
     for ordinal in 0..10 * scale.warehouses.get() {
@@ -139,7 +152,9 @@ fn put_undelivered(
     key: NewOrderKey,
 ) -> Result<(), NoMemory>
     requires { IsFree (is_new_order scale.now key) (rows_of new_order_cmp table.old) }
-    ensures { OnOk result (Fills (is_new_order scale.now key) (λ k. no_columns) (rows_of new_order_cmp table.old) (rows_of new_order_cmp table.new)) }
+    ensures { OnOk result
+        (Fills (is_new_order scale.now key) (λ k. no_columns) (rows_of new_order_cmp table.old)
+        (rows_of new_order_cmp table.new)) }
 {
     if key.order.get() <= last_delivered_order(scale) {
         return Ok(());
@@ -154,7 +169,9 @@ fn fill_new_orders(
     district: DistrictKey,
 ) -> Result<(), NoMemory>
     requires { IsFree (new_orders_in district scale.now) (rows_of new_order_cmp table.old) }
-    ensures { OnOk result (Fills (new_orders_in district scale.now) (λ k. no_columns) (rows_of new_order_cmp table.old) (rows_of new_order_cmp table.new)) }
+    ensures { OnOk result
+        (Fills (new_orders_in district scale.now) (λ k. no_columns)
+        (rows_of new_order_cmp table.old) (rows_of new_order_cmp table.new)) }
 {
     for before in 0..scale.customers.get() {
         let key = NewOrderKey {
@@ -172,7 +189,8 @@ pub(crate) fn new_orders(
     alloc: Global,
     scale: &Scale,
 ) -> Result<Shelves<NewOrderKey, NewOrder>, NoMemory>
-    ensures { IfOk result (λ t. Fills (has_new_order scale.now) (λ k. no_columns) empty (rows_of new_order_cmp t)) }
+    ensures { IfOk result
+        (λ t. Fills (has_new_order scale.now) (λ k. no_columns) empty (rows_of new_order_cmp t)) }
 {
     let mut table = Shelves::new(alloc);
     for ordinal in 0..10 * scale.warehouses.get() {
@@ -184,7 +202,9 @@ pub(crate) fn new_orders(
 /// Puts the orders of a district.
 fn fill_orders(table: &mut Orders, scale: &Scale, district: DistrictKey) -> Result<(), NoMemory>
     requires { IsFree (orders_in district scale.now) (rows_of order_cmp table.old) }
-    ensures { OnOk result (Fills (orders_in district scale.now) (λ k. order_of scale.now k.order) (rows_of order_cmp table.old) (rows_of order_cmp table.new)) }
+    ensures { OnOk result
+        (Fills (orders_in district scale.now) (λ k. order_of scale.now k.order)
+        (rows_of order_cmp table.old) (rows_of order_cmp table.new)) }
 {
     for before in 0..scale.customers.get() {
         let customer: CustomerNumber = number(before + 1);
@@ -202,7 +222,9 @@ fn fill_orders(table: &mut Orders, scale: &Scale, district: DistrictKey) -> Resu
 
 /// As many orders of each district as it has customers.
 pub(crate) fn orders(alloc: Global, scale: &Scale) -> Result<Orders, NoMemory>
-    ensures { IfOk result (λ t. Fills (has_order scale.now) (λ k. order_of scale.now k.order) empty (rows_of order_cmp t)) }
+    ensures { IfOk result
+        (λ t. Fills (has_order scale.now) (λ k. order_of scale.now k.order) empty
+        (rows_of order_cmp t)) }
 {
     let mut table = Orders::new(alloc);
     for ordinal in 0..10 * scale.warehouses.get() {
@@ -218,7 +240,9 @@ fn fill_order_lines(
     order: OrderKey,
 ) -> Result<(), NoMemory>
     requires { IsFree (lines_under order) (rows_of order_line_cmp table.old) }
-    ensures { OnOk result (Fills (lines_under order) (line_of scale.now) (rows_of order_line_cmp table.old) (rows_of order_line_cmp table.new)) }
+    ensures { OnOk result
+        (Fills (lines_under order) (line_of scale.now) (rows_of order_line_cmp table.old)
+        (rows_of order_line_cmp table.new)) }
 {
     for before in 0..line_count(order.order.get()).get() {
         let key = OrderLineKey {
@@ -239,7 +263,9 @@ fn fill_lines(
     district: DistrictKey,
 ) -> Result<(), NoMemory>
     requires { IsFree (lines_in district scale.now) (rows_of order_line_cmp table.old) }
-    ensures { OnOk result (Fills (lines_in district scale.now) (line_of scale.now) (rows_of order_line_cmp table.old) (rows_of order_line_cmp table.new)) }
+    ensures { OnOk result
+        (Fills (lines_in district scale.now) (line_of scale.now) (rows_of order_line_cmp table.old)
+        (rows_of order_line_cmp table.new)) }
 {
     for before in 0..scale.customers.get() {
         let order = OrderKey {
@@ -257,7 +283,8 @@ pub(crate) fn order_lines(
     alloc: Global,
     scale: &Scale,
 ) -> Result<Shelves<OrderLineKey, OrderLine>, NoMemory>
-    ensures { IfOk result (λ t. Fills (has_line scale.now) (line_of scale.now) empty (rows_of order_line_cmp t)) }
+    ensures { IfOk result
+        (λ t. Fills (has_line scale.now) (line_of scale.now) empty (rows_of order_line_cmp t)) }
 {
     let mut table = Shelves::new(alloc);
     for ordinal in 0..10 * scale.warehouses.get() {
@@ -268,7 +295,8 @@ pub(crate) fn order_lines(
 
 /// The items.
 pub(crate) fn items(alloc: Global, scale: &Scale) -> Result<Shelves<ItemKey, Item>, NoMemory>
-    ensures { IfOk result (λ t. Fills (has_item scale.now) (λ k. item_of k.item) empty (rows_of item_cmp t)) }
+    ensures { IfOk result
+        (λ t. Fills (has_item scale.now) (λ k. item_of k.item) empty (rows_of item_cmp t)) }
 {
     let mut table = Shelves::new(alloc);
     for before in 0..scale.items.get() {
@@ -287,7 +315,9 @@ fn fill_stocks(
     warehouse: WarehouseNumber,
 ) -> Result<(), NoMemory>
     requires { IsFree (stocks_in warehouse scale.now) (rows_of stock_cmp table.old) }
-    ensures { OnOk result (Fills (stocks_in warehouse scale.now) (λ k. stock_of k.warehouse k.item) (rows_of stock_cmp table.old) (rows_of stock_cmp table.new)) }
+    ensures { OnOk result
+        (Fills (stocks_in warehouse scale.now) (λ k. stock_of k.warehouse k.item)
+        (rows_of stock_cmp table.old) (rows_of stock_cmp table.new)) }
 {
     for before in 0..scale.items.get() {
         let key = StockKey {
@@ -301,7 +331,9 @@ fn fill_stocks(
 
 /// A stock of each item in each warehouse.
 pub(crate) fn stocks(alloc: Global, scale: &Scale) -> Result<Shelves<StockKey, Stock>, NoMemory>
-    ensures { IfOk result (λ t. Fills (has_stock scale.now) (λ k. stock_of k.warehouse k.item) empty (rows_of stock_cmp t)) }
+    ensures { IfOk result
+        (λ t. Fills (has_stock scale.now) (λ k. stock_of k.warehouse k.item) empty
+        (rows_of stock_cmp t)) }
 {
     let mut table = Shelves::new(alloc);
     for before in 0..scale.warehouses.get() {

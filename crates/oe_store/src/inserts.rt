@@ -2,7 +2,7 @@
 ghost use Rattle.std.specs.Prelude.{◌≡◌, OnOk, OnErr};
 ghost use Rattle.oe_model.specs.Changes.{changed, InsertHistory, InsertNewOrder, InsertOrder, InsertOrderLine};
 ghost use Rattle.oe_model.specs.Meets.{Accepts};
-ghost use Rattle.oe_store.specs.Stored.{rows, HasPlace, AddsPlace};
+ghost use Rattle.oe_store.specs.Places.{rows, HasPlace, AddsPlace};
 
 use crate::tables::Tables;
 use oe_keys::{HistoryKey, Key, NewOrderKey, OrderKey, OrderLineKey};

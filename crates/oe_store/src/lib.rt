@@ -10,6 +10,7 @@ mod formulas;
 pub mod inserts;
 mod numbers;
 pub mod population;
+pub mod purges;
 pub mod tables;
 mod texts;
 pub mod undo;

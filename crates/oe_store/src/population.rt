@@ -1,7 +1,7 @@
 //! The population by formula (clause 4.3.3.1, with values of this project's own where that draws them at random).
 ghost use Rattle.std.specs.Prelude.{IfOk};
 ghost use Rattle.oe_model.specs.Population.{IsPopulated};
-ghost use Rattle.oe_store.specs.Stored.{rows};
+ghost use Rattle.oe_store.specs.Places.{rows};
 
 use crate::fills;
 use crate::tables::Tables;

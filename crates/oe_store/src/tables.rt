@@ -3,7 +3,7 @@ ghost use Rattle.std.specs.Prelude.{◌≡◌};
 ghost use Rattle.std.specs.Option.{option_copied};
 ghost use Rattle.std.specs.FinMap.{get, empty};
 ghost use Rattle.oe_store.specs.Numbered.{AreNumbered};
-ghost use Rattle.oe_store.specs.Stored.{rows, HasPlace};
+ghost use Rattle.oe_store.specs.Places.{rows, HasPlace};
 ghost use Rattle.oe_model.specs.Meets.{Meets};
 
 use oe_finders::{Customers, Orders};
@@ -35,9 +35,9 @@ pub struct Tables {
 }
 
 impl Model for Tables {
-    ghost use Rattle.oe_store.specs.Stored.{Stored, rows, IsSound};
+    ghost use Rattle.oe_store.specs.Places.{Places, rows, IsSound};
 
-    ghost Value = { Stored };
+    ghost Value = { Places };
 
     ghost view = { λ t. record {
       warehouses = t.warehouses;
@@ -66,7 +66,7 @@ impl Model for Tables {
 }
 
 impl Tables {
-    ghost use Rattle.oe_store.specs.Stored.{no_rows};
+    ghost use Rattle.oe_store.specs.Places.{no_rows};
 
     /// Tables without a row.
     pub fn new(alloc: Global) -> Self

@@ -4,7 +4,7 @@ ghost use Rattle.std.specs.Prelude.{◌≡◌, Some, None, IsSome};
 ghost use Rattle.std.specs.FinMap.{get};
 ghost use Rattle.oe_model.specs.Changes.{put_back, InsertedHistory, InsertedNewOrder, InsertedOrder, InsertedOrderLine, UpdatedWarehouse, UpdatedDistrict, UpdatedCustomer, UpdatedOrder, UpdatedOrderLine, UpdatedStock, DeletedNewOrder};
 ghost use Rattle.oe_model.specs.Meets.{Meets};
-ghost use Rattle.oe_store.specs.Stored.{rows, HasPlace, SamePlaces};
+ghost use Rattle.oe_store.specs.Places.{rows, HasPlace, SamePlaces};
 
 use crate::tables::Tables;
 use oe_keys::{

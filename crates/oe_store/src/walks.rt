@@ -3,7 +3,7 @@ ghost use Rattle.std.specs.Prelude.{◌≡◌, ◌≤◌};
 ghost use Rattle.std.specs.FinMap.{entries};
 ghost use Rattle.oe_model.specs.Keys.{warehouse_of_district, district_of_customer, district_of_new_order, district_of_order, order_of_line};
 ghost use Rattle.oe_keys.specs.Key.{warehouse_cmp, district_cmp, order_cmp};
-ghost use Rattle.oe_store.specs.Stored.{rows, entries_of};
+ghost use Rattle.oe_store.specs.Places.{rows, entries_of};
 
 use crate::tables::Tables;
 use oe_keys::{

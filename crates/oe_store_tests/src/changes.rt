@@ -3,7 +3,7 @@ ghost use Rattle.std.specs.Prelude.{◌≡◌};
 ghost use Rattle.oe_keys.specs.declared.keys.Key.{Key};
 ghost use Rattle.oe_records.specs.Changes.{change_of};
 ghost use Rattle.oe_records.specs.Befores.{record_of_before};
-ghost use Rattle.oe_store.specs.Stored.{rows, HasPlace};
+ghost use Rattle.oe_store.specs.Places.{rows, HasPlace};
 ghost use Rattle.oe_change.specs.Applies.{Applies};
 
 use crate::fixtures::{district_key, history_key, order_key, populated};

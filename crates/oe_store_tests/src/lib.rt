@@ -8,6 +8,8 @@ mod audits;
 #[cfg(test)]
 mod changes;
 #[cfg(test)]
+mod finders;
+#[cfg(test)]
 mod fixtures;
 #[cfg(test)]
 mod undo;

@@ -18,7 +18,7 @@ use Rattle.oe_theory.specs.Store.{Slot, Seal, count_slots, commit_count, counts_
 use Rattle.oe_undo.specs.declared.segments.Address.{Address}
 use Rattle.oe_undo.specs.declared.undo.TerminalState.{TerminalState}
 use Rattle.oe_undo.specs.Segments.{Addressed, Open, Committed, popped_from}
-use Rattle.oe_undo.specs.Undo.{Stored, idle, state_at, records_in, active_at, records_at, count_at, total_count, open_total, changed, idle_terminals, no_segments, opened, with_room, pushed, popped_at, sealed, dropped, with_newest, uncounted, without_newest}
+use Rattle.oe_undo.specs.Undo.{UndoLog, idle, state_at, records_in, active_at, records_at, count_at, total_count, open_total, changed, idle_terminals, no_segments, opened, with_room, pushed, popped_at, sealed, dropped, with_newest, uncounted, without_newest}
 use Rattle.oe_undo.specs.Stands.{model_records, undo_of, seal_of, seals_of, counts_of}
 use Rattle.oe_undo.specs.Laws.{StandAlike, StandsWith, StandsSealed, StandsCut, StandsRewound}
 use Rattle.oe_undo.proofs.KeptFacts.{idle_at}
@@ -44,7 +44,7 @@ module _ {A : Type 0} (see : TerminalState → A) (ts : List TerminalState) (t :
       ]
 
 -- a terminal whose segment is open is one of the log's
-known : (v : Stored) (t : ℕ) (o : Open) → active_at v t ≡ Some o → t < length v.terminals
+known : (v : UndoLog) (t : ℕ) (o : Open) → active_at v t ≡ Some o → t < length v.terminals
 known v t o e =
     elim (cases_lt t (length v.terminals)) [
       | inl within ↦ within
@@ -58,7 +58,7 @@ abbrev see_count : TerminalState → ℕ
 see_count s = s.count
 
 -- a terminal's state is replaced by one with the same records and the same count
-alike : (v : Stored) (t : ℕ) (s : TerminalState) → see_records s ≡ see_records (state_at v t) → s.count ≡ count_at v t
+alike : (v : UndoLog) (t : ℕ) (s : TerminalState) → see_records s ≡ see_records (state_at v t) → s.count ≡ count_at v t
     → StandAlike (record v { terminals = set v.terminals t s }) v
 alike v t s records counts =
     let active = seen_same see_records v.terminals t s records in
@@ -69,7 +69,7 @@ alike v t s records counts =
     }
 
 -- by one with these records
-with_records : (v : Stored) (t : ℕ) (o : Open) (s : TerminalState) (bs : List Record) → active_at v t ≡ Some o → see_records s ≡ bs → s.count ≡ count_at v t
+with_records : (v : UndoLog) (t : ℕ) (o : Open) (s : TerminalState) (bs : List Record) → active_at v t ≡ Some o → see_records s ≡ bs → s.count ≡ count_at v t
     → StandsWith (record v { terminals = set v.terminals t s }) v t bs
 with_records v t o s bs is records counts =
     let active : (u : ℕ) → see_records (get_or (set v.terminals t s) u idle) ≡ cond (u == t) bs (see_records (get_or v.terminals u idle)) =
@@ -80,14 +80,14 @@ with_records v t o s bs is records counts =
       counts = fun_ext (seen_same see_count v.terminals t s counts);
     }
 
-pub opens : (v : Stored) (t room : ℕ) → active_at v t ≡ None → StandAlike (opened v t room) v
+pub opens : (v : UndoLog) (t room : ℕ) → active_at v t ≡ None → StandAlike (opened v t room) v
 opens v t room closed = alike v t _ (sym (ap (λ a. model_records (records_in a)) closed)) refl
 
 room_changed : (room : ℕ) (a : Option Open) → records_in (changed (λ o. record o { room = room }) a) ≡ records_in a
 room_changed room None = refl
 room_changed room (Some o) = refl
 
-pub reserves : (v : Stored) (t room : ℕ) → StandAlike (with_room v t room) v
+pub reserves : (v : UndoLog) (t room : ℕ) → StandAlike (with_room v t room) v
 reserves v t room = alike v t _ (ap model_records (room_changed room (active_at v t))) refl
 
 push_changed : (p : Address) (b : Before) (a : Option Open) (o : Open) → a ≡ Some o
@@ -95,7 +95,7 @@ push_changed : (p : Address) (b : Before) (a : Option Open) (o : Open) → a ≡
 push_changed p b None o e = cc
 push_changed p b (Some a) o e = refl
 
-pub pushes : (v : Stored) (t : ℕ) (o : Open) (p : Address) (b : Before) → active_at v t ≡ Some o → StandsWith (pushed v t p b) v t (record_of_before b ∷ (undo_of v).active t)
+pub pushes : (v : UndoLog) (t : ℕ) (o : Open) (p : Address) (b : Before) → active_at v t ≡ Some o → StandsWith (pushed v t p b) v t (record_of_before b ∷ (undo_of v).active t)
 pushes v t o p b is = with_records v t o _ _ is (push_changed p b (active_at v t) o is) refl
 
 drop_popped : (o : Open) (rs : List Addressed) → o.records ≡ rs → model_records (popped_from o rs).records ≡ drop 1 (model_records rs)
@@ -106,10 +106,10 @@ pop_changed : (a : Option Open) → model_records (records_in (changed (λ o. po
 pop_changed None = refl
 pop_changed (Some o) = drop_popped o o.records refl
 
-pub pops : (v : Stored) (t : ℕ) (o : Open) → active_at v t ≡ Some o → StandsWith (popped_at v t) v t (drop 1 ((undo_of v).active t))
+pub pops : (v : UndoLog) (t : ℕ) (o : Open) → active_at v t ≡ Some o → StandsWith (popped_at v t) v t (drop 1 ((undo_of v).active t))
 pops v t o is = with_records v t o _ _ is (pop_changed (active_at v t)) refl
 
-pub seals : (v : Stored) (t : ℕ) (o : Open) (q : Request) (y : Reply) → active_at v t ≡ Some o → StandsSealed (sealed v t q y) v t q y
+pub seals : (v : UndoLog) (t : ℕ) (o : Open) (q : Request) (y : Reply) → active_at v t ≡ Some o → StandsSealed (sealed v t q y) v t q y
 seals v t o q y is =
     let s : TerminalState = record { count = suc (count_at v t); active = None } in
     let active = seen_set see_records v.terminals t s (known v t o is) in
@@ -119,11 +119,11 @@ seals v t o q y is =
       counts = fun_ext (seen_set see_count v.terminals t s (known v t o is));
     }
 
-pub drops : (v : Stored) (t : ℕ) → records_at v t ≡ [] → StandAlike (dropped v t) v
+pub drops : (v : UndoLog) (t : ℕ) → records_at v t ≡ [] → StandAlike (dropped v t) v
 drops v t empty = alike v t _ (sym (ap model_records empty)) refl
 
 -- the newest commits alone
-pub cuts : (v : Stored) (n : ℕ) → StandsCut (with_newest n v) v n
+pub cuts : (v : UndoLog) (n : ℕ) → StandsCut (with_newest n v) v n
 cuts v n =
     let history = sym (take-map (λ (c : Committed). model_records c.records) n v.committed) in
     record {
@@ -139,7 +139,7 @@ none_less : (n k : ℕ) → n ≡ 0 → n ≡ n - k
 none_less n k e = omega arith
 
 -- a terminal's count, where a commit is no longer counted
-less_counted : (v : Stored) (c : Committed) (u : ℕ)
+less_counted : (v : UndoLog) (c : Committed) (u : ℕ)
     → (get_or (set v.terminals c.terminal (record { count = count_at v c.terminal - 1; active = active_at v c.terminal })) u idle).count
     ≡ count_at v u - cond (u == c.terminal) 1 0
 less_counted v c u =
@@ -165,7 +165,7 @@ one_plus : (n : ℕ) → 1 + n ≡ suc n
 one_plus n = omega arith
 
 -- the newest commit gone
-one_less : (v : Stored) (cs : List Committed) → v.committed ≡ cs → StandsRewound (uncounted v cs) v 1
+one_less : (v : UndoLog) (cs : List Committed) → v.committed ≡ cs → StandsRewound (uncounted v cs) v 1
 one_less v [] e = record {
   undo = λ i. record { active = (undo_of v).active; history = (ap (map (λ (c : Committed). model_records c.records)) e ∙ ap (λ z. drop 1 (map (λ (c : Committed). model_records c.records) z)) (sym e)) i };
   seals = ap (map seal_of) e ∙ ap (λ z. drop 1 (map seal_of z)) (sym e);
@@ -194,10 +194,10 @@ count_more u n (c ∷ cs) = go (u == c.tx.terminal)
     go false = none_plus (commit_count system u (take n cs))
 
 -- the newest commits gone, one after another
-pub rewinds : (v : Stored) (n : ℕ) → StandsRewound (without_newest n v) v n
+pub rewinds : (v : UndoLog) (n : ℕ) → StandsRewound (without_newest n v) v n
 rewinds v zero = record { undo = refl; seals = refl; counts = fun_ext (λ u. minus_none (counts_of v u)) }
 rewinds v (suc n) =
-    let w : Stored = uncounted v v.committed in
+    let w : UndoLog = uncounted v v.committed in
     let one = one_less v v.committed refl in
     let rest = rewinds w n in
     record {
@@ -228,14 +228,14 @@ total_below ts (suc n) h =
     omega arith
 
 -- the sum of the counts is the theory's
-pub totals : (v : Stored) → length v.terminals ≡ 65 → total terminal_limit (counts_of v) ≡ total_count v
+pub totals : (v : UndoLog) → length v.terminals ≡ 65 → total terminal_limit (counts_of v) ≡ total_count v
 unfolding terminal_limit
 totals v size =
     subst (λ n. total n (counts_of v) ≡ total_count v) size
     (total_below v.terminals (length v.terminals) (omega arith) ∙ ap (λ ts. sum_by (λ (s : TerminalState). s.count) ts) (take_all (length v.terminals) v.terminals (omega arith)))
 
 -- so is the horizon
-pub horizon_is : (v : Stored) (h : ℕ) → length v.terminals ≡ 65 → h + length v.committed ≡ total_count v → h ≡ total terminal_limit (counts_of v) - length (seals_of v)
+pub horizon_is : (v : UndoLog) (h : ℕ) → length v.terminals ≡ 65 → h + length v.committed ≡ total_count v → h ≡ total terminal_limit (counts_of v) - length (seals_of v)
 horizon_is v h size value = omega (arith, totals v size, length-map v.committed seal_of)
 
 -- how many slots below n are taken
@@ -256,7 +256,7 @@ slots_below ts slots same (suc n) h =
     ∙ sym more ∙ ap (λ k. count_by (λ (s : TerminalState). is_some s.active) (take k ts)) (add-one n)
 
 -- the count of open segments is that of the theory's slots
-pub slots_counted : (v : Stored) (slots : ℕ → Option (Slot system)) → length v.terminals ≡ 65 → ((t : ℕ) → is_some (slots t) ≡ is_some (active_at v t))
+pub slots_counted : (v : UndoLog) (slots : ℕ → Option (Slot system)) → length v.terminals ≡ 65 → ((t : ℕ) → is_some (slots t) ≡ is_some (active_at v t))
     → count_slots system slots terminal_limit ≡ open_total v
 unfolding terminal_limit
 slots_counted v slots size same =

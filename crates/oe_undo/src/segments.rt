@@ -10,6 +10,7 @@ use oe_table::tables::NoMemory;
 use oe_values::numbers::{TERMINALS, Terminal, TransactionNumber};
 use std::alloc::Global;
 use std::marker::Model;
+use std::snapshot::Snapshot;
 
 /// A terminal's open segment, which clauses see as the terminal's number.
 #[derive(Clone, Copy, Debug, PartialEq, Eq)]
@@ -160,12 +161,12 @@ impl OpenSegment {
     }
 
     /// The same records as those of a commit.
-    pub(crate) fn seal(self, request: Request, reply: Reply) -> CommittedSegment
+    pub(crate) fn seal(self, request: Snapshot<Request>, reply: Snapshot<Reply>) -> CommittedSegment
         ensures { result ≡ record {
           terminal = self.terminal;
           number = self.number;
-          request = request;
-          reply = reply;
+          request = request.value;
+          reply = reply.value;
           records = self.records;
         } }
     {
@@ -184,13 +185,14 @@ impl OpenSegment {
     }
 }
 
-/// What a transaction recorded that has committed, with what it was begun with and what it answered.
+/// What a transaction recorded that has committed. What it was begun with and what it answered are for clauses alone: no byte is
+/// kept of either.
 #[derive(Drop)]
 pub struct CommittedSegment {
     terminal: Terminal,
     number: TransactionNumber,
-    request: Request,
-    reply: Reply,
+    request: Snapshot<Request>,
+    reply: Snapshot<Reply>,
     records: Vec<Before>,
 }
 
@@ -203,8 +205,8 @@ impl Model for CommittedSegment {
     ghost view = { λ s. record {
       terminal = s.terminal;
       number = s.number;
-      request = s.request;
-      reply = s.reply;
+      request = s.request.value;
+      reply = s.reply.value;
       records = addressed s.terminal s.number (reverse s.records.items);
     } };
 }
@@ -222,20 +224,6 @@ impl CommittedSegment {
         ensures { result ≡ self.now.number }
     {
         self.number
-    }
-
-    /// What the transaction was begun with.
-    pub fn request(&self) -> &Request
-        ensures { result.now ≡ self.now.request }
-    {
-        &self.request
-    }
-
-    /// What it answered.
-    pub fn reply(&self) -> &Reply
-        ensures { result.now ≡ self.now.reply }
-    {
-        &self.reply
     }
 
     /// Its records, the newest first.

@@ -15,6 +15,7 @@ use oe_values::numbers::{Moment, TERMINALS, Terminal, TransactionNumber};
 use std::alloc::Global;
 use std::collections::VecDeque;
 use std::marker::Model;
+use std::snapshot::Snapshot;
 
 /// A terminal's commits so far, and the segment of its open transaction, if it has one.
 #[derive(Drop)]
@@ -43,10 +44,10 @@ pub struct Undo {
 
 impl Model for Undo {
     ghost use Rattle.std.specs.VecDeque.{deque_len, deque_capacity};
-    ghost use Rattle.oe_undo.specs.Undo.{Stored};
+    ghost use Rattle.oe_undo.specs.Undo.{UndoLog};
     ghost use Rattle.oe_undo.specs.Kept.{IsKept};
 
-    ghost Value = { Stored };
+    ghost Value = { UndoLog };
 
     ghost view = { λ u. record {
       terminals = u.terminals.items;
@@ -267,10 +268,16 @@ impl Undo {
         }
     }
 
-    /// Makes an open segment that of the newest commit, and answers the commit's moment. It takes no memory.
-    pub fn seal(&mut self, segment: Segment, request: Request, reply: Reply) -> Moment
+    /// Makes an open segment that of the newest commit, and answers the commit's moment. It takes no memory, and keeps no byte of
+    /// request and reply.
+    pub fn seal(
+        &mut self,
+        segment: Segment,
+        request: Snapshot<Request>,
+        reply: Snapshot<Reply>,
+    ) -> Moment
         requires { IsSome (active_at self.old segment) }
-        ensures sealed { self.new ≡ sealed self.old segment request reply }
+        ensures sealed { self.new ≡ sealed self.old segment request.value reply.value }
         ensures moment { result ≡ total_count self.old + 1 }
     {
         let state = &mut self.terminals[segment.slot()];

@@ -56,7 +56,7 @@ commits_found : (k : Key) (ss : List (List Record)) (o : Option Record) (v : Opt
 commits_found k [] o v = refl
 commits_found k (bs ∷ ss) o v = ap (restored_commits system k ss) (restored_found k bs o v) ∙ commits_found k ss (oldest_in k bs o) v
 
-pub found_is : (u : undo.Stored) (count m : ℕ) (k : Key) → count + m ≡ newest u → HasRow u m k (oldest_after k u count)
+pub found_is : (u : undo.UndoLog) (count m : ℕ) (k : Key) → count + m ≡ newest u → HasRow u m k (oldest_after k u count)
 found_is u count m k e = λ r.
     let after : newest u - m ≡ count = omega (arith, e) in
     let back : List (List Record) = take (newest u - m) (undo_of u).history in
@@ -76,14 +76,14 @@ told_apart a b r same = go r (is_key a b) refl same
     go false false e h = refl
 
 -- the open segments that are left after those of so many of the greatest terminals
-abbrev pub left_open : Key → undo.Stored → ℕ → Option Record → Option Record
+abbrev pub left_open : Key → undo.UndoLog → ℕ → Option Record → Option Record
 left_open k u lower o = oldest_open k (undo_of u).active (all_below system (terminal_limit - lower)) o
 
 limit : terminal_limit ≡ 65
 unfolding terminal_limit
 limit = refl
 
-pub next_open : (k : Key) (u : undo.Stored) (lower : ℕ) (o : Option Record) → lower < 64
+pub next_open : (k : Key) (u : undo.UndoLog) (lower : ℕ) (o : Option Record) → lower < 64
     → left_open k u lower o ≡ left_open k u (lower + 1) (oldest_in k ((undo_of u).active (64 - lower)) o)
 next_open k u lower o h =
     let this : terminal_limit - lower ≡ suc (64 - lower) = omega (arith, limit, h) in
@@ -91,13 +91,13 @@ next_open k u lower o h =
     ap (λ n. oldest_open k (undo_of u).active (all_below system n) o) this
     ∙ ap (λ n. oldest_open k (undo_of u).active (all_below system n) (oldest_in k ((undo_of u).active (64 - lower)) o)) next
 
-pub no_more_open : (k : Key) (u : undo.Stored) (o : Option Record) → records_at u 0 ≡ [] → left_open k u 64 o ≡ o
+pub no_more_open : (k : Key) (u : undo.UndoLog) (o : Option Record) → records_at u 0 ≡ [] → left_open k u 64 o ≡ o
 no_more_open k u o none =
     let one : terminal_limit - 64 ≡ 1 = omega (arith, limit) in
     ap (λ n. oldest_open k (undo_of u).active (all_below system n) o) one ∙ ap (λ rs. oldest_in k (model_records rs) o) none
 
 -- the commits that are left after so many of the newest
-abbrev pub left_commits : Key → undo.Stored → ℕ → ℕ → Option Record → Option Record
+abbrev pub left_commits : Key → undo.UndoLog → ℕ → ℕ → Option Record → Option Record
 left_commits k u count later o = oldest_of_commits k (drop later (take count (undo_of u).history)) o
 
 split : (cs : List Committed) (count later : ℕ) (c : Committed) → slice_get cs later ≡ Some c → later < count
@@ -117,14 +117,14 @@ past (d ∷ cs) zero (suc later) at = refl
 past (d ∷ cs) (suc count) zero at = absurd (some_none d at)
 past (d ∷ cs) (suc count) (suc later) at = past cs count later at
 
-pub next_commit : (k : Key) (u : undo.Stored) (count later : ℕ) (c : Committed) (o : Option Record) → slice_get u.committed later ≡ Some c → later < count
+pub next_commit : (k : Key) (u : undo.UndoLog) (count later : ℕ) (c : Committed) (o : Option Record) → slice_get u.committed later ≡ Some c → later < count
     → left_commits k u count later o ≡ left_commits k u count (later + 1) (oldest_in k (model_records c.records) o)
 next_commit k u count later c o at h =
     let one_more : suc later ≡ later + 1 = omega arith in
     ap (λ ss. oldest_of_commits k ss o) (split u.committed count later c at h)
     ∙ ap (λ n. oldest_of_commits k (drop n (take count (undo_of u).history)) (oldest_in k (model_records c.records) o)) one_more
 
-pub no_more_commits : (k : Key) (u : undo.Stored) (count later : ℕ) (o : Option Record) → slice_get u.committed later ≡ None → left_commits k u count later o ≡ o
+pub no_more_commits : (k : Key) (u : undo.UndoLog) (count later : ℕ) (o : Option Record) → slice_get u.committed later ≡ None → left_commits k u count later o ≡ o
 no_more_commits k u count later o at = ap (λ ss. oldest_of_commits k ss o) (past u.committed count later at)
 
 all_taken : {A : Type 0} (xs : List A) (count : ℕ) → drop count (take count xs) ≡ []
@@ -133,7 +133,7 @@ all_taken [] (suc count) = refl
 all_taken (x ∷ xs) zero = refl
 all_taken (x ∷ xs) (suc count) = all_taken xs count
 
-pub all_commits : (k : Key) (u : undo.Stored) (count : ℕ) (o : Option Record) → left_commits k u count count o ≡ o
+pub all_commits : (k : Key) (u : undo.UndoLog) (count : ℕ) (o : Option Record) → left_commits k u count count o ≡ o
 all_commits k u count o = ap (λ ss. oldest_of_commits k ss o) (all_taken (undo_of u).history count)
 
 -- records without their addresses, as those of the model
@@ -158,7 +158,7 @@ module _ (k : Key) (b : Before) (bs all : List Before) (o end : Option Record) (
   passes at is t so_far = sym (ap (λ z. oldest_in k (map record_of_before bs) (cond z (Some (record_of_before b)) o)) t) ∙ walked at is so_far
 
 -- a walk over the open segments
-pub open_goes : (k : Key) (u : undo.Stored) (lower t : ℕ) (rs : List Before) (o o' end : Option Record) → lower < 64 → t ≡ 64 - lower
+pub open_goes : (k : Key) (u : undo.UndoLog) (lower t : ℕ) (rs : List Before) (o o' end : Option Record) → lower < 64 → t ≡ 64 - lower
     → rs ≡ records_of (records_at u t) → o' ≡ oldest_in k (map record_of_before rs) o → left_open k u lower o ≡ end → left_open k u (lower + 1) o' ≡ end
 open_goes k u lower t rs o o' end h is at found so_far =
     let these : map record_of_before rs ≡ (undo_of u).active (64 - lower) =
@@ -166,22 +166,22 @@ open_goes k u lower t rs o o' end h is at found so_far =
     in
     ap (left_open k u (lower + 1)) (found ∙ ap (λ bs. oldest_in k bs o) these) ∙ sym (next_open k u lower o h) ∙ so_far
 
-pub open_ends : (k : Key) (u : undo.Stored) (lower : ℕ) (o : Option Record) → lower ≡ 64 → records_at u 0 ≡ [] → left_open k u lower o ≡ left_open k u 0 None
+pub open_ends : (k : Key) (u : undo.UndoLog) (lower : ℕ) (o : Option Record) → lower ≡ 64 → records_at u 0 ≡ [] → left_open k u lower o ≡ left_open k u 0 None
     → o ≡ oldest_open k (undo_of u).active (all_below system terminal_limit) None
 open_ends k u lower o all none so_far =
     let whole : terminal_limit - 0 ≡ terminal_limit = omega arith in
     sym (ap (λ n. left_open k u n o) all ∙ no_more_open k u o none) ∙ so_far ∙ ap (λ n. oldest_open k (undo_of u).active (all_below system n) None) whole
 
 -- a walk over commits
-pub commit_goes : (k : Key) (u : undo.Stored) (count later : ℕ) (c : Committed) (rs : List Before) (o o' end : Option Record) → later < count
+pub commit_goes : (k : Key) (u : undo.UndoLog) (count later : ℕ) (c : Committed) (rs : List Before) (o o' end : Option Record) → later < count
     → slice_get u.committed later ≡ Some c → rs ≡ records_of c.records → o' ≡ oldest_in k (map record_of_before rs) o → left_commits k u count later o ≡ end
     → left_commits k u count (later + 1) o' ≡ end
 commit_goes k u count later c rs o o' end h at is found so_far =
     let these : map record_of_before rs ≡ model_records c.records = ap (map record_of_before) is ∙ without_addresses c.records in
     ap (left_commits k u count (later + 1)) (found ∙ ap (λ bs. oldest_in k bs o) these) ∙ sym (next_commit k u count later c o at h) ∙ so_far
 
-pub commits_end : (k : Key) (u : undo.Stored) (count later : ℕ) (o end : Option Record) → later ≡ count → left_commits k u count later o ≡ end → o ≡ end
+pub commits_end : (k : Key) (u : undo.UndoLog) (count later : ℕ) (o end : Option Record) → later ≡ count → left_commits k u count later o ≡ end → o ≡ end
 commits_end k u count later o end all so_far = sym (ap (λ n. left_commits k u count n o) all ∙ all_commits k u count o) ∙ so_far
 
-pub commits_out : (k : Key) (u : undo.Stored) (count later : ℕ) (o end : Option Record) → slice_get u.committed later ≡ None → left_commits k u count later o ≡ end → o ≡ end
+pub commits_out : (k : Key) (u : undo.UndoLog) (count later : ℕ) (o end : Option Record) → slice_get u.committed later ≡ None → left_commits k u count later o ≡ end → o ≡ end
 commits_out k u count later o end none so_far = sym (no_more_commits k u count later o none) ∙ so_far

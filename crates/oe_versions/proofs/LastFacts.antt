@@ -22,8 +22,8 @@ use Rattle.oe_model.proofs.MapFacts.{is_same, is_self}
 use Rattle.oe_model.proofs.EntryFacts.{EachOf, each_of, kept_at, entries_at}
 use Rattle.oe_model.proofs.ListFacts.{not_above}
 use Rattle.oe_model.proofs.PresenceFacts.{some-map}
-use Rattle.oe_store.specs.Stored.{rows}
-use Rattle.oe_store.specs.Stored as tables
+use Rattle.oe_store.specs.Places.{rows}
+use Rattle.oe_store.specs.Places as tables
 use Rattle.oe_undo.specs.Undo as undo
 use Rattle.oe_versions.specs.Versions.{store_with, version, Stand}
 use Rattle.oe_versions.proofs.LastingFacts.{order_is, rows_last}
@@ -163,7 +163,7 @@ module _ (c : CustomerKey) where
       each_refl (x ∷ xs) = (refl, each_refl xs)
 
 -- the rows that stood at a list's keys
-module _ (ts : tables.Stored) (u : undo.Stored) (m : ℕ) (c : CustomerKey) where
+module _ (ts : tables.Places) (u : undo.UndoLog) (m : ℕ) (c : CustomerKey) where
   abbrev past : FinMap order_cmp Order
   past = (version ts u m).orders
 

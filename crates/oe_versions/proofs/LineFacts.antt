@@ -23,8 +23,8 @@ use Rattle.oe_model.specs.Queries.{status_line}
 use Rattle.oe_model.proofs.MapFacts.{is_same}
 use Rattle.oe_model.proofs.EntryFacts.{EachOf, each_of, kept_at}
 use Rattle.oe_model.proofs.PresenceFacts.{some-map}
-use Rattle.oe_store.specs.Stored.{rows}
-use Rattle.oe_store.specs.Stored as tables
+use Rattle.oe_store.specs.Places.{rows}
+use Rattle.oe_store.specs.Places as tables
 use Rattle.oe_undo.specs.Undo as undo
 use Rattle.oe_versions.specs.Versions.{store_with, version, Stand}
 use Rattle.oe_versions.proofs.LastingFacts.{rows_last}
@@ -84,7 +84,7 @@ module _ (k : OrderKey) where
       (each_of (λ e. (own e.0 ≡ true) × (get lines e.0 ≡ Some e.1)) is_own (λ e t. is_same order_total exact_order (order_of_line e.0) k t.0) (lines_of k lines) (kept_at order_line_total exact_order_line lines own))
 
 -- the lines of an order at a moment are those at the keys of the lines that stand
-pub lines_are : (ts : tables.Stored) (u : undo.Stored) (m : ℕ) (k : OrderKey) → Stand ts u
+pub lines_are : (ts : tables.Places) (u : undo.UndoLog) (m : ℕ) (k : OrderKey) → Stand ts u
     → rows_at (version ts u m).order_lines (lines_of k (rows ts).order_lines) ≡ lines_of k (version ts u m).order_lines
 lines_are ts u m k h =
     sym (kept_is (version ts u m).order_lines order_line_total exact_order_line (rows ts).order_lines (own k) (λ q there.
@@ -95,7 +95,7 @@ lines_are ts u m k h =
 abbrev told : List (OrderLineKey × OrderLine) → List StatusLine
 told es = map (λ e. status_line e.1) es
 
-module _ (ts : tables.Stored) (u : undo.Stored) (m : ℕ) (k : OrderKey) where
+module _ (ts : tables.Places) (u : undo.UndoLog) (m : ℕ) (k : OrderKey) where
   abbrev past : FinMap order_line_cmp OrderLine
   past = (version ts u m).order_lines
 

@@ -19,8 +19,8 @@ use Rattle.oe_rows.specs.declared.rows.Row.{Row}
 use Rattle.oe_rows.specs.declared.rows.Row.TheVariants as row
 use Rattle.oe_model.specs.Rows.{row_at, as_warehouse, as_district, as_customer, as_new_order, as_order, as_order_line, as_stock}
 use Rattle.oe_model.specs.Changes.{Record}
-use Rattle.oe_store.specs.Stored.{rows}
-use Rattle.oe_store.specs.Stored as tables
+use Rattle.oe_store.specs.Places.{rows}
+use Rattle.oe_store.specs.Places as tables
 use Rattle.oe_undo.specs.Undo as undo
 use Rattle.oe_versions.specs.Versions.{version}
 use Rattle.oe_versions.specs.Found.{row_found, HasRow}
@@ -29,7 +29,7 @@ came : {A : Type 0} (c : A → Row) (back : Row → Option A) → ((x : A) → b
 came c back h None = refl
 came c back h (Some x) = h x
 
-module _ (ts : tables.Stored) (u : undo.Stored) (m : ℕ) (o : Option Record) where
+module _ (ts : tables.Places) (u : undo.UndoLog) (m : ℕ) (o : Option Record) where
   pub warehouse_is : (k : WarehouseKey) → HasRow u m (key.Warehouse k) o → get (version ts u m).warehouses k ≡ option_and_then as_warehouse (row_found o (row_at (rows ts) (key.Warehouse k)))
   warehouse_is k h = sym (came row.Warehouse as_warehouse (λ x. refl) (get (version ts u m).warehouses k)) ∙ ap (option_and_then as_warehouse) (h (rows ts))
 
@@ -51,23 +51,23 @@ module _ (ts : tables.Stored) (u : undo.Stored) (m : ℕ) (o : Option Record) wh
   pub stock_is : (k : StockKey) → HasRow u m (key.Stock k) o → get (version ts u m).stocks k ≡ option_and_then as_stock (row_found o (row_at (rows ts) (key.Stock k)))
   stock_is k h = sym (came row.Stock as_stock (λ x. refl) (get (version ts u m).stocks k)) ∙ ap (option_and_then as_stock) (h (rows ts))
 
-pub warehouse_now : (ts : tables.Stored) (u : undo.Stored) (m : ℕ) (k : WarehouseKey) → HasRow u m (key.Warehouse k) None → get (rows ts).warehouses k ≡ get (version ts u m).warehouses k
+pub warehouse_now : (ts : tables.Places) (u : undo.UndoLog) (m : ℕ) (k : WarehouseKey) → HasRow u m (key.Warehouse k) None → get (rows ts).warehouses k ≡ get (version ts u m).warehouses k
 warehouse_now ts u m k h = sym (warehouse_is ts u m None k h ∙ came row.Warehouse as_warehouse (λ x. refl) (get (rows ts).warehouses k))
 
-pub new_order_now : (ts : tables.Stored) (u : undo.Stored) (m : ℕ) (k : NewOrderKey) → HasRow u m (key.NewOrder k) None → get (rows ts).new_orders k ≡ get (version ts u m).new_orders k
+pub new_order_now : (ts : tables.Places) (u : undo.UndoLog) (m : ℕ) (k : NewOrderKey) → HasRow u m (key.NewOrder k) None → get (rows ts).new_orders k ≡ get (version ts u m).new_orders k
 new_order_now ts u m k h = sym (new_order_is ts u m None k h ∙ came row.NewOrder as_new_order (λ x. refl) (get (rows ts).new_orders k))
 
-pub customer_now : (ts : tables.Stored) (u : undo.Stored) (m : ℕ) (k : CustomerKey) → HasRow u m (key.Customer k) None → get (rows ts).customers k ≡ get (version ts u m).customers k
+pub customer_now : (ts : tables.Places) (u : undo.UndoLog) (m : ℕ) (k : CustomerKey) → HasRow u m (key.Customer k) None → get (rows ts).customers k ≡ get (version ts u m).customers k
 customer_now ts u m k h = sym (customer_is ts u m None k h ∙ came row.Customer as_customer (λ x. refl) (get (rows ts).customers k))
 
-pub district_now : (ts : tables.Stored) (u : undo.Stored) (m : ℕ) (k : DistrictKey) → HasRow u m (key.District k) None → get (rows ts).districts k ≡ get (version ts u m).districts k
+pub district_now : (ts : tables.Places) (u : undo.UndoLog) (m : ℕ) (k : DistrictKey) → HasRow u m (key.District k) None → get (rows ts).districts k ≡ get (version ts u m).districts k
 district_now ts u m k h = sym (district_is ts u m None k h ∙ came row.District as_district (λ x. refl) (get (rows ts).districts k))
 
-pub order_now : (ts : tables.Stored) (u : undo.Stored) (m : ℕ) (k : OrderKey) → HasRow u m (key.Order k) None → get (rows ts).orders k ≡ get (version ts u m).orders k
+pub order_now : (ts : tables.Places) (u : undo.UndoLog) (m : ℕ) (k : OrderKey) → HasRow u m (key.Order k) None → get (rows ts).orders k ≡ get (version ts u m).orders k
 order_now ts u m k h = sym (order_is ts u m None k h ∙ came row.Order as_order (λ x. refl) (get (rows ts).orders k))
 
-pub order_line_now : (ts : tables.Stored) (u : undo.Stored) (m : ℕ) (k : OrderLineKey) → HasRow u m (key.OrderLine k) None → get (rows ts).order_lines k ≡ get (version ts u m).order_lines k
+pub order_line_now : (ts : tables.Places) (u : undo.UndoLog) (m : ℕ) (k : OrderLineKey) → HasRow u m (key.OrderLine k) None → get (rows ts).order_lines k ≡ get (version ts u m).order_lines k
 order_line_now ts u m k h = sym (order_line_is ts u m None k h ∙ came row.OrderLine as_order_line (λ x. refl) (get (rows ts).order_lines k))
 
-pub stock_now : (ts : tables.Stored) (u : undo.Stored) (m : ℕ) (k : StockKey) → HasRow u m (key.Stock k) None → get (rows ts).stocks k ≡ get (version ts u m).stocks k
+pub stock_now : (ts : tables.Places) (u : undo.UndoLog) (m : ℕ) (k : StockKey) → HasRow u m (key.Stock k) None → get (rows ts).stocks k ≡ get (version ts u m).stocks k
 stock_now ts u m k h = sym (stock_is ts u m None k h ∙ came row.Stock as_stock (λ x. refl) (get (rows ts).stocks k))

@@ -28,7 +28,7 @@ oldest_of_commits k [] newer = newer
 oldest_of_commits k (bs ∷ ss) newer = oldest_of_commits k ss (oldest_in k bs newer)
 
 -- among all open transactions and so many of the newest commits
-abbrev pub oldest_after : Key → undo.Stored → ℕ → Option Record
+abbrev pub oldest_after : Key → undo.UndoLog → ℕ → Option Record
 oldest_after k u count =
     oldest_of_commits k (take count (undo_of u).history)
     (oldest_open k (undo_of u).active (all_below system terminal_limit) None)
@@ -43,6 +43,6 @@ abbrev pub record_found : Option Before → Option Record
 record_found o = option_map record_of_before o
 
 -- whatever rows stand, the key's row of the moment is found so
-abbrev pub HasRow : undo.Stored → ℕ → Key → Option Record → Type 0
+abbrev pub HasRow : undo.UndoLog → ℕ → Key → Option Record → Type 0
 HasRow u m k o =
     (r : Rows) → row_at (version_of system (store_with r u) m) k ≡ row_found o (row_at r k)

@@ -6,13 +6,13 @@ use Rattle.oe_theory.specs.Store.{Slot, Store, newest_of, horizon_of, version_of
 use Rattle.oe_theory.specs.StoreTheorems.{IsStanding}
 use Rattle.oe_model.specs.Rows.{Rows}
 use Rattle.oe_model.specs.System.{system}
-use Rattle.oe_store.specs.Stored.{rows, no_rows}
-use Rattle.oe_store.specs.Stored as tables
+use Rattle.oe_store.specs.Places.{rows, no_rows}
+use Rattle.oe_store.specs.Places as tables
 use Rattle.oe_undo.specs.Stands.{undo_of, seals_of, counts_of}
 use Rattle.oe_undo.specs.Undo as undo
 
 -- rows as they stand and a log, without the slots of open transactions, at which no version looks
-abbrev pub store_with : Rows → undo.Stored → Store system
+abbrev pub store_with : Rows → undo.UndoLog → Store system
 store_with r u =
     record {
       tables = r;
@@ -24,29 +24,29 @@ store_with r u =
     }
 
 -- the tables of a moment: what all commits up to it have left, without anybody's open work
-abbrev pub version : tables.Stored → undo.Stored → ℕ → Rows
+abbrev pub version : tables.Places → undo.UndoLog → ℕ → Rows
 version ts u m = version_of system (store_with (rows ts) u) m
 
 -- the log tells the moments alone
-abbrev pub newest : undo.Stored → ℕ
+abbrev pub newest : undo.UndoLog → ℕ
 newest u = newest_of system (store_with no_rows u)
 
-abbrev pub horizon : undo.Stored → ℕ
+abbrev pub horizon : undo.UndoLog → ℕ
 horizon u = horizon_of system (store_with no_rows u)
 
 -- a moment that can be read
-pub record IsReadable (u : undo.Stored) (m : ℕ) : Type 0 where
+pub record IsReadable (u : undo.UndoLog) (m : ℕ) : Type 0 where
   pub old : horizon u ≤ m
   pub new : m ≤ newest u
 
 -- why a moment can't be read
-abbrev pub IsOutside : undo.Stored → ℕ → Refusal → Type 0
+abbrev pub IsOutside : undo.UndoLog → ℕ → Refusal → Type 0
 IsOutside u m (TooOld h) = (h ≡ horizon u) × (m < h)
 IsOutside u m (Future n) = (n ≡ newest u) × (n < m)
 IsOutside u m e = ⊥
 
 -- beside some open transactions, rows and a log stand for a world that steps led to
-abbrev pub Stand : tables.Stored → undo.Stored → Type 0
+abbrev pub Stand : tables.Places → undo.UndoLog → Type 0
 Stand ts u =
     (slots : ℕ → Option (Slot system))
     × IsStanding system (record (store_with (rows ts) u) { slots = slots })

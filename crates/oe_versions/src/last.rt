@@ -22,7 +22,7 @@ fn is_own(key: &OrderKey, order: &Order, customer: &CustomerKey) -> bool
         ≡ eq_by_cmp customer_cmp (customer_of_order key.now order.now) customer.now }
 {
     let owner = key.district_key().customer(order.customer);
-    owner.compare(*customer) == Ordering::Equal
+    owner.cmp(customer) == Ordering::Equal
 }
 
 /// The order with the largest O_ID that a customer had at a moment, with its key, if there was any (clause 2.6.2.2). It is

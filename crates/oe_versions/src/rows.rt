@@ -5,7 +5,7 @@ ghost use Rattle.std.specs.FinMap.{get};
 ghost use Rattle.oe_model.specs.Rows.{row_at, as_warehouse, as_district, as_customer, as_new_order, as_order, as_order_line, as_stock};
 ghost use Rattle.oe_model.specs.Changes.{row_before};
 ghost use Rattle.oe_records.specs.Befores.{record_of_before};
-ghost use Rattle.oe_store.specs.Stored.{rows};
+ghost use Rattle.oe_store.specs.Places.{rows};
 ghost use Rattle.oe_versions.specs.Versions.{version, IsReadable, IsOutside};
 
 use crate::records::found_at;

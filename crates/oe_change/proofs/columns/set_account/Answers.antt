@@ -2,7 +2,7 @@ use Rattle.std.proofs.Common.{◌≡◌, refl, sym, Some}
 use Rattle.std.specs.FinMap.{get}
 use Rattle.oe_rows.specs.declared.customers.Customer.{Customer}
 use Rattle.oe_model.specs.Changes.{UpdateCustomer, UpdatedCustomer}
-use Rattle.oe_store.specs.Stored.{rows}
+use Rattle.oe_store.specs.Places.{rows}
 use Rattle.oe_change.specs.Applies.{Applies}
 use Rattle.oe_change.proofs.ColumnFacts.{by_row, customer_applies}
 use Rattle.oe_change.proofs.columns.set_account.Goals as goal

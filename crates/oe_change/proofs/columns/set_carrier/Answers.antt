@@ -2,7 +2,7 @@ use Rattle.std.proofs.Common.{◌≡◌, refl, sym, Some}
 use Rattle.std.specs.FinMap.{get}
 use Rattle.oe_rows.specs.declared.orders.Order.{Order}
 use Rattle.oe_model.specs.Changes.{UpdateOrder, UpdatedOrder}
-use Rattle.oe_store.specs.Stored.{rows}
+use Rattle.oe_store.specs.Places.{rows}
 use Rattle.oe_change.specs.Applies.{Applies}
 use Rattle.oe_change.proofs.ColumnFacts.{by_row, order_applies}
 use Rattle.oe_change.proofs.columns.set_carrier.Goals as goal

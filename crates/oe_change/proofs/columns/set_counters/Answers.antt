@@ -3,7 +3,7 @@ use Rattle.std.specs.FinMap.{get}
 use Rattle.oe_rows.specs.Item.{with_counters}
 use Rattle.oe_rows.specs.declared.items.Stock.{Stock}
 use Rattle.oe_model.specs.Changes.{UpdateStock, UpdatedStock}
-use Rattle.oe_store.specs.Stored.{rows}
+use Rattle.oe_store.specs.Places.{rows}
 use Rattle.oe_change.specs.Applies.{Applies}
 use Rattle.oe_change.proofs.ColumnFacts.{by_row, stock_applies}
 use Rattle.oe_change.proofs.columns.set_counters.Goals as goal

@@ -2,7 +2,7 @@ use Rattle.std.proofs.Common.{◌≡◌, sym, Some}
 use Rattle.std.specs.FinMap.{get}
 use Rattle.oe_rows.specs.declared.districts.District.{District}
 use Rattle.oe_model.specs.Changes.{UpdateDistrict, UpdatedDistrict}
-use Rattle.oe_store.specs.Stored.{rows}
+use Rattle.oe_store.specs.Places.{rows}
 use Rattle.oe_change.specs.Applies.{Applies}
 use Rattle.oe_change.proofs.ColumnFacts.{by_row, district_applies}
 use Rattle.oe_change.proofs.columns.set_district_ytd.Goals as goal

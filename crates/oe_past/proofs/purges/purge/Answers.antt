@@ -1,5 +1,7 @@
-use Rattle.std.proofs.Common.{◌≡◌, ◌-◌, ◌∙◌, ap, arith, length}
+use Rattle.std.proofs.Common.{◌≡◌, ◌-◌, ◌∙◌, ap, subst, arith, length, drop}
+use Rattle.oe_undo.specs.Stands.{undo_of}
 use Rattle.oe_undo.specs.Undo.{with_newest}
+use Rattle.oe_past.specs.GivesUp.{GivesUpDeleted}
 use Rattle.oe_past.specs.Moments.{store_with, newest}
 use Rattle.oe_past.proofs.PastFacts.{purged_is}
 use Rattle.oe_past.proofs.purges.purge.Goals as goal
@@ -9,4 +11,10 @@ returns-in-Ok-clause-purged c =
     let left : length c.args.undo.now.committed - (c.kept.result - c.in-Ok.later) ≡ newest c.args.undo.now - c.args.moment =
     omega (arith, c.kept.ensures, c.in-Ok.ensures.count, c.in-Ok.ensures.within) in
     λ r slots.
-    ap (λ z. store_with r z slots) (c.take_oldest.ensures ∙ ap (λ n. with_newest n c.args.undo.now) left) ∙ purged_is c.args.undo.now c.args.moment r slots
+    ap (λ z. store_with r z slots) (c.take_oldest.ensures.log ∙ ap (λ n. with_newest n c.args.undo.now) left) ∙ purged_is c.args.undo.now c.args.moment r slots
+
+pub returns-in-Ok-clause-places : goal.returns-in-Ok-clause-places
+returns-in-Ok-clause-places c =
+    let left : length c.args.undo.now.committed - (c.kept.result - c.in-Ok.later) ≡ newest c.args.undo.now - c.args.moment =
+    omega (arith, c.kept.ensures, c.in-Ok.ensures.count, c.in-Ok.ensures.within) in
+    subst (λ n. GivesUpDeleted c.args.tables.now c.take_oldest.new.tables (drop n (undo_of c.args.undo.now).history)) left c.take_oldest.ensures.places

@@ -1,5 +1,4 @@
-use Rattle.std.proofs.Common.{◌≡◌, ◌∙◌, sym, subst, Some, None}
-use Rattle.oe_undo.specs.Segments.{newest_of}
+use Rattle.std.proofs.Common.{◌∙◌, sym, subst}
 use Rattle.oe_undo.specs.Stands.{model_records}
 use Rattle.oe_past.proofs.PastFacts.{none_put, can_put, one_put, all_put, PutsBack}
 use Rattle.oe_past.proofs.rewinds.put_back.Goals as goal

@@ -1,7 +1,7 @@
 use Rattle.std.proofs.Common.{◌≡◌, ◌-◌, ◌∙◌, ap, take}
 use Rattle.oe_theory.specs.Undo.{unwind_commits}
 use Rattle.oe_model.specs.System.{system}
-use Rattle.oe_store.specs.Stored.{rows}
+use Rattle.oe_store.specs.Places.{rows}
 use Rattle.oe_undo.specs.Stands.{undo_of}
 use Rattle.oe_undo.specs.Undo.{without_newest}
 use Rattle.oe_past.specs.Moments.{store_with, newest}

@@ -3,7 +3,7 @@ use Rattle.std.specs.Option.{IsSomeAnd}
 use Rattle.oe_model.specs.Changes.{Change}
 use Rattle.oe_records.specs.Befores.{record_of_before}
 use Rattle.oe_records.specs.Writes.{written}
-use Rattle.oe_store.specs.Stored.{rows}
+use Rattle.oe_store.specs.Places.{rows}
 use Rattle.oe_change.specs.Applies.{Applies}
 use Rattle.oe_store_tests.proofs.writes.make.Goals as goal
 

@@ -1,6 +1,6 @@
 use Rattle.std.proofs.Common.{sym, ap, ◌∙◌}
 use Rattle.oe_model.specs.Choice.{middle}
-use Rattle.oe_store.specs.Stored.{rows}
+use Rattle.oe_store.specs.Places.{rows}
 use Rattle.oe_versions.specs.Versions.{store_with}
 use Rattle.oe_versions.proofs.LastingFacts.{names_last}
 use Rattle.oe_versions.proofs.names.names_at.Goals as goal

@@ -4,7 +4,7 @@ use Rattle.std.specs.Ordering.{eq_by_cmp}
 use Rattle.oe_keys.specs.Key.{customer_cmp}
 use Rattle.oe_model.specs.Keys.{customer_of_order}
 use Rattle.oe_model.specs.Queries.{last_order}
-use Rattle.oe_store.specs.Stored.{rows}
+use Rattle.oe_store.specs.Places.{rows}
 use Rattle.oe_store.specs.Newest.{newest_from}
 use Rattle.oe_store.proofs.tables.Tables.last_order.Given as goal
 

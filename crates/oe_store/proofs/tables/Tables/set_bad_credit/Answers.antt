@@ -3,7 +3,7 @@ use Rattle.std.specs.FinMap.{get}
 use Rattle.oe_rows.specs.Credit.{with_entry}
 use Rattle.oe_rows.specs.declared.customers.Customer.{Customer}
 use Rattle.oe_model.specs.Changes.{UpdateCustomer}
-use Rattle.oe_store.specs.Stored.{rows}
+use Rattle.oe_store.specs.Places.{rows}
 use Rattle.oe_store.specs.contracts.tables.Tables.{the_view}
 use Rattle.oe_store.proofs.ColumnFacts.{IsLeft, customer_left, some_row}
 use Rattle.oe_store.proofs.tables.Tables.set_bad_credit.Goals as goal

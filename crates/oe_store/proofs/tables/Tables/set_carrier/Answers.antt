@@ -2,7 +2,7 @@ use Rattle.std.proofs.Common.{◌≡◌, refl, Some}
 use Rattle.std.specs.FinMap.{get}
 use Rattle.oe_rows.specs.declared.orders.Order.{Order}
 use Rattle.oe_model.specs.Changes.{UpdateOrder}
-use Rattle.oe_store.specs.Stored.{rows}
+use Rattle.oe_store.specs.Places.{rows}
 use Rattle.oe_store.specs.contracts.tables.Tables.{the_view}
 use Rattle.oe_store.proofs.ColumnFacts.{IsLeft, order_left, some_row}
 use Rattle.oe_store.proofs.tables.Tables.set_carrier.Goals as goal

@@ -2,7 +2,7 @@ use Rattle.std.proofs.Common.{ap, ◌∙◌}
 use Rattle.oe_rows.specs.Item.{with_counters}
 use Rattle.oe_rows.specs.declared.items.Stock.{Stock}
 use Rattle.oe_model.specs.Changes.{changed, UpdateStock}
-use Rattle.oe_store.specs.Stored.{rows}
+use Rattle.oe_store.specs.Places.{rows}
 use Rattle.oe_store.specs.contracts.tables.Tables.{the_view}
 use Rattle.oe_store.proofs.ColumnFacts.{on_row, row_was, same_row, IsLeft, stock_left}
 use Rattle.oe_store.proofs.tables.Tables.set_counters.Goals as goal

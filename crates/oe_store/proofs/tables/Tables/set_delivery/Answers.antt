@@ -1,7 +1,7 @@
 use Rattle.std.proofs.Common.{refl, Some, ap, ◌∙◌}
 use Rattle.oe_rows.specs.declared.orders.OrderLine.{OrderLine}
 use Rattle.oe_model.specs.Changes.{changed, UpdateOrderLine}
-use Rattle.oe_store.specs.Stored.{rows}
+use Rattle.oe_store.specs.Places.{rows}
 use Rattle.oe_store.specs.contracts.tables.Tables.{the_view}
 use Rattle.oe_store.proofs.ColumnFacts.{on_row, row_was, same_row, IsLeft, order_line_left}
 use Rattle.oe_store.proofs.tables.Tables.set_delivery.Goals as goal

@@ -1,7 +1,7 @@
 use Rattle.std.proofs.Common.{ap, ◌∙◌}
 use Rattle.oe_rows.specs.declared.districts.District.{District}
 use Rattle.oe_model.specs.Changes.{changed, UpdateDistrict}
-use Rattle.oe_store.specs.Stored.{rows}
+use Rattle.oe_store.specs.Places.{rows}
 use Rattle.oe_store.specs.contracts.tables.Tables.{the_view}
 use Rattle.oe_store.proofs.ColumnFacts.{on_row, row_was, same_row, IsLeft, district_left}
 use Rattle.oe_store.proofs.tables.Tables.set_district_ytd.Goals as goal

@@ -2,7 +2,7 @@ use Rattle.std.proofs.Common.{◌≡◌, ◌+◌, ◌≤◌, length}
 use Rattle.std.specs.Prelude.{count_by}
 use Rattle.std.specs.List.{filter_map}
 use Rattle.oe_model.specs.Choice.{named, namesakes, comes_before}
-use Rattle.oe_store.specs.Stored.{rows}
+use Rattle.oe_store.specs.Places.{rows}
 use Rattle.oe_store.proofs.tables.Tables.standing.Given as goal
 
 abbrev pub invariant-loop-key : goal.invariant-loop-key

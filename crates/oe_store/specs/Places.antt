@@ -30,7 +30,7 @@ use Rattle.oe_model.specs.Rows.{Rows, row_at}
 use Rattle.oe_model.specs.Meets.{Meets}
 
 -- the places of each table, in its keys' order: each has a row, or is blanked
-pub record Stored : Type 0 where
+pub record Places : Type 0 where
   pub warehouses : List (WarehouseKey × Option Warehouse)
   pub districts : List (DistrictKey × Option District)
   pub customers : List (CustomerKey × Option Customer)
@@ -42,7 +42,7 @@ pub record Stored : Type 0 where
   pub stocks : List (StockKey × Option Stock)
 
 -- the rows of each table
-abbrev pub rows : Stored → Rows
+abbrev pub rows : Places → Rows
 rows s = record {
   warehouses = rows_of warehouse_cmp s.warehouses;
   districts = rows_of district_cmp s.districts;
@@ -56,7 +56,7 @@ rows s = record {
 }
 
 -- the key has a place in its table, with a row or blanked
-abbrev pub HasPlace : Stored → Key → Type 0
+abbrev pub HasPlace : Places → Key → Type 0
 HasPlace s (key.Warehouse k) = IsSome (place warehouse_cmp s.warehouses k)
 HasPlace s (key.District k) = IsSome (place district_cmp s.districts k)
 HasPlace s (key.Customer k) = IsSome (place customer_cmp s.customers k)
@@ -68,12 +68,16 @@ HasPlace s (key.Item k) = IsSome (place item_cmp s.items k)
 HasPlace s (key.Stock k) = IsSome (place stock_cmp s.stocks k)
 
 -- the same keys have places
-abbrev pub SamePlaces : Stored → Stored → Type 0
+abbrev pub SamePlaces : Places → Places → Type 0
 SamePlaces old new = (k : Key) → HasPlace new k ↔ HasPlace old k
 
 -- and this key
-abbrev pub AddsPlace : Stored → Stored → Key → Type 0
+abbrev pub AddsPlace : Places → Places → Key → Type 0
 AddsPlace old new own = (k : Key) → HasPlace new k ↔ (HasPlace old k ⊎ (k ≡ own))
+
+-- a key without a row has no place any more, and each other key has one as before
+abbrev pub GivesUp : Places → Places → Key → Type 0
+GivesUp old new own = (k : Key) → HasPlace new k ↔ (HasPlace old k × ((k ≡ own) → IsSome (row_at (rows old) k)))
 
 -- the rows of one group, in the keys' order: `group_of` is a key's group
 abbrev pub entries_of : {K G X : Type 0} {R : K → K → Ordering} → (G → G → Ordering) → (K → G) → G → FinMap R X → List (K × X)
