@@ -1,2 +1,2 @@
 pub mod NumberFacts
-pub mod RowFacts
+pub mod StageFacts

@@ -1,4 +1,4 @@
 -- What the clauses of this crate cite.
 pub mod Remainder
 pub mod Program
-pub mod Rows
+pub mod Stages

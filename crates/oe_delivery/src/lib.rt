@@ -4,7 +4,7 @@
 pub mod looks;
 pub mod programs;
 pub mod remainders;
-pub mod rows;
+pub mod stages;
 
 pub use programs::Program;
 pub use remainders::Remainder;

@@ -2,7 +2,7 @@
 ghost use Rattle.std.specs.Prelude.{◌≡◌, map, option_map};
 ghost use Rattle.std.specs.FinMap.{get};
 ghost use Rattle.oe_model.specs.Delivery.{lines_of};
-ghost use Rattle.oe_store.specs.Stored.{rows};
+ghost use Rattle.oe_store.specs.Places.{rows};
 ghost use Rattle.oe_delivery.specs.Remainder.{Left, remainder_of};
 
 use crate::remainders::{LineNumbers, Listed, Remainder};

@@ -7,10 +7,10 @@ ghost use Rattle.oe_model.specs.Positions.{InDelivery};
 ghost use Rattle.oe_engine.specs.View.{IsOpen};
 ghost use Rattle.oe_engine.specs.Programs.{Progresses, delivery_reply};
 ghost use Rattle.oe_delivery.specs.Program.{position_of, HasLine, HasNoLine};
-ghost use Rattle.oe_delivery.specs.Rows.{Advances, HoldsTaken, Steps};
+ghost use Rattle.oe_delivery.specs.Stages.{Advances, HoldsTaken, Steps};
 
 use crate::remainders::Remainder;
-use crate::rows::{credit_customer, date_line, set_carrier, take_oldest};
+use crate::stages::{credit_customer, date_line, set_carrier, take_oldest};
 use oe_engine::{Engine, Progress, Tx};
 use oe_requests::{DeliveredOrder, DeliveryRequest, DistrictDelivery, Refusal};
 use oe_values::{LineNumber, OrderNumber};
@@ -93,7 +93,7 @@ impl Program {
     }
 
     // Another stage, before the end.
-    fn row(
+    fn stage(
         &self,
         request: &DeliveryRequest,
         engine: &mut Engine,
@@ -134,7 +134,7 @@ impl Program {
         if let Some(number) = self.next_number() {
             return self.date(number, request, engine, tx);
         }
-        match self.row(request, engine, tx) {
+        match self.stage(request, engine, tx) {
             Ok(after) => {
                 *self = after;
                 Progress::More

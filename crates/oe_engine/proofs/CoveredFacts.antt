@@ -9,8 +9,6 @@ use Rattle.oe_keys.specs.declared.keys.OrderKey.{OrderKey}
 use Rattle.oe_keys.specs.declared.keys.StockKey.{StockKey}
 use Rattle.oe_keys.specs.declared.keys.Key.{Key}
 use Rattle.oe_keys.specs.declared.keys.Key.TheVariants as key
-use Rattle.oe_rows.specs.declared.customers.Customer.{Customer}
-use Rattle.oe_rows.specs.declared.orders.Order.{Order}
 use Rattle.oe_rows.specs.declared.rows.Row.{Row}
 use Rattle.oe_rows.specs.declared.rows.Row.TheVariants as row
 use Rattle.oe_theory.specs.World.{set}

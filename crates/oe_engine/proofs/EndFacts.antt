@@ -9,10 +9,10 @@ use Rattle.oe_records.specs.Befores.{record_of_before}
 use Rattle.oe_theory.specs.World as world
 use Rattle.oe_theory.specs.Undo.{unwind, put_records}
 use Rattle.oe_model.specs.System.{system}
-use Rattle.oe_store.specs.Stored.{rows, HasPlace}
-use Rattle.oe_store.specs.Stored as tables
+use Rattle.oe_store.specs.Places.{rows, HasPlace}
+use Rattle.oe_store.specs.Places as tables
 use Rattle.oe_undo.specs.Segments.{Addressed}
-use Rattle.oe_undo.specs.Undo.{Stored, active_at, records_at, count_at, dropped}
+use Rattle.oe_undo.specs.Undo.{UndoLog, active_at, records_at, count_at, dropped}
 use Rattle.oe_undo.specs.Stands.{model_records, undo_of}
 use Rattle.oe_undo.proofs.StandsFacts as stands
 use Rattle.oe_locks.specs.Held.{Holdings, OthersKeep, HoldsNothing}
@@ -27,7 +27,7 @@ use Rattle.oe_engine.proofs.LogFacts.{active_set, seen_same}
 use Rattle.oe_engine.proofs.KeptFacts.{places_set, released_idle}
 
 -- the engine's promise after records were put back
-pub taken_kept : (ts ts' : tables.Stored) (u u' : Stored) (ls : Holdings) (t n : ℕ) → TakesBack ts u t n ts' u' → IsKept ts u ls → IsKept ts' u' ls
+pub taken_kept : (ts ts' : tables.Places) (u u' : UndoLog) (ls : Holdings) (t n : ℕ) → TakesBack ts u t n ts' u' → IsKept ts u ls → IsKept ts' u' ls
 taken_kept ts ts' u u' ls t n h k =
     let w = h.others in
     let more : (j : Key) → HasPlace ts j → HasPlace ts' j = λ j p. (w.places j).1 p in
@@ -40,7 +40,7 @@ taken_kept ts ts' u u' ls t n h k =
     }
 
 -- and after an empty segment was dropped, and its terminal's names were let go of
-pub dropped_kept : (ts : tables.Stored) (u : Stored) (ls ls' : Holdings) (t : ℕ) → t < length u.terminals → records_at u t ≡ []
+pub dropped_kept : (ts : tables.Places) (u : UndoLog) (ls ls' : Holdings) (t : ℕ) → t < length u.terminals → records_at u t ≡ []
     → HoldsNothing ls' t → OthersKeep ls ls' t → IsKept ts u ls → IsKept ts (dropped u t) ls'
 dropped_kept ts u ls ls' t within empty own others k =
     let s = stands.drops u t empty in
@@ -59,7 +59,7 @@ dropped_kept ts u ls ls' t within empty own others k =
     }
 
 -- back at a mark
-pub back_is : (ts ts' : tables.Stored) (u u' : Stored) (ls : Holdings) (t mark n : ℕ) → n ≡ length ((undo_of u).active t) - mark → TakesBack ts u t n ts' u'
+pub back_is : (ts ts' : tables.Places) (u u' : UndoLog) (ls : Holdings) (t mark n : ℕ) → n ≡ length ((undo_of u).active t) - mark → TakesBack ts u t n ts' u'
     → view_from ts' u' ls ≡ back_at t mark (view_from ts u ls)
 unfolding view_from
 back_is ts ts' u u' ls t mark n is h =
@@ -76,13 +76,13 @@ no_model [] e = refl
 no_model (r ∷ rs) e = cc
 
 -- where as many were put back as there were, none is left
-pub none_is_left : (ts ts' : tables.Stored) (u u' : Stored) (t n : ℕ) → n ≡ length (records_at u t) → TakesBack ts u t n ts' u' → records_at u' t ≡ []
+pub none_is_left : (ts ts' : tables.Places) (u u' : UndoLog) (t n : ℕ) → n ≡ length (records_at u t) → TakesBack ts u t n ts' u' → records_at u' t ≡ []
 none_is_left ts ts' u u' t n is h =
     let many = length-map (records_at u t) (λ r. record_of_before r.before) in
     no_model (records_at u' t) (h.records ∙ drop_all n ((undo_of u).active t) (omega arith))
 
 -- all put back, dropped and let go of
-pub rolled_back_is : (ts ts' : tables.Stored) (u u' : Stored) (ls ls' : Holdings) (t n : ℕ) → n ≡ length (records_at u t) → t < length u.terminals
+pub rolled_back_is : (ts ts' : tables.Places) (u u' : UndoLog) (ls ls' : Holdings) (t n : ℕ) → n ≡ length (records_at u t) → t < length u.terminals
     → TakesBack ts u t n ts' u' → HoldsNothing ls' t → OthersKeep ls ls' t → view_from ts' (dropped u' t) ls' ≡ rolled_back t (view_from ts u ls)
 unfolding view_from
 rolled_back_is ts ts' u u' ls ls' t n is within h own others =
@@ -103,13 +103,13 @@ rolled_back_is ts ts' u u' ls ls' t n is within h own others =
     λ i. record { rows = rows_is i; undo = undo_is i; seals = seals_is i; counts = counts_is i; held = names i; is_open = opens i; extents = w.extents i }
 
 -- how many are to go to come back to a mark
-pub since_is : (u : Stored) (t k n mark m : ℕ) → t ≡ k → n ≡ length (records_at u t) → m ≡ mark → n - m ≡ length ((undo_of u).active k) - mark
+pub since_is : (u : UndoLog) (t k n mark m : ℕ) → t ≡ k → n ≡ length (records_at u t) → m ≡ mark → n - m ≡ length ((undo_of u).active k) - mark
 since_is u t k n mark m same is at =
     let many = length-map (records_at u t) (λ b. record_of_before b.before) in
     let there : length ((undo_of u).active t) ≡ length ((undo_of u).active k) = ap (λ z. length ((undo_of u).active z)) same in
     omega arith
 
-pub within_mark : (u : Stored) (t k n mark m : ℕ) → t ≡ k → n ≡ length (records_at u t) → m ≡ mark → mark ≤ length ((undo_of u).active k) → m ≤ n
+pub within_mark : (u : UndoLog) (t k n mark m : ℕ) → t ≡ k → n ≡ length (records_at u t) → m ≡ mark → mark ≤ length ((undo_of u).active k) → m ≤ n
 within_mark u t k n mark m same is at below =
     let many = length-map (records_at u t) (λ b. record_of_before b.before) in
     let there : length ((undo_of u).active t) ≡ length ((undo_of u).active k) = ap (λ z. length ((undo_of u).active z)) same in

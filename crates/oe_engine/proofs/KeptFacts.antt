@@ -12,12 +12,12 @@ use Rattle.oe_theory.specs.World as world
 use Rattle.oe_model.specs.Rows.{row_at}
 use Rattle.oe_model.specs.Changes.{Change, Record, key_of, record_key}
 use Rattle.oe_model.proofs.RowFacts.{record_key_of}
-use Rattle.oe_store.specs.Stored.{HasPlace, rows}
-use Rattle.oe_store.specs.Stored as tables
+use Rattle.oe_store.specs.Places.{HasPlace, rows}
+use Rattle.oe_store.specs.Places as tables
 use Rattle.oe_change.specs.Applies.{Applies}
 use Rattle.oe_undo.specs.declared.segments.Address.{Address}
 use Rattle.oe_undo.specs.declared.undo.TerminalState.{TerminalState}
-use Rattle.oe_undo.specs.Undo.{Stored, idle, active_at, count_at, no_segments, idle_terminals, with_room, opened, pushed, sealed, dropped}
+use Rattle.oe_undo.specs.Undo.{UndoLog, idle, active_at, count_at, no_segments, idle_terminals, with_room, opened, pushed, sealed, dropped}
 use Rattle.oe_undo.specs.Undo as undo
 use Rattle.oe_undo.specs.Stands.{undo_of}
 use Rattle.oe_undo.proofs.StandsFacts as stands
@@ -29,7 +29,7 @@ use Rattle.oe_engine.specs.Kept.{IsKept}
 use Rattle.oe_engine.proofs.LogFacts.{active_set, seen_same, changed_open, pushed_open, some_of}
 
 -- one terminal's records replaced
-pub places_set : (ts : tables.Stored) (t : ℕ) (bs : List Record) (f : ℕ → List Record) → HavePlaces ts bs → ((x : ℕ) → HavePlaces ts (f x))
+pub places_set : (ts : tables.Places) (t : ℕ) (bs : List Record) (f : ℕ → List Record) → HavePlaces ts bs → ((x : ℕ) → HavePlaces ts (f x))
     → (x : ℕ) → HavePlaces ts (world.set t bs f x)
 places_set ts t bs f own others x = go (x == t)
   where
@@ -47,7 +47,7 @@ idle_set P f g t b is own others x e =
     ]
 
 -- at the beginning
-pub first_kept : (ts : tables.Stored) (n : ℕ) (ls : Holdings) → IsIdle ls → IsKept ts (no_segments n) ls
+pub first_kept : (ts : tables.Places) (n : ℕ) (ls : Holdings) → IsIdle ls → IsKept ts (no_segments n) ls
 unfolding idle_terminals
 first_kept ts n ls quiet =
     let b = stands.begun n in
@@ -62,7 +62,7 @@ first_kept ts n ls quiet =
     }
 
 -- a segment was opened
-pub opened_kept : (ts : tables.Stored) (u : Stored) (ls : Holdings) (t room : ℕ) → t < length u.terminals → active_at u t ≡ None
+pub opened_kept : (ts : tables.Places) (u : UndoLog) (ls : Holdings) (t room : ℕ) → t < length u.terminals → active_at u t ≡ None
     → count_at u t < 4_294_967_295 → IsKept ts u ls → IsKept ts (opened u t room) ls
 opened_kept ts u ls t room within closed below k =
     let s = stands.opens u t room closed in
@@ -82,7 +82,7 @@ opened_kept ts u ls t room within closed below k =
     }
 
 -- room was made
-pub roomed_kept : (ts : tables.Stored) (u : Stored) (ls : Holdings) (t room : ℕ) → IsKept ts u ls → IsKept ts (with_room u t room) ls
+pub roomed_kept : (ts : tables.Places) (u : UndoLog) (ls : Holdings) (t room : ℕ) → IsKept ts u ls → IsKept ts (with_room u t room) ls
 roomed_kept ts u ls t room k =
     let s = stands.reserves u t room in
     let open_is : (x : ℕ) → is_some (active_at (with_room u t room) x) ≡ is_some (active_at u x) = changed_open u t (λ o. record o { room = room }) in
@@ -97,7 +97,7 @@ roomed_kept ts u ls t room k =
     }
 
 -- a change was made and its record pushed
-pub made_kept : (ts ts' : tables.Stored) (u : Stored) (ls : Holdings) (t : ℕ) (p : Address) (c : Change) (b : Before) → is_some (active_at u t) ≡ true
+pub made_kept : (ts ts' : tables.Places) (u : UndoLog) (ls : Holdings) (t : ℕ) (p : Address) (c : Change) (b : Before) → is_some (active_at u t) ≡ true
     → Applies c ts ts' (record_of_before b) → IsKept ts u ls → IsKept ts' (pushed u t p b) ls
 made_kept ts ts' u ls t p c b is a k =
     let o = some_of (active_at u t) is in
@@ -117,7 +117,7 @@ made_kept ts ts' u ls t p c b is a k =
     }
 
 -- the names of a terminal with an open transaction have changed
-pub locks_kept : (ts : tables.Stored) (u : Stored) (ls ls' : Holdings) (t : ℕ) → is_some (active_at u t) ≡ true → OthersKeep ls ls' t → IsKept ts u ls → IsKept ts u ls'
+pub locks_kept : (ts : tables.Places) (u : UndoLog) (ls ls' : Holdings) (t : ℕ) → is_some (active_at u t) ≡ true → OthersKeep ls ls' t → IsKept ts u ls → IsKept ts u ls'
 locks_kept ts u ls ls' t is others k =
     record {
       size = k.size;
@@ -136,7 +136,7 @@ released_idle ls ls' t f g is own others old =
     idle_set (HoldsNothing ls') f g t false is (λ e. own) (λ x ne e q. others x ne q ∙ old x e q)
 
 -- a segment was sealed, and its terminal's names were let go of
-pub sealed_kept : (ts : tables.Stored) (u : Stored) (ls ls' : Holdings) (t : ℕ) (q : Request) (y : Reply) → t < length u.terminals → is_some (active_at u t) ≡ true
+pub sealed_kept : (ts : tables.Places) (u : UndoLog) (ls ls' : Holdings) (t : ℕ) (q : Request) (y : Reply) → t < length u.terminals → is_some (active_at u t) ≡ true
     → HoldsNothing ls' t → OthersKeep ls ls' t → IsKept ts u ls → IsKept ts (sealed u t q y) ls'
 sealed_kept ts u ls ls' t q y within is own others k =
     let o = some_of (active_at u t) is in
@@ -156,7 +156,7 @@ sealed_kept ts u ls ls' t q y within is own others k =
     }
 
 -- a name was asked for
-pub asked_kept : {T E : Type 0} (r : Result T E) (ts : tables.Stored) (u : Stored) (ls ls' : Holdings) (t : ℕ) → is_some (active_at u t) ≡ true
+pub asked_kept : {T E : Type 0} (r : Result T E) (ts : tables.Places) (u : UndoLog) (ls ls' : Holdings) (t : ℕ) → is_some (active_at u t) ≡ true
     → OnOk r (OthersKeep ls ls' t) → OnErr r (ls' ≡ ls) → IsKept ts u ls → IsKept ts u ls'
 asked_kept (Ok v) ts u ls ls' t is others same k = locks_kept ts u ls ls' t is others k
 asked_kept (Err e) ts u ls ls' t is others same k = subst (IsKept ts u) (sym same) k

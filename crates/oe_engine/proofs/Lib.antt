@@ -1,5 +1,5 @@
 pub mod CoveredFacts
-pub mod DeedFacts
+pub mod StageFacts
 pub mod EndFacts
 pub mod KeptFacts
 pub mod LockFacts
@@ -8,6 +8,6 @@ pub mod MakeFacts
 pub mod PastFacts
 mod WriteFacts
 pub mod ReplyFacts
-pub mod RowFacts
+pub mod PartFacts
 pub mod SafeFacts
 pub mod UnwindFacts

@@ -1,5 +1,5 @@
 -- What the calls of the undo log make of what an engine stands for.
-use Rattle.std.proofs.Common.{◌≡◌, ℕ, suc, ◌-◌, ◌<◌, ◌==◌, Bool, true, false, refl, sym, ap, ◌∙◌, inl, inr, List, [], ◌∷◌, length, get_or, set, map, slice_get}
+use Rattle.std.proofs.Common.{◌≡◌, ℕ, suc, ◌-◌, ◌<◌, ◌==◌, Bool, true, false, refl, sym, ap, ◌∙◌, inl, inr, [], ◌∷◌, length, get_or, set}
 use Rattle.std.specs.Prelude.{Option, None, Some, is_some, option_map}
 use Rattle.std.proofs.lemmas.Bool.{cases_eq, cases_lt, cond-true, cond-false, eq-eqb, ne_eqb}
 use Rattle.std.proofs.lemmas.List.{get_or-set_same, get_or-set_other, set_past}
@@ -14,24 +14,24 @@ use Rattle.oe_model.specs.Rows.{row_at}
 use Rattle.oe_model.specs.Changes.{Change, key_of, record_of}
 use Rattle.oe_model.specs.Locks.{mode_of}
 use Rattle.oe_model.specs.System.{system}
-use Rattle.oe_store.specs.Stored.{rows}
-use Rattle.oe_store.specs.Stored as tables
+use Rattle.oe_store.specs.Places.{rows}
+use Rattle.oe_store.specs.Places as tables
 use Rattle.oe_change.specs.Applies.{Applies}
 use Rattle.oe_undo.specs.declared.segments.Address.{Address}
 use Rattle.oe_undo.specs.declared.undo.TerminalState.{TerminalState}
-use Rattle.oe_undo.specs.Segments.{Open, Committed, popped}
-use Rattle.oe_undo.specs.Undo.{Stored, idle, active_at, records_at, count_at, no_segments, idle_terminals, with_state, with_room, opened, pushed, popped_at, sealed, dropped}
+use Rattle.oe_undo.specs.Segments.{Open, popped}
+use Rattle.oe_undo.specs.Undo.{UndoLog, idle, active_at, records_at, count_at, no_segments, idle_terminals, with_state, with_room, opened, pushed, popped_at, sealed, dropped}
 use Rattle.oe_undo.specs.Undo as undo
-use Rattle.oe_undo.specs.Stands.{undo_of, seal_of}
+use Rattle.oe_undo.specs.Stands.{undo_of}
 use Rattle.oe_undo.proofs.StandsFacts as stands
 use Rattle.oe_undo.proofs.KeptFacts.{idle_at}
 use Rattle.oe_locks.specs.Held.{Holdings, OthersKeep, HoldsNothing, IsIdle}
-use Rattle.oe_engine.specs.View.{view_from, newest_reply, opened_view}
+use Rattle.oe_engine.specs.View.{view_from, opened_view}
 use Rattle.oe_engine.specs.Calls.{begun, made, committed}
 use Rattle.oe_engine.proofs.LockFacts.{held_of, released_is}
 
 -- whether a terminal's segment is open, where its state was replaced
-pub active_set : (u : Stored) (t : ℕ) (s : TerminalState) → t < length u.terminals → (x : ℕ)
+pub active_set : (u : UndoLog) (t : ℕ) (s : TerminalState) → t < length u.terminals → (x : ℕ)
     → is_some (active_at (with_state u t s) x) ≡ world.set t (is_some s.active) (λ y. is_some (active_at u y)) x
 active_set u t s within x =
     elim (cases_eq x t) [
@@ -40,7 +40,7 @@ active_set u t s within x =
     ]
 
 -- what is seen of the terminals stays where one is replaced by a state that looks the same
-pub seen_same : {A : Type 0} (see : TerminalState → A) (u : Stored) (t : ℕ) (s : TerminalState) → see s ≡ see (get_or u.terminals t idle)
+pub seen_same : {A : Type 0} (see : TerminalState → A) (u : UndoLog) (t : ℕ) (s : TerminalState) → see s ≡ see (get_or u.terminals t idle)
     → (x : ℕ) → see (get_or (set u.terminals t s) x idle) ≡ see (get_or u.terminals x idle)
 seen_same see u t s same x =
     elim (cases_lt t (length u.terminals)) [
@@ -59,15 +59,15 @@ changed_some f None = refl
 changed_some f (Some o) = refl
 
 -- an open segment that is changed is open
-pub changed_open : (u : Stored) (t : ℕ) (f : Open → Open) (x : ℕ)
+pub changed_open : (u : UndoLog) (t : ℕ) (f : Open → Open) (x : ℕ)
     → is_some (active_at (undo.with_active u t (undo.changed f (active_at u t))) x) ≡ is_some (active_at u x)
 changed_open u t f = seen_same (λ z. is_some z.active) u t _ (changed_some f (active_at u t))
 
-pub pushed_open : (u : Stored) (t : ℕ) (p : Address) (b : Before) (x : ℕ) → is_some (active_at (pushed u t p b) x) ≡ is_some (active_at u x)
+pub pushed_open : (u : UndoLog) (t : ℕ) (p : Address) (b : Before) (x : ℕ) → is_some (active_at (pushed u t p b) x) ≡ is_some (active_at u x)
 pushed_open u t p b x =
     changed_open u t (λ o. record o { records = record { address = p; before = b } ∷ o.records; room = o.room - 1 }) x
 
-pub popped_open : (u : Stored) (t : ℕ) (x : ℕ) → is_some (active_at (popped_at u t) x) ≡ is_some (active_at u x)
+pub popped_open : (u : UndoLog) (t : ℕ) (x : ℕ) → is_some (active_at (popped_at u t) x) ≡ is_some (active_at u x)
 popped_open u t x = changed_open u t (λ o. popped o) x
 
 pub is_none : (a : Option Open) → is_some a ≡ false → a ≡ None
@@ -79,7 +79,7 @@ some_of None e = cc
 some_of (Some o) e = (o, refl)
 
 -- an engine in which nothing has begun
-pub first_is : (ts : tables.Stored) (n : ℕ) (ls : Holdings) → IsIdle ls → view_from ts (no_segments n) ls ≡ opened_view (rows ts) n
+pub first_is : (ts : tables.Places) (n : ℕ) (ls : Holdings) → IsIdle ls → view_from ts (no_segments n) ls ≡ opened_view (rows ts) n
 unfolding view_from idle_terminals
 first_is ts n ls quiet =
     let b = stands.begun n in
@@ -96,7 +96,7 @@ first_is ts n ls quiet =
     }
 
 -- a segment was opened
-pub opened_is : (ts : tables.Stored) (u : Stored) (ls : Holdings) (t room : ℕ) → t < length u.terminals → active_at u t ≡ None
+pub opened_is : (ts : tables.Places) (u : UndoLog) (ls : Holdings) (t room : ℕ) → t < length u.terminals → active_at u t ≡ None
     → view_from ts (opened u t room) ls ≡ begun t (view_from ts u ls)
 unfolding view_from
 opened_is ts u ls t room within closed =
@@ -115,7 +115,7 @@ opened_is ts u ls t room within closed =
     }
 
 -- room was made
-pub roomed_is : (ts : tables.Stored) (u : Stored) (ls : Holdings) (t room : ℕ) → view_from ts (with_room u t room) ls ≡ view_from ts u ls
+pub roomed_is : (ts : tables.Places) (u : UndoLog) (ls : Holdings) (t room : ℕ) → view_from ts (with_room u t room) ls ≡ view_from ts u ls
 unfolding view_from
 roomed_is ts u ls t room =
     let s = stands.reserves u t room in
@@ -131,7 +131,7 @@ roomed_is ts u ls t room =
     }
 
 -- a change was made and its record pushed
-pub made_is : (ts ts' : tables.Stored) (u : Stored) (ls : Holdings) (t : ℕ) (p : Address) (c : Change) (b : Before) → is_some (active_at u t) ≡ true
+pub made_is : (ts ts' : tables.Places) (u : UndoLog) (ls : Holdings) (t : ℕ) (p : Address) (c : Change) (b : Before) → is_some (active_at u t) ≡ true
     → Applies c ts ts' (record_of_before b) → view_from ts' (pushed u t p b) ls ≡ made t c (view_from ts u ls)
 unfolding view_from
 made_is ts ts' u ls t p c b is a =
@@ -151,7 +151,7 @@ made_is ts ts' u ls t p c b is a =
     }
 
 -- a segment was sealed, and its terminal's names were let go of
-pub sealed_is : (ts : tables.Stored) (u : Stored) (ls ls' : Holdings) (t : ℕ) (q : Request) (y : Reply) → t < length u.terminals → is_some (active_at u t) ≡ true
+pub sealed_is : (ts : tables.Places) (u : UndoLog) (ls ls' : Holdings) (t : ℕ) (q : Request) (y : Reply) → t < length u.terminals → is_some (active_at u t) ≡ true
     → HoldsNothing ls' t → OthersKeep ls ls' t → view_from ts (sealed u t q y) ls' ≡ committed t q y (view_from ts u ls)
 unfolding view_from
 sealed_is ts u ls ls' t q y within is own others =
@@ -169,12 +169,3 @@ sealed_is ts u ls ls' t q y within is own others =
       is_open = opens i;
       extents = u.extents;
     }
-
--- the newest commit
-pub newest_is : (cs : List Committed) (c : Committed) (y : Reply) → Some c ≡ slice_get cs 0 → y ≡ c.reply → Some y ≡ newest_reply (map seal_of cs)
-newest_is [] c y e f = let no : ⊥ = cc in absurd no
-newest_is (d ∷ cs) c y e f = let same : c ≡ d = cc in ap Some (f ∙ ap (λ (z : Committed). z.reply) same)
-
-pub none_is_newest : (cs : List Committed) → ◌≡◌ {A = Option Committed} None (slice_get cs 0) → None ≡ newest_reply (map seal_of cs)
-none_is_newest [] e = refl
-none_is_newest (d ∷ cs) e = let no : ⊥ = cc in absurd no

@@ -1,21 +1,25 @@
 -- What a purge and a rewind make of what an engine stands for, and that it keeps its promise.
-use Rattle.std.proofs.Common.{◌≡◌, ℕ, zero, suc, ◌-◌, ◌<◌, true, false, refl, sym, ap, ◌∙◌, subst, List, [], ◌∷◌, length, take, drop}
-use Rattle.std.specs.Prelude.{Option, None, Some, is_some, Result, Ok, Err, OnOk, OnErr, IfErr}
+use Rattle.std.proofs.Common.{◌≡◌, ℕ, zero, suc, ◌-◌, true, false, refl, sym, ap, ◌∙◌, subst, inl, inr, List, [], ◌∷◌, length, take, drop}
+use Rattle.std.specs.Prelude.{Option, None, is_some, Result, Ok, Err, OnOk, OnErr, IfErr}
 use Rattle.std.proofs.lemmas.List.{length-set}
 use mathlib.Core.Path.{fun_ext}
+use Rattle.oe_keys.specs.declared.keys.NewOrderKey.{NewOrderKey}
+use Rattle.oe_keys.specs.declared.keys.Key.{Key}
 use Rattle.oe_requests.specs.declared.refusals.Refusal.{Refusal}
 use Rattle.oe_requests.specs.declared.refusals.Refusal.TheVariants.{TooOld, Future, NotQuiet}
+use Rattle.oe_theory.specs.Undo.{HasRecord, HasRecordIn}
 use Rattle.oe_theory.specs.Store.{Slot, rewound_to}
-use Rattle.oe_model.specs.Rows.{Rows}
-use Rattle.oe_model.specs.Changes.{Record}
+use Rattle.oe_model.specs.Changes.{Record, record_key}
 use Rattle.oe_model.specs.Meets.{Meets}
-use Rattle.oe_model.specs.System.{system, terminal_limit}
-use Rattle.oe_store.specs.Stored.{rows, SamePlaces}
-use Rattle.oe_store.specs.Stored as tables
+use Rattle.oe_model.specs.System.{system}
+use Rattle.oe_store.specs.Places.{rows, SamePlaces}
+use Rattle.oe_store.specs.Places as tables
 use Rattle.oe_undo.specs.Segments.{Committed}
-use Rattle.oe_undo.specs.Undo.{Stored, active_at, open_total, with_newest, uncounted, without_newest, records_in}
+use Rattle.oe_undo.specs.Undo.{UndoLog, active_at, open_total, with_newest, uncounted, without_newest, records_in}
 use Rattle.oe_undo.specs.Stands.{model_records, undo_of}
 use Rattle.oe_undo.proofs.StandsFacts as stands
+use Rattle.oe_deleted.specs.Deleted.{HasDeleteIn, IsNamedNoMore}
+use Rattle.oe_past.specs.GivesUp.{IsDeletedIn, GivesUpThose, GivesUpDeleted}
 use Rattle.oe_past.specs.GoesBack.{HavePlaces, AllHavePlaces}
 use Rattle.oe_past.specs.Moments.{store_with}
 use Rattle.oe_past.specs.Moments as past
@@ -24,38 +28,57 @@ use Rattle.oe_locks.specs.Held.{Holdings}
 use Rattle.oe_engine.specs.View.{View, view_from}
 use Rattle.oe_engine.specs.Covered.{AreOwned, Unwinds, IsSafe}
 use Rattle.oe_engine.specs.Kept.{IsKept, IsSound}
-use Rattle.oe_engine.specs.Calls.{IsQuiet, CantRewind, purged_to}
+use Rattle.oe_engine.specs.Calls.{IsQuiet, IsKeptMoment, IsNamedNoMoreAfter, CantRewind, purged_to}
 use Rattle.oe_engine.specs.Calls as calls
 use Rattle.oe_engine.proofs.CoveredFacts.{none_unwinds}
 use Rattle.oe_engine.proofs.LockFacts.{held_of}
 
 -- the commits that are kept have places
-taken_places : (ts : tables.Stored) (n : ℕ) (ss : List (List Record)) → AllHavePlaces ts ss → AllHavePlaces ts (take n ss)
+taken_places : (ts : tables.Places) (n : ℕ) (ss : List (List Record)) → AllHavePlaces ts ss → AllHavePlaces ts (take n ss)
 taken_places ts zero ss h = tt
 taken_places ts (suc n) [] h = tt
 taken_places ts (suc n) (bs ∷ ss) h = (h.0, taken_places ts n ss h.1)
 
-left_places : (ts : tables.Stored) (n : ℕ) (ss : List (List Record)) → AllHavePlaces ts ss → AllHavePlaces ts (drop n ss)
+left_places : (ts : tables.Places) (n : ℕ) (ss : List (List Record)) → AllHavePlaces ts ss → AllHavePlaces ts (drop n ss)
 left_places ts zero ss h = h
 left_places ts (suc n) [] h = tt
 left_places ts (suc n) (bs ∷ ss) h = left_places ts n ss h.1
 
+-- keys without a place any more are not these records', so that those have theirs
+still_places : (ts ts' : tables.Places) (P : Key → Type 0) → GivesUpThose ts ts' P → (bs : List Record) → ((k : Key) → P k → HasRecord system k bs → ⊥)
+    → HavePlaces ts bs → HavePlaces ts' bs
+still_places ts ts' P g [] other h = tt
+still_places ts ts' P g (b ∷ bs) other h =
+    ((g (record_key b)).1 (h.0, λ p. absurd (other (record_key b) p (inl refl))), still_places ts ts' P g bs (λ k p e. other k p (inr e)) h.1)
+
+all_still_places : (ts ts' : tables.Places) (P : Key → Type 0) → GivesUpThose ts ts' P → (ss : List (List Record)) → ((k : Key) → P k → HasRecordIn system k ss → ⊥)
+    → AllHavePlaces ts ss → AllHavePlaces ts' ss
+all_still_places ts ts' P g [] other h = tt
+all_still_places ts ts' P g (bs ∷ ss) other h =
+    (still_places ts ts' P g bs (λ k p e. other k p (inl e)) h.0, all_still_places ts ts' P g ss (λ k p e. other k p (inr e)) h.1)
+
 -- A purge
-purged_kept : (ts : tables.Stored) (u : Stored) (ls : Holdings) (n : ℕ) → IsKept ts u ls → IsKept ts (with_newest n u) ls
-purged_kept ts u ls n k = record {
+purged_kept : (ts ts' : tables.Places) (u : UndoLog) (ls : Holdings) (n : ℕ) → GivesUpDeleted ts ts' (drop n (undo_of u).history)
+    → ((k : NewOrderKey) → HasDeleteIn k (drop n (undo_of u).history) → IsNamedNoMore (undo_of u) n k) → IsKept ts u ls → IsKept ts' (with_newest n u) ls
+purged_kept ts ts' u ls n g named k = record {
   size = k.size;
-  active = k.active;
-  history = subst (λ z. AllHavePlaces ts z.history) (sym (stands.cuts u n).undo) (taken_places ts n (undo_of u).history k.history);
+  active = λ t. still_places ts ts' (λ j. IsDeletedIn j (drop n (undo_of u).history)) g ((undo_of u).active t)
+      (λ j p e. (named p.0 p.2).opens t (subst (λ z. HasRecord system z ((undo_of u).active t)) p.1 e)) (k.active t);
+  history = subst (λ z. AllHavePlaces ts' z.history) (sym (stands.cuts u n).undo)
+      (all_still_places ts ts' (λ j. IsDeletedIn j (drop n (undo_of u).history)) g (take n (undo_of u).history)
+      (λ j p e. (named p.0 p.2).commits (subst (λ z. HasRecordIn system z (take n (undo_of u).history)) p.1 e))
+      (taken_places ts n (undo_of u).history k.history));
   idle = k.idle;
   counted = k.counted;
 }
 
-purged_view : (ts : tables.Stored) (u : Stored) (ls : Holdings) (m : ℕ) → view_from ts (with_newest (past.newest u - m) u) ls ≡ purged_to m (view_from ts u ls)
+purged_view : (ts ts' : tables.Places) (u : UndoLog) (ls : Holdings) (m : ℕ) → rows ts' ≡ rows ts
+    → view_from ts' (with_newest (past.newest u - m) u) ls ≡ purged_to m (view_from ts u ls)
 unfolding view_from
-purged_view ts u ls m =
+purged_view ts ts' u ls m same =
     let c = stands.cuts u (past.newest u - m) in
     λ i. record {
-      rows = rows ts;
+      rows = same i;
       undo = c.undo i;
       seals = c.seals i;
       counts = c.counts i;
@@ -67,27 +90,36 @@ purged_view ts u ls m =
 safe_purged : (m : ℕ) (v : View) → IsSafe v → IsSafe (purged_to m v)
 safe_purged m v s = record { owned = s.owned; alone = s.alone; unwinds = s.unwinds }
 
-pub purge_sound : {T E : Type 0} (r : Result T E) (ts : tables.Stored) (u u' : Stored) (ls : Holdings) (m : ℕ) → OnOk r (u' ≡ with_newest (past.newest u - m) u)
-    → OnErr r (u' ≡ u) → IsSound ts u ls → IsSound ts u' ls
-purge_sound (Ok x) ts u u' ls m is same s =
-    subst (λ z. IsSound ts z ls) (sym is)
-    (record {
-      kept = purged_kept ts u ls (past.newest u - m) s.kept;
-      safe = subst IsSafe (sym (purged_view ts u ls m)) (safe_purged m (view_from ts u ls) s.safe);
-    })
-purge_sound (Err e) ts u u' ls m is same s = subst (λ z. IsSound ts z ls) (sym same) s
+-- what the caller knows of a moment that is kept
+named_no_more : (ts : tables.Places) (u : UndoLog) (ls : Holdings) (m : ℕ) → (IsKeptMoment (view_from ts u ls) m → IsNamedNoMoreAfter m (view_from ts u ls))
+    → past.IsKeptMoment u m → (k : NewOrderKey) → HasDeleteIn k (drop (past.newest u - m) (undo_of u).history) → IsNamedNoMore (undo_of u) (past.newest u - m) k
+unfolding view_from
+named_no_more ts u ls m named kept = named kept
 
-pub purge_view : {T E : Type 0} (r : Result T E) (ts : tables.Stored) (u u' : Stored) (ls : Holdings) (m : ℕ) → OnOk r (u' ≡ with_newest (past.newest u - m) u)
-    → OnOk r (view_from ts u' ls ≡ purged_to m (view_from ts u ls))
-purge_view (Ok x) ts u u' ls m is = ap (λ z. view_from ts z ls) is ∙ purged_view ts u ls m
-purge_view (Err e) ts u u' ls m is = tt
+pub purge_sound : {T E : Type 0} (r : Result T E) (ts ts' : tables.Places) (u u' : UndoLog) (ls : Holdings) (m : ℕ)
+    → (IsKeptMoment (view_from ts u ls) m → IsNamedNoMoreAfter m (view_from ts u ls)) → OnOk r (past.IsKeptMoment u m)
+    → OnOk r (u' ≡ with_newest (past.newest u - m) u) → rows ts' ≡ rows ts → OnOk r (GivesUpDeleted ts ts' (drop (past.newest u - m) (undo_of u).history))
+    → OnErr r ((ts' ≡ ts) × (u' ≡ u)) → IsSound ts u ls → IsSound ts' u' ls
+purge_sound (Ok x) ts ts' u u' ls m named kept is rows_same places same s =
+    subst (λ z. IsSound ts' z ls) (sym is)
+    (record {
+      kept = purged_kept ts ts' u ls (past.newest u - m) places (named_no_more ts u ls m named kept) s.kept;
+      safe = subst IsSafe (sym (purged_view ts ts' u ls m rows_same)) (safe_purged m (view_from ts u ls) s.safe);
+    })
+purge_sound (Err e) ts ts' u u' ls m named kept is rows_same places same s =
+    subst (λ z. IsSound z u' ls) (sym same.0) (subst (λ z. IsSound ts z ls) (sym same.1) s)
+
+pub purge_view : {T E : Type 0} (r : Result T E) (ts ts' : tables.Places) (u u' : UndoLog) (ls : Holdings) (m : ℕ) → OnOk r (u' ≡ with_newest (past.newest u - m) u)
+    → rows ts' ≡ rows ts → OnOk r (view_from ts' u' ls ≡ purged_to m (view_from ts u ls))
+purge_view (Ok x) ts ts' u u' ls m is same = ap (λ z. view_from ts' z ls) is ∙ purged_view ts ts' u ls m same
+purge_view (Err e) ts ts' u u' ls m is same = tt
 
 -- A rewind. No segment is open after it either
-quiet_rewound : (n : ℕ) (v : Stored) → ((t : ℕ) → active_at v t ≡ None) → (t : ℕ) → active_at (without_newest n v) t ≡ None
+quiet_rewound : (n : ℕ) (v : UndoLog) → ((t : ℕ) → active_at v t ≡ None) → (t : ℕ) → active_at (without_newest n v) t ≡ None
 quiet_rewound zero v h = h
 quiet_rewound (suc n) v h = quiet_rewound n (uncounted v v.committed) (quiet_still v v.committed h)
 
-size_rewound : (n : ℕ) (v : Stored) → length (without_newest n v).terminals ≡ length v.terminals
+size_rewound : (n : ℕ) (v : UndoLog) → length (without_newest n v).terminals ≡ length v.terminals
 size_rewound zero v = refl
 size_rewound (suc n) v = size_rewound n (uncounted v v.committed) ∙ one v.committed
   where
@@ -95,7 +127,7 @@ size_rewound (suc n) v = size_rewound n (uncounted v v.committed) ∙ one v.comm
     one [] = refl
     one (c ∷ cs) = length-set v.terminals c.terminal _
 
-rewound_kept : (ts ts' : tables.Stored) (u : Stored) (ls : Holdings) (n : ℕ) → SamePlaces ts ts' → ((t : ℕ) → active_at u t ≡ None)
+rewound_kept : (ts ts' : tables.Places) (u : UndoLog) (ls : Holdings) (n : ℕ) → SamePlaces ts ts' → ((t : ℕ) → active_at u t ≡ None)
     → IsKept ts u ls → IsKept ts' (without_newest n u) ls
 rewound_kept ts ts' u ls n same quiet k =
     let r = stands.rewinds u n in
@@ -108,7 +140,7 @@ rewound_kept ts ts' u ls n same quiet k =
       counted = λ t e. let no : false ≡ true = sym (ap is_some (quiet_rewound n u quiet t)) ∙ e in cc;
     }
 
-rewound_view : (ts ts' : tables.Stored) (u : Stored) (ls : Holdings) (m : ℕ) → ((t : ℕ) → active_at u t ≡ None)
+rewound_view : (ts ts' : tables.Places) (u : UndoLog) (ls : Holdings) (m : ℕ) → ((t : ℕ) → active_at u t ≡ None)
     → ((slots : ℕ → Option (Slot system)) → store_with (rows ts') (without_newest (past.newest u - m) u) slots ≡ rewound_to system m (store_with (rows ts) u slots))
     → view_from ts' (without_newest (past.newest u - m) u) ls ≡ calls.rewound_to m (view_from ts u ls)
 unfolding view_from
@@ -136,10 +168,10 @@ safe_rewound m v empty meets s =
       unwinds = λ ts. subst (λ (z : ℕ → List Record). Unwinds z w.rows ts) none (none_unwinds ts w.rows meets);
     }
 
-no_records_of : (u : Stored) → ((t : ℕ) → active_at u t ≡ None) → (t : ℕ) → (undo_of u).active t ≡ []
+no_records_of : (u : UndoLog) → ((t : ℕ) → active_at u t ≡ None) → (t : ℕ) → (undo_of u).active t ≡ []
 no_records_of u quiet t = ap (λ a. model_records (records_in a)) (quiet t)
 
-pub rewind_sound : {T E : Type 0} (r : Result T E) (ts ts' : tables.Stored) (u u' : Stored) (ls : Holdings) (m : ℕ) → OnOk r (open_total u ≡ 0)
+pub rewind_sound : {T E : Type 0} (r : Result T E) (ts ts' : tables.Places) (u u' : UndoLog) (ls : Holdings) (m : ℕ) → OnOk r (open_total u ≡ 0)
     → OnOk r (u' ≡ without_newest (past.newest u - m) u)
     → OnOk r ((slots : ℕ → Option (Slot system)) → store_with (rows ts') u' slots ≡ rewound_to system m (store_with (rows ts) u slots))
     → SamePlaces ts ts' → OnErr r (u' ≡ u) → OnErr r (ts' ≡ ts) → Meets (rows ts') → IsSound ts u ls → IsSound ts' u' ls
@@ -156,7 +188,7 @@ rewind_sound (Ok x) ts ts' u u' ls m none log is places same same_tables meets s
 rewind_sound (Err e) ts ts' u u' ls m none log is places same same_tables meets s =
     subst (λ z. IsSound z u' ls) (sym same_tables) (subst (λ z. IsSound ts z ls) (sym same) s)
 
-pub rewind_view : {T E : Type 0} (r : Result T E) (ts ts' : tables.Stored) (u u' : Stored) (ls : Holdings) (m : ℕ) → OnOk r (open_total u ≡ 0)
+pub rewind_view : {T E : Type 0} (r : Result T E) (ts ts' : tables.Places) (u u' : UndoLog) (ls : Holdings) (m : ℕ) → OnOk r (open_total u ≡ 0)
     → OnOk r (u' ≡ without_newest (past.newest u - m) u)
     → OnOk r ((slots : ℕ → Option (Slot system)) → store_with (rows ts') u' slots ≡ rewound_to system m (store_with (rows ts) u slots))
     → OnOk r (view_from ts' u' ls ≡ calls.rewound_to m (view_from ts u ls))
@@ -166,23 +198,23 @@ rewind_view (Ok x) ts ts' u u' ls m none log is =
 rewind_view (Err e) ts ts' u u' ls m none log is = tt
 
 -- quiet in the view
-pub is_quiet : (ts : tables.Stored) (u : Stored) (ls : Holdings) → open_total u ≡ 0 → IsQuiet (view_from ts u ls)
+pub is_quiet : (ts : tables.Places) (u : UndoLog) (ls : Holdings) → open_total u ≡ 0 → IsQuiet (view_from ts u ls)
 unfolding view_from
 is_quiet ts u ls none t = ap is_some (none_open u none t)
 
-pub rewind_quiet : {T E : Type 0} (r : Result T E) (ts : tables.Stored) (u : Stored) (ls : Holdings) → OnOk r (open_total u ≡ 0) → OnOk r (IsQuiet (view_from ts u ls))
+pub rewind_quiet : {T E : Type 0} (r : Result T E) (ts : tables.Places) (u : UndoLog) (ls : Holdings) → OnOk r (open_total u ≡ 0) → OnOk r (IsQuiet (view_from ts u ls))
 rewind_quiet (Ok x) ts u ls none = is_quiet ts u ls none
 rewind_quiet (Err e) ts u ls none = tt
 
 -- why it is refused
-cause_is : (ts : tables.Stored) (u : Stored) (ls : Holdings) (m : ℕ) (e : Refusal) → length u.terminals ≡ 65 → past.CantRewind u m e → CantRewind (view_from ts u ls) m e
+cause_is : (ts : tables.Places) (u : UndoLog) (ls : Holdings) (m : ℕ) (e : Refusal) → length u.terminals ≡ 65 → past.CantRewind u m e → CantRewind (view_from ts u ls) m e
 unfolding view_from
 cause_is ts u ls m (NotQuiet n) size h = (λ slots same. stands.slots_counted u slots size same ∙ sym h.0, h.1)
 cause_is ts u ls m (TooOld k) size h = (is_quiet ts u ls h.0, h.1)
 cause_is ts u ls m (Future k) size h = (is_quiet ts u ls h.0, h.1)
 cause_is ts u ls m _ size h = absurd h.1
 
-pub rewind_cause : {T : Type 0} (r : Result T Refusal) (ts : tables.Stored) (u : Stored) (ls : Holdings) (m : ℕ) → length u.terminals ≡ 65
+pub rewind_cause : {T : Type 0} (r : Result T Refusal) (ts : tables.Places) (u : UndoLog) (ls : Holdings) (m : ℕ) → length u.terminals ≡ 65
     → IfErr r (past.CantRewind u m) → IfErr r (CantRewind (view_from ts u ls) m)
 rewind_cause (Ok x) ts u ls m size h = tt
 rewind_cause (Err e) ts u ls m size h = cause_is ts u ls m e size h

@@ -23,7 +23,7 @@ use Rattle.oe_model.specs.System.{system}
 use Rattle.oe_model.proofs.RowFacts.{record_key_of}
 use Rattle.oe_model.proofs.PresenceFacts.{missing}
 use Rattle.oe_model.proofs.SystemLaws as model
-use Rattle.oe_store.specs.Stored as tables
+use Rattle.oe_store.specs.Places as tables
 use Rattle.oe_undo.specs.Undo as undo
 use Rattle.oe_locks.specs.Held as locks
 use Rattle.oe_locks.specs.Held.{Holdings}
@@ -32,7 +32,7 @@ use Rattle.oe_engine.specs.Covered.{Owns, AreOwned, IsUnused, HoldsOrder, MayMak
 use Rattle.oe_past.specs.GoesBack.{CanUnwind}
 use Rattle.oe_engine.specs.Calls.{ask_to_write, IsFree, IsBelow, IsCovered, begun, locked, made, put_mode, count_since, back_at, committed, rolled_back}
 use Rattle.oe_engine.proofs.LockFacts.{set_at}
-use Rattle.oe_engine.proofs.RowFacts.{free_is, locked_is}
+use Rattle.oe_engine.proofs.PartFacts.{free_is, locked_is}
 use Rattle.oe_engine.proofs.CoveredFacts.{RefersTo, AreApart, whole_made, made_unwinds, back_unwinds, can_go_back, sealed_unwinds, none_unwinds}
 
 -- what holds at a terminal that was replaced, and at each other
@@ -188,7 +188,7 @@ safe_locked t n m v free s = record {
     theirs u ne q false same e = s.alone u t q (λ d. ne (sym d)) e
 
 -- a name was asked for
-pub asked_safe : {T E : Type 0} (r : Result T E) (ts : tables.Stored) (u : undo.Stored) (ls ls' : Holdings) (t : ℕ) (n : Name) (m : Mode)
+pub asked_safe : {T E : Type 0} (r : Result T E) (ts : tables.Places) (u : undo.UndoLog) (ls ls' : Holdings) (t : ℕ) (n : Name) (m : Mode)
     → OnOk r (locks.IsFreeFor ls t n m) → OnOk r (locks.Takes ls ls' t n m) → OnOk r (locks.OthersKeep ls ls' t) → OnErr r (ls' ≡ ls)
     → IsSafe (view_from ts u ls) → IsSafe (view_from ts u ls')
 asked_safe (Ok x) ts u ls ls' t n m free own others same s =
@@ -319,7 +319,7 @@ pub all_unwind : (t : ℕ) (v : View) → IsSafe v → CanUnwind (v.undo.active 
 all_unwind t v s =
     subst (λ bs. CanUnwind bs v.rows) (take_all (length (v.undo.active t)) (v.undo.active t) (omega arith)) (newest_unwind t (length (v.undo.active t)) v s)
 
--- A row's change is covered once its lock was taken
+-- A stage's change is covered once its lock was taken
 pub covered_after : (t : ℕ) (n : Name) (m : theory.Mode) (c : Change) (v : View) → IsCovered v t (Take n m) (Some c)
     → MayMake ((locked t n m v).held t) t (suc ((locked t n m v).counts t)) c
 covered_after t n m c v h = subst (λ held. MayMake held t (suc (v.counts t)) c) (sym (set_at t (held_after system (Take n m) (v.held t)) v.held)) h

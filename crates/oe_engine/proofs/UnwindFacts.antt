@@ -9,11 +9,11 @@ use Rattle.oe_theory.specs.Undo.{put_records}
 use Rattle.oe_model.specs.Rows.{Rows}
 use Rattle.oe_model.specs.Changes.{Record, put_back, record_key}
 use Rattle.oe_model.specs.System.{system}
-use Rattle.oe_store.specs.Stored.{rows, HasPlace, SamePlaces}
-use Rattle.oe_store.specs.Stored as tables
+use Rattle.oe_store.specs.Places.{rows, HasPlace, SamePlaces}
+use Rattle.oe_store.specs.Places as tables
 use Rattle.oe_change.specs.PutBack.{CanPutBack}
 use Rattle.oe_undo.specs.Segments.{Addressed, newest_of}
-use Rattle.oe_undo.specs.Undo.{Stored, active_at, records_at, popped_at}
+use Rattle.oe_undo.specs.Undo.{UndoLog, active_at, records_at, popped_at}
 use Rattle.oe_undo.specs.Stands.{model_records, undo_of}
 use Rattle.oe_undo.proofs.StandsFacts as stands
 use Rattle.oe_past.specs.GoesBack.{CanUnwind, HavePlaces}
@@ -23,13 +23,13 @@ use Rattle.oe_engine.proofs.LogFacts.{popped_open, some_of}
 use Rattle.oe_past.proofs.PastFacts.{more_places}
 
 -- at the beginning
-pub begins : (ts : tables.Stored) (u : Stored) (t count : ℕ) → count ≤ length (records_at u t) → CanUnwind (take count ((undo_of u).active t)) (rows ts)
+pub begins : (ts : tables.Places) (u : UndoLog) (t count : ℕ) → count ≤ length (records_at u t) → CanUnwind (take count ((undo_of u).active t)) (rows ts)
     → Left ((undo_of u).active t) (rows ts) count ((undo_of u).active t) (rows ts) count
 begins ts u t count enough can =
     let many = length-map (records_at u t) (λ r. record_of_before r.before) in
     record { enough = omega arith; rows = refl; rest = refl; unwinds = can }
 
-pub unchanged : (ts : tables.Stored) (u : Stored) (t : ℕ) → HavePlaces ts ((undo_of u).active t) → Unwinding ts u t ts u
+pub unchanged : (ts : tables.Places) (u : UndoLog) (t : ℕ) → HavePlaces ts ((undo_of u).active t) → Unwinding ts u t ts u
 unchanged ts u t own =
     let same : (undo_of u).active ≡ world.set t ((undo_of u).active t) (undo_of u).active = sym (set_own t (undo_of u).active) in
     record {
@@ -49,7 +49,7 @@ newest_is [] b e = cc
 newest_is (r ∷ rs) b e = let same : r.before ≡ b = cc in ap (λ x. record_of_before x ∷ model_records rs) same
 
 -- there is one as long as any are to go
-pub none_left : (u : Stored) (bs : List Record) (r s : Rows) (t count left : ℕ) → Left bs r count ((undo_of u).active t) s left → 0 < left
+pub none_left : (u : UndoLog) (bs : List Record) (r s : Rows) (t count left : ℕ) → Left bs r count ((undo_of u).active t) s left → 0 < left
     → newest_of (records_at u t) ≡ None → ⊥
 none_left u bs r s t count left h some none = go (records_at u t) none h.enough
   where
@@ -63,12 +63,12 @@ cons_left bs r count b now s left h =
     let enough = h.enough in
     record { enough = omega arith; rows = h.rows; rest = h.rest; unwinds = h.unwinds.2 }
 
-cons_can : (bs : List Record) (r : Rows) (count : ℕ) (b : Record) (now : List Record) (ts : tables.Stored) (left : ℕ) → Left bs r count (b ∷ now) (rows ts) (suc left)
+cons_can : (bs : List Record) (r : Rows) (count : ℕ) (b : Record) (now : List Record) (ts : tables.Places) (left : ℕ) → Left bs r count (b ∷ now) (rows ts) (suc left)
     → HasPlace ts (record_key b) → CanPutBack ts b
 cons_can bs r count b now ts left h place = record { stands = h.unwinds.0; place = place; schema = h.unwinds.1 }
 
 -- it can be put back
-pub can_go : (ts ts' : tables.Stored) (u u' : Stored) (bs : List Record) (r : Rows) (t count left : ℕ) (b : Before)
+pub can_go : (ts ts' : tables.Places) (u u' : UndoLog) (bs : List Record) (r : Rows) (t count left : ℕ) (b : Before)
     → Left bs r count ((undo_of u').active t) (rows ts') left → 0 < left → Unwinding ts u t ts' u' → newest_of (records_at u' t) ≡ Some b
     → CanPutBack ts' (record_of_before b)
 can_go ts ts' u u' bs r t count zero b h some w newest = let no : ⊥ = omega arith in absurd no
@@ -79,7 +79,7 @@ can_go ts ts' u u' bs r t count (suc left) b h some w newest =
     (subst (HavePlaces ts') is w.own).0
 
 -- and what is then left
-pub goes : (ts ts' ts'' : tables.Stored) (u u' : Stored) (bs : List Record) (r : Rows) (t count left : ℕ) (b : Before)
+pub goes : (ts ts' ts'' : tables.Places) (u u' : UndoLog) (bs : List Record) (r : Rows) (t count left : ℕ) (b : Before)
     → is_some (active_at u' t) ≡ true → newest_of (records_at u' t) ≡ Some b → rows ts'' ≡ put_back (record_of_before b) (rows ts')
     → Left bs r count ((undo_of u').active t) (rows ts') (suc left)
     → Left bs r count ((undo_of (popped_at u' t)).active t) (rows ts'') left
@@ -93,7 +93,7 @@ goes ts ts' ts'' u u' bs r t count left b open_is newest put h =
     subst (λ z. Left bs r count z (rows ts'') left) (sym records)
     (subst (λ z. Left bs r count (drop 1 ((undo_of u').active t)) z left) (sym put) next)
 
-pub goes_on : (ts ts' ts'' : tables.Stored) (u u' : Stored) (t : ℕ) (b : Before)
+pub goes_on : (ts ts' ts'' : tables.Places) (u u' : UndoLog) (t : ℕ) (b : Before)
     → is_some (active_at u' t) ≡ true → newest_of (records_at u' t) ≡ Some b → SamePlaces ts' ts'' → Unwinding ts u t ts' u'
     → Unwinding ts u t ts'' (popped_at u' t)
 goes_on ts ts' ts'' u u' t b open_is newest places w =
@@ -122,6 +122,6 @@ goes_on ts ts' ts'' u u' t b open_is newest places w =
     }
 
 -- at the end
-pub ends : (ts ts' : tables.Stored) (u u' : Stored) (t count : ℕ) → Left ((undo_of u).active t) (rows ts) count ((undo_of u').active t) (rows ts') 0
+pub ends : (ts ts' : tables.Places) (u u' : UndoLog) (t count : ℕ) → Left ((undo_of u).active t) (rows ts) count ((undo_of u').active t) (rows ts') 0
     → Unwinding ts u t ts' u' → TakesBack ts u t count ts' u'
 ends ts ts' u u' t count h w = record { rows = h.rows; records = h.rest; others = w }

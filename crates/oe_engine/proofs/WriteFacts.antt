@@ -14,7 +14,7 @@ use Rattle.oe_model.specs.Locks.{governs}
 use Rattle.oe_records.specs.declared.writes.Write.{Write}
 use Rattle.oe_records.specs.declared.writes.Write.TheVariants.{WarehouseYtd, DistrictYtd, NextOrder, CustomerAccount, BadCredit, StockCounters, Carrier, DeliveryDate, InsertHistory, InsertNewOrder, InsertOrder, InsertOrderLine, DeleteNewOrder}
 use Rattle.oe_records.specs.Writes.{key_written, written}
-use Rattle.oe_store.specs.Stored.{Stored, rows}
+use Rattle.oe_store.specs.Places.{Places, rows}
 use Rattle.oe_change.specs.Applies.{Refuses}
 use Rattle.oe_change.specs.Writes.{WantsBox, RefusesWrite}
 use Rattle.oe_engine.specs.View.{View}
@@ -22,7 +22,7 @@ use Rattle.oe_engine.specs.Covered.{HoldsOrder, IsOwn}
 use Rattle.oe_engine.specs.Calls.{ask_to_write, IsCovered, ChangeRefused}
 use Rattle.oe_engine.specs.Writes.{ask_of_write, change_written, WriteHoldsOrder, AbsentRefused, WantsRow}
 use Rattle.oe_engine.proofs.SafeFacts.{covered_to_write}
-use Rattle.oe_engine.proofs.RowFacts.{refused_so}
+use Rattle.oe_engine.proofs.PartFacts.{refused_so}
 
 -- what holds of the change that is there
 module _ (P : Change → Type 0) where
@@ -68,23 +68,23 @@ covered_written v t w c e own order =
     (covered_to_write v t c (subst (λ k. IsOwn t (suc (v.counts t)) (governs k)) (sym same) own) (holds order))
 
 -- Why it is refused: with its row, without it, and where memory is wanted
-pub refused_written : (w : Write) (s : Stored) (c : Change) (e : Refusal) → written w (rows s) ≡ Some c → RefusesWrite w s e → ChangeRefused c (rows s) e
+pub refused_written : (w : Write) (s : Places) (c : Change) (e : Refusal) → written w (rows s) ≡ Some c → RefusesWrite w s e → ChangeRefused c (rows s) e
 refused_written w s c e found h = go (subst (λ o. MatchOption o (e ≡ NoSuchRow (key_written w)) (λ d. Refuses d s e ⊎ WantsBox d e)) found h)
   where
     go : Refuses c s e ⊎ WantsBox c e → ChangeRefused c (rows s) e
     go (inl r) = refused_so c s e r
     go (inr b) = subst (ChangeRefused c (rows s)) (sym b.0) tt
 
-pub refused_absent : (w : Write) (s : Stored) (e : Refusal) → written w (rows s) ≡ None → RefusesWrite w s e → AbsentRefused (key_written w) e
+pub refused_absent : (w : Write) (s : Places) (e : Refusal) → written w (rows s) ≡ None → RefusesWrite w s e → AbsentRefused (key_written w) e
 refused_absent w s e absent h =
     let same : e ≡ NoSuchRow (key_written w) = subst (λ o. MatchOption o (e ≡ NoSuchRow (key_written w)) (λ d. Refuses d s e ⊎ WantsBox d e)) absent h in
     subst (AbsentRefused (key_written w)) (sym same) refl
 
-wants_here : (w : Write) (s : Stored) (e : Refusal) (o : Option Change) → MatchOption o (e ≡ NoSuchRow (key_written w)) (λ d. Refuses d s e ⊎ WantsBox d e)
+wants_here : (w : Write) (s : Places) (e : Refusal) (o : Option Change) → MatchOption o (e ≡ NoSuchRow (key_written w)) (λ d. Refuses d s e ⊎ WantsBox d e)
     → e ≡ NoMemory → WantsRow o s
 wants_here w s e None h same = let no : NoSuchRow (key_written w) ≡ NoMemory = sym h ∙ same in absurd (let z : ⊥ = cc in z)
 wants_here w s e (Some c) (inl r) same = inl (subst (Refuses c s) same r)
 wants_here w s e (Some c) (inr b) same = inr b.1
 
-pub wants_row : (w : Write) (s : Stored) (e : Refusal) → RefusesWrite w s e → e ≡ NoMemory → WantsRow (written w (rows s)) s
+pub wants_row : (w : Write) (s : Places) (e : Refusal) → RefusesWrite w s e → e ≡ NoMemory → WantsRow (written w (rows s)) s
 wants_row w s e h same = wants_here w s e (written w (rows s)) h same

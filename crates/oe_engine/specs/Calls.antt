@@ -1,28 +1,30 @@
 -- What the engine's calls do to what it stands for, and why they are refused.
-use Rattle.std.specs.Prelude.{◌≡◌, ◌≢◌, ◌⊎◌, ℕ, suc, ◌-◌, ◌<◌, ◌≤◌, true, false, cond, List, [], ◌∷◌, Option, None, Some, IsSome, is_some, length, take, drop}
+use Rattle.std.specs.Prelude.{◌≡◌, ◌≢◌, ◌⊎◌, ℕ, suc, ◌-◌, ◌<◌, true, false, cond, List, [], ◌∷◌, Option, None, Some, IsSome, is_some, length, take, drop}
 use Rattle.oe_theory.specs.Machine.{Ask, Stop, Plain, Take, Guard, Free, Under, Own}
 use Rattle.oe_theory.specs.Machine as theory
 use Rattle.oe_theory.specs.World.{go_together, set, bump, total}
 use Rattle.oe_theory.specs.Next.{held_after, record_on, IsNew}
 use Rattle.oe_theory.specs.Undo.{unwind, unwind_commits, put_records}
 use Rattle.oe_theory.specs.Store.{Slot, with_change_of, with_record_of, count_slots, counts_before}
+use Rattle.oe_keys.specs.declared.keys.NewOrderKey.{NewOrderKey}
 use Rattle.oe_keys.specs.declared.locks.Name.{Name}
 use Rattle.oe_requests.specs.declared.requests.Request.{Request}
 use Rattle.oe_requests.specs.declared.replies.Reply.{Reply}
 use Rattle.oe_requests.specs.declared.refusals.Refusal.{Refusal}
 use Rattle.oe_requests.specs.declared.refusals.Refusal.TheVariants.{Busy, NotOpen, AlreadyOpen, NoMemory, NotQuiet}
 use Rattle.oe_model.specs.Rows.{Rows}
-use Rattle.oe_model.specs.Changes.{Change, changed}
+use Rattle.oe_model.specs.Changes.{Change, Record, changed}
 use Rattle.oe_model.specs.Meets.{Accepts, Cause}
 use Rattle.oe_model.specs.Locks.{mode_of, is_name}
 use Rattle.oe_model.specs.Requests.{number_rejection}
 use Rattle.oe_model.specs.System.{system, terminal_limit}
-use Rattle.oe_store.specs.Stored as tables
+use Rattle.oe_store.specs.Places as tables
 use Rattle.oe_change.specs.Applies.{Refuses}
 use Rattle.oe_past.specs.Moments.{IsBetween, IsOutside}
-use Rattle.oe_engine.specs.View.{Stored, View, view_of, Handle, IsOpen}
+use Rattle.oe_deleted.specs.Deleted.{HasDeleteIn, IsNamedNoMore}
+use Rattle.oe_engine.specs.View.{EngineState, View, view_of, Handle, IsOpen}
 use Rattle.oe_engine.specs.Covered.{MayMake}
-use Rattle.oe_engine.specs.declared.rows.Lock.{Lock}
+use Rattle.oe_engine.specs.declared.programs.Lock.{Lock}
 
 -- the lock that a row asks for, in the words of the theory
 abbrev pub ask_of : Option Lock → Ask Name Refusal
@@ -41,7 +43,7 @@ MayRead v t (Under n) = IsSome (v.held t n)
 MayRead v t (Own u k) = Unit {0}
 MayRead v t Free = Unit {0}
 
--- a row's change, if it makes one, is one that its transaction may make, once it has the row's lock
+-- a stage's change, if it makes one, is one that its transaction may make, once it has the stage's lock
 abbrev pub IsCovered : View → ℕ → Ask Name Refusal → Option Change → Type 0
 IsCovered v t a None = Unit {0}
 IsCovered v t a (Some c) = MayMake (held_after system a (v.held t)) t (suc (v.counts t)) c
@@ -86,9 +88,9 @@ made t c v = record v { rows = changed c v.rows; undo = put_records system t (re
 abbrev pub put_mode : ℕ → Name → Option theory.Mode → View → View
 put_mode t n m v = record v { held = set t (λ q. cond (is_name q n) m (v.held t q)) v.held }
 
--- a row done: its lock taken, its change made and recorded
-abbrev pub row_done : ℕ → Ask Name Refusal → Option Change → View → View
-row_done t a c v = record v {
+-- a stage done: its lock taken, its change made and recorded
+abbrev pub stage_done : ℕ → Ask Name Refusal → Option Change → View → View
+stage_done t a c v = record v {
   rows = with_change_of system c v.rows;
   undo = put_records system t (with_record_of system c v.rows (v.undo.active t)) v.undo;
   held = set t (held_after system a (v.held t)) v.held;
@@ -122,16 +124,16 @@ abbrev pub CauseOf : Option Change → Rows → Refusal → Type 0
 CauseOf None r e = ⊥
 CauseOf (Some c) r e = Cause c r e
 
--- why a row is refused: its transaction isn't open here; another is in the way of its lock; memory is wanted for a lock that is
+-- why a stage is refused: its transaction isn't open here; another is in the way of its lock; memory is wanted for a lock that is
 -- new, for a change or for its record; or the tables don't accept the change
-abbrev pub RowRefused : Stored → Handle → Ask Name Refusal → Option Change → Refusal → Type 0
-RowRefused s x a c NotOpen = IsOpen s x → ⊥
-RowRefused s x a c (Busy n u) = IsOpen s x × ((m : theory.Mode) × (a ≡ Take n m) × IsInTheWay (view_of s) x.terminal n m u)
-RowRefused s x a c NoMemory = IsOpen s x × IsFree (view_of s) x.terminal a × (IsNew system ((view_of s).held x.terminal) a ⊎ IsSome c)
-RowRefused s x a c e = IsOpen s x × IsFree (view_of s) x.terminal a × CauseOf c (view_of s).rows e
+abbrev pub StageRefused : EngineState → Handle → Ask Name Refusal → Option Change → Refusal → Type 0
+StageRefused s x a c NotOpen = IsOpen s x → ⊥
+StageRefused s x a c (Busy n u) = IsOpen s x × ((m : theory.Mode) × (a ≡ Take n m) × IsInTheWay (view_of s) x.terminal n m u)
+StageRefused s x a c NoMemory = IsOpen s x × IsFree (view_of s) x.terminal a × (IsNew system ((view_of s).held x.terminal) a ⊎ IsSome c)
+StageRefused s x a c e = IsOpen s x × IsFree (view_of s) x.terminal a × CauseOf c (view_of s).rows e
 
--- memory is wanted for the tables: the row's change is an insert that they accept, at a key without a place
-abbrev pub WantsPlace : Option Change → tables.Stored → Type 0
+-- memory is wanted for the tables: the stage's change is an insert that they accept, at a key without a place
+abbrev pub WantsPlace : Option Change → tables.Places → Type 0
 WantsPlace None s = ⊥
 WantsPlace (Some c) s = Refuses c s NoMemory
 
@@ -194,6 +196,14 @@ AreOpen v n = (slots : ℕ → Option (Slot system)) → ((t : ℕ) → is_some 
 abbrev pub CantRewind : View → ℕ → Refusal → Type 0
 CantRewind v m (NotQuiet n) = AreOpen v n × (0 < n)
 CantRewind v m e = IsQuiet v × IsOutside (horizon v) (newest v) m e
+
+-- the records of the commits up to a moment
+abbrev pub records_up_to : ℕ → View → List (List Record)
+records_up_to m v = drop (newest v - m) v.undo.history
+
+-- a NEW-ORDER row that one of them deleted is named by no later commit and by no open transaction
+abbrev pub IsNamedNoMoreAfter : ℕ → View → Type 0
+IsNamedNoMoreAfter m v = (k : NewOrderKey) → HasDeleteIn k (records_up_to m v) → IsNamedNoMore v.undo (newest v - m) k
 
 -- the records and seals of the commits up to a moment gone
 abbrev pub purged_to : ℕ → View → View

@@ -1,6 +1,7 @@
 -- What an engine keeps of its tables, its undo log and its locks together.
-use Rattle.std.specs.Prelude.{◌≡◌, ℕ, ◌<◌, true, false, length, is_some}
-use Rattle.oe_store.specs.Stored as tables
+use Rattle.std.specs.Prelude.{◌≡◌, ℕ, suc, ◌<◌, true, false, length, is_some}
+use Rattle.oe_values.specs.declared.numbers.TheConstants.{TERMINALS}
+use Rattle.oe_store.specs.Places as tables
 use Rattle.oe_undo.specs.Undo.{active_at, count_at}
 use Rattle.oe_undo.specs.Undo as undo
 use Rattle.oe_undo.specs.Stands.{undo_of}
@@ -9,8 +10,8 @@ use Rattle.oe_past.specs.GoesBack.{HavePlaces, AllHavePlaces}
 use Rattle.oe_engine.specs.View.{view_from}
 use Rattle.oe_engine.specs.Covered.{IsSafe}
 
-pub record IsKept (ts : tables.Stored) (u : undo.Stored) (ls : Holdings) : Type 0 where
-  pub size : length u.terminals ≡ 65
+pub record IsKept (ts : tables.Places) (u : undo.UndoLog) (ls : Holdings) : Type 0 where
+  pub size : length u.terminals ≡ suc TERMINALS
   -- the records of open transactions and of commits can be put back
   pub active : (t : ℕ) → HavePlaces ts ((undo_of u).active t)
   pub history : AllHavePlaces ts (undo_of u).history
@@ -20,6 +21,6 @@ pub record IsKept (ts : tables.Stored) (u : undo.Stored) (ls : Holdings) : Type 
   pub counted : (t : ℕ) → is_some (active_at u t) ≡ true → count_at u t < 4_294_967_295
 
 -- an engine's tables, undo log and locks
-pub record IsSound (ts : tables.Stored) (u : undo.Stored) (ls : Holdings) : Type 0 where
+pub record IsSound (ts : tables.Places) (u : undo.UndoLog) (ls : Holdings) : Type 0 where
   pub kept : IsKept ts u ls
   pub safe : IsSafe (view_from ts u ls)

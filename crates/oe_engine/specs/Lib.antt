@@ -2,9 +2,9 @@
 pub mod View
 pub mod Covered
 pub mod Kept
-pub mod Lent
+pub mod Loans
 pub mod Calls
 pub mod Writes
 pub mod Unwinds
 pub mod Programs
-pub mod Deeds
+pub mod Stages

@@ -1,4 +1,4 @@
--- A step of a program: one row of its step table, in the words of the theory of transactions.
+-- A stage of a program, in the words of the theory of transactions.
 use Rattle.std.specs.Prelude.{◌≡◌, ◌⊎◌, suc, true, [], Option, None, Some}
 use Rattle.oe_theory.specs.Machine.{Tx, Ask, Stop, Plain, Take, Act, Fail, Go, Ready}
 use Rattle.oe_theory.specs.Machine as theory
@@ -17,34 +17,34 @@ use Rattle.oe_model.specs.Delivery.{delivered_reply}
 use Rattle.oe_model.specs.System.{system, ask, act, yields}
 use Rattle.oe_change.specs.Writes.{is_boxed}
 use Rattle.oe_undo.specs.Undo.{room_at}
-use Rattle.oe_engine.specs.View.{Stored, view_of, Handle, IsOpen}
-use Rattle.oe_engine.specs.Calls.{IsFree, IsInTheWay, row_done, AcceptsAll, WantsPlace}
-use Rattle.oe_engine.specs.declared.rows.Progress.{Progress}
-use Rattle.oe_engine.specs.declared.rows.Progress.TheVariants as progress
+use Rattle.oe_engine.specs.View.{EngineState, view_of, Handle, IsOpen}
+use Rattle.oe_engine.specs.Calls.{IsFree, IsInTheWay, stage_done, AcceptsAll, WantsPlace}
+use Rattle.oe_engine.specs.declared.programs.Progress.{Progress}
+use Rattle.oe_engine.specs.declared.programs.Progress.TheVariants as progress
 
 -- the transaction of a handle, which carries out this request
-abbrev pub tx_of : Stored → Handle → Request → Tx Request
+abbrev pub tx_of : EngineState → Handle → Request → Tx Request
 tx_of s x q = record { terminal = x.terminal; number = suc ((view_of s).counts x.terminal); request = q }
 
--- what the row at this position asks for, and what it does
-abbrev pub ask_here : Stored → Handle → Request → Position → Ask (system.Name) Refusal
+-- what the stage at this position asks for, and what it does
+abbrev pub ask_here : EngineState → Handle → Request → Position → Ask (system.Name) Refusal
 ask_here s x q p = ask (tx_of s x q) p (view_of s).rows
 
-abbrev pub act_here : Stored → Handle → Request → Position → Act Change Position Reply Refusal
+abbrev pub act_here : EngineState → Handle → Request → Position → Act Change Position Reply Refusal
 act_here s x q p = act (tx_of s x q) p (view_of s).rows
 
--- the row's lock is free
-abbrev pub IsFreeHere : Stored → Handle → Request → Position → Type 0
+-- the stage's lock is free
+abbrev pub IsFreeHere : EngineState → Handle → Request → Position → Type 0
 IsFreeHere s x q p = IsFree (view_of s) x.terminal (ask_here s x q p)
 
--- the row was done, and the program goes on at another position
-pub record GoesOn (s : Stored) (x : Handle) (q : Request) (p : Position) (s' : Stored) (p' : Position) : Type 0 where
+-- the stage was done, and the program goes on at another position
+pub record GoesOn (s : EngineState) (x : Handle) (q : Request) (p : Position) (s' : EngineState) (p' : Position) : Type 0 where
   pub is_open : IsOpen s x
   pub free : IsFreeHere s x q p
   pub change : Option Change
   pub does : act_here s x q p ≡ Go change p'
   pub accepted : AcceptsAll change (view_of s).rows
-  pub done : view_of s' ≡ row_done x.terminal (ask_here s x q p) change (view_of s)
+  pub done : view_of s' ≡ stage_done x.terminal (ask_here s x q p) change (view_of s)
   pub name : s'.name ≡ s.name
 
 -- the reply of a program that has come to its end, by its position
@@ -68,25 +68,25 @@ reply_at (InDelivery q p) = delivery_reply p
 reply_at NoProgram = None
 
 -- the program has come to its end with this reply
-pub record IsReady (s : Stored) (x : Handle) (q : Request) (p : Position) (y : Reply) : Type 0 where
+pub record IsReady (s : EngineState) (x : Handle) (q : Request) (p : Position) (y : Reply) : Type 0 where
   pub is_open : IsOpen s x
   pub free : IsFreeHere s x q p
   pub does : act_here s x q p ≡ Ready y
 
--- the row ends its transaction with this refusal: it stops before its lock, it fails, or the tables don't accept its change
-abbrev pub Ends : Stored → Handle → Request → Position → Refusal → Type 0
+-- the stage ends its transaction with this refusal: it stops before its lock, it fails, or the tables don't accept its change
+abbrev pub Ends : EngineState → Handle → Request → Position → Refusal → Type 0
 Ends s x q p e =
     (ask_here s x q p ≡ Stop e)
     ⊎ (IsFreeHere s x q p × (act_here s x q p ≡ Fail e))
     ⊎ (IsFreeHere s x q p × (c : Change) × (p' : Position) × (act_here s x q p ≡ Go (Some c) p') × Cause c (view_of s).rows e)
 
--- memory is wanted for a row's change: its undo record has no room, it is an insert at a key without a place, or the row
+-- memory is wanted for a stage's change: its undo record has no room, it is an insert at a key without a place, or the row
 -- before it lies in memory of its own in the record
-abbrev pub WantsMemory : Stored → Handle → Change → Type 0
+abbrev pub WantsMemory : EngineState → Handle → Change → Type 0
 WantsMemory s x c = (room_at s.undo x.terminal ≡ 0) ⊎ WantsPlace (Some c) s.tables ⊎ (is_boxed c ≡ true)
 
--- why a row was refused
-abbrev pub IsRefused : Stored → Handle → Request → Position → Refusal → Type 0
+-- why a stage was refused
+abbrev pub IsRefused : EngineState → Handle → Request → Position → Refusal → Type 0
 IsRefused s x q p NotOpen = IsOpen s x → ⊥
 IsRefused s x q p (Busy n u) = IsOpen s x × ((m : theory.Mode) × (ask_here s x q p ≡ Take n m) × IsInTheWay (view_of s) x.terminal n m u)
 IsRefused s x q p NoMemory =
@@ -95,8 +95,8 @@ IsRefused s x q p NoMemory =
     × GivesWay system (yields p) (act_here s x q p)
 IsRefused s x q p e = IsOpen s x × Ends s x q p e
 
--- one step of a program that carries out this request, from a position and an engine to a position and an engine
-abbrev pub Progresses : Request → Handle → Stored → Position → Progress → Stored → Position → Type 0
+-- one stage of a program that carries out this request, from a position and an engine to a position and an engine
+abbrev pub Progresses : Request → Handle → EngineState → Position → Progress → EngineState → Position → Type 0
 Progresses q x s p progress.More s' p' = GoesOn s x q p s' p'
 Progresses q x s p progress.Ready s' p' = ((y : Reply) × IsReady s x q p y) × (s' ≡ s) × (p' ≡ p)
 Progresses q x s p (progress.Refused e) s' p' = IsRefused s x q p e × (view_of s' ≡ view_of s) × (s'.name ≡ s.name) × (p' ≡ p)

@@ -4,8 +4,8 @@ use Rattle.oe_theory.specs.Undo.{unwind, put_records}
 use Rattle.oe_model.specs.Rows.{Rows}
 use Rattle.oe_model.specs.Changes.{Record}
 use Rattle.oe_model.specs.System.{system}
-use Rattle.oe_store.specs.Stored.{rows, SamePlaces}
-use Rattle.oe_store.specs.Stored as tables
+use Rattle.oe_store.specs.Places.{rows, SamePlaces}
+use Rattle.oe_store.specs.Places as tables
 use Rattle.oe_undo.specs.Undo.{active_at, count_at}
 use Rattle.oe_undo.specs.Undo as undo
 use Rattle.oe_undo.specs.Stands.{undo_of, seals_of, counts_of}
@@ -19,7 +19,7 @@ pub record Left (bs : List Record) (r : Rows) (count : ℕ) (now : List Record) 
   pub unwinds : CanUnwind (take left now) s
 
 -- a log with other records of one terminal's open segment, and tables with the same places
-pub record Unwinding (ts : tables.Stored) (u : undo.Stored) (t : ℕ) (ts' : tables.Stored) (u' : undo.Stored) : Type 0 where
+pub record Unwinding (ts : tables.Places) (u : undo.UndoLog) (t : ℕ) (ts' : tables.Places) (u' : undo.UndoLog) : Type 0 where
   pub is_open : (x : ℕ) → is_some (active_at u' x) ≡ is_some (active_at u x)
   pub undo : undo_of u' ≡ put_records system t ((undo_of u').active t) (undo_of u)
   pub seals : seals_of u' ≡ seals_of u
@@ -30,7 +30,7 @@ pub record Unwinding (ts : tables.Stored) (u : undo.Stored) (t : ℕ) (ts' : tab
   pub own : HavePlaces ts' ((undo_of u').active t)
 
 -- so many records were put back, the newest first, and dropped
-pub record TakesBack (ts : tables.Stored) (u : undo.Stored) (t count : ℕ) (ts' : tables.Stored) (u' : undo.Stored) : Type 0 where
+pub record TakesBack (ts : tables.Places) (u : undo.UndoLog) (t count : ℕ) (ts' : tables.Places) (u' : undo.UndoLog) : Type 0 where
   pub rows : rows ts' ≡ unwind system (take count ((undo_of u).active t)) (rows ts)
   pub records : (undo_of u').active t ≡ drop count ((undo_of u).active t)
   pub others : Unwinding ts u t ts' u'

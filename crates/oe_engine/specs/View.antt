@@ -1,15 +1,14 @@
 -- What an engine stands for, in the words of the theory of transactions.
-use Rattle.std.specs.Prelude.{◌≡◌, ℕ, Bool, true, false, List, [], ◌∷◌, Option, None, Some, is_some, option_map}
+use Rattle.std.specs.Prelude.{◌≡◌, ℕ, Bool, true, false, List, [], Option, None, is_some, option_map}
 use Rattle.oe_keys.specs.declared.locks.Name.{Name}
 use Rattle.oe_theory.specs.Machine as theory
 use Rattle.oe_theory.specs.Undo.{Undo, no_records}
 use Rattle.oe_theory.specs.Store.{Seal}
-use Rattle.oe_requests.specs.declared.replies.Reply.{Reply}
 use Rattle.oe_model.specs.Rows.{Rows}
 use Rattle.oe_model.specs.Locks.{mode_of}
 use Rattle.oe_model.specs.System.{system}
-use Rattle.oe_store.specs.Stored.{rows}
-use Rattle.oe_store.specs.Stored as tables
+use Rattle.oe_store.specs.Places.{rows}
+use Rattle.oe_store.specs.Places as tables
 use Rattle.oe_undo.specs.Undo.{active_at}
 use Rattle.oe_undo.specs.Undo as undo
 use Rattle.oe_undo.specs.Stands.{undo_of, seals_of, counts_of}
@@ -27,7 +26,7 @@ pub record View : Type 0 where
   pub extents : ℕ
 
 -- what tables, an undo log and holdings of locks stand for together
-unfoldable pub view_from : tables.Stored → undo.Stored → Holdings → View
+unfoldable pub view_from : tables.Places → undo.UndoLog → Holdings → View
 view_from ts u ls = record {
   rows = rows ts;
   undo = undo_of u;
@@ -39,14 +38,14 @@ view_from ts u ls = record {
 }
 
 -- all that is stored
-pub record Stored : Type 0 where
-  pub tables : tables.Stored
-  pub undo : undo.Stored
+pub record EngineState : Type 0 where
+  pub tables : tables.Places
+  pub undo : undo.UndoLog
   pub locks : Holdings
   pub name : ℕ
 
 -- what it stands for. Room for records, places of blanked keys and the order in which names are kept are not part of that
-unfoldable pub view_of : Stored → View
+unfoldable pub view_of : EngineState → View
 view_of s = view_from s.tables s.undo s.locks
 
 -- a transaction of an engine, by its terminal
@@ -55,14 +54,9 @@ pub record Handle : Type 0 where
   pub terminal : ℕ
 
 -- the transaction is open in this engine
-pub record IsOpen (s : Stored) (x : Handle) : Type 0 where
+pub record IsOpen (s : EngineState) (x : Handle) : Type 0 where
   pub engine : x.engine ≡ s.name
   pub terminal : (view_of s).is_open x.terminal ≡ true
-
--- the reply of the newest of these commits, if there is one
-abbrev pub newest_reply : List (Seal system) → Option Reply
-newest_reply [] = None
-newest_reply (d ∷ ds) = Some d.reply
 
 -- an engine in which nothing has begun
 abbrev pub opened_view : Rows → ℕ → View

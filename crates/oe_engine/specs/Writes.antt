@@ -15,8 +15,8 @@ use Rattle.oe_records.specs.declared.writes.Write.{Write}
 use Rattle.oe_records.specs.declared.writes.Write.TheVariants.{InsertNewOrder}
 use Rattle.oe_records.specs.Writes.{key_written, written}
 use Rattle.oe_change.specs.Writes.{is_boxed}
-use Rattle.oe_store.specs.Stored as tables
-use Rattle.oe_engine.specs.View.{Stored, View, view_of, Handle, IsOpen}
+use Rattle.oe_store.specs.Places as tables
+use Rattle.oe_engine.specs.View.{EngineState, View, view_of, Handle, IsOpen}
 use Rattle.oe_engine.specs.Calls.{ask_to_write, IsFree, IsInTheWay, LockRefused, WantsPlace}
 
 -- the lock under which it is made
@@ -37,19 +37,20 @@ abbrev pub AbsentRefused : Key → Refusal → Type 0
 AbsentRefused k NoMemory = Unit {0}
 AbsentRefused k e = e ≡ NoSuchRow k
 
--- with a lock that is refused, or free
+-- and with a lock: another is in the way of it; or it is free, and the row is absent, or memory is wanted for the lock or a record
 abbrev pub AbsentPairRefused : View → ℕ → Name → theory.Mode → Key → Refusal → Type 0
 AbsentPairRefused v t n m k (Busy name u) = LockRefused v t n m (Busy name u)
 AbsentPairRefused v t n m k NoMemory = IsFree v t (Take n m)
 AbsentPairRefused v t n m k e = IsFree v t (Take n m) × (e ≡ NoSuchRow k)
 
--- with the lock of its key, in a transaction that is open here or is not
-abbrev pub AbsentRowRefused : Stored → Handle → Key → Refusal → Type 0
+-- and in a transaction, with the lock of the row's key: the transaction isn't open here; or another is in the way of the lock; or that is
+-- free, and the row is absent, or memory is wanted for the lock or a record
+abbrev pub AbsentRowRefused : EngineState → Handle → Key → Refusal → Type 0
 AbsentRowRefused s x k NotOpen = IsOpen s x → ⊥
 AbsentRowRefused s x k (Busy n u) = IsOpen s x × ((m : theory.Mode) × (ask_to_write (governs k) ≡ Take n m) × IsInTheWay (view_of s) x.terminal n m u)
 AbsentRowRefused s x k NoMemory = IsOpen s x × IsFree (view_of s) x.terminal (ask_to_write (governs k))
 AbsentRowRefused s x k e = IsOpen s x × IsFree (view_of s) x.terminal (ask_to_write (governs k)) × (e ≡ NoSuchRow k)
 
 -- memory is wanted for a write of a row that is there: a place in the tables, or the record of a customer or a stock
-abbrev pub WantsRow : Option Change → tables.Stored → Type 0
+abbrev pub WantsRow : Option Change → tables.Places → Type 0
 WantsRow o s = IsSomeAnd o (λ c. WantsPlace (Some c) s ⊎ (is_boxed c ≡ true))

@@ -8,15 +8,15 @@ ghost use Rattle.oe_model.specs.Meets.{Accepts};
 ghost use Rattle.oe_model.specs.Rows.{row_at};
 ghost use Rattle.oe_model.specs.System.{system};
 ghost use Rattle.oe_records.specs.Changes.{change_of};
-ghost use Rattle.oe_store.specs.Stored.{rows};
+ghost use Rattle.oe_store.specs.Places.{rows};
 ghost use Rattle.oe_undo.specs.Undo.{room_at};
 ghost use Rattle.oe_engine.specs.View.{view_of, IsOpen};
 ghost use Rattle.oe_engine.specs.Covered.{IsOwn, HoldsOrder, IsUnused};
 ghost use Rattle.oe_engine.specs.Writes.{ask_of_write};
-ghost use Rattle.oe_engine.specs.Calls.{ask_of, ask_to_write, IsFree, IsBelow, MayRead, locked, put_mode, row_done, RowRefused, WantsPlace};
+ghost use Rattle.oe_engine.specs.Calls.{ask_of, ask_to_write, IsFree, IsBelow, MayRead, locked, put_mode, stage_done, StageRefused, WantsPlace};
 
 use crate::engine::{Engine, Tx};
-use crate::rows::Lock;
+use crate::programs::Lock;
 use oe_keys::{Key, Mode, Name};
 use oe_locks::Locks;
 use oe_records::{Change, Write};
@@ -109,10 +109,11 @@ impl Engine {
         ensures locked { OnOk result
             (view_of self.new ≡ locked tx.now.terminal name (mode_of mode) (view_of self.old)) }
         ensures name { self.new.name ≡ self.old.name }
-        ensures cause { IfErr result (RowRefused self.old tx.now (Take name (mode_of mode)) None) }
+        ensures cause { IfErr result
+            (StageRefused self.old tx.now (Take name (mode_of mode)) None) }
         ensures err { OnErr result (view_of self.new ≡ view_of self.old) }
     {
-        self.row(tx, Some(Lock { name, mode }), None)
+        self.stage(tx, Some(Lock { name, mode }), None)
     }
 
     /// The mode in which a transaction holds a name; none where it does not hold it, or is not open in this engine.
@@ -157,7 +158,7 @@ impl Engine {
     /// transaction alone, if it does not hold it so: an order's for its lines, a queue's for its NEW-ORDER rows, none for a
     /// HISTORY row. A HISTORY row is the transaction's own, and the order's name of a new NEW-ORDER row it holds already.
     ///
-    /// The errors are those of `row`, and after one nothing has changed.
+    /// The errors are those of `stage`, and after one nothing has changed.
     pub fn change(&mut self, tx: &Tx, change: Change) -> Result<(), Refusal>
         requires own { IsOpen self.old tx.now
             → IsOwn tx.now.terminal (suc ((view_of self.old).counts tx.now.terminal))
@@ -171,11 +172,11 @@ impl Engine {
         ensures accepted { OnOk result (Accepts (change_of change) (view_of self.old).rows) }
         ensures done { OnOk result
             (view_of self.new
-            ≡ row_done tx.now.terminal (ask_to_write (governs (key_of (change_of change))))
+            ≡ stage_done tx.now.terminal (ask_to_write (governs (key_of (change_of change))))
             (Some (change_of change)) (view_of self.old)) }
         ensures name { self.new.name ≡ self.old.name }
         ensures cause { IfErr result
-            (RowRefused self.old tx.now (ask_to_write (governs (key_of (change_of change))))
+            (StageRefused self.old tx.now (ask_to_write (governs (key_of (change_of change))))
             (Some (change_of change))) }
         ensures room { (IsNew system ((view_of self.old).held tx.now.terminal)
             (ask_to_write (governs (key_of (change_of change)))) → ⊥)
@@ -185,7 +186,7 @@ impl Engine {
         ensures err { OnErr result (view_of self.new ≡ view_of self.old) }
     {
         let lock = lock_to_write(change.key());
-        self.row(tx, lock, Some(change))
+        self.stage(tx, lock, Some(change))
     }
 
     /// What the engine is made of.

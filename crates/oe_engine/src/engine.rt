@@ -1,6 +1,5 @@
 //! The engine.
 ghost use Rattle.std.specs.Prelude.{◌≡◌, ◌≤◌, ◌<◌, ◌-◌, ◌↔◌, ◌⊎◌, ℕ, IsTrue, suc, true, false, [], length, Option, None, Some, is_some, option_map, IfOk, IfErr, OnOk, OnErr, MatchResult};
-ghost use Rattle.std.specs.Option.{option_copied};
 ghost use Rattle.oe_theory.specs.Machine.{Take};
 ghost use Rattle.oe_theory.specs.World.{total};
 ghost use Rattle.oe_theory.specs.Next.{IsNew};
@@ -10,17 +9,17 @@ ghost use Rattle.oe_model.specs.Locks.{mode_of, governs};
 ghost use Rattle.oe_model.specs.Meets.{Accepts};
 ghost use Rattle.oe_model.specs.Requests.{number_rejection};
 ghost use Rattle.oe_model.specs.System.{system, terminal_limit};
-ghost use Rattle.oe_store.specs.Stored.{rows};
+ghost use Rattle.oe_store.specs.Places.{rows};
 ghost use Rattle.oe_records.specs.Changes.{change_of};
 ghost use Rattle.oe_change.specs.Applies.{Refuses};
 ghost use Rattle.oe_undo.specs.Undo.{room_at};
 ghost use Rattle.oe_past.specs.GoesBack.{CanUnwind};
 ghost use Rattle.oe_locks.specs.Held as locks;
-ghost use Rattle.oe_engine.specs.View.{view_of, newest_reply, opened_view, IsOpen};
+ghost use Rattle.oe_engine.specs.View.{view_of, opened_view, IsOpen};
 ghost use Rattle.oe_engine.specs.Covered.{MayMake, IsUnused, IsSafe};
-ghost use Rattle.oe_engine.specs.Calls.{ask_of, IsFree, IsBusy, IsBelow, begun, CantBegin, locked, made, put_mode, LockRefused, ChangeRefused, PairRefused, row_done, RowRefused, WantsPlace, AcceptsAll, IsCovered, back_at, committed, rolled_back};
+ghost use Rattle.oe_engine.specs.Calls.{ask_of, IsFree, IsBusy, IsBelow, begun, CantBegin, locked, made, put_mode, LockRefused, ChangeRefused, PairRefused, stage_done, StageRefused, WantsPlace, AcceptsAll, IsCovered, back_at, committed, rolled_back};
 
-use crate::rows::Lock;
+use crate::programs::Lock;
 use crate::unwinding::take_back;
 use oe_change::apply;
 use oe_keys::{Mode, Name};
@@ -33,6 +32,7 @@ use oe_undo::{Segment, Undo};
 use oe_values::{Moment, Terminal, TransactionNumber};
 use std::alloc::Global;
 use std::marker::Model;
+use std::snapshot::Snapshot;
 
 /// Tables, undo records and locks of all terminals' transactions.
 #[derive(Drop)]
@@ -44,10 +44,10 @@ pub struct Engine {
 }
 
 impl Model for Engine {
-    ghost use Rattle.oe_engine.specs.View.{Stored};
+    ghost use Rattle.oe_engine.specs.View.{EngineState};
     ghost use Rattle.oe_engine.specs.Kept.{IsSound};
 
-    ghost Value = { Stored };
+    ghost Value = { EngineState };
 
     ghost view = { λ e. record {
       tables = e.tables;
@@ -172,16 +172,6 @@ impl Engine {
             (view_of self.now).seals }
     {
         self.undo.horizon()
-    }
-
-    /// The reply of the newest commit, which the undo log keeps; none before the first commit.
-    pub fn newest_reply(&self) -> Option<&Reply>
-        ensures { option_copied result ≡ newest_reply (view_of self.now).seals }
-    {
-        match self.undo.committed(0) {
-            Some(commit) => Some(commit.reply()),
-            None => None,
-        }
     }
 
     /// How many transactions are open.
@@ -376,7 +366,7 @@ impl Engine {
         Ok(())
     }
 
-    /// One row of a program: takes its lock, if it asks for one, or raises the mode in which the name is held, and makes its
+    /// One stage of a program: takes its lock, if it asks for one, or raises the mode in which the name is held, and makes its
     /// change, if it makes one, with its undo record.
     ///
     /// The change is of a row that the transaction alone may change (`IsCovered`): the row's name it holds exclusively, or takes
@@ -386,7 +376,7 @@ impl Engine {
     /// conflicts. `NoMemory`: memory was refused for a name that was not held, for a record for which the transaction's segment
     /// had no room, or for an insert that the tables accept, at a key without a place. 2 to 6: the tables don't accept the
     /// change. After an error nothing has changed: a lock that was gained is given back, and a mode that rose has fallen again.
-    pub fn row(
+    pub fn stage(
         &mut self,
         tx: &Tx,
         lock: Option<Lock>,
@@ -401,11 +391,11 @@ impl Engine {
             (AcceptsAll (option_map change_of change) (view_of self.old).rows) }
         ensures done { OnOk result
             (view_of self.new
-            ≡ row_done tx.now.terminal (ask_of lock) (option_map change_of change)
+            ≡ stage_done tx.now.terminal (ask_of lock) (option_map change_of change)
             (view_of self.old)) }
         ensures name { self.new.name ≡ self.old.name }
         ensures cause { IfErr result
-            (RowRefused self.old tx.now (ask_of lock) (option_map change_of change)) }
+            (StageRefused self.old tx.now (ask_of lock) (option_map change_of change)) }
         ensures room { (IsNew system ((view_of self.old).held tx.now.terminal) (ask_of lock)
             → ⊥)
             → 0 < room_at self.old.undo tx.now.terminal
@@ -456,14 +446,20 @@ impl Engine {
         take_back(&mut self.tables, &mut self.undo, segment, count);
     }
 
-    /// Commits a transaction with its request and reply, and answers the moment of the commit. It takes no memory. A
-    /// transaction that is not open in this engine is handed back, and nothing has changed.
-    pub fn commit(&mut self, tx: Tx, request: Request, reply: Reply) -> Result<Moment, Tx>
+    /// Commits a transaction with its request and reply, of which no byte is kept, and answers the moment of the commit. It takes no
+    /// memory. A transaction that is not open in this engine is handed back, and nothing has changed.
+    pub fn commit(
+        &mut self,
+        tx: Tx,
+        request: Snapshot<Request>,
+        reply: Snapshot<Reply>,
+    ) -> Result<Moment, Tx>
         ensures open { OnOk result (IsOpen self.old tx) }
         ensures moment { IfOk result
             (λ m. m ≡ suc (total terminal_limit (view_of self.old).counts)) }
         ensures committed { OnOk result
-            (view_of self.new ≡ committed tx.terminal request reply (view_of self.old)) }
+            (view_of self.new
+            ≡ committed tx.terminal request.value reply.value (view_of self.old)) }
         ensures name { self.new.name ≡ self.old.name }
         ensures foreign { OnErr result (IsOpen self.old tx → ⊥) }
         ensures back { IfErr result (λ x. x ≡ tx) }

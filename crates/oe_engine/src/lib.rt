@@ -3,14 +3,14 @@
 
 pub mod access;
 pub mod choices;
-pub mod deeds;
 pub mod engine;
-pub mod lent;
+pub mod loans;
 pub mod past;
-pub mod rows;
+pub mod programs;
+pub mod stages;
 mod unwinding;
 pub mod writes;
 
 pub use access::Parts;
 pub use engine::{Engine, Mark, Tx};
-pub use rows::{Lock, Progress};
+pub use programs::{Lock, Progress};

@@ -1,29 +1,35 @@
 //! Commits that are forgotten or undone.
 ghost use Rattle.std.specs.Prelude.{◌≡◌, IfErr, OnOk, OnErr};
+ghost use Rattle.oe_past.specs.GivesUp.{GivesUpDeleted};
 ghost use Rattle.oe_past.specs.GoesBack.{CanUnwindAll};
 ghost use Rattle.oe_past.specs.Moments.{IsOutside};
 ghost use Rattle.oe_engine.specs.View.{view_of};
-ghost use Rattle.oe_engine.specs.Calls.{newest, horizon, IsQuiet, IsKeptMoment, CantRewind, purged_to, rewound_to};
+ghost use Rattle.oe_engine.specs.Calls.{newest, horizon, records_up_to, IsQuiet, IsKeptMoment, IsNamedNoMoreAfter, CantRewind, purged_to, rewound_to};
 
 use crate::engine::Engine;
 use oe_requests::Refusal;
 use oe_values::Moment;
 
 impl Engine {
-    /// Forgets the commits up to a moment, which becomes the oldest that can be read. The tables, open work and the later commits
-    /// stay as they are. It takes no memory.
+    /// Forgets the commits up to a moment, which becomes the oldest that can be read. All rows, open work and the later commits
+    /// stay as they are; the NEW-ORDER keys that the forgotten commits deleted, and that have no row, have no place any more. It
+    /// takes no memory. That nothing that is kept names such a key is the caller's to know, as of a store that stands.
     ///
     /// `TooOld` with the oldest, `Future` with the newest moment: the moment is not between the two. Nothing has changed then.
     #[tactic(auto, unfolding(crate::specs::View::view_of, crate::specs::View::view_from))]
     pub fn purge(&mut self, moment: Moment) -> Result<(), Refusal>
+        requires { IsKeptMoment (view_of self.old) moment
+            → IsNamedNoMoreAfter moment (view_of self.old) }
         ensures kept { OnOk result (IsKeptMoment (view_of self.old) moment) }
         ensures purged { OnOk result (view_of self.new ≡ purged_to moment (view_of self.old)) }
+        ensures places { OnOk result (GivesUpDeleted self.old.tables self.new.tables
+            (records_up_to moment (view_of self.old))) }
         ensures name { self.new.name ≡ self.old.name }
         ensures cause { IfErr result
             (IsOutside (horizon (view_of self.old)) (newest (view_of self.old)) moment) }
         ensures err { OnErr result (self.new ≡ self.old) }
     {
-        oe_past::purge(&mut self.undo, moment)
+        oe_past::purge(&mut self.tables, &mut self.undo, moment)
     }
 
     /// Undoes the commits after a moment, the newest first, while no transaction is open: the moment becomes the newest, and the

@@ -1,6 +1,6 @@
 //! Putting the newest changes of an open transaction back.
 ghost use Rattle.std.specs.Prelude.{◌≤◌, length, take, IsSome};
-ghost use Rattle.oe_store.specs.Stored.{rows};
+ghost use Rattle.oe_store.specs.Places.{rows};
 ghost use Rattle.oe_undo.specs.Undo.{active_at, records_at};
 ghost use Rattle.oe_undo.specs.Stands.{undo_of};
 ghost use Rattle.oe_past.specs.GoesBack.{CanUnwind, HavePlaces};

@@ -11,12 +11,12 @@ ghost use Rattle.oe_change.specs.Writes.{RefusesWrite};
 ghost use Rattle.oe_undo.specs.Undo.{room_at};
 ghost use Rattle.oe_engine.specs.View.{view_of, IsOpen};
 ghost use Rattle.oe_engine.specs.Covered.{MayMake, IsOwn};
-ghost use Rattle.oe_engine.specs.Calls.{IsFree, locked, made, ChangeRefused, PairRefused, row_done, RowRefused, IsCovered};
+ghost use Rattle.oe_engine.specs.Calls.{IsFree, locked, made, ChangeRefused, PairRefused, stage_done, StageRefused, IsCovered};
 ghost use Rattle.oe_engine.specs.Writes.{ask_of_write, change_written, WriteHoldsOrder, AbsentRefused, AbsentPairRefused, AbsentRowRefused, WantsRow};
 
 use crate::access::lock_of_write;
 use crate::engine::{Engine, Tx};
-use crate::rows::Lock;
+use crate::programs::Lock;
 use oe_records::Write;
 use oe_requests::Refusal;
 use oe_undo::Segment;
@@ -131,10 +131,10 @@ impl Engine {
         ensures done { ForSome (change_written write.now (view_of self.old))
             (λ c. OnOk result
             (view_of self.new
-            ≡ row_done tx.now.terminal (ask_of_write write.now) (Some c) (view_of self.old))) }
+            ≡ stage_done tx.now.terminal (ask_of_write write.now) (Some c) (view_of self.old))) }
         ensures name { self.new.name ≡ self.old.name }
         ensures cause { ForSome (change_written write.now (view_of self.old))
-            (λ c. IfErr result (RowRefused self.old tx.now (ask_of_write write.now) (Some c))) }
+            (λ c. IfErr result (StageRefused self.old tx.now (ask_of_write write.now) (Some c))) }
         ensures absent { change_written write.now (view_of self.old) ≡ None
             → IfErr result (AbsentRowRefused self.old tx.now (key_written write.now)) }
         ensures room { (IsNew system ((view_of self.old).held tx.now.terminal)

@@ -12,6 +12,7 @@ use oe_values::{
 };
 use std::alloc::Global;
 use std::process::Abort;
+use std::snapshot::Snapshot;
 
 pub(crate) fn warehouse() -> Option<WarehouseKey> {
     Some(WarehouseKey {
@@ -72,7 +73,8 @@ pub(crate) fn try_commit(
     reply: Reply,
 ) -> Result<Moment, Tx> {
     let request = payment(1).expect(rt, "a payment");
-    engine.commit(tx, Request::Payment(request), reply)
+    let request = Request::Payment(request);
+    engine.commit(tx, Snapshot::of(&request), Snapshot::of(&reply))
 }
 
 /// Commits a transaction.

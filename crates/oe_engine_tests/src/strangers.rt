@@ -40,7 +40,7 @@ fn make_shared(
         name: Name::Warehouse(*key),
         mode: Mode::Shared,
     };
-    engine.row(tx, Some(lock), Some(Change::UpdateWarehouse(*key, row)))
+    engine.stage(tx, Some(lock), Some(Change::UpdateWarehouse(*key, row)))
 }
 
 /// Nothing is done for a transaction of another engine.

@@ -22,11 +22,11 @@ use Rattle.oe_model.specs.Changes.{InsertOrderLine}
 use Rattle.oe_model.specs.Positions.{Seen, NewOrderQueue, NewOrderStock, NewOrderLine, InNewOrder}
 use Rattle.oe_model.specs.NewOrder.{stock_holds, ordered_reply, new_order_ask, new_order_act, new_order_taken}
 use Rattle.oe_model.proofs.LawFacts.{holds_more}
-use Rattle.oe_engine.specs.View.{Stored, View, view_of, Handle, IsOpen}
+use Rattle.oe_engine.specs.View.{EngineState, View, view_of, Handle, IsOpen}
 use Rattle.oe_engine.specs.Programs.{GoesOn, IsReady, IsRefused, new_order_reply}
-use Rattle.oe_engine.specs.Deeds.{Does, HoldsAll}
+use Rattle.oe_engine.specs.Stages.{Does, HoldsAll}
 use Rattle.oe_neworder.specs.Program.{filled_by, position_at, line_position}
-use Rattle.oe_neworder.specs.Rows.{Fills}
+use Rattle.oe_neworder.specs.Stages.{Fills}
 use Rattle.oe_neworder.specs.declared.fillings.Filled.{Filled}
 use Rattle.oe_neworder.specs.declared.fillings.Filling.{Filling}
 
@@ -89,8 +89,8 @@ module _ (q : NewOrderRequest) (f : Filling) (l : RequestLine) (here : slice_get
       go (Some g) e = ap new_order_reply (line_at g e)
 
   -- its two stages
-  module _ (s : Stored) (x : Handle) where
-    pub fills_on : (s' : Stored) (g : Filled) (k : ℕ) → k ≡ length f.done + 1 → f.filled ≡ None → Fills q x s l k (Ok g) s'
+  module _ (s : EngineState) (x : Handle) where
+    pub fills_on : (s' : EngineState) (g : Filled) (k : ℕ) → k ≡ length f.done + 1 → f.filled ≡ None → Fills q x s l k (Ok g) s'
         → GoesOn s x (request.NewOrder q) (InNewOrder q (line_position q f)) s' (InNewOrder q (line_position q (record { seen = f.seen; done = f.done; filled = Some g })))
     fills_on s' g k number none done =
         subst (λ p. GoesOn s x (request.NewOrder q) (InNewOrder q p) s' (InNewOrder q (line_position q (record { seen = f.seen; done = f.done; filled = Some g })))) (sym (stock_at none))
@@ -98,7 +98,7 @@ module _ (q : NewOrderRequest) (f : Filling) (l : RequestLine) (here : slice_get
         (sym (line_next g))
         (done (seen_by f.seen) (take (length f.done) q.lines) f.done (drop (suc (length f.done)) q.lines) (count_at q.lines (length f.done) l here ∙ sym number)))
 
-    pub fill_refused : (s' : Stored) (e : Refusal) (k : ℕ) → k ≡ length f.done + 1 → f.filled ≡ None → Fills q x s l k (Err e) s'
+    pub fill_refused : (s' : EngineState) (e : Refusal) (k : ℕ) → k ≡ length f.done + 1 → f.filled ≡ None → Fills q x s l k (Err e) s'
         → IsRefused s x (request.NewOrder q) (InNewOrder q (line_position q f)) e
     fill_refused s' e k number none done =
         subst (λ p. IsRefused s x (request.NewOrder q) (InNewOrder q p) e) (sym (stock_at none))
@@ -113,12 +113,12 @@ module _ (q : NewOrderRequest) (f : Filling) (l : RequestLine) (here : slice_get
         ap (λ p. new_order_act q p (view_of s).rows) (line_at g e)
         ∙ ap (λ p. Go (Some (InsertOrderLine (line_in (order_in q.district f.seen.order) g.number) g.row)) (InNewOrder q p)) (sym (line_done g.reply))
 
-    pub inserts_on : (s' : Stored) (g : Filled) (u : Unit {0}) → f.filled ≡ Some g
+    pub inserts_on : (s' : EngineState) (g : Filled) (u : Unit {0}) → f.filled ≡ Some g
         → Does s x Plain (Some (InsertOrderLine (line_in (order_in q.district f.seen.order) g.number) g.row)) (Ok u) s'
         → GoesOn s x (request.NewOrder q) (InNewOrder q (line_position q f)) s' (InNewOrder q (line_position q (record { seen = f.seen; done = f.done ++ g.reply ∷ []; filled = None })))
     inserts_on s' g u e done = done (request.NewOrder q) (InNewOrder q (line_position q f)) (InNewOrder q (line_position q (record { seen = f.seen; done = f.done ++ g.reply ∷ []; filled = None }))) (asks_none g e) (inserts g e)
 
-    pub insert_refused : (s' : Stored) (g : Filled) (r : Refusal) → f.filled ≡ Some g
+    pub insert_refused : (s' : EngineState) (g : Filled) (r : Refusal) → f.filled ≡ Some g
         → Does s x Plain (Some (InsertOrderLine (line_in (order_in q.district f.seen.order) g.number) g.row)) (Err r) s'
         → IsRefused s x (request.NewOrder q) (InNewOrder q (line_position q f)) r
     insert_refused s' g r e done = done (request.NewOrder q) (InNewOrder q (line_position q f)) (InNewOrder q (line_position q (record { seen = f.seen; done = f.done ++ g.reply ∷ []; filled = None }))) (asks_none g e) (inserts g e)
@@ -129,7 +129,7 @@ pub end_at : (q : NewOrderRequest) (f : Filling) → slice_get q.lines (length f
 end_at q f e =
     ap (λ ls. position_at (seen_by f.seen) (take (length f.done) q.lines) f.done f.filled ls) (rest_past q.lines (length f.done) e)
 
-pub ready_at : (s : Stored) (x : Handle) (q : NewOrderRequest) (f : Filling) → slice_get q.lines (length f.done) ≡ None → IsOpen s x
+pub ready_at : (s : EngineState) (x : Handle) (q : NewOrderRequest) (f : Filling) → slice_get q.lines (length f.done) ≡ None → IsOpen s x
     → (y : Reply) × IsReady s x (request.NewOrder q) (InNewOrder q (line_position q f)) y
 ready_at s x q f e o =
     subst (λ p. (y : Reply) × IsReady s x (request.NewOrder q) (InNewOrder q p) y) (sym (end_at q f e))

@@ -1,4 +1,4 @@
 -- What the clauses of this crate cite.
 pub mod Program
 pub mod Looks
-pub mod Rows
+pub mod Stages

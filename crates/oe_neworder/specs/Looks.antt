@@ -17,7 +17,7 @@ use Rattle.oe_model.specs.Rows.{Rows}
 use Rattle.oe_model.specs.Changes.{Change}
 use Rattle.oe_model.specs.Positions.{Seen, NewOrderPosition, NewOrderWarehouse, NewOrderDistrict, NewOrderCustomer, NewOrderOrder, NewOrderStock, NewOrderLine, InNewOrder}
 use Rattle.oe_model.specs.NewOrder.{new_order_ask, new_order_act}
-use Rattle.oe_engine.specs.Deeds.{is_failure}
+use Rattle.oe_engine.specs.Stages.{is_failure}
 use Rattle.oe_neworder.specs.Program.{filled_by}
 use Rattle.oe_neworder.specs.declared.looks.Numbered.{Numbered}
 use Rattle.oe_neworder.specs.declared.looks.Supply.{Supply}

@@ -8,12 +8,12 @@ ghost use Rattle.oe_model.specs.Keys.{order_in, line_in};
 ghost use Rattle.oe_model.specs.Changes.{InsertOrderLine};
 ghost use Rattle.oe_engine.specs.View.{view_of, IsOpen};
 ghost use Rattle.oe_engine.specs.Programs.{new_order_reply};
-ghost use Rattle.oe_engine.specs.Deeds.{Does};
+ghost use Rattle.oe_engine.specs.Stages.{Does};
 ghost use Rattle.oe_neworder.specs.Program.{line_position};
-ghost use Rattle.oe_neworder.specs.Rows.{Advances, HoldsTaken, Fills};
+ghost use Rattle.oe_neworder.specs.Stages.{Advances, HoldsTaken, Fills};
 
 use crate::looks::{Supply, supply_of};
-use oe_engine::deeds::{add, failed, put};
+use oe_engine::stages::{add, failed, put};
 use oe_engine::{Engine, Lock, Progress, Tx};
 use oe_formulas::orders::Seen;
 use oe_keys::{Mode, Name};

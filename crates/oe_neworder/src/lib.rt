@@ -4,7 +4,7 @@
 pub mod fillings;
 pub mod looks;
 pub mod programs;
-pub mod rows;
+pub mod stages;
 
 pub use fillings::{Filled, Filling};
 pub use programs::Program;

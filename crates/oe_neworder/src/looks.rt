@@ -1,7 +1,7 @@
 //! What the stages of a New-Order read, and what they come to (clause 2.4.2.2). Nothing is changed, and only the columns that are
 //! needed are read.
 ghost use Rattle.std.specs.Prelude.{◌≡◌};
-ghost use Rattle.oe_store.specs.Stored.{rows};
+ghost use Rattle.oe_store.specs.Places.{rows};
 ghost use Rattle.oe_model.specs.Positions.{NewOrderCustomer};
 ghost use Rattle.oe_neworder.specs.Looks.{ReadsTax, TakesNumber, Sees, IsSupply};
 

@@ -6,10 +6,10 @@ ghost use Rattle.oe_model.specs.Positions.{InNewOrder};
 ghost use Rattle.oe_engine.specs.View.{IsOpen};
 ghost use Rattle.oe_engine.specs.Programs.{Progresses, new_order_reply};
 ghost use Rattle.oe_neworder.specs.Program.{position_of, IsBeforeLines};
-ghost use Rattle.oe_neworder.specs.Rows.{HoldsTaken, Steps};
+ghost use Rattle.oe_neworder.specs.Stages.{HoldsTaken, Steps};
 
 use crate::fillings::Filling;
-use crate::rows::{insert_new_order, insert_order, read_customer, read_warehouse, take_number};
+use crate::stages::{insert_new_order, insert_order, read_customer, read_warehouse, take_number};
 use oe_engine::{Engine, Progress, Tx};
 use oe_formulas::orders::Seen;
 use oe_requests::{NewOrderReply, NewOrderRequest, Refusal};
@@ -65,7 +65,7 @@ impl Program {
     }
 
     // One stage before the lines.
-    fn row(
+    fn stage(
         &self,
         request: &NewOrderRequest,
         engine: &mut Engine,
@@ -109,7 +109,7 @@ impl Program {
         if let Program::Lines(filling) = self {
             return filling.next(request, engine, tx);
         }
-        match self.row(request, engine, tx) {
+        match self.stage(request, engine, tx) {
             Ok(after) => {
                 *self = after;
                 Progress::More

@@ -27,7 +27,7 @@ use Rattle.oe_model.specs.Positions.{PaymentWarehouse, PaymentDistrict, PaymentC
 use Rattle.oe_model.specs.Payment.{paid_warehouse, paid_warehouse_out, paid_district, paid_district_out, paid_customer, paid_customer_out, history_data, history_row, history_key, paid_reply}
 use Rattle.oe_records.specs.declared.writes.Write.TheVariants as write
 use Rattle.oe_formulas.specs.Checks.{checked, paid_with}
-use Rattle.oe_engine.specs.View.{Stored, view_of, Handle}
+use Rattle.oe_engine.specs.View.{EngineState, view_of, Handle}
 use Rattle.oe_engine.specs.Programs.{ask_here, act_here}
 use Rattle.oe_payment.specs.Stages.{IsStage}
 use Rattle.oe_payment.specs.Choice.{meant}
@@ -49,7 +49,7 @@ module _ {A : Type 0} (out : A → Option Column) (x : A) (d : A → Doing) wher
       go None e = let no : ⊥ = cc in absurd no
       go (Some b) e = let same : c ≡ b = cc in ap (λ z. Fail (Overflow z)) (sym same)
 
-module _ (q : PaymentRequest) (x : Handle) (s : Stored) where
+module _ (q : PaymentRequest) (x : Handle) (s : EngineState) where
   -- WAREHOUSE
   abbrev on_warehouse : Warehouse → Warehouse → Doing
   on_warehouse w after = Go (Some (UpdateWarehouse (warehouse_of_district q.district) after)) (InPayment q (PaymentDistrict w.name))

@@ -20,8 +20,8 @@ use Rattle.oe_model.specs.Positions.{Position, PaymentPosition, PaymentWarehouse
 use Rattle.oe_model.specs.System.{system, yields}
 use Rattle.oe_records.specs.declared.writes.Write.{Write}
 use Rattle.oe_undo.specs.Undo.{room_at}
-use Rattle.oe_engine.specs.View.{Stored, view_of, Handle, IsOpen}
-use Rattle.oe_engine.specs.Calls.{IsFree, row_done, RowRefused}
+use Rattle.oe_engine.specs.View.{EngineState, view_of, Handle, IsOpen}
+use Rattle.oe_engine.specs.Calls.{IsFree, stage_done, StageRefused}
 use Rattle.oe_engine.specs.Writes.{ask_of_write, WantsRow}
 use Rattle.oe_engine.specs.Programs.{ask_here, act_here, GoesOn, IsReady, payment_reply, WantsMemory, IsRefused}
 use Rattle.oe_payment.specs.Stages.{IsStage}
@@ -31,7 +31,7 @@ pub is_told : {A B : Type 0} (f : A → B) (o : Option (Bor A)) (p : Option B) �
 is_told f None p e h = cc
 is_told f (Some x) p e h = sym (ap is_some e)
 
-pub is_ready : (s : Stored) (x : Handle) (q : PaymentRequest) (p : PaymentPosition) → IsOpen s x → IsSome (payment_reply p)
+pub is_ready : (s : EngineState) (x : Handle) (q : PaymentRequest) (p : PaymentPosition) → IsOpen s x → IsSome (payment_reply p)
     → (y : Reply) × IsReady s x (request.Payment q) (InPayment q p) y
 is_ready s x q (PaymentEnd y) o h = (reply.Payment y, record { is_open = o; free = tt; does = refl })
 is_ready s x q PaymentWarehouse o h = let no : ⊥ = cc in absurd no
@@ -40,9 +40,9 @@ is_ready s x q (PaymentCustomer w d) o h = let no : ⊥ = cc in absurd no
 is_ready s x q (PaymentHistory d y) o h = let no : ⊥ = cc in absurd no
 
 -- a stage that was done, and one that was refused
-pub goes_on : (s s' : Stored) (x : Handle) (q : PaymentRequest) (p p' : PaymentPosition) (w : Write) (c : Change) → IsStage q x s p w c p'
+pub goes_on : (s s' : EngineState) (x : Handle) (q : PaymentRequest) (p p' : PaymentPosition) (w : Write) (c : Change) → IsStage q x s p w c p'
     → IsOpen s x → IsFree (view_of s) x.terminal (ask_of_write w) → Accepts c (view_of s).rows
-    → view_of s' ≡ row_done x.terminal (ask_of_write w) (Some c) (view_of s) → s'.name ≡ s.name
+    → view_of s' ≡ stage_done x.terminal (ask_of_write w) (Some c) (view_of s) → s'.name ≡ s.name
     → GoesOn s x (request.Payment q) (InPayment q p) s' (InPayment q p')
 goes_on s s' x q p p' w c d o free accepted done same =
     record {
@@ -51,12 +51,12 @@ goes_on s s' x q p p' w c d o free accepted done same =
       change = Some c;
       does = d.does;
       accepted = accepted;
-      done = done ∙ ap (λ b. row_done x.terminal b (Some c) (view_of s)) (sym d.asks);
+      done = done ∙ ap (λ b. stage_done x.terminal b (Some c) (view_of s)) (sym d.asks);
       name = same;
     }
 
 -- where a stage with a change is told that memory is wanted, it is so
-module _ (s : Stored) (x : Handle) (c : Change) where
+module _ (s : EngineState) (x : Handle) (c : Change) where
   abbrev pub IsRoom : Ask Name Refusal → Refusal → Type 0
   IsRoom a e = (IsNew system ((view_of s).held x.terminal) a → ⊥) → 0 < room_at s.undo x.terminal → e ≡ NoMemory → WantsRow (Some c) s.tables
 
@@ -73,8 +73,8 @@ module _ (s : Stored) (x : Handle) (c : Change) where
       by_mode None e = inl e
       by_mode (Some k) e = inr (by_room (λ h. room (λ none. let no : ⊥ = let both : None ≡ Some k = sym none ∙ e in cc in no)) (room_at s.undo x.terminal) refl)
 
-refused_by : (s : Stored) (x : Handle) (q : Request) (p p' : Position) (c : Change) → act_here s x q p ≡ Go (Some c) p'
-    → (e : Refusal) → IsRoom s x c (ask_here s x q p) e → RowRefused s x (ask_here s x q p) (Some c) e → IsRefused s x q p e
+refused_by : (s : EngineState) (x : Handle) (q : Request) (p p' : Position) (c : Change) → act_here s x q p ≡ Go (Some c) p'
+    → (e : Refusal) → IsRoom s x c (ask_here s x q p) e → StageRefused s x (ask_here s x q p) (Some c) e → IsRefused s x q p e
 refused_by s x q p p' c does NotOpen room h = h
 refused_by s x q p p' c does (Busy n u) room h = h
 refused_by s x q p p' c does NoMemory room (o, f, n) = (o, f, by (wants s x c (ask_here s x q p) room), subst (λ d. GivesWay system (yields p) d) (sym does) tt)
@@ -98,9 +98,9 @@ refused_by s x q p p' c does (Future m) room (o, f, why) = (o, inr (inr (f, c, p
 refused_by s x q p p' c does (NotQuiet n) room (o, f, why) = (o, inr (inr (f, c, p', does, why)))
 refused_by s x q p p' c does (NotPinned n) room (o, f, why) = (o, inr (inr (f, c, p', does, why)))
 
-pub is_refused : (s : Stored) (x : Handle) (q : PaymentRequest) (p p' : PaymentPosition) (w : Write) (c : Change) → IsStage q x s p w c p'
-    → (e : Refusal) → IsRoom s x c (ask_of_write w) e → RowRefused s x (ask_of_write w) (Some c) e → IsRefused s x (request.Payment q) (InPayment q p) e
+pub is_refused : (s : EngineState) (x : Handle) (q : PaymentRequest) (p p' : PaymentPosition) (w : Write) (c : Change) → IsStage q x s p w c p'
+    → (e : Refusal) → IsRoom s x c (ask_of_write w) e → StageRefused s x (ask_of_write w) (Some c) e → IsRefused s x (request.Payment q) (InPayment q p) e
 is_refused s x q p p' w c d e room h =
     refused_by s x (request.Payment q) (InPayment q p) (InPayment q p') c d.does e
     (subst (λ b. IsRoom s x c b e) (sym d.asks) room)
-    (subst (λ b. RowRefused s x b (Some c) e) (sym d.asks) h)
+    (subst (λ b. StageRefused s x b (Some c) e) (sym d.asks) h)

@@ -8,7 +8,7 @@ use Rattle.oe_requests.specs.declared.refusals.Refusal.TheVariants.{NoSuchRow, N
 use Rattle.oe_model.specs.Changes.{Change}
 use Rattle.oe_model.specs.Positions.{PaymentPosition, InPayment}
 use Rattle.oe_records.specs.declared.writes.Write.{Write}
-use Rattle.oe_engine.specs.View.{Stored, view_of, Handle}
+use Rattle.oe_engine.specs.View.{EngineState, view_of, Handle}
 use Rattle.oe_engine.specs.Writes.{ask_of_write, change_written}
 use Rattle.oe_engine.specs.Programs.{ask_here, act_here, GoesOn, IsRefused}
 use Rattle.oe_payment.specs.Program.{position_in}
@@ -22,18 +22,18 @@ is_failure (Overflow c) = true
 is_failure _ = false
 
 -- why the stage at this position is refused
-abbrev pub IsRefusedHere : PaymentRequest → Handle → Stored → PaymentPosition → Refusal → Type 0
+abbrev pub IsRefusedHere : PaymentRequest → Handle → EngineState → PaymentPosition → Refusal → Type 0
 IsRefusedHere q x s p e = IsRefused s x (request.Payment q) (InPayment q p) e
 
 -- the stage is done, and the payment stands at another position; or it is refused, and the engine stands for what it did
-abbrev pub Does : PaymentRequest → Handle → Stored → PaymentPosition → Result Position Refusal
-    → Stored → Type 0
+abbrev pub Does : PaymentRequest → Handle → EngineState → PaymentPosition → Result Position Refusal
+    → EngineState → Type 0
 Does q x s p (Ok p') s' =
     GoesOn s x (request.Payment q) (InPayment q p) s' (InPayment q (position_in p'))
 Does q x s p (Err e) s' = IsRefusedHere q x s p e × (view_of s' ≡ view_of s) × (s'.name ≡ s.name)
 
 -- the stage at this position asks for the lock of the write, makes the change that the write is, and the payment goes on
-pub record IsStage (q : PaymentRequest) (x : Handle) (s : Stored) (p : PaymentPosition)
+pub record IsStage (q : PaymentRequest) (x : Handle) (s : EngineState) (p : PaymentPosition)
     (w : Write) (c : Change) (p' : PaymentPosition) : Type 0 where
   pub asks : ask_here s x (request.Payment q) (InPayment q p) ≡ ask_of_write w
   pub does : act_here s x (request.Payment q) (InPayment q p) ≡ Go (Some c) (InPayment q p')

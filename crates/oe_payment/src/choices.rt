@@ -1,6 +1,6 @@
 //! The customer that a payment is of (clause 2.5.2.2). Nothing is changed, and nothing takes memory.
 ghost use Rattle.std.specs.Prelude.{◌≡◌};
-ghost use Rattle.oe_store.specs.Stored.{rows};
+ghost use Rattle.oe_store.specs.Places.{rows};
 ghost use Rattle.oe_payment.specs.Choice.{meant};
 
 use oe_keys::DistrictKey;

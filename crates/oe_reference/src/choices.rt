@@ -1,7 +1,7 @@
 //! The customer that a request means (clauses 2.5.2.2 and 2.6.2.2).
 ghost use Rattle.std.specs.Prelude.{◌≡◌, IfOk};
 ghost use Rattle.oe_model.specs.Choice.{comes_before, middle, chosen};
-ghost use Rattle.oe_store.specs.Stored.{rows};
+ghost use Rattle.oe_store.specs.Places.{rows};
 ghost use Rattle.oe_reference.specs.Choices.{is_named, namesakes_in, rank, is_middle};
 
 use oe_keys::{CustomerKey, DistrictKey};

@@ -5,7 +5,7 @@
 ghost use Rattle.std.specs.Prelude.{◌≡◌, IfOk};
 ghost use Rattle.oe_model.specs.Effects.{in_range};
 ghost use Rattle.oe_model.specs.Delivery.{oldest, delivered_to, delivered_out};
-ghost use Rattle.oe_store.specs.Stored.{rows};
+ghost use Rattle.oe_store.specs.Places.{rows};
 ghost use Rattle.oe_reference.specs.After.{worth_of, IsUpTo, dated_lines, with_sum, IsDeliveryEffect, HasDatedLines};
 
 use oe_formulas::deliveries::{customer_after_delivery, line_after_delivery, order_after_delivery};

@@ -7,7 +7,7 @@ ghost use Rattle.std.specs.Ordering.{eq_by_cmp};
 ghost use Rattle.oe_keys.specs.Key.{stock_cmp};
 ghost use Rattle.oe_model.specs.Effects.{in_range};
 ghost use Rattle.oe_model.specs.NewOrder.{stock_of, after_lines, stock_out, next_out, with_next, replies_of};
-ghost use Rattle.oe_store.specs.Stored.{rows};
+ghost use Rattle.oe_store.specs.Places.{rows};
 ghost use Rattle.oe_reference.specs.After.{stock_after, filled_by, IsFilled, AreFilled, IsNextFilled, AreAllFilled, IsOrderEffect, HasFilledLines};
 
 use oe_formulas::orders::{

@@ -2,7 +2,7 @@
 ghost use Rattle.std.specs.Prelude.{◌≡◌, IfOk};
 ghost use Rattle.oe_model.specs.Effects.{in_range};
 ghost use Rattle.oe_model.specs.Payment.{paid_warehouse, paid_warehouse_out, paid_district, paid_district_out, paid_customer, paid_customer_out};
-ghost use Rattle.oe_store.specs.Stored.{rows};
+ghost use Rattle.oe_store.specs.Places.{rows};
 ghost use Rattle.oe_reference.specs.After.{IsPaymentEffect};
 
 use crate::choices::chosen;

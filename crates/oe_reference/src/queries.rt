@@ -7,7 +7,7 @@ ghost use Rattle.std.specs.Ordering.{eq_by_cmp};
 ghost use Rattle.oe_keys.specs.Key.{customer_cmp};
 ghost use Rattle.oe_model.specs.Keys.{customer_of_order};
 ghost use Rattle.oe_model.specs.Queries.{last_order, is_recent};
-ghost use Rattle.oe_store.specs.Stored.{rows};
+ghost use Rattle.oe_store.specs.Places.{rows};
 ghost use Rattle.oe_reference.specs.Queries.{has_newer, status_lines, IsNewest, IsStatus, is_recently_sold, is_low_before, low_before, IsLevel, AreLow};
 
 use crate::choices::chosen;

@@ -1,5 +1,5 @@
 use Rattle.std.proofs.Common.{◌++◌, map, length, sym, ◌∙◌, subst, List, ℕ}
-use Rattle.oe_store.specs.Stored.{rows}
+use Rattle.oe_store.specs.Places.{rows}
 use Rattle.oe_delivery.proofs.NumberFacts.{Climbs, lines_climb}
 use Rattle.oe_delivery.proofs.looks.line_numbers.Goals as goal
 

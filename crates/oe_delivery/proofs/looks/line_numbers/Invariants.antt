@@ -1,6 +1,6 @@
 use Rattle.std.proofs.Common.{◌≡◌, ◌++◌, map, length}
 use Rattle.oe_model.specs.Delivery.{lines_of}
-use Rattle.oe_store.specs.Stored.{rows}
+use Rattle.oe_store.specs.Places.{rows}
 use Rattle.oe_delivery.proofs.NumberFacts.{Climbs}
 use Rattle.oe_delivery.proofs.looks.line_numbers.Given as goal
 

@@ -3,7 +3,7 @@ use Rattle.oe_undo.specs.Segments.{newest_of}
 use Rattle.oe_undo.specs.Undo.{active_at, records_at}
 use Rattle.oe_model.specs.Changes.{Record}
 use Rattle.oe_undo.specs.Stands.{undo_of}
-use Rattle.oe_store.specs.Stored.{rows}
+use Rattle.oe_store.specs.Places.{rows}
 use Rattle.oe_engine.specs.Unwinds.{Left, Unwinding}
 use Rattle.oe_engine.proofs.UnwindFacts.{begins, unchanged, can_go, goes, goes_on, ends}
 use Rattle.oe_engine.proofs.unwinding.take_back.Goals as goal

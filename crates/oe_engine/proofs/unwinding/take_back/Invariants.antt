@@ -1,5 +1,5 @@
 use Rattle.std.proofs.Common.{◌-◌}
-use Rattle.oe_store.specs.Stored.{rows}
+use Rattle.oe_store.specs.Places.{rows}
 use Rattle.oe_undo.specs.Stands.{undo_of}
 use Rattle.oe_engine.specs.Unwinds.{Left, Unwinding}
 use Rattle.oe_engine.proofs.unwinding.take_back.Given as goal

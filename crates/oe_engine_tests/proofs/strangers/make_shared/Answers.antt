@@ -3,5 +3,5 @@ use Rattle.std.proofs.lemmas.Bool.{true≢false}
 use Rattle.oe_engine_tests.proofs.strangers.make_shared.Goals as goal
 
 -- it is not open
-pub row-requires : goal.row-requires
-row-requires g c = λ o. absurd (true≢false (sym (c.is_open.ensures.1 o) ∙ c.if-is_open.false))
+pub stage-requires : goal.stage-requires
+stage-requires g c = λ o. absurd (true≢false (sym (c.is_open.ensures.1 o) ∙ c.if-is_open.false))

@@ -1,5 +1,5 @@
 use Rattle.std.proofs.Common.{sym}
-use Rattle.oe_store.specs.Stored.{rows}
+use Rattle.oe_store.specs.Places.{rows}
 use Rattle.oe_neworder.proofs.LookFacts.{number_taken}
 use Rattle.oe_neworder.proofs.looks.next_number.Goals as goal
 

@@ -3,7 +3,7 @@ use Rattle.std.specs.FinMap.{get}
 use Rattle.oe_model.specs.Keys.{customer_in}
 use Rattle.oe_model.specs.Changes.{UpdateCustomer}
 use Rattle.oe_model.specs.Positions.{PaymentCustomer}
-use Rattle.oe_store.specs.Stored.{rows}
+use Rattle.oe_store.specs.Places.{rows}
 use Rattle.oe_formulas.specs.Checks.{paid_with}
 use Rattle.oe_engine.specs.View.{view_of}
 use Rattle.oe_payment.specs.Choice.{meant}

@@ -3,7 +3,7 @@ use Rattle.std.specs.FinMap.{get}
 use Rattle.oe_model.specs.Keys.{warehouse_of_district}
 use Rattle.oe_model.specs.Changes.{UpdateWarehouse}
 use Rattle.oe_model.specs.Positions.{PaymentWarehouse}
-use Rattle.oe_store.specs.Stored.{rows}
+use Rattle.oe_store.specs.Places.{rows}
 use Rattle.oe_engine.specs.View.{view_of}
 use Rattle.oe_payment.proofs.StageFacts.{warehouse_stage}
 use Rattle.oe_payment.proofs.stages.pay_warehouse.Goals as goal

@@ -1,7 +1,7 @@
 use Rattle.std.proofs.Common.{◌≡◌, ◌++◌}
 use Rattle.std.specs.List.{filter_map}
 use Rattle.oe_model.specs.Choice.{named, namesakes}
-use Rattle.oe_store.specs.Stored.{rows}
+use Rattle.oe_store.specs.Places.{rows}
 use Rattle.oe_reference.proofs.choices.namesakes.Given as goal
 
 abbrev pub invariant-loop-key : goal.invariant-loop-key

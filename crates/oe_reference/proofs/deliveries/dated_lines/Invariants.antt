@@ -1,6 +1,6 @@
 use Rattle.std.proofs.Common.{◌≡◌, ◌++◌, map}
 use Rattle.oe_model.specs.Delivery.{lines_of, dated}
-use Rattle.oe_store.specs.Stored.{rows}
+use Rattle.oe_store.specs.Places.{rows}
 use Rattle.oe_reference.proofs.deliveries.dated_lines.Given as goal
 
 abbrev pub invariant-loop-key : goal.invariant-loop-key

@@ -1,7 +1,7 @@
 use Rattle.std.proofs.Common.{◌≡◌, ℕ, ◌<◌, Option, subst}
 use Rattle.std.specs.Prelude.{option_map, MatchOption}
 use Rattle.oe_values.specs.Number.{IsWithin}
-use Rattle.oe_store.specs.Stored.{rows}
+use Rattle.oe_store.specs.Places.{rows}
 use Rattle.oe_model.specs.Effects.{in_range}
 use Rattle.oe_model.specs.Delivery.{lines_of, worth, delivered_to, delivered_out}
 use Rattle.oe_reference.proofs.LevelFacts.{too_much}

@@ -1,6 +1,6 @@
 use Rattle.std.proofs.Common.{◌≡◌, ◌+◌, ◌≤◌}
 use Rattle.oe_model.specs.Delivery.{lines_of, worth}
-use Rattle.oe_store.specs.Stored.{rows}
+use Rattle.oe_store.specs.Places.{rows}
 use Rattle.oe_reference.proofs.deliveries.worth.Given as goal
 
 abbrev pub invariant-loop-line : goal.invariant-loop-line

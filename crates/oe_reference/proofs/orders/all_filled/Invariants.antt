@@ -1,5 +1,5 @@
 use Rattle.std.proofs.Common.{◌≡◌, vec_len}
-use Rattle.oe_store.specs.Stored.{rows}
+use Rattle.oe_store.specs.Places.{rows}
 use Rattle.oe_reference.specs.After.{AreFilled}
 use Rattle.oe_reference.proofs.orders.all_filled.Given as goal
 

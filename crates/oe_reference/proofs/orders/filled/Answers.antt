@@ -1,5 +1,5 @@
 use Rattle.std.proofs.Common.{refl}
-use Rattle.oe_store.specs.Stored.{rows}
+use Rattle.oe_store.specs.Places.{rows}
 use Rattle.oe_reference.proofs.LineFacts.{filled_some}
 use Rattle.oe_reference.proofs.orders.filled.Goals as goal
 

@@ -1,6 +1,6 @@
 use Rattle.std.proofs.Common.{◌≡◌, List, take, length, subst}
 use Rattle.std.specs.Prelude.{option_map}
-use Rattle.oe_store.specs.Stored.{rows}
+use Rattle.oe_store.specs.Places.{rows}
 use Rattle.oe_requests.specs.declared.requests.RequestLine.{RequestLine}
 use Rattle.oe_model.specs.NewOrder.{filled}
 use Rattle.oe_reference.specs.After.{filled_by}

@@ -5,7 +5,7 @@ use Rattle.std.specs.Ordering.{eq_by_cmp}
 use Rattle.oe_keys.specs.Key.{customer_cmp}
 use Rattle.oe_model.specs.Keys.{customer_of_order}
 use Rattle.oe_model.specs.Queries.{orders_of}
-use Rattle.oe_store.specs.Stored.{rows}
+use Rattle.oe_store.specs.Places.{rows}
 use Rattle.oe_reference.proofs.queries.has_newer.Given as goal
 
 abbrev pub invariant-loop-key : goal.invariant-loop-key

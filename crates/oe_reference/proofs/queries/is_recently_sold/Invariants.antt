@@ -2,7 +2,7 @@ use Rattle.std.proofs.Common.{◌≡◌}
 use Rattle.std.specs.Prelude.{filter, ◌==◌}
 use Rattle.std.specs.List.{list_any}
 use Rattle.oe_model.specs.Queries.{is_recent, recent_lines}
-use Rattle.oe_store.specs.Stored.{rows}
+use Rattle.oe_store.specs.Places.{rows}
 use Rattle.oe_reference.proofs.queries.is_recently_sold.Given as goal
 
 abbrev pub invariant-loop-key : goal.invariant-loop-key

@@ -1,4 +1,4 @@
-use Rattle.oe_store.specs.Stored.{rows}
+use Rattle.oe_store.specs.Places.{rows}
 use Rattle.oe_reference.proofs.LevelFacts.{level_told}
 use Rattle.oe_reference.proofs.queries.low_items.Goals as goal
 

@@ -2,7 +2,7 @@ use Rattle.std.proofs.Common.{◌≡◌, ◌++◌, map}
 use Rattle.std.specs.Prelude.{filter}
 use Rattle.std.specs.FinMap.{entries}
 use Rattle.oe_model.specs.Queries.{recent_lines, is_low}
-use Rattle.oe_store.specs.Stored.{rows}
+use Rattle.oe_store.specs.Places.{rows}
 use Rattle.oe_reference.proofs.queries.low_stocks.Given as goal
 
 abbrev pub invariant-loop-key : goal.invariant-loop-key

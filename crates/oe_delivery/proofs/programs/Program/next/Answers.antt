@@ -1,7 +1,7 @@
 use Rattle.std.proofs.Common.{refl, sym, ◌∙◌}
 use Rattle.oe_requests.specs.declared.replies.Reply.TheVariants as reply
 use Rattle.oe_delivery.specs.Program.{position_of}
-use Rattle.oe_delivery.proofs.RowFacts.{is_told, is_ready}
+use Rattle.oe_delivery.proofs.StageFacts.{is_told, is_ready}
 use Rattle.oe_delivery.proofs.programs.Program.next.Goals as goal
 
 pub returns-then-is_some : goal.returns-then-is_some

@@ -1,5 +1,5 @@
 use Rattle.std.proofs.Common.{◌+◌}
-use Rattle.oe_delivery.proofs.RowFacts.{drop_more}
+use Rattle.oe_delivery.proofs.StageFacts.{drop_more}
 use Rattle.oe_delivery.proofs.remainders.Remainder.pass.Goals as goal
 
 pub returns : goal.returns

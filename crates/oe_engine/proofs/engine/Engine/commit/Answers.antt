@@ -41,11 +41,11 @@ invariant_of-self c =
     let within : c.of-segment.result < length c.self.inside.undo.terminals = omega (arith, c.get-number.ensures.value, c.get-number.ensures.high, c.of-segment.ensures) in
     record {
       kept = subst (λ u. IsKept c.self.inside.tables u c.release_all.new.self) (sym c.seal-moment.ensures.sealed)
-          (sealed_kept c.self.inside.tables c.self.inside.undo c.self.inside.locks c.release_all.new.self c.of-segment.result c.args.request c.args.reply within here own others c.self.invariant.kept);
+          (sealed_kept c.self.inside.tables c.self.inside.undo c.self.inside.locks c.release_all.new.self c.of-segment.result c.args.request.value c.args.reply.value within here own others c.self.invariant.kept);
       safe = subst IsSafe
           (sym (ap (λ u. view_from c.self.inside.tables u c.release_all.new.self) c.seal-moment.ensures.sealed
-          ∙ sealed_is c.self.inside.tables c.self.inside.undo c.self.inside.locks c.release_all.new.self c.of-segment.result c.args.request c.args.reply within here own others))
-          (safe_committed c.of-segment.result c.args.request c.args.reply (view_from c.self.inside.tables c.self.inside.undo c.self.inside.locks) c.self.invariant.safe);
+          ∙ sealed_is c.self.inside.tables c.self.inside.undo c.self.inside.locks c.release_all.new.self c.of-segment.result c.args.request.value c.args.reply.value within here own others))
+          (safe_committed c.of-segment.result c.args.request.value c.args.reply.value (view_from c.self.inside.tables c.self.inside.undo c.self.inside.locks) c.self.invariant.safe);
     }
 
 pub returns-clause-committed : goal.returns-clause-committed
@@ -63,5 +63,5 @@ returns-clause-committed c =
     let within : c.of-segment.result < length c.self.inside.undo.terminals = omega (arith, c.get-number.ensures.value, c.get-number.ensures.high, c.of-segment.ensures) in
     rw (← c.self.view_is)
     (ap (λ u. view_from c.self.inside.tables u c.release_all.new.self) c.seal-moment.ensures.sealed
-    ∙ sealed_is c.self.inside.tables c.self.inside.undo c.self.inside.locks c.release_all.new.self c.of-segment.result c.args.request c.args.reply within here own others
-    ∙ ap (λ t. committed t c.args.request c.args.reply (view_from c.self.inside.tables c.self.inside.undo c.self.inside.locks)) same)
+    ∙ sealed_is c.self.inside.tables c.self.inside.undo c.self.inside.locks c.release_all.new.self c.of-segment.result c.args.request.value c.args.reply.value within here own others
+    ∙ ap (λ t. committed t c.args.request.value c.args.reply.value (view_from c.self.inside.tables c.self.inside.undo c.self.inside.locks)) same)

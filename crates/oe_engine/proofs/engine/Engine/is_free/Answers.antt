@@ -1,6 +1,6 @@
 use Rattle.std.proofs.Common.{refl}
 use Rattle.oe_engine.specs.View.{view_of}
-use Rattle.oe_engine.proofs.RowFacts.{free_is, way_is}
+use Rattle.oe_engine.proofs.PartFacts.{free_is, way_is}
 use Rattle.oe_engine.proofs.engine.Engine.is_free.Goals as goal
 
 pub returns-in-Some-clause-busy : goal.returns-in-Some-clause-busy

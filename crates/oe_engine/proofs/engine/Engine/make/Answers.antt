@@ -8,7 +8,7 @@ use Rattle.oe_engine.proofs.MakeFacts.{room_view, room_kept, change_view, change
 use Rattle.oe_engine.specs.Kept.{IsKept}
 use Rattle.oe_engine.specs.Covered.{IsSafe}
 use Rattle.oe_engine.proofs.SafeFacts.{safe_made}
-use Rattle.oe_engine.proofs.RowFacts.{refused_so}
+use Rattle.oe_engine.proofs.PartFacts.{refused_so}
 use Rattle.oe_engine.proofs.engine.Engine.make.Goals as goal
 
 pub reserve-requires : goal.reserve-requires

@@ -9,7 +9,7 @@ use Rattle.oe_engine.proofs.KeptFacts.{locks_kept}
 use Rattle.oe_engine.specs.Covered.{IsSafe, IsUnused}
 use Rattle.oe_engine.specs.Calls as calls
 use Rattle.oe_engine.proofs.SafeFacts.{safe_put}
-use Rattle.oe_engine.proofs.RowFacts.{below_as, mode_put, put_nothing}
+use Rattle.oe_engine.proofs.PartFacts.{below_as, mode_put, put_nothing}
 use Rattle.oe_engine.proofs.engine.Engine.restore.Goals as goal
 
 pub invariant_of-self : goal.invariant_of-self

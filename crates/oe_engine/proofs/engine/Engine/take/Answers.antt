@@ -5,7 +5,7 @@ use Rattle.oe_undo.specs.Undo.{active_at}
 use Rattle.oe_engine.specs.View.{view_of, view_from}
 use Rattle.oe_engine.proofs.KeptFacts.{asked_kept}
 use Rattle.oe_engine.proofs.SafeFacts.{asked_safe}
-use Rattle.oe_engine.proofs.RowFacts.{on_ok, on_both, if_ok, if_err, free_is, locked_is, lock_cause}
+use Rattle.oe_engine.proofs.PartFacts.{on_ok, on_both, if_ok, if_err, free_is, locked_is, lock_cause}
 use Rattle.oe_engine.proofs.engine.Engine.take.Goals as goal
 
 pub invariant_of-self : goal.invariant_of-self

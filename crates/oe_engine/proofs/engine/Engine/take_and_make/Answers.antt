@@ -6,7 +6,7 @@ use Rattle.oe_engine.specs.Calls.{IsBelow, locked, put_mode}
 use Rattle.oe_records.specs.Changes.{change_of}
 use Rattle.oe_engine.specs.Covered.{MayMake, IsUnused, IsSafe}
 use Rattle.oe_engine.proofs.SafeFacts.{covered_after, unused_if_lower, not_exclusive}
-use Rattle.oe_engine.proofs.RowFacts.{can_restore, restored}
+use Rattle.oe_engine.proofs.PartFacts.{can_restore, restored}
 use Rattle.oe_engine.proofs.engine.Engine.take_and_make.Goals as goal
 
 pub make-requires-clause-covered : goal.make-requires-clause-covered

@@ -7,7 +7,7 @@ use Rattle.oe_engine.specs.View.{View, view_of, view_from}
 use Rattle.oe_engine.specs.Calls.{IsBelow, locked, put_mode}
 use Rattle.oe_engine.specs.Covered.{IsUnused, IsSafe}
 use Rattle.oe_engine.proofs.SafeFacts.{unused_if_lower, not_exclusive}
-use Rattle.oe_engine.proofs.RowFacts.{can_restore, restored}
+use Rattle.oe_engine.proofs.PartFacts.{can_restore, restored}
 use Rattle.oe_engine.proofs.WriteFacts.{wants_row}
 use Rattle.oe_engine.proofs.engine.Engine.take_and_put.Goals as goal
 

@@ -2,8 +2,8 @@ use Rattle.std.proofs.Common.{Some, sym, ap, ◌∙◌, subst}
 use Rattle.oe_theory.specs.Machine.{Take}
 use Rattle.oe_model.specs.Locks.{mode_of}
 use Rattle.oe_engine.specs.View.{view_of}
-use Rattle.oe_engine.specs.Calls.{made, row_done, IsCovered}
-use Rattle.oe_engine.proofs.RowFacts.{on_ok, change_done}
+use Rattle.oe_engine.specs.Calls.{made, stage_done, IsCovered}
+use Rattle.oe_engine.proofs.PartFacts.{on_ok, change_done}
 use Rattle.oe_engine.proofs.WriteFacts.{covered_written}
 use Rattle.oe_engine.proofs.engine.Engine.write.Goals as goal
 
@@ -21,5 +21,5 @@ returns-in-None-clause-done c = λ d found.
     done
     ∙ ap (λ t. made t d (view_of c.args.self.now)) c.terminal-terminal.ensures
     ∙ sym (change_done c.args.tx.now.terminal d (view_of c.args.self.now))
-    ∙ ap (λ a. row_done c.args.tx.now.terminal a (Some d) (view_of c.args.self.now)) c.in-None.ensures)
+    ∙ ap (λ a. stage_done c.args.tx.now.terminal a (Some d) (view_of c.args.self.now)) c.in-None.ensures)
     (c.put.ensures.made d found)

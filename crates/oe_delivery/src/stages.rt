@@ -1,0 +1,129 @@
+//! The stages of a delivery (clause 2.7.4.2), each done on an engine or refused by it.
+ghost use Rattle.std.specs.Prelude.{◌≡◌, ◌∷◌, [], drop};
+ghost use Rattle.oe_model.specs.Positions.{DeliveryQueue, DeliveryOrder};
+ghost use Rattle.oe_engine.specs.View.{IsOpen};
+ghost use Rattle.oe_delivery.specs.Program.{line_position};
+ghost use Rattle.oe_delivery.specs.Stages.{Advances, HoldsTaken, Steps};
+
+use crate::looks::remainder_of;
+use crate::programs::Program;
+use crate::remainders::Remainder;
+use oe_engine::stages::{failed, hold, put, put_held};
+use oe_engine::{Engine, Lock, Progress, Tx};
+use oe_formulas::deliveries::account_after_delivery;
+use oe_keys::{Key, Mode, Name};
+use oe_records::Write;
+use oe_requests::{DeliveryRequest, Refusal};
+use oe_values::{LineNumber, OrderNumber};
+
+/// NEW-ORDER: the name of the district's queue is taken alone, and the row of the oldest order is deleted, if one waits.
+pub fn take_oldest(
+    request: &DeliveryRequest,
+    engine: &mut Engine,
+    tx: &Tx,
+) -> Result<Program, Refusal>
+    requires { IsOpen engine.old tx.now }
+    ensures { Steps request.now tx.now engine.old DeliveryQueue result engine.new }
+{
+    let Some(order) = engine.tables().oldest(&request.district) else {
+        let lock = Lock {
+            name: Name::Queue(request.district),
+            mode: Mode::Exclusive,
+        };
+        return match hold(engine, tx, lock) {
+            Ok(()) => Ok(Program::Nothing),
+            Err(refusal) => Err(refusal),
+        };
+    };
+    let write = Write::DeleteNewOrder(request.district.new_order(order));
+    match put(engine, tx, &write) {
+        Ok(()) => Ok(Program::Order(order)),
+        Err(refusal) => Err(refusal),
+    }
+}
+
+/// ORDER: its name is taken alone, and O_CARRIER_ID is set. `NoSuchRow` where it is absent.
+pub fn set_carrier(
+    request: &DeliveryRequest,
+    order: OrderNumber,
+    engine: &mut Engine,
+    tx: &Tx,
+) -> Result<Program, Refusal>
+    requires { IsOpen engine.old tx.now }
+    ensures { Steps request.now tx.now engine.old (DeliveryOrder order) result engine.new }
+{
+    let key = &request.district.order(order);
+    let Some(remainder) = remainder_of(key, engine.tables()) else {
+        let lock = Lock {
+            name: Name::Order(*key),
+            mode: Mode::Exclusive,
+        };
+        return Err(failed(engine, tx, lock, Refusal::NoSuchRow(Key::Order(*key))));
+    };
+    let write = Write::Carrier(*key, request.carrier);
+    match put(engine, tx, &write) {
+        Ok(()) => Ok(Program::Lines(remainder)),
+        Err(refusal) => Err(refusal),
+    }
+}
+
+/// ORDER-LINE of the first line to come: OL_DELIVERY_D is set, under the order's name, which is held. `NoSuchRow` where it is absent.
+pub fn date_line(
+    request: &DeliveryRequest,
+    remainder: &mut Remainder,
+    number: LineNumber,
+    engine: &mut Engine,
+    tx: &Tx,
+) -> Progress
+    requires open { IsOpen engine.old tx.now }
+    requires next { remainder.old.numbers ≡ number ∷ drop 1 remainder.old.numbers }
+    requires held { HoldsTaken request.now tx.now engine.old (line_position remainder.old) }
+    ensures { Advances request.now tx.now engine.old (line_position remainder.old)
+        result engine.new (line_position remainder.new) }
+{
+    let key = &request.district.order(remainder.order()).line(number);
+    let Some(row) = engine.tables().order_line(*key) else {
+        return Progress::Refused(Refusal::NoSuchRow(Key::OrderLine(*key)));
+    };
+    let amount = row.amount;
+    let write = Write::DeliveryDate(*key, request.stamp);
+    match put_held(engine, tx, &write) {
+        Ok(()) => {
+            remainder.pass(amount);
+            Progress::More
+        }
+        Err(refusal) => Progress::Refused(refusal),
+    }
+}
+
+/// CUSTOMER: its name is taken alone, C_BALANCE rises by the sum of the OL_AMOUNTs, and C_DELIVERY_CNT by 1. `NoSuchRow` where it is
+/// absent, `Overflow` where one of these would leave its range: the first of them.
+pub fn credit_customer(
+    request: &DeliveryRequest,
+    remainder: &Remainder,
+    engine: &mut Engine,
+    tx: &Tx,
+) -> Result<Program, Refusal>
+    requires open { IsOpen engine.old tx.now }
+    requires last { remainder.now.numbers ≡ [] }
+    ensures { Steps request.now tx.now engine.old (line_position remainder.now) result engine.new }
+{
+    let key = &request.district.customer(remainder.customer());
+    let lock = Lock {
+        name: Name::Customer(*key),
+        mode: Mode::Exclusive,
+    };
+    let Some(row) = engine.tables().customer(*key) else {
+        return Err(failed(engine, tx, lock, Refusal::NoSuchRow(Key::Customer(*key))));
+    };
+    match account_after_delivery(row, remainder.sum()) {
+        Err(column) => Err(failed(engine, tx, lock, Refusal::Overflow(column))),
+        Ok(account) => {
+            let write = Write::CustomerAccount(*key, account);
+            match put(engine, tx, &write) {
+                Ok(()) => Ok(Program::End(remainder.delivered())),
+                Err(refusal) => Err(refusal),
+            }
+        }
+    }
+}

@@ -1,0 +1,19 @@
+use Rattle.std.proofs.Common.{suc, subst}
+use Rattle.oe_model.specs.Locks.{governs}
+use Rattle.oe_records.specs.Writes.{key_written}
+use Rattle.oe_engine.specs.View.{view_of}
+use Rattle.oe_engine.specs.Writes.{WantsRow}
+use Rattle.oe_engine.proofs.StageFacts.{owned_own, does_held}
+use Rattle.oe_engine.proofs.stages.put_held.Goals as goal
+
+pub write-requires-clause-own : goal.write-requires-clause-own
+write-requires-clause-own c = λ o.
+    owned_own ((view_of c.args.engine.now).held c.args.tx.now.terminal) c.args.tx.now.terminal (suc ((view_of c.args.engine.now).counts c.args.tx.now.terminal))
+    (governs (key_written c.args.write.now)) (c.requires.held o)
+
+pub returns-clause-does : goal.returns-clause-does
+returns-clause-does c = λ d e.
+    does_held c.args.engine.now c.args.tx.now (suc ((view_of c.args.engine.now).counts c.args.tx.now.terminal)) (governs (key_written c.args.write.now))
+    c.is_safe.ensures.safe c.requires.held c.write.new.self d c.write.result
+    c.write.ensures.open (c.write.ensures.accepted d e) (c.write.ensures.done d e) c.write.ensures.name (c.write.ensures.cause d e)
+    (λ u told held room same. subst (λ o. WantsRow o c.args.engine.now.tables) e ((rw told at c.write.ensures.room) held room same))

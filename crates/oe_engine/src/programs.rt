@@ -1,0 +1,22 @@
+//! What a stage of a program asks for, and how it ends.
+
+use oe_keys::{Mode, Name};
+use oe_requests::Refusal;
+
+/// A lock that a stage asks for before its work.
+#[derive(Clone, Copy, Debug, PartialEq, Eq)]
+pub struct Lock {
+    pub name: Name,
+    pub mode: Mode,
+}
+
+/// How one stage of a program ends.
+#[derive(Drop, Debug, PartialEq, Eq)]
+pub enum Progress {
+    /// It is done, and there is a further one.
+    More,
+    /// All stages are done, and the program has its reply; nothing is left but to commit.
+    Ready,
+    /// It was refused, and nothing has changed.
+    Refused(Refusal),
+}

@@ -1,0 +1,84 @@
+//! A stage of a program of any kind, carried out on an engine or refused by it.
+ghost use Rattle.std.specs.Prelude.{◌≡◌, true, suc, Some, None, OnErr};
+ghost use Rattle.oe_theory.specs.Machine.{Plain, Take};
+ghost use Rattle.oe_model.specs.Changes as model;
+ghost use Rattle.oe_model.specs.Locks.{mode_of, governs};
+ghost use Rattle.oe_records.specs.Changes.{change_of};
+ghost use Rattle.oe_records.specs.Writes.{key_written};
+ghost use Rattle.oe_engine.specs.View.{view_of, IsOpen};
+ghost use Rattle.oe_engine.specs.Covered.{IsOwn, Owns};
+ghost use Rattle.oe_engine.specs.Calls.{IsCovered};
+ghost use Rattle.oe_engine.specs.Writes.{ask_of_write, change_written, WriteHoldsOrder};
+ghost use Rattle.oe_engine.specs.Stages.{is_failure, IsFailure, Does};
+
+use crate::engine::{Engine, Tx};
+use crate::programs::Lock;
+use oe_records::{Change, Write};
+use oe_requests::Refusal;
+
+/// The refusal of a stage that asks for a lock and then fails: who is in the way of the lock, or what it fails with.
+pub fn failed(engine: &Engine, tx: &Tx, lock: Lock, refusal: Refusal) -> Refusal
+    requires open { IsOpen engine.now tx.now }
+    requires failure { is_failure refusal ≡ true }
+    ensures { IsFailure engine.now tx.now lock refusal result }
+{
+    match engine.is_free(tx, lock) {
+        Ok(()) => refusal,
+        Err(busy) => busy,
+    }
+}
+
+/// A stage that takes a lock and changes nothing. After an error the engine stands for what it stood for before.
+pub fn hold(engine: &mut Engine, tx: &Tx, lock: Lock) -> Result<(), Refusal>
+    ensures does { Does engine.old tx.now
+        (Take lock.name (mode_of lock.mode)) None result engine.new }
+    ensures name { engine.new.name ≡ engine.old.name }
+    ensures err { OnErr result (view_of engine.new ≡ view_of engine.old) }
+{
+    engine.stage(tx, Some(lock), None)
+}
+
+/// A stage that writes to a row in its place, and takes that row's name alone. After an error the engine stands for what it stood
+/// for before.
+pub fn put(engine: &mut Engine, tx: &Tx, write: &Write) -> Result<(), Refusal>
+    requires own { IsOpen engine.old tx.now
+        → IsOwn tx.now.terminal (suc ((view_of engine.old).counts tx.now.terminal))
+        (governs (key_written write.now)) }
+    requires order { IsOpen engine.old tx.now
+        → WriteHoldsOrder ((view_of engine.old).held tx.now.terminal) write.now }
+    ensures does { (c : model.Change) → change_written write.now (view_of engine.old) ≡ Some c
+        → Does engine.old tx.now (ask_of_write write.now) (Some c) result engine.new }
+    ensures name { engine.new.name ≡ engine.old.name }
+    ensures err { OnErr result (view_of engine.new ≡ view_of engine.old) }
+{
+    engine.write(tx, write)
+}
+
+/// A stage that asks for no lock, and makes a change of a row that its transaction alone may change. After an error the engine
+/// stands for what it stood for before.
+pub fn add(engine: &mut Engine, tx: &Tx, change: Change) -> Result<(), Refusal>
+    requires { IsOpen engine.old tx.now
+        → IsCovered (view_of engine.old) tx.now.terminal Plain (Some (change_of change)) }
+    ensures does { Does engine.old tx.now Plain (Some (change_of change)) result engine.new }
+    ensures name { engine.new.name ≡ engine.old.name }
+    ensures err { OnErr result (view_of engine.new ≡ view_of engine.old) }
+{
+    engine.stage(tx, None, Some(change))
+}
+
+/// A stage that asks for no lock, and writes to a row in its place that its transaction alone may change: it holds the row's name
+/// alone, or the row is its own. After an error the engine stands for what it stood for before.
+pub fn put_held(engine: &mut Engine, tx: &Tx, write: &Write) -> Result<(), Refusal>
+    requires held { IsOpen engine.old tx.now
+        → Owns ((view_of engine.old).held tx.now.terminal) tx.now.terminal
+        (suc ((view_of engine.old).counts tx.now.terminal)) (governs (key_written write.now)) }
+    requires order { IsOpen engine.old tx.now
+        → WriteHoldsOrder ((view_of engine.old).held tx.now.terminal) write.now }
+    ensures does { (c : model.Change) → change_written write.now (view_of engine.old) ≡ Some c
+        → Does engine.old tx.now Plain (Some c) result engine.new }
+    ensures name { engine.new.name ≡ engine.old.name }
+    ensures err { OnErr result (view_of engine.new ≡ view_of engine.old) }
+{
+    engine.is_safe();
+    engine.write(tx, write)
+}

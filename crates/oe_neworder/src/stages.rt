@@ -1,0 +1,133 @@
+//! The stages of a New-Order before its lines, each done on an engine or refused by it.
+ghost use Rattle.std.specs.Prelude.{◌≡◌, IsSome};
+ghost use Rattle.oe_keys.specs.declared.locks.Name.TheVariants as name;
+ghost use Rattle.oe_model.specs.Keys.{order_in};
+ghost use Rattle.oe_model.specs.Positions.{NewOrderWarehouse, NewOrderDistrict, NewOrderCustomer, NewOrderOrder, NewOrderQueue};
+ghost use Rattle.oe_formulas.specs.Orders.{seen_by};
+ghost use Rattle.oe_engine.specs.View.{view_of, IsOpen};
+ghost use Rattle.oe_neworder.specs.Stages.{Steps};
+
+use crate::fillings::Filling;
+use crate::looks::{next_number, seen, warehouse_tax};
+use crate::programs::Program;
+use oe_engine::stages::{failed, hold, put};
+use oe_engine::{Engine, Lock, Tx};
+use oe_formulas::orders::{Seen, order_row};
+use oe_keys::{Mode, Name};
+use oe_records::Write;
+use oe_requests::{LineReplies, NewOrderRequest, Refusal};
+use oe_values::{OrderNumber, Rate};
+
+/// WAREHOUSE: its name is taken beside others'.
+pub fn read_warehouse(
+    request: &NewOrderRequest,
+    engine: &mut Engine,
+    tx: &Tx,
+) -> Result<Program, Refusal>
+    requires { IsOpen engine.old tx.now }
+    ensures { Steps request.now tx.now engine.old NewOrderWarehouse result engine.new }
+{
+    let lock = Lock {
+        name: Name::Warehouse(request.district.warehouse_key()),
+        mode: Mode::Shared,
+    };
+    match warehouse_tax(request, engine.tables()) {
+        Err(refusal) => Err(failed(engine, tx, lock, refusal)),
+        Ok(tax) => match hold(engine, tx, lock) {
+            Ok(()) => Ok(Program::District(tax)),
+            Err(refusal) => Err(refusal),
+        },
+    }
+}
+
+/// DISTRICT: its name is taken alone, and D_NEXT_O_ID rises by 1.
+pub fn take_number(
+    request: &NewOrderRequest,
+    tax: Rate,
+    engine: &mut Engine,
+    tx: &Tx,
+) -> Result<Program, Refusal>
+    requires { IsOpen engine.old tx.now }
+    ensures { Steps request.now tx.now engine.old (NewOrderDistrict tax) result engine.new }
+{
+    let lock = Lock {
+        name: Name::District(request.district),
+        mode: Mode::Exclusive,
+    };
+    match next_number(request, engine.tables()) {
+        Err(refusal) => Err(failed(engine, tx, lock, refusal)),
+        Ok(numbered) => {
+            let write = Write::NextOrder(request.district, numbered.next);
+            match put(engine, tx, &write) {
+                Ok(()) => Ok(Program::Customer(numbered.order, tax, numbered.tax)),
+                Err(refusal) => Err(refusal),
+            }
+        }
+    }
+}
+
+/// CUSTOMER: its name is taken beside others'. `NoCustomer` stops before that.
+pub fn read_customer(
+    request: &NewOrderRequest,
+    order: OrderNumber,
+    warehouse_tax: Rate,
+    district_tax: Rate,
+    engine: &mut Engine,
+    tx: &Tx,
+) -> Result<Program, Refusal>
+    requires { IsOpen engine.old tx.now }
+    ensures { Steps request.now tx.now engine.old
+        (NewOrderCustomer order warehouse_tax district_tax) result engine.new }
+{
+    let Some(seen) = seen(request, order, warehouse_tax, district_tax, engine.tables()) else {
+        return Err(Refusal::NoCustomer);
+    };
+    let lock = Lock {
+        name: Name::Customer(request.district.customer(request.customer)),
+        mode: Mode::Shared,
+    };
+    match hold(engine, tx, lock) {
+        Ok(()) => Ok(Program::Order(seen)),
+        Err(refusal) => Err(refusal),
+    }
+}
+
+/// ORDER: its name is taken alone, and the row is inserted.
+pub fn insert_order(
+    request: &NewOrderRequest,
+    seen: &Seen,
+    engine: &mut Engine,
+    tx: &Tx,
+) -> Result<Program, Refusal>
+    ensures { Steps request.now tx.now engine.old
+        (NewOrderOrder (seen_by seen.now)) result engine.new }
+{
+    let write = Write::InsertOrder(request.district.order(seen.order), order_row(request));
+    match put(engine, tx, &write) {
+        Ok(()) => Ok(Program::Queue(seen.copied())),
+        Err(refusal) => Err(refusal),
+    }
+}
+
+/// NEW-ORDER: the name of the district's queue is taken alone, and the row is inserted.
+pub fn insert_new_order(
+    request: &NewOrderRequest,
+    seen: &Seen,
+    engine: &mut Engine,
+    tx: &Tx,
+) -> Result<Program, Refusal>
+    requires { IsOpen engine.old tx.now → IsSome ((view_of engine.old).held tx.now.terminal
+        (name.Order (order_in request.now.district seen.now.order))) }
+    ensures { Steps request.now tx.now engine.old
+        (NewOrderQueue (seen_by seen.now)) result engine.new }
+{
+    let write = Write::InsertNewOrder(request.district.new_order(seen.order));
+    match put(engine, tx, &write) {
+        Ok(()) => Ok(Program::Lines(Filling {
+            seen: seen.copied(),
+            done: LineReplies::new(),
+            filled: None,
+        })),
+        Err(refusal) => Err(refusal),
+    }
+}
