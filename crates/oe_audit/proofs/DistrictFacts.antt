@@ -19,7 +19,7 @@ use Rattle.oe_model.specs.Conditions.{new_orders_of, lines_asked, lines_there}
 use Rattle.oe_model.specs.Audits.{greatest, least, none_or, new_order_numbers}
 use Rattle.oe_model.proofs.MapFacts.{is_same}
 use Rattle.oe_model.proofs.EntryFacts.{EachOf, each_of, kept_at}
-use Rattle.oe_store.specs.Stored.{entries_of}
+use Rattle.oe_store.specs.Places.{entries_of}
 use Rattle.oe_audit.specs.Tests.{are_counted, lines_agree}
 use Rattle.oe_audit.proofs.GroupFacts.{sum_of_group}
 use Rattle.oe_audit.proofs.NumberFacts.{Rises, Rise, has_no_gap, gaps_counted}

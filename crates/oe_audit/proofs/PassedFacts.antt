@@ -9,8 +9,8 @@ use Rattle.oe_model.specs.Rows.{Rows}
 use Rattle.oe_model.specs.Meets.{Meets}
 use Rattle.oe_model.specs.System.{system}
 use Rattle.oe_model.proofs.PresenceFacts.{some-map, present_some}
-use Rattle.oe_store.specs.Stored.{rows}
-use Rattle.oe_store.specs.Stored as tables
+use Rattle.oe_store.specs.Places.{rows}
+use Rattle.oe_store.specs.Places as tables
 use Rattle.oe_undo.specs.Undo as undo
 use Rattle.oe_versions.specs.Versions.{store_with, version, Stand}
 use Rattle.oe_versions.proofs.LastingFacts.{rows_last, versions_meet}
@@ -25,7 +25,7 @@ passed_now r m = record {
   new_orders = λ k there. let x = present_some (get r.new_orders k) there in m.new_orders k x.0 x.1;
 }
 
-module _ (ts : tables.Stored) (u : undo.Stored) (m : ℕ) (h : Stand ts u) where
+module _ (ts : tables.Places) (u : undo.UndoLog) (m : ℕ) (h : Stand ts u) where
   abbrev past : Rows
   past = version ts u m
 

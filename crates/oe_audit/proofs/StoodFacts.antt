@@ -17,8 +17,8 @@ use Rattle.oe_rows.specs.declared.orders.Order.{Order}
 use Rattle.oe_model.specs.Keys.{warehouse_of_district, district_of_order, district_of_new_order, order_of_line, order_of_new_order}
 use Rattle.oe_model.specs.Rows.{Rows}
 use Rattle.oe_model.specs.Conditions.{ytd_of, lines_asked, lines_there}
-use Rattle.oe_store.specs.Stored.{rows, entries_of}
-use Rattle.oe_store.specs.Stored as tables
+use Rattle.oe_store.specs.Places.{rows, entries_of}
+use Rattle.oe_store.specs.Places as tables
 use Rattle.oe_versions.specs.Versions.{version}
 use Rattle.oe_versions.proofs.ChosenFacts.{rows_at, kept_is, kept_among, all_is}
 use Rattle.oe_audit.specs.AsOf.{rows_then, stood, ArePassed}
@@ -55,7 +55,7 @@ stood_now m [] = refl
 stood_now m (e ∷ es) = ap (λ xs. (e.0, e.1) ∷ xs) (stood_now m es)
 
 -- the rows of then are what the keys of the rows that stand had
-module _ {K X : Type 0} {R : K → K → Ordering} (total : IsTotalOrder R) (exact : IsAntisymmetric R) (of : Rows → FinMap R X) (ts : tables.Stored) where
+module _ {K X : Type 0} {R : K → K → Ordering} (total : IsTotalOrder R) (exact : IsAntisymmetric R) (of : Rows → FinMap R X) (ts : tables.Places) where
   pub all_stood : (w : AsOf) → ((q : K) → IsSome (get (of (rows_then ts w)) q) → IsSome (get (of (rows ts)) q))
       → entries (of (rows_then ts w)) ≡ stood w (of (rows_then ts w)) (entries (of (rows ts)))
   all_stood when.Now has = sym (stood_now (of (rows ts)) (entries (of (rows ts))))
@@ -66,7 +66,7 @@ module _ {K X : Type 0} {R : K → K → Ordering} (total : IsTotalOrder R) (exa
   kept_stood when.Now p has = sym (stood_now (of (rows ts)) (entries (retain_keys (of (rows ts)) p)))
   kept_stood (when.Moment u m) p has = kept_is (of (version ts u.now m)) total exact (of (rows ts)) p has
 
-module _ (ts : tables.Stored) (w : AsOf) (h : ArePassed (rows_then ts w) (rows ts)) where
+module _ (ts : tables.Places) (w : AsOf) (h : ArePassed (rows_then ts w) (rows ts)) where
   abbrev pub past : Rows
   past = rows_then ts w
 

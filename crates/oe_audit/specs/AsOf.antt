@@ -14,8 +14,8 @@ use Rattle.oe_requests.specs.declared.refusals.Refusal.{Refusal}
 use Rattle.oe_model.specs.Keys.{order_of_new_order}
 use Rattle.oe_model.specs.Rows.{Rows}
 use Rattle.oe_model.specs.Audits.{Condition, Second, Third, Fourth, passes_2}
-use Rattle.oe_store.specs.Stored.{rows}
-use Rattle.oe_store.specs.Stored as tables
+use Rattle.oe_store.specs.Places.{rows}
+use Rattle.oe_store.specs.Places as tables
 use Rattle.oe_versions.specs.Versions.{version, IsOutside}
 use Rattle.oe_audit.specs.Tests.{are_counted, lines_agree}
 use Rattle.oe_audit.specs.declared.as_of.AsOf.{AsOf}
@@ -24,7 +24,7 @@ use Rattle.oe_audit.specs.declared.conditions.DistrictCondition.{DistrictConditi
 use Rattle.oe_audit.specs.declared.conditions.DistrictCondition.TheVariants as of_districts
 
 -- the rows as they stand, or stood at a moment
-abbrev pub rows_then : tables.Stored → AsOf → Rows
+abbrev pub rows_then : tables.Places → AsOf → Rows
 rows_then ts when.Now = rows ts
 rows_then ts (when.Moment u m) = version ts u.now m
 
@@ -49,7 +49,7 @@ abbrev pub stood_among : {K X Y : Type 0} {R : K → K → Ordering}
 stood_among m es = filter_map (λ e. option_map (λ x. (e.0, x)) (get m e.0)) es
 
 -- how many of these ORDER-LINE rows stood then
-abbrev pub lines_stood : tables.Stored → AsOf → List (OrderLineKey × OrderLine) → ℕ
+abbrev pub lines_stood : tables.Places → AsOf → List (OrderLineKey × OrderLine) → ℕ
 lines_stood ts w es = length (stood w (rows_then ts w).order_lines es)
 
 -- the key has a row

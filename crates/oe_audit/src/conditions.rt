@@ -1,7 +1,7 @@
 //! The verdicts of the consistency conditions (clauses 3.3.2.1 to 3.3.2.4), of the rows as they stand or stood at a moment.
 ghost use Rattle.std.specs.Prelude.{◌≡◌, IsTrue, IfOk, IfErr, OnOk};
 ghost use Rattle.oe_model.specs.Audits.{First};
-ghost use Rattle.oe_store.specs.Stored.{rows};
+ghost use Rattle.oe_store.specs.Places.{rows};
 ghost use Rattle.oe_undo.specs.Undo.{open_total};
 ghost use Rattle.oe_versions.specs.Versions.{version, Stand, IsReadable, IsOutside};
 ghost use Rattle.oe_audit.specs.AsOf.{rows_then, model_condition, passes, ArePassed, IsUnread};

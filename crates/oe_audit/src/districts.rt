@@ -1,7 +1,7 @@
 //! The second, third and fourth consistency conditions, at a district.
 ghost use Rattle.std.specs.Prelude.{◌≡◌, ◌≤◌, ◌+◌, ◌↔◌, ◌==◌, IsTrue, IfOk, IfErr};
 ghost use Rattle.oe_model.specs.Audits.{passes_2, greatest, some_and, none_or, order_numbers, new_order_numbers};
-ghost use Rattle.oe_store.specs.Stored.{rows};
+ghost use Rattle.oe_store.specs.Places.{rows};
 ghost use Rattle.oe_audit.specs.AsOf.{rows_then, lines_stood, greater_of, ArePassed, IsUnread};
 ghost use Rattle.oe_audit.specs.Tests.{are_counted, follows, lines_agree};
 

@@ -4,7 +4,7 @@ ghost use Rattle.std.specs.FinMap.{get};
 ghost use Rattle.oe_model.specs.Conditions.{IsPopulation};
 ghost use Rattle.oe_model.specs.PopulationTest.{each_row, has_stocks};
 ghost use Rattle.oe_model.specs.Verdicts.{IsMet};
-ghost use Rattle.oe_store.specs.Stored.{rows};
+ghost use Rattle.oe_store.specs.Places.{rows};
 ghost use Rattle.oe_audit.specs.Verdict.{AreMet, condition_of};
 ghost use Rattle.oe_audit.specs.Tests.{stocks_each_item};
 

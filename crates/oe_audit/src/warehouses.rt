@@ -1,7 +1,7 @@
 //! The first consistency condition, at a warehouse.
 ghost use Rattle.std.specs.Prelude.{◌≡◌, IfOk, IfErr};
 ghost use Rattle.oe_model.specs.Audits.{passes_1};
-ghost use Rattle.oe_store.specs.Stored.{rows};
+ghost use Rattle.oe_store.specs.Places.{rows};
 ghost use Rattle.oe_audit.specs.AsOf.{rows_then, ArePassed, IsUnread};
 
 use crate::as_of::AsOf;

@@ -4,7 +4,7 @@ use Rattle.std.specs.Prelude.{◌⊎◌}
 use Rattle.std.specs.FinMap.{get}
 use Rattle.oe_theory.specs.Machine.{Mode, Ask, Stop, Plain, Take, Fail, Go, Tx}
 use Rattle.oe_theory.specs.World.{Open, World, total, go_together, latest}
-use Rattle.oe_theory.specs.Next.{Next, Step, Answer, Advance, More, Committed, Aborted, commits, IsNew, GivesWay, held_after}
+use Rattle.oe_theory.specs.Next.{Next, Step, Answer, Advance, More, Committed, Aborted, IsNew, GivesWay, held_after}
 use Rattle.oe_theory.specs.Store.{Slot, Store, tx_in, opened_by, slot_after, dropped, IsGrantedIn, IsInTheWayIn, MayLackMemoryIn, TakesNoRoom}
 use Rattle.oe_theory.specs.Store as theory
 use Rattle.oe_theory.specs.StoreTheorems.{Leads}
@@ -32,23 +32,23 @@ use Rattle.oe_model.specs.Meets.{Accepts}
 use Rattle.oe_model.specs.Effects.{Doing, given}
 use Rattle.oe_model.specs.Positions as model
 use Rattle.oe_model.specs.Requests.{MayRefuse}
-use Rattle.oe_model.specs.System.{system, ask, act, taken, yields, may_allocate, record_length, terminal_limit}
+use Rattle.oe_model.specs.System.{system, ask, act, taken, yields, may_allocate, length_in, terminal_limit}
 use Rattle.oe_model.proofs.ChangeFacts.{not_both}
 use Rattle.oe_model.proofs.SystemLaws.{laws}
 use Rattle.oe_engine.specs.View.{View, view_of, Handle, IsOpen}
 use Rattle.oe_engine.specs.View as engine
-use Rattle.oe_engine.specs.Calls.{IsFree, IsInTheWay, row_done, committed, rolled_back}
+use Rattle.oe_engine.specs.Calls.{IsFree, IsInTheWay, stage_done, committed, rolled_back}
 use Rattle.oe_engine.specs.Programs.{reply_at, tx_of, ask_here, act_here, IsFreeHere, GoesOn, IsReady, Ends, WantsMemory, IsRefused}
 use Rattle.oe_engine.proofs.ReplyFacts.{ready_at}
-use Rattle.oe_core.specs.Core.{Stored, IsOf, position_of, reply_of, HoldsTaken, in_slot, work_at, slot_of, open_at, store_of, world_of, IsOrderly, Moves, keeps_open}
-use Rattle.oe_core.specs.Steps.{refusal_in, Carries, newest_reply}
+use Rattle.oe_core.specs.Core.{CoreState, IsOf, position_of, reply_of, HoldsTaken, in_slot, reply_left, last_reply, work_at, slot_of, open_at, store_of, world_of, IsOrderly, Moves, keeps_open}
+use Rattle.oe_core.specs.Steps.{refusal_in, Carries}
 use Rattle.oe_core.specs.declared.slots.Work.{Work}
 use Rattle.oe_core.specs.declared.programs.Program.{Program}
-use Rattle.oe_core.proofs.SlotFacts.{get_slot}
-use Rattle.oe_core.proofs.MoveFacts.{standing, carries, the_steps, has_work, HasOpen, slot_here, own_work, worked, emptied, open_still, work_still, dropped_here}
+use Rattle.oe_core.proofs.SlotFacts.{get_slot, get_set_same}
+use Rattle.oe_core.proofs.MoveFacts.{within, works_within, standing, carries, the_steps, has_work, HasOpen, slot_here, own_work, worked, emptied, open_still, work_still, dropped_here}
 
 no_room : TakesNoRoom system
-unfolding record_length
+unfolding length_in
 no_room b = refl
 
 -- what stands in the way of another lock
@@ -61,7 +61,7 @@ granted v f t (Stop e) h = h
 granted v f t Plain h = h
 granted v f t (Take n m) h = λ u p ne e. ap (λ z. go_together m (z n)) (slot_held v u (f u) p e) ∙ h u ne
 
-in_the_way : (s : Stored) → IsOrderly s → (t : ℕ) (n : Name) (m : Mode) (u : ℕ) → IsInTheWay (view_of s.engine) t n m u
+in_the_way : (s : CoreState) → IsOrderly s → (t : ℕ) (n : Name) (m : Mode) (u : ℕ) → IsInTheWay (view_of s.engine) t n m u
     → IsInTheWayIn system (store_of s).slots t n m u
 in_the_way s o t n m u h =
     let v = view_of s.engine in
@@ -75,7 +75,7 @@ in_the_way s o t n m u h =
     }
 
 -- an open transaction: what its row asks for, what it does, and whether its lock is free
-module _ (s : Stored) (t : ℕ) (x : Handle) (w : Work) (h : HasOpen s t x w) where
+module _ (s : CoreState) (t : ℕ) (x : Handle) (w : Work) (h : HasOpen s t x w) where
   abbrev pub here : Slot system
   here = slot_of (view_of s.engine) t w
 
@@ -134,7 +134,7 @@ module _ (s : Stored) (t : ℕ) (x : Handle) (w : Work) (h : HasOpen s t x w) wh
       (it.was.request, it.cause)
 
 -- the names that are taken on the way to its row are held
-pub holds_taken : {s : Stored} {t : ℕ} {x : Handle} {w : Work} → HasOpen s t x w → HoldsTaken s.engine x w.request w.program
+pub holds_taken : {s : CoreState} {t : ℕ} {x : Handle} {w : Work} → HasOpen s t x w → HoldsTaken s.engine x w.request w.program
 holds_taken {s} {t} {x} {w} h n m g =
     let p : Slot system = here s t x w h in
     let o : Open system = opened_by system ((store_of s).undo.active t) (store_of s).tables p in
@@ -228,7 +228,7 @@ lacks s t p Plain g n y = (g, n, y)
 lacks s t p (Take k m) g n y = (g, n, y)
 
 -- the row went on
-pub went_on_here : {s : Stored} {t : ℕ} {x : Handle} {w : Work} → HasOpen s t x w → (p : Program) (e' : engine.Stored) (ws : List (Option Work))
+pub went_on_here : {s : CoreState} {t : ℕ} {x : Handle} {w : Work} → HasOpen s t x w → (p : Program) (e' : engine.EngineState) (ws : List (Option Work))
     → GoesOn s.engine x w.request (position_of w.request w.program) e' (position_of w.request p) → IsOf w.request p
     → ws ≡ slice_set s.works t (Some (record w { program = p }))
     → Moves s (Advance t) More (record { engine = e'; txs = s.txs; works = ws })
@@ -236,11 +236,11 @@ went_on_here {s} {t} {x} {w} h p e' ws g r q =
     let v = view_of s.engine in
     let own = own_work h in
     let a = ask (tx_in system t (slot_of v t w)) (position_of w.request w.program) v.rows in
-    let now : view_of e' ≡ row_done t a g.change v =
+    let now : view_of e' ≡ stage_done t a g.change v =
     g.done
-    ∙ (ap (λ (z : Ask Name Refusal). row_done x.terminal z g.change v) (asked_here s t x w h)
-    ∙ ap (λ (z : ℕ). row_done z a g.change v) own.terminal) in
-    worked h (Advance t) More (record w { program = p }) (Some (slot_after system (slot_of v t w) (length (v.undo.active t)) a (position_of w.request p))) e' (row_done t a g.change v)
+    ∙ (ap (λ (z : Ask Name Refusal). stage_done x.terminal z g.change v) (asked_here s t x w h)
+    ∙ ap (λ (z : ℕ). stage_done z a g.change v) own.terminal) in
+    worked h (Advance t) More (record w { program = p }) (Some (slot_after system (slot_of v t w) (length (v.undo.active t)) a (position_of w.request p))) e' (stage_done t a g.change v)
     (the_steps.goes_on (store_of s) t (slot_of v t w) g.change (position_of w.request p) (standing s h.orderly) (slot_here h) (granted_in s t x w h g.free)
     (sym (acted_here s t x w h) ∙ g.does) (the_steps.is_room no_room (store_of s) t g.change))
     now g.name (record { counts = λ u n. refl; held = λ u n. set_other t _ v.held u n; is_open = λ u n. refl })
@@ -256,52 +256,59 @@ went_on_here {s} {t} {x} {w} h p e' ws g r q =
     ws q
 
 -- what is taken out of a slot is the transaction that stood there
-pub taken_is : {s : Stored} {t : ℕ} {x : Handle} {w : Work} → HasOpen s t x w → (out : Handle) → slice_get s.txs t ≡ Some (Some out) → out ≡ x
+pub taken_is : {s : CoreState} {t : ℕ} {x : Handle} {w : Work} → HasOpen s t x w → (out : Handle) → slice_get s.txs t ≡ Some (Some out) → out ≡ x
 taken_is {s} {t} {x} h out e =
     let it : Some out ≡ Some x = sym (get_slot s.txs t (Some out) None e) ∙ h.tx in
     cc
 
 -- it is open still, where the engine stands for the same
-pub taken_is_open : {s : Stored} {t : ℕ} {x : Handle} {w : Work} → HasOpen s t x w → (out : Handle) → slice_get s.txs t ≡ Some (Some out) → (e' : engine.Stored)
+pub taken_is_open : {s : CoreState} {t : ℕ} {x : Handle} {w : Work} → HasOpen s t x w → (out : Handle) → slice_get s.txs t ≡ Some (Some out) → (e' : engine.EngineState)
     → view_of e' ≡ view_of s.engine → e'.name ≡ s.engine.name → IsOpen e' out
 taken_is_open {s} {t} {x} h out e e' b name =
     subst (λ (z : Handle). IsOpen e' z) (sym (taken_is h out e)) (open_still s.engine e' x (ap (λ (z : View). z.is_open) b) name (own_work h).is_open)
 
 -- a program that is ready has its reply
-pub has_reply : {s : Stored} {t : ℕ} {x : Handle} {w : Work} → HasOpen s t x w → (p : Program) → position_of w.request p ≡ position_of w.request w.program
+pub has_reply : {s : CoreState} {t : ℕ} {x : Handle} {w : Work} → HasOpen s t x w → (p : Program) → position_of w.request p ≡ position_of w.request w.program
     → (y : Reply) → IsReady s.engine x w.request (position_of w.request w.program) y → reply_of w.request p ≡ Some y
 has_reply {s} {t} {x} {w} h p same y g = ap reply_at same ∙ ready_at (tx_of s.engine x w.request) (position_of w.request w.program) (view_of s.engine).rows y g.does
 
 -- it was ready, and its transaction committed
-pub committed_here : {s : Stored} {t : ℕ} {x : Handle} {w : Work} → HasOpen s t x w → (out : Handle) → out ≡ x → (y : Reply) (n : ℕ) (e₀ e' : engine.Stored) (xs : List (Option Handle)) (ws : List (Option Work)) (z : Option Work)
+pub committed_here : {s : CoreState} {t : ℕ} {x : Handle} {w : Work} → HasOpen s t x w → (out : Handle) → out ≡ x → (y : Reply) (n : ℕ) (e₀ e' : engine.EngineState) (xs : List (Option Handle)) (ws : List (Option Work)) (z : Option Work)
     → IsReady s.engine x w.request (position_of w.request w.program) y → e₀ ≡ s.engine → n ≡ suc (total terminal_limit (view_of e₀).counts)
     → view_of e' ≡ committed out.terminal w.request y (view_of e₀) → e'.name ≡ e₀.name → xs ≡ slice_set s.txs t None → ws ≡ slice_set s.works t z
     → Moves s (Advance t) (Committed n y) (record { engine = e'; txs = xs; works = ws })
 committed_here {s} {t} {x} {w} h out own y n e₀ e' xs ws z g same c b name p q =
     let v = view_of s.engine in
     let now : view_of e' ≡ committed t w.request y v =
-    b ∙ (ap (λ (k : engine.Stored). committed out.terminal w.request y (view_of k)) same
+    b ∙ (ap (λ (k : engine.EngineState). committed out.terminal w.request y (view_of k)) same
     ∙ ap (λ (k : ℕ). committed k w.request y v) (ap (λ (k : Handle). k.terminal) own ∙ (own_work h).terminal)) in
-    let moment : n ≡ suc (total terminal_limit v.counts) = c ∙ ap (λ (k : engine.Stored). suc (total terminal_limit (view_of k).counts)) same in
+    let moment : n ≡ suc (total terminal_limit v.counts) = c ∙ ap (λ (k : engine.EngineState). suc (total terminal_limit (view_of k).counts)) same in
     subst (λ (k : ℕ). Moves s (Advance t) (Committed k y) (record { engine = e'; txs = xs; works = ws })) (sym moment)
     (emptied h (Advance t) (Committed (suc (total terminal_limit v.counts)) y) e' (committed t w.request y v)
     (the_steps.commits (store_of s) t (slot_of v t w) y (standing s h.orderly) (slot_here h) (granted_in s t x w h g.free) (sym (acted_here s t x w h) ∙ g.does))
-    now (name ∙ ap (λ (k : engine.Stored). k.name) same)
+    now (name ∙ ap (λ (k : engine.EngineState). k.name) same)
     (record { counts = λ u n. set_other t _ v.counts u n; held = λ u n. set_other t _ v.held u n; is_open = λ u n. set_other t false v.is_open u n })
     (set_same t false v.is_open t refl)
     xs ws z p q)
 
--- the reply of a commit is that of the newest
-pub reply_is_newest : (w : World system) (i : Step system) (a : Answer system) (w' : World system) (m : ℕ) (y : Reply) → Next system w i a w' → a ≡ Committed m y → newest_reply w' ≡ Some y
-reply_is_newest w _ _ _ m y (commits t o z e g r) h = cc
-reply_is_newest w _ _ _ m y n h = let no : ⊥ = cc in absurd no
+-- what it carried out lies in its slot, with the reply
+pub left_here : {s : CoreState} {t : ℕ} {x : Handle} {w : Work} → HasOpen s t x w → (z : Work) (y : Reply) (e' : engine.EngineState) (xs : List (Option Handle)) (ws : List (Option Work))
+    → xs ≡ slice_set s.txs t None → ws ≡ slice_set s.works t (Some z) → reply_of z.request z.program ≡ Some y → last_reply (record { engine = e'; txs = xs; works = ws }) t ≡ Some y
+left_here {s} {t} h z y e' xs ws p q is =
+    let tx : in_slot xs t ≡ None = get_slot xs t None None (ap (λ (k : List (Option Handle)). slice_get k t) p ∙ get_set_same s.txs t None (within s h.orderly t h.low)) in
+    let work : in_slot ws t ≡ Some z = get_slot ws t (Some z) None (ap (λ (k : List (Option Work)). slice_get k t) q ∙ get_set_same s.works t (Some z) (works_within s h.orderly t h.low)) in
+    (λ i. reply_left (tx i) (work i)) ∙ is
 
-pub told_newest : {s : Stored} {t m : ℕ} {y : Reply} {s' : Stored} → Moves s (Advance t) (Committed m y) s'
-    → (z : Reply) × (newest_reply (world_of s') ≡ Some z) × Carries (world_of s) (step.Advance t) (answer.Committed m z) (world_of s')
-told_newest {s} {t} {m} {y} {s'} k = (y, reply_is_newest (world_of s) (Advance t) (Committed m y) (world_of s') m y k.next refl, carries k)
+-- what is told of a slot, by what lies in it
+pub told_of : (s : CoreState) (t : ℕ) {x : Option Handle} {w : Option Work} → in_slot s.txs t ≡ x → in_slot s.works t ≡ w → last_reply s t ≡ reply_left x w
+told_of s t p q = λ i. reply_left (p i) (q i)
+
+pub told_last : {s : CoreState} {t m : ℕ} {y : Reply} {s' : CoreState} → Moves s (Advance t) (Committed m y) s' → last_reply s' t ≡ Some y
+    → (z : Reply) × (last_reply s' t ≡ Some z) × Carries (world_of s) (step.Advance t) (answer.Committed m z) (world_of s')
+told_last {s} {t} {m} {y} {s'} k e = (y, e, carries k)
 
 -- the refusals after which it stays open
-kept_lead : (s : Stored) (t : ℕ) (y : Handle) (w : Work) → HasOpen s t y w → (x : Refusal) → keeps_open x ≡ true
+kept_lead : (s : CoreState) (t : ℕ) (y : Handle) (w : Work) → HasOpen s t y w → (x : Refusal) → keeps_open x ≡ true
     → IsRefused s.engine y w.request (position_of w.request w.program) x → Leads system (store_of s) (Advance t) (refusal_in (step.Advance t) x) (store_of s)
 kept_lead s t y w o (BadLine n) kp h = let no : ⊥ = cc in absurd no
 kept_lead s t y w o (NoSuchRow k) kp h = let no : ⊥ = cc in absurd no
@@ -336,7 +343,7 @@ kept_lead s t y w o (NotQuiet n) kp h = let no : ⊥ = cc in absurd no
 kept_lead s t y w o (NotPinned n) kp h = let no : ⊥ = cc in absurd no
 
 -- those after which it is gone
-ended_lead : (s : Stored) (t : ℕ) (y : Handle) (w : Work) → HasOpen s t y w → (x : Refusal) → keeps_open x ≡ false
+ended_lead : (s : CoreState) (t : ℕ) (y : Handle) (w : Work) → HasOpen s t y w → (x : Refusal) → keeps_open x ≡ false
     → IsRefused s.engine y w.request (position_of w.request w.program) x → Leads system (store_of s) (Advance t) (refusal_in (step.Advance t) x) (dropped system t (store_of s))
 ended_lead s t y w o (BadLine n) kp h = leads_end s t y w o (BadLine n) h.1
 ended_lead s t y w o (NoSuchRow k) kp h = leads_end s t y w o (NoSuchRow k) h.1
@@ -357,7 +364,7 @@ ended_lead s t y w o (NotQuiet n) kp h = let it = may_end s t y w o (NotQuiet n)
 ended_lead s t y w o (NotPinned n) kp h = leads_end s t y w o (NotPinned n) h.1
 
 -- it was refused, and stays open where it stands
-pub kept_here : {s : Stored} {t : ℕ} {y : Handle} {w : Work} → HasOpen s t y w → (p : Program) (e' : engine.Stored) (ws : List (Option Work)) (x : Refusal)
+pub kept_here : {s : CoreState} {t : ℕ} {y : Handle} {w : Work} → HasOpen s t y w → (p : Program) (e' : engine.EngineState) (ws : List (Option Work)) (x : Refusal)
     → keeps_open x ≡ true → IsRefused s.engine y w.request (position_of w.request w.program) x
     → view_of e' ≡ view_of s.engine → e'.name ≡ s.engine.name → IsOf w.request p → position_of w.request p ≡ position_of w.request w.program
     → ws ≡ slice_set s.works t (Some (record w { program = p }))
@@ -374,7 +381,7 @@ kept_here {s} {t} {y} {w} h p e' ws x kept why b name r same q =
     ws q
 
 -- it was refused, and rolled back
-pub given_up_here : {s : Stored} {t : ℕ} {y : Handle} {w : Work} → HasOpen s t y w → (out : Handle) → out ≡ y → (e' e'' : engine.Stored) (xs : List (Option Handle)) (ws : List (Option Work)) (z : Option Work) (x : Refusal)
+pub given_up_here : {s : CoreState} {t : ℕ} {y : Handle} {w : Work} → HasOpen s t y w → (out : Handle) → out ≡ y → (e' e'' : engine.EngineState) (xs : List (Option Handle)) (ws : List (Option Work)) (z : Option Work) (x : Refusal)
     → keeps_open x ≡ false → IsRefused s.engine y w.request (position_of w.request w.program) x
     → view_of e' ≡ view_of s.engine → e'.name ≡ s.engine.name → view_of e'' ≡ rolled_back out.terminal (view_of e') → e''.name ≡ e'.name
     → xs ≡ slice_set s.txs t None → ws ≡ slice_set s.works t z

@@ -1,52 +1,40 @@
 -- Audits of the moments that are kept.
-use Rattle.std.proofs.Common.{◌≡◌, ℕ, ◌<◌, ◌≤◌, List, [], ◌∷◌, sym, ap, ◌∙◌, subst, refl}
+use Rattle.std.proofs.Common.{◌≡◌, ℕ, ◌<◌, ◌≤◌, sym, ap, ◌∙◌, subst, refl}
 use Rattle.oe_requests.specs.declared.refusals.Refusal.{Refusal}
 use Rattle.oe_requests.specs.declared.refusals.Refusal.TheVariants.{TooOld, Future}
 use Rattle.oe_steps.specs.declared.audits.Condition.{Condition}
 use Rattle.oe_steps.specs.declared.steps.Step.TheVariants as step
-use Rattle.oe_theory.specs.World.{Commit, newest, tables, total}
+use Rattle.oe_theory.specs.World.{newest, tables, total}
 use Rattle.oe_theory.specs.Next.{Next, Audit, Audited}
 use Rattle.oe_theory.specs.Next as theory
 use Rattle.oe_theory.specs.Store.{Store, horizon_of, newest_of, version_of}
-use Rattle.oe_theory.specs.Store as stored
 use Rattle.oe_theory.specs.StoreTheorems.{IsStanding}
-use Rattle.oe_theory.proofs.StoreSteps.{tables_here, seals_here}
+use Rattle.oe_theory.proofs.StoreSteps.{tables_here}
 use Rattle.oe_theory.proofs.StoreTheorems.{newest_here}
 use Rattle.oe_model.specs.Audits as model
 use Rattle.oe_model.specs.System.{system, terminal_limit}
 use Rattle.oe_model.proofs.SystemLaws.{laws}
 use Rattle.oe_audit.specs.Verdict.{condition_of}
-use Rattle.oe_store.specs.Stored.{rows}
-use Rattle.oe_store.specs.Stored as stands
+use Rattle.oe_store.specs.Places.{rows}
+use Rattle.oe_store.specs.Places as stands
 use Rattle.oe_undo.specs.Stands.{undo_of, seals_of, counts_of}
 use Rattle.oe_undo.specs.Undo as undo
 use Rattle.oe_engine.specs.View.{view_from, view_of}
-use Rattle.oe_engine.specs.View as engine
 use Rattle.oe_versions.specs.Versions.{store_with, version, Stand, IsReadable, IsOutside}
-use Rattle.oe_core.specs.Core.{Stored, store_of, world_of, IsOrderly}
-use Rattle.oe_core.specs.Steps.{refusal_in, reply_of_newest, newest_reply}
+use Rattle.oe_core.specs.Core.{CoreState, store_of, world_of, IsOrderly}
+use Rattle.oe_core.specs.Steps.{refusal_in}
 use Rattle.oe_core.proofs.MoveFacts.{standing, the_steps}
 
-pub newest_is : (s : Stored) → IsOrderly s → newest system (world_of s) ≡ total terminal_limit (view_of s.engine).counts
+pub newest_is : (s : CoreState) → IsOrderly s → newest system (world_of s) ≡ total terminal_limit (view_of s.engine).counts
 unfolding world_of
 newest_is s o = newest_here system laws (store_of s) (standing s o)
 
-reply_of_seals : (cs : List (Commit system)) → reply_of_newest cs ≡ engine.newest_reply (stored.seals_of system cs)
-reply_of_seals [] = refl
-reply_of_seals (c ∷ cs) = refl
-
-pub newest_reply_is : (s : Stored) → IsOrderly s → newest_reply (world_of s) ≡ engine.newest_reply (view_of s.engine).seals
-unfolding world_of
-newest_reply_is s o =
-    reply_of_seals (stored.world_of system (store_of s)).history
-    ∙ ap engine.newest_reply (seals_here system laws (store_of s) (standing s o))
-
-pub tables_are : (s : Stored) → IsOrderly s → tables system (world_of s) ≡ (view_of s.engine).rows
+pub tables_are : (s : CoreState) → IsOrderly s → tables system (world_of s) ≡ (view_of s.engine).rows
 unfolding world_of
 tables_are s o = tables_here system laws (store_of s) (standing s o)
 
 -- tables and undo log that the engine lends, as they stand for the core's world
-module _ (s : Stored) (o : IsOrderly s) (ts : stands.Stored) (u : undo.Stored) (lent : rows ts ≡ (view_of s.engine).rows) (log : u ≡ s.engine.undo) where
+module _ (s : CoreState) (o : IsOrderly s) (ts : stands.Places) (u : undo.UndoLog) (lent : rows ts ≡ (view_of s.engine).rows) (log : u ≡ s.engine.undo) where
   abbrev beside : Store system
   beside = record (store_with (rows ts) u) { slots = (store_of s).slots }
 

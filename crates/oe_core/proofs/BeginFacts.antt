@@ -13,7 +13,7 @@ use Rattle.oe_model.specs.Requests.{warehouses_of, warehouse_no, first_absent, r
 use Rattle.oe_model.specs.System.{system}
 use Rattle.oe_engine.specs.View.{view_of}
 use Rattle.oe_engine.specs.Calls.{CantBegin}
-use Rattle.oe_core.specs.Core.{Stored, in_slot, slot_of, open_at, store_of, IsOrderly, Moves}
+use Rattle.oe_core.specs.Core.{CoreState, in_slot, slot_of, open_at, store_of, IsOrderly, Moves}
 use Rattle.oe_core.specs.Steps.{HasProgram, refusal_in}
 use Rattle.oe_core.proofs.MoveFacts.{standing, stays, the_steps, has_work, is_shut, below_limit, valid}
 
@@ -29,7 +29,7 @@ only_absent t q e (w ∷ ws) r h = go (is_some (row_at r (key.Warehouse (warehou
         let it : NoSuchRow (key.Warehouse (warehouse_no w)) ≡ e = cc in
         subst (λ (z : Refusal). refusal_in (step.Begin t q) z ≡ Rejected z) it refl
 
-pub rejected_here : (s : Stored) → IsOrderly s → (t : ℕ) (q : Request) (e : Refusal) → rejection q (view_of s.engine).rows ≡ Some e
+pub rejected_here : (s : CoreState) → IsOrderly s → (t : ℕ) (q : Request) (e : Refusal) → rejection q (view_of s.engine).rows ≡ Some e
     → Moves s (Begin t q) (refusal_in (step.Begin t q) e) s
 rejected_here s o t q e h =
     subst (λ (a : Answer system). Moves s (Begin t q) a s) (sym (only_absent t q e (warehouses_of q) (view_of s.engine).rows h))
@@ -43,7 +43,7 @@ only_overflow n e h = go (nat_le n 4294967295) h
     go true g = let no : ⊥ = cc in absurd no
     go false g = cc
 
-outnumbered : (s : Stored) → IsOrderly s → (t : ℕ) (q : Request) (e : Refusal) → rejection q (view_of s.engine).rows ≡ None
+outnumbered : (s : CoreState) → IsOrderly s → (t : ℕ) (q : Request) (e : Refusal) → rejection q (view_of s.engine).rows ≡ None
     → ((view_of s.engine).is_open t ≡ false) × (number_rejection (suc ((view_of s.engine).counts t)) ≡ Some e)
     → Moves s (Begin t q) (Rejected e) s
 outnumbered s o t q e k h =
@@ -51,7 +51,7 @@ outnumbered s o t q e k h =
     (the_steps.number_is_rejected (store_of s) t q e (standing s o) k
     (is_shut s o t h.0) h.1)
 
-pub not_begun : (s : Stored) → IsOrderly s → (t : ℕ) → 1 ≤ t → t < 65 → (q : Request) → HasProgram q → rejection q (view_of s.engine).rows ≡ None → (e : Refusal)
+pub not_begun : (s : CoreState) → IsOrderly s → (t : ℕ) → 1 ≤ t → t < 65 → (q : Request) → HasProgram q → rejection q (view_of s.engine).rows ≡ None → (e : Refusal)
     → CantBegin (view_of s.engine) t e → Moves s (Begin t q) (refusal_in (step.Begin t q) e) s
 not_begun s o t l b q g kn (BadLine n) h = outnumbered s o t q (BadLine n) kn h
 not_begun s o t l b q g kn (NoSuchRow k) h = outnumbered s o t q (NoSuchRow k) kn h

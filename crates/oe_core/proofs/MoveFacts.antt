@@ -22,22 +22,22 @@ use Rattle.oe_model.proofs.SystemLaws.{laws}
 use Rattle.oe_engine.specs.View.{View, view_of, Handle, IsOpen}
 use Rattle.oe_engine.specs.View as engine
 use Rattle.oe_engine.specs.Calls.{begun, back_at, rolled_back}
-use Rattle.oe_core.specs.Core.{Stored, IsOf, position_of, in_slot, work_of, work_at, slot_of, open_at, store_with, store_of, world_of, IsSound, IsWork, Works, IsOrderly, IsBegun, Moves}
+use Rattle.oe_core.specs.Core.{CoreState, IsOf, position_of, in_slot, work_of, work_at, slot_of, open_at, store_with, store_of, world_of, IsSound, IsWork, Works, IsOrderly, IsBegun, Moves}
 use Rattle.oe_core.specs.Steps.{HasProgram}
 use Rattle.oe_core.specs.declared.slots.Mark.{Mark}
 use Rattle.oe_core.specs.declared.slots.Work.{Work}
 use Rattle.oe_core.specs.declared.programs.Program.{Program}
 use Rattle.oe_core.proofs.SlotFacts.{slot_set, kept_slot, get_slot, lent_slot, set_idle_slot}
 
-pub standing : (s : Stored) → IsOrderly s → IsStanding system (store_of s)
+pub standing : (s : CoreState) → IsOrderly s → IsStanding system (store_of s)
 unfolding IsSound
 standing s o = o.sound
 
-pub reached_here : (s : Stored) → IsOrderly s → IsReached system (world_of s)
+pub reached_here : (s : CoreState) → IsOrderly s → IsReached system (world_of s)
 unfolding IsSound world_of
 reached_here s o = o.sound.reached
 
-pub closed : (s s' : Stored) (i : Step system) (a : Answer system) (t : Store system) → Leads system (store_of s) i a t → store_of s' ≡ t
+pub closed : (s s' : CoreState) (i : Step system) (a : Answer system) (t : Store system) → Leads system (store_of s) i a t → store_of s' ≡ t
     → length s'.txs ≡ 65 → length s'.works ≡ 65 → ((u : ℕ) → Works s'.engine u (in_slot s'.txs u) (in_slot s'.works u)) → Moves s i a s'
 unfolding IsSound world_of
 closed s s' i a t l e h k g =
@@ -45,20 +45,20 @@ closed s s' i a t l e h k g =
     record { next = l'.next; orderly = record { tx_slots = h; work_slots = k; works = g; sound = l'.stands } }
 
 -- what is said of it
-pub carries : {s : Stored} {i : Step system} {a : Answer system} {s' : Stored} → Moves s i a s' → Next system (world_of s) i a (world_of s') × IsReached system (world_of s')
+pub carries : {s : CoreState} {i : Step system} {a : Answer system} {s' : CoreState} → Moves s i a s' → Next system (world_of s) i a (world_of s') × IsReached system (world_of s')
 carries m = (m.next, reached_here _ m.orderly)
 
 -- a step that leaves what is stored
-pub stays : (s : Stored) → IsOrderly s → (i : Step system) (a : Answer system) → Leads system (store_of s) i a (store_of s) → Moves s i a s
+pub stays : (s : CoreState) → IsOrderly s → (i : Step system) (a : Answer system) → Leads system (store_of s) i a (store_of s) → Moves s i a s
 stays s o i a l = closed s s i a (store_of s) l refl o.tx_slots o.work_slots o.works
 
 pub the_steps : Steps_of_the_store system
 the_steps = steps_of_the_store system laws
 
-pub within : (s : Stored) → IsOrderly s → (t : ℕ) → t < 65 → t < length s.txs
+pub within : (s : CoreState) → IsOrderly s → (t : ℕ) → t < 65 → t < length s.txs
 within s o t h = omega (arith, h, o.tx_slots)
 
-works_within : (s : Stored) → IsOrderly s → (t : ℕ) → t < 65 → t < length s.works
+pub works_within : (s : CoreState) → IsOrderly s → (t : ℕ) → t < 65 → t < length s.works
 works_within s o t h = omega (arith, h, o.work_slots)
 
 pub below_limit : (t : ℕ) → t < 65 → t < terminal_limit
@@ -108,7 +108,7 @@ work_set a b f g t x w p q = fun_ext (λ u. go u (cases_eq u t))
         (λ i. work_of (tx i) (work i)) ∙ sym (set_other t (work_of x w) (λ k. work_of (a k) (f k)) u n)
 
 -- and the work behind them
-pub works_set : (e e' : engine.Stored) (a b : ℕ → Option Handle) (f g : ℕ → Option Work) (t : ℕ) (x : Option Handle) (w : Option Work)
+pub works_set : (e e' : engine.EngineState) (a b : ℕ → Option Handle) (f g : ℕ → Option Work) (t : ℕ) (x : Option Handle) (w : Option Work)
     → b ≡ set t x a → g ≡ set t w f → e'.name ≡ e.name
     → ((u : ℕ) → u ≢ t → (view_of e').is_open u ≡ (view_of e).is_open u) → ((u : ℕ) → Works e u (a u) (f u)) → Works e' t x w → (u : ℕ) → Works e' u (b u) (g u)
 works_set e e' a b f g t x w p q name o all here u = go (cases_eq u t)
@@ -138,75 +138,75 @@ works_set e e' a b f g t x w p q name o all here u = go (cases_eq u t)
         (move (a u) (f u) (o u n) (all u)))
 
 -- the work of a terminal that has a transaction open
-pub has_work : (e : engine.Stored) (t : ℕ) (x : Option Handle) (y : Option Work) → Works e t x y → (view_of e).is_open t ≡ true → (w : Work) × (work_of x y ≡ Some w)
+pub has_work : (e : engine.EngineState) (t : ℕ) (x : Option Handle) (y : Option Work) → Works e t x y → (view_of e).is_open t ≡ true → (w : Work) × (work_of x y ≡ Some w)
 has_work e t None y h o = let no : true ≡ false = sym o ∙ h in absurd (cc)
 has_work e t (Some x) None h o = absurd h
 has_work e t (Some x) (Some w) h o = (w, refl)
 
 -- and its slot, where it has none
-pub no_tx : (e : engine.Stored) (t : ℕ) (x : Option Handle) (y : Option Work) → Works e t x y → (view_of e).is_open t ≡ false → x ≡ None
+pub no_tx : (e : engine.EngineState) (t : ℕ) (x : Option Handle) (y : Option Work) → Works e t x y → (view_of e).is_open t ≡ false → x ≡ None
 no_tx e t None y h o = refl
 no_tx e t (Some x) None h o = absurd h
 no_tx e t (Some x) (Some w) h o =
     let no : true ≡ false = sym h.is_open.terminal ∙ (ap (view_of e).is_open h.terminal ∙ o) in absurd (cc)
 
-pub no_slot : (s : Stored) (t : ℕ) → in_slot s.txs t ≡ None → (store_of s).slots t ≡ None
+pub no_slot : (s : CoreState) (t : ℕ) → in_slot s.txs t ≡ None → (store_of s).slots t ≡ None
 no_slot s t e = ap (λ z. open_at (view_of s.engine) t (work_of z (in_slot s.works t))) e
 
-pub is_shut : (s : Stored) → IsOrderly s → (t : ℕ) → (view_of s.engine).is_open t ≡ false → (store_of s).slots t ≡ None
+pub is_shut : (s : CoreState) → IsOrderly s → (t : ℕ) → (view_of s.engine).is_open t ≡ false → (store_of s).slots t ≡ None
 is_shut s o t h = no_slot s t (no_tx s.engine t (in_slot s.txs t) (in_slot s.works t) (o.works t) h)
 
 -- terminal t of an orderly core has this transaction open
-pub record HasOpen (s : Stored) (t : ℕ) (x : Handle) (w : Work) : Type 0 where
+pub record HasOpen (s : CoreState) (t : ℕ) (x : Handle) (w : Work) : Type 0 where
   pub orderly : IsOrderly s
   pub low : t < 65
   pub tx : in_slot s.txs t ≡ Some x
   pub work : in_slot s.works t ≡ Some w
 
 -- so has its slot
-pub slot_here : {s : Stored} {t : ℕ} {x : Handle} {w : Work} → HasOpen s t x w → (store_of s).slots t ≡ Some (slot_of (view_of s.engine) t w)
+pub slot_here : {s : CoreState} {t : ℕ} {x : Handle} {w : Work} → HasOpen s t x w → (store_of s).slots t ≡ Some (slot_of (view_of s.engine) t w)
 slot_here {s} {t} h = λ i. open_at (view_of s.engine) t (work_of (h.tx i) (h.work i))
 
 -- it is open in the engine, and its programs are those of its request
-pub own_work : {s : Stored} {t : ℕ} {x : Handle} {w : Work} → HasOpen s t x w → IsWork s.engine t x w
+pub own_work : {s : CoreState} {t : ℕ} {x : Handle} {w : Work} → HasOpen s t x w → IsWork s.engine t x w
 own_work {s} {t} {x} h =
     subst (λ (z : Option Work). Works s.engine t (Some x) z) h.work
     (subst (λ (y : Option Handle). Works s.engine t y (in_slot s.works t)) h.tx (h.orderly.works t))
 
 -- where there is a transaction there is work for it
-work_there : (e : engine.Stored) (t : ℕ) (x : Handle) (y : Option Work) → Works e t (Some x) y → y ≡ None → ⊥
+work_there : (e : engine.EngineState) (t : ℕ) (x : Handle) (y : Option Work) → Works e t (Some x) y → y ≡ None → ⊥
 work_there e t x None h none = h
 work_there e t x (Some w) h none = let no : ⊥ = cc in no
 
-pub has_work_there : (s : Stored) (t : ℕ) (x : Handle) → IsOrderly s → in_slot s.txs t ≡ Some x → in_slot s.works t ≡ None → ⊥
+pub has_work_there : (s : CoreState) (t : ℕ) (x : Handle) → IsOrderly s → in_slot s.txs t ≡ Some x → in_slot s.works t ≡ None → ⊥
 has_work_there s t x o e none =
     work_there s.engine t x (in_slot s.works t) (subst (λ (y : Option Handle). Works s.engine t y (in_slot s.works t)) e (o.works t)) none
 
 -- what a slot lends is what stands there
-pub lent_tx : {s : Stored} {i t : ℕ} {x y : Option Handle} → IsOrderly s → i ≡ t → i ≤ 64 → x ≡ get_or s.txs i x → x ≡ y → in_slot s.txs t ≡ y
+pub lent_tx : {s : CoreState} {i t : ℕ} {x y : Option Handle} → IsOrderly s → i ≡ t → i ≤ 64 → x ≡ get_or s.txs i x → x ≡ y → in_slot s.txs t ≡ y
 lent_tx {s} {i} {t} {x} {y} o p h g e = lent_slot s.txs i t x y p (within s o t (omega (arith, p, h))) g e
 
-pub lent_work : {s : Stored} {i t : ℕ} {x y : Option Work} → IsOrderly s → i ≡ t → i ≤ 64 → x ≡ get_or s.works i x → x ≡ y → in_slot s.works t ≡ y
+pub lent_work : {s : CoreState} {i t : ℕ} {x y : Option Work} → IsOrderly s → i ≡ t → i ≤ 64 → x ≡ get_or s.works i x → x ≡ y → in_slot s.works t ≡ y
 lent_work {s} {i} {t} {x} {y} o p h g e = lent_slot s.works i t x y p (works_within s o t (omega (arith, p, h))) g e
 
 -- a transaction and its work that their slots lend
-pub lent_here : {s : Stored} {i j t : ℕ} {x : Option Handle} {y : Handle} {v : Option Work} {w : Work} → IsOrderly s
+pub lent_here : {s : CoreState} {i j t : ℕ} {x : Option Handle} {y : Handle} {v : Option Work} {w : Work} → IsOrderly s
     → i ≡ t → i ≤ 64 → x ≡ get_or s.txs i x → x ≡ Some y → j ≡ t → j ≤ 64 → v ≡ get_or s.works j v → v ≡ Some w → HasOpen s t y w
 lent_here {s} {i} {j} {t} {x} {y} {v} {w} o p h g e q k f d = record { orderly = o; low = omega (arith, p, h); tx = lent_tx o p h g e; work = lent_work o q k f d }
 
 -- nothing is open there
-pub nothing_open : (s : Stored) → IsOrderly s → (i : Step system) (t : ℕ) → works_on system i ≡ Some t → in_slot s.txs t ≡ None → Moves s i Not_open s
+pub nothing_open : (s : CoreState) → IsOrderly s → (i : Step system) (t : ℕ) → works_on system i ≡ Some t → in_slot s.txs t ≡ None → Moves s i Not_open s
 nothing_open s o i t w e = stays s o i Not_open (the_steps.is_not_open (store_of s) i t (standing s o) w (no_slot s t e))
 
 -- also once it was taken out
-pub nothing_taken : (s : Stored) → IsOrderly s → (i : Step system) (t : ℕ) → works_on system i ≡ Some t → slice_get s.txs t ≡ Some None → (xs : List (Option Handle)) → xs ≡ slice_set s.txs t None
+pub nothing_taken : (s : CoreState) → IsOrderly s → (i : Step system) (t : ℕ) → works_on system i ≡ Some t → slice_get s.txs t ≡ Some None → (xs : List (Option Handle)) → xs ≡ slice_set s.txs t None
     → Moves s i Not_open (record { engine = s.engine; txs = xs; works = s.works })
 nothing_taken s o i t w e xs q =
     subst (λ (z : List (Option Handle)). Moves s i Not_open (record { engine = s.engine; txs = z; works = s.works })) (sym (q ∙ set_idle_slot s.txs t None e))
     (nothing_open s o i t w (get_slot s.txs t None None e))
 
 -- the mark is not past the records
-pub mark_within : {s : Stored} {t : ℕ} {x : Handle} {w : Work} → HasOpen s t x w → w.mark.records ≤ length ((view_of s.engine).undo.active x.terminal)
+pub mark_within : {s : CoreState} {t : ℕ} {x : Handle} {w : Work} → HasOpen s t x w → w.mark.records ≤ length ((view_of s.engine).undo.active x.terminal)
 mark_within {s} {t} {x} {w} h =
     subst (λ (k : ℕ). w.mark.records ≤ length ((view_of s.engine).undo.active k)) (sym (own_work h).terminal)
     ((store_is_orderly system laws (store_of s) (standing s h.orderly)).mark t (slot_of (view_of s.engine) t w) (slot_here h))
@@ -219,13 +219,13 @@ pub record LeavesOthers (t : ℕ) (v v' : View) : Type 0 where
 
 -- a step after which a terminal's slot has another transaction and other work, or none, and the engine stands for what the step
 -- leads to
-pub replaced : (s : Stored) → IsOrderly s → (i : Step system) (a : Answer system) (t : ℕ) → t < 65 → (x : Option Handle) (w : Option Work) (y : Option (Slot system)) (e' : engine.Stored) (v' : View)
+pub replaced : (s : CoreState) → IsOrderly s → (i : Step system) (a : Answer system) (t : ℕ) → t < 65 → (x : Option Handle) (w : Option Work) (y : Option (Slot system)) (e' : engine.EngineState) (v' : View)
     → Leads system (store_of s) i a (record { tables = v'.rows; undo = v'.undo; slots = set t y (store_of s).slots; seals = v'.seals; counts = v'.counts; extents = v'.extents })
     → view_of e' ≡ v' → e'.name ≡ s.engine.name → LeavesOthers t (view_of s.engine) v' → open_at v' t (work_of x w) ≡ y → Works e' t x w
     → (xs : List (Option Handle)) (ws : List (Option Work)) → xs ≡ slice_set s.txs t x → ws ≡ slice_set s.works t w
     → Moves s i a (record { engine = e'; txs = xs; works = ws })
 replaced s o i a t h x w y e' v' lead now name left slot works xs ws p q =
-    let s' : Stored = record { engine = e'; txs = xs; works = ws } in
+    let s' : CoreState = record { engine = e'; txs = xs; works = ws } in
     let txs : in_slot xs ≡ set t x (in_slot s.txs) = ap (λ (z : List (Option Handle)). in_slot z) p ∙ slot_set s.txs t x None (within s o t h) in
     let work : in_slot ws ≡ set t w (in_slot s.works) = ap (λ (z : List (Option Work)). in_slot z) q ∙ slot_set s.works t w None (works_within s o t h) in
     let at : work_at s' ≡ set t (work_of x w) (work_at s) = work_set (in_slot s.txs) (in_slot xs) (in_slot s.works) (in_slot ws) t x w txs work in
@@ -237,7 +237,7 @@ replaced s o i a t h x w y e' v' lead now name left slot works xs ws p q =
     (works_set s.engine e' (in_slot s.txs) (in_slot xs) (in_slot s.works) (in_slot ws) t x w txs work name (λ u n. ap (λ (z : View). z.is_open u) now ∙ left.is_open u n) o.works works)
 
 -- a step that leaves the transaction in its slot, and changes its work
-pub worked : {s : Stored} {t : ℕ} {x : Handle} {w : Work} → HasOpen s t x w → (i : Step system) (a : Answer system) (w' : Work) (y : Option (Slot system)) (e' : engine.Stored) (v' : View)
+pub worked : {s : CoreState} {t : ℕ} {x : Handle} {w : Work} → HasOpen s t x w → (i : Step system) (a : Answer system) (w' : Work) (y : Option (Slot system)) (e' : engine.EngineState) (v' : View)
     → Leads system (store_of s) i a (record { tables = v'.rows; undo = v'.undo; slots = set t y (store_of s).slots; seals = v'.seals; counts = v'.counts; extents = v'.extents })
     → view_of e' ≡ v' → e'.name ≡ s.engine.name → LeavesOthers t (view_of s.engine) v' → Some (slot_of v' t w') ≡ y → IsWork e' t x w'
     → (ws : List (Option Work)) → ws ≡ slice_set s.works t (Some w')
@@ -247,7 +247,7 @@ worked {s} {t} {x} h i a w' y e' v' lead now name left slot own ws q =
     (kept_slot s.txs t None ∙ ap (λ (z : Option Handle). slice_set s.txs t z) h.tx) q
 
 -- a step that takes it out of its slot; what lies there is nobody's then
-pub emptied : {s : Stored} {t : ℕ} {x : Handle} {w : Work} → HasOpen s t x w → (i : Step system) (a : Answer system) (e' : engine.Stored) (v' : View)
+pub emptied : {s : CoreState} {t : ℕ} {x : Handle} {w : Work} → HasOpen s t x w → (i : Step system) (a : Answer system) (e' : engine.EngineState) (v' : View)
     → Leads system (store_of s) i a (record { tables = v'.rows; undo = v'.undo; slots = set t None (store_of s).slots; seals = v'.seals; counts = v'.counts; extents = v'.extents })
     → view_of e' ≡ v' → e'.name ≡ s.engine.name → LeavesOthers t (view_of s.engine) v' → v'.is_open t ≡ false
     → (xs : List (Option Handle)) (ws : List (Option Work)) (z : Option Work) → xs ≡ slice_set s.txs t None → ws ≡ slice_set s.works t z
@@ -256,16 +256,16 @@ emptied {s} {t} h i a e' v' lead now name left shut xs ws z p q =
     replaced s h.orderly i a t h.low None z None e' v' lead now name left refl (ap (λ (v : View). v.is_open t) now ∙ shut) xs ws p q
 
 -- a transaction is still open where the same ones are
-pub open_still : (e e' : engine.Stored) (x : Handle) → (view_of e').is_open ≡ (view_of e).is_open → e'.name ≡ e.name → IsOpen e x → IsOpen e' x
+pub open_still : (e e' : engine.EngineState) (x : Handle) → (view_of e').is_open ≡ (view_of e).is_open → e'.name ≡ e.name → IsOpen e x → IsOpen e' x
 open_still e e' x b name h = record { engine = h.engine ∙ sym name; terminal = ap (λ (z : ℕ → Bool). z x.terminal) b ∙ h.terminal }
 
 -- and its work is its own at other rows of its program
-pub work_still : (e e' : engine.Stored) (t : ℕ) (x : Handle) (w : Work) (p : Program) (m : Mark) → IsWork e t x w → (view_of e').is_open ≡ (view_of e).is_open → e'.name ≡ e.name
+pub work_still : (e e' : engine.EngineState) (t : ℕ) (x : Handle) (w : Work) (p : Program) (m : Mark) → IsWork e t x w → (view_of e').is_open ≡ (view_of e).is_open → e'.name ≡ e.name
     → IsOf w.request p → IsOf w.request m.program → IsWork e' t x (record w { program = p; mark = m })
 work_still e e' t x w p m own b name q r =
     record { is_open = open_still e e' x b name own.is_open; terminal = own.terminal; program = q; mark = r }
 
-pub saved : {s : Stored} {t : ℕ} {x : Handle} {w : Work} → HasOpen s t x w → (m : Mark) (k : ℕ) (ws : List (Option Work)) → m ≡ record { program = w.program; records = k }
+pub saved : {s : CoreState} {t : ℕ} {x : Handle} {w : Work} → HasOpen s t x w → (m : Mark) (k : ℕ) (ws : List (Option Work)) → m ≡ record { program = w.program; records = k }
     → (IsOpen s.engine x → k ≡ length ((view_of s.engine).undo.active x.terminal)) → ws ≡ slice_set s.works t (Some (record w { mark = m }))
     → Moves s (Save t) Saved (record { engine = s.engine; txs = s.txs; works = ws })
 saved {s} {t} {x} {w} h m k ws same count q =
@@ -281,7 +281,7 @@ saved {s} {t} {x} {w} h m k ws same count q =
     (work_still s.engine s.engine t x w w.program m own refl refl own.program (subst (IsOf w.request) (sym stands) own.program))
     ws q
 
-pub gone_back_here : {s : Stored} {t : ℕ} {x : Handle} {w : Work} → HasOpen s t x w → (p : Program) (e' : engine.Stored) (ws : List (Option Work)) → p ≡ w.mark.program
+pub gone_back_here : {s : CoreState} {t : ℕ} {x : Handle} {w : Work} → HasOpen s t x w → (p : Program) (e' : engine.EngineState) (ws : List (Option Work)) → p ≡ w.mark.program
     → view_of e' ≡ back_at x.terminal w.mark.records (view_of s.engine) → e'.name ≡ s.engine.name → ws ≡ slice_set s.works t (Some (record w { program = p }))
     → Moves s (Back t) Gone_back (record { engine = e'; txs = s.txs; works = ws })
 gone_back_here {s} {t} {x} {w} h p e' ws same b name q =
@@ -296,7 +296,7 @@ gone_back_here {s} {t} {x} {w} h p e' ws same b name q =
     ws q
 
 -- a step by which a terminal's transaction is rolled back
-pub dropped_here : {s : Stored} {t : ℕ} {x : Handle} {w : Work} → HasOpen s t x w → (i : Step system) (a : Answer system) (e' : engine.Stored) (xs : List (Option Handle)) (ws : List (Option Work)) (z : Option Work)
+pub dropped_here : {s : CoreState} {t : ℕ} {x : Handle} {w : Work} → HasOpen s t x w → (i : Step system) (a : Answer system) (e' : engine.EngineState) (xs : List (Option Handle)) (ws : List (Option Work)) (z : Option Work)
     → Leads system (store_of s) i a (dropped system t (store_of s))
     → view_of e' ≡ rolled_back x.terminal (view_of s.engine) → e'.name ≡ s.engine.name → xs ≡ slice_set s.txs t None → ws ≡ slice_set s.works t z
     → Moves s i a (record { engine = e'; txs = xs; works = ws })
@@ -309,19 +309,19 @@ dropped_here {s} {t} h i a e' xs ws z lead b name p q =
     xs ws z p q
 
 -- where what it carried out is not there any more, none is open
-pub rolled_back_here : {s : Stored} {t : ℕ} {x : Handle} {w : Work} → HasOpen s t x w → (e' : engine.Stored) (xs : List (Option Handle))
-    → view_of e' ≡ rolled_back x.terminal (view_of s.engine) → e'.name ≡ s.engine.name → xs ≡ slice_set s.txs t None
-    → Moves s (Rollback t) Rolled_back (record { engine = e'; txs = xs; works = s.works })
-rolled_back_here {s} {t} {x} {w} h e' xs b name q =
-    dropped_here h (Rollback t) Rolled_back e' xs s.works (in_slot s.works t)
-    (the_steps.rolls_back (store_of s) t (slot_of (view_of s.engine) t w) (standing s h.orderly) (slot_here h)) b name q (kept_slot s.works t None)
+pub rolled_back_here : {s : CoreState} {t : ℕ} {x : Handle} {w : Work} → HasOpen s t x w → (e' : engine.EngineState) (xs : List (Option Handle)) (ws : List (Option Work))
+    → view_of e' ≡ rolled_back x.terminal (view_of s.engine) → e'.name ≡ s.engine.name → xs ≡ slice_set s.txs t None → ws ≡ slice_set s.works t None
+    → Moves s (Rollback t) Rolled_back (record { engine = e'; txs = xs; works = ws })
+rolled_back_here {s} {t} {x} {w} h e' xs ws b name p q =
+    dropped_here h (Rollback t) Rolled_back e' xs ws None
+    (the_steps.rolls_back (store_of s) t (slot_of (view_of s.engine) t w) (standing s h.orderly) (slot_here h)) b name p q
 
 -- a transaction that stands in its slot, and its work
-work_of_tx : (e : engine.Stored) (t : ℕ) (x : Handle) (y : Option Work) → Works e t (Some x) y → (w : Work) × (y ≡ Some w)
+work_of_tx : (e : engine.EngineState) (t : ℕ) (x : Handle) (y : Option Work) → Works e t (Some x) y → (w : Work) × (y ≡ Some w)
 work_of_tx e t x None h = absurd h
 work_of_tx e t x (Some w) h = (w, refl)
 
-pub taken_here : {s : Stored} {t : ℕ} {x : Handle} → IsOrderly s → t ≤ 64 → slice_get s.txs t ≡ Some (Some x) → (w : Work) × HasOpen s t x w
+pub taken_here : {s : CoreState} {t : ℕ} {x : Handle} → IsOrderly s → t ≤ 64 → slice_get s.txs t ≡ Some (Some x) → (w : Work) × HasOpen s t x w
 taken_here {s} {t} {x} o h e =
     let tx : in_slot s.txs t ≡ Some x = get_slot s.txs t (Some x) None e in
     let found = work_of_tx s.engine t x (in_slot s.works t) (subst (λ (y : Option Handle). Works s.engine t y (in_slot s.works t)) tx (o.works t)) in
@@ -335,7 +335,7 @@ valid (request.Delivery q) h = h
 valid (request.Deliveries q) h = absurd h
 valid (request.Rename q) h = absurd h
 
-pub begun_here : (s : Stored) → IsOrderly s → (t : ℕ) → 1 ≤ t → t ≤ 64 → (q : Request) → HasProgram q → (x : Handle) (w : Work) (e' : engine.Stored) (xs : List (Option Handle)) (ws : List (Option Work))
+pub begun_here : (s : CoreState) → IsOrderly s → (t : ℕ) → 1 ≤ t → t ≤ 64 → (q : Request) → HasProgram q → (x : Handle) (w : Work) (e' : engine.EngineState) (xs : List (Option Handle)) (ws : List (Option Work))
     → rejection q (view_of s.engine).rows ≡ None → number_rejection (suc ((view_of s.engine).counts t)) ≡ None
     → (view_of s.engine).is_open t ≡ false → ((view_of s.engine).is_open t ≡ false → (view_of s.engine).held t ≡ (λ _. None))
     → view_of e' ≡ begun t (view_of s.engine) → e'.name ≡ s.engine.name

@@ -1,5 +1,5 @@
 -- Commits that are forgotten or undone.
-use Rattle.std.proofs.Common.{◌≡◌, ℕ, zero, suc, ◌<◌, ◌≤◌, Bool, true, false, refl, sym, ap, ◌∙◌, subst, arith, List, [], ◌∷◌, ◌++◌}
+use Rattle.std.proofs.Common.{◌≡◌, ℕ, zero, suc, ◌-◌, ◌<◌, ◌≤◌, Bool, true, false, refl, sym, ap, ◌∙◌, subst, arith, List, [], ◌∷◌, ◌++◌}
 use Rattle.std.specs.Prelude.{Option, None, Some, is_some}
 use mathlib.Core.Path.{fun_ext}
 use Rattle.oe_requests.specs.declared.refusals.Refusal.{Refusal}
@@ -17,14 +17,15 @@ use Rattle.oe_model.specs.Meets.{Meets}
 use Rattle.oe_model.specs.System.{system, terminal_limit}
 use Rattle.oe_model.proofs.ChangeFacts.{accepted_meets}
 use Rattle.oe_model.proofs.SystemLaws.{laws}
+use Rattle.oe_deleted.proofs.HistoryFacts.{deleted_for_good}
 use Rattle.oe_change.specs.PutBack.{Stands}
 use Rattle.oe_past.specs.GoesBack.{CanUnwind, CanUnwindAll}
 use Rattle.oe_past.specs.Moments.{IsBetween, IsOutside}
 use Rattle.oe_engine.specs.View.{View, view_of, Handle}
 use Rattle.oe_engine.specs.View as engine
-use Rattle.oe_engine.specs.Calls.{newest, horizon, IsQuiet, CantRewind, purged_to, rewound_to}
+use Rattle.oe_engine.specs.Calls.{newest, horizon, IsQuiet, IsNamedNoMoreAfter, CantRewind, purged_to, rewound_to}
 use Rattle.oe_engine.proofs.CoveredFacts.{stands_left}
-use Rattle.oe_core.specs.Core.{Stored, in_slot, work_of, work_at, open_at, store_with, store_of, position_of, Works, IsOrderly, Moves}
+use Rattle.oe_core.specs.Core.{CoreState, in_slot, work_of, work_at, open_at, store_with, store_of, position_of, Works, IsOrderly, Moves}
 use Rattle.oe_core.specs.Steps.{refusal_in}
 use Rattle.oe_core.specs.declared.slots.Work.{Work}
 use Rattle.oe_core.proofs.MoveFacts.{standing, closed, stays, the_steps, same_parts, no_tx, is_shut, open_still}
@@ -36,18 +37,18 @@ same_slot v v' u (Some w) a b =
     λ i. Some (record { number = suc (a i); request = w.request; position = position_of w.request w.program; mark_position = position_of w.request w.mark.program; mark_count = w.mark.records; held = b i })
 
 -- where the same transactions are open, their work is what it was
-works_still : (e e' : engine.Stored) → (view_of e').is_open ≡ (view_of e).is_open → e'.name ≡ e.name → (u : ℕ) (y : Option Handle) (z : Option Work) → Works e u y z → Works e' u y z
+works_still : (e e' : engine.EngineState) → (view_of e').is_open ≡ (view_of e).is_open → e'.name ≡ e.name → (u : ℕ) (y : Option Handle) (z : Option Work) → Works e u y z → Works e' u y z
 works_still e e' b name u None z h = ap (λ (f : ℕ → Bool). f u) b ∙ h
 works_still e e' b name u (Some y) None h = absurd h
 works_still e e' b name u (Some y) (Some z) h =
     record { is_open = open_still e e' y b name h.is_open; terminal = h.terminal; program = h.program; mark = h.mark }
 
 -- a step that was refused has left the engine as it was
-pub unchanged : {s : Stored} {i : theory.Step system} {a : theory.Answer system} → (e' : engine.Stored) → e' ≡ s.engine → Moves s i a s → Moves s i a (record { engine = e'; txs = s.txs; works = s.works })
-unchanged {s} {i} {a} e' same m = subst (λ (z : engine.Stored). Moves s i a (record { engine = z; txs = s.txs; works = s.works })) (sym same) m
+pub unchanged : {s : CoreState} {i : theory.Step system} {a : theory.Answer system} → (e' : engine.EngineState) → e' ≡ s.engine → Moves s i a s → Moves s i a (record { engine = e'; txs = s.txs; works = s.works })
+unchanged {s} {i} {a} e' same m = subst (λ (z : engine.EngineState). Moves s i a (record { engine = z; txs = s.txs; works = s.works })) (sym same) m
 
 -- a purge
-pub purged_here : (s : Stored) → IsOrderly s → (e' : engine.Stored) (m : ℕ) → IsBetween (horizon (view_of s.engine)) (newest (view_of s.engine)) m
+pub purged_here : (s : CoreState) → IsOrderly s → (e' : engine.EngineState) (m : ℕ) → IsBetween (horizon (view_of s.engine)) (newest (view_of s.engine)) m
     → view_of e' ≡ purged_to m (view_of s.engine) → e'.name ≡ s.engine.name
     → Moves s (Purge m) (Purged m) (record { engine = e'; txs = s.txs; works = s.works })
 purged_here s o e' m kept now name =
@@ -59,7 +60,12 @@ purged_here s o e' m kept now name =
     o.tx_slots o.work_slots
     (λ u. works_still s.engine e' (ap (λ (z : View). z.is_open) now) name u (in_slot s.txs u) (in_slot s.works u) (o.works u))
 
-pub purge_refused : (s : Stored) → IsOrderly s → (m : ℕ) (e : Refusal) → IsOutside (horizon (view_of s.engine)) (newest (view_of s.engine)) m e
+-- the commits that a purge forgets have deleted what nothing that is kept names
+pub named_no_more : (s : CoreState) → IsOrderly s → (m : ℕ) → IsNamedNoMoreAfter m (view_of s.engine)
+named_no_more s o m k d =
+    deleted_for_good _ (view_of s.engine).undo (newest (view_of s.engine) - m) k (standing s o).reached (standing s o).keeps d
+
+pub purge_refused : (s : CoreState) → IsOrderly s → (m : ℕ) (e : Refusal) → IsOutside (horizon (view_of s.engine)) (newest (view_of s.engine)) m e
     → Moves s (Purge m) (refusal_in (step.Purge m) e) s
 purge_refused s o m (TooOld k) i =
     subst (λ (z : ℕ). Moves s (Purge m) (theory.Too_old z) s) (sym i.0)
@@ -70,11 +76,11 @@ purge_refused s o m (Future k) i =
 purge_refused s o m _ i = absurd i
 
 -- where nothing is open no slot has work
-none_at : (s : Stored) → IsOrderly s → IsQuiet (view_of s.engine) → (t : ℕ) → work_at s t ≡ None
+none_at : (s : CoreState) → IsOrderly s → IsQuiet (view_of s.engine) → (t : ℕ) → work_at s t ≡ None
 none_at s o quiet t = ap (λ (z : Option Handle). work_of z (in_slot s.works t)) (no_tx s.engine t (in_slot s.txs t) (in_slot s.works t) (o.works t) (quiet t))
 
 -- a rewind
-pub rewound_here : (s : Stored) → IsOrderly s → (e' : engine.Stored) (m : ℕ) → IsQuiet (view_of s.engine) → IsBetween (horizon (view_of s.engine)) (newest (view_of s.engine)) m
+pub rewound_here : (s : CoreState) → IsOrderly s → (e' : engine.EngineState) (m : ℕ) → IsQuiet (view_of s.engine) → IsBetween (horizon (view_of s.engine)) (newest (view_of s.engine)) m
     → view_of e' ≡ rewound_to m (view_of s.engine) → e'.name ≡ s.engine.name
     → Moves s (Rewind m) (Rewound m) (record { engine = e'; txs = s.txs; works = s.works })
 rewound_here s o e' m quiet kept now name =
@@ -88,12 +94,12 @@ rewound_here s o e' m quiet kept now name =
     (λ u. works_still s.engine e' (ap (λ (z : View). z.is_open) now) name u (in_slot s.txs u) (in_slot s.works u) (o.works u))
 
 -- a slot is taken exactly where its terminal has a transaction open
-taken_is : (e : engine.Stored) (v : View) (t : ℕ) (x : Option Handle) (y : Option Work) → view_of e ≡ v → Works e t x y → is_some (open_at v t (work_of x y)) ≡ v.is_open t
+taken_is : (e : engine.EngineState) (v : View) (t : ℕ) (x : Option Handle) (y : Option Work) → view_of e ≡ v → Works e t x y → is_some (open_at v t (work_of x y)) ≡ v.is_open t
 taken_is e v t None y is h = sym h ∙ ap (λ (z : View). z.is_open t) is
 taken_is e v t (Some x) None is h = absurd h
 taken_is e v t (Some x) (Some w) is h = sym (ap (view_of e).is_open (sym h.terminal) ∙ h.is_open.terminal) ∙ ap (λ (z : View). z.is_open t) is
 
-pub rewind_refused : (s : Stored) → IsOrderly s → (m : ℕ) (e : Refusal) → CantRewind (view_of s.engine) m e → Moves s (Rewind m) (refusal_in (step.Rewind m) e) s
+pub rewind_refused : (s : CoreState) → IsOrderly s → (m : ℕ) (e : Refusal) → CantRewind (view_of s.engine) m e → Moves s (Rewind m) (refusal_in (step.Rewind m) e) s
 rewind_refused s o m (NotQuiet n) i =
     many n (i.0 (store_of s).slots (λ t. taken_is s.engine (view_of s.engine) t (in_slot s.txs t) (in_slot s.works t) refl (o.works t))) i.1
   where
@@ -130,7 +136,7 @@ all_by_one : (ss : List (List Record)) (r : Rows) → GoesBack system Meets (com
 all_by_one [] r h = tt
 all_by_one (bs ∷ ss) r h = let first = one_by_one bs (commit_records system ss) r h in (first.0, all_by_one ss (unwind system bs r) first.1)
 
-pub commits_go_back : (s : Stored) → IsOrderly s → IsQuiet (view_of s.engine) → CanUnwindAll (view_of s.engine).undo.history (view_of s.engine).rows
+pub commits_go_back : (s : CoreState) → IsOrderly s → IsQuiet (view_of s.engine) → CanUnwindAll (view_of s.engine).undo.history (view_of s.engine).rows
 commits_go_back s o quiet =
     all_by_one (view_of s.engine).undo.history (view_of s.engine).rows
     (each_goes_back_here system laws Meets (record { between = λ f r g. g.meets; kept = accepted_meets }) (store_of s) [] (standing s o)

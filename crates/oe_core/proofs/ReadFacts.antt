@@ -23,34 +23,34 @@ use Rattle.oe_model.specs.Keys.{customer_in}
 use Rattle.oe_model.specs.Choice.{chosen}
 use Rattle.oe_model.specs.Queries.{found, last_order, status_of, recent_lines, is_low, answer_of}
 use Rattle.oe_model.specs.System.{system}
-use Rattle.oe_store.specs.Stored.{rows}
-use Rattle.oe_store.specs.Stored as tables
+use Rattle.oe_store.specs.Places.{rows}
+use Rattle.oe_store.specs.Places as tables
 use Rattle.oe_undo.specs.Undo as undo
 use Rattle.oe_engine.specs.View.{view_of, view_from}
 use Rattle.oe_versions.specs.Versions.{Stand, IsReadable, IsOutside, horizon, newest}
 use Rattle.oe_versions.specs.Versions as versions
-use Rattle.oe_enquiry.specs.Enquiry.{IsTold, IsUntold, IsRefused}
-use Rattle.oe_core.specs.Core.{Stored, store_of, IsOrderly, Moves}
+use Rattle.oe_queries.specs.Reply.{IsReply, HasNoReply, IsRefused}
+use Rattle.oe_core.specs.Core.{CoreState, store_of, IsOrderly, Moves}
 use Rattle.oe_core.specs.Steps.{refusal_in}
 use Rattle.oe_core.proofs.MoveFacts.{standing, stays, the_steps}
 
-pub stand_here : (s : Stored) → IsOrderly s → (ts : tables.Stored) (u : undo.Stored) → rows ts ≡ (view_of s.engine).rows → u ≡ s.engine.undo → Stand ts u
+pub stand_here : (s : CoreState) → IsOrderly s → (ts : tables.Places) (u : undo.UndoLog) → rows ts ≡ (view_of s.engine).rows → u ≡ s.engine.undo → Stand ts u
 unfolding view_of view_from
 stand_here s o ts u e f = (
   (store_of s).slots,
-  subst (λ (v : undo.Stored). IsStanding system (record (versions.store_with (rows ts) v) { slots = (store_of s).slots })) (sym f)
+  subst (λ (v : undo.UndoLog). IsStanding system (record (versions.store_with (rows ts) v) { slots = (store_of s).slots })) (sym f)
       (subst (λ (r : Rows). IsStanding system (record (versions.store_with r s.engine.undo) { slots = (store_of s).slots })) (sym e) (standing s o)),
 )
 
 -- what is said of the tables and the log that are lent is said of the store
-module _ (s : Stored) (ts : tables.Stored) (u : undo.Stored) (m : ℕ) (q : Query) (same : rows ts ≡ (view_of s.engine).rows) (is : u ≡ s.engine.undo) where
+module _ (s : CoreState) (ts : tables.Places) (u : undo.UndoLog) (m : ℕ) (q : Query) (same : rows ts ≡ (view_of s.engine).rows) (is : u ≡ s.engine.undo) where
   known : (v : Option Refusal) → query_rejection q (rows ts) ≡ v → query_rejection q (store_of s).tables ≡ v
   known v h = subst (λ (r : Rows). query_rejection q r ≡ v) same h
 
   found_here : (a : Outcome QueryReply Refusal) → answer_of q (versions.version ts u m) ≡ a → answer_of q (version_of system (store_of s) m) ≡ a
   unfolding view_of view_from
   found_here a h =
-      subst (λ (v : undo.Stored). answer_of q (version_of system (versions.store_with (rows s.engine.tables) v) m) ≡ a) is
+      subst (λ (v : undo.UndoLog). answer_of q (version_of system (versions.store_with (rows s.engine.tables) v) m) ≡ a) is
       (subst (λ (r : Rows). answer_of q (version_of system (versions.store_with r u) m) ≡ a) same h)
 
   horizon_here : horizon u ≡ horizon_of system (store_of s)
@@ -67,7 +67,7 @@ module _ (s : Stored) (ts : tables.Stored) (u : undo.Stored) (m : ℕ) (q : Quer
   new_here : IsReadable u m → m ≤ newest_of system (store_of s)
   new_here h = subst (λ (n : ℕ). m ≤ n) newest_here h.new
 
-  pub replied_here : IsOrderly s → (f : QueryReply) → IsTold q ts u m f → Moves s (Read m q) (Replied f) s
+  pub replied_here : IsOrderly s → (f : QueryReply) → IsReply q ts u m f → Moves s (Read m q) (Replied f) s
   replied_here o f t =
       stays s o (Read m q) (Replied f)
       (the_steps.reads (store_of s) m q f (standing s o) (known None t.warehouse) (old_here t.readable) (new_here t.readable) (found_here (Here f) t.answer))
@@ -131,7 +131,7 @@ module _ (s : Stored) (ts : tables.Stored) (u : undo.Stored) (m : ℕ) (q : Quer
   outside o (refusal.Future n) k i = future o n k i.0 i.1
   outside o _ k i = absurd i
 
-  untold : IsOrderly s → (e : Refusal) → query_rejection q (rows ts) ≡ None → IsUntold q ts u m e → Moves s (Read m q) (refusal_in (step.Read m q) e) s
+  untold : IsOrderly s → (e : Refusal) → query_rejection q (rows ts) ≡ None → HasNoReply q ts u m e → Moves s (Read m q) (refusal_in (step.Read m q) e) s
   untold o e k (inl i) = outside o e k i
   untold o e k (inr h) = subst (λ (a : Answer system). Moves s (Read m q) a s) (sym (nothing_is q _ e h.1)) (missed o e k h.0 h.1)
 

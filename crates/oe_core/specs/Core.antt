@@ -5,6 +5,7 @@ use Rattle.oe_theory.specs.Next.{Next, Step, Answer}
 use Rattle.oe_theory.specs.Store.{Slot, Store}
 use Rattle.oe_theory.specs.Store as theory
 use Rattle.oe_theory.specs.StoreTheorems.{IsStanding}
+use Rattle.oe_values.specs.declared.numbers.TheConstants.{TERMINALS}
 use Rattle.oe_requests.specs.declared.requests.Request.{Request}
 use Rattle.oe_requests.specs.declared.requests.Request.TheVariants as request
 use Rattle.oe_requests.specs.declared.refusals.Refusal.{Refusal}
@@ -18,14 +19,14 @@ use Rattle.oe_engine.specs.Calls.{rolled_back}
 use Rattle.oe_engine.specs.Programs.{tx_of, reply_at}
 use Rattle.oe_delivery.specs.Program as delivery
 use Rattle.oe_neworder.specs.Program as neworder
-use Rattle.oe_engine.specs.Deeds.{HoldsAll}
+use Rattle.oe_engine.specs.Stages.{HoldsAll}
 use Rattle.oe_core.specs.declared.programs.Program.{Program}
 use Rattle.oe_core.specs.declared.programs.Program.TheVariants as program
 use Rattle.oe_core.specs.declared.slots.Work.{Work}
 
 -- the engine, the open transactions in the slots of their terminals, and what lies there for them to carry out
-pub record Stored : Type 0 where
-  pub engine : engine.Stored
+pub record CoreState : Type 0 where
+  pub engine : engine.EngineState
   pub txs : List (Option Handle)
   pub works : List (Option Work)
 
@@ -65,7 +66,7 @@ pub record IsBegun (q : Request) (w : Work) : Type 0 where
   pub mark_records : w.mark.records ≡ 0
 
 -- the names that are taken on the way to that row are held
-abbrev pub HoldsTaken : engine.Stored → Handle → Request → Program → Type 0
+abbrev pub HoldsTaken : engine.EngineState → Handle → Request → Program → Type 0
 HoldsTaken s x q p = HoldsAll (view_of s) x.terminal (taken (tx_of s x q) (position_of q p))
 
 -- what stands in a terminal's slot
@@ -77,8 +78,18 @@ abbrev pub work_of : Option Handle → Option Work → Option Work
 work_of None w = None
 work_of (Some x) w = w
 
-abbrev pub work_at : Stored → ℕ → Option Work
+abbrev pub work_at : CoreState → ℕ → Option Work
 work_at s t = work_of (in_slot s.txs t) (in_slot s.works t)
+
+-- what was carried out in a slot has its reply where it has come to its end, and is no longer open
+abbrev pub reply_left : Option Handle → Option Work → Option Reply
+reply_left (Some x) w = None
+reply_left None None = None
+reply_left None (Some w) = reply_of w.request w.program
+
+-- the reply of a terminal's last transaction, if it committed
+abbrev pub last_reply : CoreState → ℕ → Option Reply
+last_reply s t = reply_left (in_slot s.txs t) (in_slot s.works t)
 
 -- an open transaction of terminal t, as the theory stores it
 abbrev pub slot_of : View → ℕ → Work → Slot system
@@ -101,38 +112,38 @@ open_at v t (Some w) = Some (slot_of v t w)
 abbrev pub store_with : View → (ℕ → Option Work) → Store system
 store_with v f = record { tables = v.rows; undo = v.undo; slots = λ t. open_at v t (f t); seals = v.seals; counts = v.counts; extents = v.extents }
 
-abbrev pub store_of : Stored → Store system
+abbrev pub store_of : CoreState → Store system
 store_of s = store_with (view_of s.engine) (work_at s)
 
 -- the world of open transactions and commits
-unfoldable pub world_of : Stored → World system
+unfoldable pub world_of : CoreState → World system
 world_of s = theory.world_of system (store_of s)
 
 -- the store stands for a world that steps led to
-unfoldable pub IsSound : Stored → Type 0
+unfoldable pub IsSound : CoreState → Type 0
 IsSound s = IsStanding system (store_of s)
 
 -- the transaction is open in the engine, and its programs are those of its request
-pub record IsWork (e : engine.Stored) (t : ℕ) (x : Handle) (w : Work) : Type 0 where
+pub record IsWork (e : engine.EngineState) (t : ℕ) (x : Handle) (w : Work) : Type 0 where
   pub is_open : IsOpen e x
   pub terminal : x.terminal ≡ t
   pub program : IsOf w.request w.program
   pub mark : IsOf w.request w.mark.program
 
 -- a slot has a transaction, and work for it, exactly where its terminal has one open
-abbrev pub Works : engine.Stored → ℕ → Option Handle → Option Work → Type 0
+abbrev pub Works : engine.EngineState → ℕ → Option Handle → Option Work → Type 0
 Works e t None w = (view_of e).is_open t ≡ false
 Works e t (Some x) None = ⊥
 Works e t (Some x) (Some w) = IsWork e t x w
 
-pub record IsOrderly (s : Stored) : Type 0 where
-  pub tx_slots : length s.txs ≡ 65
-  pub work_slots : length s.works ≡ 65
+pub record IsOrderly (s : CoreState) : Type 0 where
+  pub tx_slots : length s.txs ≡ suc TERMINALS
+  pub work_slots : length s.works ≡ suc TERMINALS
   pub works : (t : ℕ) → Works s.engine t (in_slot s.txs t) (in_slot s.works t)
   pub sound : IsSound s
 
 -- a step of what is stored
-pub record Moves (s : Stored) (i : Step system) (a : Answer system) (s' : Stored) : Type 0 where
+pub record Moves (s : CoreState) (i : Step system) (a : Answer system) (s' : CoreState) : Type 0 where
   pub next : Next system (world_of s) i a (world_of s')
   pub orderly : IsOrderly s'
 
@@ -144,11 +155,11 @@ keeps_open refusal.NoMemory = true
 keeps_open _ = false
 
 -- the transaction of a slot is open
-abbrev pub IsEndable : engine.Stored → Option Handle → Type 0
+abbrev pub IsEndable : engine.EngineState → Option Handle → Type 0
 IsEndable e None = Unit {0}
 IsEndable e (Some x) = IsOpen e x
 
 -- and was, where there is one
-abbrev pub IsEnded : engine.Stored → Option Handle → engine.Stored → Type 0
+abbrev pub IsEnded : engine.EngineState → Option Handle → engine.EngineState → Type 0
 IsEnded e None e' = e' ≡ e
 IsEnded e (Some x) e' = (view_of e' ≡ rolled_back x.terminal (view_of e)) × (e'.name ≡ e.name)

@@ -1,6 +1,6 @@
 -- Steps and answers as those of the theory of transactions, and what a step may be answered.
-use Rattle.std.specs.Prelude.{◌≡◌, ℕ, List, [], ◌∷◌, Option, None, Some, Result, Ok, Err}
-use Rattle.oe_theory.specs.World.{Commit, World}
+use Rattle.std.specs.Prelude.{◌≡◌, ℕ, Option, Some, Result, Ok, Err}
+use Rattle.oe_theory.specs.World.{World}
 use Rattle.oe_theory.specs.Next as theory
 use Rattle.oe_theory.specs.Next.{Next}
 use Rattle.oe_theory.specs.Theorems.{IsReached}
@@ -69,19 +69,11 @@ abbrev pub begin_answer : Result (Unit {0}) Refusal → Answer
 begin_answer (Ok x) = answer.Begun
 begin_answer (Err e) = answer.Refused e
 
--- the reply of the newest commit, if there is one
-abbrev pub reply_of_newest : List (Commit system) → Option Reply
-reply_of_newest [] = None
-reply_of_newest (c ∷ cs) = Some c.reply
-
-abbrev pub newest_reply : World system → Option Reply
-newest_reply w = reply_of_newest w.history
-
--- an Advance that ended so: the reply of a commit is that of the newest
-abbrev pub Advances : World system → ℕ → Advanced → World system → Type 0
-Advances w t advanced.More w' = Carries w (step.Advance t) answer.More w'
-Advances w t (advanced.Committed m) w' = (y : Reply) × (newest_reply w' ≡ Some y) × Carries w (step.Advance t) (answer.Committed m y) w'
-Advances w t (advanced.Refused e) w' = Carries w (step.Advance t) (answer.Refused e) w'
+-- an Advance that ended so, and left its terminal this last reply, which is a commit's own
+abbrev pub Advances : World system → ℕ → Advanced → World system → Option Reply → Type 0
+Advances w t advanced.More w' last = Carries w (step.Advance t) answer.More w'
+Advances w t (advanced.Committed m) w' last = (y : Reply) × (last ≡ Some y) × Carries w (step.Advance t) (answer.Committed m y) w'
+Advances w t (advanced.Refused e) w' last = Carries w (step.Advance t) (answer.Refused e) w'
 
 -- the requests that have a program today, in their ranges: payments, orders, and deliveries of one district
 abbrev pub HasProgram : Request → Type 0

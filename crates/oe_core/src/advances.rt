@@ -3,7 +3,7 @@
 use oe_requests::Refusal;
 use oe_values::Moment;
 
-/// How an advance ends. The reply of a commit stays in the core, which lends that of the newest.
+/// How an advance ends. The reply of a commit is told by the core, until its terminal begins again.
 #[derive(Drop)]
 pub enum Advanced {
     /// A row is done, and there is a further one.

@@ -1,16 +1,15 @@
 //! The core.
 ghost use Rattle.std.specs.Prelude.{◌≡◌, IfOk, IfSome, IsSome, suc};
-ghost use Rattle.std.specs.Option.{option_copied};
 ghost use Rattle.oe_theory.specs.World.{latest, newest, tables, total};
 ghost use Rattle.oe_theory.specs.Next.{Next};
 ghost use Rattle.oe_theory.specs.Theorems.{opened, IsReached};
 ghost use Rattle.oe_model.specs.Conditions.{IsPopulation};
 ghost use Rattle.oe_model.specs.System.{system, terminal_limit};
-ghost use Rattle.oe_store.specs.Stored.{rows};
+ghost use Rattle.oe_store.specs.Places.{rows};
 ghost use Rattle.oe_engine.specs.View.{view_of, IsOpen};
 ghost use Rattle.oe_engine.specs.Calls.{committed, rolled_back};
-ghost use Rattle.oe_core.specs.Steps.{step_in, answer_in, Carries, begin_answer, Advances, newest_reply, IsStep, HasProgram};
-ghost use Rattle.oe_core.specs.Core.{world_of, reply_of, keeps_open, IsEndable, IsEnded};
+ghost use Rattle.oe_core.specs.Steps.{step_in, answer_in, Carries, begin_answer, Advances, IsStep, HasProgram};
+ghost use Rattle.oe_core.specs.Core.{world_of, reply_of, last_reply, keeps_open, IsEndable, IsEnded};
 
 use crate::advances::Advanced;
 use crate::programs::Program;
@@ -24,6 +23,7 @@ use oe_table::tables::NoMemory;
 use oe_values::{Moment, Terminal};
 use std::alloc::Global;
 use std::marker::Model;
+use std::snapshot::Snapshot;
 
 /// A core. It can't be dropped: `close` ends it.
 pub struct Core {
@@ -35,9 +35,9 @@ pub struct Core {
 }
 
 impl Model for Core {
-    ghost use Rattle.oe_core.specs.Core.{Stored, IsOrderly};
+    ghost use Rattle.oe_core.specs.Core.{CoreState, IsOrderly};
 
-    ghost Value = { Stored };
+    ghost Value = { CoreState };
 
     ghost view = { λ c. record { engine = c.engine; txs = c.txs.items; works = c.works.items } };
 
@@ -80,11 +80,18 @@ impl Core {
         self.engine.newest()
     }
 
-    /// The reply of the newest commit; none before the first.
-    pub fn newest_reply(&self) -> Option<&Reply>
-        ensures { option_copied result ≡ newest_reply (world_of self.now) }
+    /// The reply of a terminal's last transaction, where that has committed; none where it is open, was rolled back, or there was
+    /// none. It takes no memory.
+    pub fn last_reply(&self, terminal: Terminal) -> Option<Reply>
+        ensures { result ≡ last_reply self.now terminal }
     {
-        self.engine.newest_reply()
+        if let Some(_open) = &self.txs[slot(terminal)] {
+            return None;
+        }
+        match &self.works[slot(terminal)] {
+            Some(work) => work.program.reply(&work.request),
+            None => None,
+        }
     }
 
     /// Steps have led to where the core stands.
@@ -166,7 +173,7 @@ impl Core {
         ensures { Carries (world_of self.now) (Step.Read moment query.now) result
             (world_of self.now) }
     {
-        match oe_enquiry::answer(self.engine.tables(), self.engine.undo(), query, moment) {
+        match oe_queries::answer(self.engine.tables(), self.engine.undo(), query, moment) {
             Ok(reply) => Answer::Replied(reply),
             Err(cause) => Answer::Refused(cause),
         }
@@ -184,14 +191,14 @@ impl Core {
         }
     }
 
-    // An Advance, and its answer, with a copy of the reply.
+    // An Advance, and its answer, with the reply.
     fn answer_advance(&mut self, terminal: Terminal) -> Answer
         ensures { Carries (world_of self.old) (Step.Advance terminal) result (world_of self.new) }
     {
         match self.advance(terminal) {
             Advanced::More => Answer::More,
-            Advanced::Committed(moment) => match self.newest_reply() {
-                Some(reply) => Answer::Committed(moment, reply.copied()),
+            Advanced::Committed(moment) => match self.last_reply(terminal) {
+                Some(reply) => Answer::Committed(moment, reply),
                 None => unreachable!(),
             },
             Advanced::Refused(refusal) => Answer::Refused(refusal),
@@ -252,7 +259,7 @@ impl Core {
         Answer::Back
     }
 
-    /// Rolls the terminal's transaction back.
+    /// Rolls the terminal's transaction back, and forgets what it carried out.
     #[inline(never)]
     fn rollback(&mut self, terminal: Terminal) -> Answer
         ensures { Carries (world_of self.old) (Step.Rollback terminal) result (world_of self.new) }
@@ -261,15 +268,17 @@ impl Core {
             return Answer::Refused(Refusal::NotOpen);
         };
         roll_back(&mut self.engine, tx);
+        self.works[slot(terminal)] = None;
         Answer::RolledBack
     }
 
     /// One row of the terminal's transaction; where none is left the transaction commits.
     ///
     /// `NotOpen`, `Busy` and `NoMemory` have changed nothing. After another refusal the transaction is rolled back. The reply of a
-    /// commit is that of `newest_reply`.
+    /// commit is the terminal's `last_reply`.
     pub fn advance(&mut self, terminal: Terminal) -> Advanced
-        ensures { Advances (world_of self.old) terminal result (world_of self.new) }
+        ensures { Advances (world_of self.old) terminal result (world_of self.new)
+            (last_reply self.new terminal) }
     {
         let Some(tx) = &self.txs[slot(terminal)] else {
             return Advanced::Refused(Refusal::NotOpen);
@@ -332,8 +341,8 @@ fn keeps_open(refusal: &Refusal) -> bool
     )
 }
 
-/// Commits a transaction of the engine whose program is at its end, and answers the moment that it made. Request and reply are
-/// copied into the log, which takes no memory.
+/// Commits a transaction of the engine whose program is at its end, and answers the moment that it made. The log keeps no byte of
+/// request and reply, so that no reply is built here.
 #[inline(never)]
 fn commit(engine: &mut Engine, tx: Tx, request: &Request, program: &Program) -> Moment
     requires open { IsOpen engine.old tx }
@@ -343,7 +352,10 @@ fn commit(engine: &mut Engine, tx: Tx, request: &Request, program: &Program) -> 
         (λ y. view_of engine.new ≡ committed tx.terminal request.now y (view_of engine.old)) }
     ensures name { engine.new.name ≡ engine.old.name }
 {
-    match engine.commit(tx, request.copied(), program.reply(request)) {
+    let Some(reply) = program.reply(request) else {
+        unreachable!()
+    };
+    match engine.commit(tx, Snapshot::of(request), Snapshot::of(&reply)) {
         Ok(moment) => moment,
         Err(_) => unreachable!(),
     }

@@ -1,5 +1,5 @@
 //! The programs of transactions.
-ghost use Rattle.std.specs.Prelude.{◌≡◌, Some, IsSome};
+ghost use Rattle.std.specs.Prelude.{◌≡◌};
 ghost use Rattle.oe_model.specs.System.{start_of};
 ghost use Rattle.oe_engine.specs.View.{IsOpen};
 ghost use Rattle.oe_engine.specs.Programs.{Progresses};
@@ -32,7 +32,7 @@ impl Program {
         }
     }
 
-    /// Goes to the first row of the program of this request. It takes no memory.
+    /// Goes to the first stage of the program of this request. It takes no memory.
     pub fn start(&mut self, request: &Request)
         requires { HasProgram request.now }
         ensures of { IsOf request.now self.new }
@@ -72,31 +72,38 @@ impl Program {
         *self = other.copied();
     }
 
-    /// The reply to this request, whose program is at its end. It takes no memory.
-    pub fn reply(&self, request: &Request) -> Reply
-        requires { IsSome (reply_of request.now self.now) }
-        ensures { reply_of request.now self.now ≡ Some result }
+    /// The reply to this request, once its program is at its end; none before that, and to another program's request. It takes no
+    /// memory.
+    #[inline(always)]
+    pub fn reply(&self, request: &Request) -> Option<Reply>
+        ensures { result ≡ reply_of request.now self.now }
     {
         match self {
-            Program::Payment(program) => match program.reply() {
-                Some(reply) => Reply::Payment(reply.copied()),
-                None => unreachable!(),
+            Program::Payment(program) => match request {
+                Request::Payment(_) => match program.reply() {
+                    Some(reply) => Some(Reply::Payment(reply.copied())),
+                    None => None,
+                },
+                _ => None,
             },
             Program::NewOrder(program) => match request {
                 Request::NewOrder(order) => match program.reply(order) {
-                    Some(reply) => Reply::NewOrder(reply),
-                    None => unreachable!(),
+                    Some(reply) => Some(Reply::NewOrder(reply)),
+                    None => None,
                 },
-                _ => unreachable!(),
+                _ => None,
             },
-            Program::Delivery(program) => match program.reply() {
-                Some(reply) => Reply::Delivery(reply),
-                None => unreachable!(),
+            Program::Delivery(program) => match request {
+                Request::Delivery(_) => match program.reply() {
+                    Some(reply) => Some(Reply::Delivery(reply)),
+                    None => None,
+                },
+                _ => None,
             },
         }
     }
 
-    /// One row of the program of this request: its lock and its change. `Refused` leaves all as it was.
+    /// One stage of the program of this request: its lock and its change. `Refused` leaves all as it was.
     pub fn next(&mut self, request: &Request, engine: &mut Engine, tx: &Tx) -> Progress
         requires of { IsOf request.now self.old }
         requires held { IsOpen engine.old tx.now

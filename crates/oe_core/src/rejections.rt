@@ -2,7 +2,7 @@
 ghost use Rattle.std.specs.Prelude.{◌≡◌, [], ◌∷◌, map};
 ghost use Rattle.oe_model.specs.Requests.{first_absent};
 ghost use Rattle.oe_model.specs.Requests as model;
-ghost use Rattle.oe_store.specs.Stored.{rows};
+ghost use Rattle.oe_store.specs.Places.{rows};
 ghost use Rattle.oe_core.specs.Steps.{HasProgram};
 
 use oe_keys::{Key, WarehouseKey};

@@ -1,5 +1,5 @@
 //! The slots of terminals: their open transactions, and what these carry out.
-ghost use Rattle.std.specs.Prelude.{◌≡◌, ◌<◌, ◌≤◌, Some, None, IsSome, IfOk, slice_get, slice_set, vec_len, replicate};
+ghost use Rattle.std.specs.Prelude.{◌≡◌, ◌<◌, ◌≤◌, suc, Some, None, IsSome, IfOk, slice_get, slice_set, vec_len, replicate};
 ghost use Rattle.oe_model.specs.System.{start_of};
 ghost use Rattle.oe_core.specs.Steps.{HasProgram};
 ghost use Rattle.oe_core.specs.Core.{IsOf, position_of, in_slot, IsBegun};
@@ -8,7 +8,7 @@ ghost use Rattle.oe_core.specs.declared.slots.Work.{Work};
 use crate::programs::Program;
 use oe_engine::Tx;
 use oe_requests::Request;
-use oe_values::Terminal;
+use oe_values::{TERMINALS, Terminal};
 use std::alloc::{AllocError, Global};
 
 /// What an open transaction carries out: its request, where its program stands, and its mark.
@@ -63,17 +63,17 @@ impl Mark {
 /// The slot of a terminal.
 pub fn slot(terminal: Terminal) -> usize
     ensures value { result ≡ terminal }
-    ensures high { result ≤ 64 }
+    ensures high { result ≤ TERMINALS }
 {
     terminal.get() as usize
 }
 
 /// Slots for the transactions of the terminals 1 to 64; that of 0 stays empty.
 pub fn empty_txs(alloc: Global) -> Result<Vec<Option<Tx>>, AllocError>
-    ensures { IfOk result (λ v. v.items ≡ replicate 65 None) }
+    ensures { IfOk result (λ v. v.items ≡ replicate (suc TERMINALS) None) }
 {
-    let mut txs = Vec::with_capacity(alloc, 65)?;
-    for _ in 0..65u8 {
+    let mut txs = Vec::with_capacity(alloc, TERMINALS as usize + 1)?;
+    for _ in 0..TERMINALS + 1 {
         txs.push(None).unwrap();
     }
     Ok(txs)
@@ -81,10 +81,10 @@ pub fn empty_txs(alloc: Global) -> Result<Vec<Option<Tx>>, AllocError>
 
 /// Slots for what they carry out.
 pub fn empty_works(alloc: Global) -> Result<Vec<Option<Work>>, AllocError>
-    ensures { IfOk result (λ v. v.items ≡ replicate 65 None) }
+    ensures { IfOk result (λ v. v.items ≡ replicate (suc TERMINALS) None) }
 {
-    let mut works = Vec::with_capacity(alloc, 65)?;
-    for _ in 0..65u8 {
+    let mut works = Vec::with_capacity(alloc, TERMINALS as usize + 1)?;
+    for _ in 0..TERMINALS + 1 {
         works.push(None).unwrap();
     }
     Ok(works)
@@ -95,7 +95,7 @@ pub fn take_tx(txs: &mut Vec<Option<Tx>>, terminal: Terminal) -> Option<Tx>
     requires { terminal < vec_len txs.old }
     ensures value { slice_get txs.old.items terminal ≡ Some result }
     ensures after { txs.new.items ≡ slice_set txs.old.items terminal None }
-    ensures high { terminal ≤ 64 }
+    ensures high { terminal ≤ TERMINALS }
 {
     txs[slot(terminal)].take()
 }
@@ -119,7 +119,7 @@ pub fn put_tx(txs: &mut Vec<Option<Tx>>, terminal: Terminal, tx: Tx)
     requires free { slice_get txs.old.items terminal ≡ Some None }
     ensures after { txs.new.items ≡ slice_set txs.old.items terminal (Some tx) }
     ensures low { 1 ≤ terminal }
-    ensures high { terminal ≤ 64 }
+    ensures high { terminal ≤ TERMINALS }
 {
     let old = txs[slot(terminal)].replace(tx);
     let None = old else { unreachable!() };

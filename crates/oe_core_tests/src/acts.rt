@@ -4,7 +4,9 @@ ghost use Rattle.std.specs.List.{All};
 ghost use Rattle.oe_model.specs.Requests.{IsNewOrder, IsRequestLine};
 ghost use Rattle.oe_core.specs.Steps.{HasProgram, IsStep};
 
-use crate::openings::{account, customer, district, is_filled, money, quantity, waiting};
+use crate::openings::{
+    account, customer, district, has_history, is_filled, money, quantity, waiting,
+};
 use oe_core::Core;
 use oe_keys::{CustomerKey, DistrictKey};
 use oe_requests::{
@@ -36,6 +38,10 @@ pub(crate) enum Act {
     Back(u32),
     Rollback(u32),
     Audit(Condition, u32),
+    /// To that moment.
+    Purge(u32),
+    /// To that moment.
+    Rewind(u32),
     /// At that warehouse, its district 1, and that customer of it.
     Look(u32, u32),
     /// At the stock of that item in that warehouse.
@@ -44,6 +50,8 @@ pub(crate) enum Act {
     Oldest(u32, u32),
     /// At the account of the customer of that warehouse, district and number.
     Account(u32, u32, u32),
+    /// At the HISTORY row of that terminal and number.
+    History(u32, u32),
     /// At that line of order 11 of that district of that warehouse.
     Line(u32, u32, u32),
 }
@@ -64,6 +72,10 @@ pub(crate) enum Said {
     Back,
     RolledBack,
     Holds,
+    /// To that moment.
+    Purged(u64),
+    /// To that moment.
+    Rewound(u64),
     /// W_YTD, D_YTD and C_BALANCE.
     Money(u64, u64, i64),
     /// S_QUANTITY.
@@ -78,6 +90,12 @@ pub(crate) enum Said {
     Busy(u32),
     /// A column would leave its range.
     Overflow(Column),
+    /// The oldest moment that can be read.
+    TooOld(u64),
+    /// The newest moment.
+    Future(u64),
+    /// So many are open.
+    NotQuiet(u32),
     Refused,
     NoMemory,
     NotOpen,
@@ -218,8 +236,10 @@ pub(crate) fn step_of(act: &Act) -> Option<Step>
         Act::Audit(condition, moment) => {
             Some(Step::Audit(*condition, Moment::new(*moment as u64)?))
         }
+        Act::Purge(moment) => Some(Step::Purge(Moment::new(*moment as u64)?)),
+        Act::Rewind(moment) => Some(Step::Rewind(Moment::new(*moment as u64)?)),
         Act::Rows(_, _) | Act::Look(_, _) | Act::Stock(_, _) | Act::Line(_, _, _) => None,
-        Act::Oldest(_, _) | Act::Account(_, _, _) => None,
+        Act::Oldest(_, _) | Act::Account(_, _, _) | Act::History(_, _) => None,
     }
 }
 
@@ -230,6 +250,9 @@ fn refused(refusal: &Refusal) -> Said {
         Refusal::Overflow(column) => Said::Overflow(*column),
         Refusal::NoMemory => Said::NoMemory,
         Refusal::NotOpen => Said::NotOpen,
+        Refusal::TooOld(horizon) => Said::TooOld(horizon.get()),
+        Refusal::Future(newest) => Said::Future(newest.get()),
+        Refusal::NotQuiet(open) => Said::NotQuiet(open.get()),
         Refusal::AlreadyOpen => Said::AlreadyOpen,
         _ => Said::Refused,
     }
@@ -266,6 +289,8 @@ pub(crate) fn in_short(answer: &Answer) -> Said {
         Answer::Back => Said::Back,
         Answer::RolledBack => Said::RolledBack,
         Answer::Audited(Verdict::Holds) => Said::Holds,
+        Answer::Purged(moment) => Said::Purged(moment.get()),
+        Answer::Rewound(moment) => Said::Rewound(moment.get()),
         Answer::Refused(refusal) => refused(refusal),
         _ => Said::Refused,
     }
@@ -280,6 +305,11 @@ fn rows(core: &mut Core, terminal: Terminal, count: u32) -> Said {
         }
     }
     Said::More
+}
+
+// There or absent.
+fn presence(is_there: bool) -> Said {
+    if is_there { Said::There } else { Said::Absent }
 }
 
 // What the tables have.
@@ -298,12 +328,11 @@ fn seen(tables: &Tables, act: &Act) -> Option<Said> {
             let (balance, deliveries) = account(tables, *warehouse, *district, *number)?;
             Some(Said::Balance(balance, deliveries))
         }
+        Act::History(terminal, number) => {
+            Some(presence(has_history(tables, *terminal, *number)?))
+        }
         Act::Line(warehouse, district, number) => {
-            if is_filled(tables, *warehouse, *district, *number)? {
-                Some(Said::There)
-            } else {
-                Some(Said::Absent)
-            }
+            Some(presence(is_filled(tables, *warehouse, *district, *number)?))
         }
         _ => None,
     }

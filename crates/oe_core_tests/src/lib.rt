@@ -15,6 +15,8 @@ mod openings;
 #[cfg(test)]
 mod orders;
 #[cfg(test)]
+mod pasts;
+#[cfg(test)]
 mod payments;
 #[cfg(test)]
 mod runs;

@@ -3,12 +3,12 @@
 use oe_audit::is_population;
 use oe_change::apply;
 use oe_core::Core;
-use oe_keys::{CustomerKey, DistrictKey, OrderLineKey, StockKey};
+use oe_keys::{CustomerKey, DistrictKey, HistoryKey, OrderLineKey, StockKey};
 use oe_records::{Boxed, Change};
 use oe_rows::Scale;
 use oe_store::{Tables, populate};
 use oe_values::{
-    Count, CustomerNumber, DistrictNumber, ItemNumber, LineNumber, OrderNumber, Text,
+    Count, CustomerNumber, DistrictNumber, ItemNumber, LineNumber, Number, OrderNumber, Text,
     WarehouseNumber,
 };
 use std::alloc::Global;
@@ -59,9 +59,16 @@ fn opened(rt: &impl Abort, alloc: Global) -> Option<Core> {
     Core::open(alloc, tables, 64).ok()
 }
 
-/// A core on the population, or none where memory was refused.
-pub(crate) fn fresh(alloc: Global) -> Option<Core> {
-    let scale = scale()?;
+// The same with 2 customers a district.
+fn small_scale() -> Option<Scale> {
+    Some(Scale {
+        customers: CustomerNumber::new(2)?,
+        ..scale()?
+    })
+}
+
+// A core on the population of that scale, or none where memory was refused.
+fn populated(alloc: Global, scale: Scale) -> Option<Core> {
     let Ok(tables) = populate(alloc, scale) else {
         return None;
     };
@@ -69,6 +76,18 @@ pub(crate) fn fresh(alloc: Global) -> Option<Core> {
         return None;
     }
     Core::open(alloc, tables, 64).ok()
+}
+
+/// A core on the population, or none where memory was refused.
+pub(crate) fn fresh(alloc: Global) -> Option<Core> {
+    let scale = scale()?;
+    populated(alloc, scale)
+}
+
+/// The same of the population with 2 customers a district.
+pub(crate) fn small(alloc: Global) -> Option<Core> {
+    let scale = small_scale()?;
+    populated(alloc, scale)
 }
 
 /// A core on the population in which customer 2 of warehouse 1 has made 9,999 payments.
@@ -138,6 +157,16 @@ pub(crate) fn is_filled(tables: &Tables, warehouse: u32, district: u32, line: u3
         number: LineNumber::new(line)?,
     };
     Some(tables.order_line(*key).is_some())
+}
+
+/// Whether a payment of that terminal with that number of its transactions has its HISTORY row.
+pub(crate) fn has_history(tables: &Tables, terminal: u32, number: u32) -> Option<bool> {
+    let key = HistoryKey {
+        terminal: Number::new(terminal)?,
+        number: Number::new(number)?,
+        ordinal: Number::new(1)?,
+    };
+    Some(tables.history(key).is_some())
 }
 
 /// C_DATA of a customer of district 1 of warehouse 1.

@@ -20,7 +20,7 @@ const GO_BACK_AMONG_LINES: [(Act, Said); 19] = [
     (Act::Line(1, 1, 2), Said::There),
     (Act::Audit(Condition::Second, 0), Said::Holds),
     (Act::Audit(Condition::Fourth, 0), Said::Holds),
-    (Act::Audit(Condition::Fourth, 1), Said::Refused),
+    (Act::Audit(Condition::Fourth, 1), Said::Future(0)),
     (Act::Rows(1, 6), Said::More),
     (Act::Advance(1), Said::Ordered(11, 1_070, 75)),
     (Act::Audit(Condition::Third, 0), Said::Holds),

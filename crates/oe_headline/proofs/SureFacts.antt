@@ -25,7 +25,7 @@ use Rattle.oe_script.specs.Dump.{dump_text}
 use Rattle.oe_script.specs.Script.{State, Opens, Answers, IsInLine, ended, last_text, Output}
 use Rattle.oe_script.proofs.LineFacts.{one_command}
 use Rattle.oe_headline.specs.Deeds.{Deed, No_form, Opening, Dump, Steps, Entry, step_of, IsUpTo, Takes, Was, Passed, lines_of, texts_of}
-use Rattle.oe_headline.specs.Laws.{HasMemory, HaveMemory, IsTold, Answers_are_determined}
+use Rattle.oe_headline.specs.Laws.{HasMemory, HaveMemory, IsOutputOf, Answers_are_determined}
 use Rattle.oe_headline.proofs.AnswerFacts.{answer_once}
 
 -- STEPS
@@ -177,7 +177,7 @@ input_once (l ∷ ls) (m ∷ ms) last end p q a b e =
     let rest = input_once ls ms last end (All-tail IsInLine l ls p) (All-tail IsInLine m ms q) a b first.1 in
     (ap (λ z. z ∷ ls) first.0 ∙ ap (λ z. m ∷ z) rest.0, rest.1)
 
-output_once : (input out out' : List ℕ) (o : Output input out) (o' : Output input out') (es fs : List Entry) → IsTold input out o es → IsTold input out' o' fs
+output_once : (input out out' : List ℕ) (o : Output input out) (o' : Output input out') (es fs : List Entry) → IsOutputOf input out o es → IsOutputOf input out' o' fs
     → HaveMemory es → HaveMemory fs → (out ≡ out') × (o.state ≡ o'.state)
 output_once input out out' o o' es fs t u p q =
     let form = input_once o.lines o'.lines o.last o'.last o.each o'.each o.tail o'.tail (sym o.whole ∙ o'.whole) in

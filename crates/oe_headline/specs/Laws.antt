@@ -133,7 +133,7 @@ Lines_without_rollback =
     → (left : List Entry) × Without t after left × Passed s (before ++ left) s'
 
 -- these are the lines of an output, and its answers
-pub record IsTold (input out : List ℕ) (o : Output input out) (es : List Entry) : Type 0 where
+pub record IsOutputOf (input out : List ℕ) (o : Output input out) (es : List Entry) : Type 0 where
   pub passed : Passed None es o.state
   pub lines : lines_of es ≡ o.lines
   pub answers : texts_of 0 es ≡ o.answers
@@ -146,7 +146,7 @@ OutputTo input out s = (o : Output input out) × (o.state ≡ s)
 abbrev pub Outputs_without_rollback : Type 0
 Outputs_without_rollback =
     (input out : List ℕ) (o : Output input out) (before after : List Entry) (first : Entry) (t : ℕ) (q : Request)
-    → IsTold input out o (before ++ first ∷ after) → first.deed ≡ Steps 0 (step.Begin t q) answer.Begun → is_rolled_back t after ≡ true
+    → IsOutputOf input out o (before ++ first ∷ after) → first.deed ≡ Steps 0 (step.Begin t q) answer.Begun → is_rolled_back t after ≡ true
     → (left : List Entry) × Without t after left
     × OutputTo (flat_map ended (lines_of (before ++ left)) ++ o.last) (texts_of 0 (before ++ left) ++ last_text (length (lines_of (before ++ left)) + 1) o.last) o.state
 
@@ -167,5 +167,5 @@ pub record Answers_are_determined : Type 0 where
   pub of_lines : (s s₁ s₂ : State) (es fs : List Entry) → Passed s es s₁ → Passed s fs s₂ → lines_of es ≡ lines_of fs → HaveMemory es → HaveMemory fs
       → (es ≡ fs) × (s₁ ≡ s₂)
   -- so an input determines its output
-  pub of_output : (input out out' : List ℕ) (o : Output input out) (o' : Output input out') (es fs : List Entry) → IsTold input out o es → IsTold input out' o' fs
+  pub of_output : (input out out' : List ℕ) (o : Output input out) (o' : Output input out') (es fs : List Entry) → IsOutputOf input out o es → IsOutputOf input out' o' fs
       → HaveMemory es → HaveMemory fs → (out ≡ out') × (o.state ≡ o'.state)

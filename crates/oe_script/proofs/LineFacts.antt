@@ -8,6 +8,7 @@ use Rattle.oe_theory.specs.Theorems.{opened}
 use Rattle.oe_theory.proofs.Theorems.{opening_is_reached}
 use Rattle.oe_keys.specs.declared.keys.Table.{Table}
 use Rattle.oe_requests.specs.declared.refusals.Refusal.TheVariants as refusal
+use Rattle.oe_requests.specs.declared.replies.Reply.{Reply}
 use Rattle.oe_requests.specs.declared.requests.Request.{Request}
 use Rattle.oe_requests.specs.declared.requests.Request.TheVariants as request
 use Rattle.oe_steps.specs.declared.answers.Answer.{Answer}
@@ -198,15 +199,15 @@ line_answered s n line l = by_length (cases_order (length line) 1_024)
 -- THE ANSWERS OF ADVANCES
 
 -- an advance has its answer
-pub answer_of : (w w' : World system) (t : ℕ) (a : Advanced) → Advances w t a w' → (x : Answer) × IsAnswer w' a x × Next system w (step_in (step.Advance t)) (answer_in (step.Advance t) x) w'
-answer_of w w' t advanced.More h = (answer.More, refl, h.0)
-answer_of w w' t (advanced.Committed m) (y, e, (serves, reached)) = (answer.Committed m y, (y, e, refl), serves)
-answer_of w w' t (advanced.Refused e) h = (answer.Refused e, refl, h.0)
+pub answer_of : (w w' : World system) (t : ℕ) (a : Advanced) (last : Option Reply) → Advances w t a w' last → (x : Answer) × IsAnswer last a x × Next system w (step_in (step.Advance t)) (answer_in (step.Advance t) x) w'
+answer_of w w' t advanced.More last h = (answer.More, refl, h.0)
+answer_of w w' t (advanced.Committed m) last (y, e, (serves, reached)) = (answer.Committed m y, (y, e, refl), serves)
+answer_of w w' t (advanced.Refused e) last h = (answer.Refused e, refl, h.0)
 
-pub not_more : (w : World system) (a : Advanced) (x : Answer) → IsAnswer w a x → a ≢ advanced.More → x ≢ answer.More
-not_more w advanced.More x h n e = n refl
-not_more w (advanced.Committed m) x (y, k, is) n e = let same : answer.Committed m y ≡ answer.More = sym is ∙ e in cc
-not_more w (advanced.Refused r) x is n e = let same : answer.Refused r ≡ answer.More = sym is ∙ e in cc
+pub not_more : (last : Option Reply) (a : Advanced) (x : Answer) → IsAnswer last a x → a ≢ advanced.More → x ≢ answer.More
+not_more last advanced.More x h n e = n refl
+not_more last (advanced.Committed m) x (y, k, is) n e = let same : answer.Committed m y ≡ answer.More = sym is ∙ e in cc
+not_more last (advanced.Refused r) x is n e = let same : answer.Refused r ≡ answer.More = sym is ∙ e in cc
 
 -- WHAT GOES OUT
 

@@ -8,17 +8,17 @@ use Rattle.oe_steps.specs.declared.answers.Answer.{Answer}
 use Rattle.oe_steps.specs.declared.answers.Answer.TheVariants as answer
 use Rattle.oe_texts.specs.Answer.{answer_line}
 use Rattle.oe_model.specs.System.{system}
-use Rattle.oe_core.specs.Steps.{step_in, answer_in, newest_reply}
+use Rattle.oe_core.specs.Steps.{step_in, answer_in}
 use Rattle.oe_core.specs.declared.advances.Advanced.{Advanced}
 use Rattle.oe_core.specs.declared.advances.Advanced.TheVariants as advanced
 use Rattle.oe_script.specs.Ports.{Sink, Sent, Cut}
 use Rattle.oe_script.specs.Script.{State, told, RunsIn, LineAnswer}
 
--- the answer of an Advance that ended so and left this world, whose newest commit has its reply
-abbrev pub IsAnswer : World system → Advanced → Answer → Type 0
-IsAnswer w advanced.More x = x ≡ answer.More
-IsAnswer w (advanced.Committed m) x = (y : Reply) × (newest_reply w ≡ Some y) × (x ≡ answer.Committed m y)
-IsAnswer w (advanced.Refused e) x = x ≡ answer.Refused e
+-- the answer of an Advance that ended so and left its terminal this last reply
+abbrev pub IsAnswer : Option Reply → Advanced → Answer → Type 0
+IsAnswer last advanced.More x = x ≡ answer.More
+IsAnswer last (advanced.Committed m) x = (y : Reply) × (last ≡ Some y) × (x ≡ answer.Committed m y)
+IsAnswer last (advanced.Refused e) x = x ≡ answer.Refused e
 
 -- a step was served, and the line of its answer appended
 abbrev pub Tells : World system → Step → World system → List ℕ → List ℕ → Type 0

@@ -4,14 +4,14 @@ use Rattle.oe_theory.specs.World.{Open, World}
 use Rattle.oe_theory.specs.Theorems.{IsReached}
 use Rattle.oe_model.specs.Positions.{Position, InPayment, InNewOrder, InDelivery}
 use Rattle.oe_model.specs.System.{system}
-use Rattle.oe_core.specs.Core.{Stored, world_of}
+use Rattle.oe_core.specs.Core.{CoreState, world_of}
 use Rattle.oe_script.specs.declared.session.Fault.{Fault}
 use Rattle.oe_script.specs.declared.session.Fault.TheVariants.{Read, Write}
 use Rattle.oe_script.specs.Ports.{Source, Sink, Sent, Cut}
 use Rattle.oe_script.specs.Script.{State, Output, Holds, Reached}
 
 -- the state that a session's core stands for
-abbrev pub state_of : Option Stored → State
+abbrev pub state_of : Option CoreState → State
 state_of None = None
 state_of (Some c) = Some (world_of c)
 

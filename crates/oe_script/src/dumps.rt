@@ -1,7 +1,7 @@
 //! Dumps of tables, whose rows are written as they are met.
 ghost use Rattle.std.specs.Prelude.{◌≡◌, ◌≤◌, ◌+◌, ◌++◌, ℕ, List, length, IfOk};
 ghost use Rattle.arrayvec.specs.ArrayVec.{array_vec_len};
-ghost use Rattle.oe_store.specs.Stored.{rows};
+ghost use Rattle.oe_store.specs.Places.{rows};
 ghost use Rattle.oe_texts.specs.Column.{line_of};
 ghost use Rattle.oe_texts.specs.Dump.{count_line};
 ghost use Rattle.oe_script.specs.Dump.{row_lines, shown, dump_text};

@@ -10,7 +10,7 @@ ghost use Rattle.oe_lines.specs.Grammar.{Says, HasForm};
 ghost use Rattle.oe_lines.specs.declared.commands.Command.TheVariants as asks;
 ghost use Rattle.oe_steps.specs.declared.answers.Answer.{Answer};
 ghost use Rattle.oe_texts.specs.Answer.{answer_line};
-ghost use Rattle.oe_core.specs.Core.{world_of};
+ghost use Rattle.oe_core.specs.Core.{world_of, last_reply};
 ghost use Rattle.oe_core.specs.Steps.{step_in, answer_in, HasProgram, IsStep};
 ghost use Rattle.oe_script.specs.Script.{LineAnswer, RunsIn, moment_in};
 ghost use Rattle.oe_script.specs.Session.{state_of, IsLive};
@@ -198,7 +198,7 @@ fn tell_next(core: &mut Core, terminal: Terminal, out: &mut Pending)
         out.old.items out.new.items }
 {
     let ended = core.advance(terminal);
-    tell_advanced(core, &ended, out);
+    tell_advanced(core, terminal, &ended, out);
 }
 
 /// Takes rows up to the first whose answer is not `more`, which alone is told.
@@ -209,13 +209,13 @@ fn tell_run(core: &mut Core, terminal: Terminal, out: &mut Pending)
         out.old.items out.new.items }
 {
     let ended = run(core, terminal);
-    tell_advanced(core, &ended, out);
+    tell_advanced(core, terminal, &ended, out);
 }
 
 /// Advances up to the first answer that is not `more`.
 fn run(core: &mut Core, terminal: Terminal) -> Advanced
     requires { IsLive (Some (world_of core.old)) }
-    ensures { (n : ℕ) × (x : Answer) × IsAnswer (world_of core.new) result x
+    ensures { (n : ℕ) × (x : Answer) × IsAnswer (last_reply core.new terminal) result x
         × RunsIn n (world_of core.old) terminal x (world_of core.new) }
 {
     loop {
@@ -226,17 +226,17 @@ fn run(core: &mut Core, terminal: Terminal) -> Advanced
     }
 }
 
-/// Appends the answer of an advance that ended so. The reply of a commit is lent by the core.
-fn tell_advanced(core: &Core, ended: &Advanced, out: &mut Pending)
+/// Appends the answer of a terminal's advance that ended so. The reply of a commit is told by the core.
+fn tell_advanced(core: &Core, terminal: Terminal, ended: &Advanced, out: &mut Pending)
     requires room { array_vec_len out.old + LONGEST ≤ SIZE }
-    requires answer { (x : Answer) × IsAnswer (world_of core.now) ended.now x }
-    ensures { (x : Answer) → IsAnswer (world_of core.now) ended.now x
+    requires answer { (x : Answer) × IsAnswer (last_reply core.now terminal) ended.now x }
+    ensures { (x : Answer) → IsAnswer (last_reply core.now terminal) ended.now x
         → out.new.items ≡ out.old.items ++ answer_line x }
 {
     match ended {
         Advanced::More => more(out),
-        Advanced::Committed(moment) => match core.newest_reply() {
-            Some(reply) => committed(out, *moment, reply),
+        Advanced::Committed(moment) => match core.last_reply(terminal) {
+            Some(reply) => committed(out, *moment, &reply),
             None => unreachable!(),
         },
         Advanced::Refused(refusal) => refused(out, refusal),

@@ -1,4 +1,4 @@
-use Rattle.oe_store.specs.Stored.{rows}
+use Rattle.oe_store.specs.Places.{rows}
 use Rattle.oe_audit.proofs.PassedFacts.{passed_now}
 use Rattle.oe_audit.proofs.conditions.condition.Goals as goal
 

@@ -1,7 +1,7 @@
 use Rattle.std.proofs.Common.{◌≡◌, ◌↔◌, sym, ◌∙◌, ap, Bool, false}
 use Rattle.std.specs.Prelude.{◌&&◌, IsTrue}
 use Rattle.oe_model.specs.PopulationTest.{has_stocks}
-use Rattle.oe_store.specs.Stored.{rows}
+use Rattle.oe_store.specs.Places.{rows}
 use Rattle.oe_audit.proofs.PopulationFacts.{of_population, population_is}
 use Rattle.oe_audit.proofs.populations.is_population.Goals as goal
 

@@ -1,6 +1,6 @@
 use Rattle.std.proofs.Common.{◌≡◌, map, drop}
 use Rattle.oe_model.specs.Requests.{first_absent}
-use Rattle.oe_store.specs.Stored.{rows}
+use Rattle.oe_store.specs.Places.{rows}
 use Rattle.oe_core.proofs.rejections.absent_supply.Given as goal
 
 -- the first that isn't there of the lines that are left is the first of all

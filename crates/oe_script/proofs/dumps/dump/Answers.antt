@@ -1,6 +1,6 @@
 use Rattle.std.proofs.Common.{◌++◌, length, ap, sym, ◌∙◌, refl}
 use Rattle.oe_texts.specs.Dump.{new_order_columns, count_line}
-use Rattle.oe_store.specs.Stored.{rows}
+use Rattle.oe_store.specs.Places.{rows}
 use Rattle.oe_script.specs.Dump.{row_lines, shown, dump_text}
 use Rattle.oe_script.proofs.Streaming.{streams_as}
 use Rattle.oe_script.proofs.dumps.dump.Goals as goal

@@ -1,4 +1,4 @@
-use Rattle.oe_store.specs.Stored.{rows}
+use Rattle.oe_store.specs.Places.{rows}
 use Rattle.oe_model.proofs.PopulationFacts.{population_is_one}
 use Rattle.oe_core.specs.Core.{world_of}
 use Rattle.oe_script.proofs.OpenFacts.{on_population}

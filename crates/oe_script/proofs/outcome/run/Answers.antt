@@ -2,7 +2,7 @@ use Rattle.std.proofs.Common.{suc}
 use Rattle.oe_steps.specs.declared.answers.Answer.TheVariants as answer
 use Rattle.oe_steps.specs.declared.steps.Step.TheVariants as step
 use Rattle.oe_core.specs.Steps.{answer_in}
-use Rattle.oe_core.specs.Core.{world_of}
+use Rattle.oe_core.specs.Core.{world_of, last_reply}
 use Rattle.oe_script.proofs.WorldFacts.{falls, live_step}
 use Rattle.oe_script.proofs.LineFacts.{answer_of, not_more}
 use Rattle.oe_script.proofs.outcome.run.Goals as goal
@@ -21,6 +21,7 @@ loop-ended-preserved c =
 pub returns-in_default : goal.returns-in_default
 returns-in_default c =
     let w' = world_of c.advance.new.self in
-    let a = answer_of (world_of c.loop-ended.core) w' c.args.terminal c.advance.result c.advance.ensures in
-    let r = c.loop-ended.invariant.runs 0 a.0 w' (not_more w' c.advance.result a.0 a.1 c.in_default.not-More, a.2) in
+    let last = last_reply c.advance.new.self c.args.terminal in
+    let a = answer_of (world_of c.loop-ended.core) w' c.args.terminal c.advance.result last c.advance.ensures in
+    let r = c.loop-ended.invariant.runs 0 a.0 w' (not_more last c.advance.result a.0 a.1 c.in_default.not-More, a.2) in
     (r.0, a.0, a.1, r.1)

@@ -7,8 +7,9 @@ use Rattle.oe_engine.specs.Calls.{committed}
 use Rattle.oe_steps.specs.declared.steps.Step.TheVariants as step
 use Rattle.oe_core.specs.Core.{Moves, reply_of}
 use Rattle.oe_core.specs.Steps.{refusal_in}
+use Rattle.oe_core.specs.declared.slots.Work.{Work}
 use Rattle.oe_core.proofs.MoveFacts.{carries, nothing_open, HasOpen, lent_tx, lent_here, own_work}
-use Rattle.oe_core.proofs.AdvanceFacts.{holds_taken, went_on_here, taken_is, taken_is_open, has_reply, committed_here, told_newest, kept_here, given_up_here}
+use Rattle.oe_core.proofs.AdvanceFacts.{holds_taken, went_on_here, taken_is, taken_is_open, has_reply, committed_here, left_here, told_last, kept_here, given_up_here}
 use Rattle.oe_core.proofs.cores.Core.advance.Goals.{In-Some-index_mut, In-Ready, After-self-in-More-1, After-self-in-Ready-1, Then-keeps_open, After-roll_back}
 use Rattle.oe_core.proofs.cores.Core.advance.Goals as goal
 
@@ -53,7 +54,7 @@ pub commit-requires-clause-open : goal.commit-requires-clause-open
 commit-requires-clause-open c =
     let ready = c.in-Ready.ensures.progresses in
     taken_is_open (is_there (goal.at.commit-requires-clause-open c).In-Some-index_mut) c.open_tx-open.result c.open_tx-open.ensures.value c.next.new.engine
-    (ap view_of ready.1) (ap (λ (z : engine.Stored). z.name) ready.1)
+    (ap view_of ready.1) (ap (λ (z : engine.EngineState). z.name) ready.1)
 
 pub commit-requires-clause-ready : goal.commit-requires-clause-ready
 commit-requires-clause-ready c =
@@ -76,7 +77,14 @@ pub invariant_of-self-in-Ready : goal.invariant_of-self-in-Ready
 invariant_of-self-in-Ready c = (committed_now c).orderly
 
 pub returns-in-Ready : goal.returns-in-Ready
-returns-in-Ready c = rw (← c.self.view_is) (told_newest (committed_now c))
+returns-in-Ready c =
+    let here = is_there (goal.at.returns-in-Ready c).In-Some-index_mut in
+    let left : Work = record c.in-Some-index_mut.work { program = c.next.new.self } in
+    rw (← c.self.view_is)
+    (told_last (committed_now c)
+    (left_here here left c.in-Ready.ensures.progresses.0.0 c.commit.new.engine _ _ c.open_tx-open.ensures.after
+    (ap (λ (k : ℕ). slice_set c.self.inside.works.items k (Some left)) c.slot-2.ensures.value)
+    (has_its_reply (goal.at.returns-in-Ready c).In-Ready here)))
 
 -- it was refused, and the transaction stays open where it stands
 kept : (c : Then-keeps_open) → Moves (record { engine = c.self.inside.engine; txs = c.self.inside.txs.items; works = c.self.inside.works.items }) (Advance c.args.terminal) (refusal_in (step.Advance c.args.terminal) c.in-Refused.refusal)

@@ -1,4 +1,0 @@
--- What the clauses of this crate cite.
-pub mod Enquiry
-pub mod Level
-pub mod Few

@@ -1,0 +1,93 @@
+-- What was found makes an answer, and what was not found a refusal.
+use Rattle.std.proofs.Common.{◌≡◌, ℕ, Option, None, Some, List, length, inl, inr, sym, ap, ◌∙◌, ◌∷◌, []}
+use Rattle.std.specs.FinMap.{get}
+use Rattle.oe_theory.specs.Machine.{Outcome, Here, Missing}
+use Rattle.oe_keys.specs.declared.keys.CustomerKey.{CustomerKey}
+use Rattle.oe_keys.specs.declared.keys.Key.TheVariants as key
+use Rattle.oe_rows.specs.declared.customers.Customer.{Customer}
+use Rattle.oe_rows.specs.declared.districts.District.{District}
+use Rattle.oe_requests.specs.declared.requests.StatusQuery.{StatusQuery}
+use Rattle.oe_requests.specs.declared.requests.LevelQuery.{LevelQuery}
+use Rattle.oe_requests.specs.declared.requests.Query.{Query}
+use Rattle.oe_requests.specs.declared.requests.Query.TheVariants.{Status, Level}
+use Rattle.oe_requests.specs.declared.replies.OrderStatus.{OrderStatus}
+use Rattle.oe_requests.specs.declared.replies.QueryReply.{QueryReply}
+use Rattle.oe_requests.specs.declared.replies.QueryReply.TheVariants as told
+use Rattle.oe_requests.specs.declared.refusals.Refusal.{Refusal}
+use Rattle.oe_requests.specs.declared.refusals.Refusal.TheVariants.{NoSuchRow, NoCustomer}
+use Rattle.oe_model.specs.Keys.{customer_in}
+use Rattle.oe_model.specs.Rows.{Rows}
+use Rattle.oe_model.specs.Requests.{first_absent}
+use Rattle.oe_model.specs.Choice.{chosen}
+use Rattle.oe_model.specs.Queries.{found, status_of, last_order, order_status, stock_level, answer_of}
+use Rattle.oe_model.specs.Rules.{AreLow}
+use Rattle.oe_store.specs.Places.{rows}
+use Rattle.oe_store.specs.Places as tables
+use Rattle.oe_undo.specs.Undo as undo
+use Rattle.oe_versions.specs.Versions.{version, IsReadable, IsOutside}
+use Rattle.oe_queries.specs.Reply.{IsReply, HasNoReply, IsRefused}
+use Rattle.oe_queries.proofs.LevelFacts.{level_told}
+
+-- go on where there is a value
+on_some : {A : Type 0} (e : Refusal) (o : Option A) (x : A) (f : A → Outcome QueryReply Refusal) → Some x ≡ o → found e o f ≡ f x
+on_some e o x f h = ap (λ v. found e v f) (sym h)
+
+on_none : {A : Type 0} (e : Refusal) (o : Option A) (f : A → Outcome QueryReply Refusal) → None ≡ o → found e o f ≡ Missing e
+on_none e o f h = ap (λ v. found e v f) (sym h)
+
+module _ (q : StatusQuery) (r : Rows) where
+  pub status_told : (c : ℕ) (k : CustomerKey) (x : Customer) (o : Option OrderStatus) → Some c ≡ chosen q.district q.customer r.customers → k ≡ customer_in q.district c
+      → Some x ≡ get r.customers k → o ≡ status_of r.order_lines (last_order k r.orders)
+      → order_status q r ≡ Here (told.Status (record { customer = c; balance = x.account.balance; order = o }))
+  status_told c k x o at is there last =
+      on_some NoCustomer (chosen q.district q.customer r.customers) c _ at
+      ∙ on_some NoCustomer (get r.customers (customer_in q.district c)) x _ (there ∙ ap (get r.customers) is)
+      ∙ ap (λ (z : Option OrderStatus). let y : Outcome QueryReply Refusal = Here (told.Status (record { customer = c; balance = x.account.balance; order = z })) in y)
+      (sym (last ∙ ap (λ z. status_of r.order_lines (last_order z r.orders)) is))
+
+  nobody : None ≡ chosen q.district q.customer r.customers → answer_of (Status q) r ≡ Missing NoCustomer
+  nobody h = on_none NoCustomer (chosen q.district q.customer r.customers) _ h
+
+  no_row : (c : ℕ) (k : CustomerKey) → Some c ≡ chosen q.district q.customer r.customers → k ≡ customer_in q.district c → None ≡ get r.customers k
+      → answer_of (Status q) r ≡ Missing NoCustomer
+  no_row c k at is none =
+      on_some NoCustomer (chosen q.district q.customer r.customers) c _ at
+      ∙ on_none NoCustomer (get r.customers (customer_in q.district c)) _ (none ∙ ap (get r.customers) is)
+
+module _ (ts : tables.Places) (u : undo.UndoLog) (m : ℕ) where
+  pub outside_untold : (q : Query) (e : Refusal) → IsOutside u m e → HasNoReply q ts u m e
+  outside_untold q e h = inl h
+
+  pub nobody_untold : (q : StatusQuery) → IsReadable u m → None ≡ chosen q.district q.customer (version ts u m).customers → HasNoReply (Status q) ts u m NoCustomer
+  nobody_untold q i h = inr (i, nobody q (version ts u m) h)
+
+  pub no_row_untold : (q : StatusQuery) (c : ℕ) (k : CustomerKey) → IsReadable u m → Some c ≡ chosen q.district q.customer (version ts u m).customers → k ≡ customer_in q.district c
+      → None ≡ get (version ts u m).customers k → HasNoReply (Status q) ts u m NoCustomer
+  no_row_untold q c k i at is h = inr (i, no_row q (version ts u m) c k at is h)
+
+  pub no_district_untold : (q : LevelQuery) → IsReadable u m → None ≡ get (version ts u m).districts q.district → HasNoReply (Level q) ts u m (NoSuchRow (key.District q.district))
+  no_district_untold q i h = inr (i, on_none (NoSuchRow (key.District q.district)) (get (version ts u m).districts q.district) _ h)
+
+  pub is_status : (q : StatusQuery) (f : QueryReply) → None ≡ first_absent (q.district.warehouse ∷ []) (rows ts) → IsReadable u m → order_status q (version ts u m) ≡ Here f
+      → IsReply (Status q) ts u m f
+  is_status q f w i h = record { warehouse = sym w; readable = i; answer = h }
+
+  pub is_level : (q : LevelQuery) (f : QueryReply) → None ≡ first_absent (q.district.warehouse ∷ []) (rows ts) → IsReadable u m → stock_level q (version ts u m) ≡ Here f
+      → IsReply (Level q) ts u m f
+  is_level q f w i h = record { warehouse = sym w; readable = i; answer = h }
+
+  pub status_absent : (q : StatusQuery) (e : Refusal) → Some e ≡ first_absent (q.district.warehouse ∷ []) (rows ts) → IsRefused (Status q) ts u m e
+  status_absent q e h = inl (sym h)
+
+  pub level_absent : (q : LevelQuery) (e : Refusal) → Some e ≡ first_absent (q.district.warehouse ∷ []) (rows ts) → IsRefused (Level q) ts u m e
+  level_absent q e h = inl (sym h)
+
+  pub status_refused : (q : StatusQuery) (e : Refusal) → None ≡ first_absent (q.district.warehouse ∷ []) (rows ts) → HasNoReply (Status q) ts u m e → IsRefused (Status q) ts u m e
+  status_refused q e w h = inr (sym w, h)
+
+  pub level_refused : (q : LevelQuery) (e : Refusal) → None ≡ first_absent (q.district.warehouse ∷ []) (rows ts) → HasNoReply (Level q) ts u m e → IsRefused (Level q) ts u m e
+  level_refused q e w h = inr (sym w, h)
+
+pub level_counted : (q : LevelQuery) (r : Rows) (x : District) (items : List ℕ) (n : ℕ) → Some x ≡ get r.districts q.district → AreLow q r x.next_order items → n ≡ length items
+    → stock_level q r ≡ Here (told.Level n)
+level_counted q r x items n at low is = level_told q r x items at low ∙ ap (λ (z : ℕ). let y : Outcome QueryReply Refusal = Here (told.Level z) in y) (sym is)
