@@ -156,6 +156,30 @@ long_enough count fill bytes h some =
 pub end_is : (count fill : ℕ) (bytes : List ℕ) → IsPacked count fill bytes → fill ≡ length (joined (cut count (take fill bytes)))
 end_is count fill bytes h = omega (arith, ap length h.strings.whole, length-take fill bytes, h.small, h.size)
 
+-- what a walk leaves of so many strings when it took the newest off
+pub record TakenOff (count : ℕ) (bytes : List ℕ) (size : ℕ) : Type 0 where
+  pub fits : size ≤ length bytes
+  pub others : AreStrings (count - 1) (take (length bytes - size) bytes)
+  pub cuts : cut count bytes ≡ drop (length bytes - size) bytes ∷ cut (count - 1) (take (length bytes - size) bytes)
+
+pub taken_off : (count : ℕ) (bytes : List ℕ) (size : ℕ) → AreStrings count bytes → 0 < count → size ≡ last_length bytes → TakenOff count bytes size
+taken_off count bytes size h some e =
+    let n = newest_of count bytes h some in
+    let less : n.less ≡ count - 1 = omega (arith, n.one) in
+    rw e record {
+      fits = n.size;
+      others = subst (λ (k : ℕ). AreStrings k (take (length bytes - last_length bytes) bytes)) less n.others;
+      cuts = n.cuts ∙ ap (λ (k : ℕ). drop (length bytes - last_length bytes) bytes ∷ cut k (take (length bytes - last_length bytes) bytes)) less;
+    }
+
+pub none_left : (count : ℕ) (bytes : List ℕ) → count ≡ 0 → cut count bytes ≡ []
+unfolding cut
+none_left zero bytes e = refl
+none_left (suc k) bytes e = absurd (omega (arith, e))
+
+pub long_walk : (count : ℕ) (bytes : List ℕ) → AreStrings count bytes → 0 < count → 2 ≤ length bytes
+long_walk count bytes h some = let n = newest_of count bytes h some in omega (arith, n.size, n.long)
+
 -- ---- a string among others
 
 joined-append : (xs ys : List (List ℕ)) → joined (xs ++ ys) ≡ joined ys ++ joined xs

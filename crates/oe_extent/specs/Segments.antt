@@ -1,5 +1,5 @@
 -- Segments as lists of what their extents hold, the newest first.
-use Rattle.std.specs.Prelude.{◌≡◌, ◌==◌, ◌<◌, ℕ, cond, ◌-◌, List, [], ◌∷◌, length, map, drop, Option, None, Some}
+use Rattle.std.specs.Prelude.{◌≡◌, ◌==◌, ◌<◌, ℕ, cond, ◌-◌, List, [], ◌∷◌, ◌++◌, length, map, drop, Option, None, Some}
 use Rattle.std.specs.Global.{Box}
 use Rattle.oe_extent.specs.declared.segments.Address.{Address}
 use Rattle.oe_extent.specs.declared.segments.Extent.{Extent, Extent', Held-Extent-older, None', Some'}
@@ -38,6 +38,11 @@ numbers_of cs = map (λ c. c.number) cs
 abbrev pub newest_strings : List Contents → List (List ℕ)
 newest_strings [] = []
 newest_strings (c ∷ cs) = c.strings
+
+-- all strings of a segment
+abbrev pub all_strings : List Contents → List (List ℕ)
+all_strings [] = []
+all_strings (c ∷ cs) = c.strings ++ all_strings cs
 
 -- the bytes that are left in the newest extent
 abbrev pub rest_of : List Contents → ℕ

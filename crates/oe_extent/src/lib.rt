@@ -4,6 +4,8 @@
 pub mod packing;
 pub mod pools;
 pub mod segments;
+pub mod walks;
 
 pub use pools::Pool;
 pub use segments::{Address, Extent, Segment};
+pub use walks::Strings;

@@ -2,6 +2,7 @@
 ghost use Rattle.std.specs.Prelude.{◌≡◌, ◌<◌, ◌≤◌, ◌+◌, [], ◌∷◌, length, drop};
 ghost use Rattle.oe_extent.specs.Strings.{last_length, joined, IsFramed, HasStringAt, IsStringAt};
 
+use crate::walks::ExtentStrings;
 use byteorder::{BigEndian, ByteOrder};
 use oe_bytes::Written;
 use std::marker::Model;
@@ -32,7 +33,7 @@ impl Model for PackedStrings {
 
 /// The number in the last two of some bytes.
 #[tactic(auto, using(crate::proofs::PackedFacts::last_is))]
-fn last_size(bytes: &[u8]) -> usize
+pub(crate) fn last_size(bytes: &[u8]) -> usize
     requires { 2 ≤ length bytes.now }
     ensures { result ≡ last_length bytes.now }
 {
@@ -97,6 +98,16 @@ impl PackedStrings {
     {
         let size = last_size(&self.bytes[..self.fill]);
         &self.bytes[self.fill - size..self.fill]
+    }
+
+    /// Its strings, the newest first, where they stand.
+    pub fn strings(&self) -> ExtentStrings<'_>
+        ensures { result ≡ self.now }
+    {
+        ExtentStrings {
+            bytes: &self.bytes[..self.fill],
+            count: self.count,
+        }
     }
 
     /// Takes the newest string off.

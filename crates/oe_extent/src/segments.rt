@@ -23,14 +23,14 @@ pub struct Address {
 #[derive(Drop)]
 pub struct Extent {
     number: usize,
-    strings: PackedStrings,
-    older: Option<Box<Extent>>,
+    pub(crate) strings: PackedStrings,
+    pub(crate) older: Option<Box<Extent>>,
 }
 
 /// The extents of one transaction, which clauses see as their numbers and strings, the newest first.
 #[derive(Drop)]
 pub struct Segment {
-    newest: Option<Box<Extent>>,
+    pub(crate) newest: Option<Box<Extent>>,
 }
 
 impl Model for Segment {

@@ -3,3 +3,4 @@ pub mod LengthFacts
 pub mod LinkFacts
 pub mod RecordFacts
 pub mod FrameFacts
+pub mod StoredFacts

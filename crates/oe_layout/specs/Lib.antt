@@ -4,3 +4,4 @@ pub mod Kinds
 pub mod Records
 pub mod RecordFronts
 pub mod Laws
+pub mod Stored

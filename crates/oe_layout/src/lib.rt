@@ -11,8 +11,10 @@ pub mod loans;
 pub mod ranges;
 pub mod reading;
 pub mod records;
+pub mod stored;
 
 pub use links::{Previous, RecordAddress};
 pub use loans::{LentRecord, LinkedRecord};
 pub use reading::read_record;
 pub use records::OwnRecord;
+pub use stored::StoredRecord;

@@ -3,3 +3,4 @@ pub mod RoomFacts
 pub mod LogFacts
 pub mod CommitFacts
 pub mod ReadFacts
+pub mod WalkFacts

@@ -1,8 +1,6 @@
 -- The string of the ring at a record's address is that record.
-use Rattle.std.proofs.Common.{◌≡◌, ℕ, ◌<◌, ◌⊎◌, inl, inr, List, [], ◌∷◌, length, map, get_or, Option, None, Some, refl, sym, ap, ◌∙◌, subst, arith}
+use Rattle.std.proofs.Common.{◌≡◌, ℕ, inl, inr, List, [], ◌∷◌, map, get_or, Option, None, Some, sym, ap, ◌∙◌, subst}
 use Rattle.std.specs.List.{AllByRecursion}
-use Rattle.std.proofs.lemmas.List.{length-map}
-use Rattle.oe_extent.specs.declared.segments.Address.{Address}
 use Rattle.oe_ring.specs.Segments as ring
 use Rattle.oe_model.specs.Changes.{Record}
 use Rattle.oe_layout.specs.declared.links.RecordAddress.{RecordAddress}
@@ -11,19 +9,20 @@ use Rattle.oe_layout.specs.declared.records.OwnRecord.{OwnRecord}
 use Rattle.oe_layout.specs.Records.{record_of_own}
 use Rattle.oe_layout.specs.RecordFronts.{ReadsRecord}
 use Rattle.oe_log.specs.Log.{Logged, logged, IsAmong, HasAddress}
-use Rattle.oe_log.specs.Kept.{record_address, records_in, IsRecord, AreRecords}
+use Rattle.oe_log.specs.Kept.{records_in, AreRecords}
+use Rattle.oe_layout.specs.Stored.{IsStoredRecord}
 use Rattle.oe_log.proofs.RecordFacts.{seen, at_slot, are_at, ring_address, record_of}
 
 -- the string that a record is
 pub record IsString (ss : List (ring.Addressed)) (a : RecordAddress) (p : Previous) (b : Record) : Type 0 where
   pub bytes : List ℕ
   pub stands : ring.StandsAt (ring_address a) bytes ss
-  pub is : IsRecord bytes
+  pub is : IsStoredRecord bytes
   pub previous : is.previous ≡ p
   pub before : record_of_own is.before ≡ b
 
 module _ (a : RecordAddress) (p : Previous) (b : Record) where
-  first_or_older : (s : ring.Addressed) (ss : List (ring.Addressed)) (h : IsRecord s.bytes)
+  first_or_older : (s : ring.Addressed) (ss : List (ring.Addressed)) (h : IsStoredRecord s.bytes)
       → IsAmong (logged a p b) (record_of s.address s.bytes h ∷ records_in ss) → (IsAmong (logged a p b) (records_in ss) → IsString ss a p b) → IsString (s ∷ ss) a p b
   first_or_older s ss h (inl e) older = record {
     bytes = s.bytes;

@@ -1,5 +1,5 @@
 -- Strings of the ring that are records.
-use Rattle.std.proofs.Common.{◌≡◌, ◌≢◌, ℕ, zero, suc, ◌<◌, List, [], ◌∷◌, length, map, drop, get_or, set, Option, None, Some, option_map, refl, sym, ap, ◌∙◌, subst, arith}
+use Rattle.std.proofs.Common.{◌≡◌, ℕ, zero, suc, ◌<◌, List, [], ◌∷◌, length, map, drop, get_or, set, Option, Some, option_map, refl, sym, ap, ◌∙◌, subst, arith}
 use Rattle.std.specs.List.{AllByRecursion}
 use Rattle.oe_extent.specs.declared.segments.Address.{Address}
 use Rattle.oe_ring.specs.Segments as ring
@@ -14,10 +14,11 @@ use Rattle.oe_model.specs.Lengths.{record_length}
 use Rattle.oe_layout.specs.Links.{IsPrevious}
 use Rattle.oe_layout.specs.Records.{record_image, record_of_own, record_of_lent, IsInRanges}
 use Rattle.oe_layout.specs.RecordFronts.{record_at, ReadsRecord}
+use Rattle.oe_layout.specs.Stored.{IsStoredRecord}
 use Rattle.oe_layout.proofs.LengthFacts.{record_long}
 use Rattle.oe_layout.proofs.RecordFacts.{record_finds}
 use Rattle.oe_log.specs.Log.{Logged, newest_of, lengths, StandElsewhere}
-use Rattle.oe_log.specs.Kept.{record_address, before_others, records_in, IsRecord, AreRecords}
+use Rattle.oe_log.specs.Kept.{record_address, before_others, records_in, AreRecords}
 
 -- what is read for what was lent
 abbrev Owned : LentRecord → Type 0
@@ -37,7 +38,7 @@ owned (lent.UpdatedStock k x) = (own.UpdatedStock k x.now, refl)
 owned (lent.DeletedNewOrder k) = (own.DeletedNewOrder k, refl)
 
 -- what was lent is a record, once it is written
-pub written_is : (p : Previous) (l : LentRecord) → IsPrevious p → IsInRanges (record_of_lent l) → IsRecord (record_image p (record_of_lent l))
+pub written_is : (p : Previous) (l : LentRecord) → IsPrevious p → IsInRanges (record_of_lent l) → IsStoredRecord (record_image p (record_of_lent l))
 written_is p l hp hb =
     let o = owned l in
     record {
@@ -50,19 +51,19 @@ written_is p l hp hb =
 
 -- ---- one record
 
-abbrev pub record_of : Address → (s : List ℕ) → IsRecord s → Logged
+abbrev pub record_of : Address → (s : List ℕ) → IsStoredRecord s → Logged
 record_of a s h = record { address = record_address a; previous = h.previous; before = record_of_own h.before }
 
-is_read : (s : List ℕ) (h : IsRecord s) → record_at s ≡ Some (h.previous, h.before)
+is_read : (s : List ℕ) (h : IsStoredRecord s) → record_at s ≡ Some (h.previous, h.before)
 is_read s h = record_finds (h.previous, h.before) s (h.link, h.ranges) h.image
 
-pub seen : (s : ring.Addressed) (ss : List (ring.Addressed)) (h : IsRecord s.bytes) → records_in (s ∷ ss) ≡ record_of s.address s.bytes h ∷ records_in ss
+pub seen : (s : ring.Addressed) (ss : List (ring.Addressed)) (h : IsStoredRecord s.bytes) → records_in (s ∷ ss) ≡ record_of s.address s.bytes h ∷ records_in ss
 seen s ss h = ap (λ (r : Option (Previous × OwnRecord)). before_others s.address r (records_in ss)) (is_read s.bytes h)
 
-long : (s : List ℕ) (h : IsRecord s) → record_length (record_of_own h.before) ≡ length s
+long : (s : List ℕ) (h : IsStoredRecord s) → record_length (record_of_own h.before) ≡ length s
 long s h = sym (ap length h.image ∙ (record_long h.previous (record_of_own h.before) h.ranges).is)
 
-pub some_bytes : (s : List ℕ) → IsRecord s → 0 < length s
+pub some_bytes : (s : List ℕ) → IsStoredRecord s → 0 < length s
 some_bytes s h = omega (arith, long s h)
 
 -- a record that was lent is seen where it was written
@@ -103,7 +104,7 @@ none_in [] h e = refl
 none_in (s ∷ ss) h e = absurd (let size = ap length (sym (seen s ss h.0) ∙ e) in omega (arith, size))
 
 -- the newest string is read as the newest record
-newest_read : (bytes : List ℕ) (r : Option (Previous × OwnRecord)) (h : IsRecord bytes) → ReadsRecord bytes r → r ≡ Some (h.previous, h.before)
+newest_read : (bytes : List ℕ) (r : Option (Previous × OwnRecord)) (h : IsStoredRecord bytes) → ReadsRecord bytes r → r ≡ Some (h.previous, h.before)
 newest_read bytes r h reads = reads.finds h.previous h.before h.link h.ranges h.image
 
 abbrev told : Option (Previous × OwnRecord) → Option (Previous × Record)

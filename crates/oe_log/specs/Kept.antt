@@ -7,9 +7,9 @@ use Rattle.oe_ring.specs.Segments.{Addressed, Segments}
 use Rattle.oe_layout.specs.declared.links.RecordAddress.{RecordAddress}
 use Rattle.oe_layout.specs.declared.links.Previous.{Previous}
 use Rattle.oe_layout.specs.declared.records.OwnRecord.{OwnRecord}
-use Rattle.oe_layout.specs.Links.{IsPrevious}
-use Rattle.oe_layout.specs.Records.{record_image, record_of_own, IsInRanges}
+use Rattle.oe_layout.specs.Records.{record_of_own}
 use Rattle.oe_layout.specs.RecordFronts.{record_at}
+use Rattle.oe_layout.specs.Stored.{IsStoredRecord}
 use Rattle.oe_log.specs.Log.{Logged, RingLog}
 
 abbrev pub record_address : Address → RecordAddress
@@ -26,16 +26,9 @@ abbrev pub records_in : List Addressed → List Logged
 records_in [] = []
 records_in (s ∷ ss) = before_others s.address (record_at s.bytes) (records_in ss)
 
--- these bytes are the image of a record in its ranges
-pub record IsRecord (bytes : List ℕ) : Type 0 where
-  pub previous : Previous
-  pub before : OwnRecord
-  pub link : IsPrevious previous
-  pub ranges : IsInRanges (record_of_own before)
-  pub image : bytes ≡ record_image previous (record_of_own before)
-
+-- each string is a record's
 abbrev pub AreRecords : List Addressed → Type 0
-AreRecords ss = AllByRecursion (λ s. IsRecord s.bytes) ss
+AreRecords ss = AllByRecursion (λ s. IsStoredRecord s.bytes) ss
 
 abbrev pub stored : Segments → ℕ → ℕ → RingLog
 stored r opens newest =

@@ -33,6 +33,10 @@ pub record RingLog : Type 0 where
 abbrev pub records_at : RingLog → ℕ → List Logged
 records_at v t = get_or v.active t []
 
+-- the records themselves
+abbrev pub befores : List Logged → List Record
+befores rs = map (λ r. r.before) rs
+
 -- the newest of these records, if there is one
 abbrev pub newest_of : List Logged → Option (Previous × Record)
 newest_of [] = None

@@ -6,6 +6,8 @@
 pub mod commits;
 pub mod log;
 pub mod reads;
+pub mod walks;
 
 pub use log::{ExtentCount, Log};
 pub use oe_ring::Full;
+pub use walks::Records;

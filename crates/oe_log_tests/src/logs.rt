@@ -1,8 +1,10 @@
 //! Logs that are filled, taken back and filled again.
+ghost use Rattle.std.specs.Prelude.{◌<◌, length, IfSome};
+
 use crate::made::{is_at, push_delete, push_warehouse, queue_entry, warehouse};
-use oe_keys::{NewOrderKey, WarehouseKey};
-use oe_layout::OwnRecord;
-use oe_log::Log;
+use oe_keys::{Key, NewOrderKey, WarehouseKey};
+use oe_layout::{OwnRecord, StoredRecord};
+use oe_log::{Log, Records};
 use oe_rows::Warehouse;
 use oe_values::numbers::{Number, Terminal};
 use std::alloc::Global;
@@ -93,4 +95,82 @@ fn records_are_taken_back(rt: HostRuntime) {
         return;
     };
     assert!(rt; taken_back(&mut log) == Some(true));
+}
+
+fn has_key(record: &StoredRecord<'_>, key: Key) -> bool {
+    record.key() == key
+}
+
+/// Whether it is the record of a delete of that queue entry.
+fn is_delete(record: &StoredRecord<'_>, key: &NewOrderKey) -> bool {
+    match record.deleted_new_order() {
+        Some(deleted) => deleted == *key,
+        None => false,
+    }
+}
+
+/// Whether it is the record of an update, of a warehouse that had that row.
+fn is_update(record: &StoredRecord<'_>, row: &Warehouse) -> bool {
+    match record.read() {
+        OwnRecord::UpdatedWarehouse(_, read) => read.is_same(row),
+        _ => false,
+    }
+}
+
+/// Whether a walk gives a delete of the queue entry, then an update of the warehouse, and no more.
+fn is_walk(
+    records: Records<'_>,
+    deleted: &NewOrderKey,
+    key: &WarehouseKey,
+    row: &Warehouse,
+) -> bool {
+    let mut records = records;
+    let Some(newest) = records.next() else {
+        return false;
+    };
+    let Some(oldest) = records.next() else {
+        return false;
+    };
+    has_key(&newest, Key::NewOrder(*deleted))
+        && is_delete(&newest, deleted)
+        && has_key(&oldest, Key::Warehouse(*key))
+        && is_update(&oldest, row)
+        && oldest.deleted_new_order().is_none()
+        && records.next().is_none()
+}
+
+/// Counts the terminal's segment as that of the first commit.
+fn committed(log: &mut Log, terminal: Terminal) -> Option<()>
+    ensures { IfSome result (λ _. 0 < length log.new.committed) }
+{
+    if log.open_count() > 0 || log.newest().get() > 0 {
+        return None;
+    }
+    if log.open_segment().is_err() {
+        return None;
+    }
+    let _moment = log.seal(terminal);
+    Some(())
+}
+
+/// A terminal's records are walked, and then as those of the newest commit, when the terminal has none.
+fn walked(log: &mut Log) -> Option<bool> {
+    let first = Terminal::new(1)?;
+    let (key, row) = warehouse()?;
+    let deleted = queue_entry()?;
+    push_warehouse(log, first, key, &row)?;
+    push_delete(log, first, deleted)?;
+    let open = is_walk(log.records(first), &deleted, &key, &row);
+    committed(log, first)?;
+    let after = is_walk(log.committed_records(0), &deleted, &key, &row);
+    Some(open && after && log.records(first).next().is_none())
+}
+
+#[test]
+fn records_are_walked_newest_first(rt: HostRuntime) {
+    let Some(mut log) = log(rt.alloc()) else {
+        assert!(rt; false);
+        return;
+    };
+    assert!(rt; walked(&mut log) == Some(true));
 }

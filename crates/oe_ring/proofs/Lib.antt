@@ -5,3 +5,4 @@ pub mod SlotFacts
 pub mod CommitFacts
 pub mod AddressFacts
 pub mod FreshFacts
+pub mod StringFacts

@@ -54,6 +54,10 @@ abbrev pub newest_bytes : List Addressed → List ℕ
 newest_bytes [] = []
 newest_bytes (s ∷ ss) = s.bytes
 
+-- the strings themselves
+abbrev pub strings_of : List Addressed → List (List ℕ)
+strings_of ss = map (λ s. s.bytes) ss
+
 -- the string with these bytes is one of those, at that address
 abbrev pub StandsAt : Address → List ℕ → List Addressed → Type 0
 StandsAt a bytes [] = ⊥

@@ -3,5 +3,5 @@
 
 pub mod ring;
 
-pub use oe_extent::Address;
+pub use oe_extent::{Address, Strings};
 pub use ring::{Full, Ring};

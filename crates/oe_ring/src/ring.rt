@@ -7,10 +7,10 @@
 //! nothing then. No other call can be refused.
 ghost use Rattle.std.specs.Prelude.{◌≡◌, ◌<◌, ◌≤◌, ◌+◌, ◌↔◌, [], length, get_or, replicate, IsErr, IfOk, OnOk, OnErr};
 ghost use Rattle.oe_extent.specs.Strings.{IsFramed};
-ghost use Rattle.oe_ring.specs.Segments.{used_of, IsFull, IsFresh, no_segments, pushed_at, popped_at, sealed_at, reopened_at, newest_bytes, without_oldest, without_newest, capacity_of, HasAddress, IsStringAt};
+ghost use Rattle.oe_ring.specs.Segments.{used_of, IsFull, IsFresh, no_segments, pushed_at, popped_at, sealed_at, reopened_at, newest_bytes, strings_of, without_oldest, without_newest, capacity_of, HasAddress, IsStringAt};
 
 use oe_bytes::Written;
-use oe_extent::{Address, Pool, Segment};
+use oe_extent::{Address, Pool, Segment, Strings};
 use std::alloc::{AllocError, Global};
 use std::collections::VecDeque;
 use std::marker::Model;
@@ -169,6 +169,23 @@ impl Ring {
         ensures { IsStringAt (get_or self.now.committed commit []) address result.now }
     {
         self.committed[commit].at(address)
+    }
+
+    /// The strings of a slot's open segment, the newest first, where they stand. It takes no memory.
+    pub fn strings(&self, slot: usize) -> Strings<'_>
+        requires { slot < length self.now.active }
+        ensures { result ≡ strings_of (get_or self.now.active slot []) }
+    {
+        self.active[slot].strings()
+    }
+
+    /// The strings of a commit's segment, the newest first, where they stand. The newest commit has number 0, and each older one the
+    /// next number. It takes no memory.
+    pub fn committed_strings(&self, commit: usize) -> Strings<'_>
+        requires { commit < length self.now.committed }
+        ensures { result ≡ strings_of (get_or self.now.committed commit []) }
+    {
+        self.committed[commit].strings()
     }
 
     /// Takes the newest string of a slot's open segment off. Where it was the only one of its extent, that is free again.

@@ -2,7 +2,7 @@
 ghost use Rattle.std.specs.Prelude.{◌≡◌, ◌<◌, ◌≤◌, ◌+◌, length, get_or, []};
 
 use crate::made::{Framed, at, push, ring};
-use oe_ring::{Address, Ring};
+use oe_ring::{Address, Ring, Strings};
 
 /// The bytes of the greatest string, without its lengths.
 fn greatest() -> [u8; 4_092]
@@ -149,4 +149,48 @@ fn told_at_addresses(rt: HostRuntime) {
     assert!(rt;
         [first, told(&mut ring, 1, b"eleven")] == [Some([(7, b'o'); 2]), Some([(10, b'e'); 2])]
     );
+}
+
+/// The next string of a walk, where there is one.
+fn next_seen(strings: &mut Strings<'_>) -> Option<(usize, u8)> {
+    match strings.next() {
+        Some(string) => Some(seen(string)),
+        None => None,
+    }
+}
+
+/// The first four strings of a walk.
+fn walked(strings: Strings<'_>) -> [Option<(usize, u8)>; 4] {
+    let mut strings = strings;
+    [
+        next_seen(&mut strings),
+        next_seen(&mut strings),
+        next_seen(&mut strings),
+        next_seen(&mut strings),
+    ]
+}
+
+/// The first slot's strings lie in two extents, the second slot has none: both as they are walked, and the first's as the newest
+/// commit's.
+fn walks(ring: &mut Ring) -> Option<[[Option<(usize, u8)>; 4]; 3]>
+    requires slots { length ring.old.active ≡ 2 }
+    requires room { 0 < ring.old.room }
+{
+    push(ring, 0, b"one")?;
+    push(ring, 0, b"two")?;
+    push(ring, 0, &greatest())?;
+    let open = walked(ring.strings(0));
+    let empty = walked(ring.strings(1));
+    ring.seal(0);
+    Some([open, empty, walked(ring.committed_strings(0))])
+}
+
+#[test]
+fn strings_are_walked_newest_first(rt: HostRuntime) {
+    let Some(mut ring) = ring(rt.alloc(), 2) else {
+        assert!(rt; false);
+        return;
+    };
+    let three = [Some((4_096, 7)), Some((7, b't')), Some((7, b'o')), None];
+    assert!(rt; walks(&mut ring) == Some([three, [None, None, None, None], three]));
 }

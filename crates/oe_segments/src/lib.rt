@@ -10,5 +10,5 @@ pub mod reads;
 pub mod segments;
 
 pub use heads::SegmentOwner;
-pub use oe_log::{ExtentCount, Full};
+pub use oe_log::{ExtentCount, Full, Records};
 pub use segments::{Segment, Segments};

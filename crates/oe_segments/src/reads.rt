@@ -1,14 +1,16 @@
-//! What is known of terminals, and of records by their addresses.
+//! What is known of terminals, and of records, by their addresses or one after another.
 ghost use Rattle.std.specs.Prelude.{◌≡◌, ◌<◌, ◌≤◌, ◌+◌, ◌↔◌, ℕ, [], length, get_or, take, slice_get, option_map, Option, is_some, IsTrue, IsSome, IfSome};
 ghost use Rattle.oe_layout.specs.Records.{record_of_own};
 ghost use Rattle.oe_log.specs.Log.{HasAddress, IsRecordAt};
 ghost use Rattle.oe_model.specs.System.{system, terminal_limit};
 ghost use Rattle.oe_theory.specs.Store.{Slot, count_slots};
 ghost use Rattle.oe_segments.specs.Segments.{count_at, active_at, records_at, open_total, commits_of, committed_records, owner_of};
+ghost use Rattle.oe_segments.specs.Stands.{model_records};
 
 use crate::heads::SegmentOwner;
 use crate::segments::Segments;
 use oe_layout::{OwnRecord, Previous, RecordAddress};
+use oe_log::Records;
 use oe_values::numbers::{TERMINALS, Terminal, TransactionNumber};
 
 impl Segments {
@@ -91,5 +93,21 @@ impl Segments {
             (result.0, record_of_own result.1) }
     {
         self.log.committed_record(later, address)
+    }
+
+    /// The records of a terminal's open segment, the newest first, where they lie; none where it has none open. It takes no memory.
+    pub fn open_records(&self, terminal: Terminal) -> Records<'_>
+        ensures { result ≡ model_records (records_at self.now terminal) }
+    {
+        self.log.records(terminal)
+    }
+
+    /// The records of a commit's segment, the newest first, where they lie. The commit is given by the number of later ones. It takes
+    /// no memory.
+    pub fn committed_records(&self, later: usize) -> Records<'_>
+        requires { later < length self.now.committed }
+        ensures { result ≡ model_records (get_or (committed_records self.now) later []) }
+    {
+        self.log.committed_records(later)
     }
 }

@@ -1,0 +1,117 @@
+//! Undo records where they lie as bytes.
+ghost use Rattle.std.specs.Prelude.{◌≡◌, ◌++◌};
+ghost use Rattle.oe_bytes.specs.Spelling.{number};
+ghost use Rattle.oe_image.specs.Keys.{IsKey};
+ghost use Rattle.oe_model.specs.Changes.{record_key};
+ghost use Rattle.oe_model.specs.Lengths.{record_length};
+ghost use Rattle.oe_layout.specs.Kinds.{kind_of};
+ghost use Rattle.oe_layout.specs.Records.{contents, record_of_own};
+ghost use Rattle.oe_layout.specs.Stored.{IsStoredRecord, told, IsTold, table_changed, deleted_key, deleted_new_order};
+
+use crate::kinds::{RecordKind, read_kind};
+use crate::reading::read_record;
+use crate::records::OwnRecord;
+use oe_image::keys::read_key;
+use oe_keys::{Key, NewOrderKey, Table};
+use std::marker::Model;
+
+/// An undo record where it lies in the ring, which clauses see as the model's record. Key and row are read only where they are asked
+/// for. No call takes memory.
+#[derive(Drop)]
+pub struct StoredRecord<'a> {
+    bytes: &'a [u8],
+}
+
+impl<'a> Model for StoredRecord<'a> {
+    ghost use Rattle.oe_model.specs.Changes.{Record};
+    ghost use Rattle.oe_layout.specs.Stored.{told, IsStoredRecord};
+
+    ghost Value = { Record };
+
+    ghost view = { λ s. told s.bytes.now };
+
+    ghost invariant = { λ s. IsStoredRecord s.bytes.now };
+}
+
+/// The table whose row was changed.
+fn table_changed(kind: RecordKind) -> Table
+    ensures { result ≡ table_changed kind }
+{
+    match kind {
+        RecordKind::InsertedHistory => Table::History,
+        RecordKind::InsertedNewOrder => Table::NewOrder,
+        RecordKind::InsertedOrder => Table::Order,
+        RecordKind::InsertedOrderLine => Table::OrderLine,
+        RecordKind::UpdatedWarehouse => Table::Warehouse,
+        RecordKind::UpdatedDistrict => Table::District,
+        RecordKind::UpdatedCustomer => Table::Customer,
+        RecordKind::UpdatedOrder => Table::Order,
+        RecordKind::UpdatedOrderLine => Table::OrderLine,
+        RecordKind::UpdatedStock => Table::Stock,
+        RecordKind::DeletedNewOrder => Table::NewOrder,
+    }
+}
+
+/// The key of a queue entry, where a record of that kind is of its delete.
+fn deleted_key(kind: RecordKind, key: Key) -> Option<NewOrderKey>
+    ensures { result ≡ deleted_key kind key }
+{
+    match kind {
+        RecordKind::DeletedNewOrder => match key {
+            Key::NewOrder(key) => Some(key),
+            _ => None,
+        },
+        _ => None,
+    }
+}
+
+impl<'a> StoredRecord<'a> {
+    /// The record that these bytes are.
+    pub fn of(bytes: &'a [u8]) -> Self
+        requires { IsStoredRecord bytes.now }
+        ensures told { result ≡ told bytes.now }
+        ensures record { IsTold bytes.now result }
+    {
+        StoredRecord { bytes }
+    }
+
+    /// What was done to a row of which table.
+    pub fn kind(&self) -> RecordKind
+        ensures { result ≡ kind_of self.now }
+    {
+        read_kind(&self.bytes[2..]).unwrap().0
+    }
+
+    /// The bytes from its key on, which is in its ranges.
+    fn contents(&self) -> &[u8]
+        ensures key { IsKey (record_key self.now) }
+        ensures bytes { result.now ≡ contents self.now ++ number 2 (record_length self.now) }
+    {
+        &self.bytes[16..]
+    }
+
+    /// The key of the row that was changed. No row is read.
+    pub fn key(&self) -> Key
+        ensures { result ≡ record_key self.now }
+    {
+        let table = table_changed(self.kind());
+        let Some((key, _row)) = read_key(table, self.contents()) else {
+            unreachable!()
+        };
+        key
+    }
+
+    /// The key of the queue entry that was deleted; none exactly where the record is not of a delete. No row is read.
+    pub fn deleted_new_order(&self) -> Option<NewOrderKey>
+        ensures { result ≡ deleted_new_order self.now }
+    {
+        deleted_key(self.kind(), self.key())
+    }
+
+    /// The record with its row.
+    pub fn read(&self) -> OwnRecord
+        ensures { record_of_own result ≡ self.now }
+    {
+        read_record(self.bytes).unwrap().1
+    }
+}
