@@ -152,7 +152,7 @@ reopens v c cs e within =
       counts = fun_ext (λ u. less_counted v c a u ∙ ap (λ z. count_at v u - commit_count system u (take 1 (map seal_of z))) (sym e));
     })
 
-idle_at : (n t : ℕ) → get_or (replicate n idle) t idle ≡ idle
+pub idle_at : (n t : ℕ) → get_or (replicate n idle) t idle ≡ idle
 idle_at n t = elim (cases_lt t n) [ inl h ↦ get_or-replicate n t idle idle h | inr h ↦ get_or_past (replicate n idle) t idle (subst (λ z. z ≤ t) (sym (length-replicate n idle)) h) ]
 
 pub begun : (e : ℕ) → (undo_of (no_segments e) ≡ no_records system) × (seals_of (no_segments e) ≡ []) × (counts_of (no_segments e) ≡ (λ t. 0))

@@ -3,3 +3,4 @@ pub mod ZipFacts
 pub mod CallFacts
 pub mod StandsFacts
 pub mod LawFacts
+pub mod UsedFacts

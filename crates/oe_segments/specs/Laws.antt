@@ -1,14 +1,15 @@
 -- What each call makes of the segments, in the words of the theory of transactions.
-use Rattle.std.specs.Prelude.{◌≡◌, ◌<◌, ℕ, suc, List, [], ◌∷◌, length, take, drop, None, Some}
+use Rattle.std.specs.Prelude.{◌≡◌, ◌<◌, ◌≤◌, ◌↔◌, ℕ, suc, List, [], ◌∷◌, length, take, drop, None, Some}
 use Rattle.oe_requests.specs.declared.requests.Request.{Request}
 use Rattle.oe_requests.specs.declared.replies.Reply.{Reply}
-use Rattle.oe_model.specs.System.{system}
+use Rattle.oe_model.specs.System.{machine, InExtents, system, terminal_limit}
 use Rattle.oe_theory.specs.World.{set, bump}
-use Rattle.oe_theory.specs.Undo.{put_records, no_records}
+use Rattle.oe_theory.specs.Next.{filled}
+use Rattle.oe_theory.specs.Undo.{Undo, lengths_of, used_of, put_records, no_records}
 use Rattle.oe_theory.specs.Store.{counts_before}
-use Rattle.oe_log.specs.Log.{Logged}
-use Rattle.oe_segments.specs.Segments.{Open, Committed, SegmentLog, active_at, records_at, no_segments, opened, pushed, popped, sealed, dropped, with_newest, reopened}
-use Rattle.oe_segments.specs.Stands.{model_records, undo_of, seals_of, counts_of}
+use Rattle.oe_log.specs.Log.{Logged, IsFull}
+use Rattle.oe_segments.specs.Segments.{Open, Committed, SegmentLog, active_at, records_at, no_segments, opened, pushed, popped, sealed, dropped, with_newest, reopened, log_of}
+use Rattle.oe_segments.specs.Stands.{model_records, undo_of, undo_in, seals_of, counts_of}
 
 -- two logs stand for the same
 pub record StandAlike (v w : SegmentLog) : Type 0 where
@@ -51,3 +52,13 @@ pub record Calls_are_steps : Type 0 where
   pub cuts : (v : SegmentLog) (n : ℕ) → StandsCut (with_newest n v) v n
   -- opening the newest again is the first part of what a rewind does with it
   pub reopens : (v : SegmentLog) (c : Committed) (cs : List Committed) → v.committed ≡ c ∷ cs → c.terminal < length v.terminals → StandsReopened (reopened v v.committed) v c
+
+-- in the machine whose records lie in extents: a record of that length fits neither the rest of the terminal's last extent nor a free one
+abbrev pub IsFullIn : Undo (machine InExtents) → ℕ → ℕ → ℕ → Type 0
+IsFullIn u extents t n = ((filled (machine InExtents) (lengths_of (machine InExtents) (u.active t))).1 < n) × (extents ≤ used_of (machine InExtents) u)
+
+-- the log is full exactly where that machine's ring is
+abbrev pub Full_as_the_machine : Type 0
+Full_as_the_machine =
+    (v : SegmentLog) (t n : ℕ) → length v.terminals ≡ terminal_limit
+    → IsFull (log_of v) t n ↔ IsFullIn (undo_in InExtents v) v.extents t n

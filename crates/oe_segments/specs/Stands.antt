@@ -1,7 +1,7 @@
 -- What segments stand for, in the words of the theory of transactions.
 use Rattle.std.specs.Prelude.{ℕ, List, map}
 use Rattle.oe_model.specs.Changes.{Record}
-use Rattle.oe_model.specs.System.{system}
+use Rattle.oe_model.specs.System.{Layout, machine, system}
 use Rattle.oe_theory.specs.Undo.{Undo}
 use Rattle.oe_theory.specs.Store.{Seal}
 use Rattle.oe_log.specs.Log.{Logged}
@@ -14,6 +14,10 @@ model_records rs = map (λ r. r.before) rs
 -- the records of each open transaction and of each commit
 abbrev pub undo_of : SegmentLog → Undo system
 undo_of v = record { active = λ t. model_records (records_at v t); history = map (λ c. model_records c.records) v.committed }
+
+-- the same, for the machine of any layout of records
+abbrev pub undo_in : (layout : Layout) → SegmentLog → Undo (machine layout)
+undo_in layout v = record { active = λ t. model_records (records_at v t); history = map (λ c. model_records c.records) v.committed }
 
 abbrev pub seal_of : Committed → Seal system
 seal_of c = record { tx = record { terminal = c.terminal; number = c.number; request = c.request }; reply = c.reply }
