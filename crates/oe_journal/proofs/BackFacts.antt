@@ -1,0 +1,121 @@
+-- Records are put back one after another, the newest first.
+use Rattle.std.proofs.Common.{◌≡◌, ℕ, suc, ◌<◌, ◌≤◌, true, refl, sym, ap, ◌∙◌, subst, arith, List, [], ◌∷◌, length, take, drop, None, Some}
+use Rattle.std.specs.Prelude.{is_some}
+use Rattle.std.specs.List.{drop-map}
+use Rattle.oe_theory.proofs.Sets.{some_inj}
+use Rattle.oe_keys.specs.declared.keys.Key.{Key}
+use Rattle.oe_layout.specs.declared.links.Previous.{Previous}
+use Rattle.oe_theory.specs.Undo.{unwind, put_records}
+use Rattle.oe_model.specs.Changes.{Record, put_back, record_key}
+use Rattle.oe_model.specs.System.{system}
+use Rattle.oe_store.specs.Places.{rows, HasPlace, SamePlaces}
+use Rattle.oe_store.specs.Places as tables
+use Rattle.oe_change.specs.PutBack.{CanPutBack}
+use Rattle.oe_log.specs.Log.{Logged, newest_of}
+use Rattle.oe_segments.specs.Segments.{SegmentLog, Open, active_at, records_at, with_records, popped}
+use Rattle.oe_segments.specs.Stands.{model_records, undo_of, seals_of, counts_of}
+use Rattle.oe_journal.specs.GoesBack.{CanUnwind, HavePlaces}
+use Rattle.oe_journal.specs.Unwinds.{TakesBack}
+use Rattle.oe_journal.proofs.LogFacts.{some_of, records_open, records_size, records_are, own_records, one_popped, records_stand}
+
+-- keys that had places have them in tables in which none was lost
+pub more_places : (ts ts' : tables.Places) → ((k : Key) → HasPlace ts k → HasPlace ts' k) → (bs : List Record) → HavePlaces ts bs → HavePlaces ts' bs
+more_places ts ts' more [] h = tt
+more_places ts ts' more (b ∷ bs) h = (more (record_key b) h.0, more_places ts ts' more bs h.1)
+
+pub same_places : (ts : tables.Places) → SamePlaces ts ts
+same_places ts k = (λ h. h, λ h. h)
+
+pub then_places : (ts ts' ts'' : tables.Places) → SamePlaces ts ts' → SamePlaces ts' ts'' → SamePlaces ts ts''
+then_places ts ts' ts'' a b k = (λ h. (a k).0 ((b k).0 h), λ h. (b k).1 ((a k).1 h))
+
+-- On the way back from v on ts, of which the newest `count` records are to go: the terminal has the records rs in v' on ts', of which
+-- the newest `left` are still to go
+pub record GoesBack (ts ts' : tables.Places) (v v' : SegmentLog) (t count : ℕ) (rs : List Logged) (left : ℕ) : Type 0 where
+  pub log : v' ≡ with_records v t rs
+  pub rest : drop left rs ≡ drop count (records_at v t)
+  pub enough : left ≤ length rs
+  pub put : unwind system (take left (model_records rs)) (rows ts') ≡ unwind system (take count ((undo_of v).active t)) (rows ts)
+  pub can : CanUnwind (take left (model_records rs)) (rows ts')
+  pub own : HavePlaces ts' (model_records rs)
+  pub same : SamePlaces ts ts'
+
+-- at the beginning
+pub begins : (ts : tables.Places) (v : SegmentLog) (t count : ℕ) → count ≤ length (records_at v t) → HavePlaces ts ((undo_of v).active t)
+    → CanUnwind (take count ((undo_of v).active t)) (rows ts) → GoesBack ts ts v v t count (records_at v t) count
+begins ts v t count enough own can =
+    record { log = sym (own_records v t); rest = refl; enough = enough; put = refl; can = can; own = own; same = same_places ts }
+
+-- the terminal's segment stays open
+pub still_open : (ts ts' : tables.Places) (v v' : SegmentLog) (t count : ℕ) (rs : List Logged) (left : ℕ) → GoesBack ts ts' v v' t count rs left
+    → (x : ℕ) → is_some (active_at v' x) ≡ is_some (active_at v x)
+still_open ts ts' v v' t count rs left h x = ap (λ z. is_some (active_at z x)) h.log ∙ records_open v t rs x
+
+-- the next record can be put back
+pub can_go : (ts ts' : tables.Places) (v v' : SegmentLog) (t count : ℕ) (rs : List Logged) (left : ℕ) (n : Previous × Record) → newest_of rs ≡ Some n
+    → GoesBack ts ts' v v' t count rs (suc left) → CanPutBack ts' n.1
+can_go ts ts' v v' t count [] left n e h = cc
+can_go ts ts' v v' t count (r ∷ rs) left n e h =
+    let same : r.before ≡ n.1 = ap (λ (z : Previous × Record). z.1) (some_inj _ _ e) in
+    subst (CanPutBack ts') same (record { stands = h.can.0; place = h.own.0; schema = h.can.1 })
+
+-- and what is then left
+pub goes : (ts ts' ts'' : tables.Places) (v v' : SegmentLog) (t count : ℕ) (o : Open) (rs : List Logged) (left : ℕ) (n : Previous × Record)
+    → active_at v t ≡ Some o → newest_of rs ≡ Some n → rows ts'' ≡ put_back n.1 (rows ts') → SamePlaces ts' ts''
+    → GoesBack ts ts' v v' t count rs (suc left) → GoesBack ts ts'' v (popped v' t) t count (drop 1 rs) left
+goes ts ts' ts'' v v' t count o [] left n is e put same h = cc
+goes ts ts' ts'' v v' t count o (r ∷ rs) left n is e put same h =
+    let before : n.1 ≡ r.before = sym (ap (λ (z : Previous × Record). z.1) (some_inj _ _ e)) in
+    let now : rows ts'' ≡ put_back r.before (rows ts') = put ∙ ap (λ b. put_back b (rows ts')) before in
+    record {
+      log = ap (λ z. popped z t) h.log ∙ one_popped v t o (r ∷ rs) is;
+      rest = h.rest;
+      enough = let enough = h.enough in omega arith;
+      put = ap (unwind system (take left (model_records rs))) now ∙ h.put;
+      can = subst (CanUnwind (take left (model_records rs))) (sym now) h.can.2;
+      own = more_places ts' ts'' (λ k g. (same k).1 g) (model_records rs) h.own.1;
+      same = then_places ts ts' ts'' h.same same;
+    }
+
+-- they are what the terminal then has
+pub goes_on : (ts ts' ts'' : tables.Places) (v v' w : SegmentLog) (t count left : ℕ) (n : Previous × Record)
+    → is_some (active_at v t) ≡ true → newest_of (records_at v' t) ≡ Some n → rows ts'' ≡ put_back n.1 (rows ts') → SamePlaces ts' ts'' → w ≡ popped v' t
+    → GoesBack ts ts' v v' t count (records_at v' t) (suc left) → GoesBack ts ts'' v w t count (records_at w t) left
+goes_on ts ts' ts'' v v' w t count left n open_is e put same pop h =
+    let o = some_of (active_at v t) open_is in
+    let g : GoesBack ts ts'' v w t count (drop 1 (records_at v' t)) left =
+    subst (λ z. GoesBack ts ts'' v z t count (drop 1 (records_at v' t)) left) (sym pop)
+    (goes ts ts' ts'' v v' t count o.0 (records_at v' t) left n o.1 e put same h) in
+    let own : drop 1 (records_at v' t) ≡ records_at w t = sym (ap (λ z. records_at z t) g.log ∙ records_are v t o.0 (drop 1 (records_at v' t)) o.1) in
+    subst (λ rs. GoesBack ts ts'' v w t count rs left) own g
+
+-- there is one as long as any are to go
+pub none_left : (ts ts' : tables.Places) (v v' : SegmentLog) (t count : ℕ) (rs : List Logged) (left : ℕ) → 0 < left → newest_of rs ≡ None
+    → GoesBack ts ts' v v' t count rs left → ⊥
+none_left ts ts' v v' t count [] left some e h = let enough = h.enough in omega arith
+none_left ts ts' v v' t count (r ∷ rs) left some e h = cc
+
+-- at the end
+pub ends : (ts ts' : tables.Places) (v v' : SegmentLog) (t count : ℕ) (o : Open) (rs : List Logged) → active_at v t ≡ Some o
+    → GoesBack ts ts' v v' t count rs 0 → TakesBack ts v t count ts' v'
+ends ts ts' v v' t count o rs is h =
+    let stands = records_stand v t o rs is in
+    let records : (undo_of v').active t ≡ model_records rs = ap (λ z. (undo_of z).active t) h.log ∙ ap model_records (records_are v t o rs is) in
+    record {
+      rows = h.put;
+      records = records ∙ ap model_records h.rest ∙ sym (drop-map (λ (r : Logged). r.before) count (records_at v t));
+      others = record {
+        is_open = still_open ts ts' v v' t count rs 0 h;
+        undo = ap undo_of h.log ∙ stands.undo ∙ ap (λ z. put_records system t z (undo_of v)) (sym records);
+        seals = ap seals_of h.log ∙ stands.seals;
+        counts = ap counts_of h.log ∙ stands.counts;
+        size = ap (λ (z : SegmentLog). length z.terminals) h.log ∙ records_size v t rs;
+        extents = ap (λ (z : SegmentLog). z.extents) h.log;
+        places = h.same;
+        own = subst (HavePlaces ts') (sym records) h.own;
+      };
+    }
+
+pub all_dropped : (ts ts' : tables.Places) (v v' : SegmentLog) (t count : ℕ) (rs : List Logged) → GoesBack ts ts' v v' t count rs 0
+    → v' ≡ with_records v t (drop count (records_at v t))
+all_dropped ts ts' v v' t count rs h = h.log ∙ ap (with_records v t) h.rest

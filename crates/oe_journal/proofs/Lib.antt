@@ -1,0 +1,9 @@
+-- For the crates above: what a write records and why it is refused, what the log makes of its records, and what it is without its
+-- newest commits.
+pub mod RecordFacts
+pub mod LogFacts
+pub mod RewindFacts
+mod BackFacts
+mod SetFacts
+mod UndoneFacts
+pub mod WriteFacts

@@ -1,0 +1,27 @@
+-- A log without its newest commits, which their terminals no longer count.
+use Rattle.std.specs.Prelude.{◌≡◌, ℕ, zero, suc, ◌-◌, List, [], ◌∷◌, set, take, drop}
+use Rattle.oe_theory.specs.Store.{counts_before}
+use Rattle.oe_model.specs.System.{system}
+use Rattle.oe_segments.specs.Segments.{SegmentLog, Committed, count_at, active_at}
+use Rattle.oe_segments.specs.Stands.{undo_of, seals_of, counts_of}
+
+-- the first of these commits gone, which its terminal no longer counts
+abbrev pub uncounted : SegmentLog → List Committed → SegmentLog
+uncounted v [] = v
+uncounted v (c ∷ cs) =
+    record {
+      terminals = set v.terminals c.terminal (record { count = count_at v c.terminal - 1; active = active_at v c.terminal });
+      committed = cs;
+      extents = v.extents;
+    }
+
+-- the newest n commits gone
+abbrev pub without_newest : ℕ → SegmentLog → SegmentLog
+without_newest zero v = v
+without_newest (suc n) v = without_newest n (uncounted v v.committed)
+
+-- a log stands for another without its newest n commits, which are no longer counted
+pub record StandsRewound (w v : SegmentLog) (n : ℕ) : Type 0 where
+  pub undo : undo_of w ≡ record { active = (undo_of v).active; history = drop n (undo_of v).history }
+  pub seals : seals_of w ≡ drop n (seals_of v)
+  pub counts : counts_of w ≡ counts_before system (counts_of v) (take n (seals_of v))

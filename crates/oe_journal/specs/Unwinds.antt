@@ -1,0 +1,26 @@
+-- Records of an open segment that are being put back.
+use Rattle.std.specs.Prelude.{◌≡◌, ℕ, length, take, drop, is_some}
+use Rattle.oe_theory.specs.Undo.{unwind, put_records}
+use Rattle.oe_model.specs.System.{system}
+use Rattle.oe_store.specs.Places.{rows, SamePlaces}
+use Rattle.oe_store.specs.Places as tables
+use Rattle.oe_segments.specs.Segments.{SegmentLog, active_at}
+use Rattle.oe_segments.specs.Stands.{undo_of, seals_of, counts_of}
+use Rattle.oe_journal.specs.GoesBack.{HavePlaces}
+
+-- a log with other records of one terminal's open segment, and tables with the same places
+pub record Unwinding (ts : tables.Places) (u : SegmentLog) (t : ℕ) (ts' : tables.Places) (u' : SegmentLog) : Type 0 where
+  pub is_open : (x : ℕ) → is_some (active_at u' x) ≡ is_some (active_at u x)
+  pub undo : undo_of u' ≡ put_records system t ((undo_of u').active t) (undo_of u)
+  pub seals : seals_of u' ≡ seals_of u
+  pub counts : counts_of u' ≡ counts_of u
+  pub size : length u'.terminals ≡ length u.terminals
+  pub extents : u'.extents ≡ u.extents
+  pub places : SamePlaces ts ts'
+  pub own : HavePlaces ts' ((undo_of u').active t)
+
+-- so many records were put back, the newest first, and dropped
+pub record TakesBack (ts : tables.Places) (u : SegmentLog) (t count : ℕ) (ts' : tables.Places) (u' : SegmentLog) : Type 0 where
+  pub rows : rows ts' ≡ unwind system (take count ((undo_of u).active t)) (rows ts)
+  pub records : (undo_of u').active t ≡ drop count ((undo_of u).active t)
+  pub others : Unwinding ts u t ts' u'

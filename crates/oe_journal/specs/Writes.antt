@@ -1,0 +1,75 @@
+-- What a write makes of the tables and the undo log, and why one is refused.
+use Rattle.std.specs.Prelude.{◌≡◌, ℕ, ◌∷◌, length, None, is_some}
+use Rattle.std.specs.Option.{IsSomeAnd}
+use Rattle.oe_requests.specs.declared.refusals.Refusal.{Refusal}
+use Rattle.oe_requests.specs.declared.refusals.Refusal.TheVariants.{NoSuchRow, UndoFull}
+use Rattle.oe_model.specs.Rows.{Rows}
+use Rattle.oe_model.specs.Changes.{Change, Record}
+use Rattle.oe_model.specs.Lengths.{record_length}
+use Rattle.oe_records.specs.declared.writes.Write.{Write}
+use Rattle.oe_records.specs.Writes.{key_written, written}
+use Rattle.oe_layout.specs.declared.links.RecordAddress.{RecordAddress}
+use Rattle.oe_layout.specs.declared.links.Previous.TheVariants.{Nothing}
+use Rattle.oe_store.specs.Places.{Places, rows}
+use Rattle.oe_change.specs.Applies.{Applies, Refuses, IsFirst}
+use Rattle.oe_log.specs.Log.{logged, IsFull, IsFresh}
+use Rattle.oe_segments.specs.Segments.{SegmentLog, active_at, pushed, log_of}
+use Rattle.oe_segments.specs.Stands.{undo_of}
+use Rattle.oe_segments.specs.Laws.{StandsWith}
+use Rattle.oe_journal.specs.Records.{record_in, record_of_write}
+
+-- the write is a change of these rows, which is accepted and made
+abbrev pub IsMade : Write → Places → Places → Type 0
+IsMade w old new = IsSomeAnd (written w (rows old)) (λ c. Applies c old new (record_in c (rows old)))
+
+-- why the tables refuse the change that a write is; of several causes the first is named
+abbrev pub RefusesWrite : Write → Places → Refusal → Type 0
+RefusesWrite w s e = IsSomeAnd (written w (rows s)) (λ c. Refuses c s e × IsFirst c (rows s) e)
+
+-- a terminal's open segment has this record more, at an address where no other is; no link leads on from it
+pub record HasMore (b : Record) (u u' : SegmentLog) (t : ℕ) : Type 0 where
+  pub address : RecordAddress
+  pub fresh : IsFresh (log_of u) address
+  pub more : u' ≡ pushed u t (logged address Nothing b)
+
+-- it has the write's record more
+abbrev pub HasPushed : Write → Rows → SegmentLog → SegmentLog → ℕ → Type 0
+HasPushed w r u u' t = IsSomeAnd (record_of_write w r) (λ b. HasMore b u u' t)
+
+-- a change was accepted and made, with its record in the log; nothing else has changed there
+pub record IsRecorded (c : Change) (old new : Places) (u u' : SegmentLog) (t : ℕ) : Type 0 where
+  pub applies : Applies c old new (record_in c (rows old))
+  pub has_more : HasMore (record_in c (rows old)) u u' t
+  -- in the theory's words
+  pub stands : StandsWith u' u t (record_in c (rows old) ∷ (undo_of u).active t)
+  pub is_open : (x : ℕ) → is_some (active_at u' x) ≡ is_some (active_at u x)
+  pub size : length u'.terminals ≡ length u.terminals
+  pub extents : u'.extents ≡ u.extents
+
+-- so it is with the change that the write is of these rows
+abbrev pub HasRecorded : Write → Places → Places → SegmentLog → SegmentLog → ℕ → Type 0
+HasRecorded w old new u u' t = IsSomeAnd (written w (rows old)) (λ c. IsRecorded c old new u u' t)
+
+-- the write's record fits the rest of the terminal's newest extent, or an extent is free
+abbrev pub HasRoomFor : Write → Rows → SegmentLog → ℕ → Type 0
+HasRoomFor w r u t = IsSomeAnd (record_of_write w r) (λ b. IsFull (log_of u) t (record_length b) → ⊥)
+
+-- it fits neither there nor in a free extent
+abbrev pub IsFullFor : Write → Rows → SegmentLog → ℕ → Type 0
+IsFullFor w r u t = IsSomeAnd (record_of_write w r) (λ b. IsFull (log_of u) t (record_length b))
+
+-- why a record can't be pushed
+pub data CantPush (w : Write) (r : Rows) (u : SegmentLog) (t : ℕ) : Refusal → Type 0 where
+  -- the row to be updated is absent
+  NoRow : written w r ≡ None → CantPush w r u t (NoSuchRow (key_written w))
+  -- the record has no room
+  NoRoom : IsFullFor w r u t → CantPush w r u t UndoFull
+
+-- why a write is refused, by its first cause
+pub data CantWrite (w : Write) (s : Places) (u : SegmentLog) (t : ℕ) : Refusal → Type 0 where
+  -- the row to be updated is absent
+  Absent : written w (rows s) ≡ None → CantWrite w s u t (NoSuchRow (key_written w))
+  -- the record has no room
+  Full : IsFullFor w (rows s) u t → CantWrite w s u t UndoFull
+  -- it has, and the tables refuse the change: they never say `UndoFull`
+  Refused : (e : Refusal) → HasRoomFor w (rows s) u t → RefusesWrite w s e → CantWrite w s u t e

@@ -1,0 +1,92 @@
+//! A rewind: the newest commits are undone.
+ghost use Rattle.std.specs.Prelude.{◌≡◌, ◌-◌, ◌<◌, ◌≤◌, ℕ, suc, Option, None, length, take, IfErr, OnOk, OnErr};
+ghost use Rattle.oe_theory.specs.Undo.{unwind_commits};
+ghost use Rattle.oe_theory.specs.Store.{Slot, rewound_to};
+ghost use Rattle.oe_model.specs.System.{system};
+ghost use Rattle.oe_store.specs.Places.{rows, SamePlaces};
+ghost use Rattle.oe_segments.specs.Segments.{active_at, open_total};
+ghost use Rattle.oe_segments.specs.Stands.{undo_of};
+ghost use Rattle.oe_journal.specs.GoesBack.{CanUnwindAll, AllHavePlaces};
+ghost use Rattle.oe_journal.specs.Moments.{store_with, newest, IsKeptMoment, CantRewind};
+ghost use Rattle.oe_journal.specs.Rewinds.{without_newest};
+
+use crate::moments::commits_after;
+use crate::unwinding::take_back;
+use oe_requests::Refusal;
+use oe_segments::Segments;
+use oe_store::Tables;
+use oe_values::{Moment, TERMINALS, TerminalCount};
+
+/// Undoes the commits after a moment, which becomes the newest: their records are put back, the newest first, and their terminals
+/// no longer count them. It takes no memory, and visits no segment that is kept.
+///
+/// `NotQuiet`: so many transactions are open. `TooOld` with the horizon, `Future` with the newest moment: the moment is not
+/// between the two. The first of these is named, and nothing has changed then.
+#[tactic(auto, using(crate::proofs::RewindFacts::none_open))]
+pub fn rewind(tables: &mut Tables, undo: &mut Segments, moment: Moment) -> Result<(), Refusal>
+    requires terminals { length undo.old.terminals ≡ suc TERMINALS }
+    requires places { AllHavePlaces tables.old (undo_of undo.old).history }
+    requires unwinds { open_total undo.old ≡ 0
+        → CanUnwindAll (undo_of undo.old).history (rows tables.old) }
+    ensures quiet { OnOk result (open_total undo.old ≡ 0) }
+    ensures kept { OnOk result (IsKeptMoment undo.old moment) }
+    ensures log { OnOk result (undo.new ≡ without_newest (newest undo.old - moment) undo.old) }
+    ensures rewound { OnOk result
+        ((slots : ℕ → Option (Slot system))
+        → store_with (rows tables.new) undo.new slots
+        ≡ rewound_to system moment (store_with (rows tables.old) undo.old slots)) }
+    ensures places { SamePlaces tables.old tables.new }
+    ensures cause { IfErr result (CantRewind undo.old moment) }
+    ensures err { OnErr result (undo.new ≡ undo.old) }
+    ensures err_tables { OnErr result (tables.new ≡ tables.old) }
+{
+    if let Some(open) = TerminalCount::new(undo.open_count()) {
+        return Err(Refusal::NotQuiet(open));
+    }
+    match commits_after(undo, moment) {
+        Ok(later) => {
+            take_newest(tables, undo, later);
+            Ok(())
+        }
+        Err(refusal) => Err(refusal),
+    }
+}
+
+/// Undoes the newest commits, so many.
+fn take_newest(tables: &mut Tables, undo: &mut Segments, count: usize)
+    requires quiet { (t : ℕ) → active_at undo.old t ≡ None }
+    requires enough { count ≤ length undo.old.committed }
+    requires terminals { length undo.old.terminals ≡ suc TERMINALS }
+    requires places { AllHavePlaces tables.old (undo_of undo.old).history }
+    requires unwinds { CanUnwindAll (undo_of undo.old).history (rows tables.old) }
+    ensures rows { rows tables.new
+        ≡ unwind_commits system (take count (undo_of undo.old).history) (rows tables.old) }
+    ensures log { undo.new ≡ without_newest count undo.old }
+    ensures places { SamePlaces tables.old tables.new }
+{
+    for _ in 0..count {
+        undo_newest(tables, undo);
+    }
+}
+
+/// Undoes the newest commit.
+fn undo_newest(tables: &mut Tables, undo: &mut Segments)
+    requires quiet { (t : ℕ) → active_at undo.old t ≡ None }
+    requires some { 0 < length undo.old.committed }
+    requires terminals { length undo.old.terminals ≡ suc TERMINALS }
+    requires places { AllHavePlaces tables.old (undo_of undo.old).history }
+    requires unwinds { CanUnwindAll (undo_of undo.old).history (rows tables.old) }
+    ensures rows { rows tables.new
+        ≡ unwind_commits system (take 1 (undo_of undo.old).history) (rows tables.old) }
+    ensures log { undo.new ≡ without_newest 1 undo.old }
+    ensures places { SamePlaces tables.old tables.new }
+{
+    let Some(segment) = undo.reopen_newest() else {
+        unreachable!()
+    };
+    // For the proof: the number is in its range.
+    let _terminal = segment.terminal().get();
+    let count = undo.mark(segment);
+    take_back(tables, undo, segment, count);
+    undo.drop_segment(segment);
+}
