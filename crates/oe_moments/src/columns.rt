@@ -113,7 +113,8 @@ pub fn next_order_at(
     moment: Moment,
 ) -> Result<Option<OrderNumber>, Refusal>
     ensures column { IfOk result (λ y. y
-        ≡ option_map (λ x. x.next_order) (get (version tables.now undo.now moment).districts key.now)) }
+        ≡ option_map (λ x. x.next_order)
+        (get (version tables.now undo.now moment).districts key.now)) }
     ensures readable { OnOk result (IsReadable undo.now moment) }
     ensures refusal { IfErr result (λ e. IsOutside undo.now moment e) }
 {
@@ -145,7 +146,8 @@ pub fn balance_at(
     moment: Moment,
 ) -> Result<Option<Balance>, Refusal>
     ensures column { IfOk result (λ y. y
-        ≡ option_map (λ x. x.account.balance) (get (version tables.now undo.now moment).customers key.now)) }
+        ≡ option_map (λ x. x.account.balance)
+        (get (version tables.now undo.now moment).customers key.now)) }
     ensures readable { OnOk result (IsReadable undo.now moment) }
     ensures refusal { IfErr result (λ e. IsOutside undo.now moment e) }
 {
