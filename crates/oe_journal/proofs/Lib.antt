@@ -7,3 +7,5 @@ mod BackFacts
 mod SetFacts
 mod UndoneFacts
 pub mod WriteFacts
+pub mod PurgeFacts
+mod ChangeFacts

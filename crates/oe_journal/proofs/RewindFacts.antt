@@ -150,11 +150,6 @@ pub newest_found : (v : SegmentLog) (cs : List Committed) (t : ℕ) → v.commit
 newest_found v [] t e own within = cc
 newest_found v (c ∷ cs) t e own within = record { newest = c; older = cs; are = e; own = sym (some_inj _ _ own); within = within }
 
--- each log without its newest commit has as many terminals
-pub size_still : (v : SegmentLog) (cs : List Committed) → length (uncounted v cs).terminals ≡ length v.terminals
-size_still v [] = refl
-size_still v (c ∷ cs) = length-set v.terminals c.terminal (record { count = count_at v c.terminal - 1; active = active_at v c.terminal })
-
 abbrev open_again : Committed → Open
 open_again c = record { terminal = c.terminal; number = c.number; records = c.records }
 

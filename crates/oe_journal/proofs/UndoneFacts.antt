@@ -15,7 +15,7 @@ use Rattle.oe_journal.specs.GoesBack.{CanUnwind, CanUnwindAll, HavePlaces, AllHa
 use Rattle.oe_journal.specs.Moments.{store_with, newest}
 use Rattle.oe_journal.specs.Rewinds.{uncounted, without_newest}
 use Rattle.oe_journal.proofs.BackFacts.{more_places, same_places, then_places}
-use Rattle.oe_journal.proofs.RewindFacts.{rewinds, quiet_still, left_over, size_still, IsNewest, newest_records}
+use Rattle.oe_journal.proofs.RewindFacts.{rewinds, quiet_still, left_over, IsNewest, newest_records}
 
 all_more_places : (ts ts' : tables.Places) → ((k : Key) → HasPlace ts k → HasPlace ts' k) → (ss : List (List Record)) → AllHavePlaces ts ss → AllHavePlaces ts' ss
 all_more_places ts ts' more [] h = tt
@@ -58,7 +58,6 @@ pub record Undoes (ts ts' : tables.Places) (u u' : SegmentLog) (count left : ℕ
   pub put : unwind_commits system (take left (undo_of u').history) (rows ts') ≡ unwind_commits system (take count (undo_of u).history) (rows ts)
   pub quiet : (t : ℕ) → active_at u' t ≡ None
   pub enough : left ≤ length u'.committed
-  pub size : length u'.terminals ≡ length u.terminals
   pub places : AllHavePlaces ts' (undo_of u').history
   pub can : CanUnwindAll (undo_of u').history (rows ts')
   pub same : SamePlaces ts ts'
@@ -68,7 +67,7 @@ pub none_undone : (ts : tables.Places) (u : SegmentLog) (count : ℕ) → ((t : 
 none_undone ts u count quiet enough places can =
     let all : count ≡ count - 0 = omega arith in
     subst (Undoes ts ts u u count) all
-    (record { log = refl; put = refl; quiet = quiet; enough = enough; size = refl; places = places; can = can; same = same_places ts })
+    (record { log = refl; put = refl; quiet = quiet; enough = enough; places = places; can = can; same = same_places ts })
 
 -- the first of some lists, and the rest
 parted : (ss : List (List Record)) → 0 < length ss → (bs : List Record) × (ss ≡ bs ∷ drop 1 ss)
@@ -95,7 +94,6 @@ one_undone ts ts' ts'' u u' u'' count left gone put same h =
           ∙ ap (λ z. unwind_commits system (take (suc left) z) (rows ts')) (sym is) ∙ h.put;
       quiet = quiet_still u' u'.committed h.quiet;
       enough = left_over u' u'.committed left refl h.enough;
-      size = size_still u' u'.committed ∙ h.size;
       places = subst (AllHavePlaces ts'') (sym after) (all_more_places ts' ts'' (λ k g. (same k).1 g) (drop 1 hist) places);
       can = subst (λ z. CanUnwindAll z (rows ts'')) (sym after) (subst (CanUnwindAll (drop 1 hist)) (sym now) can);
       same = then_places ts ts' ts'' h.same same;

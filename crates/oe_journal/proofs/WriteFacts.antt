@@ -37,7 +37,7 @@ pushed_there w r u u' t h =
     recorded w r (ap is_some b.1)
 
 -- a log that has a record more
-more_stands : (b : Record) (c : Change) (old new : Places) (u u' : SegmentLog) (t : ℕ) (o : Open) → active_at u t ≡ Some o → b ≡ record_in c (rows old)
+pub more_stands : (b : Record) (c : Change) (old new : Places) (u u' : SegmentLog) (t : ℕ) (o : Open) → active_at u t ≡ Some o → b ≡ record_in c (rows old)
     → Applies c old new (record_in c (rows old)) → HasMore b u u' t → IsRecorded c old new u u' t
 more_stands b c old new u u' t o is same applies h =
     subst (λ z. Applies c old new (record_in c (rows old)) → HasMore z u u' t → IsRecorded c old new u u' t) (sym same)

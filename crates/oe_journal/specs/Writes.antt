@@ -16,7 +16,7 @@ use Rattle.oe_log.specs.Log.{logged, IsFull, IsFresh}
 use Rattle.oe_segments.specs.Segments.{SegmentLog, active_at, pushed, log_of}
 use Rattle.oe_segments.specs.Stands.{undo_of}
 use Rattle.oe_segments.specs.Laws.{StandsWith}
-use Rattle.oe_journal.specs.Records.{record_in, record_of_write}
+use Rattle.oe_journal.specs.Records.{record_in, record_of_write, record_of_change}
 
 -- the write is a change of these rows, which is accepted and made
 abbrev pub IsMade : Write → Places → Places → Type 0
@@ -73,3 +73,16 @@ pub data CantWrite (w : Write) (s : Places) (u : SegmentLog) (t : ℕ) : Refusal
   Full : IsFullFor w (rows s) u t → CantWrite w s u t UndoFull
   -- it has, and the tables refuse the change: they never say `UndoFull`
   Refused : (e : Refusal) → HasRoomFor w (rows s) u t → RefusesWrite w s e → CantWrite w s u t e
+
+-- a terminal's open segment has the record of a change more
+abbrev pub HasPushedChange : Change → Rows → SegmentLog → SegmentLog → ℕ → Type 0
+HasPushedChange c r u u' t = IsSomeAnd (record_of_change c r) (λ b. HasMore b u u' t)
+
+-- that record fits the rest of the terminal's newest extent, or an extent is free
+abbrev pub HasRoomToChange : Change → Rows → SegmentLog → ℕ → Type 0
+HasRoomToChange c r u t = IsSomeAnd (record_of_change c r) (λ b. IsFull (log_of u) t (record_length b) → ⊥)
+
+-- why a change is refused: its record has no room, or the tables refuse it; of several causes of the tables the first is named
+pub data CantChange (c : Change) (s : Places) (u : SegmentLog) (t : ℕ) : Refusal → Type 0 where
+  HasNoRoom : IsFull (log_of u) t (record_length (record_in c (rows s))) → CantChange c s u t UndoFull
+  TablesRefuse : (e : Refusal) → Refuses c s e → IsFirst c (rows s) e → CantChange c s u t e

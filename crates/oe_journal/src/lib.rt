@@ -1,16 +1,20 @@
-//! The nine tables and their undo log on the ring as one: a write with its record, records put back, and a rewind. The record goes
+//! The nine tables and their undo log on the ring as one: a write with its record, records put back, a purge and a rewind. The record goes
 //! first, so that no row is changed without one, and each row is changed where it lies. Nothing takes memory but an insert at a key
 //! without a place.
 #![tactic(auto)]
 
+pub mod changes;
 mod lending;
 mod moments;
+pub mod purges;
 pub mod rewinds;
 mod settings;
 pub mod undoing;
 pub mod unwinding;
 pub mod writes;
 
+pub use changes::change;
+pub use purges::purge;
 pub use rewinds::rewind;
 pub use undoing::undo;
 pub use unwinding::take_back;

@@ -1,5 +1,5 @@
 //! A rewind: the newest commits are undone.
-ghost use Rattle.std.specs.Prelude.{◌≡◌, ◌-◌, ◌<◌, ◌≤◌, ℕ, suc, Option, None, length, take, IfErr, OnOk, OnErr};
+ghost use Rattle.std.specs.Prelude.{◌≡◌, ◌-◌, ◌<◌, ◌≤◌, ℕ, Option, None, length, take, IfErr, OnOk, OnErr};
 ghost use Rattle.oe_theory.specs.Undo.{unwind_commits};
 ghost use Rattle.oe_theory.specs.Store.{Slot, rewound_to};
 ghost use Rattle.oe_model.specs.System.{system};
@@ -15,7 +15,7 @@ use crate::unwinding::take_back;
 use oe_requests::Refusal;
 use oe_segments::Segments;
 use oe_store::Tables;
-use oe_values::{Moment, TERMINALS, TerminalCount};
+use oe_values::{Moment, TerminalCount};
 
 /// Undoes the commits after a moment, which becomes the newest: their records are put back, the newest first, and their terminals
 /// no longer count them. It takes no memory, and visits no segment that is kept.
@@ -24,7 +24,6 @@ use oe_values::{Moment, TERMINALS, TerminalCount};
 /// between the two. The first of these is named, and nothing has changed then.
 #[tactic(auto, using(crate::proofs::RewindFacts::none_open))]
 pub fn rewind(tables: &mut Tables, undo: &mut Segments, moment: Moment) -> Result<(), Refusal>
-    requires terminals { length undo.old.terminals ≡ suc TERMINALS }
     requires places { AllHavePlaces tables.old (undo_of undo.old).history }
     requires unwinds { open_total undo.old ≡ 0
         → CanUnwindAll (undo_of undo.old).history (rows tables.old) }
@@ -56,7 +55,6 @@ pub fn rewind(tables: &mut Tables, undo: &mut Segments, moment: Moment) -> Resul
 fn take_newest(tables: &mut Tables, undo: &mut Segments, count: usize)
     requires quiet { (t : ℕ) → active_at undo.old t ≡ None }
     requires enough { count ≤ length undo.old.committed }
-    requires terminals { length undo.old.terminals ≡ suc TERMINALS }
     requires places { AllHavePlaces tables.old (undo_of undo.old).history }
     requires unwinds { CanUnwindAll (undo_of undo.old).history (rows tables.old) }
     ensures rows { rows tables.new
@@ -73,7 +71,6 @@ fn take_newest(tables: &mut Tables, undo: &mut Segments, count: usize)
 fn undo_newest(tables: &mut Tables, undo: &mut Segments)
     requires quiet { (t : ℕ) → active_at undo.old t ≡ None }
     requires some { 0 < length undo.old.committed }
-    requires terminals { length undo.old.terminals ≡ suc TERMINALS }
     requires places { AllHavePlaces tables.old (undo_of undo.old).history }
     requires unwinds { CanUnwindAll (undo_of undo.old).history (rows tables.old) }
     ensures rows { rows tables.new
@@ -81,10 +78,11 @@ fn undo_newest(tables: &mut Tables, undo: &mut Segments)
     ensures log { undo.new ≡ without_newest 1 undo.old }
     ensures places { SamePlaces tables.old tables.new }
 {
+    // For the proof: the segment is of one of the log's terminals.
+    undo.terminals_are();
     let Some(segment) = undo.reopen_newest() else {
         unreachable!()
     };
-    // For the proof: the number is in its range.
     let _terminal = segment.terminal().get();
     let count = undo.mark(segment);
     take_back(tables, undo, segment, count);

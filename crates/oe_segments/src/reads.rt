@@ -1,5 +1,5 @@
 //! What is known of terminals, and of records, by their addresses or one after another.
-ghost use Rattle.std.specs.Prelude.{◌≡◌, ◌<◌, ◌≤◌, ◌+◌, ◌↔◌, ℕ, [], length, get_or, take, slice_get, option_map, Option, is_some, IsTrue, IsSome, IfSome};
+ghost use Rattle.std.specs.Prelude.{◌≡◌, ◌<◌, ◌≤◌, ◌+◌, ◌↔◌, ℕ, suc, [], length, get_or, take, slice_get, option_map, Option, is_some, IsTrue, IsSome, IfSome};
 ghost use Rattle.oe_layout.specs.Records.{record_of_own};
 ghost use Rattle.oe_log.specs.Log.{HasAddress, IsRecordAt};
 ghost use Rattle.oe_model.specs.System.{system, terminal_limit};
@@ -24,6 +24,13 @@ impl Segments {
     /// Terminal 0 is nobody, and has no records. It does nothing: it is for proofs above, which see no invariant.
     pub fn nobody_has_records(&self)
         ensures { records_at self.now 0 ≡ [] }
+    {
+        let _known = &self.log;
+    }
+
+    /// The log has a state of each terminal, and one of nobody. It does nothing: it is for proofs above, which see no invariant.
+    pub fn terminals_are(&self)
+        ensures { length self.now.terminals ≡ suc TERMINALS }
     {
         let _known = &self.log;
     }

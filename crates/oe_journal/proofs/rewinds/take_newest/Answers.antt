@@ -1,4 +1,4 @@
-use Rattle.std.proofs.Common.{◌≡◌, ◌-◌, ◌+◌, suc, ◌∙◌, subst, arith}
+use Rattle.std.proofs.Common.{◌≡◌, ◌-◌, ◌+◌, suc, subst, arith}
 use Rattle.oe_journal.proofs.UndoneFacts.{one_undone, Undoes}
 use Rattle.oe_journal.proofs.rewinds.take_newest.Goals as goal
 
@@ -8,6 +8,3 @@ loop-preserved c =
     one_undone c.args.tables.now c.loop.tables c.undo_newest.new.tables c.args.undo.now c.loop.undo c.undo_newest.new.undo c.args.count (c.args.count - (c.loop.counter + 1))
     c.undo_newest.ensures.log c.undo_newest.ensures.rows c.undo_newest.ensures.places
     (subst (Undoes c.args.tables.now c.loop.tables c.args.undo.now c.loop.undo c.args.count) one_less c.loop.invariant)
-
-pub undo_newest-requires-clause-terminals : goal.undo_newest-requires-clause-terminals
-undo_newest-requires-clause-terminals c = c.loop.invariant.size ∙ c.requires.terminals

@@ -8,7 +8,7 @@ use Rattle.oe_journal.proofs.rewinds.undo_newest.Goals as goal
 
 found : (c : After-get-terminal) → IsNewest c.args.undo.now c.in-Some.segment
 found c =
-    let within : c.in-Some.segment < length c.args.undo.now.terminals = omega (arith, c.get-terminal.ensures.value, c.get-terminal.ensures.high, c.terminal.ensures, c.requires.terminals) in
+    let within : c.in-Some.segment < length c.args.undo.now.terminals = omega (arith, c.get-terminal.ensures.value, c.get-terminal.ensures.high, c.terminal.ensures, c.terminals_are.ensures) in
     newest_found c.args.undo.now c.args.undo.now.committed c.in-Some.segment refl c.in-Some.ensures.segment within
 
 is_open : (c : After-get-terminal) → is_some (active_at c.reopen_newest.new.self c.in-Some.segment) ≡ true
