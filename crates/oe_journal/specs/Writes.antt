@@ -4,7 +4,7 @@ use Rattle.std.specs.Option.{IsSomeAnd}
 use Rattle.oe_requests.specs.declared.refusals.Refusal.{Refusal}
 use Rattle.oe_requests.specs.declared.refusals.Refusal.TheVariants.{NoSuchRow, UndoFull}
 use Rattle.oe_model.specs.Rows.{Rows}
-use Rattle.oe_model.specs.Changes.{Change, Record}
+use Rattle.oe_model.specs.Changes.{Change, Record, key_of}
 use Rattle.oe_model.specs.Lengths.{record_length}
 use Rattle.oe_records.specs.declared.writes.Write.{Write}
 use Rattle.oe_records.specs.Writes.{key_written, written}
@@ -82,7 +82,15 @@ HasPushedChange c r u u' t = IsSomeAnd (record_of_change c r) (λ b. HasMore b u
 abbrev pub HasRoomToChange : Change → Rows → SegmentLog → ℕ → Type 0
 HasRoomToChange c r u t = IsSomeAnd (record_of_change c r) (λ b. IsFull (log_of u) t (record_length b) → ⊥)
 
--- why a change is refused: its record has no room, or the tables refuse it; of several causes of the tables the first is named
+-- it fits neither there nor in a free extent
+abbrev pub IsFullToChange : Change → Rows → SegmentLog → ℕ → Type 0
+IsFullToChange c r u t = IsSomeAnd (record_of_change c r) (λ b. IsFull (log_of u) t (record_length b))
+
+-- why a change is refused, by its first cause
 pub data CantChange (c : Change) (s : Places) (u : SegmentLog) (t : ℕ) : Refusal → Type 0 where
-  HasNoRoom : IsFull (log_of u) t (record_length (record_in c (rows s))) → CantChange c s u t UndoFull
-  TablesRefuse : (e : Refusal) → Refuses c s e → IsFirst c (rows s) e → CantChange c s u t e
+  -- the row to be updated is absent
+  NothingThere : record_of_change c (rows s) ≡ None → CantChange c s u t (NoSuchRow (key_of c))
+  -- the record has no room
+  HasNoRoom : IsFullToChange c (rows s) u t → CantChange c s u t UndoFull
+  -- it has, and the tables refuse the change; of several causes of theirs the first is named
+  TablesRefuse : (e : Refusal) → HasRoomToChange c (rows s) u t → Refuses c s e → IsFirst c (rows s) e → CantChange c s u t e

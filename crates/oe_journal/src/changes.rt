@@ -18,8 +18,8 @@ use oe_store::Tables;
 /// Makes a change of one row, with its record in an open segment, or says why not. The record goes first, straight from where the row
 /// lies.
 ///
-/// `UndoFull`: its record fits neither the rest of the segment's newest extent nor a free one. Else the tables refuse the change, as
-/// `apply` of `oe_change` says. After a refusal nothing has changed.
+/// `NoSuchRow`: the row to be updated is absent. `UndoFull`: its record fits neither the rest of the segment's newest extent nor a
+/// free one. Else the tables refuse the change, as `apply` of `oe_change` says. After a refusal nothing has changed.
 pub fn change(
     tables: &mut Tables,
     undo: &mut Segments,

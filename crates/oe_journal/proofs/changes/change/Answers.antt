@@ -21,7 +21,7 @@ returns-in-Ok-clause-room c =
     change_fits (change_of c.args.change) c.args.tables.now c.apply.new.tables c.args.undo.now c.args.segment c.in-Ok.ensures.applied.accepted c.in_default.ensures.room
 
 pub returns-in-Err-apply-clause-cause : goal.returns-in-Err-apply-clause-cause
-returns-in-Err-apply-clause-cause c = TablesRefuse c.in-Err-apply.refusal c.in-Err-apply.ensures.refused c.in-Err-apply.ensures.first
+returns-in-Err-apply-clause-cause c = TablesRefuse c.in-Err-apply.refusal c.in_default.ensures.room c.in-Err-apply.ensures.refused c.in-Err-apply.ensures.first
 
 pub returns-in-Err-apply-clause-err_undo : goal.returns-in-Err-apply-clause-err_undo
 returns-in-Err-apply-clause-err_undo c =
