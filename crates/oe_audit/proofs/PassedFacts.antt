@@ -11,9 +11,9 @@ use Rattle.oe_model.specs.System.{system}
 use Rattle.oe_model.proofs.PresenceFacts.{some-map, present_some}
 use Rattle.oe_store.specs.Places.{rows}
 use Rattle.oe_store.specs.Places as tables
-use Rattle.oe_undo.specs.Undo as undo
-use Rattle.oe_versions.specs.Versions.{store_with, version, Stand}
-use Rattle.oe_versions.proofs.LastingFacts.{rows_last, versions_meet}
+use Rattle.oe_segments.specs.Segments.{SegmentLog}
+use Rattle.oe_moments.specs.Versions.{store_with, version, Stand}
+use Rattle.oe_moments.proofs.LastingFacts.{rows_last, versions_meet}
 use Rattle.oe_audit.specs.AsOf.{ArePassed}
 
 pub passed_now : (r : Rows) → Meets r → ArePassed r r
@@ -25,7 +25,7 @@ passed_now r m = record {
   new_orders = λ k there. let x = present_some (get r.new_orders k) there in m.new_orders k x.0 x.1;
 }
 
-module _ (ts : tables.Places) (u : undo.UndoLog) (m : ℕ) (h : Stand ts u) where
+module _ (ts : tables.Places) (u : SegmentLog) (m : ℕ) (h : Stand ts u) where
   abbrev past : Rows
   past = version ts u m
 

@@ -1,5 +1,5 @@
 -- When an audit looks at the rows, and what its walks of the rows that stand find then.
-use Rattle.std.specs.Prelude.{ℕ, Bool, List, length, Option, None, Some, IsSome, option_map, max}
+use Rattle.std.specs.Prelude.{ℕ, Bool, true, List, length, Option, None, Some, IsSome, is_some, option_map, max}
 use Rattle.std.specs.List.{filter_map}
 use Rattle.std.specs.declared.cmp.Ordering.{Ordering}
 use Rattle.std.specs.FinMap.{FinMap, get}
@@ -8,16 +8,15 @@ use Rattle.oe_keys.specs.declared.keys.DistrictKey.{DistrictKey}
 use Rattle.oe_keys.specs.declared.keys.OrderKey.{OrderKey}
 use Rattle.oe_keys.specs.declared.keys.OrderLineKey.{OrderLineKey}
 use Rattle.oe_keys.specs.declared.keys.NewOrderKey.{NewOrderKey}
-use Rattle.oe_rows.specs.declared.districts.District.{District}
 use Rattle.oe_rows.specs.declared.orders.OrderLine.{OrderLine}
 use Rattle.oe_requests.specs.declared.refusals.Refusal.{Refusal}
 use Rattle.oe_model.specs.Keys.{order_of_new_order}
 use Rattle.oe_model.specs.Rows.{Rows}
-use Rattle.oe_model.specs.Audits.{Condition, Second, Third, Fourth, passes_2}
+use Rattle.oe_model.specs.Audits.{Condition, Second, Third, Fourth}
 use Rattle.oe_store.specs.Places.{rows}
 use Rattle.oe_store.specs.Places as tables
-use Rattle.oe_versions.specs.Versions.{version, IsOutside}
-use Rattle.oe_audit.specs.Tests.{are_counted, lines_agree}
+use Rattle.oe_moments.specs.Versions.{version, IsOutside}
+use Rattle.oe_audit.specs.Tests.{is_numbered, are_counted, lines_agree}
 use Rattle.oe_audit.specs.declared.as_of.AsOf.{AsOf}
 use Rattle.oe_audit.specs.declared.as_of.AsOf.TheVariants as when
 use Rattle.oe_audit.specs.declared.conditions.DistrictCondition.{DistrictCondition}
@@ -37,6 +36,11 @@ IsUnread (when.Moment u m) e = IsOutside u.now m e
 abbrev pub row_then : {K X : Type 0} {R : K → K → Ordering} → AsOf → FinMap R X → K → X → Option X
 row_then when.Now m k x = Some x
 row_then (when.Moment u n) m k x = get m k
+
+-- whether a key has a row then, where it has one now
+abbrev pub has_row_then : {K X : Type 0} {R : K → K → Ordering} → AsOf → FinMap R X → K → Bool
+has_row_then when.Now m k = true
+has_row_then (when.Moment u n) m k = is_some (get m k)
 
 -- what the keys of these rows have then
 abbrev pub stood : {K X : Type 0} {R : K → K → Ordering}
@@ -71,11 +75,11 @@ model_condition of_districts.Second = Second
 model_condition of_districts.Third = Third
 model_condition of_districts.Fourth = Fourth
 
--- a district passes it
-abbrev pub passes : DistrictCondition → Rows → DistrictKey → District → Bool
-passes of_districts.Second r h x = passes_2 r h x
-passes of_districts.Third r h x = are_counted r h
-passes of_districts.Fourth r h x = lines_agree r h
+-- a district with this D_NEXT_O_ID passes it
+abbrev pub passes : DistrictCondition → Rows → DistrictKey → ℕ → Bool
+passes of_districts.Second r h next = is_numbered r h next
+passes of_districts.Third r h next = are_counted r h
+passes of_districts.Fourth r h next = lines_agree r h
 
 -- the greater of a number and the one before it, where there is one
 abbrev pub greater_of : Option ℕ → ℕ → ℕ

@@ -1,12 +1,22 @@
--- Tests of a row that read none of its columns but the key's, and what they go by.
-use Rattle.std.specs.Prelude.{ℕ, ◌+◌, ◌-◌, ◌==◌, Bool, true, Option, None, Some, is_some}
+-- Tests of a row that are told its key, and no column or one, and what they go by.
+use Rattle.std.specs.Prelude.{ℕ, ◌+◌, ◌-◌, ◌==◌, Bool, true, ◌&&◌, Option, None, Some, is_some}
 use Rattle.std.specs.FinMap.{get}
 use Rattle.oe_keys.specs.declared.keys.WarehouseKey.{WarehouseKey}
 use Rattle.oe_keys.specs.declared.keys.DistrictKey.{DistrictKey}
 use Rattle.oe_model.specs.Rows.{Rows}
-use Rattle.oe_model.specs.Conditions.{new_orders_of, lines_asked, lines_there}
+use Rattle.oe_model.specs.Conditions.{ytd_of, new_orders_of, lines_asked, lines_there}
 use Rattle.oe_model.specs.PopulationTest.{each_row}
-use Rattle.oe_model.specs.Audits.{greatest, least, none_or, new_order_numbers}
+use Rattle.oe_model.specs.Audits.{greatest, least, some_and, none_or, order_numbers, new_order_numbers}
+
+-- W_YTD is the sum of the D_YTD of the warehouse's districts (clause 3.3.2.1)
+abbrev pub is_summed : Rows → WarehouseKey → ℕ → Bool
+is_summed r w ytd = ytd == ytd_of r w
+
+-- D_NEXT_O_ID is the number after a district's greatest O_ID, and after its greatest NO_O_ID where there is one (clause 3.3.2.2)
+abbrev pub is_numbered : Rows → DistrictKey → ℕ → Bool
+is_numbered r h next =
+    some_and (greatest (order_numbers h r.orders)) (λ n. next == n + 1)
+    && none_or (greatest (new_order_numbers h r.new_orders)) (λ n. next == n + 1)
 
 -- where a district has a NEW-ORDER row, the greatest NO_O_ID less the least, and 1, is their number (clause 3.3.2.3)
 abbrev pub are_counted : Rows → DistrictKey → Bool

@@ -2,8 +2,8 @@
 ghost use Rattle.std.specs.Prelude.{◌≡◌, IsTrue, IfOk, IfErr, OnOk};
 ghost use Rattle.oe_model.specs.Audits.{First};
 ghost use Rattle.oe_store.specs.Places.{rows};
-ghost use Rattle.oe_undo.specs.Undo.{open_total};
-ghost use Rattle.oe_versions.specs.Versions.{version, Stand, IsReadable, IsOutside};
+ghost use Rattle.oe_segments.specs.Segments.{open_total};
+ghost use Rattle.oe_moments.specs.Versions.{version, Stand, IsReadable, IsOutside};
 ghost use Rattle.oe_audit.specs.AsOf.{rows_then, model_condition, passes, ArePassed, IsUnread};
 ghost use Rattle.oe_audit.specs.Verdict.{IsVerdict, IsAudited};
 
@@ -11,13 +11,12 @@ use crate::as_of::AsOf;
 use crate::districts::{passes_fourth, passes_second, passes_third};
 use crate::warehouses::passes_first;
 use oe_keys::{DistrictKey, Key};
+use oe_moments::commits_after;
 use oe_requests::Refusal;
-use oe_rows::District;
+use oe_segments::Segments;
 use oe_steps::{Condition, Verdict};
 use oe_store::Tables;
-use oe_undo::Undo;
-use oe_values::Moment;
-use oe_versions::commits_after;
+use oe_values::{Moment, OrderNumber};
 
 /// The conditions that are asked of each district.
 pub(crate) enum DistrictCondition {
@@ -33,32 +32,35 @@ fn first<'a>(tables: &'a Tables, when: &AsOf<'a>) -> Result<Verdict, Refusal>
     ensures refusal { IfErr result (λ e. IsUnread when.now e) }
 {
     for (key, row) in tables.warehouses() {
-        let found = when.warehouse(tables, key, row)?;
-        if let Some(row) = found {
-            let passed = passes_first(tables, when, key, row)?;
-            if !passed {
-                return Ok(Verdict::Fails(Key::Warehouse(*key)));
+        match when.warehouse_ytd(tables, key, row) {
+            Ok(Some(ytd)) => {
+                let passed = passes_first(tables, when, key, ytd)?;
+                if !passed {
+                    return Ok(Verdict::Fails(Key::Warehouse(*key)));
+                }
             }
+            Ok(None) => {}
+            Err(refusal) => return Err(refusal),
         }
     }
     Ok(Verdict::Holds)
 }
 
-/// Whether a district passes a condition.
+/// Whether a district with this D_NEXT_O_ID passes a condition.
 fn passes<'a>(
     condition: &DistrictCondition,
     tables: &'a Tables,
     when: &AsOf<'a>,
     key: &DistrictKey,
-    district: &District,
+    next_order: OrderNumber,
 ) -> Result<bool, Refusal>
     requires { ArePassed (rows_then tables.now when.now) (rows tables.now) }
     ensures passed { IfOk result (λ b.
-        b ≡ passes condition.now (rows_then tables.now when.now) key.now district.now) }
+        b ≡ passes condition.now (rows_then tables.now when.now) key.now next_order) }
     ensures refusal { IfErr result (λ e. IsUnread when.now e) }
 {
     match condition {
-        DistrictCondition::Second => passes_second(tables, when, key, district),
+        DistrictCondition::Second => passes_second(tables, when, key, next_order),
         DistrictCondition::Third => passes_third(tables, when, key),
         DistrictCondition::Fourth => passes_fourth(tables, when, key),
     }
@@ -76,12 +78,15 @@ fn of_districts<'a>(
     ensures refusal { IfErr result (λ e. IsUnread when.now e) }
 {
     for (key, row) in tables.districts() {
-        let found = when.district(tables, key, row)?;
-        if let Some(row) = found {
-            let passed = passes(condition, tables, when, key, row)?;
-            if !passed {
-                return Ok(Verdict::Fails(Key::District(*key)));
+        match when.next_order(tables, key, row) {
+            Ok(Some(next_order)) => {
+                let passed = passes(condition, tables, when, key, next_order)?;
+                if !passed {
+                    return Ok(Verdict::Fails(Key::District(*key)));
+                }
             }
+            Ok(None) => {}
+            Err(refusal) => return Err(refusal),
         }
     }
     Ok(Verdict::Holds)
@@ -116,7 +121,7 @@ pub fn condition(number: Condition, tables: &Tables) -> Verdict
 }
 
 /// Whether there is nothing to put back: no commit is later, and no transaction is open.
-fn is_settled(undo: &Undo, later: usize) -> bool
+fn is_settled(undo: &Segments, later: usize) -> bool
     ensures commits { IsTrue result → later ≡ 0 }
     ensures open { IsTrue result → open_total undo.now ≡ 0 }
 {
@@ -127,7 +132,7 @@ fn is_settled(undo: &Undo, later: usize) -> bool
 fn found_at<'a>(
     number: Condition,
     tables: &'a Tables,
-    undo: &'a Undo,
+    undo: &'a Segments,
     moment: Moment,
 ) -> Result<Verdict, Refusal>
     requires { Stand tables.now undo.now }
@@ -146,7 +151,7 @@ fn found_at<'a>(
 pub fn condition_at(
     number: Condition,
     tables: &Tables,
-    undo: &Undo,
+    undo: &Segments,
     moment: Moment,
 ) -> Result<Verdict, Refusal>
     requires { Stand tables.now undo.now }

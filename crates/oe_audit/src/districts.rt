@@ -1,16 +1,17 @@
 //! The second, third and fourth consistency conditions, at a district.
 ghost use Rattle.std.specs.Prelude.{◌≡◌, ◌≤◌, ◌+◌, ◌↔◌, ◌==◌, IsTrue, IfOk, IfErr};
-ghost use Rattle.oe_model.specs.Audits.{passes_2, greatest, some_and, none_or, order_numbers, new_order_numbers};
+ghost use Rattle.oe_model.specs.Audits.{greatest, some_and, none_or, order_numbers, new_order_numbers};
 ghost use Rattle.oe_store.specs.Places.{rows};
 ghost use Rattle.oe_audit.specs.AsOf.{rows_then, lines_stood, greater_of, ArePassed, IsUnread};
-ghost use Rattle.oe_audit.specs.Tests.{are_counted, follows, lines_agree};
+ghost use Rattle.oe_audit.specs.Tests.{is_numbered, are_counted, follows, lines_agree};
 
 use crate::as_of::AsOf;
 use oe_keys::{DistrictKey, OrderLineKey};
 use oe_requests::Refusal;
-use oe_rows::{District, OrderLine};
+use oe_rows::OrderLine;
 use oe_store::Tables;
 use oe_table::shelf_walks::Rows;
+use oe_values::OrderNumber;
 
 /// The greater of a number and the one before it, where there is one.
 fn greater(before: Option<u32>, number: u32) -> u32
@@ -35,9 +36,13 @@ fn last_order<'a>(
 {
     let mut last = None;
     for (order, row) in tables.orders_of(*key) {
-        let placed = when.order(tables, order, row)?;
-        if placed.is_some() {
-            last = Some(greater(last, order.order.get()));
+        match when.order(tables, order, row) {
+            Ok(placed) => {
+                if placed.is_some() {
+                    last = Some(greater(last, order.order.get()));
+                }
+            }
+            Err(refusal) => return Err(refusal),
         }
     }
     Ok(last)
@@ -93,14 +98,14 @@ pub(crate) fn passes_second<'a>(
     tables: &'a Tables,
     when: &AsOf<'a>,
     key: &DistrictKey,
-    district: &District,
+    next_order: OrderNumber,
 ) -> Result<bool, Refusal>
     requires { ArePassed (rows_then tables.now when.now) (rows tables.now) }
     ensures passed { IfOk result (λ b.
-        b ≡ passes_2 (rows_then tables.now when.now) key.now district.now) }
+        b ≡ is_numbered (rows_then tables.now when.now) key.now next_order) }
     ensures refusal { IfErr result (λ e. IsUnread when.now e) }
 {
-    let next = district.next_order.get();
+    let next = next_order.get();
     let last = next - 1;
     match last_order(tables, when, key) {
         Ok(order) => {
@@ -172,12 +177,16 @@ fn takes<'a>(
 {
     let mut wanted = count;
     while wanted > 0 {
-        let Some((key, line)) = lines.next() else {
+        let Some((key, _)) = lines.next() else {
             return Ok(false);
         };
-        let found = when.order_line(tables, key, line)?;
-        if found.is_some() {
-            wanted -= 1;
+        match when.has_order_line(tables, key) {
+            Ok(stood) => {
+                if stood {
+                    wanted -= 1;
+                }
+            }
+            Err(refusal) => return Err(refusal),
         }
     }
     Ok(true)
@@ -209,12 +218,15 @@ pub(crate) fn passes_fourth<'a>(
 {
     let mut lines = tables.order_lines_of_district(*key);
     for (order, row) in tables.orders_of(*key) {
-        let found = when.order(tables, order, row)?;
-        if let Some(row) = found {
-            let enough = takes(&mut lines, tables, when, row.line_count.get())?;
-            if !enough {
-                return Ok(false);
+        match when.order(tables, order, row) {
+            Ok(Some(placed)) => {
+                let enough = takes(&mut lines, tables, when, placed.line_count.get())?;
+                if !enough {
+                    return Ok(false);
+                }
             }
+            Ok(None) => {}
+            Err(refusal) => return Err(refusal),
         }
     }
     let has_more = has_more(&mut lines, tables, when)?;

@@ -1,14 +1,14 @@
 //! The first consistency condition, at a warehouse.
 ghost use Rattle.std.specs.Prelude.{◌≡◌, IfOk, IfErr};
-ghost use Rattle.oe_model.specs.Audits.{passes_1};
 ghost use Rattle.oe_store.specs.Places.{rows};
 ghost use Rattle.oe_audit.specs.AsOf.{rows_then, ArePassed, IsUnread};
+ghost use Rattle.oe_audit.specs.Tests.{is_summed};
 
 use crate::as_of::AsOf;
 use oe_keys::WarehouseKey;
 use oe_requests::Refusal;
-use oe_rows::Warehouse;
 use oe_store::Tables;
+use oe_values::YearToDate;
 
 /// Whether W_YTD is the sum of the D_YTD of the warehouse's districts (clause 3.3.2.1).
 ///
@@ -17,21 +17,23 @@ pub(crate) fn passes_first<'a>(
     tables: &'a Tables,
     when: &AsOf<'a>,
     key: &WarehouseKey,
-    warehouse: &Warehouse,
+    ytd: YearToDate,
 ) -> Result<bool, Refusal>
     requires { ArePassed (rows_then tables.now when.now) (rows tables.now) }
-    ensures passed { IfOk result (λ b.
-        b ≡ passes_1 (rows_then tables.now when.now) key.now warehouse.now) }
+    ensures passed { IfOk result (λ b. b ≡ is_summed (rows_then tables.now when.now) key.now ytd) }
     ensures refusal { IfErr result (λ e. IsUnread when.now e) }
 {
-    let mut rest = warehouse.ytd.cents();
+    let mut rest = ytd.cents();
     for (district, row) in tables.districts_of(*key) {
-        let found = when.district(tables, district, row)?;
-        if let Some(row) = found {
-            let Some(less) = rest.checked_sub(row.ytd.cents()) else {
-                return Ok(false);
-            };
-            rest = less;
+        match when.district_ytd(tables, district, row) {
+            Ok(Some(taken)) => {
+                let Some(less) = rest.checked_sub(taken.cents()) else {
+                    return Ok(false);
+                };
+                rest = less;
+            }
+            Ok(None) => {}
+            Err(refusal) => return Err(refusal),
         }
     }
     Ok(rest == 0)

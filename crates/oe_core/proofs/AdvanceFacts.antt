@@ -2,10 +2,12 @@
 use Rattle.std.proofs.Common.{◌≡◌, ℕ, suc, inl, inr, true, false, List, [], ◌∷◌, Option, Some, None, length, slice_get, slice_set, sym, ap, ◌∙◌, subst, refl}
 use Rattle.std.specs.Prelude.{◌⊎◌}
 use Rattle.std.specs.FinMap.{get}
+use Rattle.std.proofs.lemmas.Bool.{cases_lt}
 use Rattle.oe_theory.specs.Machine.{Mode, Ask, Stop, Plain, Take, Fail, Go, Tx}
 use Rattle.oe_theory.specs.World.{Open, World, total, go_together, latest}
-use Rattle.oe_theory.specs.Next.{Next, Step, Answer, Advance, More, Committed, Aborted, IsNew, GivesWay, held_after}
-use Rattle.oe_theory.specs.Store.{Slot, Store, tx_in, opened_by, slot_after, dropped, IsGrantedIn, IsInTheWayIn, MayLackMemoryIn, TakesNoRoom}
+use Rattle.oe_theory.specs.Next.{Next, Step, Answer, Advance, More, Committed, Aborted, IsNew, GivesWay, held_after, filled, record_on}
+use Rattle.oe_theory.specs.Undo.{lengths_of, used_of}
+use Rattle.oe_theory.specs.Store.{Slot, Store, tx_in, opened_by, slot_after, dropped, IsGrantedIn, IsInTheWayIn, HasRoomIn, MayLackMemoryIn}
 use Rattle.oe_theory.specs.Store as theory
 use Rattle.oe_theory.specs.StoreTheorems.{Leads}
 use Rattle.oe_theory.specs.Laws.{Holds, held_of}
@@ -25,31 +27,38 @@ use Rattle.oe_requests.specs.declared.refusals.Refusal.{Refusal}
 use Rattle.oe_requests.specs.declared.refusals.Refusal.TheVariants.{BadLine, NoSuchRow, RowExists, Overflow, Reference, KeyColumn, Busy, UndoFull, NoMemory, NotOpen, AlreadyOpen, InvalidItem, NoCustomer, TooOld, Future, NotQuiet, NotPinned}
 use Rattle.oe_steps.specs.declared.steps.Step.TheVariants as step
 use Rattle.oe_steps.specs.declared.answers.Answer.TheVariants as answer
-use Rattle.oe_model.specs.Keys.{warehouse_of_district, customer_in}
 use Rattle.oe_model.specs.Rows.{Rows}
 use Rattle.oe_model.specs.Changes.{Change}
 use Rattle.oe_model.specs.Meets.{Accepts}
-use Rattle.oe_model.specs.Effects.{Doing, given}
 use Rattle.oe_model.specs.Positions as model
 use Rattle.oe_model.specs.Requests.{MayRefuse}
-use Rattle.oe_model.specs.System.{system, ask, act, taken, yields, may_allocate, length_in, terminal_limit}
+use Rattle.oe_model.specs.System.{system, ask, act, taken, yields, may_allocate, terminal_limit}
 use Rattle.oe_model.proofs.ChangeFacts.{not_both}
 use Rattle.oe_model.proofs.SystemLaws.{laws}
 use Rattle.oe_engine.specs.View.{View, view_of, Handle, IsOpen}
 use Rattle.oe_engine.specs.View as engine
-use Rattle.oe_engine.specs.Calls.{IsFree, IsInTheWay, stage_done, committed, rolled_back}
+use Rattle.oe_engine.specs.Calls.{IsFree, IsInTheWay, IsFullFor, IsFullForAny, stage_done, committed, rolled_back}
 use Rattle.oe_engine.specs.Programs.{reply_at, tx_of, ask_here, act_here, IsFreeHere, GoesOn, IsReady, Ends, WantsMemory, IsRefused}
 use Rattle.oe_engine.proofs.ReplyFacts.{ready_at}
-use Rattle.oe_core.specs.Core.{CoreState, IsOf, position_of, reply_of, HoldsTaken, in_slot, reply_left, last_reply, work_at, slot_of, open_at, store_of, world_of, IsOrderly, Moves, keeps_open}
+use Rattle.oe_core.specs.Core.{CoreState, IsOf, position_of, reply_of, HoldsTaken, in_slot, reply_left, last_reply, work_at, slot_of, open_at, store_with, store_of, world_of, IsOrderly, Moves, keeps_open}
 use Rattle.oe_core.specs.Steps.{refusal_in, Carries}
 use Rattle.oe_core.specs.declared.slots.Work.{Work}
 use Rattle.oe_core.specs.declared.programs.Program.{Program}
+use Rattle.oe_core.proofs.WantFacts.{allocates}
 use Rattle.oe_core.proofs.SlotFacts.{get_slot, get_set_same}
 use Rattle.oe_core.proofs.MoveFacts.{within, works_within, standing, carries, the_steps, has_work, HasOpen, slot_here, own_work, worked, emptied, open_still, work_still, dropped_here}
 
-no_room : TakesNoRoom system
-unfolding length_in
-no_room b = refl
+-- a record that has room has it in the theory's words
+has_room : (v : View) (f : ℕ → Option Work) (t : ℕ) (c : Option Change) → (IsFullForAny v t c → ⊥) → HasRoomIn system (store_with v f) t c
+has_room v f t None room = tt
+has_room v f t (Some c) room =
+    elim (cases_lt (filled system (lengths_of system (v.undo.active t))).1 (system.size_of (record_on system c v.rows))) [
+      | inl over ↦ elim (cases_lt (used_of system v.undo) v.extents) [
+        | inl free ↦ inr free
+        | inr all ↦ absurd (room (over, all))
+      ]
+      | inr fits ↦ inl fits
+    ]
 
 -- what stands in the way of another lock
 slot_held : (v : View) (u : ℕ) (x : Option Work) (p : Slot system) → open_at v u x ≡ Some p → p.held ≡ v.held u
@@ -145,12 +154,6 @@ holds_taken {s} {t} {x} {w} h n m g =
     (subst (λ (z : Tx Request). Holds system (taken z (position_of w.request w.program)) n m) (same_tx s t x w h) g))
 
 -- what no program ends with
-never_UndoFull : (q : Request) → MayRefuse q UndoFull → ⊥
-never_UndoFull (request.Payment q) h = h
-never_UndoFull (request.NewOrder q) h = h
-never_UndoFull (request.Delivery q) h = h
-never_UndoFull (request.Deliveries q) h = h
-never_UndoFull (request.Rename q) h = h
 
 never_AlreadyOpen : (q : Request) → MayRefuse q AlreadyOpen → ⊥
 never_AlreadyOpen (request.Payment q) h = h
@@ -180,47 +183,6 @@ never_NotQuiet n (request.Delivery q) h = h
 never_NotQuiet n (request.Deliveries q) h = h
 never_NotQuiet n (request.Rename q) h = h
 
--- a row that reads a row first, where it makes a change
-given_goes : {A : Type 0} (e : Refusal) (o : Option A) (f : A → Doing) (c : Change) (z : model.Position) → given e o f ≡ Go (Some c) z → (a : A) × (f a ≡ Go (Some c) z)
-given_goes e None f c z h = let no : ⊥ = cc in absurd no
-given_goes e (Some a) f c z h = (a, h)
-
-only_reads : (p : model.Position) (c : Change) (z : model.Position) → ◌≡◌ {A = Doing} (Go None p) (Go (Some c) z) → ⊥
-only_reads p c z h = cc
-
--- a row's change may need memory
-payment_allocates : (x : Tx Request) (q : PaymentRequest) (p : model.PaymentPosition) (r : Rows) (c : Change) (z : model.Position) → act x (model.InPayment q p) r ≡ Go (Some c) z → may_allocate (model.InPayment q p) ≡ true
-payment_allocates x q model.PaymentWarehouse r c z e = refl
-payment_allocates x q (model.PaymentDistrict n) r c z e = refl
-payment_allocates x q (model.PaymentCustomer n d) r c z e = refl
-payment_allocates x q (model.PaymentHistory d y) r c z e = refl
-payment_allocates x q (model.PaymentEnd y) r c z e = let no : ⊥ = cc in absurd no
-
-new_order_allocates : (x : Tx Request) (q : NewOrderRequest) (p : model.NewOrderPosition) (r : Rows) (c : Change) (z : model.Position) → act x (model.InNewOrder q p) r ≡ Go (Some c) z → may_allocate (model.InNewOrder q p) ≡ true
-new_order_allocates x q model.NewOrderWarehouse r c z e =
-    let (y, f) = given_goes (NoSuchRow (key.Warehouse (warehouse_of_district q.district))) (get r.warehouses (warehouse_of_district q.district)) _ c z e in absurd (only_reads _ c z f)
-new_order_allocates x q (model.NewOrderDistrict w) r c z e = refl
-new_order_allocates x q (model.NewOrderCustomer o w d) r c z e =
-    let (y, f) = given_goes NoCustomer (get r.customers (customer_in q.district q.customer)) _ c z e in absurd (only_reads _ c z f)
-new_order_allocates x q (model.NewOrderOrder y) r c z e = refl
-new_order_allocates x q (model.NewOrderQueue y) r c z e = refl
-new_order_allocates x q (model.NewOrderStock y before done []) r c z e = let no : ⊥ = cc in absurd no
-new_order_allocates x q (model.NewOrderStock y before done (l ∷ ls)) r c z e = refl
-new_order_allocates x q (model.NewOrderLine y before done l f ls) r c z e = refl
-
-delivery_allocates : (x : Tx Request) (q : DeliveryRequest) (p : model.DeliveryPosition) (r : Rows) (c : Change) (z : model.Position) → act x (model.InDelivery q p) r ≡ Go (Some c) z → may_allocate (model.InDelivery q p) ≡ true
-delivery_allocates x q model.DeliveryQueue r c z e = refl
-delivery_allocates x q model.DeliveryNothing r c z e = let no : ⊥ = cc in absurd no
-delivery_allocates x q (model.DeliveryOrder o) r c z e = refl
-delivery_allocates x q (model.DeliveryLine o k ns sum) r c z e = refl
-delivery_allocates x q (model.DeliveryEnd o k sum) r c z e = let no : ⊥ = cc in absurd no
-
-allocates : (x : Tx Request) (p : model.Position) (r : Rows) (c : Change) (z : model.Position) → act x p r ≡ Go (Some c) z → may_allocate p ≡ true
-allocates x (model.InPayment q p) r c z e = payment_allocates x q p r c z e
-allocates x (model.InNewOrder q p) r c z e = new_order_allocates x q p r c z e
-allocates x (model.InDelivery q p) r c z e = delivery_allocates x q p r c z e
-allocates x model.NoProgram r c z e = let no : ⊥ = cc in absurd no
-
 lacks : (s : Store system) (t : ℕ) (p : Slot system) (a : Ask Name Refusal) → IsGrantedIn system s.slots t a → (IsNew system p.held a ⊎ (may_allocate p.position ≡ true))
     → GivesWay system (yields p.position) (act (tx_in system t p) p.position s.tables) → MayLackMemoryIn system s t p a
 lacks s t p (Stop e) g n y = absurd g
@@ -242,7 +204,7 @@ went_on_here {s} {t} {x} {w} h p e' ws g r q =
     ∙ ap (λ (z : ℕ). stage_done z a g.change v) own.terminal) in
     worked h (Advance t) More (record w { program = p }) (Some (slot_after system (slot_of v t w) (length (v.undo.active t)) a (position_of w.request p))) e' (stage_done t a g.change v)
     (the_steps.goes_on (store_of s) t (slot_of v t w) g.change (position_of w.request p) (standing s h.orderly) (slot_here h) (granted_in s t x w h g.free)
-    (sym (acted_here s t x w h) ∙ g.does) (the_steps.is_room no_room (store_of s) t g.change))
+    (sym (acted_here s t x w h) ∙ g.does) (has_room v (work_at s) t g.change (subst (λ (z : ℕ). IsFullForAny v z g.change → ⊥) own.terminal g.room)))
     now g.name (record { counts = λ u n. refl; held = λ u n. set_other t _ v.held u n; is_open = λ u n. refl })
     (λ i. Some (record {
       number = suc (v.counts t);
@@ -319,7 +281,9 @@ kept_lead s t y w o KeyColumn kp h = let no : ⊥ = cc in absurd no
 kept_lead s t y w o (Busy n u) kp h =
     the_steps.is_busy (store_of s) t (here s t y w o) n h.1.0 u (standing s o.orderly) (slot_here o) (sym (asked_here s t y w o) ∙ h.1.1)
     (in_the_way s o.orderly t n h.1.0 u (subst (λ (z : ℕ). IsInTheWay (view_of s.engine) z n h.1.0 u) (own_work o).terminal h.1.2))
-kept_lead s t y w o UndoFull kp h = let it = may_end s t y w o UndoFull h.1 in absurd (never_UndoFull it.0 it.1)
+kept_lead s t y w o UndoFull kp h =
+    the_steps.is_full (store_of s) t (here s t y w o) h.2.0 h.2.1 (standing s o.orderly) (slot_here o) (granted_in s t y w o h.1)
+    (sym (acted_here s t y w o) ∙ h.2.2) (subst (λ (z : ℕ). IsFullFor (view_of s.engine) z h.2.0) (own_work o).terminal h.2.3)
 kept_lead s t y w o NoMemory kp h =
     the_steps.lacks_memory (store_of s) t (here s t y w o) (standing s o.orderly) (slot_here o)
     (lacks (store_of s) t (here s t y w o) _ (granted_in s t y w o h.1) (new h.2)
@@ -329,10 +293,10 @@ kept_lead s t y w o NoMemory kp h =
     own = ap (view_of s.engine).held (own_work o).terminal
 
     new : IsNew system ((view_of s.engine).held y.terminal) (ask_here s.engine y w.request (position_of w.request w.program))
-        ⊎ ((c : Change) × (p' : model.Position) × (act_here s.engine y w.request (position_of w.request w.program) ≡ Go (Some c) p') × WantsMemory s.engine y c)
+        ⊎ WantsMemory s.engine y w.request (position_of w.request w.program)
         → IsNew system ((view_of s.engine).held t) (ask (tx_in system t (here s t y w o)) (position_of w.request w.program) (view_of s.engine).rows) ⊎ (may_allocate (position_of w.request w.program) ≡ true)
     new (inl a) = inl (subst (λ z. IsNew system z (ask (tx_in system t (here s t y w o)) (position_of w.request w.program) (view_of s.engine).rows)) own (subst (IsNew system ((view_of s.engine).held y.terminal)) (asked_here s t y w o) a))
-    new (inr a) = inr (allocates (tx_of s.engine y w.request) (position_of w.request w.program) (view_of s.engine).rows a.0 a.1 a.2)
+    new (inr a) = inr (allocates (tx_of s.engine y w.request) (position_of w.request w.program) (view_of s.engine).rows a.0 a.1 a.2 a.3.0)
 kept_lead s t y w o NotOpen kp h = let no : ⊥ = cc in absurd no
 kept_lead s t y w o AlreadyOpen kp h = let no : ⊥ = cc in absurd no
 kept_lead s t y w o InvalidItem kp h = let no : ⊥ = cc in absurd no

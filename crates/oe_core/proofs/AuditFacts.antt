@@ -17,10 +17,10 @@ use Rattle.oe_model.proofs.SystemLaws.{laws}
 use Rattle.oe_audit.specs.Verdict.{condition_of}
 use Rattle.oe_store.specs.Places.{rows}
 use Rattle.oe_store.specs.Places as stands
-use Rattle.oe_undo.specs.Stands.{undo_of, seals_of, counts_of}
-use Rattle.oe_undo.specs.Undo as undo
+use Rattle.oe_segments.specs.Stands.{undo_of, seals_of, counts_of}
+use Rattle.oe_segments.specs.Segments as undo
 use Rattle.oe_engine.specs.View.{view_from, view_of}
-use Rattle.oe_versions.specs.Versions.{store_with, version, Stand, IsReadable, IsOutside}
+use Rattle.oe_moments.specs.Versions.{store_with, version, Stand, IsReadable, IsOutside}
 use Rattle.oe_core.specs.Core.{CoreState, store_of, world_of, IsOrderly}
 use Rattle.oe_core.specs.Steps.{refusal_in}
 use Rattle.oe_core.proofs.MoveFacts.{standing, the_steps}
@@ -34,7 +34,7 @@ unfolding world_of
 tables_are s o = tables_here system laws (store_of s) (standing s o)
 
 -- tables and undo log that the engine lends, as they stand for the core's world
-module _ (s : CoreState) (o : IsOrderly s) (ts : stands.Places) (u : undo.UndoLog) (lent : rows ts ≡ (view_of s.engine).rows) (log : u ≡ s.engine.undo) where
+module _ (s : CoreState) (o : IsOrderly s) (ts : stands.Places) (u : undo.SegmentLog) (lent : rows ts ≡ (view_of s.engine).rows) (log : u ≡ s.engine.undo) where
   abbrev beside : Store system
   beside = record (store_with (rows ts) u) { slots = (store_of s).slots }
 

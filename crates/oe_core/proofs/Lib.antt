@@ -1,6 +1,7 @@
 pub mod SlotFacts
 pub mod MoveFacts
 pub mod BeginFacts
+mod WantFacts
 pub mod AdvanceFacts
 pub mod CloseFacts
 pub mod OpenFacts

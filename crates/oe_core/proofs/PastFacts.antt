@@ -19,8 +19,8 @@ use Rattle.oe_model.proofs.ChangeFacts.{accepted_meets}
 use Rattle.oe_model.proofs.SystemLaws.{laws}
 use Rattle.oe_deleted.proofs.HistoryFacts.{deleted_for_good}
 use Rattle.oe_change.specs.PutBack.{Stands}
-use Rattle.oe_past.specs.GoesBack.{CanUnwind, CanUnwindAll}
-use Rattle.oe_past.specs.Moments.{IsBetween, IsOutside}
+use Rattle.oe_journal.specs.GoesBack.{CanUnwind, CanUnwindAll}
+use Rattle.oe_journal.specs.Moments.{IsBetween, IsOutside}
 use Rattle.oe_engine.specs.View.{View, view_of, Handle}
 use Rattle.oe_engine.specs.View as engine
 use Rattle.oe_engine.specs.Calls.{newest, horizon, IsQuiet, IsNamedNoMoreAfter, CantRewind, purged_to, rewound_to}

@@ -25,32 +25,32 @@ use Rattle.oe_model.specs.Queries.{found, last_order, status_of, recent_lines, i
 use Rattle.oe_model.specs.System.{system}
 use Rattle.oe_store.specs.Places.{rows}
 use Rattle.oe_store.specs.Places as tables
-use Rattle.oe_undo.specs.Undo as undo
+use Rattle.oe_segments.specs.Segments as undo
 use Rattle.oe_engine.specs.View.{view_of, view_from}
-use Rattle.oe_versions.specs.Versions.{Stand, IsReadable, IsOutside, horizon, newest}
-use Rattle.oe_versions.specs.Versions as versions
+use Rattle.oe_moments.specs.Versions.{Stand, IsReadable, IsOutside, horizon, newest}
+use Rattle.oe_moments.specs.Versions as versions
 use Rattle.oe_queries.specs.Reply.{IsReply, HasNoReply, IsRefused}
 use Rattle.oe_core.specs.Core.{CoreState, store_of, IsOrderly, Moves}
 use Rattle.oe_core.specs.Steps.{refusal_in}
 use Rattle.oe_core.proofs.MoveFacts.{standing, stays, the_steps}
 
-pub stand_here : (s : CoreState) → IsOrderly s → (ts : tables.Places) (u : undo.UndoLog) → rows ts ≡ (view_of s.engine).rows → u ≡ s.engine.undo → Stand ts u
+pub stand_here : (s : CoreState) → IsOrderly s → (ts : tables.Places) (u : undo.SegmentLog) → rows ts ≡ (view_of s.engine).rows → u ≡ s.engine.undo → Stand ts u
 unfolding view_of view_from
 stand_here s o ts u e f = (
   (store_of s).slots,
-  subst (λ (v : undo.UndoLog). IsStanding system (record (versions.store_with (rows ts) v) { slots = (store_of s).slots })) (sym f)
+  subst (λ (v : undo.SegmentLog). IsStanding system (record (versions.store_with (rows ts) v) { slots = (store_of s).slots })) (sym f)
       (subst (λ (r : Rows). IsStanding system (record (versions.store_with r s.engine.undo) { slots = (store_of s).slots })) (sym e) (standing s o)),
 )
 
 -- what is said of the tables and the log that are lent is said of the store
-module _ (s : CoreState) (ts : tables.Places) (u : undo.UndoLog) (m : ℕ) (q : Query) (same : rows ts ≡ (view_of s.engine).rows) (is : u ≡ s.engine.undo) where
+module _ (s : CoreState) (ts : tables.Places) (u : undo.SegmentLog) (m : ℕ) (q : Query) (same : rows ts ≡ (view_of s.engine).rows) (is : u ≡ s.engine.undo) where
   known : (v : Option Refusal) → query_rejection q (rows ts) ≡ v → query_rejection q (store_of s).tables ≡ v
   known v h = subst (λ (r : Rows). query_rejection q r ≡ v) same h
 
   found_here : (a : Outcome QueryReply Refusal) → answer_of q (versions.version ts u m) ≡ a → answer_of q (version_of system (store_of s) m) ≡ a
   unfolding view_of view_from
   found_here a h =
-      subst (λ (v : undo.UndoLog). answer_of q (version_of system (versions.store_with (rows s.engine.tables) v) m) ≡ a) is
+      subst (λ (v : undo.SegmentLog). answer_of q (version_of system (versions.store_with (rows s.engine.tables) v) m) ≡ a) is
       (subst (λ (r : Rows). answer_of q (version_of system (versions.store_with r u) m) ≡ a) same h)
 
   horizon_here : horizon u ≡ horizon_of system (store_of s)

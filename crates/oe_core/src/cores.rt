@@ -15,7 +15,7 @@ use crate::advances::Advanced;
 use crate::programs::Program;
 use crate::rejections::rejection;
 use crate::slots::{Work, begin_work, empty_txs, empty_works, open_tx, put_tx, slot, take_tx};
-use oe_engine::{Engine, Progress, Tx};
+use oe_engine::{Engine, ExtentCount, Progress, Tx};
 use oe_requests::{Query, Refusal, Reply, Request};
 use oe_steps::{Answer, Condition, Step};
 use oe_store::Tables;
@@ -47,7 +47,7 @@ impl Model for Core {
 
 impl Core {
     /// A core on a population, with that number of undo extents. `NoMemory` where memory was refused.
-    pub fn open(alloc: Global, tables: Tables, extents: u16) -> Result<Core, NoMemory>
+    pub fn open(alloc: Global, tables: Tables, extents: ExtentCount) -> Result<Core, NoMemory>
         requires { IsPopulation (rows tables) }
         ensures { IfOk result (λ c. world_of c ≡ opened system (rows tables) extents) }
     {
@@ -274,7 +274,7 @@ impl Core {
 
     /// One row of the terminal's transaction; where none is left the transaction commits.
     ///
-    /// `NotOpen`, `Busy` and `NoMemory` have changed nothing. After another refusal the transaction is rolled back. The reply of a
+    /// `NotOpen`, `Busy`, `UndoFull` and `NoMemory` have changed nothing. After another refusal the transaction is rolled back. The reply of a
     /// commit is the terminal's `last_reply`.
     pub fn advance(&mut self, terminal: Terminal) -> Advanced
         ensures { Advances (world_of self.old) terminal result (world_of self.new)

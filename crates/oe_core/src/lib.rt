@@ -10,4 +10,5 @@ mod slots;
 
 pub use advances::Advanced;
 pub use cores::Core;
+pub use oe_engine::ExtentCount;
 pub use runs::run;

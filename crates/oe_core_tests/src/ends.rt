@@ -4,7 +4,7 @@ use crate::acts::{Act, Said, play};
 use crate::openings::scale;
 use oe_audit::is_population;
 use oe_change::apply;
-use oe_core::Core;
+use oe_core::{Core, ExtentCount};
 use oe_keys::{DistrictKey, OrderKey, StockKey};
 use oe_records::{Boxed, Change};
 use oe_requests::Column;
@@ -142,7 +142,8 @@ fn opened(rt: &impl Abort, alloc: Global, column: Column) -> Core {
     let tables = ended(alloc, column).expect(rt, "tables");
     let is_right = is_population(&tables);
     assert!(rt; is_right);
-    Core::open(alloc, tables, 64).ok().expect(rt, "a core")
+    let extents = ExtentCount::new(64).expect(rt, "extents");
+    Core::open(alloc, tables, extents).ok().expect(rt, "a core")
 }
 
 #[test]

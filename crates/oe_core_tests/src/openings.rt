@@ -2,7 +2,7 @@
 
 use oe_audit::is_population;
 use oe_change::apply;
-use oe_core::Core;
+use oe_core::{Core, ExtentCount};
 use oe_keys::{CustomerKey, DistrictKey, HistoryKey, OrderLineKey, StockKey};
 use oe_records::{Boxed, Change};
 use oe_rows::Scale;
@@ -56,7 +56,7 @@ fn opened(rt: &impl Abort, alloc: Global) -> Option<Core> {
     let tables = worn(rt, alloc, scale)?;
     let is_right = is_population(&tables);
     assert!(rt; is_right);
-    Core::open(alloc, tables, 64).ok()
+    Core::open(alloc, tables, ExtentCount::new(64)?).ok()
 }
 
 // The same with 2 customers a district.
@@ -75,7 +75,7 @@ fn populated(alloc: Global, scale: Scale) -> Option<Core> {
     if !is_population(&tables) {
         return None;
     }
-    Core::open(alloc, tables, 64).ok()
+    Core::open(alloc, tables, ExtentCount::new(64)?).ok()
 }
 
 /// A core on the population, or none where memory was refused.

@@ -116,8 +116,9 @@ impl Program {
     /// its lines.
     ///
     /// A district in which no order waits has two stages: the first takes the name of its queue, the second is ready. The order of
-    /// refusals is `Busy`, `Overflow`, and `NoMemory` where memory was refused. A refused stage leaves the program, the tables and
-    /// the locks as they were. Each stage of a delivery is told the same request.
+    /// refusals is `Busy`, `Overflow`, `UndoFull` where the change's record has no room, and `NoMemory` where memory was refused for a
+    /// new name. A refused stage leaves the program, the tables and the locks as they were. Each stage of a delivery is told the same
+    /// request.
     pub fn next(&mut self, request: &DeliveryRequest, engine: &mut Engine, tx: &Tx) -> Progress
         requires { IsOpen engine.old tx.now
             → HoldsTaken request.now tx.now engine.old (position_of self.old) }

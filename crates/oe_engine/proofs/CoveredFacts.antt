@@ -24,7 +24,7 @@ use Rattle.oe_model.proofs.RowFacts.{key_true, key_refl, at_changed, at_put_back
 use Rattle.oe_model.proofs.PresenceFacts.{some-map, mapped_absent}
 use Rattle.oe_model.proofs.ChangeFacts.{accepted_meets}
 use Rattle.oe_change.specs.PutBack.{Stands}
-use Rattle.oe_past.specs.GoesBack.{CanUnwind}
+use Rattle.oe_journal.specs.GoesBack.{CanUnwind}
 use Rattle.oe_engine.specs.Covered.{IsWhole, FindsNewest, put_newest, Unwinds}
 use Rattle.oe_engine.proofs.LockFacts.{set_own, set_at, set_twice}
 

@@ -5,29 +5,29 @@ use Rattle.std.proofs.lemmas.Bool.{cases_eq, cond-true, cond-false, eq-eqb, ne_e
 use Rattle.std.proofs.lemmas.List.{length-set, length-map, take_all, drop_all}
 use mathlib.Core.Path.{fun_ext}
 use Rattle.oe_keys.specs.declared.keys.Key.{Key}
-use Rattle.oe_records.specs.Befores.{record_of_before}
 use Rattle.oe_theory.specs.World as world
 use Rattle.oe_theory.specs.Undo.{unwind, put_records}
 use Rattle.oe_model.specs.System.{system}
 use Rattle.oe_store.specs.Places.{rows, HasPlace}
 use Rattle.oe_store.specs.Places as tables
-use Rattle.oe_undo.specs.Segments.{Addressed}
-use Rattle.oe_undo.specs.Undo.{UndoLog, active_at, records_at, count_at, dropped}
-use Rattle.oe_undo.specs.Stands.{model_records, undo_of}
-use Rattle.oe_undo.proofs.StandsFacts as stands
+use Rattle.oe_log.specs.Log.{Logged}
+use Rattle.oe_segments.specs.Segments.{SegmentLog, active_at, records_at, count_at, dropped}
+use Rattle.oe_segments.specs.Stands.{model_records, undo_of}
+use Rattle.oe_segments.proofs.LawFacts as stands
 use Rattle.oe_locks.specs.Held.{Holdings, OthersKeep, HoldsNothing}
 use Rattle.oe_engine.specs.View.{view_from}
-use Rattle.oe_past.specs.GoesBack.{HavePlaces, AllHavePlaces}
-use Rattle.oe_past.proofs.PastFacts.{more_places, all_more_places}
+use Rattle.oe_journal.specs.GoesBack.{HavePlaces, AllHavePlaces}
+use Rattle.oe_journal.proofs.BackFacts.{more_places}
+use Rattle.oe_journal.proofs.PurgeFacts.{all_more_places}
 use Rattle.oe_engine.specs.Kept.{IsKept}
 use Rattle.oe_engine.specs.Calls.{back_at, rolled_back}
-use Rattle.oe_engine.specs.Unwinds.{TakesBack}
+use Rattle.oe_journal.specs.Unwinds.{TakesBack}
 use Rattle.oe_engine.proofs.LockFacts.{held_of, released_is}
 use Rattle.oe_engine.proofs.LogFacts.{active_set, seen_same}
 use Rattle.oe_engine.proofs.KeptFacts.{places_set, released_idle}
 
 -- the engine's promise after records were put back
-pub taken_kept : (ts ts' : tables.Places) (u u' : UndoLog) (ls : Holdings) (t n : ℕ) → TakesBack ts u t n ts' u' → IsKept ts u ls → IsKept ts' u' ls
+pub taken_kept : (ts ts' : tables.Places) (u u' : SegmentLog) (ls : Holdings) (t n : ℕ) → TakesBack ts u t n ts' u' → IsKept ts u ls → IsKept ts' u' ls
 taken_kept ts ts' u u' ls t n h k =
     let w = h.others in
     let more : (j : Key) → HasPlace ts j → HasPlace ts' j = λ j p. (w.places j).1 p in
@@ -40,7 +40,7 @@ taken_kept ts ts' u u' ls t n h k =
     }
 
 -- and after an empty segment was dropped, and its terminal's names were let go of
-pub dropped_kept : (ts : tables.Places) (u : UndoLog) (ls ls' : Holdings) (t : ℕ) → t < length u.terminals → records_at u t ≡ []
+pub dropped_kept : (ts : tables.Places) (u : SegmentLog) (ls ls' : Holdings) (t : ℕ) → t < length u.terminals → records_at u t ≡ []
     → HoldsNothing ls' t → OthersKeep ls ls' t → IsKept ts u ls → IsKept ts (dropped u t) ls'
 dropped_kept ts u ls ls' t within empty own others k =
     let s = stands.drops u t empty in
@@ -59,7 +59,7 @@ dropped_kept ts u ls ls' t within empty own others k =
     }
 
 -- back at a mark
-pub back_is : (ts ts' : tables.Places) (u u' : UndoLog) (ls : Holdings) (t mark n : ℕ) → n ≡ length ((undo_of u).active t) - mark → TakesBack ts u t n ts' u'
+pub back_is : (ts ts' : tables.Places) (u u' : SegmentLog) (ls : Holdings) (t mark n : ℕ) → n ≡ length ((undo_of u).active t) - mark → TakesBack ts u t n ts' u'
     → view_from ts' u' ls ≡ back_at t mark (view_from ts u ls)
 unfolding view_from
 back_is ts ts' u u' ls t mark n is h =
@@ -71,25 +71,25 @@ back_is ts ts' u u' ls t mark n is h =
     let opens : (λ (x : ℕ). is_some (active_at u' x)) ≡ (λ (x : ℕ). is_some (active_at u x)) = fun_ext w.is_open in
     λ i. record { rows = rows_is i; undo = undo_is i; seals = w.seals i; counts = w.counts i; held = held_of ls; is_open = opens i; extents = w.extents i }
 
-no_model : (rs : List Addressed) → model_records rs ≡ [] → rs ≡ []
+no_model : (rs : List Logged) → model_records rs ≡ [] → rs ≡ []
 no_model [] e = refl
 no_model (r ∷ rs) e = cc
 
 -- where as many were put back as there were, none is left
-pub none_is_left : (ts ts' : tables.Places) (u u' : UndoLog) (t n : ℕ) → n ≡ length (records_at u t) → TakesBack ts u t n ts' u' → records_at u' t ≡ []
+pub none_is_left : (ts ts' : tables.Places) (u u' : SegmentLog) (t n : ℕ) → n ≡ length (records_at u t) → TakesBack ts u t n ts' u' → records_at u' t ≡ []
 none_is_left ts ts' u u' t n is h =
-    let many = length-map (records_at u t) (λ r. record_of_before r.before) in
+    let many = length-map (records_at u t) (λ r. r.before) in
     no_model (records_at u' t) (h.records ∙ drop_all n ((undo_of u).active t) (omega arith))
 
 -- all put back, dropped and let go of
-pub rolled_back_is : (ts ts' : tables.Places) (u u' : UndoLog) (ls ls' : Holdings) (t n : ℕ) → n ≡ length (records_at u t) → t < length u.terminals
+pub rolled_back_is : (ts ts' : tables.Places) (u u' : SegmentLog) (ls ls' : Holdings) (t n : ℕ) → n ≡ length (records_at u t) → t < length u.terminals
     → TakesBack ts u t n ts' u' → HoldsNothing ls' t → OthersKeep ls ls' t → view_from ts' (dropped u' t) ls' ≡ rolled_back t (view_from ts u ls)
 unfolding view_from
 rolled_back_is ts ts' u u' ls ls' t n is within h own others =
     let w = h.others in
     let empty : records_at u' t ≡ [] = none_is_left ts ts' u u' t n is h in
     let s = stands.drops u' t empty in
-    let many = length-map (records_at u t) (λ r. record_of_before r.before) in
+    let many = length-map (records_at u t) (λ r. r.before) in
     let all : take n ((undo_of u).active t) ≡ (undo_of u).active t = take_all n ((undo_of u).active t) (omega arith) in
     let rows_is : rows ts' ≡ unwind system ((undo_of u).active t) (rows ts) = h.rows ∙ ap (λ bs. unwind system bs (rows ts)) all in
     let undo_is : undo_of (dropped u' t) ≡ put_records system t [] (undo_of u) =
@@ -103,14 +103,14 @@ rolled_back_is ts ts' u u' ls ls' t n is within h own others =
     λ i. record { rows = rows_is i; undo = undo_is i; seals = seals_is i; counts = counts_is i; held = names i; is_open = opens i; extents = w.extents i }
 
 -- how many are to go to come back to a mark
-pub since_is : (u : UndoLog) (t k n mark m : ℕ) → t ≡ k → n ≡ length (records_at u t) → m ≡ mark → n - m ≡ length ((undo_of u).active k) - mark
+pub since_is : (u : SegmentLog) (t k n mark m : ℕ) → t ≡ k → n ≡ length (records_at u t) → m ≡ mark → n - m ≡ length ((undo_of u).active k) - mark
 since_is u t k n mark m same is at =
-    let many = length-map (records_at u t) (λ b. record_of_before b.before) in
+    let many = length-map (records_at u t) (λ b. b.before) in
     let there : length ((undo_of u).active t) ≡ length ((undo_of u).active k) = ap (λ z. length ((undo_of u).active z)) same in
     omega arith
 
-pub within_mark : (u : UndoLog) (t k n mark m : ℕ) → t ≡ k → n ≡ length (records_at u t) → m ≡ mark → mark ≤ length ((undo_of u).active k) → m ≤ n
+pub within_mark : (u : SegmentLog) (t k n mark m : ℕ) → t ≡ k → n ≡ length (records_at u t) → m ≡ mark → mark ≤ length ((undo_of u).active k) → m ≤ n
 within_mark u t k n mark m same is at below =
-    let many = length-map (records_at u t) (λ b. record_of_before b.before) in
+    let many = length-map (records_at u t) (λ b. b.before) in
     let there : length ((undo_of u).active t) ≡ length ((undo_of u).active k) = ap (λ z. length ((undo_of u).active z)) same in
     omega arith

@@ -1,32 +1,21 @@
 -- What an engine keeps of its tables, its undo log and its locks, each call keeps.
-use Rattle.std.proofs.Common.{◌≡◌, ◌≢◌, ℕ, suc, ◌-◌, ◌<◌, ◌==◌, Bool, true, false, cond, refl, sym, ap, ◌∙◌, subst, inl, inr, replicate, List, [], ◌∷◌, length, get_or}
+use Rattle.std.proofs.Common.{◌≡◌, ◌≢◌, ℕ, suc, ◌<◌, ◌==◌, Bool, true, false, cond, refl, sym, ap, ◌∙◌, subst, inl, inr, replicate, List, [], length, get_or}
 use Rattle.std.specs.Prelude.{None, Some, is_some, Result, Ok, Err, OnOk, OnErr}
 use Rattle.std.proofs.lemmas.Bool.{cases_eq, cond-true, cond-false, eq-eqb, ne_eqb, true≢false}
 use Rattle.std.proofs.lemmas.List.{length-set, length-replicate}
-use Rattle.oe_keys.specs.declared.keys.Key.{Key}
 use Rattle.oe_requests.specs.declared.requests.Request.{Request}
 use Rattle.oe_requests.specs.declared.replies.Reply.{Reply}
-use Rattle.oe_records.specs.declared.befores.Before.{Before}
-use Rattle.oe_records.specs.Befores.{record_of_before}
 use Rattle.oe_theory.specs.World as world
-use Rattle.oe_model.specs.Rows.{row_at}
-use Rattle.oe_model.specs.Changes.{Change, Record, key_of, record_key}
-use Rattle.oe_model.proofs.RowFacts.{record_key_of}
-use Rattle.oe_store.specs.Places.{HasPlace, rows}
+use Rattle.oe_model.specs.Changes.{Record}
 use Rattle.oe_store.specs.Places as tables
-use Rattle.oe_change.specs.Applies.{Applies}
-use Rattle.oe_undo.specs.declared.segments.Address.{Address}
-use Rattle.oe_undo.specs.declared.undo.TerminalState.{TerminalState}
-use Rattle.oe_undo.specs.Undo.{UndoLog, idle, active_at, count_at, no_segments, idle_terminals, with_room, opened, pushed, sealed, dropped}
-use Rattle.oe_undo.specs.Undo as undo
-use Rattle.oe_undo.specs.Stands.{undo_of}
-use Rattle.oe_undo.proofs.StandsFacts as stands
-use Rattle.oe_undo.proofs.KeptFacts.{idle_at}
+use Rattle.oe_segments.specs.Segments.{SegmentLog, TerminalState, idle, active_at, count_at, no_segments, idle_terminals, opened, sealed}
+use Rattle.oe_segments.specs.Stands.{undo_of}
+use Rattle.oe_segments.proofs.LawFacts as stands
+use Rattle.oe_segments.proofs.LawFacts.{idle_at}
 use Rattle.oe_locks.specs.Held.{Holdings, OthersKeep, HoldsNothing, IsIdle}
-use Rattle.oe_past.specs.GoesBack.{HavePlaces, AllHavePlaces}
-use Rattle.oe_past.proofs.PastFacts.{more_places, all_more_places}
+use Rattle.oe_journal.specs.GoesBack.{HavePlaces, AllHavePlaces}
 use Rattle.oe_engine.specs.Kept.{IsKept}
-use Rattle.oe_engine.proofs.LogFacts.{active_set, seen_same, changed_open, pushed_open, some_of}
+use Rattle.oe_engine.proofs.LogFacts.{active_set, seen_same, some_of}
 
 -- one terminal's records replaced
 pub places_set : (ts : tables.Places) (t : ℕ) (bs : List Record) (f : ℕ → List Record) → HavePlaces ts bs → ((x : ℕ) → HavePlaces ts (f x))
@@ -62,62 +51,27 @@ first_kept ts n ls quiet =
     }
 
 -- a segment was opened
-pub opened_kept : (ts : tables.Places) (u : UndoLog) (ls : Holdings) (t room : ℕ) → t < length u.terminals → active_at u t ≡ None
-    → count_at u t < 4_294_967_295 → IsKept ts u ls → IsKept ts (opened u t room) ls
-opened_kept ts u ls t room within closed below k =
-    let s = stands.opens u t room closed in
-    let open_is : (x : ℕ) → is_some (active_at (opened u t room) x) ≡ world.set t true (λ y. is_some (active_at u y)) x =
-    active_set u t (record { count = count_at u t; active = Some (record { terminal = t; number = suc (count_at u t); records = []; room = room }) }) within in
-    let counts : (x : ℕ) → count_at (opened u t room) x ≡ count_at u x =
-    seen_same (λ z. z.count) u t (record { count = count_at u t; active = Some (record { terminal = t; number = suc (count_at u t); records = []; room = room }) }) refl in
+pub opened_kept : (ts : tables.Places) (u : SegmentLog) (ls : Holdings) (t : ℕ) → t < length u.terminals → active_at u t ≡ None
+    → count_at u t < 4_294_967_295 → IsKept ts u ls → IsKept ts (opened u t) ls
+opened_kept ts u ls t within closed below k =
+    let s = stands.opens u t closed in
+    let open_is : (x : ℕ) → is_some (active_at (opened u t) x) ≡ world.set t true (λ y. is_some (active_at u y)) x =
+    active_set u t (record { count = count_at u t; active = Some (record { terminal = t; number = suc (count_at u t); records = [] }) }) within in
+    let counts : (x : ℕ) → count_at (opened u t) x ≡ count_at u x =
+    seen_same (λ z. z.count) u t (record { count = count_at u t; active = Some (record { terminal = t; number = suc (count_at u t); records = [] }) }) refl in
     record {
       size = length-set u.terminals t _ ∙ k.size;
       active = λ x. subst (λ z. HavePlaces ts (z.active x)) (sym s.undo) (k.active x);
       history = subst (λ z. AllHavePlaces ts z.history) (sym s.undo) k.history;
-      idle = idle_set (HoldsNothing ls) (λ y. is_some (active_at u y)) (λ y. is_some (active_at (opened u t room) y)) t true open_is (λ e. absurd (true≢false e)) (λ x ne e. k.idle x e);
+      idle = idle_set (HoldsNothing ls) (λ y. is_some (active_at u y)) (λ y. is_some (active_at (opened u t) y)) t true open_is (λ e. absurd (true≢false e)) (λ x ne e. k.idle x e);
       counted = λ x e. elim (cases_eq x t) [
         | inl same ↦ subst (λ n. n < 4_294_967_295) (sym (counts x ∙ ap (count_at u) same)) below
         | inr ne ↦ subst (λ n. n < 4_294_967_295) (sym (counts x)) (k.counted x (sym (cond-false (x == t) true (is_some (active_at u x)) (ne_eqb x t ne)) ∙ sym (open_is x) ∙ e))
       ];
     }
 
--- room was made
-pub roomed_kept : (ts : tables.Places) (u : UndoLog) (ls : Holdings) (t room : ℕ) → IsKept ts u ls → IsKept ts (with_room u t room) ls
-roomed_kept ts u ls t room k =
-    let s = stands.reserves u t room in
-    let open_is : (x : ℕ) → is_some (active_at (with_room u t room) x) ≡ is_some (active_at u x) = changed_open u t (λ o. record o { room = room }) in
-    let counts : (x : ℕ) → count_at (with_room u t room) x ≡ count_at u x =
-    seen_same (λ z. z.count) u t (record { count = count_at u t; active = undo.changed (λ o. record o { room = room }) (active_at u t) }) refl in
-    record {
-      size = length-set u.terminals t _ ∙ k.size;
-      active = λ x. subst (λ z. HavePlaces ts (z.active x)) (sym s.undo) (k.active x);
-      history = subst (λ z. AllHavePlaces ts z.history) (sym s.undo) k.history;
-      idle = λ x e. k.idle x (sym (open_is x) ∙ e);
-      counted = λ x e. subst (λ n. n < 4_294_967_295) (sym (counts x)) (k.counted x (sym (open_is x) ∙ e));
-    }
-
--- a change was made and its record pushed
-pub made_kept : (ts ts' : tables.Places) (u : UndoLog) (ls : Holdings) (t : ℕ) (p : Address) (c : Change) (b : Before) → is_some (active_at u t) ≡ true
-    → Applies c ts ts' (record_of_before b) → IsKept ts u ls → IsKept ts' (pushed u t p b) ls
-made_kept ts ts' u ls t p c b is a k =
-    let o = some_of (active_at u t) is in
-    let s = stands.pushes u t o.0 p b o.1 in
-    let open_is : (x : ℕ) → is_some (active_at (pushed u t p b) x) ≡ is_some (active_at u x) = pushed_open u t p b in
-    let counts : (x : ℕ) → count_at (pushed u t p b) x ≡ count_at u x =
-    seen_same (λ z. z.count) u t (record { count = count_at u t; active = undo.changed (λ o. record o { records = record { address = p; before = b } ∷ o.records; room = o.room - 1 }) (active_at u t) }) refl in
-    let more : (j : Key) → HasPlace ts j → HasPlace ts' j = λ j h. (a.places j).1 (inl h) in
-    let key : record_key (record_of_before b) ≡ key_of c = ap record_key a.before ∙ record_key_of c (row_at (rows ts) (key_of c)) in
-    let own : HavePlaces ts' (record_of_before b ∷ (undo_of u).active t) = ((a.places (record_key (record_of_before b))).1 (inr key), more_places ts ts' more _ (k.active t)) in
-    record {
-      size = length-set u.terminals t _ ∙ k.size;
-      active = λ x. subst (λ z. HavePlaces ts' (z.active x)) (sym s.undo) (places_set ts' t _ (undo_of u).active own (λ y. more_places ts ts' more _ (k.active y)) x);
-      history = subst (λ z. AllHavePlaces ts' z.history) (sym s.undo) (all_more_places ts ts' more _ k.history);
-      idle = λ x e. k.idle x (sym (open_is x) ∙ e);
-      counted = λ x e. subst (λ n. n < 4_294_967_295) (sym (counts x)) (k.counted x (sym (open_is x) ∙ e));
-    }
-
 -- the names of a terminal with an open transaction have changed
-pub locks_kept : (ts : tables.Places) (u : UndoLog) (ls ls' : Holdings) (t : ℕ) → is_some (active_at u t) ≡ true → OthersKeep ls ls' t → IsKept ts u ls → IsKept ts u ls'
+pub locks_kept : (ts : tables.Places) (u : SegmentLog) (ls ls' : Holdings) (t : ℕ) → is_some (active_at u t) ≡ true → OthersKeep ls ls' t → IsKept ts u ls → IsKept ts u ls'
 locks_kept ts u ls ls' t is others k =
     record {
       size = k.size;
@@ -136,7 +90,7 @@ released_idle ls ls' t f g is own others old =
     idle_set (HoldsNothing ls') f g t false is (λ e. own) (λ x ne e q. others x ne q ∙ old x e q)
 
 -- a segment was sealed, and its terminal's names were let go of
-pub sealed_kept : (ts : tables.Places) (u : UndoLog) (ls ls' : Holdings) (t : ℕ) (q : Request) (y : Reply) → t < length u.terminals → is_some (active_at u t) ≡ true
+pub sealed_kept : (ts : tables.Places) (u : SegmentLog) (ls ls' : Holdings) (t : ℕ) (q : Request) (y : Reply) → t < length u.terminals → is_some (active_at u t) ≡ true
     → HoldsNothing ls' t → OthersKeep ls ls' t → IsKept ts u ls → IsKept ts (sealed u t q y) ls'
 sealed_kept ts u ls ls' t q y within is own others k =
     let o = some_of (active_at u t) is in
@@ -156,7 +110,7 @@ sealed_kept ts u ls ls' t q y within is own others k =
     }
 
 -- a name was asked for
-pub asked_kept : {T E : Type 0} (r : Result T E) (ts : tables.Places) (u : UndoLog) (ls ls' : Holdings) (t : ℕ) → is_some (active_at u t) ≡ true
+pub asked_kept : {T E : Type 0} (r : Result T E) (ts : tables.Places) (u : SegmentLog) (ls ls' : Holdings) (t : ℕ) → is_some (active_at u t) ≡ true
     → OnOk r (OthersKeep ls ls' t) → OnErr r (ls' ≡ ls) → IsKept ts u ls → IsKept ts u ls'
 asked_kept (Ok v) ts u ls ls' t is others same k = locks_kept ts u ls ls' t is others k
 asked_kept (Err e) ts u ls ls' t is others same k = subst (IsKept ts u) (sym same) k

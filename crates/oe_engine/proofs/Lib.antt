@@ -5,9 +5,11 @@ pub mod KeptFacts
 pub mod LockFacts
 pub mod LogFacts
 pub mod MakeFacts
+mod PutFacts
+mod ChangeFacts
+mod FullFacts
 pub mod PastFacts
 mod WriteFacts
 pub mod ReplyFacts
 pub mod PartFacts
 pub mod SafeFacts
-pub mod UnwindFacts

@@ -1,37 +1,25 @@
 -- What the calls of the undo log make of what an engine stands for.
-use Rattle.std.proofs.Common.{◌≡◌, ℕ, suc, ◌-◌, ◌<◌, ◌==◌, Bool, true, false, refl, sym, ap, ◌∙◌, inl, inr, [], ◌∷◌, length, get_or, set}
+use Rattle.std.proofs.Common.{◌≡◌, ℕ, suc, ◌<◌, ◌==◌, Bool, true, false, refl, sym, ap, ◌∙◌, inl, inr, [], length, get_or, set}
 use Rattle.std.specs.Prelude.{Option, None, Some, is_some, option_map}
 use Rattle.std.proofs.lemmas.Bool.{cases_eq, cases_lt, cond-true, cond-false, eq-eqb, ne_eqb}
 use Rattle.std.proofs.lemmas.List.{get_or-set_same, get_or-set_other, set_past}
 use mathlib.Core.Path.{fun_ext}
 use Rattle.oe_requests.specs.declared.requests.Request.{Request}
 use Rattle.oe_requests.specs.declared.replies.Reply.{Reply}
-use Rattle.oe_records.specs.declared.befores.Before.{Before}
-use Rattle.oe_records.specs.Befores.{record_of_before}
 use Rattle.oe_theory.specs.World as world
-use Rattle.oe_theory.specs.Undo.{put_records}
-use Rattle.oe_model.specs.Rows.{row_at}
-use Rattle.oe_model.specs.Changes.{Change, key_of, record_of}
 use Rattle.oe_model.specs.Locks.{mode_of}
-use Rattle.oe_model.specs.System.{system}
 use Rattle.oe_store.specs.Places.{rows}
 use Rattle.oe_store.specs.Places as tables
-use Rattle.oe_change.specs.Applies.{Applies}
-use Rattle.oe_undo.specs.declared.segments.Address.{Address}
-use Rattle.oe_undo.specs.declared.undo.TerminalState.{TerminalState}
-use Rattle.oe_undo.specs.Segments.{Open, popped}
-use Rattle.oe_undo.specs.Undo.{UndoLog, idle, active_at, records_at, count_at, no_segments, idle_terminals, with_state, with_room, opened, pushed, popped_at, sealed, dropped}
-use Rattle.oe_undo.specs.Undo as undo
-use Rattle.oe_undo.specs.Stands.{undo_of}
-use Rattle.oe_undo.proofs.StandsFacts as stands
-use Rattle.oe_undo.proofs.KeptFacts.{idle_at}
+use Rattle.oe_segments.specs.Segments.{SegmentLog, TerminalState, Open, idle, active_at, count_at, no_segments, idle_terminals, with_state, opened, sealed}
+use Rattle.oe_segments.proofs.LawFacts as stands
+use Rattle.oe_segments.proofs.LawFacts.{idle_at}
 use Rattle.oe_locks.specs.Held.{Holdings, OthersKeep, HoldsNothing, IsIdle}
 use Rattle.oe_engine.specs.View.{view_from, opened_view}
-use Rattle.oe_engine.specs.Calls.{begun, made, committed}
+use Rattle.oe_engine.specs.Calls.{begun, committed}
 use Rattle.oe_engine.proofs.LockFacts.{held_of, released_is}
 
 -- whether a terminal's segment is open, where its state was replaced
-pub active_set : (u : UndoLog) (t : ℕ) (s : TerminalState) → t < length u.terminals → (x : ℕ)
+pub active_set : (u : SegmentLog) (t : ℕ) (s : TerminalState) → t < length u.terminals → (x : ℕ)
     → is_some (active_at (with_state u t s) x) ≡ world.set t (is_some s.active) (λ y. is_some (active_at u y)) x
 active_set u t s within x =
     elim (cases_eq x t) [
@@ -40,7 +28,7 @@ active_set u t s within x =
     ]
 
 -- what is seen of the terminals stays where one is replaced by a state that looks the same
-pub seen_same : {A : Type 0} (see : TerminalState → A) (u : UndoLog) (t : ℕ) (s : TerminalState) → see s ≡ see (get_or u.terminals t idle)
+pub seen_same : {A : Type 0} (see : TerminalState → A) (u : SegmentLog) (t : ℕ) (s : TerminalState) → see s ≡ see (get_or u.terminals t idle)
     → (x : ℕ) → see (get_or (set u.terminals t s) x idle) ≡ see (get_or u.terminals x idle)
 seen_same see u t s same x =
     elim (cases_lt t (length u.terminals)) [
@@ -53,22 +41,6 @@ seen_same see u t s same x =
 
 pub see_open : TerminalState → Bool
 see_open z = is_some z.active
-
-changed_some : (f : Open → Open) (a : Option Open) → is_some (undo.changed f a) ≡ is_some a
-changed_some f None = refl
-changed_some f (Some o) = refl
-
--- an open segment that is changed is open
-pub changed_open : (u : UndoLog) (t : ℕ) (f : Open → Open) (x : ℕ)
-    → is_some (active_at (undo.with_active u t (undo.changed f (active_at u t))) x) ≡ is_some (active_at u x)
-changed_open u t f = seen_same (λ z. is_some z.active) u t _ (changed_some f (active_at u t))
-
-pub pushed_open : (u : UndoLog) (t : ℕ) (p : Address) (b : Before) (x : ℕ) → is_some (active_at (pushed u t p b) x) ≡ is_some (active_at u x)
-pushed_open u t p b x =
-    changed_open u t (λ o. record o { records = record { address = p; before = b } ∷ o.records; room = o.room - 1 }) x
-
-pub popped_open : (u : UndoLog) (t : ℕ) (x : ℕ) → is_some (active_at (popped_at u t) x) ≡ is_some (active_at u x)
-popped_open u t x = changed_open u t (λ o. popped o) x
 
 pub is_none : (a : Option Open) → is_some a ≡ false → a ≡ None
 is_none None e = refl
@@ -96,53 +68,17 @@ first_is ts n ls quiet =
     }
 
 -- a segment was opened
-pub opened_is : (ts : tables.Places) (u : UndoLog) (ls : Holdings) (t room : ℕ) → t < length u.terminals → active_at u t ≡ None
-    → view_from ts (opened u t room) ls ≡ begun t (view_from ts u ls)
+pub opened_is : (ts : tables.Places) (u : SegmentLog) (ls : Holdings) (t : ℕ) → t < length u.terminals → active_at u t ≡ None
+    → view_from ts (opened u t) ls ≡ begun t (view_from ts u ls)
 unfolding view_from
-opened_is ts u ls t room within closed =
-    let s = stands.opens u t room closed in
-    let open_is : (x : ℕ) → is_some (active_at (opened u t room) x) ≡ world.set t true (λ y. is_some (active_at u y)) x =
-    active_set u t (record { count = count_at u t; active = Some (record { terminal = t; number = suc (count_at u t); records = []; room = room }) }) within in
-    let opens : (λ (x : ℕ). is_some (active_at (opened u t room) x)) ≡ world.set t true (λ y. is_some (active_at u y)) = fun_ext open_is in
+opened_is ts u ls t within closed =
+    let s = stands.opens u t closed in
+    let open_is : (x : ℕ) → is_some (active_at (opened u t) x) ≡ world.set t true (λ y. is_some (active_at u y)) x =
+    active_set u t (record { count = count_at u t; active = Some (record { terminal = t; number = suc (count_at u t); records = [] }) }) within in
+    let opens : (λ (x : ℕ). is_some (active_at (opened u t) x)) ≡ world.set t true (λ y. is_some (active_at u y)) = fun_ext open_is in
     λ i. record {
       rows = rows ts;
       undo = s.undo i;
-      seals = s.seals i;
-      counts = s.counts i;
-      held = held_of ls;
-      is_open = opens i;
-      extents = u.extents;
-    }
-
--- room was made
-pub roomed_is : (ts : tables.Places) (u : UndoLog) (ls : Holdings) (t room : ℕ) → view_from ts (with_room u t room) ls ≡ view_from ts u ls
-unfolding view_from
-roomed_is ts u ls t room =
-    let s = stands.reserves u t room in
-    let opens : (λ (x : ℕ). is_some (active_at (with_room u t room) x)) ≡ (λ (x : ℕ). is_some (active_at u x)) = fun_ext (changed_open u t (λ o. record o { room = room })) in
-    λ i. record {
-      rows = rows ts;
-      undo = s.undo i;
-      seals = s.seals i;
-      counts = s.counts i;
-      held = held_of ls;
-      is_open = opens i;
-      extents = u.extents;
-    }
-
--- a change was made and its record pushed
-pub made_is : (ts ts' : tables.Places) (u : UndoLog) (ls : Holdings) (t : ℕ) (p : Address) (c : Change) (b : Before) → is_some (active_at u t) ≡ true
-    → Applies c ts ts' (record_of_before b) → view_from ts' (pushed u t p b) ls ≡ made t c (view_from ts u ls)
-unfolding view_from
-made_is ts ts' u ls t p c b is a =
-    let o = some_of (active_at u t) is in
-    let s = stands.pushes u t o.0 p b o.1 in
-    let records : undo_of (pushed u t p b) ≡ put_records system t (record_of c (row_at (rows ts) (key_of c)) ∷ (undo_of u).active t) (undo_of u) =
-    s.undo ∙ ap (λ z. put_records system t (z ∷ (undo_of u).active t) (undo_of u)) a.before in
-    let opens : (λ (x : ℕ). is_some (active_at (pushed u t p b) x)) ≡ (λ (x : ℕ). is_some (active_at u x)) = fun_ext (pushed_open u t p b) in
-    λ i. record {
-      rows = a.changes i;
-      undo = records i;
       seals = s.seals i;
       counts = s.counts i;
       held = held_of ls;
@@ -151,7 +87,7 @@ made_is ts ts' u ls t p c b is a =
     }
 
 -- a segment was sealed, and its terminal's names were let go of
-pub sealed_is : (ts : tables.Places) (u : UndoLog) (ls ls' : Holdings) (t : ℕ) (q : Request) (y : Reply) → t < length u.terminals → is_some (active_at u t) ≡ true
+pub sealed_is : (ts : tables.Places) (u : SegmentLog) (ls ls' : Holdings) (t : ℕ) (q : Request) (y : Reply) → t < length u.terminals → is_some (active_at u t) ≡ true
     → HoldsNothing ls' t → OthersKeep ls ls' t → view_from ts (sealed u t q y) ls' ≡ committed t q y (view_from ts u ls)
 unfolding view_from
 sealed_is ts u ls ls' t q y within is own others =

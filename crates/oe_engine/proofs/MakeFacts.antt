@@ -1,37 +1,52 @@
--- What a change leaves, with room made for its record.
-use Rattle.std.proofs.Common.{◌≡◌, ℕ, true, sym, ap, ◌∙◌, subst}
+-- What a change leaves, with its record.
+use Rattle.std.proofs.Common.{◌≡◌, ◌<◌, ℕ, sym, ap, ◌∙◌, subst, inl, inr, ◌∷◌}
 use Rattle.std.specs.Prelude.{is_some}
-use Rattle.oe_records.specs.declared.befores.Before.{Before}
-use Rattle.oe_records.specs.Befores.{record_of_before}
-use Rattle.oe_model.specs.Changes.{Change}
+use mathlib.Core.Path.{fun_ext}
+use Rattle.oe_keys.specs.declared.keys.Key.{Key}
+use Rattle.oe_theory.specs.Next.{record_on}
+use Rattle.oe_model.specs.Rows.{row_at}
+use Rattle.oe_model.specs.Changes.{Change, key_of, record_key}
+use Rattle.oe_model.specs.System.{system}
+use Rattle.oe_model.proofs.RowFacts.{record_key_of}
+use Rattle.oe_store.specs.Places.{HasPlace, rows}
 use Rattle.oe_store.specs.Places as tables
-use Rattle.oe_change.specs.Applies.{Applies}
-use Rattle.oe_undo.specs.declared.segments.Address.{Address}
-use Rattle.oe_undo.specs.Undo.{UndoLog, active_at, with_room, pushed}
+use Rattle.oe_segments.specs.Segments.{SegmentLog, active_at}
+use Rattle.oe_segments.specs.Stands.{undo_of}
+use Rattle.oe_journal.specs.Writes.{IsRecorded}
+use Rattle.oe_journal.specs.GoesBack.{HavePlaces, AllHavePlaces}
+use Rattle.oe_journal.proofs.BackFacts.{more_places}
+use Rattle.oe_journal.proofs.PurgeFacts.{all_more_places}
 use Rattle.oe_locks.specs.Held.{Holdings}
 use Rattle.oe_engine.specs.View.{view_from}
 use Rattle.oe_engine.specs.Kept.{IsKept}
 use Rattle.oe_engine.specs.Calls.{made}
-use Rattle.oe_engine.proofs.LogFacts.{roomed_is, made_is, changed_open}
-use Rattle.oe_engine.proofs.KeptFacts.{roomed_kept, made_kept}
+use Rattle.oe_engine.proofs.LockFacts.{held_of}
+use Rattle.oe_engine.proofs.KeptFacts.{places_set}
 
-module _ (ts : tables.Places) (u w : UndoLog) (ls : Holdings) (t room : ℕ) (same : w ≡ with_room u t room) where
-  -- room was made
-  pub room_view : view_from ts w ls ≡ view_from ts u ls
-  room_view = ap (λ z. view_from ts z ls) same ∙ roomed_is ts u ls t room
+module _ (ts ts' : tables.Places) (u x : SegmentLog) (ls : Holdings) (t : ℕ) (c : Change) (h : IsRecorded c ts ts' u x t) where
+  pub change_view : view_from ts' x ls ≡ made t c (view_from ts u ls)
+  unfolding view_from
+  change_view =
+      let opens : (λ (y : ℕ). is_some (active_at x y)) ≡ (λ (y : ℕ). is_some (active_at u y)) = fun_ext h.is_open in
+      λ i. record {
+        rows = h.applies.changes i;
+        undo = h.stands.undo i;
+        seals = h.stands.seals i;
+        counts = h.stands.counts i;
+        held = held_of ls;
+        is_open = opens i;
+        extents = h.extents i;
+      }
 
-  pub room_kept : IsKept ts u ls → IsKept ts w ls
-  room_kept k = subst (λ z. IsKept ts z ls) (sym same) (roomed_kept ts u ls t room k)
-
-  pub room_open : is_some (active_at u t) ≡ true → is_some (active_at w t) ≡ true
-  room_open is = subst (λ z. is_some (active_at z t) ≡ true) (sym same) (changed_open u t (λ o. record o { room = room }) t ∙ is)
-
-  -- and the change, and its record pushed
-  module _ (ts' : tables.Places) (x : UndoLog) (p : Address) (c : Change) (b : Before) (is : is_some (active_at u t) ≡ true)
-      (a : Applies c ts ts' (record_of_before b)) (push : x ≡ pushed w t p b) where
-    pub change_view : view_from ts' x ls ≡ made t c (view_from ts u ls)
-    change_view =
-        ap (λ z. view_from ts' z ls) push ∙ made_is ts ts' w ls t p c b (room_open is) a ∙ ap (λ z. made t c z) room_view
-
-    pub change_kept : IsKept ts u ls → IsKept ts' x ls
-    change_kept k = subst (λ z. IsKept ts' z ls) (sym push) (made_kept ts ts' w ls t p c b (room_open is) a (room_kept k))
+  pub change_kept : IsKept ts u ls → IsKept ts' x ls
+  change_kept k =
+      let more : (j : Key) → HasPlace ts j → HasPlace ts' j = λ j p. (h.applies.places j).1 (inl p) in
+      let b = record_on system c (rows ts) in
+      let own : HavePlaces ts' (b ∷ (undo_of u).active t) = ((h.applies.places (record_key b)).1 (inr (record_key_of c (row_at (rows ts) (key_of c)))), more_places ts ts' more _ (k.active t)) in
+      record {
+        size = h.size ∙ k.size;
+        active = λ y. subst (λ z. HavePlaces ts' (z.active y)) (sym h.stands.undo) (places_set ts' t _ (undo_of u).active own (λ z. more_places ts ts' more _ (k.active z)) y);
+        history = subst (λ z. AllHavePlaces ts' z.history) (sym h.stands.undo) (all_more_places ts ts' more _ k.history);
+        idle = λ y e. k.idle y (sym (h.is_open y) ∙ e);
+        counted = λ y e. subst (λ n. n < 4_294_967_295) (sym (ap (λ f. f y) h.stands.counts)) (k.counted y (sym (h.is_open y) ∙ e));
+      }

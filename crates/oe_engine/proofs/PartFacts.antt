@@ -22,8 +22,8 @@ use Rattle.oe_store.specs.Places as tables
 use Rattle.oe_change.specs.Applies.{Refuses}
 use Rattle.oe_locks.specs.Held as locks
 use Rattle.oe_locks.specs.Held.{Holdings, held}
-use Rattle.oe_undo.specs.Undo as undo
-use Rattle.oe_undo.specs.Undo.{active_at}
+use Rattle.oe_segments.specs.Segments as undo
+use Rattle.oe_segments.specs.Segments.{active_at}
 use Rattle.oe_engine.specs.View.{View, view_from, view_of, EngineState, Handle, IsOpen}
 use Rattle.oe_engine.specs.Kept.{IsKept}
 use Rattle.oe_engine.specs.Calls.{IsFree, IsInTheWay, IsBelow, locked, made, put_mode, LockRefused, ChangeRefused, PairRefused, StageRefused, stage_done}
@@ -127,7 +127,7 @@ below_as (Some Exclusive) (Some Shared) h = absurd h
 below_as (Some Exclusive) (Some Exclusive) h = absurd h
 
 -- Freedom and its causes, in the theory's words
-module _ (ts : tables.Places) (u : undo.UndoLog) (ls : Holdings) where
+module _ (ts : tables.Places) (u : undo.SegmentLog) (ls : Holdings) where
   pub free_is : (t : ℕ) (n : Name) (m : Mode) → locks.IsFreeFor ls t n m → IsFree (view_from ts u ls) t (Take n (mode_of m))
   unfolding view_from
   free_is t n m h w ne = same_together m (held ls w n) ∙ h w ne
@@ -227,7 +227,7 @@ pair_by_change v t n m c (RowExists x) f h = (f, h)
 pair_by_change v t n m c (Overflow x) f h = (f, h)
 pair_by_change v t n m c (Reference x) f h = (f, h)
 pair_by_change v t n m c KeyColumn f h = (f, h)
-pair_by_change v t n m c UndoFull f h = (f, h)
+pair_by_change v t n m c UndoFull f h = f
 pair_by_change v t n m c NotOpen f h = (f, h)
 pair_by_change v t n m c AlreadyOpen f h = (f, h)
 pair_by_change v t n m c InvalidItem f h = (f, h)
@@ -267,7 +267,7 @@ module _ (s : EngineState) (x : Handle) (o : IsOpen s x) where
   stage_by_change c (Overflow y) h = (o, tt, h)
   stage_by_change c (Reference y) h = (o, tt, h)
   stage_by_change c KeyColumn h = (o, tt, h)
-  stage_by_change c UndoFull h = (o, tt, h)
+  stage_by_change c UndoFull h = (o, tt, refl)
   stage_by_change c AlreadyOpen h = (o, tt, h)
   stage_by_change c InvalidItem h = (o, tt, h)
   stage_by_change c NoCustomer h = (o, tt, h)
@@ -286,7 +286,7 @@ module _ (s : EngineState) (x : Handle) (o : IsOpen s x) where
   stage_by_pair n m c (Overflow y) h = (o, h.0, h.1)
   stage_by_pair n m c (Reference y) h = (o, h.0, h.1)
   stage_by_pair n m c KeyColumn h = (o, h.0, h.1)
-  stage_by_pair n m c UndoFull h = (o, h.0, h.1)
+  stage_by_pair n m c UndoFull h = (o, h, refl)
   stage_by_pair n m c AlreadyOpen h = (o, h.0, h.1)
   stage_by_pair n m c InvalidItem h = (o, h.0, h.1)
   stage_by_pair n m c NoCustomer h = (o, h.0, h.1)
@@ -306,7 +306,7 @@ refused_so c s (RowExists y) h = h
 refused_so c s (Overflow y) h = h
 refused_so c s (Reference y) h = h
 refused_so c s KeyColumn h = h
-refused_so c s UndoFull h = h
+refused_so c s UndoFull h = tt
 refused_so c s AlreadyOpen h = h
 refused_so c s InvalidItem h = h
 refused_so c s NoCustomer h = h

@@ -14,16 +14,19 @@ use Rattle.oe_model.specs.Meets.{Meets}
 use Rattle.oe_model.specs.System.{system}
 use Rattle.oe_store.specs.Places.{rows, SamePlaces}
 use Rattle.oe_store.specs.Places as tables
-use Rattle.oe_undo.specs.Segments.{Committed}
-use Rattle.oe_undo.specs.Undo.{UndoLog, active_at, open_total, with_newest, uncounted, without_newest, records_in}
-use Rattle.oe_undo.specs.Stands.{model_records, undo_of}
-use Rattle.oe_undo.proofs.StandsFacts as stands
+use Rattle.oe_segments.specs.Segments.{SegmentLog, Committed, active_at, open_total, with_newest, records_in}
+use Rattle.oe_journal.specs.Rewinds.{uncounted, without_newest}
+use Rattle.oe_segments.specs.Stands.{model_records, undo_of}
+use Rattle.oe_segments.proofs.LawFacts as stands
+use Rattle.oe_segments.proofs.StandsFacts.{slots_counted}
 use Rattle.oe_deleted.specs.Deleted.{HasDeleteIn, IsNamedNoMore}
-use Rattle.oe_past.specs.GivesUp.{IsDeletedIn, GivesUpThose, GivesUpDeleted}
-use Rattle.oe_past.specs.GoesBack.{HavePlaces, AllHavePlaces}
-use Rattle.oe_past.specs.Moments.{store_with}
-use Rattle.oe_past.specs.Moments as past
-use Rattle.oe_past.proofs.PastFacts.{more_places, all_more_places, none_open, quiet_still}
+use Rattle.oe_journal.specs.GivesUp.{IsDeletedIn, GivesUpThose, GivesUpDeleted}
+use Rattle.oe_journal.specs.GoesBack.{HavePlaces, AllHavePlaces}
+use Rattle.oe_journal.specs.Moments.{store_with}
+use Rattle.oe_journal.specs.Moments as past
+use Rattle.oe_journal.proofs.BackFacts.{more_places}
+use Rattle.oe_journal.proofs.PurgeFacts.{all_more_places}
+use Rattle.oe_journal.proofs.RewindFacts.{none_open, quiet_still, rewinds}
 use Rattle.oe_locks.specs.Held.{Holdings}
 use Rattle.oe_engine.specs.View.{View, view_from}
 use Rattle.oe_engine.specs.Covered.{AreOwned, Unwinds, IsSafe}
@@ -58,7 +61,7 @@ all_still_places ts ts' P g (bs ∷ ss) other h =
     (still_places ts ts' P g bs (λ k p e. other k p (inl e)) h.0, all_still_places ts ts' P g ss (λ k p e. other k p (inr e)) h.1)
 
 -- A purge
-purged_kept : (ts ts' : tables.Places) (u : UndoLog) (ls : Holdings) (n : ℕ) → GivesUpDeleted ts ts' (drop n (undo_of u).history)
+purged_kept : (ts ts' : tables.Places) (u : SegmentLog) (ls : Holdings) (n : ℕ) → GivesUpDeleted ts ts' (drop n (undo_of u).history)
     → ((k : NewOrderKey) → HasDeleteIn k (drop n (undo_of u).history) → IsNamedNoMore (undo_of u) n k) → IsKept ts u ls → IsKept ts' (with_newest n u) ls
 purged_kept ts ts' u ls n g named k = record {
   size = k.size;
@@ -72,7 +75,7 @@ purged_kept ts ts' u ls n g named k = record {
   counted = k.counted;
 }
 
-purged_view : (ts ts' : tables.Places) (u : UndoLog) (ls : Holdings) (m : ℕ) → rows ts' ≡ rows ts
+purged_view : (ts ts' : tables.Places) (u : SegmentLog) (ls : Holdings) (m : ℕ) → rows ts' ≡ rows ts
     → view_from ts' (with_newest (past.newest u - m) u) ls ≡ purged_to m (view_from ts u ls)
 unfolding view_from
 purged_view ts ts' u ls m same =
@@ -91,12 +94,12 @@ safe_purged : (m : ℕ) (v : View) → IsSafe v → IsSafe (purged_to m v)
 safe_purged m v s = record { owned = s.owned; alone = s.alone; unwinds = s.unwinds }
 
 -- what the caller knows of a moment that is kept
-named_no_more : (ts : tables.Places) (u : UndoLog) (ls : Holdings) (m : ℕ) → (IsKeptMoment (view_from ts u ls) m → IsNamedNoMoreAfter m (view_from ts u ls))
+named_no_more : (ts : tables.Places) (u : SegmentLog) (ls : Holdings) (m : ℕ) → (IsKeptMoment (view_from ts u ls) m → IsNamedNoMoreAfter m (view_from ts u ls))
     → past.IsKeptMoment u m → (k : NewOrderKey) → HasDeleteIn k (drop (past.newest u - m) (undo_of u).history) → IsNamedNoMore (undo_of u) (past.newest u - m) k
 unfolding view_from
 named_no_more ts u ls m named kept = named kept
 
-pub purge_sound : {T E : Type 0} (r : Result T E) (ts ts' : tables.Places) (u u' : UndoLog) (ls : Holdings) (m : ℕ)
+pub purge_sound : {T E : Type 0} (r : Result T E) (ts ts' : tables.Places) (u u' : SegmentLog) (ls : Holdings) (m : ℕ)
     → (IsKeptMoment (view_from ts u ls) m → IsNamedNoMoreAfter m (view_from ts u ls)) → OnOk r (past.IsKeptMoment u m)
     → OnOk r (u' ≡ with_newest (past.newest u - m) u) → rows ts' ≡ rows ts → OnOk r (GivesUpDeleted ts ts' (drop (past.newest u - m) (undo_of u).history))
     → OnErr r ((ts' ≡ ts) × (u' ≡ u)) → IsSound ts u ls → IsSound ts' u' ls
@@ -109,17 +112,17 @@ purge_sound (Ok x) ts ts' u u' ls m named kept is rows_same places same s =
 purge_sound (Err e) ts ts' u u' ls m named kept is rows_same places same s =
     subst (λ z. IsSound z u' ls) (sym same.0) (subst (λ z. IsSound ts z ls) (sym same.1) s)
 
-pub purge_view : {T E : Type 0} (r : Result T E) (ts ts' : tables.Places) (u u' : UndoLog) (ls : Holdings) (m : ℕ) → OnOk r (u' ≡ with_newest (past.newest u - m) u)
+pub purge_view : {T E : Type 0} (r : Result T E) (ts ts' : tables.Places) (u u' : SegmentLog) (ls : Holdings) (m : ℕ) → OnOk r (u' ≡ with_newest (past.newest u - m) u)
     → rows ts' ≡ rows ts → OnOk r (view_from ts' u' ls ≡ purged_to m (view_from ts u ls))
 purge_view (Ok x) ts ts' u u' ls m is same = ap (λ z. view_from ts' z ls) is ∙ purged_view ts ts' u ls m same
 purge_view (Err e) ts ts' u u' ls m is same = tt
 
 -- A rewind. No segment is open after it either
-quiet_rewound : (n : ℕ) (v : UndoLog) → ((t : ℕ) → active_at v t ≡ None) → (t : ℕ) → active_at (without_newest n v) t ≡ None
+quiet_rewound : (n : ℕ) (v : SegmentLog) → ((t : ℕ) → active_at v t ≡ None) → (t : ℕ) → active_at (without_newest n v) t ≡ None
 quiet_rewound zero v h = h
 quiet_rewound (suc n) v h = quiet_rewound n (uncounted v v.committed) (quiet_still v v.committed h)
 
-size_rewound : (n : ℕ) (v : UndoLog) → length (without_newest n v).terminals ≡ length v.terminals
+size_rewound : (n : ℕ) (v : SegmentLog) → length (without_newest n v).terminals ≡ length v.terminals
 size_rewound zero v = refl
 size_rewound (suc n) v = size_rewound n (uncounted v v.committed) ∙ one v.committed
   where
@@ -127,10 +130,10 @@ size_rewound (suc n) v = size_rewound n (uncounted v v.committed) ∙ one v.comm
     one [] = refl
     one (c ∷ cs) = length-set v.terminals c.terminal _
 
-rewound_kept : (ts ts' : tables.Places) (u : UndoLog) (ls : Holdings) (n : ℕ) → SamePlaces ts ts' → ((t : ℕ) → active_at u t ≡ None)
+rewound_kept : (ts ts' : tables.Places) (u : SegmentLog) (ls : Holdings) (n : ℕ) → SamePlaces ts ts' → ((t : ℕ) → active_at u t ≡ None)
     → IsKept ts u ls → IsKept ts' (without_newest n u) ls
 rewound_kept ts ts' u ls n same quiet k =
-    let r = stands.rewinds u n in
+    let r = rewinds u n in
     record {
       size = size_rewound n u ∙ k.size;
       active = λ t. subst (λ z. HavePlaces ts' (z.active t)) (sym r.undo) (more_places ts ts' (λ j h. (same j).1 h) ((undo_of u).active t) (k.active t));
@@ -140,7 +143,7 @@ rewound_kept ts ts' u ls n same quiet k =
       counted = λ t e. let no : false ≡ true = sym (ap is_some (quiet_rewound n u quiet t)) ∙ e in cc;
     }
 
-rewound_view : (ts ts' : tables.Places) (u : UndoLog) (ls : Holdings) (m : ℕ) → ((t : ℕ) → active_at u t ≡ None)
+rewound_view : (ts ts' : tables.Places) (u : SegmentLog) (ls : Holdings) (m : ℕ) → ((t : ℕ) → active_at u t ≡ None)
     → ((slots : ℕ → Option (Slot system)) → store_with (rows ts') (without_newest (past.newest u - m) u) slots ≡ rewound_to system m (store_with (rows ts) u slots))
     → view_from ts' (without_newest (past.newest u - m) u) ls ≡ calls.rewound_to m (view_from ts u ls)
 unfolding view_from
@@ -168,10 +171,10 @@ safe_rewound m v empty meets s =
       unwinds = λ ts. subst (λ (z : ℕ → List Record). Unwinds z w.rows ts) none (none_unwinds ts w.rows meets);
     }
 
-no_records_of : (u : UndoLog) → ((t : ℕ) → active_at u t ≡ None) → (t : ℕ) → (undo_of u).active t ≡ []
+no_records_of : (u : SegmentLog) → ((t : ℕ) → active_at u t ≡ None) → (t : ℕ) → (undo_of u).active t ≡ []
 no_records_of u quiet t = ap (λ a. model_records (records_in a)) (quiet t)
 
-pub rewind_sound : {T E : Type 0} (r : Result T E) (ts ts' : tables.Places) (u u' : UndoLog) (ls : Holdings) (m : ℕ) → OnOk r (open_total u ≡ 0)
+pub rewind_sound : {T E : Type 0} (r : Result T E) (ts ts' : tables.Places) (u u' : SegmentLog) (ls : Holdings) (m : ℕ) → OnOk r (open_total u ≡ 0)
     → OnOk r (u' ≡ without_newest (past.newest u - m) u)
     → OnOk r ((slots : ℕ → Option (Slot system)) → store_with (rows ts') u' slots ≡ rewound_to system m (store_with (rows ts) u slots))
     → SamePlaces ts ts' → OnErr r (u' ≡ u) → OnErr r (ts' ≡ ts) → Meets (rows ts') → IsSound ts u ls → IsSound ts' u' ls
@@ -188,7 +191,7 @@ rewind_sound (Ok x) ts ts' u u' ls m none log is places same same_tables meets s
 rewind_sound (Err e) ts ts' u u' ls m none log is places same same_tables meets s =
     subst (λ z. IsSound z u' ls) (sym same_tables) (subst (λ z. IsSound ts z ls) (sym same) s)
 
-pub rewind_view : {T E : Type 0} (r : Result T E) (ts ts' : tables.Places) (u u' : UndoLog) (ls : Holdings) (m : ℕ) → OnOk r (open_total u ≡ 0)
+pub rewind_view : {T E : Type 0} (r : Result T E) (ts ts' : tables.Places) (u u' : SegmentLog) (ls : Holdings) (m : ℕ) → OnOk r (open_total u ≡ 0)
     → OnOk r (u' ≡ without_newest (past.newest u - m) u)
     → OnOk r ((slots : ℕ → Option (Slot system)) → store_with (rows ts') u' slots ≡ rewound_to system m (store_with (rows ts) u slots))
     → OnOk r (view_from ts' u' ls ≡ calls.rewound_to m (view_from ts u ls))
@@ -198,23 +201,23 @@ rewind_view (Ok x) ts ts' u u' ls m none log is =
 rewind_view (Err e) ts ts' u u' ls m none log is = tt
 
 -- quiet in the view
-pub is_quiet : (ts : tables.Places) (u : UndoLog) (ls : Holdings) → open_total u ≡ 0 → IsQuiet (view_from ts u ls)
+pub is_quiet : (ts : tables.Places) (u : SegmentLog) (ls : Holdings) → open_total u ≡ 0 → IsQuiet (view_from ts u ls)
 unfolding view_from
 is_quiet ts u ls none t = ap is_some (none_open u none t)
 
-pub rewind_quiet : {T E : Type 0} (r : Result T E) (ts : tables.Places) (u : UndoLog) (ls : Holdings) → OnOk r (open_total u ≡ 0) → OnOk r (IsQuiet (view_from ts u ls))
+pub rewind_quiet : {T E : Type 0} (r : Result T E) (ts : tables.Places) (u : SegmentLog) (ls : Holdings) → OnOk r (open_total u ≡ 0) → OnOk r (IsQuiet (view_from ts u ls))
 rewind_quiet (Ok x) ts u ls none = is_quiet ts u ls none
 rewind_quiet (Err e) ts u ls none = tt
 
 -- why it is refused
-cause_is : (ts : tables.Places) (u : UndoLog) (ls : Holdings) (m : ℕ) (e : Refusal) → length u.terminals ≡ 65 → past.CantRewind u m e → CantRewind (view_from ts u ls) m e
+cause_is : (ts : tables.Places) (u : SegmentLog) (ls : Holdings) (m : ℕ) (e : Refusal) → length u.terminals ≡ 65 → past.CantRewind u m e → CantRewind (view_from ts u ls) m e
 unfolding view_from
-cause_is ts u ls m (NotQuiet n) size h = (λ slots same. stands.slots_counted u slots size same ∙ sym h.0, h.1)
+cause_is ts u ls m (NotQuiet n) size h = (λ slots same. slots_counted u slots size same ∙ sym h.0, h.1)
 cause_is ts u ls m (TooOld k) size h = (is_quiet ts u ls h.0, h.1)
 cause_is ts u ls m (Future k) size h = (is_quiet ts u ls h.0, h.1)
 cause_is ts u ls m _ size h = absurd h.1
 
-pub rewind_cause : {T : Type 0} (r : Result T Refusal) (ts : tables.Places) (u : UndoLog) (ls : Holdings) (m : ℕ) → length u.terminals ≡ 65
+pub rewind_cause : {T : Type 0} (r : Result T Refusal) (ts : tables.Places) (u : SegmentLog) (ls : Holdings) (m : ℕ) → length u.terminals ≡ 65
     → IfErr r (past.CantRewind u m) → IfErr r (CantRewind (view_from ts u ls) m)
 rewind_cause (Ok x) ts u ls m size h = tt
 rewind_cause (Err e) ts u ls m size h = cause_is ts u ls m e size h

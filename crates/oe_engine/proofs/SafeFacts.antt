@@ -24,12 +24,12 @@ use Rattle.oe_model.proofs.RowFacts.{record_key_of}
 use Rattle.oe_model.proofs.PresenceFacts.{missing}
 use Rattle.oe_model.proofs.SystemLaws as model
 use Rattle.oe_store.specs.Places as tables
-use Rattle.oe_undo.specs.Undo as undo
+use Rattle.oe_segments.specs.Segments as undo
 use Rattle.oe_locks.specs.Held as locks
 use Rattle.oe_locks.specs.Held.{Holdings}
 use Rattle.oe_engine.specs.View.{View, view_from, opened_view}
 use Rattle.oe_engine.specs.Covered.{Owns, AreOwned, IsUnused, HoldsOrder, MayMake, IsOwn, Unwinds, IsSafe}
-use Rattle.oe_past.specs.GoesBack.{CanUnwind}
+use Rattle.oe_journal.specs.GoesBack.{CanUnwind}
 use Rattle.oe_engine.specs.Calls.{ask_to_write, IsFree, IsBelow, IsCovered, begun, locked, made, put_mode, count_since, back_at, committed, rolled_back}
 use Rattle.oe_engine.proofs.LockFacts.{set_at}
 use Rattle.oe_engine.proofs.PartFacts.{free_is, locked_is}
@@ -188,7 +188,7 @@ safe_locked t n m v free s = record {
     theirs u ne q false same e = s.alone u t q (λ d. ne (sym d)) e
 
 -- a name was asked for
-pub asked_safe : {T E : Type 0} (r : Result T E) (ts : tables.Places) (u : undo.UndoLog) (ls ls' : Holdings) (t : ℕ) (n : Name) (m : Mode)
+pub asked_safe : {T E : Type 0} (r : Result T E) (ts : tables.Places) (u : undo.SegmentLog) (ls ls' : Holdings) (t : ℕ) (n : Name) (m : Mode)
     → OnOk r (locks.IsFreeFor ls t n m) → OnOk r (locks.Takes ls ls' t n m) → OnOk r (locks.OthersKeep ls ls' t) → OnErr r (ls' ≡ ls)
     → IsSafe (view_from ts u ls) → IsSafe (view_from ts u ls')
 asked_safe (Ok x) ts u ls ls' t n m free own others same s =

@@ -1,5 +1,5 @@
 -- A stage that was done, or refused, by the engine is one of its program, whichever program that is.
-use Rattle.std.proofs.Common.{◌≡◌, ℕ, zero, suc, ◌<◌, Bool, true, false, cond, ◌∷◌, Option, None, Some, refl, sym, ap, ◌∙◌, subst, inl, inr, ◌⊎◌, arith}
+use Rattle.std.proofs.Common.{◌≡◌, ℕ, Bool, true, false, cond, ◌∷◌, Option, None, Some, refl, sym, ap, ◌∙◌, subst, inl, inr, ◌⊎◌}
 use Rattle.std.specs.Prelude.{Result, Ok, Err, OnOk, IfErr}
 use Rattle.std.proofs.lemmas.Bool.{true≢false}
 use mathlib.Core.Path.{fun_ext}
@@ -17,56 +17,52 @@ use Rattle.oe_model.specs.Locks.{is_name}
 use Rattle.oe_model.proofs.SystemLaws as model
 use Rattle.oe_model.specs.Positions.{Position}
 use Rattle.oe_model.specs.System.{system, yields}
-use Rattle.oe_change.specs.Writes.{is_boxed}
-use Rattle.oe_undo.specs.Undo.{room_at}
 use Rattle.oe_engine.specs.View.{EngineState, View, view_of, Handle, IsOpen}
 use Rattle.oe_engine.specs.Covered.{Owns, IsOwn, IsSafe}
-use Rattle.oe_engine.specs.Calls.{ask_to_write, IsFree, IsInTheWay, stage_done, AcceptsAll, StageRefused, WantsPlace}
+use Rattle.oe_engine.specs.Calls.{ask_to_write, IsFree, IsInTheWay, IsFullFor, IsFullForAny, stage_done, AcceptsAll, StageRefused, WantsPlace}
 use Rattle.oe_engine.specs.Programs.{ask_here, act_here, GoesOn, WantsMemory, IsRefused}
 use Rattle.oe_engine.specs.Stages.{Does}
 
 -- done
 pub goes_on : (s s' : EngineState) (x : Handle) (a : Ask Name Refusal) (c : Option Change) → IsOpen s x → IsFree (view_of s) x.terminal a
-    → AcceptsAll c (view_of s).rows → view_of s' ≡ stage_done x.terminal a c (view_of s) → s'.name ≡ s.name
+    → AcceptsAll c (view_of s).rows → (IsFullForAny (view_of s) x.terminal c → ⊥) → view_of s' ≡ stage_done x.terminal a c (view_of s) → s'.name ≡ s.name
     → (q : Request) (p p' : Position) → ask_here s x q p ≡ a → act_here s x q p ≡ Go c p' → GoesOn s x q p s' p'
-goes_on s s' x a c o free accepted done same q p p' asks does =
+goes_on s s' x a c o free accepted room done same q p p' asks does =
     record {
       is_open = o;
       free = subst (IsFree (view_of s) x.terminal) (sym asks) free;
       change = c;
       does = does;
       accepted = accepted;
+      room = room;
       done = done ∙ ap (λ b. stage_done x.terminal b c (view_of s)) (sym asks);
       name = same;
     }
 
--- where a stage with a change is told that memory is wanted, it is so
+-- where a stage with a change is told that memory is wanted or that its record has no room, it is so
 module _ (s : EngineState) (x : Handle) (c : Change) where
   abbrev pub IsRoom : Ask Name Refusal → Refusal → Type 0
-  IsRoom a e = (IsNew system ((view_of s).held x.terminal) a → ⊥) → 0 < room_at s.undo x.terminal → e ≡ NoMemory → WantsPlace (Some c) s.tables ⊎ (is_boxed c ≡ true)
+  IsRoom a e = ((IsNew system ((view_of s).held x.terminal) a → ⊥) → e ≡ NoMemory → WantsPlace (Some c) s.tables) × (e ≡ UndoFull → IsFullFor (view_of s) x.terminal c)
 
-  by_room : IsRoom Plain NoMemory → (n : ℕ) → room_at s.undo x.terminal ≡ n → WantsMemory s x c
-  by_room room zero e = inl e
-  by_room room (suc n) e = inr (room (λ h. h) (subst (λ k. 0 < k) (sym e) (omega arith)) refl)
-
-  wants : (a : Ask Name Refusal) → IsRoom a NoMemory → IsNew system ((view_of s).held x.terminal) a ⊎ WantsMemory s x c
-  wants (Stop e) room = inr (by_room (λ h. room (λ k. k)) (room_at s.undo x.terminal) refl)
-  wants Plain room = inr (by_room room (room_at s.undo x.terminal) refl)
+  wants : (a : Ask Name Refusal) → IsRoom a NoMemory → IsNew system ((view_of s).held x.terminal) a ⊎ WantsPlace (Some c) s.tables
+  wants (Stop e) room = inr (room.0 (λ k. k) refl)
+  wants Plain room = inr (room.0 (λ k. k) refl)
   wants (Take n m) room = by_mode ((view_of s).held x.terminal n) refl
     where
-      by_mode : (o : Option theory.Mode) → (view_of s).held x.terminal n ≡ o → IsNew system ((view_of s).held x.terminal) (Take n m) ⊎ WantsMemory s x c
+      by_mode : (o : Option theory.Mode) → (view_of s).held x.terminal n ≡ o → IsNew system ((view_of s).held x.terminal) (Take n m) ⊎ WantsPlace (Some c) s.tables
       by_mode None e = inl e
-      by_mode (Some k) e = inr (by_room (λ h. room (λ none. let no : ⊥ = let both : None ≡ Some k = sym none ∙ e in cc in no)) (room_at s.undo x.terminal) refl)
+      by_mode (Some k) e = inr (room.0 (λ none. let no : ⊥ = let both : None ≡ Some k = sym none ∙ e in cc in no) refl)
 
 -- refused, where it makes a change
 with_change : (s : EngineState) (x : Handle) (q : Request) (p p' : Position) (c : Change) → act_here s x q p ≡ Go (Some c) p'
     → (e : Refusal) → IsRoom s x c (ask_here s x q p) e → StageRefused s x (ask_here s x q p) (Some c) e → IsRefused s x q p e
 with_change s x q p p' c does NotOpen room h = h
 with_change s x q p p' c does (Busy n u) room h = h
+with_change s x q p p' c does UndoFull room (o, f, some) = (o, f, (c, p', does, room.1 refl))
 with_change s x q p p' c does NoMemory room (o, f, n) = (o, f, by (wants s x c (ask_here s x q p) room), subst (λ d. GivesWay system (yields p) d) (sym does) tt)
   where
-    by : IsNew system ((view_of s).held x.terminal) (ask_here s x q p) ⊎ WantsMemory s x c
-        → IsNew system ((view_of s).held x.terminal) (ask_here s x q p) ⊎ ((d : Change) × (z : Position) × (act_here s x q p ≡ Go (Some d) z) × WantsMemory s x d)
+    by : IsNew system ((view_of s).held x.terminal) (ask_here s x q p) ⊎ WantsPlace (Some c) s.tables
+        → IsNew system ((view_of s).held x.terminal) (ask_here s x q p) ⊎ WantsMemory s x q p
     by (inl h) = inl h
     by (inr h) = inr (c, p', does, h)
 with_change s x q p p' c does (BadLine n) room (o, f, why) = (o, inr (inr (f, c, p', does, why)))
@@ -75,7 +71,6 @@ with_change s x q p p' c does (RowExists k) room (o, f, why) = (o, inr (inr (f, 
 with_change s x q p p' c does (Overflow k) room (o, f, why) = (o, inr (inr (f, c, p', does, why)))
 with_change s x q p p' c does (Reference k) room (o, f, why) = (o, inr (inr (f, c, p', does, why)))
 with_change s x q p p' c does KeyColumn room (o, f, why) = (o, inr (inr (f, c, p', does, why)))
-with_change s x q p p' c does UndoFull room (o, f, why) = (o, inr (inr (f, c, p', does, why)))
 with_change s x q p p' c does AlreadyOpen room (o, f, why) = (o, inr (inr (f, c, p', does, why)))
 with_change s x q p p' c does InvalidItem room (o, f, why) = (o, inr (inr (f, c, p', does, why)))
 with_change s x q p p' c does NoCustomer room (o, f, why) = (o, inr (inr (f, c, p', does, why)))
@@ -91,11 +86,12 @@ refused_change s x a c e room h q p p' asks does =
 
 -- the answer of such a stage
 pub does_change : (s s' : EngineState) (x : Handle) (a : Ask Name Refusal) (c : Change) (r : Result (Unit {0}) Refusal) → OnOk r (IsOpen s x)
-    → OnOk r (IsFree (view_of s) x.terminal a) → OnOk r (AcceptsAll (Some c) (view_of s).rows) → OnOk r (view_of s' ≡ stage_done x.terminal a (Some c) (view_of s))
+    → OnOk r (IsFree (view_of s) x.terminal a) → OnOk r (AcceptsAll (Some c) (view_of s).rows) → OnOk r (IsFullFor (view_of s) x.terminal c → ⊥)
+    → OnOk r (view_of s' ≡ stage_done x.terminal a (Some c) (view_of s))
     → s'.name ≡ s.name → IfErr r (StageRefused s x a (Some c)) → ((e : Refusal) → r ≡ Err e → IsRoom s x c a e)
     → Does s x a (Some c) r s'
-does_change s s' x a c (Ok u) o free accepted done same cause room = goes_on s s' x a (Some c) o free accepted done same
-does_change s s' x a c (Err e) o free accepted done same cause room = refused_change s x a c e (room e refl) cause
+does_change s s' x a c (Ok u) o free accepted fits done same cause room = goes_on s s' x a (Some c) o free accepted fits done same
+does_change s s' x a c (Err e) o free accepted fits done same cause room = refused_change s x a c e (room e refl) cause
 
 -- what a transaction alone may change is its own, or lies under a name
 pub owned_own : (held : Name → Option theory.Mode) (t k : ℕ) (g : Guard Name) → Owns held t k g → IsOwn t k g
@@ -153,7 +149,7 @@ module _ (s : EngineState) (x : Handle) (k : ℕ) (g : Guard Name) (safe : IsSaf
   refused_held c (Overflow y) (o, f, why) = (o, tt, why)
   refused_held c (Reference y) (o, f, why) = (o, tt, why)
   refused_held c KeyColumn (o, f, why) = (o, tt, why)
-  refused_held c UndoFull (o, f, why) = (o, tt, why)
+  refused_held c UndoFull (o, f, some) = (o, tt, some)
   refused_held c AlreadyOpen (o, f, why) = (o, tt, why)
   refused_held c InvalidItem (o, f, why) = (o, tt, why)
   refused_held c NoCustomer (o, f, why) = (o, tt, why)
@@ -167,12 +163,14 @@ module _ (s : EngineState) (x : Handle) (k : ℕ) (g : Guard Name) (safe : IsSaf
 
   -- the answer of such a stage
   pub does_held : (s' : EngineState) (c : Change) (r : Result (Unit {0}) Refusal) → OnOk r (IsOpen s x) → OnOk r (AcceptsAll (Some c) (view_of s).rows)
-      → OnOk r (view_of s' ≡ stage_done x.terminal (ask_to_write g) (Some c) (view_of s)) → s'.name ≡ s.name
+      → OnOk r (IsFullFor (view_of s) x.terminal c → ⊥) → OnOk r (view_of s' ≡ stage_done x.terminal (ask_to_write g) (Some c) (view_of s)) → s'.name ≡ s.name
       → IfErr r (StageRefused s x (ask_to_write g) (Some c)) → ((e : Refusal) → r ≡ Err e → IsRoom s x c (ask_to_write g) e)
       → Does s x Plain (Some c) r s'
-  does_held s' c (Ok u) o accepted done same cause room =
-      goes_on s s' x Plain (Some c) o tt accepted (done ∙ done_held (view_of s) x.terminal k g c (owns o)) same
-  does_held s' c (Err e) o accepted done same cause room =
-      refused_change s x Plain c e
-      (λ held has same. room e refl (subst (λ z. StageRefused s x (ask_to_write g) (Some c) z → IsNew system ((view_of s).held x.terminal) (ask_to_write g) → ⊥) (sym same) (wants_held c) cause) has same)
+  does_held s' c (Ok u) o accepted fits done same cause room =
+      goes_on s s' x Plain (Some c) o tt accepted fits (done ∙ done_held (view_of s) x.terminal k g c (owns o)) same
+  does_held s' c (Err e) o accepted fits done same cause room =
+      refused_change s x Plain c e (
+        λ held same. (room e refl).0 (subst (λ z. StageRefused s x (ask_to_write g) (Some c) z → IsNew system ((view_of s).held x.terminal) (ask_to_write g) → ⊥) (sym same) (wants_held c) cause) same,
+        (room e refl).1,
+      )
       (refused_held c e cause)

@@ -1,22 +1,31 @@
 -- A write is a change of the row that is there: of which key, and who may make it.
-use Rattle.std.proofs.Common.{◌≡◌, refl, sym, ◌∙◌, subst, suc, ℕ, Option, None, Some, inl, inr, ◌⊎◌}
-use Rattle.std.specs.Prelude.{option_map}
-use Rattle.std.specs.Option.{IsSomeAnd, MatchOption}
+use Rattle.std.proofs.Common.{◌≡◌, ◌+◌, ◌≤◌, refl, sym, ◌∙◌, subst, suc, ℕ, Option, None, Some, arith}
+use Rattle.std.specs.Prelude.{IsSome, option_map, option_and_then}
+use Rattle.std.specs.Option.{IsSomeAnd}
 use Rattle.std.specs.FinMap.{get}
 use Rattle.oe_theory.specs.Machine as theory
 use Rattle.oe_theory.proofs.Sets.{some_inj}
 use Rattle.oe_keys.specs.declared.locks.Name.{Name}
 use Rattle.oe_requests.specs.declared.refusals.Refusal.{Refusal}
-use Rattle.oe_requests.specs.declared.refusals.Refusal.TheVariants.{NoMemory, NoSuchRow}
-use Rattle.oe_model.specs.Rows.{Rows}
-use Rattle.oe_model.specs.Changes.{Change, key_of}
+use Rattle.oe_requests.specs.declared.refusals.Refusal.TheVariants.{UndoFull, NoMemory}
+use Rattle.oe_rows.specs.declared.orders.NewOrder.{NewOrder}
+use Rattle.oe_rows.specs.declared.rows.Row.TheVariants as row
+use Rattle.oe_theory.specs.Next.{record_on}
+use Rattle.oe_model.specs.Rows.{Rows, as_warehouse, as_district, as_customer, as_new_order, as_order, as_order_line, as_stock}
+use Rattle.oe_model.specs.Changes.{Change, key_of, Record, UpdatedWarehouse, UpdatedDistrict, UpdatedCustomer, UpdatedOrder, UpdatedOrderLine, UpdatedStock, DeletedNewOrder}
+use Rattle.oe_model.specs.Lengths.{record_length}
 use Rattle.oe_model.specs.Locks.{governs}
+use Rattle.oe_model.specs.System.{system}
 use Rattle.oe_records.specs.declared.writes.Write.{Write}
 use Rattle.oe_records.specs.declared.writes.Write.TheVariants.{WarehouseYtd, DistrictYtd, NextOrder, CustomerAccount, BadCredit, StockCounters, Carrier, DeliveryDate, InsertHistory, InsertNewOrder, InsertOrder, InsertOrderLine, DeleteNewOrder}
 use Rattle.oe_records.specs.Writes.{key_written, written}
 use Rattle.oe_store.specs.Places.{Places, rows}
-use Rattle.oe_change.specs.Applies.{Refuses}
-use Rattle.oe_change.specs.Writes.{WantsBox, RefusesWrite}
+use Rattle.oe_change.specs.Applies.{Refuses, IsFirst}
+use Rattle.oe_log.specs.Log.{IsFull}
+use Rattle.oe_segments.specs.Segments.{SegmentLog, log_of}
+use Rattle.oe_journal.specs.Records.{record_of_write}
+use Rattle.oe_journal.specs.Writes.{CantWrite, Absent, Full, Refused}
+use Rattle.oe_journal.proofs.RecordFacts.{recorded}
 use Rattle.oe_engine.specs.View.{View}
 use Rattle.oe_engine.specs.Covered.{HoldsOrder, IsOwn}
 use Rattle.oe_engine.specs.Calls.{ask_to_write, IsCovered, ChangeRefused}
@@ -67,24 +76,101 @@ covered_written v t w c e own order =
     subst (λ k. IsCovered v t (ask_to_write (governs k)) (Some c)) same
     (covered_to_write v t c (subst (λ k. IsOwn t (suc (v.counts t)) (governs k)) (sym same) own) (holds order))
 
--- Why it is refused: with its row, without it, and where memory is wanted
-pub refused_written : (w : Write) (s : Places) (c : Change) (e : Refusal) → written w (rows s) ≡ Some c → RefusesWrite w s e → ChangeRefused c (rows s) e
-refused_written w s c e found h = go (subst (λ o. MatchOption o (e ≡ NoSuchRow (key_written w)) (λ d. Refuses d s e ⊎ WantsBox d e)) found h)
+-- ---- why it is refused
+
+-- what two options have that are of one row
+of_both : {A : Type 0} {D B : Type 0} (P : D → B → Type 0) (f : A → D) (g : A → B) (o : Option A) (d : D) (b : B) → ((x : A) → o ≡ Some x → P (f x) (g x))
+    → option_map f o ≡ Some d → option_map g o ≡ Some b → P d b
+of_both P f g None d b h e i = cc
+of_both P f g (Some x) d b h e i = subst (λ z. P d z) (some_inj (g x) b i) (subst (λ z. P z (g x)) (some_inj (f x) d e) (h x refl))
+
+of_these : {D B : Type 0} (P : D → B → Type 0) (d c : D) (a b : B) → P d a → Some d ≡ Some c → Some a ≡ Some b → P c b
+of_these P d c a b h e i = subst (λ z. P c z) (some_inj a b i) (subst (λ z. P z a) (some_inj d c e) h)
+
+no_less : (n : ℕ) → n ≤ n
+no_less n = omega arith
+
+more_than : (n m : ℕ) → n + 0 ≤ n + m
+more_than n m = omega arith
+
+-- the record that is pushed is no longer than that of the change
+abbrev IsNoLonger : Rows → Change → Record → Type 0
+IsNoLonger r c b = record_length b ≤ record_length (record_on system c r)
+
+no_longer : (w : Write) (r : Rows) (c : Change) (b : Record) → written w r ≡ Some c → record_of_write w r ≡ Some b → IsNoLonger r c b
+no_longer (WarehouseYtd k y) r c b = of_both (IsNoLonger r) _ _ (get r.warehouses k) c b
+    (λ x e. subst (λ o. record_length (UpdatedWarehouse k (Some x)) ≤ record_length (UpdatedWarehouse k (option_and_then as_warehouse (option_map row.Warehouse o)))) (sym e) (no_less _))
+no_longer (DistrictYtd k y) r c b = of_both (IsNoLonger r) _ _ (get r.districts k) c b
+    (λ x e. subst (λ o. record_length (UpdatedDistrict k (Some x)) ≤ record_length (UpdatedDistrict k (option_and_then as_district (option_map row.District o)))) (sym e) (no_less _))
+no_longer (NextOrder k n) r c b = of_both (IsNoLonger r) _ _ (get r.districts k) c b
+    (λ x e. subst (λ o. record_length (UpdatedDistrict k (Some x)) ≤ record_length (UpdatedDistrict k (option_and_then as_district (option_map row.District o)))) (sym e) (no_less _))
+no_longer (CustomerAccount k a) r c b = of_both (IsNoLonger r) _ _ (get r.customers k) c b
+    (λ x e. subst (λ o. record_length (UpdatedCustomer k (Some x)) ≤ record_length (UpdatedCustomer k (option_and_then as_customer (option_map row.Customer o)))) (sym e) (no_less _))
+no_longer (BadCredit k a t) r c b = of_both (IsNoLonger r) _ _ (get r.customers k) c b
+    (λ x e. subst (λ o. record_length (UpdatedCustomer k (Some x)) ≤ record_length (UpdatedCustomer k (option_and_then as_customer (option_map row.Customer o)))) (sym e) (no_less _))
+no_longer (StockCounters k n) r c b = of_both (IsNoLonger r) _ _ (get r.stocks k) c b
+    (λ x e. subst (λ o. record_length (UpdatedStock k (Some x)) ≤ record_length (UpdatedStock k (option_and_then as_stock (option_map row.Stock o)))) (sym e) (no_less _))
+no_longer (Carrier k n) r c b = of_both (IsNoLonger r) _ _ (get r.orders k) c b
+    (λ x e. subst (λ o. record_length (UpdatedOrder k (Some x)) ≤ record_length (UpdatedOrder k (option_and_then as_order (option_map row.Order o)))) (sym e) (no_less _))
+no_longer (DeliveryDate k t) r c b = of_both (IsNoLonger r) _ _ (get r.order_lines k) c b
+    (λ x e. subst (λ o. record_length (UpdatedOrderLine k (Some x)) ≤ record_length (UpdatedOrderLine k (option_and_then as_order_line (option_map row.OrderLine o)))) (sym e) (no_less _))
+no_longer (InsertHistory k x) r c b = of_these (IsNoLonger r) _ c _ b (more_than _ _)
+no_longer (InsertNewOrder k) r c b = of_these (IsNoLonger r) _ c _ b (more_than _ _)
+no_longer (InsertOrder k x) r c b = of_these (IsNoLonger r) _ c _ b (more_than _ _)
+no_longer (InsertOrderLine k x) r c b = of_these (IsNoLonger r) _ c _ b (more_than _ _)
+no_longer (DeleteNewOrder k) r c b = of_these (IsNoLonger r) _ c _ b (deleted_as_long (option_and_then as_new_order (option_map row.NewOrder (get r.new_orders k))))
   where
-    go : Refuses c s e ⊎ WantsBox c e → ChangeRefused c (rows s) e
-    go (inl r) = refused_so c s e r
-    go (inr b) = subst (ChangeRefused c (rows s)) (sym b.0) tt
+    deleted_as_long : (v : Option NewOrder) → record_length (DeletedNewOrder k (Some (record {}))) ≤ record_length (DeletedNewOrder k v)
+    deleted_as_long None = no_less _
+    deleted_as_long (Some x) = no_less _
 
-pub refused_absent : (w : Write) (s : Places) (e : Refusal) → written w (rows s) ≡ None → RefusesWrite w s e → AbsentRefused (key_written w) e
-refused_absent w s e absent h =
-    let same : e ≡ NoSuchRow (key_written w) = subst (λ o. MatchOption o (e ≡ NoSuchRow (key_written w)) (λ d. Refuses d s e ⊎ WantsBox d e)) absent h in
-    subst (AbsentRefused (key_written w)) (sym same) refl
+-- the record has no room
+full_as : (u : SegmentLog) (t m n : ℕ) → m ≤ n → IsFull (log_of u) t m → IsFull (log_of u) t n
+full_as u t m n h f = (omega (arith, h, f.0), f.1)
 
-wants_here : (w : Write) (s : Places) (e : Refusal) (o : Option Change) → MatchOption o (e ≡ NoSuchRow (key_written w)) (λ d. Refuses d s e ⊎ WantsBox d e)
-    → e ≡ NoMemory → WantsRow o s
-wants_here w s e None h same = let no : NoSuchRow (key_written w) ≡ NoMemory = sym h ∙ same in absurd (let z : ⊥ = cc in z)
-wants_here w s e (Some c) (inl r) same = inl (subst (Refuses c s) same r)
-wants_here w s e (Some c) (inr b) same = inr b.1
+module _ (w : Write) (s : Places) (u : SegmentLog) (t : ℕ) where
+  full_write : (c : Change) → written w (rows s) ≡ Some c → (o : Option Record) → record_of_write w (rows s) ≡ o → IsSomeAnd o (λ b. IsFull (log_of u) t (record_length b))
+      → IsFull (log_of u) t (record_length (record_on system c (rows s)))
+  full_write c found None e h = absurd h
+  full_write c found (Some b) e h = full_as u t (record_length b) (record_length (record_on system c (rows s))) (no_longer w (rows s) c b found e) h
 
-pub wants_row : (w : Write) (s : Places) (e : Refusal) → RefusesWrite w s e → e ≡ NoMemory → WantsRow (written w (rows s)) s
-wants_row w s e h same = wants_here w s e (written w (rows s)) h same
+  -- where there is a record, the row is there
+  pub refused_written : (c : Change) (e : Refusal) → written w (rows s) ≡ Some c → CantWrite w s u t e → ChangeRefused c (rows s) e
+  refused_written c _ found (Absent a) = let no : ◌≡◌ {A = Option Change} None (Some c) = sym a ∙ found in cc
+  refused_written c _ found (Full h) = tt
+  refused_written c e found (Refused _ room h) = refused_so c s e (of_change (λ d. Refuses d s e × IsFirst d (rows s) e) _ c found h).0
+
+  pub refused_full : (c : Change) (e : Refusal) → written w (rows s) ≡ Some c → CantWrite w s u t e → e ≡ UndoFull → IsFull (log_of u) t (record_length (record_on system c (rows s)))
+  refused_full c _ found (Absent a) same = let no : ◌≡◌ {A = Option Change} None (Some c) = sym a ∙ found in cc
+  refused_full c _ found (Full h) same = full_write c found _ refl h
+  refused_full c e found (Refused _ room h) same =
+      absurd (never_full c (subst (λ z. Refuses c s z) same (of_change (λ d. Refuses d s e × IsFirst d (rows s) e) _ c found h).0))
+    where
+      never_full : (d : Change) → Refuses d s UndoFull → ⊥
+      never_full d h = h
+
+  pub wants_row : (e : Refusal) → CantWrite w s u t e → e ≡ NoMemory → WantsRow (written w (rows s)) s
+  wants_row _ (Absent a) same = let no : ⊥ = cc in absurd no
+  wants_row _ (Full h) same = let no : ⊥ = cc in absurd no
+  wants_row e (Refused _ room h) same = wants_here (written w (rows s)) h
+    where
+      wants_here : (o : Option Change) → IsSomeAnd o (λ d. Refuses d s e × IsFirst d (rows s) e) → WantsRow o s
+      wants_here None k = absurd k
+      wants_here (Some d) k = subst (Refuses d s) same k.0
+
+-- a write whose row is absent has no record
+none_recorded : (P : Record → Type 0) (w : Write) (r : Rows) → written w r ≡ None → IsSomeAnd (record_of_write w r) P → ⊥
+none_recorded P w r absent h = is_none (written w r) absent (recorded w r (is_some_of (record_of_write w r) h))
+  where
+    is_some_of : (o : Option Record) → IsSomeAnd o P → IsSome o
+    is_some_of None h = absurd h
+    is_some_of (Some b) h = refl
+
+    is_none : (o : Option Change) → o ≡ None → IsSome o → ⊥
+    is_none None e h = let no : ⊥ = cc in no
+    is_none (Some c) e h = let no : ⊥ = cc in no
+
+pub refused_absent : (w : Write) (s : Places) (u : SegmentLog) (t : ℕ) (e : Refusal) → written w (rows s) ≡ None → CantWrite w s u t e → AbsentRefused (key_written w) e
+refused_absent w s u t _ absent (Absent a) = refl
+refused_absent w s u t _ absent (Full h) = absurd (none_recorded _ w (rows s) absent h)
+refused_absent w s u t e absent (Refused _ room h) = absurd (none_recorded _ w (rows s) absent room)

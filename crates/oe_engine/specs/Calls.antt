@@ -1,17 +1,17 @@
 -- What the engine's calls do to what it stands for, and why they are refused.
-use Rattle.std.specs.Prelude.{◌≡◌, ◌≢◌, ◌⊎◌, ℕ, suc, ◌-◌, ◌<◌, true, false, cond, List, [], ◌∷◌, Option, None, Some, IsSome, is_some, length, take, drop}
+use Rattle.std.specs.Prelude.{◌≡◌, ◌≢◌, ◌⊎◌, ℕ, suc, ◌-◌, ◌<◌, ◌≤◌, true, false, cond, List, [], ◌∷◌, Option, None, Some, IsSome, is_some, length, take, drop}
 use Rattle.oe_theory.specs.Machine.{Ask, Stop, Plain, Take, Guard, Free, Under, Own}
 use Rattle.oe_theory.specs.Machine as theory
 use Rattle.oe_theory.specs.World.{go_together, set, bump, total}
-use Rattle.oe_theory.specs.Next.{held_after, record_on, IsNew}
-use Rattle.oe_theory.specs.Undo.{unwind, unwind_commits, put_records}
+use Rattle.oe_theory.specs.Next.{held_after, record_on, filled, IsNew}
+use Rattle.oe_theory.specs.Undo.{unwind, unwind_commits, put_records, lengths_of, used_of}
 use Rattle.oe_theory.specs.Store.{Slot, with_change_of, with_record_of, count_slots, counts_before}
 use Rattle.oe_keys.specs.declared.keys.NewOrderKey.{NewOrderKey}
 use Rattle.oe_keys.specs.declared.locks.Name.{Name}
 use Rattle.oe_requests.specs.declared.requests.Request.{Request}
 use Rattle.oe_requests.specs.declared.replies.Reply.{Reply}
 use Rattle.oe_requests.specs.declared.refusals.Refusal.{Refusal}
-use Rattle.oe_requests.specs.declared.refusals.Refusal.TheVariants.{Busy, NotOpen, AlreadyOpen, NoMemory, NotQuiet}
+use Rattle.oe_requests.specs.declared.refusals.Refusal.TheVariants.{Busy, UndoFull, NotOpen, AlreadyOpen, NoMemory, NotQuiet}
 use Rattle.oe_model.specs.Rows.{Rows}
 use Rattle.oe_model.specs.Changes.{Change, Record, changed}
 use Rattle.oe_model.specs.Meets.{Accepts, Cause}
@@ -20,7 +20,7 @@ use Rattle.oe_model.specs.Requests.{number_rejection}
 use Rattle.oe_model.specs.System.{system, terminal_limit}
 use Rattle.oe_store.specs.Places as tables
 use Rattle.oe_change.specs.Applies.{Refuses}
-use Rattle.oe_past.specs.Moments.{IsBetween, IsOutside}
+use Rattle.oe_journal.specs.Moments.{IsBetween, IsOutside}
 use Rattle.oe_deleted.specs.Deleted.{HasDeleteIn, IsNamedNoMore}
 use Rattle.oe_engine.specs.View.{EngineState, View, view_of, Handle, IsOpen}
 use Rattle.oe_engine.specs.Covered.{MayMake}
@@ -102,14 +102,27 @@ LockRefused v t n m (Busy name u) = (name ≡ n) × IsInTheWay v t name m u
 LockRefused v t n m NoMemory = IsFree v t (Take n m) × (v.held t n ≡ None)
 LockRefused v t n m e = ⊥
 
--- why a change is refused: memory is wanted for it or for its record, or the tables don't accept it
+-- the record of a change of the rows as they are fits neither the rest of its transaction's last extent nor a free one
+abbrev pub IsFullFor : View → ℕ → Change → Type 0
+IsFullFor v t c =
+    ((filled system (lengths_of system (v.undo.active t))).1 < system.size_of (record_on system c v.rows))
+    × (v.extents ≤ used_of system v.undo)
+
+-- so it is with that of a stage's change, if it makes one
+abbrev pub IsFullForAny : View → ℕ → Option Change → Type 0
+IsFullForAny v t None = ⊥
+IsFullForAny v t (Some c) = IsFullFor v t c
+
+-- why a change is refused: its record has no room, memory is wanted for it, or the tables don't accept it
 abbrev pub ChangeRefused : Change → Rows → Refusal → Type 0
+ChangeRefused c r UndoFull = Unit {0}
 ChangeRefused c r NoMemory = Unit {0}
 ChangeRefused c r e = Cause c r e
 
 -- why a lock with a change is refused
 abbrev pub PairRefused : View → ℕ → Name → theory.Mode → Change → Refusal → Type 0
 PairRefused v t n m c (Busy name u) = LockRefused v t n m (Busy name u)
+PairRefused v t n m c UndoFull = IsFree v t (Take n m)
 PairRefused v t n m c NoMemory = IsFree v t (Take n m)
 PairRefused v t n m c e = IsFree v t (Take n m) × Cause c v.rows e
 
@@ -124,11 +137,12 @@ abbrev pub CauseOf : Option Change → Rows → Refusal → Type 0
 CauseOf None r e = ⊥
 CauseOf (Some c) r e = Cause c r e
 
--- why a stage is refused: its transaction isn't open here; another is in the way of its lock; memory is wanted for a lock that is
--- new, for a change or for its record; or the tables don't accept the change
+-- why a stage is refused: its transaction isn't open here; another is in the way of its lock; its change's record has no room; memory is
+-- wanted for a lock that is new, or for a change; or the tables don't accept the change
 abbrev pub StageRefused : EngineState → Handle → Ask Name Refusal → Option Change → Refusal → Type 0
 StageRefused s x a c NotOpen = IsOpen s x → ⊥
 StageRefused s x a c (Busy n u) = IsOpen s x × ((m : theory.Mode) × (a ≡ Take n m) × IsInTheWay (view_of s) x.terminal n m u)
+StageRefused s x a c UndoFull = IsOpen s x × IsFree (view_of s) x.terminal a × IsSome c
 StageRefused s x a c NoMemory = IsOpen s x × IsFree (view_of s) x.terminal a × (IsNew system ((view_of s).held x.terminal) a ⊎ IsSome c)
 StageRefused s x a c e = IsOpen s x × IsFree (view_of s) x.terminal a × CauseOf c (view_of s).rows e
 

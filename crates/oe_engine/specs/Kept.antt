@@ -2,15 +2,15 @@
 use Rattle.std.specs.Prelude.{◌≡◌, ℕ, suc, ◌<◌, true, false, length, is_some}
 use Rattle.oe_values.specs.declared.numbers.TheConstants.{TERMINALS}
 use Rattle.oe_store.specs.Places as tables
-use Rattle.oe_undo.specs.Undo.{active_at, count_at}
-use Rattle.oe_undo.specs.Undo as undo
-use Rattle.oe_undo.specs.Stands.{undo_of}
+use Rattle.oe_segments.specs.Segments.{active_at, count_at}
+use Rattle.oe_segments.specs.Segments as undo
+use Rattle.oe_segments.specs.Stands.{undo_of}
 use Rattle.oe_locks.specs.Held.{Holdings, HoldsNothing}
-use Rattle.oe_past.specs.GoesBack.{HavePlaces, AllHavePlaces}
+use Rattle.oe_journal.specs.GoesBack.{HavePlaces, AllHavePlaces}
 use Rattle.oe_engine.specs.View.{view_from}
 use Rattle.oe_engine.specs.Covered.{IsSafe}
 
-pub record IsKept (ts : tables.Places) (u : undo.UndoLog) (ls : Holdings) : Type 0 where
+pub record IsKept (ts : tables.Places) (u : undo.SegmentLog) (ls : Holdings) : Type 0 where
   pub size : length u.terminals ≡ suc TERMINALS
   -- the records of open transactions and of commits can be put back
   pub active : (t : ℕ) → HavePlaces ts ((undo_of u).active t)
@@ -21,6 +21,6 @@ pub record IsKept (ts : tables.Places) (u : undo.UndoLog) (ls : Holdings) : Type
   pub counted : (t : ℕ) → is_some (active_at u t) ≡ true → count_at u t < 4_294_967_295
 
 -- an engine's tables, undo log and locks
-pub record IsSound (ts : tables.Places) (u : undo.UndoLog) (ls : Holdings) : Type 0 where
+pub record IsSound (ts : tables.Places) (u : undo.SegmentLog) (ls : Holdings) : Type 0 where
   pub kept : IsKept ts u ls
   pub safe : IsSafe (view_from ts u ls)

@@ -5,6 +5,5 @@ pub mod Kept
 pub mod Loans
 pub mod Calls
 pub mod Writes
-pub mod Unwinds
 pub mod Programs
 pub mod Stages

@@ -1,5 +1,5 @@
 -- A stage of a program, in the words of the theory of transactions.
-use Rattle.std.specs.Prelude.{◌≡◌, ◌⊎◌, suc, true, [], Option, None, Some}
+use Rattle.std.specs.Prelude.{◌≡◌, ◌⊎◌, suc, [], Option, None, Some}
 use Rattle.oe_theory.specs.Machine.{Tx, Ask, Stop, Plain, Take, Act, Fail, Go, Ready}
 use Rattle.oe_theory.specs.Machine as theory
 use Rattle.oe_theory.specs.Next.{IsNew, GivesWay}
@@ -8,17 +8,15 @@ use Rattle.oe_requests.specs.declared.replies.Reply.{Reply}
 use Rattle.oe_requests.specs.declared.replies.Reply.TheVariants as reply
 use Rattle.oe_requests.specs.declared.replies.DistrictDelivery.TheVariants.{Skipped}
 use Rattle.oe_requests.specs.declared.refusals.Refusal.{Refusal}
-use Rattle.oe_requests.specs.declared.refusals.Refusal.TheVariants.{Busy, NotOpen, NoMemory}
+use Rattle.oe_requests.specs.declared.refusals.Refusal.TheVariants.{Busy, UndoFull, NotOpen, NoMemory}
 use Rattle.oe_model.specs.Changes.{Change}
 use Rattle.oe_model.specs.Meets.{Cause}
 use Rattle.oe_model.specs.Positions.{Position, InPayment, InNewOrder, InDelivery, NoProgram, PaymentPosition, PaymentEnd, NewOrderPosition, NewOrderStock, DeliveryPosition, DeliveryNothing, DeliveryEnd}
 use Rattle.oe_model.specs.NewOrder.{ordered_reply}
 use Rattle.oe_model.specs.Delivery.{delivered_reply}
 use Rattle.oe_model.specs.System.{system, ask, act, yields}
-use Rattle.oe_change.specs.Writes.{is_boxed}
-use Rattle.oe_undo.specs.Undo.{room_at}
 use Rattle.oe_engine.specs.View.{EngineState, view_of, Handle, IsOpen}
-use Rattle.oe_engine.specs.Calls.{IsFree, IsInTheWay, stage_done, AcceptsAll, WantsPlace}
+use Rattle.oe_engine.specs.Calls.{IsFree, IsInTheWay, IsFullFor, IsFullForAny, stage_done, AcceptsAll, WantsPlace}
 use Rattle.oe_engine.specs.declared.programs.Progress.{Progress}
 use Rattle.oe_engine.specs.declared.programs.Progress.TheVariants as progress
 
@@ -44,6 +42,7 @@ pub record GoesOn (s : EngineState) (x : Handle) (q : Request) (p : Position) (s
   pub change : Option Change
   pub does : act_here s x q p ≡ Go change p'
   pub accepted : AcceptsAll change (view_of s).rows
+  pub room : IsFullForAny (view_of s) x.terminal change → ⊥
   pub done : view_of s' ≡ stage_done x.terminal (ask_here s x q p) change (view_of s)
   pub name : s'.name ≡ s.name
 
@@ -80,18 +79,22 @@ Ends s x q p e =
     ⊎ (IsFreeHere s x q p × (act_here s x q p ≡ Fail e))
     ⊎ (IsFreeHere s x q p × (c : Change) × (p' : Position) × (act_here s x q p ≡ Go (Some c) p') × Cause c (view_of s).rows e)
 
--- memory is wanted for a stage's change: its undo record has no room, it is an insert at a key without a place, or the row
--- before it lies in memory of its own in the record
-abbrev pub WantsMemory : EngineState → Handle → Change → Type 0
-WantsMemory s x c = (room_at s.undo x.terminal ≡ 0) ⊎ WantsPlace (Some c) s.tables ⊎ (is_boxed c ≡ true)
+-- the stage makes a change whose undo record has no room
+abbrev pub IsFullHere : EngineState → Handle → Request → Position → Type 0
+IsFullHere s x q p = (c : Change) × (p' : Position) × (act_here s x q p ≡ Go (Some c) p') × IsFullFor (view_of s) x.terminal c
+
+-- memory is wanted for its change: it is an insert at a key without a place
+abbrev pub WantsMemory : EngineState → Handle → Request → Position → Type 0
+WantsMemory s x q p = (c : Change) × (p' : Position) × (act_here s x q p ≡ Go (Some c) p') × WantsPlace (Some c) s.tables
 
 -- why a stage was refused
 abbrev pub IsRefused : EngineState → Handle → Request → Position → Refusal → Type 0
 IsRefused s x q p NotOpen = IsOpen s x → ⊥
 IsRefused s x q p (Busy n u) = IsOpen s x × ((m : theory.Mode) × (ask_here s x q p ≡ Take n m) × IsInTheWay (view_of s) x.terminal n m u)
+IsRefused s x q p UndoFull = IsOpen s x × IsFreeHere s x q p × IsFullHere s x q p
 IsRefused s x q p NoMemory =
     IsOpen s x × IsFreeHere s x q p
-    × (IsNew system ((view_of s).held x.terminal) (ask_here s x q p) ⊎ ((c : Change) × (p' : Position) × (act_here s x q p ≡ Go (Some c) p') × WantsMemory s x c))
+    × (IsNew system ((view_of s).held x.terminal) (ask_here s x q p) ⊎ WantsMemory s x q p)
     × GivesWay system (yields p) (act_here s x q p)
 IsRefused s x q p e = IsOpen s x × Ends s x q p e
 

@@ -9,9 +9,9 @@ use Rattle.oe_model.specs.Locks.{mode_of}
 use Rattle.oe_model.specs.System.{system}
 use Rattle.oe_store.specs.Places.{rows}
 use Rattle.oe_store.specs.Places as tables
-use Rattle.oe_undo.specs.Undo.{active_at}
-use Rattle.oe_undo.specs.Undo as undo
-use Rattle.oe_undo.specs.Stands.{undo_of, seals_of, counts_of}
+use Rattle.oe_segments.specs.Segments.{active_at}
+use Rattle.oe_segments.specs.Segments as undo
+use Rattle.oe_segments.specs.Stands.{undo_of, seals_of, counts_of}
 use Rattle.oe_locks.specs.Held.{Holdings, held}
 
 -- the rows as they are, open work included; the undo records of open transactions and of commits; the commits, newest first; the
@@ -26,7 +26,7 @@ pub record View : Type 0 where
   pub extents : ℕ
 
 -- what tables, an undo log and holdings of locks stand for together
-unfoldable pub view_from : tables.Places → undo.UndoLog → Holdings → View
+unfoldable pub view_from : tables.Places → undo.SegmentLog → Holdings → View
 view_from ts u ls = record {
   rows = rows ts;
   undo = undo_of u;
@@ -40,11 +40,11 @@ view_from ts u ls = record {
 -- all that is stored
 pub record EngineState : Type 0 where
   pub tables : tables.Places
-  pub undo : undo.UndoLog
+  pub undo : undo.SegmentLog
   pub locks : Holdings
   pub name : ℕ
 
--- what it stands for. Room for records, places of blanked keys and the order in which names are kept are not part of that
+-- what it stands for. Places of blanked keys and the order in which names are kept are not part of that
 unfoldable pub view_of : EngineState → View
 view_of s = view_from s.tables s.undo s.locks
 

@@ -1,5 +1,5 @@
 -- What a write asks of its transaction, and why one is refused.
-use Rattle.std.specs.Prelude.{◌≡◌, ◌⊎◌, ℕ, true, Option, Some, IsSome}
+use Rattle.std.specs.Prelude.{◌≡◌, ℕ, Option, Some, IsSome}
 use Rattle.std.specs.Option.{IsSomeAnd}
 use Rattle.oe_theory.specs.Machine.{Ask, Take}
 use Rattle.oe_theory.specs.Machine as theory
@@ -14,7 +14,6 @@ use Rattle.oe_model.specs.Locks.{governs}
 use Rattle.oe_records.specs.declared.writes.Write.{Write}
 use Rattle.oe_records.specs.declared.writes.Write.TheVariants.{InsertNewOrder}
 use Rattle.oe_records.specs.Writes.{key_written, written}
-use Rattle.oe_change.specs.Writes.{is_boxed}
 use Rattle.oe_store.specs.Places as tables
 use Rattle.oe_engine.specs.View.{EngineState, View, view_of, Handle, IsOpen}
 use Rattle.oe_engine.specs.Calls.{ask_to_write, IsFree, IsInTheWay, LockRefused, WantsPlace}
@@ -32,25 +31,24 @@ abbrev pub WriteHoldsOrder : (Name → Option theory.Mode) → Write → Type 0
 WriteHoldsOrder held (InsertNewOrder k) = IsSome (held (name.Order (order_of_new_order k)))
 WriteHoldsOrder held _ = Unit {0}
 
--- why a write without its row is refused: the row is absent, or memory is wanted for a record
+-- why a write without its row is refused: the row is absent
 abbrev pub AbsentRefused : Key → Refusal → Type 0
-AbsentRefused k NoMemory = Unit {0}
 AbsentRefused k e = e ≡ NoSuchRow k
 
--- and with a lock: another is in the way of it; or it is free, and the row is absent, or memory is wanted for the lock or a record
+-- and with a lock: another is in the way of it; or it is free, and memory is wanted for it or the row is absent
 abbrev pub AbsentPairRefused : View → ℕ → Name → theory.Mode → Key → Refusal → Type 0
 AbsentPairRefused v t n m k (Busy name u) = LockRefused v t n m (Busy name u)
 AbsentPairRefused v t n m k NoMemory = IsFree v t (Take n m)
 AbsentPairRefused v t n m k e = IsFree v t (Take n m) × (e ≡ NoSuchRow k)
 
 -- and in a transaction, with the lock of the row's key: the transaction isn't open here; or another is in the way of the lock; or that is
--- free, and the row is absent, or memory is wanted for the lock or a record
+-- free, and memory is wanted for it or the row is absent
 abbrev pub AbsentRowRefused : EngineState → Handle → Key → Refusal → Type 0
 AbsentRowRefused s x k NotOpen = IsOpen s x → ⊥
 AbsentRowRefused s x k (Busy n u) = IsOpen s x × ((m : theory.Mode) × (ask_to_write (governs k) ≡ Take n m) × IsInTheWay (view_of s) x.terminal n m u)
 AbsentRowRefused s x k NoMemory = IsOpen s x × IsFree (view_of s) x.terminal (ask_to_write (governs k))
 AbsentRowRefused s x k e = IsOpen s x × IsFree (view_of s) x.terminal (ask_to_write (governs k)) × (e ≡ NoSuchRow k)
 
--- memory is wanted for a write of a row that is there: a place in the tables, or the record of a customer or a stock
+-- memory is wanted for a write of a row: a place in the tables
 abbrev pub WantsRow : Option Change → tables.Places → Type 0
-WantsRow o s = IsSomeAnd o (λ c. WantsPlace (Some c) s ⊎ (is_boxed c ≡ true))
+WantsRow o s = IsSomeAnd o (λ c. WantsPlace (Some c) s)

@@ -9,11 +9,10 @@ ghost use Rattle.oe_model.specs.Rows.{row_at};
 ghost use Rattle.oe_model.specs.System.{system};
 ghost use Rattle.oe_records.specs.Changes.{change_of};
 ghost use Rattle.oe_store.specs.Places.{rows};
-ghost use Rattle.oe_undo.specs.Undo.{room_at};
 ghost use Rattle.oe_engine.specs.View.{view_of, IsOpen};
 ghost use Rattle.oe_engine.specs.Covered.{IsOwn, HoldsOrder, IsUnused};
 ghost use Rattle.oe_engine.specs.Writes.{ask_of_write};
-ghost use Rattle.oe_engine.specs.Calls.{ask_of, ask_to_write, IsFree, IsBelow, MayRead, locked, put_mode, stage_done, StageRefused, WantsPlace};
+ghost use Rattle.oe_engine.specs.Calls.{ask_of, ask_to_write, IsFree, IsFullFor, IsBelow, MayRead, locked, put_mode, stage_done, StageRefused, WantsPlace};
 
 use crate::engine::{Engine, Tx};
 use crate::programs::Lock;
@@ -22,13 +21,13 @@ use oe_locks::Locks;
 use oe_records::{Change, Write};
 use oe_requests::Refusal;
 use oe_rows::Row;
+use oe_segments::Segments;
 use oe_store::Tables;
-use oe_undo::Undo;
 
 /// What an engine is made of, to be read.
 pub struct Parts<'a> {
     pub tables: &'a Tables,
-    pub undo: &'a Undo,
+    pub undo: &'a Segments,
     pub locks: &'a Locks,
 }
 
@@ -178,10 +177,11 @@ impl Engine {
         ensures cause { IfErr result
             (StageRefused self.old tx.now (ask_to_write (governs (key_of (change_of change))))
             (Some (change_of change))) }
-        ensures room { (IsNew system ((view_of self.old).held tx.now.terminal)
-            (ask_to_write (governs (key_of (change_of change)))) → ⊥)
-            → 0 < room_at self.old.undo tx.now.terminal
-            → IfErr result
+        ensures full { IfErr result (λ e. e ≡ Refusal.UndoFull
+            → IsFullFor (view_of self.old) tx.now.terminal (change_of change)) }
+        ensures fits { OnOk result (IsFullFor (view_of self.old) tx.now.terminal (change_of change) → ⊥) }
+        ensures wants { (IsNew system ((view_of self.old).held tx.now.terminal)
+            (ask_to_write (governs (key_of (change_of change)))) → ⊥) → IfErr result
             (λ e. e ≡ Refusal.NoMemory → WantsPlace (Some (change_of change)) self.old.tables) }
         ensures err { OnErr result (view_of self.new ≡ view_of self.old) }
     {

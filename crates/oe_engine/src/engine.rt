@@ -11,24 +11,20 @@ ghost use Rattle.oe_model.specs.Requests.{number_rejection};
 ghost use Rattle.oe_model.specs.System.{system, terminal_limit};
 ghost use Rattle.oe_store.specs.Places.{rows};
 ghost use Rattle.oe_records.specs.Changes.{change_of};
-ghost use Rattle.oe_change.specs.Applies.{Refuses};
-ghost use Rattle.oe_undo.specs.Undo.{room_at};
-ghost use Rattle.oe_past.specs.GoesBack.{CanUnwind};
+ghost use Rattle.oe_journal.specs.GoesBack.{CanUnwind};
 ghost use Rattle.oe_locks.specs.Held as locks;
 ghost use Rattle.oe_engine.specs.View.{view_of, opened_view, IsOpen};
 ghost use Rattle.oe_engine.specs.Covered.{MayMake, IsUnused, IsSafe};
-ghost use Rattle.oe_engine.specs.Calls.{ask_of, IsFree, IsBusy, IsBelow, begun, CantBegin, locked, made, put_mode, LockRefused, ChangeRefused, PairRefused, stage_done, StageRefused, WantsPlace, AcceptsAll, IsCovered, back_at, committed, rolled_back};
+ghost use Rattle.oe_engine.specs.Calls.{ask_of, IsFree, IsBusy, IsFullFor, IsFullForAny, IsBelow, begun, CantBegin, locked, made, put_mode, LockRefused, ChangeRefused, PairRefused, stage_done, StageRefused, WantsPlace, AcceptsAll, IsCovered, back_at, committed, rolled_back};
 
 use crate::programs::Lock;
-use crate::unwinding::take_back;
-use oe_change::apply;
 use oe_keys::{Mode, Name};
 use oe_locks::Locks;
 use oe_records::Change;
 use oe_requests::{Column, Refusal, Reply, Request};
+use oe_segments::{ExtentCount, Segment, Segments};
 use oe_store::Tables;
 use oe_table::tables::NoMemory;
-use oe_undo::{Segment, Undo};
 use oe_values::{Moment, Terminal, TransactionNumber};
 use std::alloc::Global;
 use std::marker::Model;
@@ -38,9 +34,10 @@ use std::snapshot::Snapshot;
 #[derive(Drop)]
 pub struct Engine {
     pub(crate) tables: Tables,
-    pub(crate) undo: Undo,
+    pub(crate) undo: Segments,
     pub(crate) locks: Locks,
     name: u32,
+    alloc: Global,
 }
 
 impl Model for Engine {
@@ -118,11 +115,16 @@ fn is_below(mode: Option<Mode>, held: Option<Mode>) -> bool
 impl Engine {
     /// An engine on tables where nothing has begun or committed; its name tells its transactions from other engines'.
     /// `NoMemory` where memory was refused.
-    pub fn open(alloc: Global, tables: Tables, extents: u16, name: u32) -> Result<Engine, NoMemory>
+    pub fn open(
+        alloc: Global,
+        tables: Tables,
+        extents: ExtentCount,
+        name: u32,
+    ) -> Result<Engine, NoMemory>
         ensures view { IfOk result (λ e. view_of e ≡ opened_view (rows tables) extents) }
         ensures name { IfOk result (λ e. e.name ≡ name) }
     {
-        let Ok(undo) = Undo::new(alloc, extents) else {
+        let Ok(undo) = Segments::new(alloc, extents) else {
             return Err(NoMemory);
         };
         let Ok(locks) = Locks::new(alloc) else {
@@ -134,7 +136,13 @@ impl Engine {
             undo,
             locks,
             name,
+            alloc,
         })
+    }
+
+    /// The allocator that the engine was made with.
+    pub fn allocator(&self) -> Global {
+        self.alloc
     }
 
     /// The tables as they stand, open work included.
@@ -146,15 +154,10 @@ impl Engine {
     }
 
     /// The undo log: the records of open transactions and of commits.
-    pub fn undo(&self) -> &Undo
+    pub fn undo(&self) -> &Segments
         ensures { result.now ≡ self.now.undo }
     {
         &self.undo
-    }
-
-    /// The allocator that the engine was made with.
-    pub fn allocator(&self) -> Global {
-        self.undo.allocator()
     }
 
     /// The newest moment: the number of all commits so far.
@@ -297,7 +300,7 @@ impl Engine {
         }
     }
 
-    // Makes a change, with its undo record. Where there is room for a record, memory is wanted for a place in the tables alone.
+    // Makes a change, with its undo record. Memory is wanted for a place in the tables alone.
     // It stands in its callers, so that the change is not copied once more.
     #[inline(always)]
     fn make(&mut self, terminal: Terminal, change: Change) -> Result<(), Refusal>
@@ -309,26 +312,19 @@ impl Engine {
             (view_of self.new ≡ made terminal (change_of change) (view_of self.old)) }
         ensures name { self.new.name ≡ self.old.name }
         ensures cause { IfErr result (ChangeRefused (change_of change) (view_of self.old).rows) }
-        ensures room { 0 < room_at self.old.undo terminal
-            → IfErr result (Refuses (change_of change) self.old.tables) }
+        ensures full { IfErr result (λ e. e ≡ Refusal.UndoFull
+            → IsFullFor (view_of self.old) terminal (change_of change)) }
+        ensures fits { OnOk result (IsFullFor (view_of self.old) terminal (change_of change) → ⊥) }
+        ensures wants { IfErr result (λ e. e ≡ Refusal.NoMemory
+            → WantsPlace (Some (change_of change)) self.old.tables) }
         ensures err { OnErr result (view_of self.new ≡ view_of self.old) }
     {
         let segment = Segment::of(terminal);
-        let Ok(_) = self.undo.reserve(segment, 1) else {
-            return Err(Refusal::NoMemory);
-        };
-        self.tables.schema_holds();
-        match apply(&mut self.tables, change) {
-            Ok(before) => {
-                self.undo.push(segment, before);
-                Ok(())
-            }
-            Err(refusal) => Err(refusal),
-        }
+        oe_journal::change(&mut self.tables, &mut self.undo, segment, change)
     }
 
-    // Takes a lock and makes a change; where the change is refused, the name is held as it was. Where the name was held before and
-    // there is room for a record, memory is wanted for a place in the tables alone.
+    // Takes a lock and makes a change; where the change is refused, the name is held as it was. Where the name was held before,
+    // memory is wanted for a place in the tables alone.
     fn take_and_make(
         &mut self,
         terminal: Terminal,
@@ -349,9 +345,11 @@ impl Engine {
         ensures cause { IfErr result
             (PairRefused (view_of self.old) terminal lock.name (mode_of lock.mode)
             (change_of change)) }
-        ensures room { (IsNew system ((view_of self.old).held terminal)
-            (Take lock.name (mode_of lock.mode)) → ⊥) → 0 < room_at self.old.undo terminal
-            → IfErr result
+        ensures full { IfErr result (λ e. e ≡ Refusal.UndoFull
+            → IsFullFor (view_of self.old) terminal (change_of change)) }
+        ensures fits { OnOk result (IsFullFor (view_of self.old) terminal (change_of change) → ⊥) }
+        ensures wants { (IsNew system ((view_of self.old).held terminal)
+            (Take lock.name (mode_of lock.mode)) → ⊥) → IfErr result
             (λ e. e ≡ Refusal.NoMemory → WantsPlace (Some (change_of change)) self.old.tables) }
         ensures err { OnErr result (view_of self.new ≡ view_of self.old) }
     {
@@ -373,9 +371,10 @@ impl Engine {
     /// so by this call; a HISTORY row has its terminal and number; and whoever inserts a NEW-ORDER row holds its order's name.
     ///
     /// `NotOpen`: the transaction is not one of this engine. `Busy`: the least terminal that holds the name in a mode that
-    /// conflicts. `NoMemory`: memory was refused for a name that was not held, for a record for which the transaction's segment
-    /// had no room, or for an insert that the tables accept, at a key without a place. 2 to 6: the tables don't accept the
-    /// change. After an error nothing has changed: a lock that was gained is given back, and a mode that rose has fallen again.
+    /// conflicts. `UndoFull`: the record fits neither the rest of the transaction's last extent nor a free one. `NoMemory`: memory
+    /// was refused for a name that was not held, or for an insert that the tables accept, at a key without a place. 2 to 6: the
+    /// tables don't accept the change. After an error nothing has changed: a lock that was gained is given back, and a mode that
+    /// rose has fallen again.
     pub fn stage(
         &mut self,
         tx: &Tx,
@@ -396,9 +395,11 @@ impl Engine {
         ensures name { self.new.name ≡ self.old.name }
         ensures cause { IfErr result
             (StageRefused self.old tx.now (ask_of lock) (option_map change_of change)) }
-        ensures room { (IsNew system ((view_of self.old).held tx.now.terminal) (ask_of lock)
-            → ⊥)
-            → 0 < room_at self.old.undo tx.now.terminal
+        ensures full { IfErr result (λ e. e ≡ Refusal.UndoFull
+            → IsFullForAny (view_of self.old) tx.now.terminal (option_map change_of change)) }
+        ensures fits { OnOk result
+            (IsFullForAny (view_of self.old) tx.now.terminal (option_map change_of change) → ⊥) }
+        ensures wants { (IsNew system ((view_of self.old).held tx.now.terminal) (ask_of lock) → ⊥)
             → IfErr result
             (λ e. e ≡ Refusal.NoMemory → WantsPlace (option_map change_of change) self.old.tables) }
         ensures err { OnErr result (view_of self.new ≡ view_of self.old) }
@@ -443,7 +444,7 @@ impl Engine {
     {
         let segment = Segment::of(tx.terminal);
         let count = self.undo.mark(segment) - mark.records;
-        take_back(&mut self.tables, &mut self.undo, segment, count);
+        oe_journal::take_back(&mut self.tables, &mut self.undo, segment, count);
     }
 
     /// Commits a transaction with its request and reply, of which no byte is kept, and answers the moment of the commit. It takes no
@@ -500,7 +501,7 @@ impl Engine {
         let _number = terminal.get();
         let segment = Segment::of(terminal);
         let count = self.undo.mark(segment);
-        take_back(&mut self.tables, &mut self.undo, segment, count);
+        oe_journal::take_back(&mut self.tables, &mut self.undo, segment, count);
         self.undo.drop_segment(segment);
         self.locks.release_all(terminal);
         Ok(())

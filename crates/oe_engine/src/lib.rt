@@ -8,9 +8,9 @@ pub mod loans;
 pub mod past;
 pub mod programs;
 pub mod stages;
-mod unwinding;
 pub mod writes;
 
 pub use access::Parts;
 pub use engine::{Engine, Mark, Tx};
+pub use oe_segments::ExtentCount;
 pub use programs::{Lock, Progress};

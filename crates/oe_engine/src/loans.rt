@@ -1,12 +1,12 @@
 //! What an engine is made of, lent to be changed.
 ghost use Rattle.std.specs.Prelude.{◌≡◌, IfOk, IfErr, OnOk, OnErr};
-ghost use Rattle.oe_undo.specs.Undo.{open_total};
+ghost use Rattle.oe_segments.specs.Segments.{open_total};
 ghost use Rattle.oe_engine.specs.Loans.{Takes, Leaves, Keeps};
 
 use crate::engine::Engine;
 use oe_requests::Refusal;
+use oe_segments::Segments;
 use oe_store::Tables;
-use oe_undo::Undo;
 use oe_values::TerminalCount;
 
 impl Engine {
@@ -14,7 +14,7 @@ impl Engine {
     /// answers. What it leaves has to be an engine's again, as `Keeps` says: each record's key has a place in the tables.
     ///
     /// `NotQuiet`: so many transactions are open. Then `work` was not called, and nothing has changed.
-    pub fn with_parts<R, F: FnOnce(&mut Tables, &mut Undo) -> R>(
+    pub fn with_parts<R, F: FnOnce(&mut Tables, &mut Segments) -> R>(
         &mut self,
         work: F,
     ) -> Result<R, Refusal>

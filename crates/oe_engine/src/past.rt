@@ -1,8 +1,8 @@
 //! Commits that are forgotten or undone.
 ghost use Rattle.std.specs.Prelude.{◌≡◌, IfErr, OnOk, OnErr};
-ghost use Rattle.oe_past.specs.GivesUp.{GivesUpDeleted};
-ghost use Rattle.oe_past.specs.GoesBack.{CanUnwindAll};
-ghost use Rattle.oe_past.specs.Moments.{IsOutside};
+ghost use Rattle.oe_journal.specs.GivesUp.{GivesUpDeleted};
+ghost use Rattle.oe_journal.specs.GoesBack.{CanUnwindAll};
+ghost use Rattle.oe_journal.specs.Moments.{IsOutside};
 ghost use Rattle.oe_engine.specs.View.{view_of};
 ghost use Rattle.oe_engine.specs.Calls.{newest, horizon, records_up_to, IsQuiet, IsKeptMoment, IsNamedNoMoreAfter, CantRewind, purged_to, rewound_to};
 
@@ -29,7 +29,7 @@ impl Engine {
             (IsOutside (horizon (view_of self.old)) (newest (view_of self.old)) moment) }
         ensures err { OnErr result (self.new ≡ self.old) }
     {
-        oe_past::purge(&mut self.tables, &mut self.undo, moment)
+        oe_journal::purge(&mut self.tables, &mut self.undo, moment)
     }
 
     /// Undoes the commits after a moment, the newest first, while no transaction is open: the moment becomes the newest, and the
@@ -49,7 +49,7 @@ impl Engine {
         ensures cause { IfErr result (CantRewind (view_of self.old) moment) }
         ensures err { OnErr result (self.new ≡ self.old) }
     {
-        let answer = oe_past::rewind(&mut self.tables, &mut self.undo, moment);
+        let answer = oe_journal::rewind(&mut self.tables, &mut self.undo, moment);
         self.tables.schema_holds();
         answer
     }

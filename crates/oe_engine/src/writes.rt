@@ -7,11 +7,9 @@ ghost use Rattle.oe_model.specs.Locks.{mode_of, governs};
 ghost use Rattle.oe_model.specs.Meets.{Accepts};
 ghost use Rattle.oe_model.specs.System.{system};
 ghost use Rattle.oe_records.specs.Writes.{key_written};
-ghost use Rattle.oe_change.specs.Writes.{RefusesWrite};
-ghost use Rattle.oe_undo.specs.Undo.{room_at};
 ghost use Rattle.oe_engine.specs.View.{view_of, IsOpen};
 ghost use Rattle.oe_engine.specs.Covered.{MayMake, IsOwn};
-ghost use Rattle.oe_engine.specs.Calls.{IsFree, locked, made, ChangeRefused, PairRefused, stage_done, StageRefused, IsCovered};
+ghost use Rattle.oe_engine.specs.Calls.{IsFree, IsFullFor, locked, made, ChangeRefused, PairRefused, stage_done, StageRefused, IsCovered};
 ghost use Rattle.oe_engine.specs.Writes.{ask_of_write, change_written, WriteHoldsOrder, AbsentRefused, AbsentPairRefused, AbsentRowRefused, WantsRow};
 
 use crate::access::lock_of_write;
@@ -19,12 +17,11 @@ use crate::engine::{Engine, Tx};
 use crate::programs::Lock;
 use oe_records::Write;
 use oe_requests::Refusal;
-use oe_undo::Segment;
+use oe_segments::Segment;
 use oe_values::Terminal;
 
 impl Engine {
-    // Writes to a row, with its undo record. Where there is room for a record, memory is wanted for a place in the tables or
-    // for the row before alone.
+    // Writes to a row, with its undo record. Memory is wanted for a place in the tables alone.
     fn put(&mut self, terminal: Terminal, write: &Write) -> Result<(), Refusal>
         requires open { (view_of self.old).is_open terminal ≡ true }
         requires covered { ForSome (change_written write.now (view_of self.old))
@@ -40,26 +37,20 @@ impl Engine {
             (λ c. IfErr result (ChangeRefused c (view_of self.old).rows)) }
         ensures absent { change_written write.now (view_of self.old) ≡ None
             → IfErr result (AbsentRefused (key_written write.now)) }
-        ensures room { 0 < room_at self.old.undo terminal
-            → IfErr result (RefusesWrite write.now self.old.tables) }
+        ensures full { ForSome (change_written write.now (view_of self.old))
+            (λ c. IfErr result (λ e. e ≡ Refusal.UndoFull → IsFullFor (view_of self.old) terminal c)) }
+        ensures fits { ForSome (change_written write.now (view_of self.old))
+            (λ c. OnOk result (IsFullFor (view_of self.old) terminal c → ⊥)) }
+        ensures wants { IfErr result (λ e. e ≡ Refusal.NoMemory
+            → WantsRow (change_written write.now (view_of self.old)) self.old.tables) }
         ensures err { OnErr result (view_of self.new ≡ view_of self.old) }
     {
         let segment = Segment::of(terminal);
-        let Ok(_) = self.undo.reserve(segment, 1) else {
-            return Err(Refusal::NoMemory);
-        };
-        let alloc = self.undo.allocator();
-        match oe_change::write(alloc, &mut self.tables, write) {
-            Ok(before) => {
-                self.undo.push(segment, before);
-                Ok(())
-            }
-            Err(refusal) => Err(refusal),
-        }
+        oe_journal::write(&mut self.tables, &mut self.undo, segment, write)
     }
 
-    // Takes a lock and writes; where the write is refused, the name is held as it was. Where the name was held before and there is
-    // room for a record, memory is wanted for a place in the tables or for the row before alone.
+    // Takes a lock and writes; where the write is refused, the name is held as it was. Where the name was held before, memory is
+    // wanted for a place in the tables alone.
     fn take_and_put(
         &mut self,
         terminal: Terminal,
@@ -88,9 +79,12 @@ impl Engine {
             → IfErr result
             (AbsentPairRefused (view_of self.old) terminal lock.now.name (mode_of lock.now.mode)
             (key_written write.now)) }
-        ensures room { (IsNew system ((view_of self.old).held terminal)
-            (Take lock.now.name (mode_of lock.now.mode)) → ⊥) → 0 < room_at self.old.undo terminal
-            → IfErr result
+        ensures full { ForSome (change_written write.now (view_of self.old))
+            (λ c. IfErr result (λ e. e ≡ Refusal.UndoFull → IsFullFor (view_of self.old) terminal c)) }
+        ensures fits { ForSome (change_written write.now (view_of self.old))
+            (λ c. OnOk result (IsFullFor (view_of self.old) terminal c → ⊥)) }
+        ensures wants { (IsNew system ((view_of self.old).held terminal)
+            (Take lock.now.name (mode_of lock.now.mode)) → ⊥) → IfErr result
             (λ e. e ≡ Refusal.NoMemory
             → WantsRow (change_written write.now (view_of self.old)) self.old.tables) }
         ensures err { OnErr result (view_of self.new ≡ view_of self.old) }
@@ -112,10 +106,10 @@ impl Engine {
     /// HISTORY row. A HISTORY row is the transaction's own, and the order's name of a new NEW-ORDER row it holds already.
     ///
     /// `NotOpen`: the transaction is not one of this engine. `Busy`: the least terminal that holds the name in a mode that
-    /// conflicts. `NoSuchRow`: the row to be changed or deleted is absent. `NoMemory`: memory was refused for a name that was not
-    /// held, for a record for which the transaction's segment had no room, for an insert that the tables accept, at a key without a
-    /// place, or for the record of a customer or a stock. Else the tables don't accept the insert. After an error nothing has
-    /// changed: a lock that was gained is given back, and a mode that rose has fallen again.
+    /// conflicts. `NoSuchRow`: the row to be changed or deleted is absent. `UndoFull`: the record fits neither the rest of the
+    /// transaction's last extent nor a free one. `NoMemory`: memory was refused for a name that was not held, or for an insert that
+    /// the tables accept, at a key without a place. Else the tables don't accept the insert. After an error nothing has changed: a
+    /// lock that was gained is given back, and a mode that rose has fallen again.
     pub fn write(&mut self, tx: &Tx, write: &Write) -> Result<(), Refusal>
         requires own { IsOpen self.old tx.now
             → IsOwn tx.now.terminal (suc ((view_of self.old).counts tx.now.terminal))
@@ -137,9 +131,12 @@ impl Engine {
             (λ c. IfErr result (StageRefused self.old tx.now (ask_of_write write.now) (Some c))) }
         ensures absent { change_written write.now (view_of self.old) ≡ None
             → IfErr result (AbsentRowRefused self.old tx.now (key_written write.now)) }
-        ensures room { (IsNew system ((view_of self.old).held tx.now.terminal)
-            (ask_of_write write.now) → ⊥) → 0 < room_at self.old.undo tx.now.terminal
-            → IfErr result
+        ensures full { ForSome (change_written write.now (view_of self.old))
+            (λ c. IfErr result (λ e. e ≡ Refusal.UndoFull → IsFullFor (view_of self.old) tx.now.terminal c)) }
+        ensures fits { ForSome (change_written write.now (view_of self.old))
+            (λ c. OnOk result (IsFullFor (view_of self.old) tx.now.terminal c → ⊥)) }
+        ensures wants { (IsNew system ((view_of self.old).held tx.now.terminal)
+            (ask_of_write write.now) → ⊥) → IfErr result
             (λ e. e ≡ Refusal.NoMemory
             → WantsRow (change_written write.now (view_of self.old)) self.old.tables) }
         ensures err { OnErr result (view_of self.new ≡ view_of self.old) }

@@ -1,6 +1,6 @@
 //! Engines, transactions and payments to test with.
 
-use oe_engine::{Engine, Tx};
+use oe_engine::{Engine, ExtentCount, Tx};
 use oe_keys::{DistrictKey, WarehouseKey};
 use oe_requests::{CustomerChoice, DistrictDelivery, PaymentRequest, Reply, Request};
 use oe_rows::Scale;
@@ -37,7 +37,8 @@ fn scale() -> Option<Scale> {
 
 fn opened(rt: &impl Abort, alloc: Global, name: u32) -> Result<Engine, NoMemory> {
     let scale = scale().expect(rt, "a scale");
-    Engine::open(alloc, populate(alloc, scale)?, 2, name)
+    let extents = ExtentCount::new(2).expect(rt, "extents");
+    Engine::open(alloc, populate(alloc, scale)?, extents, name)
 }
 
 /// An engine of that name on one warehouse.

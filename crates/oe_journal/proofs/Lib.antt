@@ -3,7 +3,7 @@
 pub mod RecordFacts
 pub mod LogFacts
 pub mod RewindFacts
-mod BackFacts
+pub mod BackFacts
 mod SetFacts
 mod UndoneFacts
 pub mod WriteFacts

@@ -19,7 +19,7 @@ use Rattle.oe_model.specs.Changes.{Change, key_of, row_of, changed, Record, reco
 use Rattle.oe_model.specs.Lengths.{record_length}
 use Rattle.oe_model.specs.Meets.{Accepts}
 use Rattle.oe_model.specs.Locks.{is_name, governs, Facet, Part, facet_key, part, governs_part}
-use Rattle.oe_model.specs.Positions.{Position, InPayment, InNewOrder, InDelivery, NoProgram, PaymentWarehouse, PaymentEnd, NewOrderWarehouse, NewOrderCustomer, NewOrderStock, DeliveryQueue, DeliveryNothing, DeliveryEnd}
+use Rattle.oe_model.specs.Positions.{Position, InPayment, InNewOrder, InDelivery, NoProgram, PaymentWarehouse, PaymentHistory, NewOrderWarehouse, NewOrderOrder, NewOrderQueue, NewOrderLine, DeliveryQueue}
 use Rattle.oe_model.specs.Effects.{Doing}
 use Rattle.oe_model.specs.Payment.{payment_effect, payment_ask, payment_act, payment_taken}
 use Rattle.oe_model.specs.NewOrder.{new_order_effect, new_order_ask, new_order_act, new_order_taken}
@@ -67,17 +67,14 @@ effect_of t k (request.Rename q) r = None
 abbrev pub marks : Position → Bool
 marks p = false
 
--- The rows that make a change may need memory: an insert for its place in a table, and each change for its undo record, since
--- records do not lie in a ring of fixed size yet. These rows make none.
+-- The stages that insert a row may need memory for its place in a table. No other stage takes any but for a name that is new: the memory for
+-- undo records is taken with their ring.
 abbrev pub may_allocate : Position → Bool
-may_allocate (InPayment q (PaymentEnd y)) = false
-may_allocate (InNewOrder q NewOrderWarehouse) = false
-may_allocate (InNewOrder q (NewOrderCustomer o w d)) = false
-may_allocate (InNewOrder q (NewOrderStock s before done [])) = false
-may_allocate (InDelivery q DeliveryNothing) = false
-may_allocate (InDelivery q (DeliveryEnd o c sum)) = false
-may_allocate NoProgram = false
-may_allocate _ = true
+may_allocate (InPayment q (PaymentHistory d y)) = true
+may_allocate (InNewOrder q (NewOrderOrder s)) = true
+may_allocate (InNewOrder q (NewOrderQueue s)) = true
+may_allocate (InNewOrder q (NewOrderLine s before done l f ls)) = true
+may_allocate _ = false
 
 -- a want of memory may stand in place of a column that leaves its range, and of a customer that is absent and given by number
 abbrev pub by_number : CustomerChoice → Bool
@@ -161,6 +158,6 @@ machine layout = record {
   terminal_limit = terminal_limit;
 }
 
--- that of the layout of today
+-- that of the server: its records lie in extents
 abbrev pub system : Machine
-system = machine AsValues
+system = machine InExtents

@@ -93,9 +93,9 @@ impl Program {
     /// One stage of the order: its lock and its one change. The names that the stages before have taken are held: the order's for
     /// its NEW-ORDER row and its lines.
     ///
-    /// The order of refusals is `NoCustomer` or `InvalidItem`, which stop before the lock, `Busy`, `Overflow`, and `NoMemory`
-    /// where memory was refused. A refused stage leaves the program, the tables and the locks as they were. Each stage of an order is
-    /// told the same request.
+    /// The order of refusals is `NoCustomer` or `InvalidItem`, which stop before the lock, `Busy`, `Overflow`, `UndoFull` where the
+    /// change's record has no room, and `NoMemory` where memory was refused for a new name or an inserted row. A refused stage leaves
+    /// the program, the tables and the locks as they were. Each stage of an order is told the same request.
     pub fn next(&mut self, request: &NewOrderRequest, engine: &mut Engine, tx: &Tx) -> Progress
         requires { IsOpen engine.old tx.now →
             HoldsTaken request.now tx.now engine.old (position_of request.now self.old) }

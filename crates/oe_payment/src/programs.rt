@@ -57,9 +57,9 @@ impl Program {
         }
     }
 
-    /// One stage of the payment: its lock and its one change. The order of refusals is `NoCustomer`, `Busy`, `Overflow`, and
-    /// `NoMemory` where memory was refused. A refused stage leaves the program, the tables and the locks as they were. Each stage of a
-    /// payment is told the same request.
+    /// One stage of the payment: its lock and its one change. The order of refusals is `NoCustomer`, `Busy`, `Overflow`, `UndoFull`
+    /// where the change's record has no room, and `NoMemory` where memory was refused for a new name or the inserted row. A refused
+    /// stage leaves the program, the tables and the locks as they were. Each stage of a payment is told the same request.
     pub fn next(&mut self, request: &PaymentRequest, engine: &mut Engine, tx: &Tx) -> Progress
         ensures { Progresses (Request.Payment request.now) tx.now
             engine.old (InPayment request.now self.old)

@@ -36,10 +36,10 @@ use Rattle.oe_model.proofs.PresenceFacts.{some-map, some_present}
 use Rattle.oe_store.specs.Numbered.{AreNumbered}
 use Rattle.oe_store.specs.Places.{rows}
 use Rattle.oe_store.specs.Places as tables
-use Rattle.oe_undo.specs.Undo as undo
-use Rattle.oe_versions.specs.Versions.{store_with, version, Stand}
-use Rattle.oe_versions.proofs.LastingFacts.{rows_last}
-use Rattle.oe_versions.proofs.LineFacts.{left, right, lower, same_number}
+use Rattle.oe_segments.specs.Segments.{SegmentLog}
+use Rattle.oe_moments.specs.Versions.{store_with, version, Stand}
+use Rattle.oe_moments.proofs.LastingFacts.{rows_last}
+use Rattle.oe_moments.proofs.LineFacts.{left, right, lower, same_number}
 use Rattle.oe_queries.specs.Few.{Orders_are_short, Recent_are_few, Levels_are_small}
 use Rattle.oe_queries.proofs.ListedFacts.{no_more, is_mapped}
 
@@ -205,7 +205,7 @@ module _ (r : Rows) (range : InRange r.order_lines) where
           omega (arith, same, more, all, few)
 
 -- the lines of a moment stand now, so that their numbers are in range
-pub in_range_past : (ts : tables.Places) (u : undo.UndoLog) (m : ℕ) → Stand ts u → AreNumbered (rows ts) → InRange (version ts u m).order_lines
+pub in_range_past : (ts : tables.Places) (u : SegmentLog) (m : ℕ) → Stand ts u → AreNumbered (rows ts) → InRange (version ts u m).order_lines
 in_range_past ts u m stand numbered k h =
     let now : IsSome (option_map row.OrderLine (get (rows ts).order_lines k)) =
     rows_last (record (store_with (rows ts) u) { slots = stand.0 }) m (key.OrderLine k) stand.1 (some-map row.OrderLine (get (version ts u m).order_lines k) ∙ h)

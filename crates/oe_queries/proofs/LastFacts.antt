@@ -11,14 +11,14 @@ use Rattle.oe_model.proofs.PresenceFacts.{some-map}
 use Rattle.oe_store.specs.Numbered.{AreNumbered}
 use Rattle.oe_store.specs.Places.{rows}
 use Rattle.oe_store.specs.Places as tables
-use Rattle.oe_undo.specs.Undo as undo
-use Rattle.oe_versions.specs.Versions.{store_with, version, Stand}
-use Rattle.oe_versions.proofs.LastingFacts.{rows_last}
+use Rattle.oe_segments.specs.Segments.{SegmentLog}
+use Rattle.oe_moments.specs.Versions.{store_with, version, Stand}
+use Rattle.oe_moments.proofs.LastingFacts.{rows_last}
 use Rattle.oe_queries.specs.Level.{is_short}
 use Rattle.oe_queries.proofs.LevelFacts.{are_low}
 use Rattle.oe_queries.proofs.ShortFacts.{IsLeft, ends}
 
-module _ (ts : tables.Places) (u : undo.UndoLog) (m : ℕ) (stand : Stand ts u) (numbered : AreNumbered (rows ts)) where
+module _ (ts : tables.Places) (u : SegmentLog) (m : ℕ) (stand : Stand ts u) (numbered : AreNumbered (rows ts)) where
   -- an order of a moment has at least number 1, since its line stands now
   pub numbers_past : (k : OrderLineKey) → IsSome (get (version ts u m).order_lines k) → 1 ≤ k.order
   numbers_past k h =
@@ -27,7 +27,7 @@ module _ (ts : tables.Places) (u : undo.UndoLog) (m : ℕ) (stand : Stand ts u) 
       in
       (numbered (key.OrderLine k) now).0.0
 
-pub low_items : (ts : tables.Places) (u : undo.UndoLog) (m : ℕ) (q : LevelQuery) (next number : ℕ) (items : List ℕ) → Stand ts u → AreNumbered (rows ts) → next ≤ number
+pub low_items : (ts : tables.Places) (u : SegmentLog) (m : ℕ) (q : LevelQuery) (next number : ℕ) (items : List ℕ) → Stand ts u → AreNumbered (rows ts) → next ≤ number
     → IsLeft (is_short q (version ts u m)) q.district next (version ts u m).order_lines number items → AreLow q (version ts u m) next items
 low_items ts u m q next number items stand numbered over l =
     are_low q (version ts u m) next l.first items l.span (λ k there recent. l.all k.order (numbers_past ts u m stand numbered k there) recent)

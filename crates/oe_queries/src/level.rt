@@ -6,23 +6,23 @@ ghost use Rattle.oe_requests.specs.declared.replies.QueryReply.TheVariants as to
 ghost use Rattle.oe_model.specs.Keys.{order_in};
 ghost use Rattle.oe_model.specs.Queries.{stock_level};
 ghost use Rattle.oe_model.specs.Rules.{AreLow};
-ghost use Rattle.oe_versions.specs.Versions.{version, Stand, IsReadable, IsOutside};
+ghost use Rattle.oe_moments.specs.Versions.{version, Stand, IsReadable, IsOutside};
 ghost use Rattle.oe_queries.specs.Reply.{IsReply, HasNoReply, IsRefused};
 ghost use Rattle.oe_queries.specs.Level.{is_short, listed, items_of};
 
 use crate::items::{Items, Listed, is_listed};
 use crate::warehouses::absent;
 use oe_keys::{Key, StockKey};
+use oe_moments::{lines_at, next_order_at, stock_quantity_at};
 use oe_requests::{LevelQuery, Refusal, StatusLine};
+use oe_segments::Segments;
 use oe_store::Tables;
-use oe_undo::Undo;
 use oe_values::{ItemNumber, LowStock, Moment, OrderNumber};
-use oe_versions::{district_at, lines_at, stock_at};
 
 /// Whether the district's warehouse had less of the item than the threshold.
 fn is_short_at(
     tables: &Tables,
-    undo: &Undo,
+    undo: &Segments,
     query: &LevelQuery,
     item: ItemNumber,
     moment: Moment,
@@ -36,8 +36,8 @@ fn is_short_at(
         warehouse: query.district.warehouse,
         item,
     };
-    match stock_at(tables, undo, &key, moment) {
-        Ok(Some(stock)) => Ok(stock.quantity.get() < query.threshold.get()),
+    match stock_quantity_at(tables, undo, &key, moment) {
+        Ok(Some(quantity)) => Ok(quantity.get() < query.threshold.get()),
         Ok(None) => Ok(false),
         Err(refusal) => Err(refusal),
     }
@@ -47,7 +47,7 @@ fn is_short_at(
 #[tactic(auto, using(crate::proofs::ShortFacts::stays_listed, crate::proofs::ShortFacts::comes_in, crate::proofs::ShortFacts::is_enough, crate::proofs::ShortFacts::one_more))]
 fn list_if_short(
     tables: &Tables,
-    undo: &Undo,
+    undo: &Segments,
     query: &LevelQuery,
     item: ItemNumber,
     moment: Moment,
@@ -77,7 +77,7 @@ fn list_if_short(
 #[tactic(auto, using(crate::proofs::ShortFacts::line_listed))]
 fn list_short(
     tables: &Tables,
-    undo: &Undo,
+    undo: &Segments,
     query: &LevelQuery,
     lines: &[StatusLine],
     moment: Moment,
@@ -103,7 +103,7 @@ fn list_short(
 #[tactic(auto, using(crate::proofs::ShortFacts::order_listed))]
 fn list_order(
     tables: &Tables,
-    undo: &Undo,
+    undo: &Segments,
     query: &LevelQuery,
     number: OrderNumber,
     moment: Moment,
@@ -148,7 +148,7 @@ fn order_number(number: u32) -> OrderNumber
 /// The distinct items that were short among those of the district's last 20 orders before the next one (clause 2.8.2.2).
 fn short_items(
     tables: &Tables,
-    undo: &Undo,
+    undo: &Segments,
     query: &LevelQuery,
     next: OrderNumber,
     moment: Moment,
@@ -192,7 +192,7 @@ fn count_of(items: &Items) -> LowStock
 #[tactic(auto, using(crate::proofs::AnswerFacts::level_counted, crate::proofs::AnswerFacts::outside_untold, crate::proofs::AnswerFacts::no_district_untold))]
 fn level_at(
     tables: &Tables,
-    undo: &Undo,
+    undo: &Segments,
     query: &LevelQuery,
     moment: Moment,
 ) -> Result<LowStock, Refusal>
@@ -203,8 +203,8 @@ fn level_at(
     ensures refusal { IfErr result
         (λ e. HasNoReply (Level query.now) tables.now undo.now moment e) }
 {
-    let next = match district_at(tables, undo, &query.district, moment) {
-        Ok(Some(district)) => district.next_order,
+    let next = match next_order_at(tables, undo, &query.district, moment) {
+        Ok(Some(next)) => next,
         Ok(None) => return Err(Refusal::NoSuchRow(Key::District(query.district))),
         Err(refusal) => return Err(refusal),
     };
@@ -223,7 +223,7 @@ fn level_at(
 #[tactic(auto, using(crate::proofs::AnswerFacts::is_level, crate::proofs::AnswerFacts::level_absent, crate::proofs::AnswerFacts::level_refused))]
 pub fn stock_level(
     tables: &Tables,
-    undo: &Undo,
+    undo: &Segments,
     query: &LevelQuery,
     moment: Moment,
 ) -> Result<LowStock, Refusal>

@@ -1,19 +1,19 @@
 //! A query of a moment, of either kind.
 ghost use Rattle.std.specs.Prelude.{IfOk, IfErr};
-ghost use Rattle.oe_versions.specs.Versions.{Stand};
+ghost use Rattle.oe_moments.specs.Versions.{Stand};
 ghost use Rattle.oe_queries.specs.Reply.{IsReply, IsRefused};
 
 use crate::level::stock_level;
 use crate::status::order_status;
 use oe_requests::{Query, QueryReply, Refusal};
+use oe_segments::Segments;
 use oe_store::Tables;
-use oe_undo::Undo;
 use oe_values::Moment;
 
 /// What a query is answered of a moment, as `order_status` and `stock_level`.
 pub fn answer(
     tables: &Tables,
-    undo: &Undo,
+    undo: &Segments,
     query: &Query,
     moment: Moment,
 ) -> Result<QueryReply, Refusal>

@@ -5,21 +5,21 @@ ghost use Rattle.oe_requests.specs.declared.requests.Query.TheVariants.{Status};
 ghost use Rattle.oe_requests.specs.declared.replies.QueryReply.TheVariants as told;
 ghost use Rattle.oe_model.specs.Choice.{chosen};
 ghost use Rattle.oe_model.specs.Queries.{status_of, last_order, order_status};
-ghost use Rattle.oe_versions.specs.Versions.{version, Stand, IsReadable, IsOutside};
+ghost use Rattle.oe_moments.specs.Versions.{version, Stand, IsReadable, IsOutside};
 ghost use Rattle.oe_queries.specs.Reply.{IsReply, HasNoReply, IsRefused};
 
 use crate::warehouses::absent;
 use oe_keys::{CustomerKey, DistrictKey};
+use oe_moments::{balance_at, last_order_at, lines_at, names_at};
 use oe_requests::{CustomerChoice, OrderStatus, Refusal, StatusQuery, StatusReply};
+use oe_segments::Segments;
 use oe_store::Tables;
-use oe_undo::Undo;
 use oe_values::{CustomerNumber, Moment};
-use oe_versions::{customer_at, last_order_at, lines_at, names_at};
 
 /// C_ID of the customer that is meant, where there was one at the moment (clause 2.6.2.2).
 fn chosen_at(
     tables: &Tables,
-    undo: &Undo,
+    undo: &Segments,
     district: &DistrictKey,
     choice: &CustomerChoice,
     moment: Moment,
@@ -32,7 +32,7 @@ fn chosen_at(
 {
     match choice {
         CustomerChoice::Number(number) => {
-            match customer_at(tables, undo, &district.customer(*number), moment) {
+            match balance_at(tables, undo, &district.customer(*number), moment) {
                 Ok(Some(_)) => Ok(Some(*number)),
                 Ok(None) => Ok(None),
                 Err(refusal) => Err(refusal),
@@ -47,7 +47,7 @@ fn chosen_at(
 /// What is told of the newest order that a customer had at the moment, if there was any, with its lines by OL_NUMBER.
 fn newest_order_at(
     tables: &Tables,
-    undo: &Undo,
+    undo: &Segments,
     customer: CustomerKey,
     moment: Moment,
 ) -> Result<Option<OrderStatus>, Refusal>
@@ -79,7 +79,7 @@ fn newest_order_at(
 #[tactic(auto, using(crate::proofs::AnswerFacts::status_told, crate::proofs::AnswerFacts::outside_untold, crate::proofs::AnswerFacts::nobody_untold, crate::proofs::AnswerFacts::no_row_untold))]
 fn status_at(
     tables: &Tables,
-    undo: &Undo,
+    undo: &Segments,
     query: &StatusQuery,
     moment: Moment,
 ) -> Result<StatusReply, Refusal>
@@ -96,8 +96,8 @@ fn status_at(
         Err(refusal) => return Err(refusal),
     };
     let key = query.district.customer(number);
-    let balance = match customer_at(tables, undo, &key, moment) {
-        Ok(Some(customer)) => customer.account.balance,
+    let balance = match balance_at(tables, undo, &key, moment) {
+        Ok(Some(balance)) => balance,
         Ok(None) => return Err(Refusal::NoCustomer),
         Err(refusal) => return Err(refusal),
     };
@@ -119,7 +119,7 @@ fn status_at(
 #[tactic(auto, using(crate::proofs::AnswerFacts::is_status, crate::proofs::AnswerFacts::status_absent, crate::proofs::AnswerFacts::status_refused))]
 pub fn order_status(
     tables: &Tables,
-    undo: &Undo,
+    undo: &Segments,
     query: &StatusQuery,
     moment: Moment,
 ) -> Result<StatusReply, Refusal>

@@ -5,7 +5,7 @@ ghost use Rattle.oe_model.specs.Requests.{IsRequestLine, IsNewOrder};
 ghost use Rattle.oe_core.specs.Steps.{IsStep};
 
 use oe_audit::is_population;
-use oe_core::Core;
+use oe_core::{Core, ExtentCount};
 use oe_keys::{CustomerKey, DistrictKey};
 use oe_requests::{
     CustomerChoice, DeliveryRequest, NewOrderRequest, PaymentRequest, Request, RequestLine,
@@ -49,7 +49,7 @@ pub(crate) fn fresh(alloc: Global) -> Option<Core> {
     if !is_population(&tables) {
         return None;
     }
-    Core::open(alloc, tables, 64).ok()
+    Core::open(alloc, tables, ExtentCount::new(64)?).ok()
 }
 
 /// The beginning of a payment in a district, by a customer of any, of so many cents.

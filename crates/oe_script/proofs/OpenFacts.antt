@@ -1,5 +1,5 @@
 -- Opening a core on a population, and what its line is answered.
-use Rattle.std.proofs.Common.{◌≡◌, ℕ, ◌≤◌, List, length, None, Some, Result, Ok, Err, IfOk, codes, refl, ap, ◌∙◌, subst, inl}
+use Rattle.std.proofs.Common.{◌≡◌, ℕ, ◌≤◌, List, length, None, Some, Result, Ok, Err, IfOk, codes, refl, subst, inl}
 use Rattle.oe_theory.specs.World.{World}
 use Rattle.oe_theory.specs.Theorems.{opened}
 use Rattle.oe_rows.specs.declared.scales.Scale.{Scale}
@@ -12,10 +12,10 @@ use Rattle.oe_lines.specs.Grammar.{Says}
 use Rattle.oe_script.specs.Script.{State, LineAnswer}
 
 -- a core that was opened on these rows is one that was opened on rows of the scale
-pub on_population : {A E : Type 0} (w : A → World system) (scale : Scale) (x : Rows) (n m : ℕ) → n ≡ m → IsPopulated scale x
-    → (r : Result A E) → IfOk r (λ c. w c ≡ opened system x n) → IfOk r (λ c. (y : Rows) × IsPopulated scale y × (w c ≡ opened system y m))
-on_population w scale x n m q p (Ok c) e = (x, p, e ∙ ap (opened system x) q)
-on_population w scale x n m q p (Err e) h = h
+pub on_population : {A E : Type 0} (w : A → World system) (scale : Scale) (x : Rows) (n : ℕ) → IsPopulated scale x
+    → (r : Result A E) → IfOk r (λ c. w c ≡ opened system x n) → IfOk r (λ c. (y : Rows) × IsPopulated scale y × (w c ≡ opened system y n))
+on_population w scale x n p (Ok c) e = (x, p, e)
+on_population w scale x n p (Err e) h = h
 
 -- so the line that asks for it is answered
 pub opened_line : (scale : Scale) (extents : ℕ) (w : World system) (asked : Command) (s : State)

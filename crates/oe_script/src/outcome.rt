@@ -109,7 +109,7 @@ fn populated(alloc: Global, scale: Scale, extents: ExtentCount) -> Result<Core, 
         (r : Rows) × IsPopulated scale r × (world_of c ≡ opened system r extents)) }
 {
     match populate(alloc, scale) {
-        Ok(tables) => Core::open(alloc, tables, extents.get() as u16),
+        Ok(tables) => Core::open(alloc, tables, extents),
         Err(e) => Err(e),
     }
 }

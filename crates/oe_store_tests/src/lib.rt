@@ -12,6 +12,6 @@ mod finders;
 #[cfg(test)]
 mod fixtures;
 #[cfg(test)]
-mod undo;
+mod segments;
 #[cfg(test)]
 mod writes;

@@ -14,7 +14,7 @@ use Rattle.oe_audit.proofs.StoodFacts.{districts_are}
 use Rattle.oe_audit.proofs.conditions.of_districts.Goals as goal
 
 abbrev told : DistrictCondition → Rows → List (DistrictKey × District) → Verdict
-told n r es = judged key.District (option_map (λ e. e.0) (find (λ e. not (passes n r e.0 e.1)) es))
+told n r es = judged key.District (option_map (λ e. e.0) (find (λ e. not (passes n r e.0 e.1.next_order)) es))
 
 told_is : (n : DistrictCondition) (r : Rows) → told n r (entries r.districts) ≡ verdict (model_condition n) r
 told_is of_districts.Second r = refl

@@ -15,5 +15,5 @@ pub returns-clause-does : goal.returns-clause-does
 returns-clause-does c = λ d e.
     does_held c.args.engine.now c.args.tx.now (suc ((view_of c.args.engine.now).counts c.args.tx.now.terminal)) (governs (key_written c.args.write.now))
     c.is_safe.ensures.safe c.requires.held c.write.new.self d c.write.result
-    c.write.ensures.open (c.write.ensures.accepted d e) (c.write.ensures.done d e) c.write.ensures.name (c.write.ensures.cause d e)
-    (λ u told held room same. subst (λ o. WantsRow o c.args.engine.now.tables) e ((rw told at c.write.ensures.room) held room same))
+    c.write.ensures.open (c.write.ensures.accepted d e) (c.write.ensures.fits d e) (c.write.ensures.done d e) c.write.ensures.name (c.write.ensures.cause d e)
+    (λ u told. (λ held same. subst (λ o. WantsRow o c.args.engine.now.tables) e ((rw told at c.write.ensures.wants) held same), rw told at (c.write.ensures.full d e)))

@@ -7,7 +7,7 @@ use Rattle.oe_payment.proofs.stages.go.Goals as goal
 pub returns-in-Err : goal.returns-in-Err
 returns-in-Err c = λ q p d stage. (
   is_refused c.args.engine.now c.args.tx.now q p (position_in c.args.next) c.args.write.now d stage c.in-Err.refusal
-      (λ held room same. subst (λ o. WantsRow o c.args.engine.now.tables) stage.written (c.in-Err.ensures.room held room same))
+      (λ held same. subst (λ o. WantsRow o c.args.engine.now.tables) stage.written (c.in-Err.ensures.wants held same), c.in-Err.ensures.full d stage.written)
       (c.in-Err.ensures.cause d stage.written),
   c.in-Err.ensures.err,
   c.in-Err.ensures.name,

@@ -1,4 +1,4 @@
-use Rattle.oe_versions.specs.Versions.{version}
+use Rattle.oe_moments.specs.Versions.{version}
 use Rattle.oe_queries.proofs.FewFacts.{in_range_past, orders_are_short, recent_are_few, levels_are_small}
 use Rattle.oe_queries.proofs.laws.lines_are_few.Goals as goal
 

@@ -1,5 +1,5 @@
 use Rattle.std.proofs.Common.{◌≡◌, ◌≤◌, ◌+◌, length, map, take}
-use Rattle.oe_versions.specs.Versions.{version}
+use Rattle.oe_moments.specs.Versions.{version}
 use Rattle.oe_queries.specs.Level.{is_short, listed}
 use Rattle.oe_queries.proofs.level.list_short.Given as goal
 

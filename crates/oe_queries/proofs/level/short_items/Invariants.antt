@@ -1,4 +1,4 @@
-use Rattle.oe_versions.specs.Versions.{version}
+use Rattle.oe_moments.specs.Versions.{version}
 use Rattle.oe_queries.specs.Level.{is_short}
 use Rattle.oe_queries.proofs.ShortFacts.{IsLeft}
 use Rattle.oe_queries.proofs.level.short_items.Given as goal

@@ -1,7 +1,7 @@
 use Rattle.std.proofs.Common.{◌≡◌, ◌<◌, ◌≤◌, suc, true, false, is_some, ap, subst, sym, ◌∙◌, length, None, arith, rules}
 use Rattle.std.proofs.lemmas.Bool.{cond-true, le-leb}
-use Rattle.oe_undo.specs.Undo.{active_at, count_at, room_at, records_in}
-use Rattle.oe_undo.specs.Stands.{model_records}
+use Rattle.oe_segments.specs.Segments.{active_at, count_at, records_in}
+use Rattle.oe_segments.specs.Stands.{model_records}
 use Rattle.oe_model.specs.Requests.{number_rejection}
 use Rattle.oe_engine.specs.View.{view_of, view_from}
 use Rattle.oe_engine.specs.Kept.{IsKept}
@@ -67,7 +67,7 @@ returns-clause-begun c =
     let within : c.args.terminal < length c.self.inside.undo.terminals = omega (arith, c.get-number.ensures.value, c.get-number.ensures.high) in
     rw (← c.self.view_is)
     (ap (λ u. view_from c.self.inside.tables u c.self.inside.locks) c.in-Ok.ensures.opened
-    ∙ opened_is c.self.inside.tables c.self.inside.undo c.self.inside.locks c.args.terminal (room_at c.open_segment.new.self c.args.terminal) within closed)
+    ∙ opened_is c.self.inside.tables c.self.inside.undo c.self.inside.locks c.args.terminal within closed)
 
 pub returns-clause-idle : goal.returns-clause-idle
 unfolding view_of
@@ -79,12 +79,11 @@ invariant_of-self-2 c =
     let size : length c.self.inside.undo.terminals ≡ 65 = c.self.invariant.kept.size in
     let within : c.args.terminal < length c.self.inside.undo.terminals = omega (arith, c.get-number.ensures.value, c.get-number.ensures.high) in
     let below : count_at c.self.inside.undo c.args.terminal < 4_294_967_295 = search rules in
-    let room = room_at c.open_segment.new.self c.args.terminal in
     record {
       kept = subst (λ u. IsKept c.self.inside.tables u c.self.inside.locks) (sym c.in-Ok.ensures.opened)
-          (opened_kept c.self.inside.tables c.self.inside.undo c.self.inside.locks c.args.terminal room within closed below c.self.invariant.kept);
+          (opened_kept c.self.inside.tables c.self.inside.undo c.self.inside.locks c.args.terminal within closed below c.self.invariant.kept);
       safe = subst IsSafe
           (sym (ap (λ u. view_from c.self.inside.tables u c.self.inside.locks) c.in-Ok.ensures.opened
-          ∙ opened_is c.self.inside.tables c.self.inside.undo c.self.inside.locks c.args.terminal room within closed))
+          ∙ opened_is c.self.inside.tables c.self.inside.undo c.self.inside.locks c.args.terminal within closed))
           (safe_begun c.args.terminal (view_from c.self.inside.tables c.self.inside.undo c.self.inside.locks) c.self.invariant.safe);
     }

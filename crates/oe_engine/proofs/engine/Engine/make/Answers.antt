@@ -1,74 +1,70 @@
-use Rattle.std.proofs.Common.{◌≡◌, sym, ap, ◌∙◌, subst}
-use Rattle.std.specs.Prelude.{IsSome}
+use Rattle.std.proofs.Common.{sym, subst}
+use Rattle.std.specs.Prelude.{OnOk, IfErr, IsSome}
+use Rattle.oe_model.specs.Lengths.{record_length}
 use Rattle.oe_records.specs.Changes.{change_of}
-use Rattle.oe_undo.specs.Undo.{active_at, room_at}
+use Rattle.oe_store.specs.Places.{rows}
+use Rattle.oe_log.specs.Log.{IsFull}
+use Rattle.oe_segments.specs.Segments.{active_at, log_of}
+use Rattle.oe_journal.specs.Records.{record_in}
+use Rattle.oe_journal.specs.Writes.{IsRecorded, CantChange}
 use Rattle.oe_engine.specs.View.{view_of, view_from}
-use Rattle.oe_engine.specs.Calls.{made}
-use Rattle.oe_engine.proofs.MakeFacts.{room_view, room_kept, change_view, change_kept}
-use Rattle.oe_engine.specs.Kept.{IsKept}
-use Rattle.oe_engine.specs.Covered.{IsSafe}
-use Rattle.oe_engine.proofs.SafeFacts.{safe_made}
-use Rattle.oe_engine.proofs.PartFacts.{refused_so}
+use Rattle.oe_engine.proofs.PartFacts.{if_err, on_ok}
+use Rattle.oe_engine.proofs.FullFacts.{full_so, full_as}
+use Rattle.oe_engine.proofs.PutFacts.{made_sound, made_view, made_accepted, same_view}
+use Rattle.oe_engine.proofs.ChangeFacts.{refused_change, full_change, wants_place}
 use Rattle.oe_engine.proofs.engine.Engine.make.Goals as goal
 
-pub reserve-requires : goal.reserve-requires
+pub change-requires : goal.change-requires
 unfolding view_of view_from
-reserve-requires c =
+change-requires c =
     let given = rw (← c.self.view_is) at c.requires.open in
     let is : IsSome (active_at c.self.inside.undo c.args.terminal) = given in
     subst (λ s. IsSome (active_at c.self.inside.undo s)) (sym c.of-segment.ensures) is
 
-pub invariant_of-self-in-Ok-apply : goal.invariant_of-self-in-Ok-apply
+-- the segment is the terminal's
+recorded : (c : goal.After-change) → OnOk c.change.result (IsRecorded (change_of c.args.change) c.self.inside.tables c.change.new.tables c.self.inside.undo c.change.new.undo c.args.terminal)
+recorded c = subst (λ t. OnOk c.change.result (IsRecorded (change_of c.args.change) c.self.inside.tables c.change.new.tables c.self.inside.undo c.change.new.undo t)) c.of-segment.ensures c.change.ensures.changed
+
+refused : (c : goal.After-change) → IfErr c.change.result (CantChange (change_of c.args.change) c.self.inside.tables c.self.inside.undo c.args.terminal)
+refused c = subst (λ t. IfErr c.change.result (CantChange (change_of c.args.change) c.self.inside.tables c.self.inside.undo t)) c.of-segment.ensures c.change.ensures.cause
+
+pub invariant_of-self : goal.invariant_of-self
 unfolding view_of view_from
-invariant_of-self-in-Ok-apply c =
-    let given = rw (← c.self.view_is) at c.requires.open in
-    let is : IsSome (active_at c.self.inside.undo c.args.terminal) = given in
-    let here : IsSome (active_at c.self.inside.undo c.of-segment.result) = subst (λ s. IsSome (active_at c.self.inside.undo s)) (sym c.of-segment.ensures) is in
+invariant_of-self c =
     let may = rw (← c.self.view_is) at c.requires.covered in
-    let view : view_from c.apply.new.tables c.push.new.self c.self.inside.locks ≡ made c.args.terminal (change_of c.args.change) (view_from c.self.inside.tables c.self.inside.undo c.self.inside.locks) =
-    change_view c.self.inside.tables c.self.inside.undo c.reserve.new.self c.self.inside.locks c.of-segment.result (room_at c.reserve.new.self c.of-segment.result) c.reserve.ensures.same
-    c.apply.new.tables c.push.new.self c.push.result (change_of c.args.change) c.in-Ok-apply.before here c.in-Ok-apply.ensures.applied c.push.ensures.pushed
-    ∙ ap (λ t. made t (change_of c.args.change) (view_from c.self.inside.tables c.self.inside.undo c.self.inside.locks)) c.of-segment.ensures in
-    record {
-      kept = change_kept c.self.inside.tables c.self.inside.undo c.reserve.new.self c.self.inside.locks c.of-segment.result (room_at c.reserve.new.self c.of-segment.result) c.reserve.ensures.same
-          c.apply.new.tables c.push.new.self c.push.result (change_of c.args.change) c.in-Ok-apply.before here c.in-Ok-apply.ensures.applied c.push.ensures.pushed c.self.invariant.kept;
-      safe = subst IsSafe (sym view)
-          (safe_made c.args.terminal (change_of c.args.change) (view_from c.self.inside.tables c.self.inside.undo c.self.inside.locks) c.in-Ok-apply.ensures.applied.accepted may c.self.invariant.safe);
-    }
+    made_sound c.self.inside.tables c.change.new.tables c.self.inside.undo c.change.new.undo c.self.inside.locks c.args.terminal
+    c.change.result (change_of c.args.change) may (recorded c) c.change.ensures.err c.change.ensures.err_undo c.self.invariant
 
-pub invariant_of-self-in-Err : goal.invariant_of-self-in-Err
-invariant_of-self-in-Err c =
-    record {
-      kept = subst (λ ts. IsKept ts c.reserve.new.self c.self.inside.locks) (sym c.in-Err.ensures.unchanged)
-          (room_kept c.self.inside.tables c.self.inside.undo c.reserve.new.self c.self.inside.locks c.of-segment.result (room_at c.reserve.new.self c.of-segment.result) c.reserve.ensures.same c.self.invariant.kept);
-      safe = subst IsSafe
-          (sym (ap (λ ts. view_from ts c.reserve.new.self c.self.inside.locks) c.in-Err.ensures.unchanged
-          ∙ room_view c.self.inside.tables c.self.inside.undo c.reserve.new.self c.self.inside.locks c.of-segment.result (room_at c.reserve.new.self c.of-segment.result) c.reserve.ensures.same))
-          c.self.invariant.safe;
-    }
-
-pub returns-in-Ok-apply-clause-accepted : goal.returns-in-Ok-apply-clause-accepted
+pub returns-clause-accepted : goal.returns-clause-accepted
 unfolding view_of view_from
-returns-in-Ok-apply-clause-accepted c = rw (← c.self.view_is) c.in-Ok-apply.ensures.applied.accepted
+returns-clause-accepted c = rw (← c.self.view_is) (made_accepted c.self.inside.tables c.change.new.tables c.self.inside.undo c.change.new.undo c.self.inside.locks c.args.terminal c.change.result (change_of c.args.change) (recorded c))
 
-pub returns-in-Ok-apply-clause-made : goal.returns-in-Ok-apply-clause-made
+pub returns-clause-made : goal.returns-clause-made
 unfolding view_of view_from
-returns-in-Ok-apply-clause-made c =
-    let given = rw (← c.self.view_is) at c.requires.open in
-    let is : IsSome (active_at c.self.inside.undo c.args.terminal) = given in
-    let here : IsSome (active_at c.self.inside.undo c.of-segment.result) = subst (λ s. IsSome (active_at c.self.inside.undo s)) (sym c.of-segment.ensures) is in
-    rw (← c.self.view_is)
-    (change_view c.self.inside.tables c.self.inside.undo c.reserve.new.self c.self.inside.locks c.of-segment.result (room_at c.reserve.new.self c.of-segment.result) c.reserve.ensures.same
-    c.apply.new.tables c.push.new.self c.push.result (change_of c.args.change) c.in-Ok-apply.before here c.in-Ok-apply.ensures.applied c.push.ensures.pushed
-    ∙ ap (λ t. made t (change_of c.args.change) (view_from c.self.inside.tables c.self.inside.undo c.self.inside.locks)) c.of-segment.ensures)
+returns-clause-made c = rw (← c.self.view_is) (made_view c.self.inside.tables c.change.new.tables c.self.inside.undo c.change.new.undo c.self.inside.locks c.args.terminal c.change.result (change_of c.args.change) (recorded c))
 
-pub returns-in-Err-clause-cause : goal.returns-in-Err-clause-cause
+pub returns-clause-cause : goal.returns-clause-cause
 unfolding view_of view_from
-returns-in-Err-clause-cause c = rw (← c.self.view_is) (refused_so (change_of c.args.change) c.self.inside.tables c.in-Err.refusal c.in-Err.ensures.refused)
+returns-clause-cause c = rw (← c.self.view_is)
+    (if_err c.change.result (λ e h. refused_change (change_of c.args.change) c.self.inside.tables c.self.inside.undo c.args.terminal e h) (refused c))
 
-pub returns-in-Err-clause-err : goal.returns-in-Err-clause-err
+pub returns-clause-full : goal.returns-clause-full
 unfolding view_of
-returns-in-Err-clause-err c =
-    rw (← c.self.view_is)
-    (ap (λ ts. view_from ts c.reserve.new.self c.self.inside.locks) c.in-Err.ensures.unchanged
-    ∙ room_view c.self.inside.tables c.self.inside.undo c.reserve.new.self c.self.inside.locks c.of-segment.result (room_at c.reserve.new.self c.of-segment.result) c.reserve.ensures.same)
+returns-clause-full c = rw (← c.self.view_is)
+    (if_err c.change.result (λ e h same. full_so c.self.inside.tables c.self.inside.undo c.self.inside.locks c.args.terminal (change_of c.args.change) c.self.invariant.kept.size
+    (full_change (change_of c.args.change) c.self.inside.tables c.self.inside.undo c.args.terminal e h same)) (refused c))
+
+pub returns-clause-fits : goal.returns-clause-fits
+unfolding view_of
+returns-clause-fits c = rw (← c.self.view_is)
+    (on_ok c.change.result (λ fits full. fits (full_as c.self.inside.tables c.self.inside.undo c.self.inside.locks c.args.terminal (change_of c.args.change) c.self.invariant.kept.size full))
+    (subst (λ t. OnOk c.change.result (IsFull (log_of c.self.inside.undo) t (record_length (record_in (change_of c.args.change) (rows c.self.inside.tables))) → ⊥)) c.of-segment.ensures c.change.ensures.room))
+
+pub returns-clause-wants : goal.returns-clause-wants
+returns-clause-wants c = rw (← c.self.view_is)
+    (if_err c.change.result (λ e h. wants_place (change_of c.args.change) c.self.inside.tables c.self.inside.undo c.args.terminal e h) (refused c))
+
+pub returns-clause-err : goal.returns-clause-err
+unfolding view_of
+returns-clause-err c = rw (← c.self.view_is)
+    (same_view c.self.inside.tables c.change.new.tables c.self.inside.undo c.change.new.undo c.self.inside.locks c.args.terminal c.change.result c.change.ensures.err c.change.ensures.err_undo)

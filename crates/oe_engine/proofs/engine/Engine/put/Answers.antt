@@ -1,86 +1,81 @@
-use Rattle.std.proofs.Common.{◌≡◌, sym, ap, ◌∙◌, subst}
-use Rattle.std.specs.Prelude.{IsSome, is_some}
-use Rattle.oe_undo.specs.Undo.{active_at, room_at}
+use Rattle.std.proofs.Common.{sym, subst}
+use Rattle.std.specs.Prelude.{OnOk, IfErr, IsSome}
+use Rattle.oe_store.specs.Places.{rows}
+use Rattle.oe_segments.specs.Segments.{active_at}
+use Rattle.oe_journal.specs.Writes.{HasRecorded, HasRoomFor, CantWrite}
 use Rattle.oe_engine.specs.View.{view_of, view_from}
-use Rattle.oe_engine.specs.Calls.{made}
-use Rattle.oe_engine.proofs.MakeFacts.{room_view, room_kept, change_view, change_kept}
-use Rattle.oe_engine.specs.Kept.{IsKept}
-use Rattle.oe_engine.specs.Covered.{IsSafe}
-use Rattle.oe_engine.proofs.SafeFacts.{safe_made}
-use Rattle.oe_engine.proofs.WriteFacts.{at_change, of_change, refused_written, refused_absent}
-use Rattle.oe_model.specs.Changes.{Change}
-use Rattle.oe_change.specs.Applies.{Applies}
-use Rattle.oe_records.specs.Befores.{record_of_before}
+use Rattle.oe_engine.proofs.PartFacts.{if_err, on_ok}
+use Rattle.oe_engine.proofs.FullFacts.{full_so, full_as}
+use Rattle.oe_engine.proofs.PutFacts.{put_sound, put_view, put_accepted, put_fits, same_view}
+use Rattle.oe_engine.proofs.WriteFacts.{refused_written, refused_full, refused_absent, wants_row}
 use Rattle.oe_engine.proofs.engine.Engine.put.Goals as goal
 
-pub reserve-requires : goal.reserve-requires
+pub write-requires : goal.write-requires
 unfolding view_of view_from
-reserve-requires c =
+write-requires c =
     let given = rw (← c.self.view_is) at c.requires.open in
     let is : IsSome (active_at c.self.inside.undo c.args.terminal) = given in
     subst (λ s. IsSome (active_at c.self.inside.undo s)) (sym c.of-segment.ensures) is
 
--- what is left by the change that the write is
-view_put : (c : goal.After-push) (d : Change) → Applies d c.self.inside.tables c.write.new.tables (record_of_before c.in-Ok-write.before)
-    → view_from c.write.new.tables c.push.new.self c.self.inside.locks ≡ made c.args.terminal d (view_from c.self.inside.tables c.self.inside.undo c.self.inside.locks)
-unfolding view_of view_from
-view_put c d applied =
-    let given = rw (← c.self.view_is) at c.requires.open in
-    let is : IsSome (active_at c.self.inside.undo c.args.terminal) = given in
-    let here : IsSome (active_at c.self.inside.undo c.of-segment.result) = subst (λ s. IsSome (active_at c.self.inside.undo s)) (sym c.of-segment.ensures) is in
-    change_view c.self.inside.tables c.self.inside.undo c.reserve.new.self c.self.inside.locks c.of-segment.result (room_at c.reserve.new.self c.of-segment.result) c.reserve.ensures.same
-    c.write.new.tables c.push.new.self c.push.result d c.in-Ok-write.before here applied c.push.ensures.pushed
-    ∙ ap (λ t. made t d (view_from c.self.inside.tables c.self.inside.undo c.self.inside.locks)) c.of-segment.ensures
+-- the segment is the terminal's
+recorded : (c : goal.After-write) → OnOk c.write.result (HasRecorded c.args.write.now c.self.inside.tables c.write.new.tables c.self.inside.undo c.write.new.undo c.args.terminal)
+recorded c = subst (λ t. OnOk c.write.result (HasRecorded c.args.write.now c.self.inside.tables c.write.new.tables c.self.inside.undo c.write.new.undo t)) c.of-segment.ensures c.write.ensures.written
 
-pub invariant_of-self-in-Ok-write : goal.invariant_of-self-in-Ok-write
+has_room : (c : goal.After-write) → OnOk c.write.result (HasRoomFor c.args.write.now (rows c.self.inside.tables) c.self.inside.undo c.args.terminal)
+has_room c = subst (λ t. OnOk c.write.result (HasRoomFor c.args.write.now (rows c.self.inside.tables) c.self.inside.undo t)) c.of-segment.ensures c.write.ensures.room
+
+refused : (c : goal.After-write) → IfErr c.write.result (CantWrite c.args.write.now c.self.inside.tables c.self.inside.undo c.args.terminal)
+refused c = subst (λ t. IfErr c.write.result (CantWrite c.args.write.now c.self.inside.tables c.self.inside.undo t)) c.of-segment.ensures c.write.ensures.cause
+
+pub invariant_of-self : goal.invariant_of-self
 unfolding view_of view_from
-invariant_of-self-in-Ok-write c =
-    let given = rw (← c.self.view_is) at c.requires.open in
-    let is : IsSome (active_at c.self.inside.undo c.args.terminal) = given in
-    let here : IsSome (active_at c.self.inside.undo c.of-segment.result) = subst (λ s. IsSome (active_at c.self.inside.undo s)) (sym c.of-segment.ensures) is in
+invariant_of-self c =
     let covered = rw (← c.self.view_is) at c.requires.covered in
-    let (d, found, applied) = at_change _ _ c.in-Ok-write.ensures.applied in
-    record {
-      kept = change_kept c.self.inside.tables c.self.inside.undo c.reserve.new.self c.self.inside.locks c.of-segment.result (room_at c.reserve.new.self c.of-segment.result) c.reserve.ensures.same
-          c.write.new.tables c.push.new.self c.push.result d c.in-Ok-write.before here applied c.push.ensures.pushed c.self.invariant.kept;
-      safe = subst IsSafe (sym (view_put c d applied))
-          (safe_made c.args.terminal d (view_from c.self.inside.tables c.self.inside.undo c.self.inside.locks) applied.accepted (covered d found) c.self.invariant.safe);
-    }
+    put_sound c.self.inside.tables c.write.new.tables c.self.inside.undo c.write.new.undo c.self.inside.locks c.args.terminal c.args.write.now
+    c.write.result covered (recorded c) c.write.ensures.err c.write.ensures.err_undo c.self.invariant
 
-pub invariant_of-self-in-Err : goal.invariant_of-self-in-Err
-invariant_of-self-in-Err c =
-    record {
-      kept = subst (λ ts. IsKept ts c.reserve.new.self c.self.inside.locks) (sym c.in-Err.ensures.unchanged)
-          (room_kept c.self.inside.tables c.self.inside.undo c.reserve.new.self c.self.inside.locks c.of-segment.result (room_at c.reserve.new.self c.of-segment.result) c.reserve.ensures.same c.self.invariant.kept);
-      safe = subst IsSafe
-          (sym (ap (λ ts. view_from ts c.reserve.new.self c.self.inside.locks) c.in-Err.ensures.unchanged
-          ∙ room_view c.self.inside.tables c.self.inside.undo c.reserve.new.self c.self.inside.locks c.of-segment.result (room_at c.reserve.new.self c.of-segment.result) c.reserve.ensures.same))
-          c.self.invariant.safe;
-    }
-
-pub returns-in-Ok-write-clause-there : goal.returns-in-Ok-write-clause-there
+pub returns-clause-there : goal.returns-clause-there
 unfolding view_of view_from
-returns-in-Ok-write-clause-there c = rw (← c.self.view_is) (ap is_some (at_change _ _ c.in-Ok-write.ensures.applied).1)
+returns-clause-there c = rw (← c.self.view_is) c.write.ensures.there
 
-pub returns-in-Ok-write-clause-accepted : goal.returns-in-Ok-write-clause-accepted
+pub returns-clause-accepted : goal.returns-clause-accepted
 unfolding view_of view_from
-returns-in-Ok-write-clause-accepted c = rw (← c.self.view_is) (λ d found. (of_change _ _ d found c.in-Ok-write.ensures.applied).accepted)
+returns-clause-accepted c = rw (← c.self.view_is) (λ d found.
+    put_accepted c.self.inside.tables c.write.new.tables c.self.inside.undo c.write.new.undo c.self.inside.locks c.args.terminal c.args.write.now c.write.result d found (recorded c))
 
-pub returns-in-Ok-write-clause-made : goal.returns-in-Ok-write-clause-made
+pub returns-clause-made : goal.returns-clause-made
 unfolding view_of view_from
-returns-in-Ok-write-clause-made c = rw (← c.self.view_is) (λ d found. view_put c d (of_change _ _ d found c.in-Ok-write.ensures.applied))
+returns-clause-made c = rw (← c.self.view_is) (λ d found.
+    put_view c.self.inside.tables c.write.new.tables c.self.inside.undo c.write.new.undo c.self.inside.locks c.args.terminal c.args.write.now c.write.result d found (recorded c))
 
-pub returns-in-Err-clause-cause : goal.returns-in-Err-clause-cause
+pub returns-clause-cause : goal.returns-clause-cause
 unfolding view_of view_from
-returns-in-Err-clause-cause c = rw (← c.self.view_is) (λ d found. refused_written c.args.write.now c.self.inside.tables d c.in-Err.refusal found c.in-Err.ensures.refused)
+returns-clause-cause c = rw (← c.self.view_is) (λ d found.
+    if_err c.write.result (λ e h. refused_written c.args.write.now c.self.inside.tables c.self.inside.undo c.args.terminal d e found h) (refused c))
 
-pub returns-in-Err-clause-absent : goal.returns-in-Err-clause-absent
+pub returns-clause-absent : goal.returns-clause-absent
 unfolding view_of view_from
-returns-in-Err-clause-absent c = rw (← c.self.view_is) (λ absent. refused_absent c.args.write.now c.self.inside.tables c.in-Err.refusal absent c.in-Err.ensures.refused)
+returns-clause-absent c = rw (← c.self.view_is) (λ absent.
+    if_err c.write.result (λ e h. refused_absent c.args.write.now c.self.inside.tables c.self.inside.undo c.args.terminal e absent h) (refused c))
 
-pub returns-in-Err-clause-err : goal.returns-in-Err-clause-err
+pub returns-clause-full : goal.returns-clause-full
+unfolding view_of view_from
+returns-clause-full c = rw (← c.self.view_is) (λ d found.
+    if_err c.write.result (λ e h same. full_so c.self.inside.tables c.self.inside.undo c.self.inside.locks c.args.terminal d c.self.invariant.kept.size
+    (refused_full c.args.write.now c.self.inside.tables c.self.inside.undo c.args.terminal d e found h same)) (refused c))
+
+pub returns-clause-fits : goal.returns-clause-fits
+unfolding view_of view_from
+returns-clause-fits c = rw (← c.self.view_is) (λ d found.
+    on_ok c.write.result (λ fits full. fits (full_as c.self.inside.tables c.self.inside.undo c.self.inside.locks c.args.terminal d c.self.invariant.kept.size full))
+    (put_fits c.self.inside.tables c.write.new.tables c.self.inside.undo c.write.new.undo c.self.inside.locks c.args.terminal c.args.write.now c.write.result d found (recorded c) (has_room c)))
+
+pub returns-clause-wants : goal.returns-clause-wants
+unfolding view_of view_from
+returns-clause-wants c = rw (← c.self.view_is)
+    (if_err c.write.result (λ e h. wants_row c.args.write.now c.self.inside.tables c.self.inside.undo c.args.terminal e h) (refused c))
+
+pub returns-clause-err : goal.returns-clause-err
 unfolding view_of
-returns-in-Err-clause-err c =
-    rw (← c.self.view_is)
-    (ap (λ ts. view_from ts c.reserve.new.self c.self.inside.locks) c.in-Err.ensures.unchanged
-    ∙ room_view c.self.inside.tables c.self.inside.undo c.reserve.new.self c.self.inside.locks c.of-segment.result (room_at c.reserve.new.self c.of-segment.result) c.reserve.ensures.same)
+returns-clause-err c = rw (← c.self.view_is)
+    (same_view c.self.inside.tables c.write.new.tables c.self.inside.undo c.write.new.undo c.self.inside.locks c.args.terminal c.write.result c.write.ensures.err c.write.ensures.err_undo)

@@ -1,6 +1,6 @@
 use Rattle.std.proofs.Common.{◌≡◌, ◌<◌, [], sym, ap, ◌∙◌, subst, length, arith}
 use Rattle.std.specs.Prelude.{IsSome}
-use Rattle.oe_undo.specs.Undo.{active_at, records_at}
+use Rattle.oe_segments.specs.Segments.{active_at, records_at}
 use Rattle.oe_locks.specs.Held.{HoldsNothing, OthersKeep}
 use Rattle.oe_engine.specs.View.{view_of, view_from, IsOpen}
 use Rattle.oe_engine.specs.Kept.{IsKept}
@@ -37,31 +37,31 @@ drop_segment-requires-clause-open c =
     let o : IsOpen c.args.self.now c.args.tx = c.is_open.ensures.0 c.if-not-is_open.false in
     let given = rw (← c.self.view_is) at o.terminal in
     let is : IsSome (active_at c.self.inside.undo c.args.tx.terminal) = given in
-    c.take_back.ensures.others.is_open c.of-segment.result
+    c.take_back.ensures.back.others.is_open c.of-segment.result
     ∙ subst (λ s. IsSome (active_at c.self.inside.undo s)) (sym (c.of-segment.ensures ∙ ap (λ x. x.terminal) c.tx.view_is)) is
 
 pub drop_segment-requires-clause-empty : goal.drop_segment-requires-clause-empty
 drop_segment-requires-clause-empty c =
-    none_is_left c.self.inside.tables c.take_back.new.tables c.self.inside.undo c.take_back.new.undo c.of-segment.result c.mark-count.result c.mark-count.ensures c.take_back.ensures
+    none_is_left c.self.inside.tables c.take_back.new.tables c.self.inside.undo c.take_back.new.undo c.of-segment.result c.mark-count.result c.mark-count.ensures c.take_back.ensures.back
 
 pub invariant_of-self : goal.invariant_of-self
 invariant_of-self c =
     let empty : records_at c.take_back.new.undo c.of-segment.result ≡ [] =
-    none_is_left c.self.inside.tables c.take_back.new.tables c.self.inside.undo c.take_back.new.undo c.of-segment.result c.mark-count.result c.mark-count.ensures c.take_back.ensures in
+    none_is_left c.self.inside.tables c.take_back.new.tables c.self.inside.undo c.take_back.new.undo c.of-segment.result c.mark-count.result c.mark-count.ensures c.take_back.ensures.back in
     let own : HoldsNothing c.release_all.new.self c.of-segment.result = subst (HoldsNothing c.release_all.new.self) (sym c.of-segment.ensures) c.release_all.ensures.own in
     let others : OthersKeep c.self.inside.locks c.release_all.new.self c.of-segment.result =
     subst (OthersKeep c.self.inside.locks c.release_all.new.self) (sym c.of-segment.ensures) c.release_all.ensures.others in
-    let size : length c.take_back.new.undo.terminals ≡ 65 = c.take_back.ensures.others.size ∙ c.self.invariant.kept.size in
+    let size : length c.take_back.new.undo.terminals ≡ 65 = c.take_back.ensures.back.others.size ∙ c.self.invariant.kept.size in
     let within : c.of-segment.result < length c.take_back.new.undo.terminals = omega (arith, c.get-number.ensures.value, c.get-number.ensures.high, c.of-segment.ensures) in
     let first : length c.self.inside.undo.terminals ≡ 65 = c.self.invariant.kept.size in
     let there : c.of-segment.result < length c.self.inside.undo.terminals = omega (arith, c.get-number.ensures.value, c.get-number.ensures.high, c.of-segment.ensures) in
     record {
       kept = subst (λ u. IsKept c.take_back.new.tables u c.release_all.new.self) (sym c.drop_segment.ensures)
           (dropped_kept c.take_back.new.tables c.take_back.new.undo c.self.inside.locks c.release_all.new.self c.of-segment.result within empty own others
-          (taken_kept c.self.inside.tables c.take_back.new.tables c.self.inside.undo c.take_back.new.undo c.self.inside.locks c.of-segment.result c.mark-count.result c.take_back.ensures c.self.invariant.kept));
+          (taken_kept c.self.inside.tables c.take_back.new.tables c.self.inside.undo c.take_back.new.undo c.self.inside.locks c.of-segment.result c.mark-count.result c.take_back.ensures.back c.self.invariant.kept));
       safe = subst IsSafe
           (sym (ap (λ u. view_from c.take_back.new.tables u c.release_all.new.self) c.drop_segment.ensures
-          ∙ rolled_back_is c.self.inside.tables c.take_back.new.tables c.self.inside.undo c.take_back.new.undo c.self.inside.locks c.release_all.new.self c.of-segment.result c.mark-count.result c.mark-count.ensures there c.take_back.ensures own others))
+          ∙ rolled_back_is c.self.inside.tables c.take_back.new.tables c.self.inside.undo c.take_back.new.undo c.self.inside.locks c.release_all.new.self c.of-segment.result c.mark-count.result c.mark-count.ensures there c.take_back.ensures.back own others))
           (safe_rolled_back c.of-segment.result (view_from c.self.inside.tables c.self.inside.undo c.self.inside.locks) c.self.invariant.safe);
     }
 
@@ -75,5 +75,5 @@ returns-clause-rolled_back c =
     let within : c.of-segment.result < length c.self.inside.undo.terminals = omega (arith, c.get-number.ensures.value, c.get-number.ensures.high, c.of-segment.ensures) in
     rw (← c.self.view_is)
     (ap (λ u. view_from c.take_back.new.tables u c.release_all.new.self) c.drop_segment.ensures
-    ∙ rolled_back_is c.self.inside.tables c.take_back.new.tables c.self.inside.undo c.take_back.new.undo c.self.inside.locks c.release_all.new.self c.of-segment.result c.mark-count.result c.mark-count.ensures within c.take_back.ensures own others
+    ∙ rolled_back_is c.self.inside.tables c.take_back.new.tables c.self.inside.undo c.take_back.new.undo c.self.inside.locks c.release_all.new.self c.of-segment.result c.mark-count.result c.mark-count.ensures within c.take_back.ensures.back own others
     ∙ ap (λ t. rolled_back t (view_from c.self.inside.tables c.self.inside.undo c.self.inside.locks)) (c.of-segment.ensures ∙ ap (λ x. x.terminal) c.tx.view_is))

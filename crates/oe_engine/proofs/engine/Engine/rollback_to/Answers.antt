@@ -1,7 +1,7 @@
 use Rattle.std.proofs.Common.{◌≡◌, ◌≤◌, ◌-◌, sym, ap, ◌∙◌, subst, length}
 use Rattle.std.specs.Prelude.{IsSome}
-use Rattle.oe_undo.specs.Undo.{active_at}
-use Rattle.oe_undo.specs.Stands.{undo_of}
+use Rattle.oe_segments.specs.Segments.{active_at}
+use Rattle.oe_segments.specs.Stands.{undo_of}
 use Rattle.oe_engine.specs.View.{view_of, view_from}
 use Rattle.oe_engine.specs.Calls.{back_at}
 use Rattle.oe_engine.specs.Covered.{IsSafe}
@@ -41,10 +41,10 @@ invariant_of-self c =
     let n = since_is c.self.inside.undo c.of-segment.result c.args.tx.now.terminal c.mark.result c.args.mark c.mark-2.inside.records same c.mark.ensures c.mark-2.view_is in
     let here : length ((undo_of c.self.inside.undo).active c.args.tx.now.terminal) ≡ length ((undo_of c.self.inside.undo).active c.of-segment.result) = ap (λ t. length ((undo_of c.self.inside.undo).active t)) (sym same) in
     record {
-      kept = taken_kept c.self.inside.tables c.take_back.new.tables c.self.inside.undo c.take_back.new.undo c.self.inside.locks c.of-segment.result (c.mark.result - c.mark-2.inside.records) c.take_back.ensures c.self.invariant.kept;
+      kept = taken_kept c.self.inside.tables c.take_back.new.tables c.self.inside.undo c.take_back.new.undo c.self.inside.locks c.of-segment.result (c.mark.result - c.mark-2.inside.records) c.take_back.ensures.back c.self.invariant.kept;
       safe = subst IsSafe
           (sym (back_is c.self.inside.tables c.take_back.new.tables c.self.inside.undo c.take_back.new.undo c.self.inside.locks c.of-segment.result c.args.mark (c.mark.result - c.mark-2.inside.records)
-          (n ∙ ap (λ k. k - c.args.mark) here) c.take_back.ensures))
+          (n ∙ ap (λ k. k - c.args.mark) here) c.take_back.ensures.back))
           (safe_back c.of-segment.result c.args.mark (view_from c.self.inside.tables c.self.inside.undo c.self.inside.locks) c.self.invariant.safe);
     }
 
@@ -56,5 +56,5 @@ returns-clause-back c =
     let here : length ((undo_of c.self.inside.undo).active c.args.tx.now.terminal) ≡ length ((undo_of c.self.inside.undo).active c.of-segment.result) = ap (λ t. length ((undo_of c.self.inside.undo).active t)) (sym same) in
     rw (← c.self.view_is)
     (back_is c.self.inside.tables c.take_back.new.tables c.self.inside.undo c.take_back.new.undo c.self.inside.locks c.of-segment.result c.args.mark (c.mark.result - c.mark-2.inside.records)
-    (n ∙ ap (λ k. k - c.args.mark) here) c.take_back.ensures
+    (n ∙ ap (λ k. k - c.args.mark) here) c.take_back.ensures.back
     ∙ ap (λ t. back_at t c.args.mark (view_from c.self.inside.tables c.self.inside.undo c.self.inside.locks)) same)

@@ -1,14 +1,14 @@
-use Rattle.std.proofs.Common.{◌≡◌, ◌⊎◌, ◌<◌, suc, sym, ap, ◌∙◌, subst}
+use Rattle.std.proofs.Common.{◌≡◌, ◌⊎◌, suc, sym, ap, ◌∙◌, subst, Some}
 use Rattle.std.specs.Prelude.{option_map}
 use Rattle.oe_model.specs.Locks.{mode_of}
-use Rattle.oe_change.specs.Writes.{RefusesWrite}
-use Rattle.oe_undo.specs.Undo.{room_at}
+use Rattle.oe_records.specs.Writes.{written}
+use Rattle.oe_store.specs.Places.{rows}
 use Rattle.oe_engine.specs.View.{View, view_of, view_from}
-use Rattle.oe_engine.specs.Calls.{IsBelow, locked, put_mode}
+use Rattle.oe_engine.specs.Calls.{IsBelow, IsFullFor, locked, put_mode}
 use Rattle.oe_engine.specs.Covered.{IsUnused, IsSafe}
 use Rattle.oe_engine.proofs.SafeFacts.{unused_if_lower, not_exclusive}
 use Rattle.oe_engine.proofs.PartFacts.{can_restore, restored}
-use Rattle.oe_engine.proofs.WriteFacts.{wants_row}
+use Rattle.oe_engine.specs.Writes.{WantsRow}
 use Rattle.oe_engine.proofs.engine.Engine.take_and_put.Goals as goal
 
 -- where the name was not held alone before, nothing was changed under it
@@ -44,9 +44,13 @@ returns-in-Err-put-clause-err c =
     ∙ ap (λ o. put_mode c.args.terminal c.args.lock.now.name o (locked c.args.terminal c.args.lock.now.name (mode_of c.args.lock.now.mode) (view_of c.args.self.now))) before
     ∙ restored c.args.terminal c.args.lock.now.name (mode_of c.args.lock.now.mode) (view_of c.args.self.now)
 
-pub returns-in-Err-put-clause-room : goal.returns-in-Err-put-clause-room
+pub returns-in-Err-put-clause-full : goal.returns-in-Err-put-clause-full
 unfolding view_of view_from
-returns-in-Err-put-clause-room c = λ held room same.
-    let refused = c.in-Err-put.ensures.room (subst (λ u. 0 < room_at u c.args.terminal) (sym c.in-Ok.ensures.undo) room) in
-    wants_row c.args.write.now c.args.self.now.tables c.in-Err-put.refusal
-    (subst (λ ts. RefusesWrite c.args.write.now ts c.in-Err-put.refusal) c.in-Ok.ensures.tables refused) same
+returns-in-Err-put-clause-full c = λ d found same.
+    let here = c.in-Err-put.ensures.full d (subst (λ ts. written c.args.write.now (rows ts) ≡ Some d) (sym c.in-Ok.ensures.tables) found) same in
+    subst (λ (v : View). IsFullFor v c.args.terminal d) c.in-Ok.ensures.locked here
+
+pub returns-in-Err-put-clause-wants : goal.returns-in-Err-put-clause-wants
+unfolding view_of view_from
+returns-in-Err-put-clause-wants c = λ held same.
+    subst (λ ts. WantsRow (written c.args.write.now (rows ts)) ts) c.in-Ok.ensures.tables (c.in-Err-put.ensures.wants same)

@@ -1,2 +1,0 @@
-pub mod PastFacts
-pub mod GivesUpFacts

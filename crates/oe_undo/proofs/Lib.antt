@@ -1,3 +1,0 @@
-pub mod SegmentFacts
-pub mod KeptFacts
-pub mod StandsFacts

@@ -1,7 +1,0 @@
-//! What the undo log is in the theory's words. Each function has an empty body and carries one law.
-ghost use Rattle.oe_undo.specs.Laws.{Calls_are_steps};
-
-/// What each call makes of the log is what the theory's steps make of the undo records, the commits and their counts.
-pub fn calls_are_steps()
-    ensures { Calls_are_steps }
-{}

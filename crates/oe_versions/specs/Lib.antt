@@ -1,4 +1,0 @@
--- What the clauses of this crate cite.
-pub mod Versions
-pub mod Found
-pub mod Lasting
