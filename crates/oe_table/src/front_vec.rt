@@ -1,8 +1,8 @@
 //! A list whose first elements are taken out in constant time.
 //!
 //! A first element that is taken out is only counted, and stays in memory. When those are half of all, one pass takes them away;
-//! so to take out n first elements costs in proportion to n. Only `insert` takes memory.
-ghost use Rattle.std.specs.Prelude.{◌≡◌, ◌<◌, ◌≤◌, List, [], OnOk, OnErr, length, drop, slice_index_or};
+//! so to take out n first elements costs in proportion to n. Only `insert` and `push` take memory.
+ghost use Rattle.std.specs.Prelude.{◌≡◌, ◌<◌, ◌≤◌, List, [], ◌∷◌, ◌++◌, OnOk, OnErr, length, drop, slice_index_or};
 ghost use Rattle.std.specs.List.{insert, remove};
 ghost use Rattle.std.specs.List.Retain.{IsFiltered};
 ghost use Rattle.std.specs.Fn.{CalledAt};
@@ -78,6 +78,18 @@ impl<T: Drop> FrontVec<T> {
         ensures err { OnErr result (self.new ≡ self.old) }
     {
         if let Err(_refused) = self.all.insert(self.gone + at, item) {
+            return Err(NoMemory);
+        }
+        Ok(())
+    }
+
+    /// Puts an element after the others. Where memory is refused, the list is as before.
+    #[inline(always)]
+    pub(crate) fn push(&mut self, item: T) -> Result<(), NoMemory>
+        ensures ok { OnOk result (self.new ≡ self.old ++ item ∷ []) }
+        ensures err { OnErr result (self.new ≡ self.old) }
+    {
+        if let Err(_refused) = self.all.push(item) {
             return Err(NoMemory);
         }
         Ok(())

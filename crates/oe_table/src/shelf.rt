@@ -42,6 +42,7 @@ impl<K, R> Slot<K, R> {
         (&self.key, &self.content)
     }
 
+    #[inline(always)]
     fn content_mut(&mut self) -> &mut Option<R>
         ensures* writes_back { sem 𝓛 (lends_content K.row R.row self.entry result) }
         ensures value { result.now ≡ self.old.1 }
@@ -80,6 +81,7 @@ impl<K, R> Shelf<K, R> {
 
 impl<K, R> Shelf<K, R> {
     /// The slots, in their keys' order.
+    #[inline(always)]
     pub fn slots(&self) -> &[Slot<K, R>]
         ensures { result.now ≡ self.now }
     {
@@ -180,6 +182,7 @@ impl<K: ShelvedKey, R> Shelf<K, R> {
     ghost use Rattle.oe_table.specs.ShelfLends.{lends_slot};
 
     // Where the key may stand, by the numbers of the first key and of this one.
+    #[inline(always)]
     fn hint(&self, key: &K) -> usize {
         match self.slots().first() {
             Some(first) => key.place().wrapping_sub(first.key.place()),
@@ -188,6 +191,7 @@ impl<K: ShelvedKey, R> Shelf<K, R> {
     }
 
     // Whether the key stands at an index.
+    #[inline(always)]
     fn stands_at(&self, at: usize, key: &K) -> bool
         ensures { IsTrue result ↔ StandsAt K.cmp self.now key.now at }
     {
@@ -198,6 +202,7 @@ impl<K: ShelvedKey, R> Shelf<K, R> {
     }
 
     // Where a key stands, or would stand.
+    #[inline(always)]
     fn find(&self, key: &K) -> Result<usize, usize>
         requires { IsAscending K.cmp self.now }
         ensures { IsFound K.cmp self.now key.now result }
@@ -206,6 +211,15 @@ impl<K: ShelvedKey, R> Shelf<K, R> {
         if self.stands_at(hint, key) {
             return Ok(hint);
         }
+        self.find_elsewhere(key)
+    }
+
+    // The same, whatever the hint.
+    #[inline(never)]
+    fn find_elsewhere(&self, key: &K) -> Result<usize, usize>
+        requires { IsAscending K.cmp self.now }
+        ensures { IsFound K.cmp self.now key.now result }
+    {
         if self.ends_before(key) {
             return Err(self.slots().len());
         }
@@ -236,6 +250,7 @@ impl<K: ShelvedKey, R> Shelf<K, R> {
     }
 
     // Whether the last key is less than this one.
+    #[inline(always)]
     fn ends_before(&self, key: &K) -> bool
         requires { IsAscending K.cmp self.now }
         ensures { IsTrue result → IsFound K.cmp self.now key.now (Err (length self.now)) }
@@ -247,6 +262,7 @@ impl<K: ShelvedKey, R> Shelf<K, R> {
     }
 
     // Where a key stands, or past the last slot.
+    #[inline(always)]
     fn position(&self, key: &K) -> usize
         requires { IsAscending K.cmp self.now }
         ensures stands { result < length self.now → StandsAt K.cmp self.now key.now result }
@@ -282,6 +298,7 @@ impl<K: ShelvedKey, R> Shelf<K, R> {
     }
 
     /// What stands at a key.
+    #[inline(always)]
     pub(crate) fn slot(&self, key: &K) -> Option<&Option<R>>
         requires { IsAscending K.cmp self.now }
         ensures { option_copied result ≡ place K.cmp self.now key.now }
@@ -292,6 +309,7 @@ impl<K: ShelvedKey, R> Shelf<K, R> {
     }
 
     /// What stands at a key, to be changed there.
+    #[inline(always)]
     pub(crate) fn slot_mut(&mut self, key: &K) -> Option<&mut Option<R>>
         requires { IsAscending K.cmp self.old }
         ensures* writes_back { sem 𝓛 (lends_slot K.row R.row K.cmp self.entry key.now result) }
@@ -315,6 +333,23 @@ impl<K: ShelvedKey, R> Shelf<K, R> {
         ensures err { OnErr result (self.new ≡ self.old) }
         ensures no_place { OnErr result (place K.cmp self.old key ≡ None) }
     {
+        if self.ends_before(&key) {
+            return self.put_last(key, row);
+        }
+        self.put_in(key, row)
+    }
+
+    // The same, whether or not the key stands before the last one.
+    #[inline(never)]
+    fn put_in(&mut self, key: K, row: R) -> Result<(), NoMemory>
+    where
+        K: Drop,
+        R: Drop,
+        requires { IsAscending K.cmp self.old }
+        ensures ok { OnOk result (self.new ≡ put_at K.cmp self.old key (Some row)) }
+        ensures err { OnErr result (self.new ≡ self.old) }
+        ensures no_place { OnErr result (place K.cmp self.old key ≡ None) }
+    {
         match self.find(&key) {
             Ok(at) => {
                 self.blanked = self.blanked.min(at);
@@ -323,6 +358,28 @@ impl<K: ShelvedKey, R> Shelf<K, R> {
             }
             Err(at) => self.put_new(at, key, row),
         }
+    }
+
+    // Puts a slot after the others.
+    #[inline(always)]
+    fn put_last(&mut self, key: K, row: R) -> Result<(), NoMemory>
+    where
+        K: Drop,
+        R: Drop,
+        ensures ok { OnOk result
+            (self.new ≡ insert self.old (length self.old) (key, Some row)) }
+        ensures err { OnErr result (self.new ≡ self.old) }
+    {
+        let end = self.slots().len();
+        let slot = Slot {
+            key,
+            content: Some(row),
+        };
+        if let Err(refusal) = self.slots.push(slot) {
+            return Err(refusal);
+        }
+        self.blanked = self.blanked.min(end);
+        Ok(())
     }
 
     // Puts a slot before the one at an index.

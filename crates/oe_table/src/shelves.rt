@@ -232,6 +232,7 @@ impl<K: ShelvedKey, R> Shelves<K, R> {
     }
 
     // What stands at a key.
+    #[inline(always)]
     fn slot(&self, key: &K) -> Option<&Option<R>>
         ensures { option_copied result ≡ place K.cmp self.now key.now }
     {
@@ -240,6 +241,7 @@ impl<K: ShelvedKey, R> Shelves<K, R> {
     }
 
     // What stands at a key, to be changed there.
+    #[inline(always)]
     fn slot_mut(&mut self, key: &K) -> Option<&mut Option<R>>
         ensures* writes_back { sem 𝓛
             (lends_place K.row R.row K.ShelvedKey self.entry key.now result) }

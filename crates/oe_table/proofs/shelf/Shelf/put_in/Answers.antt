@@ -1,7 +1,7 @@
 use Rattle.std.proofs.Common.{Some}
 use Rattle.oe_table.proofs.ShelfFacts.{put-answer}
 use Rattle.oe_table.proofs.PassedFacts.{none-set}
-use Rattle.oe_table.proofs.shelf.Shelf.put.Goals as goal
+use Rattle.oe_table.proofs.shelf.Shelf.put_in.Goals as goal
 
 pub invariant_of-self : goal.invariant_of-self
 invariant_of-self g c = none-set c.self.inside.slots c.self.inside.blanked c.min-self-inside.result c.in-Ok.at _ c.min-self-inside.ensures c.self.invariant

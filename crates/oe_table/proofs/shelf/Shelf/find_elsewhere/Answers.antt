@@ -1,6 +1,6 @@
 use Rattle.std.proofs.Common.{ℕ, sym, ap, subst, length, Err}
 use Rattle.oe_table.specs.Shelf.{IsFound}
-use Rattle.oe_table.proofs.shelf.Shelf.find.Goals as goal
+use Rattle.oe_table.proofs.shelf.Shelf.find_elsewhere.Goals as goal
 
 pub returns-then-ends_before : goal.returns-then-ends_before
 returns-then-ends_before g c =
