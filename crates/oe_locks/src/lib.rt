@@ -52,6 +52,7 @@ impl Model for Locks {
 }
 
 // Where the terminal's names are.
+#[inline(always)]
 fn slot(terminal: Terminal) -> usize
     ensures value { result + 1 ≡ terminal }
     ensures within { result < TERMINALS }
@@ -60,6 +61,7 @@ fn slot(terminal: Terminal) -> usize
 }
 
 // The terminal is no longer among those who hold the name. A name that nobody holds is no longer kept.
+#[inline]
 fn depart(holders: &mut NameMap, name: &Name, before: &Holders, terminal: Terminal)
     requires { lookup (ghosts.eq name.now) holders.old ≡ Some before.now }
     ensures own { GivesBack holders.old holders.new terminal name.now None }
@@ -72,6 +74,7 @@ fn depart(holders: &mut NameMap, name: &Name, before: &Holders, terminal: Termin
 }
 
 // The same, where perhaps nobody holds it.
+#[inline]
 fn leave(holders: &mut NameMap, name: &Name, terminal: Terminal)
     ensures own { GivesBack holders.old holders.new terminal name.now None }
     ensures others { OthersKeep holders.old holders.new terminal }
@@ -96,6 +99,7 @@ fn leave_all(holders: &mut NameMap, names: &mut Vec<Name>, terminal: Terminal)
 
 // Puts a name that nobody holds into the map, with its first holders, and on their terminal's list. A name that somebody holds
 // stays as it is, and its holders are answered.
+#[inline(always)]
 fn enter(
     holders: &mut NameMap,
     names: &mut Vec<Name>,
@@ -126,6 +130,7 @@ fn enter(
 }
 
 // Gives a name the holders that it has once the list's terminal has joined them, and puts it on that list.
+#[inline]
 fn join(
     holders: &mut NameMap,
     names: &mut Vec<Name>,
@@ -171,6 +176,7 @@ impl Locks {
     }
 
     /// The mode in which the terminal holds the name, or `None` where it does not hold it.
+    #[inline]
     pub fn holds(&self, name: &Name, terminal: Terminal) -> Option<Mode>
         ensures { result ≡ held self.now terminal name.now }
     {
@@ -178,6 +184,7 @@ impl Locks {
     }
 
     /// The least other terminal that holds the name in a mode that conflicts. Takes no memory.
+    #[inline]
     pub fn in_the_way(&self, name: &Name, terminal: Terminal, mode: Mode) -> Option<Terminal>
         ensures { MatchOption result
             (IsFreeFor self.now terminal name.now mode)
@@ -187,6 +194,7 @@ impl Locks {
     }
 
     // Gives a name that the terminal holds the holders that it has once the terminal's mode has changed.
+    #[inline]
     fn change(&mut self, name: &Name, terminal: Terminal, after: Holders)
         requires held { IsSome (held self.old terminal name.now) }
         requires others { (u : ℕ) → u ≢ terminal
@@ -198,6 +206,7 @@ impl Locks {
     }
 
     // Gives a name the holders that it has once the terminal has joined them.
+    #[inline]
     fn take(&mut self, name: &Name, terminal: Terminal, after: Holders) -> Result<(), Refusal>
         requires { (u : ℕ) → u ≢ terminal
             → mode_among after u ≡ held self.old u name.now }
@@ -212,6 +221,7 @@ impl Locks {
     }
 
     // Takes a name that nobody holds, and answers who holds it otherwise.
+    #[inline(always)]
     fn begin(
         &mut self,
         name: &Name,
@@ -234,6 +244,7 @@ impl Locks {
     }
 
     // Takes a name that those hold, or raises the mode in which the terminal holds it, where nobody is in the way.
+    #[inline(never)]
     fn rise(
         &mut self,
         name: &Name,

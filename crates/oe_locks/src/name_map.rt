@@ -33,6 +33,7 @@ impl Model for NameMap {
 }
 
 // The holders of the first entry with the name.
+#[inline(always)]
 fn listed(entries: &[(Name, Holders)], name: &Name) -> Option<Holders>
     ensures { result ≡ lookup (ghosts.eq name.now) entries.now }
 {
@@ -45,6 +46,7 @@ fn listed(entries: &[(Name, Holders)], name: &Name) -> Option<Holders>
 }
 
 // The holders of the map's entry with the name.
+#[inline(always)]
 fn mapped(entries: &HashMap<Name, Holders>, name: &Name) -> Option<Holders>
     ensures { result ≡ lookup (ghosts.eq name.now) entries.now.entries }
 {
@@ -55,6 +57,7 @@ fn mapped(entries: &HashMap<Name, Holders>, name: &Name) -> Option<Holders>
 }
 
 // Puts other holders into the first entry with the name, if there is one, and answers whether there is.
+#[inline]
 fn put(entries: &mut Vec<(Name, Holders)>, name: &Name, after: &Holders) -> bool
     ensures put { result ≡ true →
         Changes entries.old.items entries.new.items name.now (Some after.now) }
@@ -71,6 +74,7 @@ fn put(entries: &mut Vec<(Name, Holders)>, name: &Name, after: &Holders) -> bool
 }
 
 // Takes all entries with the name off the list.
+#[inline]
 fn strike_listed(entries: &mut Vec<(Name, Holders)>, name: &Name)
     ensures { Changes entries.old.items entries.new.items name.now None }
 {
@@ -78,6 +82,7 @@ fn strike_listed(entries: &mut Vec<(Name, Holders)>, name: &Name)
 }
 
 // Puts the name's entry into the map. After an error nothing has changed.
+#[inline(never)]
 fn insert_mapped(
     entries: &mut HashMap<Name, Holders>,
     name: &Name,
@@ -94,6 +99,7 @@ fn insert_mapped(
 }
 
 // Puts other holders into the map's entry with the name.
+#[inline]
 fn replace_mapped(entries: &mut HashMap<Name, Holders>, name: &Name, after: &Holders)
     requires { IsSome (lookup (ghosts.eq name.now) entries.old.entries) }
     ensures { Changes entries.old.entries entries.new.entries name.now (Some after.now) }
@@ -104,6 +110,7 @@ fn replace_mapped(entries: &mut HashMap<Name, Holders>, name: &Name, after: &Hol
 }
 
 // Takes the name's entry out of the map, if there is one.
+#[inline(always)]
 fn strike_mapped(entries: &mut HashMap<Name, Holders>, name: &Name)
     ensures { Changes entries.old.entries entries.new.entries name.now None }
 {
@@ -125,6 +132,7 @@ impl NameMap {
     }
 
     /// Who holds the name, if anybody does.
+    #[inline(always)]
     pub(crate) fn get(&self, name: &Name) -> Option<Holders>
         ensures { result ≡ lookup (ghosts.eq name.now) self.now }
     {
@@ -135,6 +143,7 @@ impl NameMap {
     }
 
     /// Takes a name that nobody holds. After an error nothing has changed.
+    #[inline(always)]
     pub(crate) fn insert(&mut self, name: &Name, holders: &Holders) -> Result<(), AllocError>
         requires { lookup (ghosts.eq name.now) self.old ≡ None }
         ensures changes { OnOk result (Changes self.old self.new name.now (Some holders.now)) }
@@ -150,6 +159,7 @@ impl NameMap {
     }
 
     /// Gives a name other holders. Takes no memory for a name that somebody holds, and after an error nothing has changed.
+    #[inline]
     pub(crate) fn set(&mut self, name: &Name, after: &Holders) -> Result<(), AllocError>
         ensures changes { OnOk result (Changes self.old self.new name.now (Some after.now)) }
         ensures err { OnErr result (self.new ≡ self.old) }
@@ -161,6 +171,7 @@ impl NameMap {
     }
 
     /// Gives a name that somebody holds other holders.
+    #[inline]
     pub(crate) fn replace(&mut self, name: &Name, after: &Holders)
         requires { IsSome (lookup (ghosts.eq name.now) self.old) }
         ensures { Changes self.old self.new name.now (Some after.now) }
@@ -172,6 +183,7 @@ impl NameMap {
     }
 
     /// Lets go of a name. Nobody holds it then.
+    #[inline(always)]
     pub(crate) fn remove(&mut self, name: &Name)
         ensures { Changes self.old self.new name.now None }
     {

@@ -23,6 +23,7 @@ impl Model for TerminalSet {
 
 impl TerminalSet {
     /// No terminal.
+    #[inline(always)]
     pub fn empty() -> TerminalSet
         ensures { (u : ℕ) → has result u ≡ false }
     {
@@ -30,6 +31,7 @@ impl TerminalSet {
     }
 
     /// Whether the terminal is in the set.
+    #[inline(always)]
     pub fn has(&self, terminal: Terminal) -> bool
         ensures { result ≡ has self.now terminal }
     {
@@ -37,6 +39,7 @@ impl TerminalSet {
     }
 
     /// The set with the terminal.
+    #[inline(always)]
     pub fn with(&self, terminal: Terminal) -> TerminalSet
         ensures { (u : ℕ) → has result u ≡ (if u == terminal then true else has self.now u) }
     {
@@ -46,6 +49,7 @@ impl TerminalSet {
     }
 
     /// The set without the terminal.
+    #[inline(always)]
     pub fn without(&self, terminal: Terminal) -> TerminalSet
         ensures { (u : ℕ) → has result u ≡ (if u == terminal then false else has self.now u) }
     {
@@ -55,6 +59,7 @@ impl TerminalSet {
     }
 
     /// The least terminal of the set, if it has any.
+    #[inline(always)]
     pub fn least(&self) -> Option<Terminal>
         ensures { MatchOption result ((u : ℕ) → has self.now u ≡ false) (IsLeast self.now) }
     {
