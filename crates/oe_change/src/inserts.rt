@@ -11,8 +11,12 @@ use oe_requests::Refusal;
 use oe_rows::{History, NewOrder, Order, OrderLine};
 use oe_store::Tables;
 
-/// Inserts a HISTORY row, which refers to a customer and a district.
-pub(crate) fn insert_history(
+/// Inserts a HISTORY row, which refers to a customer and a district, and answers its undo record.
+///
+/// `RowExists`: the key is there. `Reference`: the customer is absent, or else the district (clause 1.4). `NoMemory`: the tables accept
+/// the row, but its key takes a new place, and its memory was refused. Nothing has changed then.
+#[inline(always)]
+pub fn insert_history(
     tables: &mut Tables,
     key: &HistoryKey,
     row: History,
@@ -39,8 +43,12 @@ pub(crate) fn insert_history(
     }
 }
 
-/// Inserts a NEW-ORDER row, which refers to its order.
-pub(crate) fn insert_new_order(tables: &mut Tables, key: &NewOrderKey) -> Result<Before, Refusal>
+/// Inserts a NEW-ORDER row, which refers to its order, and answers its undo record.
+///
+/// `RowExists`: the key is there. `Reference`: its order is absent (clause 1.4). `NoMemory`: the tables accept the row, but its key takes
+/// a new place, and its memory was refused. Nothing has changed then.
+#[inline(always)]
+pub fn insert_new_order(tables: &mut Tables, key: &NewOrderKey) -> Result<Before, Refusal>
     ensures applied { IfOk result (
         HasApplied (InsertNewOrder key.now (record {})) tables.old tables.new) }
     ensures refused { IfErr result (Refuses (InsertNewOrder key.now (record {})) tables.old) }
@@ -60,12 +68,12 @@ pub(crate) fn insert_new_order(tables: &mut Tables, key: &NewOrderKey) -> Result
     }
 }
 
-/// Inserts an ORDER row, which refers to its customer.
-pub(crate) fn insert_order(
-    tables: &mut Tables,
-    key: &OrderKey,
-    row: Order,
-) -> Result<Before, Refusal>
+/// Inserts an ORDER row, which refers to its customer, and answers its undo record.
+///
+/// `RowExists`: the key is there. `Reference`: its customer is absent (clause 1.4). `NoMemory`: the tables accept the row, but its key
+/// takes a new place, and its memory was refused. Nothing has changed then.
+#[inline(always)]
+pub fn insert_order(tables: &mut Tables, key: &OrderKey, row: Order) -> Result<Before, Refusal>
     ensures applied { IfOk result (HasApplied (InsertOrder key.now row) tables.old tables.new) }
     ensures refused { IfErr result (λ e. Refuses (InsertOrder key.now row) tables.old e) }
     ensures first { IfErr result (λ e. IsFirst (InsertOrder key.now row) (rows tables.old) e) }
@@ -85,6 +93,7 @@ pub(crate) fn insert_order(
 }
 
 /// The key of the stock that a line is supplied from.
+#[inline(always)]
 pub(crate) fn supply_key(row: &OrderLine) -> StockKey
     ensures { result ≡ supply_of_line row.now }
 {
@@ -94,8 +103,12 @@ pub(crate) fn supply_key(row: &OrderLine) -> StockKey
     }
 }
 
-/// Inserts an ORDER-LINE row, which refers to its order and to the stock that it is supplied from.
-pub(crate) fn insert_order_line(
+/// Inserts an ORDER-LINE row, which refers to its order and to the stock that it is supplied from, and answers its undo record.
+///
+/// `RowExists`: the key is there. `Reference`: its order is absent, or else the stock (clause 1.4). `NoMemory`: the tables accept the
+/// row, but its key takes a new place, and its memory was refused. Nothing has changed then.
+#[inline(always)]
+pub fn insert_order_line(
     tables: &mut Tables,
     key: &OrderLineKey,
     row: OrderLine,

@@ -2,14 +2,13 @@
 #![tactic(auto)]
 
 pub mod changes;
-mod columns;
-mod inserts;
+pub mod inserts;
 pub mod laws;
 pub mod records;
-mod updates;
-pub mod writes;
+pub mod updates;
 
 pub use changes::apply;
-pub use oe_records::{Before, Change, Write};
+pub use inserts::{insert_history, insert_new_order, insert_order, insert_order_line};
+pub use oe_records::{Before, Change};
 pub use records::undo;
-pub use writes::write;
+pub use updates::delete_new_order;

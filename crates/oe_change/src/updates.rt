@@ -141,8 +141,11 @@ pub(crate) fn update_stock(
     Ok(Before::UpdatedStock(*key, row.with(before)))
 }
 
-/// Takes a NEW-ORDER row away. Its key keeps its place.
-pub(crate) fn delete_new_order(tables: &mut Tables, key: &NewOrderKey) -> Result<Before, Refusal>
+/// Takes a NEW-ORDER row away and answers its undo record. Its key keeps its place, and it takes no memory.
+///
+/// `NoSuchRow`: the row is absent. Nothing has changed then.
+#[inline(always)]
+pub fn delete_new_order(tables: &mut Tables, key: &NewOrderKey) -> Result<Before, Refusal>
     ensures applied { IfOk result (HasApplied (DeleteNewOrder key.now) tables.old tables.new) }
     ensures refused { IfErr result (λ e. Refuses (DeleteNewOrder key.now) tables.old e) }
     ensures first { IfErr result (λ e. IsFirst (DeleteNewOrder key.now) (rows tables.old) e) }

@@ -13,5 +13,3 @@ mod finders;
 mod fixtures;
 #[cfg(test)]
 mod segments;
-#[cfg(test)]
-mod writes;
