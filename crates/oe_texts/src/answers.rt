@@ -1,6 +1,7 @@
 //! Answers.
-ghost use Rattle.std.specs.Prelude.{◌≡◌, ◌≤◌, ◌+◌, ◌++◌, codes};
+ghost use Rattle.std.specs.Prelude.{◌≡◌, ◌≤◌, ◌+◌, ◌++◌, codes, decimal};
 ghost use Rattle.arrayvec.specs.ArrayVec.{array_vec_len};
+ghost use Rattle.oe_requests.specs.declared.replies.Reply.{Reply};
 ghost use Rattle.oe_steps.specs.declared.answers.Answer.{Answer};
 ghost use Rattle.oe_texts.specs.Answer.{verdict_text, answer_text, answer_line, audit_line};
 
@@ -8,8 +9,8 @@ use crate::columns::{number, small_then};
 use crate::keys::columns;
 use crate::pending::{LONGEST, Pending, SIZE, text};
 use crate::refusals::error;
-use crate::replies::{query, reply};
-use oe_requests::{Refusal, Reply};
+use crate::replies::{payment, query, reply};
+use oe_requests::{PaymentReply, Refusal, Reply};
 use oe_steps::{Answer, Condition, Verdict};
 use oe_values::Moment;
 
@@ -28,6 +29,18 @@ fn verdict(out: &mut Pending, verdict: &Verdict)
     }
 }
 
+/// `commit <moment> `.
+fn commit_at(out: &mut Pending, moment: Moment)
+    requires { array_vec_len out.old + 28 ≤ SIZE }
+    ensures items { out.new.items ≡ out.old.items
+        ++ (codes "commit " ++ decimal moment ++ codes " ") }
+    ensures len { array_vec_len out.new ≤ array_vec_len out.old + 28 }
+{
+    text(out, b"commit ");
+    number(out, moment.get());
+    out.push(b' ');
+}
+
 /// `commit <moment> <reply>`.
 fn commit(out: &mut Pending, moment: Moment, given: &Reply)
     requires { array_vec_len out.old + 1239 ≤ SIZE }
@@ -35,9 +48,7 @@ fn commit(out: &mut Pending, moment: Moment, given: &Reply)
         ++ answer_text (Answer.Committed moment given.now) }
     ensures len { array_vec_len out.new ≤ array_vec_len out.old + 1239 }
 {
-    text(out, b"commit ");
-    number(out, moment.get());
-    out.push(b' ');
+    commit_at(out, moment);
     reply(out, given);
 }
 
@@ -103,6 +114,18 @@ pub fn committed(out: &mut Pending, moment: Moment, given: &Reply)
     ensures len { array_vec_len out.new ≤ array_vec_len out.old + LONGEST }
 {
     commit(out, moment, given);
+    out.push(b'\n');
+}
+
+/// Appends the line of a payment's commit with this reply.
+pub fn committed_payment(out: &mut Pending, moment: Moment, given: &PaymentReply)
+    requires { array_vec_len out.old + LONGEST ≤ SIZE }
+    ensures items { out.new.items ≡ out.old.items
+        ++ answer_line (Answer.Committed moment (Reply.Payment given.now)) }
+    ensures len { array_vec_len out.new ≤ array_vec_len out.old + LONGEST }
+{
+    commit_at(out, moment);
+    payment(out, given);
     out.push(b'\n');
 }
 
