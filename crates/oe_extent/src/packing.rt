@@ -32,6 +32,7 @@ impl Model for PackedStrings {
 }
 
 /// The number in the last two of some bytes.
+#[inline]
 #[tactic(auto, using(crate::proofs::PackedFacts::last_is))]
 pub(crate) fn last_size(bytes: &[u8]) -> usize
     requires { 2 ≤ length bytes.now }
@@ -60,6 +61,7 @@ impl PackedStrings {
     }
 
     /// How many bytes are left behind the strings: 0 to 4,096.
+    #[inline(always)]
     pub fn rest(&self) -> usize
         ensures { result + length (joined self.now) ≡ 4096 }
     {
@@ -67,6 +69,7 @@ impl PackedStrings {
     }
 
     /// The offset at which the next string begins: 0 to 4,096.
+    #[inline(always)]
     pub fn end(&self) -> usize
         ensures value { result ≡ length (joined self.now) }
         ensures most { result ≤ 4096 }
@@ -75,6 +78,7 @@ impl PackedStrings {
     }
 
     /// How many strings there are.
+    #[inline(always)]
     pub fn len(&self) -> usize
         ensures { result ≡ length self.now }
     {
@@ -82,6 +86,7 @@ impl PackedStrings {
     }
 
     /// Appends a string, which is written where it is to stand.
+    #[inline(always)]
     pub fn push<S: Written>(&mut self, string: &S)
         requires framed { IsFramed (S.spelling string.now) }
         requires room { length (joined self.old) + length (S.spelling string.now) ≤ 4096 }
@@ -92,6 +97,7 @@ impl PackedStrings {
     }
 
     /// The newest string, where it stands.
+    #[inline]
     pub fn newest(&self) -> &[u8]
         requires { 0 < length self.now }
         ensures { self.now ≡ result.now ∷ drop 1 self.now }
@@ -111,6 +117,7 @@ impl PackedStrings {
     }
 
     /// Takes the newest string off.
+    #[inline]
     pub fn pop(&mut self)
         requires { 0 < length self.old }
         ensures { self.new ≡ drop 1 self.old }
@@ -128,6 +135,7 @@ impl PackedStrings {
     }
 
     /// The string that begins at that offset, where it stands.
+    #[inline]
     pub fn at(&self, offset: usize) -> &[u8]
         requires { HasStringAt self.now offset }
         ensures { IsStringAt self.now offset result.now }

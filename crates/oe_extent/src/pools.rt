@@ -86,6 +86,7 @@ impl Pool {
 
     /// Takes the next free extent from the cursor on, and behind the last from 0 on, and answers it with its number. `None` where
     /// none is free.
+    #[inline(never)]
     pub fn take(&mut self) -> Option<(usize, Box<Extent>)>
         ensures next { IfSome result (λ e. IsNextFree self.old.is_free self.old.cursor e.0) }
         ensures fresh { IfSome result (λ e. IsFreshAt e.0 e.1.value) }

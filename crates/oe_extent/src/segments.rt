@@ -56,6 +56,7 @@ impl Extent {
     }
 
     /// Its number.
+    #[inline]
     pub(crate) fn number(&self) -> usize
         ensures { result ≡ number_of self.now }
     {
@@ -89,6 +90,7 @@ impl Extent {
 
 impl Segment {
     /// No extents.
+    #[inline]
     pub fn new() -> Self
         ensures { result ≡ [] }
     {
@@ -96,6 +98,7 @@ impl Segment {
     }
 
     /// How many bytes are left in its newest extent: 0 to 4,096, and 0 where it has none.
+    #[inline(always)]
     pub fn rest(&self) -> usize
         ensures { result ≡ rest_of self.now }
     {
@@ -106,6 +109,7 @@ impl Segment {
     }
 
     /// The address of the next string in its newest extent.
+    #[inline(always)]
     pub fn end(&self) -> Address
         requires { 0 < length self.now }
         ensures { result ≡ end_of self.now }
@@ -120,6 +124,7 @@ impl Segment {
     }
 
     /// Appends a string to the newest extent.
+    #[inline(always)]
     pub fn push<S: Written>(&mut self, string: &S)
         requires framed { IsFramed (S.spelling string.now) }
         requires rest { length (S.spelling string.now) ≤ rest_of self.old }
@@ -132,6 +137,7 @@ impl Segment {
     }
 
     /// Another extent, as its newest.
+    #[inline]
     fn add(&mut self, number: usize, extent: Box<Extent>)
         requires { IsFreshAt number extent.value }
         ensures { self.new ≡ record { number = number; strings = [] } ∷ self.old }
@@ -142,6 +148,7 @@ impl Segment {
     }
 
     /// Appends a string to another extent, which becomes the newest.
+    #[inline(never)]
     #[tactic(auto, unfolding(crate::specs::Strings::joined))]
     pub fn push_new<S: Written>(&mut self, number: usize, extent: Box<Extent>, string: &S)
         requires fresh { IsFreshAt number extent.value }
@@ -154,6 +161,7 @@ impl Segment {
     }
 
     /// The string at that address, where it stands.
+    #[inline]
     pub fn at(&self, address: Address) -> &[u8]
         requires { HasStringAt (strings_at address.extent self.now) address.offset }
         ensures { IsStringAt (strings_at address.extent self.now) address.offset result.now }
@@ -165,6 +173,7 @@ impl Segment {
     }
 
     /// The newest string, where it stands.
+    #[inline]
     pub fn newest(&self) -> &[u8]
         requires { 0 < length (newest_strings self.now) }
         ensures { newest_strings self.now ≡ result.now ∷ drop 1 (newest_strings self.now) }
