@@ -4,6 +4,7 @@ ghost use Rattle.std.specs.Prelude.{◌≡◌, ◌≤◌, ◌+◌, ◌++◌, ℕ
 ghost use Rattle.oe_bytes.specs.Spelling.{Writes, number};
 ghost use Rattle.oe_image.specs.Columns.{text, optional, flag, credit};
 
+use oe_bytes::bounded::write_bounded_run;
 use oe_bytes::numbers::write_number;
 use oe_bytes::runs::write_run;
 use oe_rows::customers::Credit;
@@ -115,14 +116,14 @@ impl<const LEAST: usize, const MOST: usize> Imaged for Text<LEAST, MOST> {
 
     ghost image = { λ t. text t };
 
-    #[inline]
+    #[inline(always)]
     fn length(&self) -> usize {
         2 + self.as_str().len()
     }
 
-    #[inline]
+    #[inline(always)]
     fn write(&self, bytes: &mut [u8], start: usize) -> usize {
-        write_text(self.as_str(), bytes, start)
+        write_text::<LEAST, MOST>(self.as_str(), bytes, start)
     }
 }
 
@@ -178,13 +179,13 @@ impl<'a, T: Imaged> Imaged for &'a T {
 
     ghost image = { λ v. T.image v.now };
 
-    #[inline]
+    #[inline(always)]
     fn length(&self) -> usize {
         let value: &T = self;
         value.length()
     }
 
-    #[inline]
+    #[inline(always)]
     fn write(&self, bytes: &mut [u8], start: usize) -> usize {
         let value: &T = self;
         value.write(bytes, start)
@@ -196,26 +197,32 @@ impl<A: Imaged, B: Imaged> Imaged for (A, B) {
 
     ghost image = { λ v. A.image v.0 ++ B.image v.1 };
 
-    #[inline]
+    #[inline(always)]
     fn length(&self) -> usize {
         self.0.length() + self.1.length()
     }
 
-    #[inline]
+    #[inline(always)]
     fn write(&self, bytes: &mut [u8], start: usize) -> usize {
         let middle = self.0.write(bytes, start);
         self.1.write(bytes, middle)
     }
 }
 
-/// Writes the image of a text from offset `start` on, and answers the offset behind it.
-#[inline]
-pub(crate) fn write_text(string: &str, bytes: &mut [u8], start: usize) -> usize
-    requires short { length string.now ≤ 65535 }
+/// Writes the image of a text of `LEAST` to `MOST` bytes from offset `start` on, and answers the offset behind it.
+#[inline(always)]
+pub(crate) fn write_text<const LEAST: usize, const MOST: usize>(
+    string: &str,
+    bytes: &mut [u8],
+    start: usize,
+) -> usize
+    requires least { LEAST ≤ length string.now }
+    requires most { length string.now ≤ MOST }
+    requires short { MOST ≤ 65535 }
     requires room { start + length (text string.now) ≤ length bytes.old }
     ensures { Writes bytes.old start (text string.now) bytes.new result }
 {
     let text = string.as_bytes();
     let middle = write_number(bytes, start, text.len() as u64, 2);
-    write_run(bytes, middle, text)
+    write_bounded_run::<LEAST, MOST>(bytes, middle, text)
 }
