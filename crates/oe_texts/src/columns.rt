@@ -22,16 +22,32 @@ fn two(out: &mut Pending, n: u8)
     out.push(b'0' + n % 10);
 }
 
-/// A number, two digits at a time from the left.
+/// A number below 100.
+#[inline]
+fn below_hundred(out: &mut Pending, n: u8)
+    requires room { array_vec_len out.old + length (decimal n) ≤ SIZE }
+    requires small { n < 100 }
+    ensures items { out.new.items ≡ out.old.items ++ decimal n }
+    ensures len { array_vec_len out.new ≡ array_vec_len out.old + length (decimal n) }
+{
+    if n < 10 {
+        out.push(b'0' + n);
+    } else {
+        two(out, n);
+    }
+}
+
+/// A number, two digits at a time from the left; up to four digits are written straight.
 fn digits(out: &mut Pending, n: u64)
     requires { array_vec_len out.old + length (decimal n) ≤ SIZE }
     ensures items { out.new.items ≡ out.old.items ++ decimal n }
     ensures len { array_vec_len out.new ≡ array_vec_len out.old + length (decimal n) }
 {
-    if n < 10 {
-        out.push(b'0' + n as u8);
-    } else if n < 100 {
-        two(out, n as u8);
+    if n < 100 {
+        below_hundred(out, n as u8);
+    } else if n < 10_000 {
+        below_hundred(out, (n / 100) as u8);
+        two(out, (n % 100) as u8);
     } else {
         digits(out, n / 100);
         two(out, (n % 100) as u8);
