@@ -1,5 +1,5 @@
 -- What is read is said, and what is said is read.
-use Rattle.std.proofs.Common.{◌≡◌, ℕ, zero, suc, ◌^◌, ◌<◌, ◌≤◌, ◌⊎◌, inl, inr, List, [], ◌∷◌, ◌++◌, map, length, Bool, true, false, cond, Option, Some, None, IfSome, decimal, codes, nat_le, sym, ap, ◌∙◌, refl, append-nil, append_assoc, le-leb, arith, lit<}
+use Rattle.std.proofs.Common.{◌≡◌, ℕ, zero, suc, ◌^◌, ◌<◌, ◌≤◌, ◌⊎◌, inl, inr, List, [], ◌∷◌, ◌++◌, map, length, Bool, true, false, cond, Option, Some, None, IfSome, decimal, codes, nat_le, sym, subst, ap, ◌∙◌, refl, append-nil, append_assoc, le-leb, arith, lit<}
 use Rattle.std.specs.Option.{option_map}
 use Rattle.std.specs.Int.{IsInRange}
 use Rattle.std.specs.List.{All, join_with_byte}
@@ -35,7 +35,7 @@ use Rattle.oe_rows.specs.declared.scales.Scale.{Scale}
 use Rattle.oe_model.specs.Population.{IsScale}
 use Rattle.oe_model.specs.Requests.{IsDistrict, IsChoice, IsPayment, IsRequestLine, IsNewOrder, IsDelivery}
 use Rattle.oe_lines.specs.Grammar.{Says, HasForm, IsRequest, IsQuery, IsMoment, words_of, request_words, query_words, customer_word, line_word, moment_word}
-use Rattle.oe_lines.specs.Reading.{begun, number_or_name, last_number_or_name, table_of, moment_of, moment_before, audit_of, opening_of, district_of, customer_of, last_customer_of, status_of, level_of, query_of, reading_of, payment_of, line_of, line_and, lines_within, lines_of, new_order_of, delivery_of, request_of, beginning_of, terminal_of, rare_command_of, command_of}
+use Rattle.oe_lines.specs.Reading.{begun, number_or_name, last_number_or_name, table_of, moment_of, moment_before, audit_of, opening_of, district_of, customer_of, last_customer_of, status_of, level_of, query_of, reading_of, payment_of, line_of, line_and, lines_within, lines_of, new_order_of, delivery_of, request_of, beginning_of, terminal_of, rare_command_of, command_of, run_of, begun_payment_of}
 use Rattle.oe_lines.specs.Words.{is_word, within, number_of, number_then, number_before, last_number, amount_before, stamp_of, stamp_before, last_name_of, name_before}
 use Rattle.oe_lines.proofs.StampFacts.{stamp_found, stamp_only, stamp_before_found, stamp_before_only}
 use Rattle.oe_lines.proofs.NameFacts.{last_name_found, last_name_only, name_found, name_only, name_no_number, name_no_last}
@@ -701,3 +701,58 @@ read_is_said (Some c) s e = found s c (sym e)
 -- what a line says is its reading
 pub said_is_read : (s : List ℕ) (c : Command) → Says s c → command_of s ≡ Some c
 said_is_read s c h = rw h.spelled (spelled c h.form)
+
+-- the two lines that are read without a command
+
+run_found : (s : List ℕ) (t : ℕ) → run_of s ≡ Some t → Says s (command.Run t)
+unfolding run_of
+run_found s t e =
+    let r = bind_some (after_of (codes "run ") s) _ t e in
+    let g = last_found 1 64 r.0 t r.2 in
+    record { form = (g.1, g.2); spelled = after_found (codes "run ") s r.0 r.1 ∙ ap (λ z. codes "run" ++ 32 ∷ z) g.0 }
+
+run_spelled : (t : ℕ) → IsInRange 1 64 t → run_of (join_with_byte 32 (words_of (command.Run t))) ≡ Some t
+unfolding run_of
+run_spelled t h = rw (terminal t h) refl
+
+pub run_is_said : (o : Option ℕ) (s : List ℕ) → o ≡ run_of s → IfSome o (λ t. Says s (command.Run t))
+run_is_said None s e = tt
+run_is_said (Some t) s e = run_found s t (sym e)
+
+pub said_is_run : (s : List ℕ) (t : ℕ) → Says s (command.Run t) → run_of s ≡ Some t
+said_is_run s t h = rw h.spelled (run_spelled t h.form)
+
+-- a line begins that payment
+abbrev pub SaysPayment : List ℕ → ℕ × PaymentRequest → Type 0
+SaysPayment s b = Says s (command.Begin b.0 (request.Payment b.1))
+
+payment_begun_found : (s : List ℕ) (b : ℕ × PaymentRequest) → begun_payment_of s ≡ Some b → SaysPayment s b
+unfolding begun_payment_of
+payment_begun_found s b e =
+    let r = bind_some (after_of (codes "begin ") s) _ b e in
+    let t = bind_some (number_before 1 64 r.0) _ b r.2 in
+    let q = bind_some (after_of (codes "payment ") t.0.1) _ b t.2 in
+    let p = bind_some (payment_of q.0) _ b q.2 in
+    let f = before_found 1 64 r.0 t.0.0 t.0.1 t.1 in
+    let g = payment_found q.0 p.0 p.1 in
+    let words = after_found (codes "payment ") t.0.1 q.0 q.1 ∙ ap (λ z. codes "payment" ++ 32 ∷ z) g.0 in
+    let spelled = after_found (codes "begin ") s r.0 r.1 ∙ ap (λ z. codes "begin" ++ 32 ∷ z) (f.0 ∙ ap (λ z. decimal t.0.0 ++ 32 ∷ z) words) in
+    let says : SaysPayment s (t.0.0, p.0) = record { form = ((f.1, f.2), g.1); spelled = spelled } in
+    subst (SaysPayment s) (some_same (t.0.0, p.0) b p.2) says
+
+payment_spelled : (t : ℕ) (p : PaymentRequest) → IsInRange 1 64 t → IsPayment p
+    → begun_payment_of (join_with_byte 32 (words_of (command.Begin t (request.Payment p)))) ≡ Some (t, p)
+unfolding begun_payment_of
+payment_spelled t p h k =
+    rw (
+      before_only 1 64 t _ (omega arith) h,
+      payment_only p.district p.customer_district p.customer p.amount p.stamp k.district k.customer_district k.customer k.amount k.stamp,
+    )
+    refl
+
+pub payment_is_said : (o : Option (ℕ × PaymentRequest)) (s : List ℕ) → o ≡ begun_payment_of s → IfSome o (SaysPayment s)
+payment_is_said None s e = tt
+payment_is_said (Some b) s e = payment_begun_found s b (sym e)
+
+pub said_is_payment : (s : List ℕ) (t : ℕ) (p : PaymentRequest) → Says s (command.Begin t (request.Payment p)) → begun_payment_of s ≡ Some (t, p)
+said_is_payment s t p h = rw h.spelled (payment_spelled t p h.form.0 h.form.1)

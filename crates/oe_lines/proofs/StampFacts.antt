@@ -95,3 +95,7 @@ stamp_before_only n r h =
     let f = says_19 (stamp_text n) n (stamp_text_says n h) in
     let whole = f.1 (32 ∷ r) in
     rw (long (length (stamp_text n ++ 32 ∷ r)) (omega (arith, f.0, length-append (stamp_text n) (32 ∷ r))), whole.0, whole.1, stamp_only n h) refl
+
+-- a text of another length is none
+pub stamp_of-other_length : (s : List ℕ) → (length s ≡ 19 → ⊥) → stamp_of s ≡ None
+stamp_of-other_length s h = stamp_of-none s (λ n r. h (says_19 s n r).0)

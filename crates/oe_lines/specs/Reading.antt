@@ -218,3 +218,18 @@ command_of line =
     (begun (after_of (codes "run ") line) (terminal_of (λ t. command.Run t))
     (begun (after_of (codes "next ") line) (terminal_of (λ t. command.Next t))
     (rare_command_of line)))
+
+-- `run T` alone
+unfoldable pub run_of : List ℕ → Option ℕ
+run_of line = do
+  r ← after_of (codes "run ") line
+  last_number 1 TERMINALS r
+
+-- `begin T payment ..` alone
+unfoldable pub begun_payment_of : List ℕ → Option (ℕ × PaymentRequest)
+begun_payment_of line = do
+  b ← after_of (codes "begin ") line
+  t ← number_before 1 TERMINALS b
+  r ← after_of (codes "payment ") t.1
+  p ← payment_of r
+  Some (t.0, p)

@@ -7,4 +7,4 @@ pub mod reading;
 mod words;
 
 pub use commands::{Command, ExtentCount, MomentChoice};
-pub use reading::command;
+pub use reading::{command, payment_to_begin, terminal_to_run};

@@ -1,9 +1,12 @@
 //! Reading a line.
-ghost use Rattle.std.specs.Prelude.{◌≡◌, IfSome, Some};
+ghost use Rattle.std.specs.Prelude.{◌≡◌, ℕ, IfSome, Some};
 ghost use Rattle.std.specs.Option.{option_map};
+ghost use Rattle.oe_requests.specs.declared.requests.PaymentRequest.{PaymentRequest};
+ghost use Rattle.oe_requests.specs.declared.requests.Request.TheVariants as kind;
 ghost use Rattle.oe_lines.specs.declared.commands.Command.{Command};
+ghost use Rattle.oe_lines.specs.declared.commands.Command.TheVariants as asks;
 ghost use Rattle.oe_lines.specs.Grammar.{Says};
-ghost use Rattle.oe_lines.specs.Reading.{command_of, rare_command_of, opening_of, beginning_of, request_of, district_of, customer_of, payment_of, new_order_of, delivery_of, line_of, lines_of, table_of, moment_of, moment_before, audit_of, last_customer_of, status_of, level_of, query_of, reading_of};
+ghost use Rattle.oe_lines.specs.Reading.{command_of, run_of, begun_payment_of, rare_command_of, opening_of, beginning_of, request_of, district_of, customer_of, payment_of, new_order_of, delivery_of, line_of, lines_of, table_of, moment_of, moment_before, audit_of, last_customer_of, status_of, level_of, query_of, reading_of};
 
 use crate::commands::{Command, MomentChoice};
 use crate::words::{
@@ -18,7 +21,7 @@ use oe_requests::{
 use oe_rows::Scale;
 use oe_steps::Condition;
 use oe_values::fronts::{after, decimal};
-use oe_values::{Lines, Moment};
+use oe_values::{Lines, Moment, Terminal};
 
 /// What a line asks for, where it is one of the forms. The line stands without its end, which is byte 10.
 pub fn command(line: &[u8]) -> Option<Command>
@@ -28,6 +31,55 @@ pub fn command(line: &[u8]) -> Option<Command>
     ensures only { (c : Command) → Says line.now c → result ≡ Some c }
 {
     read_command(line)
+}
+
+/// The terminal whose transaction the line `run T` runs; none where the line is another. The line stands without its end, which
+/// is byte 10. It says what `command` says of such a line, without a command's length.
+#[inline]
+pub fn terminal_to_run(line: &[u8]) -> Option<Terminal>
+    // What is read is said.
+    ensures found { IfSome result (λ t. Says line.now (asks.Run t)) }
+    // What is said is read.
+    ensures only { (t : ℕ) → Says line.now (asks.Run t) → result ≡ Some t }
+{
+    read_run(line)
+}
+
+/// The payment that the line `begin T payment ..` begins, and its terminal before it; none where the line is another. The line
+/// stands without its end, which is byte 10. It says what `command` says of such a line, without a command's length.
+#[inline]
+pub fn payment_to_begin(line: &[u8]) -> Option<(Terminal, PaymentRequest)>
+    // What is read is said.
+    ensures found { IfSome result (λ b. Says line.now (asks.Begin b.0 (kind.Payment b.1))) }
+    // What is said is read.
+    ensures only { (t : ℕ) → (p : PaymentRequest) →
+        Says line.now (asks.Begin t (kind.Payment p)) → result ≡ Some (t, p) }
+{
+    read_begun_payment(line)
+}
+
+/// `run T`.
+#[inline]
+#[tactic(auto, unfolding(crate::specs::Reading::run_of))]
+fn read_run(line: &[u8]) -> Option<Terminal>
+    ensures { result ≡ run_of line.now }
+{
+    let rest = after(line, b"run ")?;
+    last_number(rest)
+}
+
+/// `begin T payment ..`.
+#[inline]
+#[tactic(auto, unfolding(crate::specs::Reading::begun_payment_of))]
+fn read_begun_payment(line: &[u8]) -> Option<(Terminal, PaymentRequest)>
+    ensures { result ≡ begun_payment_of line.now }
+{
+    let rest = after(line, b"begin ")?;
+    let Some((terminal, rest)) = number_before(rest) else {
+        return None;
+    };
+    let rest = after(rest, b"payment ")?;
+    Some((terminal, payment(rest)?))
 }
 
 /// The lines of which a script has most come first.
@@ -163,6 +215,7 @@ fn customer(text: &[u8]) -> Option<(CustomerChoice, &[u8])>
 }
 
 /// `w d cw cd customer amount stamp`.
+#[inline]
 #[tactic(auto, unfolding(crate::specs::Reading::payment_of))]
 fn payment(text: &[u8]) -> Option<PaymentRequest>
     ensures { result ≡ payment_of text.now }

@@ -92,6 +92,9 @@ pub(crate) fn amount_before<const LOW: u32, const HIGH: u32>(
 pub(crate) fn stamp(text: &[u8]) -> Option<Stamp>
     ensures { result ≡ stamp_of text.now }
 {
+    if text.len() != 19 {
+        return None;
+    }
     Stamp::read_bytes(text)
 }
 
