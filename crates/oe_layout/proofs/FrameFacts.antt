@@ -1,9 +1,10 @@
 -- A record's bytes are a string of the ring.
-use Rattle.std.proofs.Common.{◌≡◌, ℕ, ◌+◌, ◌-◌, ◌<◌, ◌≤◌, List, [], ◌++◌, length, drop, refl, sym, ap, ◌∙◌, arith, append_assoc}
+use Rattle.std.proofs.Common.{◌≡◌, ℕ, ◌+◌, ◌-◌, ◌<◌, ◌≤◌, List, [], ◌++◌, length, drop, refl, sym, ap, subst, ◌∙◌, arith, append_assoc}
 use Rattle.std.proofs.lemmas.List.{append-nil, drop_at}
 use Rattle.byteorder.specs.Endian.{big_number}
 use Rattle.byteorder.specs.Numbers.{big_number-reads_back}
-use Rattle.oe_bytes.specs.Spelling.{number}
+use Rattle.oe_bytes.specs.Spelling.{number, Writes}
+use Rattle.oe_bytes.proofs.WriteFacts.{Writes-then, Writes-before}
 use Rattle.oe_extent.specs.Strings.{last_length, IsFramed}
 use Rattle.oe_model.specs.Changes.{Record, record_key, row_before}
 use Rattle.oe_model.specs.Lengths.{record_length}
@@ -47,3 +48,22 @@ whole_length p b a e =
 pub record_framed : (p : Previous) (b : Record) (a : ℕ) → a ≡ length (contents b) → a + 18 ≡ record_length b → a ≤ 688 → IsFramed (record_image p b)
 record_framed p b a e sum short =
     framed_is (record_length b) (body_image p b) (omega (arith, sum, short)) (sym (whole_length p b a e) ∙ sum)
+
+-- what stands between the lengths was written first, and the offsets told them
+pub record_written : (old mid front new : List ℕ) (start middle end behind n : ℕ) (p : Previous) (b : Record) → length (record_image p b) ≡ record_length b
+    → start + length (record_image p b) ≤ length old → n ≡ end + 2 - start → Writes old (start + 2) (body_image p b) mid end
+    → Writes mid start (number 2 n) front middle → Writes front end (number 2 n) new behind → Writes old start (record_image p b) new behind
+record_written old mid front new start middle end behind n p b sum room told body first last =
+    let body_is = body_image p b in
+    let whole = between_long (record_length b) body_is in
+    let two = number_long 2 n in
+    let counted : n ≡ record_length b = omega (arith, told, body.end_is, whole.is, sum) in
+    let at : middle ≡ start + 2 = omega (arith, first.end_is, two.is) in
+    let within : end ≤ length old = omega (arith, body.end_is, whole.is, room) in
+    let begun : Writes old start (number 2 n ++ body_is) front end =
+    Writes-before old mid front start (start + 2) end (number 2 n) body_is within body
+    (subst (λ (m : ℕ). Writes mid start (number 2 n) front m) at first) in
+    let all : Writes old start (number 2 n ++ (body_is ++ number 2 n)) new behind =
+    subst (λ (l : List ℕ). Writes old start l new behind) (append_assoc (number 2 n) body_is (number 2 n))
+    (Writes-then old front new start end behind (number 2 n ++ body_is) (number 2 n) begun last) in
+    subst (λ (m : ℕ). Writes old start (number 2 m ++ (body_is ++ number 2 m)) new behind) counted all
