@@ -18,13 +18,21 @@ use Rattle.oe_segments.specs.Stands.{undo_of}
 use Rattle.oe_segments.specs.Laws.{StandsWith}
 use Rattle.oe_journal.specs.Records.{record_in, record_of_write, record_of_change}
 
+-- a change is accepted and made, and its record would have the row before
+abbrev pub IsApplied : Change → Places → Places → Type 0
+IsApplied c old new = Applies c old new (record_in c (rows old))
+
+-- why the tables refuse a change; of several causes the first is named
+abbrev pub IsRefused : Change → Places → Refusal → Type 0
+IsRefused c s e = Refuses c s e × IsFirst c (rows s) e
+
 -- the write is a change of these rows, which is accepted and made
 abbrev pub IsMade : Write → Places → Places → Type 0
-IsMade w old new = IsSomeAnd (written w (rows old)) (λ c. Applies c old new (record_in c (rows old)))
+IsMade w old new = IsSomeAnd (written w (rows old)) (λ c. IsApplied c old new)
 
--- why the tables refuse the change that a write is; of several causes the first is named
+-- why the tables refuse the change that a write is
 abbrev pub RefusesWrite : Write → Places → Refusal → Type 0
-RefusesWrite w s e = IsSomeAnd (written w (rows s)) (λ c. Refuses c s e × IsFirst c (rows s) e)
+RefusesWrite w s e = IsSomeAnd (written w (rows s)) (λ c. IsRefused c s e)
 
 -- a terminal's open segment has this record more, at an address where no other is; no link leads on from it
 pub record HasMore (b : Record) (u u' : SegmentLog) (t : ℕ) : Type 0 where

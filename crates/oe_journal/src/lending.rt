@@ -17,6 +17,7 @@ use oe_store::Tables;
 /// The record of a write to rows as they stand: of an insert or a delete its key, of an update the row, lent from where it lies.
 ///
 /// `NoSuchRow`: the row to be updated is absent.
+#[inline(always)]
 pub(crate) fn lend<'a>(tables: &'a Tables, write: &Write) -> Result<LentRecord<'a>, Refusal>
     ensures lent { IfOk result
         (λ b. record_of_write write.now (rows tables.now) ≡ Some (record_of_lent b)) }
@@ -30,6 +31,7 @@ pub(crate) fn lend<'a>(tables: &'a Tables, write: &Write) -> Result<LentRecord<'
 }
 
 /// The record of a write; none exactly where the row to be updated is absent.
+#[inline(always)]
 fn found<'a>(tables: &'a Tables, write: &Write) -> Option<LentRecord<'a>>
     ensures { option_map record_of_lent result ≡ record_of_write write.now (rows tables.now) }
 {
@@ -71,6 +73,7 @@ pub(crate) fn lend_changed<'a>(tables: &'a Tables, change: &Change) -> Option<Le
 }
 
 /// The record of an update of a warehouse, if that is there.
+#[inline(always)]
 fn warehouse<'a>(tables: &'a Tables, key: &WarehouseKey) -> Option<LentRecord<'a>>
     ensures { option_map record_of_lent result
         ≡ option_map (λ x. UpdatedWarehouse key.now (Some x))
@@ -83,6 +86,7 @@ fn warehouse<'a>(tables: &'a Tables, key: &WarehouseKey) -> Option<LentRecord<'a
 }
 
 /// The record of an update of a district, if that is there.
+#[inline(always)]
 fn district<'a>(tables: &'a Tables, key: &DistrictKey) -> Option<LentRecord<'a>>
     ensures { option_map record_of_lent result
         ≡ option_map (λ x. UpdatedDistrict key.now (Some x))
@@ -95,6 +99,7 @@ fn district<'a>(tables: &'a Tables, key: &DistrictKey) -> Option<LentRecord<'a>>
 }
 
 /// The record of an update of a customer, if that is there.
+#[inline(always)]
 fn customer<'a>(tables: &'a Tables, key: &CustomerKey) -> Option<LentRecord<'a>>
     ensures { option_map record_of_lent result
         ≡ option_map (λ x. UpdatedCustomer key.now (Some x))
@@ -107,6 +112,7 @@ fn customer<'a>(tables: &'a Tables, key: &CustomerKey) -> Option<LentRecord<'a>>
 }
 
 /// The record of an update of an order, if that is there.
+#[inline(always)]
 fn order<'a>(tables: &'a Tables, key: &OrderKey) -> Option<LentRecord<'a>>
     ensures { option_map record_of_lent result
         ≡ option_map (λ x. UpdatedOrder key.now (Some x)) (get (rows tables.now).orders key.now) }
@@ -118,6 +124,7 @@ fn order<'a>(tables: &'a Tables, key: &OrderKey) -> Option<LentRecord<'a>>
 }
 
 /// The record of an update of an order's line, if that is there.
+#[inline(always)]
 fn order_line<'a>(tables: &'a Tables, key: &OrderLineKey) -> Option<LentRecord<'a>>
     ensures { option_map record_of_lent result
         ≡ option_map (λ x. UpdatedOrderLine key.now (Some x))
@@ -130,6 +137,7 @@ fn order_line<'a>(tables: &'a Tables, key: &OrderLineKey) -> Option<LentRecord<'
 }
 
 /// The record of an update of a stock, if that is there.
+#[inline(always)]
 fn stock<'a>(tables: &'a Tables, key: &StockKey) -> Option<LentRecord<'a>>
     ensures { option_map record_of_lent result
         ≡ option_map (λ x. UpdatedStock key.now (Some x)) (get (rows tables.now).stocks key.now) }

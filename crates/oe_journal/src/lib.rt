@@ -4,6 +4,7 @@
 #![tactic(auto)]
 
 pub mod changes;
+mod inserts;
 mod lending;
 mod moments;
 pub mod purges;

@@ -1,14 +1,13 @@
 //! Rows changed in their place, without a record.
 ghost use Rattle.std.specs.Prelude.{◌≡◌, IsSome, IfErr, OnOk, OnErr};
-ghost use Rattle.oe_records.specs.Changes.{change_of};
-ghost use Rattle.oe_model.specs.Changes.{key_of, record_of};
-ghost use Rattle.oe_model.specs.Rows.{row_at};
 ghost use Rattle.oe_records.specs.Writes.{written};
 ghost use Rattle.oe_store.specs.Places.{rows};
-ghost use Rattle.oe_change.specs.Applies.{Applies, Refuses, IsFirst};
 ghost use Rattle.oe_journal.specs.Writes.{IsMade, RefusesWrite};
 
-use oe_records::{Change, Write};
+use crate::inserts::{
+    delete_new_order, insert_history, insert_new_order, insert_order, insert_order_line,
+};
+use oe_records::Write;
 use oe_requests::Refusal;
 use oe_store::Tables;
 
@@ -18,6 +17,7 @@ use oe_store::Tables;
 /// `RowExists`: the key of an insert is there. `Reference`: what the new row refers to is absent (clauses 1.3 and 1.4). `NoSuchRow`:
 /// the row to be deleted is absent. `NoMemory`: the tables accept the insert, but its key takes a new place, and its memory was
 /// refused. The tables are as before then.
+#[inline(always)]
 pub(crate) fn set(tables: &mut Tables, write: &Write) -> Result<(), Refusal>
     requires { IsSome (written write.now (rows tables.old)) }
     ensures made { OnOk result (IsMade write.now tables.old tables.new) }
@@ -58,27 +58,10 @@ pub(crate) fn set(tables: &mut Tables, write: &Write) -> Result<(), Refusal>
             tables.set_delivery(key, *stamp);
             Ok(())
         }
-        Write::InsertHistory(key, row) => make(tables, Change::InsertHistory(*key, row.copied())),
-        Write::InsertNewOrder(key) => make(tables, Change::InsertNewOrder(*key)),
-        Write::InsertOrder(key, row) => make(tables, Change::InsertOrder(*key, row.copied())),
-        Write::InsertOrderLine(key, row) => {
-            make(tables, Change::InsertOrderLine(*key, row.copied()))
-        }
-        Write::DeleteNewOrder(key) => make(tables, Change::DeleteNewOrder(*key)),
-    }
-}
-
-/// Makes a change of one row, of which no record is wanted.
-fn make(tables: &mut Tables, change: Change) -> Result<(), Refusal>
-    ensures applied { OnOk result
-        (Applies (change_of change) tables.old tables.new
-        (record_of (change_of change) (row_at (rows tables.old) (key_of (change_of change))))) }
-    ensures refused { IfErr result (λ e. Refuses (change_of change) tables.old e) }
-    ensures first { IfErr result (λ e. IsFirst (change_of change) (rows tables.old) e) }
-    ensures unchanged { OnErr result (tables.new ≡ tables.old) }
-{
-    match oe_change::apply(tables, change) {
-        Ok(_before) => Ok(()),
-        Err(refusal) => Err(refusal),
+        Write::InsertHistory(key, row) => insert_history(tables, key, row),
+        Write::InsertNewOrder(key) => insert_new_order(tables, key),
+        Write::InsertOrder(key, row) => insert_order(tables, key, row),
+        Write::InsertOrderLine(key, row) => insert_order_line(tables, key, row),
+        Write::DeleteNewOrder(key) => delete_new_order(tables, key),
     }
 }

@@ -50,6 +50,7 @@ pub fn write(
 /// Appends the record of a write to rows as they stand to an open segment.
 ///
 /// `NoSuchRow`: the row to be updated is absent. `UndoFull`: its record has no room. The log is as before then.
+#[inline(always)]
 fn push(
     tables: &Tables,
     undo: &mut Segments,
