@@ -25,10 +25,10 @@ fn write_ends<const CHUNK: usize>(bytes: &mut [u8], start: usize, run: &[u8]) ->
     requires room { start + length run.now ≤ length bytes.old }
     ensures { Writes bytes.old start run.now bytes.new result }
 {
-    let last = run.len() - CHUNK;
     let front: [u8; CHUNK] = chunk_at(run, 0);
-    let back: [u8; CHUNK] = chunk_at(run, last);
     let _middle = write_run(bytes, start, &front);
+    let last = run.len() - CHUNK;
+    let back: [u8; CHUNK] = chunk_at(run, last);
     write_run(bytes, start + last, &back)
 }
 
@@ -54,8 +54,8 @@ fn write_short_run(bytes: &mut [u8], start: usize, run: &[u8]) -> usize
     }
 }
 
-/// Writes a run of `LEAST` to `MOST` bytes from offset `start` on, and answers the offset behind it. Where `MOST` is at most 32, or
-/// there is only one length, no call is made.
+/// Writes a run of `LEAST` to `MOST` bytes from offset `start` on, and answers the offset behind it. Where `MOST` is at most 32, it
+/// is copied by moves.
 #[inline(always)]
 pub fn write_bounded_run<const LEAST: usize, const MOST: usize>(
     bytes: &mut [u8],
