@@ -32,6 +32,7 @@ pub struct Parts<'a> {
 }
 
 // A name alone.
+#[inline(always)]
 fn exclusive(name: Name) -> Option<Lock>
     ensures { ask_of result ≡ Take name (mode_of Mode.Exclusive) }
 {
@@ -59,6 +60,7 @@ fn lock_to_write(key: Key) -> Option<Lock>
 }
 
 // The same of the row that is written, without its key.
+#[inline(always)]
 pub(crate) fn lock_of_write(write: &Write) -> Option<Lock>
     ensures { ask_of result ≡ ask_of_write write.now }
 {
@@ -179,7 +181,8 @@ impl Engine {
             (Some (change_of change))) }
         ensures full { IfErr result (λ e. e ≡ Refusal.UndoFull
             → IsFullFor (view_of self.old) tx.now.terminal (change_of change)) }
-        ensures fits { OnOk result (IsFullFor (view_of self.old) tx.now.terminal (change_of change) → ⊥) }
+        ensures fits { OnOk result
+            (IsFullFor (view_of self.old) tx.now.terminal (change_of change) → ⊥) }
         ensures wants { (IsNew system ((view_of self.old).held tx.now.terminal)
             (ask_to_write (governs (key_of (change_of change)))) → ⊥) → IfErr result
             (λ e. e ≡ Refusal.NoMemory → WantsPlace (Some (change_of change)) self.old.tables) }

@@ -95,6 +95,7 @@ impl Mark {
 
 impl Tx {
     /// The terminal whose transaction this is.
+    #[inline(always)]
     pub fn terminal(&self) -> Terminal
         ensures { result ≡ self.now.terminal }
     {
@@ -223,6 +224,7 @@ impl Engine {
 
     /// The number of an open transaction: 1 plus the commits of its terminal.
     #[tactic(auto, unfolding(crate::specs::View::view_of, crate::specs::View::view_from))]
+    #[inline]
     pub fn number(&self, tx: &Tx) -> TransactionNumber
         requires { IsOpen self.now tx.now }
         ensures { result ≡ suc ((view_of self.now).counts tx.now.terminal) }
@@ -246,6 +248,7 @@ impl Engine {
     /// What holds of open work at all times: what a transaction has changed it alone may change, and all of it can be put back, in
     /// any order of transactions.
     #[tactic(auto, unfolding(crate::specs::View::view_of))]
+    #[inline(always)]
     pub fn is_safe(&self)
         ensures safe { IsSafe (view_of self.now) }
         ensures unwinds { (t : ℕ) → CanUnwind ((view_of self.now).undo.active t)
@@ -256,6 +259,7 @@ impl Engine {
 
     /// Whether a transaction is open in this engine.
     #[tactic(auto, unfolding(crate::specs::View::view_of, crate::specs::View::view_from))]
+    #[inline]
     pub fn is_open(&self, tx: &Tx) -> bool
         ensures { IsTrue result ↔ IsOpen self.now tx.now }
     {
@@ -266,6 +270,7 @@ impl Engine {
 impl Engine {
     // Takes a lock, or raises the mode in which its name is held, and answers the mode before. Tables and undo log stay as they
     // are.
+    #[inline(always)]
     pub(crate) fn take(&mut self, terminal: Terminal, lock: Lock) -> Result<Option<Mode>, Refusal>
         requires { (view_of self.old).is_open terminal ≡ true }
         ensures before { IfOk result
@@ -285,6 +290,7 @@ impl Engine {
     }
 
     // Puts a name back into a mode in which it was held, or lets go of it, where the transaction has changed nothing under it.
+    #[inline(never)]
     pub(crate) fn restore(&mut self, terminal: Terminal, name: Name, mode: Option<Mode>)
         requires open { (view_of self.old).is_open terminal ≡ true }
         requires below { (option_map mode_of mode ≡ (view_of self.old).held terminal name)

@@ -40,6 +40,7 @@ pub fn hold(engine: &mut Engine, tx: &Tx, lock: Lock) -> Result<(), Refusal>
 
 /// A stage that writes to a row in its place, and takes that row's name alone. After an error the engine stands for what it stood
 /// for before.
+#[inline(always)]
 pub fn put(engine: &mut Engine, tx: &Tx, write: &Write) -> Result<(), Refusal>
     requires own { IsOpen engine.old tx.now
         → IsOwn tx.now.terminal (suc ((view_of engine.old).counts tx.now.terminal))
@@ -68,6 +69,7 @@ pub fn add(engine: &mut Engine, tx: &Tx, change: Change) -> Result<(), Refusal>
 
 /// A stage that asks for no lock, and writes to a row in its place that its transaction alone may change: it holds the row's name
 /// alone, or the row is its own. After an error the engine stands for what it stood for before.
+#[inline(always)]
 pub fn put_held(engine: &mut Engine, tx: &Tx, write: &Write) -> Result<(), Refusal>
     requires held { IsOpen engine.old tx.now
         → Owns ((view_of engine.old).held tx.now.terminal) tx.now.terminal

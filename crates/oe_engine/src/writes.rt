@@ -22,6 +22,7 @@ use oe_values::Terminal;
 
 impl Engine {
     // Writes to a row, with its undo record. Memory is wanted for a place in the tables alone.
+    #[inline]
     fn put(&mut self, terminal: Terminal, write: &Write) -> Result<(), Refusal>
         requires open { (view_of self.old).is_open terminal ≡ true }
         requires covered { ForSome (change_written write.now (view_of self.old))
@@ -38,7 +39,8 @@ impl Engine {
         ensures absent { change_written write.now (view_of self.old) ≡ None
             → IfErr result (AbsentRefused (key_written write.now)) }
         ensures full { ForSome (change_written write.now (view_of self.old))
-            (λ c. IfErr result (λ e. e ≡ Refusal.UndoFull → IsFullFor (view_of self.old) terminal c)) }
+            (λ c. IfErr result
+            (λ e. e ≡ Refusal.UndoFull → IsFullFor (view_of self.old) terminal c)) }
         ensures fits { ForSome (change_written write.now (view_of self.old))
             (λ c. OnOk result (IsFullFor (view_of self.old) terminal c → ⊥)) }
         ensures wants { IfErr result (λ e. e ≡ Refusal.NoMemory
@@ -51,6 +53,7 @@ impl Engine {
 
     // Takes a lock and writes; where the write is refused, the name is held as it was. Where the name was held before, memory is
     // wanted for a place in the tables alone.
+    #[inline(always)]
     fn take_and_put(
         &mut self,
         terminal: Terminal,
@@ -80,7 +83,8 @@ impl Engine {
             (AbsentPairRefused (view_of self.old) terminal lock.now.name (mode_of lock.now.mode)
             (key_written write.now)) }
         ensures full { ForSome (change_written write.now (view_of self.old))
-            (λ c. IfErr result (λ e. e ≡ Refusal.UndoFull → IsFullFor (view_of self.old) terminal c)) }
+            (λ c. IfErr result
+            (λ e. e ≡ Refusal.UndoFull → IsFullFor (view_of self.old) terminal c)) }
         ensures fits { ForSome (change_written write.now (view_of self.old))
             (λ c. OnOk result (IsFullFor (view_of self.old) terminal c → ⊥)) }
         ensures wants { (IsNew system ((view_of self.old).held terminal)
@@ -132,7 +136,8 @@ impl Engine {
         ensures absent { change_written write.now (view_of self.old) ≡ None
             → IfErr result (AbsentRowRefused self.old tx.now (key_written write.now)) }
         ensures full { ForSome (change_written write.now (view_of self.old))
-            (λ c. IfErr result (λ e. e ≡ Refusal.UndoFull → IsFullFor (view_of self.old) tx.now.terminal c)) }
+            (λ c. IfErr result
+            (λ e. e ≡ Refusal.UndoFull → IsFullFor (view_of self.old) tx.now.terminal c)) }
         ensures fits { ForSome (change_written write.now (view_of self.old))
             (λ c. OnOk result (IsFullFor (view_of self.old) tx.now.terminal c → ⊥)) }
         ensures wants { (IsNew system ((view_of self.old).held tx.now.terminal)
