@@ -1,0 +1,3 @@
+pub mod WalkFacts
+pub mod ChainFacts
+pub mod CallFacts

@@ -1,0 +1,5 @@
+-- What the clauses of this crate cite.
+pub mod Held
+pub mod Chains
+pub mod Oldest
+pub mod Laws
