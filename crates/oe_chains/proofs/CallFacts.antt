@@ -16,14 +16,15 @@ use Rattle.oe_layout.specs.declared.links.RecordAddress.{RecordAddress}
 use Rattle.oe_layout.specs.declared.links.Previous.{Previous}
 use Rattle.oe_log.specs.Log.{Logged}
 use Rattle.oe_segments.specs.Segments.{SegmentLog, TerminalState, Open as OpenSegment, Committed as CommitSegment, idle, idle_terminals, state_at, records_in, active_at, records_at, count_at, total_count, no_segments, opened, pushed, popped, sealed, dropped, with_newest, reopened}
+use Rattle.oe_segments.specs.Stands.{model_records}
 use Rattle.oe_chains.specs.declared.links.Link.{Link}
 use Rattle.oe_chains.specs.declared.links.Holder.{Holder}
 use Rattle.oe_chains.specs.declared.links.Holder.TheVariants.{Open, At}
 use Rattle.oe_chains.specs.Held.{Held, held_by, held_open, held_commits, held, of_key, horizon}
-use Rattle.oe_chains.specs.Chains.{link_from, IsForgotten, IsEnd, IsChain, AreChained, linked, holder_sealed, holder_reopened, with_holder}
+use Rattle.oe_chains.specs.Chains.{link_from, IsForgotten, IsEnd, IsChain, AreChained, linked, holder_sealed, holder_reopened, with_holder, marked}
 use Rattle.oe_chains.specs.Laws.{IsWhole}
 use Rattle.oe_model.proofs.RowFacts.{key_true, key_refl}
-use Rattle.oe_chains.proofs.ChainFacts.{chain_open, chain-open, chain-same, own, commits-append, commits-up, nobody, no_record}
+use Rattle.oe_chains.proofs.ChainFacts.{at_moment, chain_open, chain-open, chain-same, own, commits-append, commits-up, nobody, no_record}
 use Rattle.oe_chains.proofs.ChainFacts as chain
 
 -- ---- terminals' states
@@ -214,6 +215,43 @@ seals u links t o q y whole is c = λ k.
   where
     one_less : (n : ℕ) → n ≡ suc n - 1
     one_less n = omega arith
+
+-- links that are given a moment one after another
+twice : (m : ℕ) (xs : List Held) (l : Option Link) → at_moment m xs (with_holder (λ h. At m) l) ≡ with_holder (λ h. At m) l
+twice m [] None = refl
+twice m [] (Some x) = refl
+twice m (x ∷ xs) None = refl
+twice m (x ∷ xs) (Some y) = refl
+
+key_same : (a b : Key) → is_key a b ≡ is_key b a
+key_same a b = go (is_key a b) (is_key b a) refl refl
+  where
+    go : (x y : Bool) → is_key a b ≡ x → is_key b a ≡ y → is_key a b ≡ is_key b a
+    go true y p q = let same : is_key b a ≡ true = subst (λ z. is_key b z ≡ true) (sym (key_true a b p)) (key_refl b) in p ∙ sym same
+    go false true p q = let same : is_key a b ≡ true = subst (λ z. is_key a z ≡ true) (sym (key_true b a q)) (key_refl a) in same ∙ sym q
+    go false false p q = p ∙ sym q
+
+marked_at : (m t : ℕ) (k : Key) (rs : List Logged) (links : Key → Option Link) → marked m (model_records rs) links k ≡ at_moment m (own k (Open t) rs) (links k)
+marked_at m t k [] links = refl
+marked_at m t k (r ∷ rs) links =
+    let j : Key = record_key r.before in
+    marked_at m t k rs (linked links j (with_holder (λ h. At m) (links j)))
+    ∙ ap (λ c. at_moment m (own k (Open t) rs) (cond c (with_holder (λ h. At m) (links j)) (links k))) (key_same j k)
+    ∙ go (is_key k j) refl
+  where
+    go : (c : Bool) → is_key k (record_key r.before) ≡ c
+        → at_moment m (own k (Open t) rs) (cond c (with_holder (λ h. At m) (links (record_key r.before))) (links k))
+        ≡ at_moment m (cond c (record { logged = r; holder = Open t } ∷ own k (Open t) rs) (own k (Open t) rs)) (links k)
+    go true e =
+        ap (λ z. at_moment m (own k (Open t) rs) (with_holder (λ h. At m) (links z))) (sym (key_true k (record_key r.before) e)) ∙ twice m (own k (Open t) rs) (links k)
+    go false e = refl
+
+pub marks : (u : SegmentLog) (links : Key → Option Link) (t : ℕ) (o : OpenSegment) (m : ℕ) (k : Key) → IsWhole u → active_at u t ≡ Some o
+    → AreChained u links → marked m (model_records (records_at u t)) links k ≡ with_holder (holder_sealed t m) (links k)
+marks u links t o m k whole is c =
+    marked_at m t k (records_at u t) links
+    ∙ chain.sealed_links k (horizon u) (total_count u) (records_at u) t m (commits k (total_count u) u.committed) (links k)
+    (commits-up k (total_count u) (total_count u) u.committed (omega arith)) terminal_limit (below_limit u t whole (known u t o is)) (opened_up k u (links k) (c k))
 
 counted : (u : SegmentLog) (t : ℕ) → 1 ≤ count_at u t → t < length u.terminals
 counted u t some =

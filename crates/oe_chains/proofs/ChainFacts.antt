@@ -61,6 +61,11 @@ end_weaker : (h g : ℕ) (l : Option Link) → h ≤ g → IsEnd h l → IsEnd g
 end_weaker h g None le e = e
 end_weaker h g (Some l) le e = weaker h g l.holder le e
 
+-- the link of a key that has records, and of one that has none
+abbrev pub at_moment : ℕ → List Held → Option Link → Option Link
+at_moment m [] l = l
+at_moment m (x ∷ xs) l = with_holder (λ h. At m) l
+
 lower : (t m : ℕ) → t < suc m → t ≢ m → t < m
 lower t m lt ne = elim (cases_lt t m) [ inl q ↦ q | inr q ↦ absurd (ne (omega (arith, q, lt))) ]
 
@@ -241,9 +246,10 @@ module _ (k : Key) where
             let first : own (Open m) (g m) ≡ record { logged = r; holder = Open m } ∷ own (Open m) (f m) = ap (own (Open m)) these ∙ cond-true (is_key k (record_key r.before)) _ _ key in
             let after : chain_open f m rest ≡ chain_open g m rest = chain-same f g m rest (λ s q. ap (own (Open s)) (sym (others s (λ z. omega (arith, q, z, e))))) in
             subst (λ z. IsChain h (Some (record { address = r.address; holder = Open z })) (chain_open g (suc m) rest)) e
-            (subst (λ zs. IsChain h (Some (record { address = r.address; holder = Open m })) (zs ++ chain_open g m rest)) (sym first)
-            (record { leads = refl; earlier = own_earlier r.previous },
-            subst (λ zs. IsChain h (link_from (Open m) r.previous) (own (Open m) (f m) ++ zs)) after (subst (λ z. IsChain h (link_from (Open z) r.previous) (chain_open f (suc m) rest)) (sym e) c)))
+            (subst (λ zs. IsChain h (Some (record { address = r.address; holder = Open m })) (zs ++ chain_open g m rest)) (sym first) (
+              record { leads = refl; earlier = own_earlier r.previous },
+              subst (λ zs. IsChain h (link_from (Open m) r.previous) (own (Open m) (f m) ++ zs)) after (subst (λ z. IsChain h (link_from (Open z) r.previous) (chain_open f (suc m) rest)) (sym e) c),
+            ))
         | inr ne ↦
             let none : own (Open m) (f m) ≡ [] = own_empty h m (f m) (chain_open f m rest) (link_from (Open t) r.previous) (elsewhere r.previous ne) c in
             let none_now : own (Open m) (g m) ≡ [] = ap (own (Open m)) (others m ne) ∙ none in
@@ -346,10 +352,33 @@ module _ (k : Key) where
           → IsChain h (with_holder (holder_sealed t (suc n)) l) (cond b (record { logged = r; holder = At (suc n) } ∷ own (At (suc n)) rs) (own (At (suc n)) rs) ++ ys)
       go true c i =
           let leads = ap (with_holder (holder_sealed t (suc n))) c.0.leads
-              ∙ ap (λ (h : Holder). Some (record { address = r.address; holder = h })) (cond-true (t == t) (At (suc n)) (Open t) (eq-eqb t t refl)) in
-          (record { leads = leads; earlier = earlier r.previous c.1 },
-          subst (λ x. IsChain h x (own (At (suc n)) rs ++ ys)) (from_sealed t (suc n) r.previous) (i (link_from (Open t) r.previous) c.1))
+          ∙ ap (λ (h : Holder). Some (record { address = r.address; holder = h })) (cond-true (t == t) (At (suc n)) (Open t) (eq-eqb t t refl)) in (
+            record { leads = leads; earlier = earlier r.previous c.1 },
+            subst (λ x. IsChain h x (own (At (suc n)) rs ++ ys)) (from_sealed t (suc n) r.previous) (i (link_from (Open t) r.previous) c.1),
+          )
       go false c i = i l c
+
+  -- where a terminal has records of the key, the link leads to one of its
+  leads_own : (h : ℕ) (f : ℕ → List Logged) (t : ℕ) (ys : List Held) (x : Held) (xs : List Held) → own (Open t) (f t) ≡ x ∷ xs
+      → (n : ℕ) → t < n → (l : Option Link) → IsChain h l (chain_open f n ys) → number l ≡ suc t
+  leads_own h f t ys x xs e n lt l c =
+      first_number h t (f t) ys l x xs e (subst (IsChain h l) (only f t n ys lt (alone h f t ys x xs e n lt l c)) c)
+
+  sealed_moment : (t m : ℕ) (l : Option Link) → number l ≡ suc t → with_holder (λ h. At m) l ≡ with_holder (holder_sealed t m) l
+  sealed_moment t m None e = refl
+  sealed_moment t m (Some x) e = ap (λ (h : Holder). Some (record { address = x.address; holder = h })) (go x.holder e)
+    where
+      go : (h : Holder) → open_number h ≡ suc t → At m ≡ holder_sealed t m h
+      go (Open s) q = sym (cond-true (s == t) (At m) (Open s) (eq-eqb s t (omega (arith, q))))
+      go (At n) q = absurd (omega (arith, q))
+
+  pub sealed_links : (h b : ℕ) (f : ℕ → List Logged) (t m : ℕ) (ys : List Held) (l : Option Link) → AreUpTo b ys → (n : ℕ) → t < n → IsChain h l (chain_open f n ys)
+      → at_moment m (own (Open t) (f t)) l ≡ with_holder (holder_sealed t m) l
+  sealed_links h b f t m ys l up n lt c = go (own (Open t) (f t)) refl
+    where
+      go : (xs : List Held) → own (Open t) (f t) ≡ xs → at_moment m xs l ≡ with_holder (holder_sealed t m) l
+      go [] e = sym (unsealed t m l (leads_elsewhere h b f t ys up e n l c))
+      go (x ∷ xs) e = sealed_moment t m l (leads_own h f t ys x xs e n lt l c)
 
   pub sealed : (h m : ℕ) (f g : ℕ → List Logged) (t : ℕ) (ys : List Held) (l : Option Link) → h ≤ m → AreUpTo m ys
       → g t ≡ [] → ((s : ℕ) → s ≢ t → g s ≡ f s) → (n : ℕ) → t < n → IsChain h l (chain_open f n ys)
@@ -409,9 +438,10 @@ module _ (k : Key) where
           → IsChain h (with_holder (holder_reopened t m) l) (cond b (record { logged = r; holder = Open t } ∷ own (Open t) rs) (own (Open t) rs) ++ ys)
       go true c i =
           let leads = ap (with_holder (holder_reopened t m)) c.0.leads
-              ∙ ap (λ (h : Holder). Some (record { address = r.address; holder = h })) (cond-true (m == m) (Open t) (At m) (eq-eqb m m refl)) in
-          (record { leads = leads; earlier = own_earlier r.previous },
-          subst (λ x. IsChain h x (own (Open t) rs ++ ys)) (from_reopened t m r.previous c.0.earlier) (i (link_from (At m) r.previous) c.1))
+          ∙ ap (λ (h : Holder). Some (record { address = r.address; holder = h })) (cond-true (m == m) (Open t) (At m) (eq-eqb m m refl)) in (
+            record { leads = leads; earlier = own_earlier r.previous },
+            subst (λ x. IsChain h x (own (Open t) rs ++ ys)) (from_reopened t m r.previous c.0.earlier) (i (link_from (At m) r.previous) c.1),
+          )
       go false c i = i l c
 
   pub reopened : (h b m : ℕ) (f g : ℕ → List Logged) (t : ℕ) (ys : List Held) (l : Option Link) → h < m → b < m → AreUpTo b ys

@@ -2,7 +2,7 @@
 use Rattle.std.specs.Prelude.{◌≡◌, ℕ, suc, ◌≤◌, ◌<◌, ◌==◌, cond, List, [], ◌∷◌, Option, None, Some, ⊤}
 use Rattle.oe_keys.specs.declared.keys.Key.{Key}
 use Rattle.oe_model.specs.Rows.{is_key}
-use Rattle.oe_model.specs.Changes.{Record}
+use Rattle.oe_model.specs.Changes.{Record, record_key}
 use Rattle.oe_layout.specs.declared.links.Previous.{Previous}
 use Rattle.oe_layout.specs.declared.links.Previous.TheVariants.{Nothing, Own, Committed}
 use Rattle.oe_segments.specs.Segments.{SegmentLog}
@@ -80,3 +80,9 @@ holder_reopened t m (At n) = cond (n == m) (Open t) (At n)
 abbrev pub with_holder : (Holder → Holder) → Option Link → Option Link
 with_holder f None = None
 with_holder f (Some l) = Some (record { address = l.address; holder = f l.holder })
+
+-- the links of these records' keys, one after another, given the moment of their commit
+abbrev pub marked : ℕ → List Record → (Key → Option Link) → Key → Option Link
+marked m [] links = links
+marked m (b ∷ bs) links =
+    marked m bs (linked links (record_key b) (with_holder (λ h. At m) (links (record_key b))))
