@@ -1,27 +1,25 @@
 -- Each call of a log keeps the chains.
-use Rattle.std.proofs.Common.{◌≡◌, ℕ, zero, suc, ◌+◌, ◌-◌, ◌<◌, ◌≤◌, ◌==◌, Bool, true, false, cond, List, [], ◌∷◌, ◌++◌, length, take, drop, get_or, set, replicate, Option, None, Some, refl, sym, ap, ◌∙◌, subst, inl, inr, arith}
+use Rattle.std.proofs.Common.{◌≡◌, ℕ, suc, ◌-◌, ◌<◌, ◌≤◌, Bool, true, false, cond, List, [], ◌∷◌, ◌++◌, length, take, drop, get_or, set, replicate, Option, None, Some, refl, sym, ap, ◌∙◌, subst, inl, inr, arith}
 use Rattle.std.specs.Prelude.{◌≢◌, ◌↔◌, option_map}
 use Rattle.std.specs.List.{sum_by}
-use Rattle.std.proofs.lemmas.Bool.{cases_eq, cases_lt, cond-true, cond-false}
+use Rattle.std.proofs.lemmas.Bool.{cases_eq, cases_lt, cond-false}
 use Rattle.std.proofs.lemmas.List.{get_or-set_same, get_or-set_other, get_or_past, get_or-replicate, length-replicate, set_past, take_all, length-take-le}
 use Rattle.std.proofs.lemmas.List.Sums.{sum_by-set}
 use Rattle.oe_keys.specs.declared.keys.Key.{Key}
 use Rattle.oe_model.specs.Rows.{is_key}
-use Rattle.oe_model.specs.Changes.{Record, record_key}
+use Rattle.oe_model.specs.Changes.{record_key}
 use Rattle.oe_model.specs.System.{terminal_limit, system}
 use Rattle.oe_theory.specs.Store.{all_below}
 use Rattle.oe_requests.specs.declared.requests.Request.{Request}
 use Rattle.oe_requests.specs.declared.replies.Reply.{Reply}
-use Rattle.oe_layout.specs.declared.links.RecordAddress.{RecordAddress}
-use Rattle.oe_layout.specs.declared.links.Previous.{Previous}
 use Rattle.oe_log.specs.Log.{Logged}
-use Rattle.oe_segments.specs.Segments.{SegmentLog, TerminalState, Open as OpenSegment, Committed as CommitSegment, idle, idle_terminals, state_at, records_in, active_at, records_at, count_at, total_count, no_segments, opened, pushed, popped, sealed, dropped, with_newest, reopened}
+use Rattle.oe_segments.specs.Segments.{SegmentLog, TerminalState, Open as OpenSegment, Committed as CommitSegment, idle, idle_terminals, records_in, active_at, records_at, count_at, total_count, no_segments, opened, pushed, popped, sealed, dropped, with_newest, reopened}
 use Rattle.oe_segments.specs.Stands.{model_records}
 use Rattle.oe_chains.specs.declared.links.Link.{Link}
 use Rattle.oe_chains.specs.declared.links.Holder.{Holder}
 use Rattle.oe_chains.specs.declared.links.Holder.TheVariants.{Open, At}
-use Rattle.oe_chains.specs.Held.{Held, held_by, held_open, held_commits, held, of_key, horizon}
-use Rattle.oe_chains.specs.Chains.{link_from, IsForgotten, IsEnd, IsChain, AreChained, linked, holder_sealed, holder_reopened, with_holder, marked}
+use Rattle.oe_chains.specs.Held.{Held, held_open, held_commits, held, of_key, horizon}
+use Rattle.oe_chains.specs.Chains.{link_from, IsEnd, IsChain, AreChained, linked, holder_sealed, holder_reopened, with_holder, marked}
 use Rattle.oe_chains.specs.Laws.{IsWhole}
 use Rattle.oe_model.proofs.RowFacts.{key_true, key_refl}
 use Rattle.oe_chains.proofs.ChainFacts.{at_moment, chain_open, chain-open, chain-same, own, commits-append, commits-up, nobody, no_record}

@@ -5,7 +5,7 @@ use Rattle.std.specs.List.{AllByRecursion}
 use Rattle.std.proofs.lemmas.Bool.{cases_eq, cases_lt, eq-eqb, ne_eqb, cond-true, cond-false}
 use Rattle.oe_keys.specs.declared.keys.Key.{Key}
 use Rattle.oe_model.specs.Rows.{is_key}
-use Rattle.oe_model.specs.Changes.{Record, record_key}
+use Rattle.oe_model.specs.Changes.{record_key}
 use Rattle.oe_model.specs.System.{system}
 use Rattle.oe_theory.specs.Store.{all_below}
 use Rattle.oe_layout.specs.declared.links.RecordAddress.{RecordAddress}
@@ -17,7 +17,7 @@ use Rattle.oe_chains.specs.declared.links.Link.{Link}
 use Rattle.oe_chains.specs.declared.links.Holder.{Holder}
 use Rattle.oe_chains.specs.declared.links.Holder.TheVariants.{Open, At}
 use Rattle.oe_chains.specs.Held.{Held, held_by, held_open, held_commits, of_key}
-use Rattle.oe_chains.specs.Chains.{link_to, link_from, IsForgotten, IsEnd, IsEarlier, IsMet, IsChain, holder_sealed, holder_reopened, with_holder}
+use Rattle.oe_chains.specs.Chains.{link_from, IsForgotten, IsEnd, IsEarlier, IsChain, holder_sealed, holder_reopened, with_holder}
 use Rattle.oe_chains.proofs.WalkFacts.{of_key-append}
 
 assoc : (xs ys zs : List Held) → (xs ++ ys) ++ zs ≡ xs ++ (ys ++ zs)

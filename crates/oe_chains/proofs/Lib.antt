@@ -1,3 +1,4 @@
 pub mod WalkFacts
 pub mod ChainFacts
 pub mod CallFacts
+pub mod LinkFacts

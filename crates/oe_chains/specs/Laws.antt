@@ -1,5 +1,5 @@
 -- What each call of a log makes of the chains, and what a walk along a chain finds.
-use Rattle.std.specs.Prelude.{◌≡◌, ◌<◌, ◌≤◌, ◌+◌, ◌↔◌, ℕ, suc, List, [], ◌∷◌, length, Option, None, Some}
+use Rattle.std.specs.Prelude.{◌≡◌, ◌≤◌, ◌+◌, ◌↔◌, ℕ, suc, List, [], ◌∷◌, length, Option, None, Some}
 use Rattle.oe_keys.specs.declared.keys.Key.{Key}
 use Rattle.oe_model.specs.Changes.{record_key}
 use Rattle.oe_model.specs.System.{terminal_limit}
@@ -9,7 +9,6 @@ use Rattle.oe_log.specs.Log.{Logged}
 use Rattle.oe_segments.specs.Segments.{SegmentLog, Open as OpenSegment, Committed as CommitSegment, count_at, active_at, records_at, total_count, no_segments, opened, pushed, popped, sealed, dropped, with_newest, reopened}
 use Rattle.oe_segments.specs.Stands.{model_records}
 use Rattle.oe_chains.specs.declared.links.Link.{Link}
-use Rattle.oe_chains.specs.declared.links.Holder.{Holder}
 use Rattle.oe_chains.specs.declared.links.Holder.TheVariants.{Open}
 use Rattle.oe_chains.specs.Oldest.{oldest_after}
 use Rattle.oe_chains.specs.Held.{held, of_key, horizon, count_later}

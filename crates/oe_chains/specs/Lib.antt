@@ -3,3 +3,4 @@ pub mod Held
 pub mod Chains
 pub mod Oldest
 pub mod Laws
+pub mod Walks
