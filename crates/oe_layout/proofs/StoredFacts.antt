@@ -15,7 +15,7 @@ use Rattle.oe_image.proofs.FrontFacts.{some_is}
 use Rattle.oe_model.specs.Changes as model
 use Rattle.oe_model.specs.Changes.{Record, record_key, row_before}
 use Rattle.oe_model.specs.Lengths.{record_length}
-use Rattle.oe_layout.specs.Links.{previous_image, IsPrevious, link_numbers}
+use Rattle.oe_layout.specs.Links.{previous_image, previous_at, IsPrevious, link_numbers}
 use Rattle.oe_layout.specs.Kinds.{kind_image, kind_of, kind_at}
 use Rattle.oe_layout.specs.Records.{followed, contents, record_image, IsInRanges, record_of_own}
 use Rattle.oe_layout.specs.RecordFronts.{ReadsRecord}
@@ -23,7 +23,7 @@ use Rattle.oe_layout.specs.Stored.{IsStoredRecord, told_of, told, table_changed,
 use Rattle.oe_layout.specs.declared.links.Previous.{Previous}
 use Rattle.oe_layout.specs.declared.records.OwnRecord.{OwnRecord}
 use Rattle.oe_layout.proofs.LengthFacts.{joined_long, number_long, kind_long, link_long}
-use Rattle.oe_layout.proofs.LinkFacts.{kind_law}
+use Rattle.oe_layout.proofs.LinkFacts.{kind_law, previous_law}
 use Rattle.oe_layout.proofs.RecordFacts.{record_finds}
 
 -- ---- which record it is
@@ -78,6 +78,20 @@ kind_there bytes h =
     take_rest bytes 2 ∙ ap (drop 2) (s.1 ∙ parts s.0 b)
     ∙ drop_at (length_image b) (kind_image (kind_of b) ++ rest) 2 (number_long 2 (record_length b)).is in
     (rest, ap kind_at here ∙ kind_law.again (kind_of b) rest tt)
+
+-- the link stands behind the kind
+pub link_there : (bytes : List ℕ) (p : Previous) (b : Record) → IsPrevious p → bytes ≡ record_image p b
+    → (rest : List ℕ) × (previous_at (take (length bytes - 4) (drop 4 bytes)) ≡ Some (p, rest))
+link_there bytes p b hp e =
+    let k = kind_image (kind_of b) in
+    let rest = contents b ++ length_image b in
+    let here : record_image p b ≡ (length_image b ++ k) ++ (previous_image p ++ rest) =
+    parts p b ∙ ap (λ (l : List ℕ). length_image b ++ (k ++ l)) (append_assoc (previous_image p) (contents b) (length_image b))
+    ∙ sym (append_assoc (length_image b) k (previous_image p ++ rest)) in
+    let behind : take (length bytes - 4) (drop 4 bytes) ≡ previous_image p ++ rest =
+    take_rest bytes 4 ∙ ap (drop 4) (e ∙ here)
+    ∙ drop_at (length_image b ++ k) (previous_image p ++ rest) 4 (joined_long (number_long 2 (record_length b)) (kind_long (kind_of b))).is in
+    (rest, ap previous_at behind ∙ previous_law.again p rest hp)
 
 -- the key stands behind the link
 pub contents_there : (bytes : List ℕ) → IsStoredRecord bytes

@@ -37,6 +37,12 @@ IsTold bytes record_told =
     (p : Previous) (b : OwnRecord) → IsPrevious p → IsInRanges (record_of_own b)
     → bytes ≡ record_image p (record_of_own b) → record_told ≡ record_of_own b
 
+-- they are the link and the record that the bytes are the image of
+abbrev pub IsToldLinked : List ℕ → Previous × model.Record → Type 0
+IsToldLinked bytes told_linked =
+    (p : Previous) (b : OwnRecord) → IsPrevious p → IsInRanges (record_of_own b)
+    → bytes ≡ record_image p (record_of_own b) → told_linked ≡ (p, record_of_own b)
+
 -- the table whose row was changed
 abbrev pub table_changed : RecordKind → Table
 table_changed kind.InsertedHistory = table.History

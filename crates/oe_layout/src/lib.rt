@@ -17,4 +17,4 @@ pub use links::{Previous, RecordAddress};
 pub use loans::{LentRecord, LinkedRecord};
 pub use reading::read_record;
 pub use records::OwnRecord;
-pub use stored::StoredRecord;
+pub use stored::{StoredRecord, linked_record};

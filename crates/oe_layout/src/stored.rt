@@ -6,9 +6,10 @@ ghost use Rattle.oe_model.specs.Changes.{record_key};
 ghost use Rattle.oe_model.specs.Lengths.{record_length};
 ghost use Rattle.oe_layout.specs.Kinds.{kind_of};
 ghost use Rattle.oe_layout.specs.Records.{contents, record_of_own};
-ghost use Rattle.oe_layout.specs.Stored.{IsStoredRecord, told, IsTold, table_changed, deleted_key, deleted_new_order};
+ghost use Rattle.oe_layout.specs.Stored.{IsStoredRecord, told, IsTold, IsToldLinked, table_changed, deleted_key, deleted_new_order};
 
 use crate::kinds::{RecordKind, read_kind};
+use crate::links::{Previous, read_previous};
 use crate::reading::read_record;
 use crate::records::OwnRecord;
 use oe_image::keys::read_key;
@@ -63,6 +64,18 @@ fn deleted_key(kind: RecordKind, key: Key) -> Option<NewOrderKey>
         },
         _ => None,
     }
+}
+
+/// The record that these bytes are, where it lies, with what leads to the previous one of its row. Neither key nor row is read, and
+/// no memory is taken.
+pub fn linked_record(bytes: &[u8]) -> (Previous, StoredRecord<'_>)
+    requires { IsStoredRecord bytes.now }
+    ensures { IsToldLinked bytes.now (result.0, result.1) }
+{
+    let Some((previous, _contents)) = read_previous(&bytes[4..]) else {
+        unreachable!()
+    };
+    (previous, StoredRecord::of(bytes))
 }
 
 impl<'a> StoredRecord<'a> {

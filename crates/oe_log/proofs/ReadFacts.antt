@@ -10,7 +10,7 @@ use Rattle.oe_layout.specs.Records.{record_of_own}
 use Rattle.oe_layout.specs.RecordFronts.{ReadsRecord}
 use Rattle.oe_log.specs.Log.{Logged, logged, IsAmong, HasAddress}
 use Rattle.oe_log.specs.Kept.{records_in, AreRecords}
-use Rattle.oe_layout.specs.Stored.{IsStoredRecord}
+use Rattle.oe_layout.specs.Stored.{IsStoredRecord, IsToldLinked}
 use Rattle.oe_log.proofs.RecordFacts.{seen, at_slot, are_at, ring_address, record_of}
 
 -- the string that a record is
@@ -80,3 +80,18 @@ pub some_read : (a : RecordAddress) (xs : List (List (ring.Addressed))) (i : ℕ
 some_read a xs i bytes r h has there reads =
     let s = string_at a has.previous has.before xs i h has.there in
     ((s.is.previous, s.is.before), read_there a has.previous has.before (get_or xs i []) bytes r s there reads)
+
+-- ---- where it lies
+
+pub is_stored : (a : RecordAddress) (xs : List (List (ring.Addressed))) (i : ℕ) (bytes : List ℕ) → AllByRecursion AreRecords xs
+    → HasAddress (get_or (map records_in xs) i []) a → ring.IsStringAt (get_or xs i []) (ring_address a) bytes → IsStoredRecord bytes
+is_stored a xs i bytes h has there =
+    let s = string_at a has.previous has.before xs i h has.there in
+    subst IsStoredRecord (sym (there s.bytes s.stands)) s.is
+
+pub linked_there : (a : RecordAddress) (p : Previous) (b : Record) (xs : List (List (ring.Addressed))) (i : ℕ) (bytes : List ℕ) (x : Previous × Record)
+    → AllByRecursion AreRecords xs → IsAmong (logged a p b) (get_or (map records_in xs) i []) → ring.IsStringAt (get_or xs i []) (ring_address a) bytes
+    → IsToldLinked bytes x → x ≡ (p, b)
+linked_there a p b xs i bytes x h k there told =
+    let s = string_at a p b xs i h k in
+    told s.is.previous s.is.before s.is.link s.is.ranges (there s.bytes s.stands ∙ s.is.image) ∙ (λ j. (s.previous j, s.before j))

@@ -5,7 +5,7 @@ ghost use Rattle.oe_log.specs.Log.{records_at, HasAddress, IsRecordAt};
 
 use crate::log::Log;
 use oe_extent::Address;
-use oe_layout::{OwnRecord, Previous, RecordAddress, read_record};
+use oe_layout::{OwnRecord, Previous, RecordAddress, StoredRecord, linked_record, read_record};
 use oe_values::numbers::Terminal;
 
 /// A record's address as one of the ring.
@@ -42,5 +42,35 @@ impl Log {
         let place = ring_address(address);
         let image = self.ring.committed_at(commit, place);
         read_record(image).unwrap()
+    }
+
+    /// The record at that address of a terminal's segment, where it lies, with what leads to the previous one of its row. No row is
+    /// read, and no memory is taken.
+    pub fn linked_at(
+        &self,
+        terminal: Terminal,
+        address: RecordAddress,
+    ) -> (Previous, StoredRecord<'_>)
+        requires { HasAddress (records_at self.now terminal) address }
+        ensures { IsRecordAt (records_at self.now terminal) address (result.0, result.1) }
+    {
+        let slot = terminal.get() as usize;
+        let place = ring_address(address);
+        linked_record(self.ring.at(slot, place))
+    }
+
+    /// The record at that address of a commit's segment, where it lies, with what leads to the previous one of its row. The newest
+    /// commit has number 0, and each older one the next number. No row is read, and no memory is taken.
+    pub fn committed_linked_at(
+        &self,
+        commit: usize,
+        address: RecordAddress,
+    ) -> (Previous, StoredRecord<'_>)
+        requires commit { commit < length self.now.committed }
+        requires some { HasAddress (get_or self.now.committed commit []) address }
+        ensures { IsRecordAt (get_or self.now.committed commit []) address (result.0, result.1) }
+    {
+        let place = ring_address(address);
+        linked_record(self.ring.committed_at(commit, place))
     }
 }

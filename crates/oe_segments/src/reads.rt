@@ -9,7 +9,7 @@ ghost use Rattle.oe_segments.specs.Stands.{model_records};
 
 use crate::heads::SegmentOwner;
 use crate::segments::Segments;
-use oe_layout::{OwnRecord, Previous, RecordAddress};
+use oe_layout::{OwnRecord, Previous, RecordAddress, StoredRecord};
 use oe_log::Records;
 use oe_values::numbers::{TERMINALS, Terminal, TransactionNumber};
 
@@ -100,6 +100,34 @@ impl Segments {
             (result.0, record_of_own result.1) }
     {
         self.log.committed_record(later, address)
+    }
+
+    /// The record at that address of a terminal's open segment, where it lies, with what leads to the previous one of its row. No row
+    /// is read, and no memory is taken.
+    pub fn linked_at(
+        &self,
+        terminal: Terminal,
+        address: RecordAddress,
+    ) -> (Previous, StoredRecord<'_>)
+        requires { HasAddress (records_at self.now terminal) address }
+        ensures { IsRecordAt (records_at self.now terminal) address (result.0, result.1) }
+    {
+        self.log.linked_at(terminal, address)
+    }
+
+    /// The record at that address of a commit's segment, where it lies, with what leads to the previous one of its row. The commit is
+    /// given by the number of later ones. No row is read, and no memory is taken.
+    pub fn committed_linked_at(
+        &self,
+        later: usize,
+        address: RecordAddress,
+    ) -> (Previous, StoredRecord<'_>)
+        requires commit { later < length self.now.committed }
+        requires some { HasAddress (get_or (committed_records self.now) later []) address }
+        ensures { IsRecordAt (get_or (committed_records self.now) later []) address
+            (result.0, result.1) }
+    {
+        self.log.committed_linked_at(later, address)
     }
 
     /// The records of a terminal's open segment, the newest first, where they lie; none where it has none open. It takes no memory.
