@@ -17,7 +17,7 @@ use Rattle.oe_chains.specs.declared.links.Link.{Link}
 use Rattle.oe_chains.specs.declared.links.Holder.{Holder}
 use Rattle.oe_chains.specs.declared.links.Holder.TheVariants.{Open, At}
 use Rattle.oe_chains.specs.Held.{Held, held_by, held_open, held_commits, of_key}
-use Rattle.oe_chains.specs.Chains.{link_from, IsForgotten, IsEnd, IsEarlier, IsChain, holder_sealed, holder_reopened, with_holder}
+use Rattle.oe_chains.specs.Chains.{link_from, IsForgotten, IsEnd, IsEarlier, IsChain, holder_sealed, holder_reopened, with_holder, previous_by, previous_of, IsOwnOrDone, IsSeenBy}
 use Rattle.oe_chains.proofs.WalkFacts.{of_key-append}
 
 assoc : (xs ys zs : List Held) → (xs ++ ys) ++ zs ≡ xs ++ (ys ++ zs)
@@ -528,3 +528,13 @@ module _ (k : Key) where
       go : (xs : List Held) → AreKept h xs → IsChain h l xs → xs ≡ []
       go [] kept c = refl
       go (x ∷ xs) kept c = absurd (kept.0 (subst (IsEnd h) c.0.leads end))
+
+-- ---- the link of a key as the previous one of a record
+
+pub seen_again : (t : ℕ) (l : Option Link) → IsSeenBy t l → link_from (Open t) (previous_of l) ≡ l
+seen_again t None s = refl
+seen_again t (Some l) s = go l.holder s
+  where
+    go : (h : Holder) → IsOwnOrDone t h → link_from (Open t) (previous_by h l.address) ≡ Some (record { address = l.address; holder = h })
+    go (Open q) e = ap (λ z. Some (record { address = l.address; holder = Open z })) (sym e)
+    go (At m) e = refl

@@ -3,6 +3,7 @@ use Rattle.std.specs.Prelude.{◌≡◌, ℕ, suc, ◌≤◌, ◌<◌, ◌==◌,
 use Rattle.oe_keys.specs.declared.keys.Key.{Key}
 use Rattle.oe_model.specs.Rows.{is_key}
 use Rattle.oe_model.specs.Changes.{Record, record_key}
+use Rattle.oe_layout.specs.declared.links.RecordAddress.{RecordAddress}
 use Rattle.oe_layout.specs.declared.links.Previous.{Previous}
 use Rattle.oe_layout.specs.declared.links.Previous.TheVariants.{Nothing, Own, Committed}
 use Rattle.oe_segments.specs.Segments.{SegmentLog}
@@ -20,6 +21,24 @@ abbrev pub link_from : Holder → Previous → Option Link
 link_from h Nothing = None
 link_from h (Own a) = Some (record { address = a; holder = h })
 link_from h (Committed a m) = Some (record { address = a; holder = At m })
+
+-- what a record has as previous that is pushed where its key has this link
+abbrev pub previous_by : Holder → RecordAddress → Previous
+previous_by (Open t) a = Own a
+previous_by (At m) a = Committed a m
+
+abbrev pub previous_of : Option Link → Previous
+previous_of None = Nothing
+previous_of (Some l) = previous_by l.holder l.address
+
+-- the terminal has no work of another before it
+abbrev pub IsOwnOrDone : ℕ → Holder → Type 0
+IsOwnOrDone t (Open s) = s ≡ t
+IsOwnOrDone t (At m) = ⊤
+
+abbrev pub IsSeenBy : ℕ → Option Link → Type 0
+IsSeenBy t None = ⊤
+IsSeenBy t (Some l) = IsOwnOrDone t l.holder
 
 -- the holder's commit was given up at the horizon
 abbrev pub IsForgotten : ℕ → Holder → Type 0

@@ -12,7 +12,7 @@ use Rattle.oe_chains.specs.declared.links.Link.{Link}
 use Rattle.oe_chains.specs.declared.links.Holder.TheVariants.{Open}
 use Rattle.oe_chains.specs.Oldest.{oldest_after}
 use Rattle.oe_chains.specs.Held.{held, of_key, horizon, count_later}
-use Rattle.oe_chains.specs.Chains.{link_from, IsEnd, AreChained, found, ticks, linked, holder_sealed, holder_reopened, with_holder, marked}
+use Rattle.oe_chains.specs.Chains.{link_from, previous_of, IsSeenBy, IsEnd, AreChained, found, ticks, linked, holder_sealed, holder_reopened, with_holder, marked}
 
 -- the log has a state of each terminal, and keeps no more commits than were made
 pub record IsWhole (u : SegmentLog) : Type 0 where
@@ -54,3 +54,7 @@ pub record Walks_find : Type 0 where
   pub oldest : (k : Key) (u : SegmentLog) (m count : ℕ) → length u.committed ≤ total_count u → count + m ≡ total_count u
       → found m (of_key k (held u)) None ≡ oldest_after k u count
   pub read : (k : Key) (u : SegmentLog) (m : ℕ) → ticks m (of_key k (held u)) ≡ count_later m (of_key k (held u))
+
+-- What a record is pushed with where its key has this link is the same link to whoever sees it: where it leads to open work, to its terminal.
+abbrev pub Links_are_seen : Type 0
+Links_are_seen = (t : ℕ) (l : Option Link) → IsSeenBy t l → link_from (Open t) (previous_of l) ≡ l

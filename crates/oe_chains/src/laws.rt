@@ -1,5 +1,5 @@
 //! What keeps chains, and what they are for. Each function has an empty body and carries one law.
-ghost use Rattle.oe_chains.specs.Laws.{Calls_keep_chains, Ends_without_records, Walks_find};
+ghost use Rattle.oe_chains.specs.Laws.{Calls_keep_chains, Ends_without_records, Links_are_seen, Walks_find};
 ghost use Rattle.oe_chains.specs.Walks.{Chains_are_walked};
 
 /// Each call of a log keeps the chains, where the links of keys are set so.
@@ -21,4 +21,9 @@ pub fn walks_find()
 /// From a key's link on, with each record read at its address in its holder's segment, the same record is found so.
 pub fn chains_are_walked()
     ensures { Chains_are_walked }
+{}
+
+/// The previous link that a record is pushed with leads where its key's link leads.
+pub fn links_are_seen()
+    ensures { Links_are_seen }
 {}

@@ -6,4 +6,4 @@
 pub mod laws;
 pub mod links;
 
-pub use links::{Holder, Link};
+pub use links::{Holder, Link, previous_of};

@@ -1,5 +1,8 @@
 //! Links from a key to its newest record.
-use oe_layout::RecordAddress;
+ghost use Rattle.std.specs.Prelude.{◌≡◌};
+ghost use Rattle.oe_chains.specs.Chains.{link_from, previous_by, previous_of};
+
+use oe_layout::{Previous, RecordAddress};
 use oe_values::{Moment, Terminal};
 
 /// Whose a record is.
@@ -16,4 +19,46 @@ pub enum Holder {
 pub struct Link {
     pub address: RecordAddress,
     pub holder: Holder,
+}
+
+impl Holder {
+    /// The link that a previous one is in a record of this holder.
+    pub fn link_from(self, previous: Previous) -> Option<Link>
+        ensures { result ≡ link_from self previous }
+    {
+        match previous {
+            Previous::Nothing => None,
+            Previous::Own(address) => Some(Link {
+                address,
+                holder: self,
+            }),
+            Previous::Committed(address, moment) => Some(Link {
+                address,
+                holder: Holder::At(moment),
+            }),
+        }
+    }
+}
+
+impl Link {
+    /// What a record has as previous that is pushed where its key has this link.
+    fn previous(&self) -> Previous
+        ensures { result ≡ previous_by self.now.holder self.now.address }
+    {
+        let address = self.address;
+        match &self.holder {
+            Holder::Open(_) => Previous::Own(address),
+            Holder::At(moment) => Previous::Committed(address, *moment),
+        }
+    }
+}
+
+/// The same, where the key has a link or none.
+pub fn previous_of(link: Option<Link>) -> Previous
+    ensures { result ≡ previous_of link }
+{
+    match link {
+        None => Previous::Nothing,
+        Some(link) => link.previous(),
+    }
 }
