@@ -1,8 +1,6 @@
 -- A stage that was done, or refused, by the engine is a step of the program.
-use Rattle.std.proofs.Common.{◌≡◌, Option, None, Some, refl, sym, ap}
-use Rattle.std.specs.Prelude.{IsSome, is_some, option_map}
-use Rattle.std.specs.Option.{option_copied}
-use Rattle.std.specs.Borrow.{Bor}
+use Rattle.std.proofs.Common.{◌≡◌, Some, refl, sym, ap, subst, ◌∙◌}
+use Rattle.std.specs.Prelude.{IsSome}
 use Rattle.oe_requests.specs.declared.replies.Reply.{Reply}
 use Rattle.oe_requests.specs.declared.replies.Reply.TheVariants as reply
 use Rattle.oe_requests.specs.declared.refusals.Refusal.{Refusal}
@@ -15,15 +13,17 @@ use Rattle.oe_records.specs.declared.writes.Write.{Write}
 use Rattle.oe_engine.specs.View.{EngineState, view_of, Handle, IsOpen}
 use Rattle.oe_engine.specs.Calls.{IsFree, IsFullFor, stage_done, StageRefused}
 use Rattle.oe_engine.specs.Writes.{ask_of_write}
-use Rattle.oe_engine.specs.Programs.{GoesOn, IsReady, payment_reply, IsRefused}
+use Rattle.oe_engine.specs.Programs.{GoesOn, IsReady, payment_reply, IsRefused, Progresses}
 use Rattle.oe_engine.proofs.StageFacts as stages
-use Rattle.oe_payment.specs.Stages.{IsStage}
+use Rattle.oe_engine.specs.declared.programs.Progress.{Progress}
+use Rattle.oe_engine.specs.declared.programs.Progress.TheVariants as progress
+use Rattle.oe_payment.specs.declared.positions.Position.{Position}
+use Rattle.oe_payment.specs.declared.positions.Stage.{Stage}
+use Rattle.oe_payment.specs.declared.positions.Stage.TheVariants as stage
+use Rattle.oe_payment.specs.Program.{position_at, position_in}
+use Rattle.oe_payment.specs.Stages.{IsStage, Does, stage_after}
 
--- a payment at its end has its reply
-pub is_told : {A B : Type 0} (f : A → B) (o : Option (Bor A)) (p : Option B) → option_map f (option_copied o) ≡ p → IsSome o → IsSome p
-is_told f None p e h = cc
-is_told f (Some x) p e h = sym (ap is_some e)
-
+-- a payment at its end is ready
 pub is_ready : (s : EngineState) (x : Handle) (q : PaymentRequest) (p : PaymentPosition) → IsOpen s x → IsSome (payment_reply p)
     → (y : Reply) × IsReady s x (request.Payment q) (InPayment q p) y
 is_ready s x q (PaymentEnd y) o h = (reply.Payment y, record { is_open = o; free = tt; does = refl })
@@ -44,3 +44,22 @@ pub is_refused : (s : EngineState) (x : Handle) (q : PaymentRequest) (p p' : Pay
     → (e : Refusal) → stages.IsRoom s x c (ask_of_write w) e → StageRefused s x (ask_of_write w) (Some c) e → IsRefused s x (request.Payment q) (InPayment q p) e
 is_refused s x q p p' w c d e room h =
     stages.refused_change s x (ask_of_write w) c e room h (request.Payment q) (InPayment q p) (InPayment q p') d.asks d.does
+
+-- a stage of a payment whose names and reply may have been written: they count once it is done
+pub carried : (q : PaymentRequest) (x : Handle) (s s' : EngineState) (p p' : PaymentPosition) (old : Position) (next : Stage) (at : Stage → Position) (r : Progress)
+    → position_in old ≡ p → position_in (at old.stage) ≡ p → position_in (at next) ≡ p' → Does q x s p r s' p'
+    → Progresses (request.Payment q) x s (InPayment q (position_in old)) r s' (InPayment q (position_in (at (stage_after next r old.stage))))
+carried q x s s' p p' old next at progress.More e f g h =
+    subst (λ (z : PaymentPosition). GoesOn s x (request.Payment q) (InPayment q z) s' (InPayment q (position_in (at next)))) (sym e)
+    (subst (λ (z : PaymentPosition). GoesOn s x (request.Payment q) (InPayment q p) s' (InPayment q z)) (sym g) h)
+carried q x s s' p p' old next at progress.Ready e f g h = absurd h
+carried q x s s' p p' old next at (progress.Refused why) e f g h = (
+  subst (λ (z : PaymentPosition). IsRefused s x (request.Payment q) (InPayment q z) why) (sym e) h.0,
+  h.1,
+  h.2,
+  ap (InPayment q) (f ∙ sym e),
+)
+
+pub ready_at_end : (q : PaymentRequest) (x : Handle) (s : EngineState) (p : Position) → IsOpen s x → p.stage ≡ stage.End
+    → Progresses (request.Payment q) x s (InPayment q (position_in p)) progress.Ready s (InPayment q (position_in p))
+ready_at_end q x s p o e = (is_ready s x q (position_in p) o (subst (λ (k : Stage). IsSome (payment_reply (position_at k p))) (sym e) refl), refl, refl)

@@ -1,5 +1,5 @@
 -- What a stage of a payment makes of an engine, by the model.
-use Rattle.std.specs.Prelude.{◌≡◌, Bool, true, false, Some, Result, Ok, Err}
+use Rattle.std.specs.Prelude.{◌≡◌, Bool, true, false, Some}
 use Rattle.oe_theory.specs.Machine.{Go}
 use Rattle.oe_requests.specs.declared.requests.Request.TheVariants as request
 use Rattle.oe_requests.specs.declared.requests.PaymentRequest.{PaymentRequest}
@@ -11,8 +11,9 @@ use Rattle.oe_records.specs.declared.writes.Write.{Write}
 use Rattle.oe_engine.specs.View.{EngineState, view_of, Handle}
 use Rattle.oe_engine.specs.Writes.{ask_of_write, change_written}
 use Rattle.oe_engine.specs.Programs.{ask_here, act_here, GoesOn, IsRefused}
-use Rattle.oe_payment.specs.Program.{position_in}
-use Rattle.oe_payment.specs.declared.positions.Position.{Position}
+use Rattle.oe_engine.specs.declared.programs.Progress.{Progress}
+use Rattle.oe_engine.specs.declared.programs.Progress.TheVariants as progress
+use Rattle.oe_payment.specs.declared.positions.Stage.{Stage}
 
 -- the refusals that a stage fails with
 abbrev pub is_failure : Refusal → Bool
@@ -25,12 +26,17 @@ is_failure _ = false
 abbrev pub IsRefusedHere : PaymentRequest → Handle → EngineState → PaymentPosition → Refusal → Type 0
 IsRefusedHere q x s p e = IsRefused s x (request.Payment q) (InPayment q p) e
 
--- the stage is done, and the payment stands at another position; or it is refused, and the engine stands for what it did
-abbrev pub Does : PaymentRequest → Handle → EngineState → PaymentPosition → Result Position Refusal
-    → EngineState → Type 0
-Does q x s p (Ok p') s' =
-    GoesOn s x (request.Payment q) (InPayment q p) s' (InPayment q (position_in p'))
-Does q x s p (Err e) s' = IsRefusedHere q x s p e × (view_of s' ≡ view_of s) × (s'.name ≡ s.name)
+-- the stage at this position is done, and the payment goes on at another; or it is refused, and the engine stands for what it did
+abbrev pub Does : PaymentRequest → Handle → EngineState → PaymentPosition → Progress → EngineState → PaymentPosition → Type 0
+Does q x s p progress.More s' p' = GoesOn s x (request.Payment q) (InPayment q p) s' (InPayment q p')
+Does q x s p progress.Ready s' p' = ⊥
+Does q x s p (progress.Refused e) s' p' = IsRefusedHere q x s p e × (view_of s' ≡ view_of s) × (s'.name ≡ s.name)
+
+-- the stage that comes next where one is done, and the same one again where it is not
+abbrev pub stage_after : Stage → Progress → Stage → Stage
+stage_after next progress.More now = next
+stage_after next progress.Ready now = now
+stage_after next (progress.Refused e) now = now
 
 -- the stage at this position asks for the lock of the write, makes the change that the write is, and the payment goes on
 pub record IsStage (q : PaymentRequest) (x : Handle) (s : EngineState) (p : PaymentPosition)

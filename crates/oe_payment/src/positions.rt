@@ -2,35 +2,61 @@
 ghost use Rattle.std.specs.Prelude.{◌≡◌};
 
 use oe_requests::PaymentReply;
-use oe_values::Text;
+use oe_rows::Credit;
+use oe_values::{Balance, CustomerNumber, Text};
 
-/// The stage that a payment comes to next, with what the stages before have read.
-#[derive(Drop, Debug)]
-pub enum Position {
+/// The stage that a payment comes to next.
+#[derive(Clone, Copy, Debug)]
+pub enum Stage {
     Warehouse,
-    /// With W_NAME.
-    District(Text<0, 10>),
-    /// With W_NAME and D_NAME.
-    Customer(Text<0, 10>, Text<0, 10>),
-    /// With H_DATA and the reply.
-    History(Text<0, 24>, PaymentReply),
-    /// With the reply.
-    End(PaymentReply),
+    District,
+    Customer,
+    History,
+    End,
+}
+
+/// The stage that a payment comes to next, and what the stages before it have read; what the later ones read is anything yet.
+#[derive(Drop, Debug)]
+pub struct Position {
+    pub stage: Stage,
+    /// W_NAME, once its stage is done.
+    pub warehouse: Text<0, 10>,
+    /// D_NAME, once its stage is done.
+    pub district: Text<0, 10>,
+    /// What is answered, once the customer's stage is done.
+    pub reply: PaymentReply,
 }
 
 impl Position {
+    ghost use Rattle.oe_model.specs.Positions.{PaymentWarehouse};
+    ghost use Rattle.oe_payment.specs.Program.{position_in};
+
+    /// At the first stage.
+    pub fn first() -> Self
+        ensures { position_in result ≡ PaymentWarehouse }
+    {
+        Position {
+            stage: Stage::Warehouse,
+            warehouse: Text::of_printable(b""),
+            district: Text::of_printable(b""),
+            reply: PaymentReply {
+                customer: CustomerNumber::new(1).unwrap(),
+                last: Text::of_printable(b""),
+                credit: Credit::Good,
+                balance: Balance::new(0).unwrap(),
+            },
+        }
+    }
+
     /// A copy, which takes no memory.
     pub fn copied(&self) -> Self
         ensures { result ≡ self.now }
     {
-        match self {
-            Position::Warehouse => Position::Warehouse,
-            Position::District(warehouse) => Position::District(warehouse.copied()),
-            Position::Customer(warehouse, district) => {
-                Position::Customer(warehouse.copied(), district.copied())
-            }
-            Position::History(joined, reply) => Position::History(joined.copied(), reply.copied()),
-            Position::End(reply) => Position::End(reply.copied()),
+        Position {
+            stage: self.stage,
+            warehouse: self.warehouse.copied(),
+            district: self.district.copied(),
+            reply: self.reply.copied(),
         }
     }
 }

@@ -6,7 +6,7 @@ ghost use Rattle.oe_requests.specs.declared.replies.Reply.{Reply};
 ghost use Rattle.oe_model.specs.Positions.{InPayment, PaymentWarehouse};
 ghost use Rattle.oe_engine.specs.Programs.{Progresses, payment_reply};
 
-use crate::positions::Position;
+use crate::positions::{Position, Stage};
 use crate::stages::carry_out;
 use oe_engine::{Engine, Progress, Tx};
 use oe_requests::{PaymentReply, PaymentRequest, Refusal};
@@ -34,8 +34,16 @@ impl Program {
         ensures { result ≡ PaymentWarehouse }
     {
         Program {
-            position: Position::Warehouse,
+            position: Position::first(),
         }
+    }
+
+    /// Goes back to its first stage.
+    #[inline]
+    pub fn restart(&mut self)
+        ensures { self.new ≡ PaymentWarehouse }
+    {
+        self.position.stage = Stage::Warehouse;
     }
 
     /// A copy, which takes no memory.
@@ -48,11 +56,12 @@ impl Program {
     }
 
     /// The reply, once all stages are done; none before that.
+    #[inline]
     pub fn reply(&self) -> Option<&PaymentReply>
         ensures { option_map Reply.Payment (option_copied result) ≡ payment_reply self.now }
     {
-        match &self.position {
-            Position::End(reply) => Some(reply),
+        match self.position.stage {
+            Stage::End => Some(&self.position.reply),
             _ => None,
         }
     }
@@ -60,6 +69,7 @@ impl Program {
     /// One stage of the payment: its lock and its one change. The order of refusals is `NoCustomer`, `Busy`, `Overflow`, `UndoFull`
     /// where the change's record has no room, and `NoMemory` where memory was refused for a new name or the inserted row. A refused
     /// stage leaves the program, the tables and the locks as they were. Each stage of a payment is told the same request.
+    #[inline(always)]
     pub fn next(&mut self, request: &PaymentRequest, engine: &mut Engine, tx: &Tx) -> Progress
         ensures { Progresses (Request.Payment request.now) tx.now
             engine.old (InPayment request.now self.old)
@@ -68,15 +78,6 @@ impl Program {
         if !engine.is_open(tx) {
             return Progress::Refused(Refusal::NotOpen);
         }
-        if self.reply().is_some() {
-            return Progress::Ready;
-        }
-        match carry_out(request, &self.position, engine, tx) {
-            Ok(position) => {
-                self.position = position;
-                Progress::More
-            }
-            Err(refusal) => Progress::Refused(refusal),
-        }
+        carry_out(request, &mut self.position, engine, tx)
     }
 }

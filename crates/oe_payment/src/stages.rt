@@ -1,30 +1,31 @@
-//! The stages of a payment (clause 2.5.2.2): each takes its lock, writes, and answers where the payment then stands.
-ghost use Rattle.std.specs.Prelude.{◌≡◌, suc, true, None};
+//! The stages of a payment (clause 2.5.2.2): each takes its lock and writes, and keeps what the payment reads there.
+ghost use Rattle.std.specs.Prelude.{◌≡◌, suc, true, List, ℕ};
 ghost use Rattle.oe_theory.specs.Machine.{Take, Fail, Exclusive};
 ghost use Rattle.oe_requests.specs.declared.requests.Request.{Request};
 ghost use Rattle.oe_model.specs.Changes.{Change};
 ghost use Rattle.oe_model.specs.Locks.{governs};
-ghost use Rattle.oe_model.specs.Positions.{PaymentPosition, PaymentWarehouse, PaymentDistrict, PaymentCustomer, PaymentHistory, InPayment};
+ghost use Rattle.oe_model.specs.Payment.{history_data, paid_reply};
+ghost use Rattle.oe_model.specs.Positions.{PaymentPosition, PaymentWarehouse, PaymentDistrict, PaymentCustomer, PaymentHistory, PaymentEnd, InPayment};
 ghost use Rattle.oe_records.specs.Writes.{key_written};
 ghost use Rattle.oe_engine.specs.View.{view_of, IsOpen};
 ghost use Rattle.oe_engine.specs.Covered.{IsOwn};
 ghost use Rattle.oe_engine.specs.Writes.{WriteHoldsOrder};
-ghost use Rattle.oe_engine.specs.Programs.{ask_here, act_here, payment_reply};
+ghost use Rattle.oe_engine.specs.Programs.{ask_here, act_here, Progresses};
 ghost use Rattle.oe_payment.specs.Program.{position_in};
-ghost use Rattle.oe_payment.specs.Stages.{is_failure, IsRefusedHere, Does, IsStage};
+ghost use Rattle.oe_payment.specs.Stages.{is_failure, IsRefusedHere, Does, stage_after, IsStage};
 
 use crate::choices::number_meant;
-use crate::positions::Position;
-use oe_engine::{Engine, Lock, Tx};
+use crate::positions::{Position, Stage};
+use oe_engine::{Engine, Lock, Progress, Tx};
 use oe_formulas::payments::{
     account_after, bad_credit_entry, district_ytd_after, history_data, history_key, history_row,
-    reply_with_account, warehouse_ytd_after,
+    warehouse_ytd_after,
 };
 use oe_keys::{Key, Mode, Name};
 use oe_records::Write;
 use oe_requests::{PaymentReply, PaymentRequest, Refusal};
-use oe_rows::Credit;
-use oe_values::Text;
+use oe_rows::{Account, Credit, Customer};
+use oe_values::{CustomerNumber, Text};
 
 // Why a stage fails: for its own reason, or since another holds the name that it asks for.
 #[inline(never)]
@@ -46,73 +47,99 @@ fn failure(engine: &Engine, tx: &Tx, name: Name, refusal: &Refusal) -> Refusal
     }
 }
 
-// Writes a row, after which the payment stands at a position.
-fn go(engine: &mut Engine, tx: &Tx, write: &Write, next: Position) -> Result<Position, Refusal>
+// Writes a row, after which the payment comes to the next stage.
+#[inline(always)]
+fn go(engine: &mut Engine, tx: &Tx, write: &Write, stage: &mut Stage, next: Stage) -> Progress
     requires open { IsOpen engine.old tx.now }
     requires own { IsOwn tx.now.terminal (suc ((view_of engine.old).counts tx.now.terminal))
         (governs (key_written write.now)) }
     requires order { WriteHoldsOrder ((view_of engine.old).held tx.now.terminal) write.now }
-    ensures { (q : PaymentRequest) (p : PaymentPosition) (c : Change)
-        → IsStage q tx.now engine.old p write.now c (position_in next)
-        → Does q tx.now engine.old p result engine.new }
+    ensures does { (q : PaymentRequest) (p p' : PaymentPosition) (c : Change)
+        → IsStage q tx.now engine.old p write.now c p'
+        → Does q tx.now engine.old p result engine.new p' }
+    ensures stage { stage.new ≡ stage_after next result stage.old }
 {
     match engine.write(tx, write) {
-        Ok(()) => Ok(next),
-        Err(refusal) => Err(refusal),
+        Ok(()) => {
+            *stage = next;
+            Progress::More
+        }
+        Err(refusal) => Progress::Refused(refusal),
     }
 }
 
-// W_YTD rises by the amount.
+// W_YTD rises by the amount, and W_NAME is kept.
 #[inline(never)]
 fn pay_warehouse(
     request: &PaymentRequest,
+    stage: &mut Stage,
+    warehouse: &mut Text<0, 10>,
     engine: &mut Engine,
     tx: &Tx,
-) -> Result<Position, Refusal>
+) -> Progress
     requires { IsOpen engine.old tx.now }
-    ensures { Does request.now tx.now engine.old PaymentWarehouse result engine.new }
+    ensures does { Does request.now tx.now engine.old PaymentWarehouse
+        result engine.new (PaymentDistrict warehouse.new) }
+    ensures stage { stage.new ≡ stage_after Stage.District result stage.old }
 {
     let key = &request.district.warehouse_key();
     let Some(row) = engine.tables().warehouse(*key) else {
         let absent = Refusal::NoSuchRow(Key::Warehouse(*key));
-        return Err(failure(engine, tx, Name::Warehouse(*key), &absent));
+        return Progress::Refused(failure(engine, tx, Name::Warehouse(*key), &absent));
     };
     let ytd = match warehouse_ytd_after(row, request) {
         Ok(ytd) => ytd,
         Err(column) => {
             let overflow = Refusal::Overflow(column);
-            return Err(failure(engine, tx, Name::Warehouse(*key), &overflow));
+            return Progress::Refused(failure(engine, tx, Name::Warehouse(*key), &overflow));
         }
     };
-    let next = Position::District(row.name.copied());
-    go(engine, tx, &Write::WarehouseYtd(*key, ytd), next)
+    *warehouse = row.name.copied();
+    let write = Write::WarehouseYtd(*key, ytd);
+    go(engine, tx, &write, stage, Stage::District)
 }
 
-// D_YTD rises by the amount.
+// D_YTD rises by the amount, and D_NAME is kept.
 #[inline(never)]
 fn pay_district(
     request: &PaymentRequest,
-    warehouse: &Text<0, 10>,
+    stage: &mut Stage,
+    district: &mut Text<0, 10>,
     engine: &mut Engine,
     tx: &Tx,
-) -> Result<Position, Refusal>
+) -> Progress
     requires { IsOpen engine.old tx.now }
-    ensures { Does request.now tx.now engine.old (PaymentDistrict warehouse.now) result engine.new }
+    ensures does { (w : List ℕ)
+        → Does request.now tx.now engine.old (PaymentDistrict w)
+        result engine.new (PaymentCustomer w district.new) }
+    ensures stage { stage.new ≡ stage_after Stage.Customer result stage.old }
 {
     let key = &request.district;
     let Some(row) = engine.tables().district(*key) else {
         let absent = Refusal::NoSuchRow(Key::District(*key));
-        return Err(failure(engine, tx, Name::District(*key), &absent));
+        return Progress::Refused(failure(engine, tx, Name::District(*key), &absent));
     };
     let ytd = match district_ytd_after(row, request) {
         Ok(ytd) => ytd,
         Err(column) => {
             let overflow = Refusal::Overflow(column);
-            return Err(failure(engine, tx, Name::District(*key), &overflow));
+            return Progress::Refused(failure(engine, tx, Name::District(*key), &overflow));
         }
     };
-    let next = Position::Customer(warehouse.copied(), row.name.copied());
-    go(engine, tx, &Write::DistrictYtd(*key, ytd), next)
+    *district = row.name.copied();
+    let write = Write::DistrictYtd(*key, ytd);
+    go(engine, tx, &write, stage, Stage::Customer)
+}
+
+// What is answered of the customer with that number before the payment, and the account after it.
+#[inline(always)]
+fn keep_reply(reply: &mut PaymentReply, number: CustomerNumber, row: &Customer, account: &Account)
+    ensures { reply.new ≡ paid_reply number (record row.now { account = account.now }) }
+{
+    reply.customer = number;
+    reply.last = row.name.last.copied();
+    reply.credit = row.credit;
+    reply.balance = account.balance;
 }
 
 // C_BALANCE falls and C_YTD_PAYMENT rises by the amount, C_PAYMENT_CNT rises by 1, and a bad credit's C_DATA begins with the
@@ -120,80 +147,92 @@ fn pay_district(
 #[inline(never)]
 fn pay_customer(
     request: &PaymentRequest,
-    warehouse: &Text<0, 10>,
-    district: &Text<0, 10>,
+    stage: &mut Stage,
+    reply: &mut PaymentReply,
     engine: &mut Engine,
     tx: &Tx,
-) -> Result<Position, Refusal>
+) -> Progress
     requires { IsOpen engine.old tx.now }
-    ensures { Does request.now tx.now engine.old (PaymentCustomer warehouse.now district.now)
-        result engine.new }
+    ensures does { (warehouse district : List ℕ)
+        → Does request.now tx.now engine.old (PaymentCustomer warehouse district)
+        result engine.new (PaymentHistory (history_data warehouse district) reply.new) }
+    ensures stage { stage.new ≡ stage_after Stage.History result stage.old }
 {
     let stored = engine.tables();
     let district_key = &request.customer_district;
     let Some(number) = number_meant(district_key, &request.customer, stored) else {
-        return Err(Refusal::NoCustomer);
+        return Progress::Refused(Refusal::NoCustomer);
     };
     let key = &district_key.customer(number);
     let Some(row) = stored.customer(*key) else {
-        return Err(Refusal::NoCustomer);
+        return Progress::Refused(Refusal::NoCustomer);
     };
     let account = match account_after(row, request) {
         Ok(account) => account,
         Err(column) => {
             let overflow = Refusal::Overflow(column);
-            return Err(failure(engine, tx, Name::Customer(*key), &overflow));
+            return Progress::Refused(failure(engine, tx, Name::Customer(*key), &overflow));
         }
     };
-    let reply = reply_with_account(number, row, &account);
-    let next = Position::History(history_data(warehouse, district), reply);
+    keep_reply(reply, number, row, &account);
     match row.credit {
-        Credit::Good => go(engine, tx, &Write::CustomerAccount(*key, account), next),
+        Credit::Good => {
+            let write = Write::CustomerAccount(*key, account);
+            go(engine, tx, &write, stage, Stage::History)
+        }
         Credit::Bad => {
             let entry = bad_credit_entry(number, request);
-            go(engine, tx, &Write::BadCredit(*key, account, entry), next)
+            let write = Write::BadCredit(*key, account, entry);
+            go(engine, tx, &write, stage, Stage::History)
         }
     }
 }
 
 // The payment's HISTORY row.
 #[inline(never)]
-fn note(
-    request: &PaymentRequest,
-    joined: &Text<0, 24>,
-    reply: &PaymentReply,
-    engine: &mut Engine,
-    tx: &Tx,
-) -> Result<Position, Refusal>
+fn note(request: &PaymentRequest, position: &mut Position, engine: &mut Engine, tx: &Tx) -> Progress
     requires { IsOpen engine.old tx.now }
-    ensures { Does request.now tx.now engine.old (PaymentHistory joined.now reply.now)
-        result engine.new }
+    ensures does { Does request.now tx.now engine.old (PaymentHistory
+        (history_data position.old.warehouse position.old.district) position.old.reply)
+        result engine.new (PaymentEnd position.old.reply) }
+    ensures stage { position.new
+        ≡ record position.old { stage = stage_after Stage.End result position.old.stage } }
 {
     let key = history_key(tx.terminal(), engine.number(tx));
-    let row = history_row(reply.customer, joined, request);
-    let next = Position::End(reply.copied());
-    go(engine, tx, &Write::InsertHistory(key, row), next)
+    let joined = history_data(&position.warehouse, &position.district);
+    let row = history_row(position.reply.customer, &joined, request);
+    let write = Write::InsertHistory(key, row);
+    go(engine, tx, &write, &mut position.stage, Stage::End)
 }
 
-/// Carries out the stage at a position before the end, and answers the position after it. A refused stage leaves the engine
-/// standing for what it did.
+/// Carries out the stage at a position, after which the payment stands at the one after it; at the end it is ready. A refused stage
+/// leaves the payment where it stood, and the engine standing for what it did.
+#[inline(always)]
 pub fn carry_out(
     request: &PaymentRequest,
-    position: &Position,
+    position: &mut Position,
     engine: &mut Engine,
     tx: &Tx,
-) -> Result<Position, Refusal>
-    requires open { IsOpen engine.old tx.now }
-    requires underway { payment_reply (position_in position.now) ≡ None }
-    ensures { Does request.now tx.now engine.old (position_in position.now) result engine.new }
+) -> Progress
+    requires { IsOpen engine.old tx.now }
+    ensures { Progresses (Request.Payment request.now) tx.now
+        engine.old (InPayment request.now (position_in position.old))
+        result engine.new (InPayment request.now (position_in position.new)) }
 {
-    match position {
-        Position::Warehouse => pay_warehouse(request, engine, tx),
-        Position::District(warehouse) => pay_district(request, warehouse, engine, tx),
-        Position::Customer(warehouse, district) => {
-            pay_customer(request, warehouse, district, engine, tx)
+    match position.stage {
+        Stage::Warehouse => {
+            let name = &mut position.warehouse;
+            pay_warehouse(request, &mut position.stage, name, engine, tx)
         }
-        Position::History(joined, reply) => note(request, joined, reply, engine, tx),
-        Position::End(_) => unreachable!(),
+        Stage::District => {
+            let name = &mut position.district;
+            pay_district(request, &mut position.stage, name, engine, tx)
+        }
+        Stage::Customer => {
+            let reply = &mut position.reply;
+            pay_customer(request, &mut position.stage, reply, engine, tx)
+        }
+        Stage::History => note(request, position, engine, tx),
+        Stage::End => Progress::Ready,
     }
 }
