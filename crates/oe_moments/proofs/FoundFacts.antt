@@ -17,7 +17,8 @@ use Rattle.oe_model.proofs.SystemLaws.{laws}
 use Rattle.oe_segments.specs.Stands.{undo_of, seals_of, seal_of, model_records}
 use Rattle.oe_segments.specs.Segments.{Committed, SegmentLog, records_at, records_of, committed_records}
 use Rattle.oe_moments.specs.Versions.{store_with, newest, IsReadable}
-use Rattle.oe_moments.specs.Found.{oldest_in, oldest_open, oldest_of_commits, oldest_after, row_found, HasRow}
+use Rattle.oe_chains.specs.Oldest.{oldest_in, oldest_open, oldest_of_commits, oldest_after}
+use Rattle.oe_moments.specs.Found.{row_found, HasRow}
 
 -- putting back the records of a key, one after another, leaves the row of the last
 restored_found : (k : Key) (bs : List Record) (o : Option Record) (v : Option Row) → restored system k bs (row_found o v) ≡ row_found (oldest_in k bs o) v

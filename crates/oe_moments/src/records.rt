@@ -8,7 +8,8 @@ ghost use Rattle.oe_model.specs.Changes.{record_key};
 ghost use Rattle.oe_model.specs.System.{system, terminal_limit};
 ghost use Rattle.oe_segments.specs.Stands.{undo_of};
 ghost use Rattle.oe_moments.specs.Versions.{newest, IsReadable, IsOutside};
-ghost use Rattle.oe_moments.specs.Found.{oldest_in, oldest_open, oldest_of_commits, oldest_after, HasRow};
+ghost use Rattle.oe_chains.specs.Oldest.{oldest_in, oldest_open, oldest_of_commits, oldest_after};
+ghost use Rattle.oe_moments.specs.Found.{HasRow};
 
 use oe_keys::Key;
 use oe_layout::StoredRecord;

@@ -1,5 +1,5 @@
 use Rattle.std.proofs.Common.{◌≡◌}
-use Rattle.oe_moments.specs.Found.{oldest_after}
+use Rattle.oe_chains.specs.Oldest.{oldest_after}
 use Rattle.oe_moments.proofs.FoundFacts.{left_commits}
 use Rattle.oe_moments.proofs.records.oldest_after.Given as goal
 

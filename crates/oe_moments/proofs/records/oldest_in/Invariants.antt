@@ -1,5 +1,5 @@
 use Rattle.std.proofs.Common.{◌≡◌}
-use Rattle.oe_moments.specs.Found.{oldest_in}
+use Rattle.oe_chains.specs.Oldest.{oldest_in}
 use Rattle.oe_moments.proofs.records.oldest_in.Given as goal
 
 -- what is left of the records leads from what was found so far to the answer
