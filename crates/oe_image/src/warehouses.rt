@@ -22,7 +22,7 @@ impl Imaged for Address {
         (&self.street_1, (&self.street_2, town)).length()
     }
 
-    #[inline]
+    #[inline(always)]
     #[tactic(auto, unfolding(crate::specs::Rows::address))]
     fn write(&self, bytes: &mut [u8], start: usize) -> usize {
         let town = (&self.city, (&self.state, &self.zip));

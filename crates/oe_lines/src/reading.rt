@@ -182,7 +182,7 @@ fn request(text: &[u8]) -> Option<Request>
 }
 
 /// `w d`, and what follows the space after it.
-#[inline]
+#[inline(always)]
 #[tactic(auto, unfolding(crate::specs::Reading::district_of))]
 fn district(text: &[u8]) -> Option<(DistrictKey, &[u8])>
     ensures { option_map (λ p. (p.0, p.1.now)) result ≡ district_of text.now }

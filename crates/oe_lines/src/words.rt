@@ -88,7 +88,7 @@ pub(crate) fn amount_before<const LOW: u32, const HIGH: u32>(
 }
 
 /// A stamp at the line's end.
-#[inline]
+#[inline(always)]
 pub(crate) fn stamp(text: &[u8]) -> Option<Stamp>
     ensures { result ≡ stamp_of text.now }
 {

@@ -74,7 +74,7 @@ fn depart(holders: &mut NameMap, name: &Name, before: &Holders, terminal: Termin
 }
 
 // The same, where perhaps nobody holds it.
-#[inline]
+#[inline(always)]
 fn leave(holders: &mut NameMap, name: &Name, terminal: Terminal)
     ensures own { GivesBack holders.old holders.new terminal name.now None }
     ensures others { OthersKeep holders.old holders.new terminal }
@@ -284,6 +284,7 @@ impl Locks {
     ///
     /// `Busy` names the least other terminal that holds the name in a mode that conflicts. `NoMemory` comes only where
     /// nobody does, and the terminal does not hold the name yet in any mode. After an error nothing has changed.
+    #[inline(always)]
     pub fn acquire(
         &mut self,
         name: Name,

@@ -69,7 +69,7 @@ fn go(engine: &mut Engine, tx: &Tx, write: &Write, stage: &mut Stage, next: Stag
 }
 
 // W_YTD rises by the amount, and W_NAME is kept.
-#[inline(never)]
+#[inline(always)]
 fn pay_warehouse(
     request: &PaymentRequest,
     stage: &mut Stage,
@@ -100,7 +100,7 @@ fn pay_warehouse(
 }
 
 // D_YTD rises by the amount, and D_NAME is kept.
-#[inline(never)]
+#[inline(always)]
 fn pay_district(
     request: &PaymentRequest,
     stage: &mut Stage,
@@ -144,7 +144,7 @@ fn keep_reply(reply: &mut PaymentReply, number: CustomerNumber, row: &Customer, 
 
 // C_BALANCE falls and C_YTD_PAYMENT rises by the amount, C_PAYMENT_CNT rises by 1, and a bad credit's C_DATA begins with the
 // payment. The customer is chosen before its name is taken, so that `NoCustomer` comes before `Busy`.
-#[inline(never)]
+#[inline(always)]
 fn pay_customer(
     request: &PaymentRequest,
     stage: &mut Stage,
@@ -189,7 +189,7 @@ fn pay_customer(
 }
 
 // The payment's HISTORY row.
-#[inline(never)]
+#[inline(always)]
 fn note(request: &PaymentRequest, position: &mut Position, engine: &mut Engine, tx: &Tx) -> Progress
     requires { IsOpen engine.old tx.now }
     ensures does { Does request.now tx.now engine.old (PaymentHistory

@@ -15,6 +15,7 @@ use oe_requests::{
 };
 
 /// `payment <C_ID> <C_LAST> <C_CREDIT> <new C_BALANCE>`.
+#[inline(always)]
 pub(crate) fn payment(out: &mut Pending, reply: &PaymentReply)
     requires { array_vec_len out.old + 63 ≤ SIZE }
     ensures items { out.new.items ≡ out.old.items ++ payment_text reply.now }
