@@ -21,6 +21,8 @@ use Rattle.oe_requests.specs.declared.requests.DeliveryRequest.{DeliveryRequest}
 use Rattle.oe_requests.specs.declared.requests.Request.{Request}
 use Rattle.oe_requests.specs.declared.requests.Request.TheVariants as request
 use Rattle.oe_requests.specs.declared.replies.Reply.{Reply}
+use Rattle.oe_requests.specs.declared.replies.Reply.TheVariants as reply
+use Rattle.oe_requests.specs.declared.replies.PaymentReply.{PaymentReply}
 use Rattle.oe_keys.specs.declared.keys.Key.TheVariants as key
 use Rattle.oe_keys.specs.declared.locks.Name.{Name}
 use Rattle.oe_requests.specs.declared.refusals.Refusal.{Refusal}
@@ -40,7 +42,7 @@ use Rattle.oe_engine.specs.View as engine
 use Rattle.oe_engine.specs.Calls.{IsFree, IsInTheWay, IsFullFor, IsFullForAny, stage_done, committed, rolled_back}
 use Rattle.oe_engine.specs.Programs.{reply_at, tx_of, ask_here, act_here, IsFreeHere, GoesOn, IsReady, Ends, WantsMemory, IsRefused}
 use Rattle.oe_engine.proofs.ReplyFacts.{ready_at}
-use Rattle.oe_core.specs.Core.{CoreState, IsOf, position_of, reply_of, HoldsTaken, in_slot, reply_left, last_reply, work_at, slot_of, open_at, store_with, store_of, world_of, IsOrderly, Moves, keeps_open}
+use Rattle.oe_core.specs.Core.{CoreState, IsOf, position_of, reply_of, of_payment, HoldsTaken, in_slot, reply_left, last_reply, work_at, slot_of, open_at, store_with, store_of, world_of, IsOrderly, Moves, keeps_open}
 use Rattle.oe_core.specs.Steps.{refusal_in, Carries}
 use Rattle.oe_core.specs.declared.slots.Work.{Work}
 use Rattle.oe_core.specs.declared.programs.Program.{Program}
@@ -264,6 +266,15 @@ left_here {s} {t} h z y e' xs ws p q is =
 -- what is told of a slot, by what lies in it
 pub told_of : (s : CoreState) (t : ℕ) {x : Option Handle} {w : Option Work} → in_slot s.txs t ≡ x → in_slot s.works t ≡ w → last_reply s t ≡ reply_left x w
 told_of s t p q = λ i. reply_left (p i) (q i)
+
+-- a payment's reply that is told is the reply
+pub is_paid : (o : Option Reply) (y : PaymentReply) → ◌≡◌ {A = Option Reply} (Some (reply.Payment y)) (of_payment o) → o ≡ Some (reply.Payment y)
+is_paid None y e = let no : ⊥ = cc in absurd no
+is_paid (Some (reply.Payment z)) y e = sym e
+is_paid (Some (reply.NewOrder z)) y e = let no : ⊥ = cc in absurd no
+is_paid (Some (reply.Delivery z)) y e = let no : ⊥ = cc in absurd no
+is_paid (Some (reply.Deliveries z)) y e = let no : ⊥ = cc in absurd no
+is_paid (Some (reply.Rename z)) y e = let no : ⊥ = cc in absurd no
 
 pub told_last : {s : CoreState} {t m : ℕ} {y : Reply} {s' : CoreState} → Moves s (Advance t) (Committed m y) s' → last_reply s' t ≡ Some y
     → (z : Reply) × (last_reply s' t ≡ Some z) × Carries (world_of s) (step.Advance t) (answer.Committed m z) (world_of s')

@@ -1,4 +1,5 @@
 pub mod SlotFacts
+pub mod RejectionFacts
 pub mod MoveFacts
 pub mod BeginFacts
 mod WantFacts

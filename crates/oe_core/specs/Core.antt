@@ -11,6 +11,7 @@ use Rattle.oe_requests.specs.declared.requests.Request.TheVariants as request
 use Rattle.oe_requests.specs.declared.refusals.Refusal.{Refusal}
 use Rattle.oe_requests.specs.declared.refusals.Refusal.TheVariants as refusal
 use Rattle.oe_requests.specs.declared.replies.Reply.{Reply}
+use Rattle.oe_requests.specs.declared.replies.Reply.TheVariants as reply
 use Rattle.oe_model.specs.Positions.{Position, InPayment, InNewOrder, InDelivery, NoProgram}
 use Rattle.oe_model.specs.System.{system, taken, start_of}
 use Rattle.oe_engine.specs.View.{View, view_of, Handle, IsOpen}
@@ -90,6 +91,15 @@ reply_left None (Some w) = reply_of w.request w.program
 -- the reply of a terminal's last transaction, if it committed
 abbrev pub last_reply : CoreState → ℕ → Option Reply
 last_reply s t = reply_left (in_slot s.txs t) (in_slot s.works t)
+
+-- a reply, where it is a payment's
+abbrev pub of_payment : Option Reply → Option Reply
+of_payment (Some (reply.Payment y)) = Some (reply.Payment y)
+of_payment _ = None
+
+-- the reply of a terminal's last transaction, if that was a payment and committed
+abbrev pub last_payment : CoreState → ℕ → Option Reply
+last_payment s t = of_payment (last_reply s t)
 
 -- an open transaction of terminal t, as the theory stores it
 abbrev pub slot_of : View → ℕ → Work → Slot system

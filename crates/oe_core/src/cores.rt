@@ -1,22 +1,24 @@
 //! The core.
-ghost use Rattle.std.specs.Prelude.{◌≡◌, IfOk, IfSome, IsSome, suc};
+ghost use Rattle.std.specs.Prelude.{◌≡◌, IfOk, IfSome, IsSome, suc, option_map};
+ghost use Rattle.std.specs.Option.{option_copied};
 ghost use Rattle.oe_theory.specs.World.{latest, newest, tables, total};
 ghost use Rattle.oe_theory.specs.Next.{Next};
 ghost use Rattle.oe_theory.specs.Theorems.{opened, IsReached};
+ghost use Rattle.oe_requests.specs.declared.replies.Reply.{Reply};
 ghost use Rattle.oe_model.specs.Conditions.{IsPopulation};
 ghost use Rattle.oe_model.specs.System.{system, terminal_limit};
 ghost use Rattle.oe_store.specs.Places.{rows};
 ghost use Rattle.oe_engine.specs.View.{view_of, IsOpen};
 ghost use Rattle.oe_engine.specs.Calls.{committed, rolled_back};
 ghost use Rattle.oe_core.specs.Steps.{step_in, answer_in, Carries, begin_answer, Advances, IsStep, HasProgram};
-ghost use Rattle.oe_core.specs.Core.{world_of, reply_of, last_reply, keeps_open, IsEndable, IsEnded};
+ghost use Rattle.oe_core.specs.Core.{world_of, reply_of, last_reply, last_payment, keeps_open, IsEndable, IsEnded};
 
 use crate::advances::Advanced;
 use crate::programs::Program;
 use crate::rejections::rejection;
 use crate::slots::{Work, begin_work, empty_txs, empty_works, open_tx, put_tx, slot, take_tx};
 use oe_engine::{Engine, ExtentCount, Progress, Tx};
-use oe_requests::{Query, Refusal, Reply, Request};
+use oe_requests::{PaymentReply, Query, Refusal, Reply, Request};
 use oe_steps::{Answer, Condition, Step};
 use oe_store::Tables;
 use oe_table::tables::NoMemory;
@@ -90,6 +92,22 @@ impl Core {
         }
         match &self.works[slot(terminal)] {
             Some(work) => work.program.reply(&work.request),
+            None => None,
+        }
+    }
+
+    /// The reply of a terminal's last transaction, where that was a payment and has committed; none where it was another's, is open,
+    /// was rolled back, or there was none. Nothing is copied.
+    #[inline]
+    pub fn last_payment(&self, terminal: Terminal) -> Option<&PaymentReply>
+        ensures { option_map Reply.Payment (option_copied result)
+            ≡ last_payment self.now terminal }
+    {
+        if let Some(_tx) = &self.txs[slot(terminal)] {
+            return None;
+        }
+        match &self.works[slot(terminal)] {
+            Some(work) => work.program.payment_reply(&work.request),
             None => None,
         }
     }
@@ -276,6 +294,7 @@ impl Core {
     ///
     /// `NotOpen`, `Busy`, `UndoFull` and `NoMemory` have changed nothing. After another refusal the transaction is rolled back. The reply of a
     /// commit is the terminal's `last_reply`.
+    #[inline(always)]
     pub fn advance(&mut self, terminal: Terminal) -> Advanced
         ensures { Advances (world_of self.old) terminal result (world_of self.new)
             (last_reply self.new terminal) }
@@ -342,8 +361,8 @@ fn keeps_open(refusal: &Refusal) -> bool
 }
 
 /// Commits a transaction of the engine whose program is at its end, and answers the moment that it made. The log keeps no byte of
-/// request and reply, so that no reply is built here.
-#[inline(never)]
+/// request and reply, so that of a payment none is copied here.
+#[inline]
 fn commit(engine: &mut Engine, tx: Tx, request: &Request, program: &Program) -> Moment
     requires open { IsOpen engine.old tx }
     requires ready { IsSome (reply_of request.now program.now) }
@@ -352,10 +371,42 @@ fn commit(engine: &mut Engine, tx: Tx, request: &Request, program: &Program) -> 
         (λ y. view_of engine.new ≡ committed tx.terminal request.now y (view_of engine.old)) }
     ensures name { engine.new.name ≡ engine.old.name }
 {
-    let Some(reply) = program.reply(request) else {
+    match program.payment_reply(request) {
+        Some(reply) => commit_payment(engine, tx, request, reply),
+        None => commit_other(engine, tx, request, program),
+    }
+}
+
+/// The same with the reply of a payment, which lies where its program does.
+#[inline]
+fn commit_payment(engine: &mut Engine, tx: Tx, request: &Request, payment: &PaymentReply) -> Moment
+    requires { IsOpen engine.old tx }
+    ensures moment { result ≡ suc (total terminal_limit (view_of engine.old).counts) }
+    ensures committed { view_of engine.new
+        ≡ committed tx.terminal request.now (Reply.Payment payment.now) (view_of engine.old) }
+    ensures name { engine.new.name ≡ engine.old.name }
+{
+    let reply = Reply::Payment(payment.copied());
+    match engine.commit(tx, Snapshot::of(request), Snapshot::of(&reply)) {
+        Ok(moment) => moment,
+        Err(_) => unreachable!(),
+    }
+}
+
+/// The same of any program. It has room for a whole reply, which a payment's commit does without.
+#[inline(never)]
+fn commit_other(engine: &mut Engine, tx: Tx, request: &Request, program: &Program) -> Moment
+    requires open { IsOpen engine.old tx }
+    requires ready { IsSome (reply_of request.now program.now) }
+    ensures moment { result ≡ suc (total terminal_limit (view_of engine.old).counts) }
+    ensures committed { IfSome (reply_of request.now program.now)
+        (λ y. view_of engine.new ≡ committed tx.terminal request.now y (view_of engine.old)) }
+    ensures name { engine.new.name ≡ engine.old.name }
+{
+    let Some(told) = program.reply(request) else {
         unreachable!()
     };
-    match engine.commit(tx, Snapshot::of(request), Snapshot::of(&reply)) {
+    match engine.commit(tx, Snapshot::of(request), Snapshot::of(&told)) {
         Ok(moment) => moment,
         Err(_) => unreachable!(),
     }

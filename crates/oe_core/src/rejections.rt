@@ -6,11 +6,12 @@ ghost use Rattle.oe_store.specs.Places.{rows};
 ghost use Rattle.oe_core.specs.Steps.{HasProgram};
 
 use oe_keys::{Key, WarehouseKey};
-use oe_requests::{Refusal, Request, RequestLine};
+use oe_requests::{PaymentRequest, Refusal, Request, RequestLine};
 use oe_store::Tables;
 use oe_values::WarehouseNumber;
 
 /// `NoSuchRow` of a warehouse that isn't there.
+#[inline]
 fn absent(tables: &Tables, warehouse: WarehouseNumber) -> Option<Refusal>
     ensures { result ≡ first_absent (warehouse ∷ []) (rows tables.now) }
 {
@@ -18,6 +19,23 @@ fn absent(tables: &Tables, warehouse: WarehouseNumber) -> Option<Refusal>
         Some(_) => None,
         None => Some(Refusal::NoSuchRow(Key::Warehouse(WarehouseKey { warehouse }))),
     }
+}
+
+/// `NoSuchRow` of the first of a payment's two warehouses that isn't there. They are mostly one, which is then looked up once.
+#[inline]
+fn absent_of_payment(tables: &Tables, payment: &PaymentRequest) -> Option<Refusal>
+    ensures { result ≡ first_absent (payment.now.district.warehouse
+        ∷ payment.now.customer_district.warehouse ∷ []) (rows tables.now) }
+{
+    let first = payment.district.warehouse;
+    let second = payment.customer_district.warehouse;
+    if let Some(refusal) = absent(tables, first) {
+        return Some(refusal);
+    }
+    if second == first {
+        return None;
+    }
+    absent(tables, second)
 }
 
 /// `NoSuchRow` of the first warehouse, in line order, that is to supply an item and isn't there.
@@ -38,10 +56,7 @@ pub fn rejection(tables: &Tables, request: &Request) -> Option<Refusal>
     ensures { result ≡ model.rejection request.now (rows tables.now) }
 {
     match request {
-        Request::Payment(payment) => match absent(tables, payment.district.warehouse) {
-            Some(refusal) => Some(refusal),
-            None => absent(tables, payment.customer_district.warehouse),
-        },
+        Request::Payment(payment) => absent_of_payment(tables, payment),
         Request::NewOrder(order) => match absent(tables, order.district.warehouse) {
             Some(refusal) => Some(refusal),
             None => absent_supply(tables, order.lines.as_slice()),

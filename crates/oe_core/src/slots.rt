@@ -22,6 +22,7 @@ pub struct Work {
 impl Work {
     /// Becomes what a transaction of this request carries out that has just begun. The whole is long, so each part is written where
     /// it lies.
+    #[inline]
     fn start(&mut self, request: &Request)
         requires { HasProgram request.now }
         ensures { IsBegun request.now self.new }
@@ -49,6 +50,7 @@ impl Mark {
     }
 
     /// Moves to the beginning of a transaction of this request.
+    #[inline]
     pub fn start(&mut self, request: &Request)
         requires { HasProgram request.now }
         ensures of { IsOf request.now self.new.program }
@@ -61,6 +63,7 @@ impl Mark {
 }
 
 /// The slot of a terminal.
+#[inline]
 pub fn slot(terminal: Terminal) -> usize
     ensures value { result ≡ terminal }
     ensures high { result ≤ TERMINALS }
@@ -141,25 +144,51 @@ fn begun_work(request: &Request) -> Work
 }
 
 // Another request in the place of one.
+#[inline]
 fn put_request(slot: &mut Request, request: &Request)
+    ensures { slot.new ≡ request.now }
+{
+    match slot {
+        Request::Payment(old) => match request {
+            Request::Payment(payment) => *old = payment.copied(),
+            _ => put_other(slot, request),
+        },
+        _ => put_other(slot, request),
+    }
+}
+
+// The same where a payment does not follow a payment. It has room for a whole request, which a payment's does without.
+#[inline(never)]
+fn put_other(slot: &mut Request, request: &Request)
     ensures { slot.new ≡ request.now }
 {
     *slot = request.copied();
 }
 
 // In a slot: over what an earlier transaction left there, if there was one.
+#[inline]
 fn begin_slot(slot: &mut Option<Work>, request: &Request)
     requires { HasProgram request.now }
     ensures { (w : Work) × IsBegun request.now w × (slot.new ≡ Some w) }
 {
     match slot {
         Some(work) => work.start(request),
-        None => *slot = Some(begun_work(request)),
+        None => begin_first(slot, request),
     }
+}
+
+// In a slot where no transaction has been.
+#[inline(never)]
+fn begin_first(slot: &mut Option<Work>, request: &Request)
+    requires { HasProgram request.now }
+    ensures { (w : Work) × IsBegun request.now w × (slot.new ≡ Some w) }
+{
+    *slot = Some(begun_work(request));
 }
 
 /// Puts into a terminal's slot what a transaction of this request carries out that has just begun. Over what an earlier one left
 /// there it is written part by part, since the whole is long.
+#[inline]
 pub fn begin_work(works: &mut Vec<Option<Work>>, terminal: Terminal, request: &Request)
     requires at { terminal < vec_len works.old }
     requires program { HasProgram request.now }
