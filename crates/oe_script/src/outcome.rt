@@ -1,5 +1,5 @@
 //! What a line comes to: the step that it asks for is taken, and the text of its answer appended.
-ghost use Rattle.std.specs.Prelude.{◌≡◌, ◌≤◌, ◌+◌, ◌++◌, ℕ, List, length, Option, Some, None, IfOk};
+ghost use Rattle.std.specs.Prelude.{◌≡◌, ◌≤◌, ◌+◌, ◌++◌, ℕ, List, length, Option, Some, None, IfOk, IsSome};
 ghost use Rattle.arrayvec.specs.ArrayVec.{array_vec_len};
 ghost use Rattle.oe_theory.specs.Next.{Next};
 ghost use Rattle.oe_theory.specs.Theorems.{opened};
@@ -8,6 +8,7 @@ ghost use Rattle.oe_model.specs.Population.{IsPopulated};
 ghost use Rattle.oe_model.specs.System.{system};
 ghost use Rattle.oe_lines.specs.Grammar.{Says, HasForm};
 ghost use Rattle.oe_lines.specs.declared.commands.Command.TheVariants as asks;
+ghost use Rattle.oe_requests.specs.declared.replies.Reply.{Reply};
 ghost use Rattle.oe_steps.specs.declared.answers.Answer.{Answer};
 ghost use Rattle.oe_texts.specs.Answer.{answer_line};
 ghost use Rattle.oe_core.specs.Core.{world_of, last_reply};
@@ -20,12 +21,15 @@ use crate::dumps::dump;
 use crate::output::{bad, make_room};
 use crate::ports::{Failed, Outlet};
 use oe_core::{Advanced, Core};
-use oe_lines::{Command, ExtentCount, MomentChoice, command};
+use oe_lines::{Command, ExtentCount, MomentChoice, command, payment_to_begin, terminal_to_run};
 use oe_requests::{Query, Refusal, Request};
 use oe_rows::Scale;
 use oe_steps::{Answer, Condition, Step};
 use oe_store::{NoMemory, populate};
-use oe_texts::{LONGEST, Pending, SIZE, answer, audited, begun, committed, more, opened, refused};
+use oe_texts::{
+    LONGEST, Pending, SIZE, answer, audited, begun, committed, committed_payment, more, opened,
+    refused,
+};
 use oe_values::{Moment, Terminal};
 use std::alloc::Global;
 
@@ -66,21 +70,95 @@ fn take_line<W: Outlet>(
     ensures { Replies (state_of core.old) number line.now (state_of core.new)
         (W.sink to.old) out.old.items (W.sink to.new) out.new.items result }
 {
-    let Some(asked) = command(line) else {
-        bad(out, number);
-        return Ok(());
-    };
     match core {
         None => {
-            first(core, alloc, &asked, number, out);
+            first_line(core, alloc, line, number, out);
             Ok(())
         }
-        Some(core) => later(core, &asked, number, out, to),
+        Some(core) => run_or_later(core, line, number, out, to),
     }
 }
 
 /// The same before something is open.
 #[inline(never)]
+fn first_line(core: &mut Option<Core>, alloc: Global, line: &[u8], number: u128, out: &mut Pending)
+    requires room { array_vec_len out.old + LONGEST ≤ SIZE }
+    requires short { length line.now ≤ 1_024 }
+    requires none { core.old ≡ None }
+    ensures { (text : List ℕ) × LineAnswer None number line.now text (state_of core.new)
+        × (out.new.items ≡ out.old.items ++ text) }
+{
+    match command(line) {
+        Some(asked) => first(core, alloc, &asked, number, out),
+        None => bad(out, number),
+    }
+}
+
+/// The same where something is open. A run is told by the terminal alone, since a command is long.
+fn run_or_later<W: Outlet>(
+    core: &mut Core,
+    line: &[u8],
+    number: u128,
+    out: &mut Pending,
+    to: &mut W,
+) -> Result<(), Failed>
+    requires room { array_vec_len out.old + LONGEST ≤ SIZE }
+    requires short { length line.now ≤ 1_024 }
+    requires live { IsLive (Some (world_of core.old)) }
+    ensures { Replies (Some (world_of core.old)) number line.now (Some (world_of core.new))
+        (W.sink to.old) out.old.items (W.sink to.new) out.new.items result }
+{
+    if let Some(terminal) = terminal_to_run(line) {
+        tell_run(core, terminal, out);
+        return Ok(());
+    }
+    begin_or_later(core, line, number, out, to)
+}
+
+/// The same where the line runs nothing. Of a payment no more is written than it has.
+fn begin_or_later<W: Outlet>(
+    core: &mut Core,
+    line: &[u8],
+    number: u128,
+    out: &mut Pending,
+    to: &mut W,
+) -> Result<(), Failed>
+    requires room { array_vec_len out.old + LONGEST ≤ SIZE }
+    requires short { length line.now ≤ 1_024 }
+    requires live { IsLive (Some (world_of core.old)) }
+    ensures { Replies (Some (world_of core.old)) number line.now (Some (world_of core.new))
+        (W.sink to.old) out.old.items (W.sink to.new) out.new.items result }
+{
+    if let Some(asked) = payment_to_begin(line) {
+        tell_begin(core, asked.0, &Request::Payment(asked.1), out);
+        return Ok(());
+    }
+    later_line(core, line, number, out, to)
+}
+
+/// The same of any line.
+#[inline(never)]
+fn later_line<W: Outlet>(
+    core: &mut Core,
+    line: &[u8],
+    number: u128,
+    out: &mut Pending,
+    to: &mut W,
+) -> Result<(), Failed>
+    requires room { array_vec_len out.old + LONGEST ≤ SIZE }
+    requires short { length line.now ≤ 1_024 }
+    requires live { IsLive (Some (world_of core.old)) }
+    ensures { Replies (Some (world_of core.old)) number line.now (Some (world_of core.new))
+        (W.sink to.old) out.old.items (W.sink to.new) out.new.items result }
+{
+    let Some(asked) = command(line) else {
+        bad(out, number);
+        return Ok(());
+    };
+    later(core, &asked, number, out, to)
+}
+
+/// The same of what a line asks for.
 fn first(core: &mut Option<Core>, alloc: Global, asked: &Command, number: u128, out: &mut Pending)
     requires room { array_vec_len out.old + LONGEST ≤ SIZE }
     requires none { core.old ≡ None }
@@ -114,7 +192,7 @@ fn populated(alloc: Global, scale: Scale, extents: ExtentCount) -> Result<Core, 
     }
 }
 
-/// The same where something is open.
+/// The same of what a line asks for.
 fn later<W: Outlet>(
     core: &mut Core,
     asked: &Command,
@@ -227,6 +305,7 @@ fn run(core: &mut Core, terminal: Terminal) -> Advanced
 }
 
 /// Appends the answer of a terminal's advance that ended so. The reply of a commit is told by the core.
+#[inline(always)]
 fn tell_advanced(core: &Core, terminal: Terminal, ended: &Advanced, out: &mut Pending)
     requires room { array_vec_len out.old + LONGEST ≤ SIZE }
     requires answer { (x : Answer) × IsAnswer (last_reply core.now terminal) ended.now x }
@@ -235,11 +314,36 @@ fn tell_advanced(core: &Core, terminal: Terminal, ended: &Advanced, out: &mut Pe
 {
     match ended {
         Advanced::More => more(out),
-        Advanced::Committed(moment) => match core.last_reply(terminal) {
-            Some(reply) => committed(out, *moment, &reply),
-            None => unreachable!(),
-        },
+        Advanced::Committed(moment) => tell_commit(core, terminal, *moment, out),
         Advanced::Refused(refusal) => refused(out, refusal),
+    }
+}
+
+/// Appends the answer of the commit at a moment which a terminal's last transaction made.
+#[inline]
+fn tell_commit(core: &Core, terminal: Terminal, moment: Moment, out: &mut Pending)
+    requires room { array_vec_len out.old + LONGEST ≤ SIZE }
+    requires reply { IsSome (last_reply core.now terminal) }
+    ensures { (y : Reply) → last_reply core.now terminal ≡ Some y
+        → out.new.items ≡ out.old.items ++ answer_line (Answer.Committed moment y) }
+{
+    match core.last_payment(terminal) {
+        Some(reply) => committed_payment(out, moment, reply),
+        None => tell_other_commit(core, terminal, moment, out),
+    }
+}
+
+/// The same of any transaction. It has room for a whole reply, which a payment's answer does without.
+#[inline(never)]
+fn tell_other_commit(core: &Core, terminal: Terminal, moment: Moment, out: &mut Pending)
+    requires room { array_vec_len out.old + LONGEST ≤ SIZE }
+    requires reply { IsSome (last_reply core.now terminal) }
+    ensures { (y : Reply) → last_reply core.now terminal ≡ Some y
+        → out.new.items ≡ out.old.items ++ answer_line (Answer.Committed moment y) }
+{
+    match core.last_reply(terminal) {
+        Some(reply) => committed(out, moment, &reply),
+        None => unreachable!(),
     }
 }
 

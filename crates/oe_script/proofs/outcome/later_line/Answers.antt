@@ -1,14 +1,14 @@
 use Rattle.std.proofs.Common.{◌≡◌, Option, None, Some, sym, ◌∙◌}
 use Rattle.oe_lines.specs.declared.commands.Command.{Command}
+use Rattle.oe_core.specs.Core.{world_of}
 use Rattle.oe_script.specs.Script.{bad_line}
-use Rattle.oe_script.specs.Session.{state_of}
 use Rattle.oe_script.proofs.Streaming.{sent_waits}
 use Rattle.oe_script.proofs.LineFacts.{refused}
-use Rattle.oe_script.proofs.outcome.take_line.Goals as goal
+use Rattle.oe_script.proofs.outcome.later_line.Goals as goal
 
 pub returns-in_default : goal.returns-in_default
 returns-in_default g c = (
   bad_line c.args.number,
-  refused (state_of c.args.core.now) c.args.number c.args.line.now (λ d asks. let said : ◌≡◌ {A = Option Command} None (Some d) = sym c.in_default.is ∙ c.command.ensures.only d asks.says in let no : ⊥ = cc in no),
+  refused (Some (world_of c.args.core.now)) c.args.number c.args.line.now (λ d asks. let said : ◌≡◌ {A = Option Command} None (Some d) = sym c.in_default.is ∙ c.command.ensures.only d asks.says in let no : ⊥ = cc in no),
   sent_waits (g.W.Outlet.sink c.args.to.now) c.args.out.now.items c.bad.new.out.items (bad_line c.args.number) c.bad.ensures,
 )
