@@ -26,7 +26,7 @@ use crate::numbers::list_number;
 use crate::walks::Found;
 use oe_keys::{CustomerKey, DistrictKey};
 use oe_rows::{Account, Customer};
-use oe_table::shelf_walks::Rows;
+use oe_table::shelf_walks::{Candidates, Rows};
 use oe_table::shelves::Shelves;
 use oe_table::tables::NoMemory;
 use oe_values::Text;
@@ -161,6 +161,13 @@ impl Customers {
         ensures { result ≡ entries (rows_of customer_cmp self.now) }
     {
         self.rows.iter()
+    }
+
+    /// The keys that have a place, in their order, each with its row or, where it was blanked, `None`.
+    pub fn places(&self) -> Candidates<'_, CustomerKey, Customer>
+        ensures { result ≡ self.now }
+    {
+        self.rows.places()
     }
 
     /// The rows whose keys lie from `from` up to `to`, both included, in the keys' order.

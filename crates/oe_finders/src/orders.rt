@@ -26,7 +26,7 @@ use crate::numbers::owner_number;
 use crate::walks::Found;
 use oe_keys::{CustomerKey, OrderKey};
 use oe_rows::Order;
-use oe_table::shelf_walks::Rows;
+use oe_table::shelf_walks::{Candidates, Rows};
 use oe_table::shelves::Shelves;
 use oe_table::tables::NoMemory;
 use oe_values::{Carrier, CustomerNumber};
@@ -159,6 +159,13 @@ impl Orders {
         ensures { result ≡ entries (rows_of order_cmp self.now) }
     {
         self.rows.iter()
+    }
+
+    /// The keys that have a place, in their order, each with its row or, where it was blanked, `None`.
+    pub fn places(&self) -> Candidates<'_, OrderKey, Order>
+        ensures { result ≡ self.now }
+    {
+        self.rows.places()
     }
 
     /// The rows whose keys lie from `from` up to `to`, both included, in the keys' order.

@@ -5,5 +5,7 @@ pub mod Fill
 pub mod Group
 pub mod Dump
 pub mod Walk
+pub mod KeyWalk
+pub mod KeysLeft
 pub mod Newest
 pub mod Numbered

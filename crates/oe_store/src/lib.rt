@@ -8,6 +8,7 @@ pub mod dumps;
 mod fills;
 mod formulas;
 pub mod inserts;
+pub mod key_walks;
 mod numbers;
 pub mod population;
 pub mod purges;
@@ -18,6 +19,7 @@ pub mod updates;
 pub mod walks;
 
 pub use dumps::{Dump, Entry};
+pub use key_walks::KeyWalk;
 pub use oe_table::tables::NoMemory;
 pub use population::populate;
 pub use tables::Tables;

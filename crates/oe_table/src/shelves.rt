@@ -438,6 +438,14 @@ impl<K: ShelvedKey, R> Shelves<K, R> {
         Candidates { slots: places }
     }
 
+    /// The keys that have a place, in their order, each with its row or, where it was blanked, `None`.
+    pub fn places(&self) -> Candidates<'_, K, R>
+        ensures { result ≡ self.now }
+    {
+        let all_places = self.all_slots();
+        Candidates { slots: all_places }
+    }
+
     // All slots.
     fn all_slots(&self) -> Slots<'_, K, R>
         ensures places { result ≡ self.now }

@@ -1,0 +1,114 @@
+//! Walks over the keys of a table that have a place, those that were blanked too.
+ghost use Rattle.std.specs.Prelude.{◌≡◌};
+ghost use Rattle.std.specs.Iterator.{YieldsFirstBy, item_count};
+ghost use Rattle.oe_keys.specs.declared.keys.Key.{Key};
+ghost use Rattle.oe_store.specs.KeyWalk.{placed_keys};
+
+use crate::tables::Tables;
+use oe_keys::{
+    CustomerKey, DistrictKey, HistoryKey, ItemKey, Key, NewOrderKey, OrderKey, OrderLineKey,
+    StockKey, Table, WarehouseKey,
+};
+use oe_rows::{Customer, District, History, Item, NewOrder, Order, OrderLine, Stock, Warehouse};
+use oe_table::shelf_walks::Candidates;
+use std::marker::Model;
+
+/// The walk over the places of one table.
+#[derive(Drop)]
+pub(crate) enum PlaceWalk<'a> {
+    Warehouses(Candidates<'a, WarehouseKey, Warehouse>),
+    Districts(Candidates<'a, DistrictKey, District>),
+    Customers(Candidates<'a, CustomerKey, Customer>),
+    Histories(Candidates<'a, HistoryKey, History>),
+    NewOrders(Candidates<'a, NewOrderKey, NewOrder>),
+    Orders(Candidates<'a, OrderKey, Order>),
+    OrderLines(Candidates<'a, OrderLineKey, OrderLine>),
+    Items(Candidates<'a, ItemKey, Item>),
+    Stocks(Candidates<'a, StockKey, Stock>),
+}
+
+/// The keys of one table that have a place, in their order.
+#[derive(Drop)]
+pub struct KeyWalk<'a> {
+    walk: PlaceWalk<'a>,
+}
+
+impl<'a> Model for KeyWalk<'a> {
+    ghost use Rattle.std.specs.Prelude.{List};
+    ghost use Rattle.oe_keys.specs.declared.keys.Key.{Key};
+
+    ghost Value = { List Key };
+
+    ghost use Rattle.oe_store.specs.KeysLeft.{keys_left};
+
+    ghost view = { λ w. keys_left w.walk };
+}
+
+impl<'a> Iterator for KeyWalk<'a> {
+    type Item = Key;
+
+    ghost next_gives = { YieldsFirstBy (λ (k : Key). k) (λ it. it) };
+
+    ghost remaining = { item_count (λ it. it) };
+
+    fn next(&mut self) -> Option<Key> {
+        match &mut self.walk {
+            PlaceWalk::Warehouses(places) => {
+                let (key, _row) = places.next()?;
+                Some(Key::Warehouse(*key))
+            }
+            PlaceWalk::Districts(places) => {
+                let (key, _row) = places.next()?;
+                Some(Key::District(*key))
+            }
+            PlaceWalk::Customers(places) => {
+                let (key, _row) = places.next()?;
+                Some(Key::Customer(*key))
+            }
+            PlaceWalk::Histories(places) => {
+                let (key, _row) = places.next()?;
+                Some(Key::History(*key))
+            }
+            PlaceWalk::NewOrders(places) => {
+                let (key, _row) = places.next()?;
+                Some(Key::NewOrder(*key))
+            }
+            PlaceWalk::Orders(places) => {
+                let (key, _row) = places.next()?;
+                Some(Key::Order(*key))
+            }
+            PlaceWalk::OrderLines(places) => {
+                let (key, _row) = places.next()?;
+                Some(Key::OrderLine(*key))
+            }
+            PlaceWalk::Items(places) => {
+                let (key, _row) = places.next()?;
+                Some(Key::Item(*key))
+            }
+            PlaceWalk::Stocks(places) => {
+                let (key, _row) = places.next()?;
+                Some(Key::Stock(*key))
+            }
+        }
+    }
+}
+
+impl Tables {
+    /// The keys of a table that have a place, in their order, those that were blanked too. It takes no memory.
+    pub fn keys(&self, table: Table) -> KeyWalk<'_>
+        ensures { result ≡ placed_keys table self.now }
+    {
+        let walk = match table {
+            Table::Warehouse => PlaceWalk::Warehouses(self.warehouses.places()),
+            Table::District => PlaceWalk::Districts(self.districts.places()),
+            Table::Customer => PlaceWalk::Customers(self.customers.places()),
+            Table::History => PlaceWalk::Histories(self.histories.places()),
+            Table::NewOrder => PlaceWalk::NewOrders(self.new_orders.places()),
+            Table::Order => PlaceWalk::Orders(self.orders.places()),
+            Table::OrderLine => PlaceWalk::OrderLines(self.order_lines.places()),
+            Table::Item => PlaceWalk::Items(self.items.places()),
+            Table::Stock => PlaceWalk::Stocks(self.stocks.places()),
+        };
+        KeyWalk { walk }
+    }
+}
