@@ -3,6 +3,7 @@ ghost use Rattle.std.specs.Prelude.{◌≡◌, ◌≤◌, ◌+◌, length};
 ghost use Rattle.oe_bytes.specs.Spelling.{Writes};
 ghost use Rattle.oe_extent.specs.Strings.{IsFramed};
 ghost use Rattle.oe_layout.specs.Kinds.{kind_of};
+ghost use Rattle.oe_model.specs.Changes.{record_key};
 ghost use Rattle.oe_model.specs.Lengths.{record_length};
 ghost use Rattle.oe_layout.specs.Records.{contents, record_image, record_of_lent};
 
@@ -11,7 +12,7 @@ use crate::links::Previous;
 use oe_bytes::Written;
 use oe_image::Imaged;
 use oe_keys::{
-    CustomerKey, DistrictKey, HistoryKey, NewOrderKey, OrderKey, OrderLineKey, StockKey,
+    CustomerKey, DistrictKey, HistoryKey, Key, NewOrderKey, OrderKey, OrderLineKey, StockKey,
     WarehouseKey,
 };
 use oe_rows::customers::Customer;
@@ -53,6 +54,26 @@ impl<'a> LentRecord<'a> {
             LentRecord::UpdatedOrderLine(_, _) => RecordKind::UpdatedOrderLine,
             LentRecord::UpdatedStock(_, _) => RecordKind::UpdatedStock,
             LentRecord::DeletedNewOrder(_) => RecordKind::DeletedNewOrder,
+        }
+    }
+
+    /// The key of the row that is changed.
+    #[inline(always)]
+    pub fn key(&self) -> Key
+        ensures { result ≡ record_key (record_of_lent self.now) }
+    {
+        match self {
+            LentRecord::InsertedHistory(key) => Key::History(*key),
+            LentRecord::InsertedNewOrder(key) => Key::NewOrder(*key),
+            LentRecord::InsertedOrder(key) => Key::Order(*key),
+            LentRecord::InsertedOrderLine(key) => Key::OrderLine(*key),
+            LentRecord::UpdatedWarehouse(key, _) => Key::Warehouse(*key),
+            LentRecord::UpdatedDistrict(key, _) => Key::District(*key),
+            LentRecord::UpdatedCustomer(key, _) => Key::Customer(*key),
+            LentRecord::UpdatedOrder(key, _) => Key::Order(*key),
+            LentRecord::UpdatedOrderLine(key, _) => Key::OrderLine(*key),
+            LentRecord::UpdatedStock(key, _) => Key::Stock(*key),
+            LentRecord::DeletedNewOrder(key) => Key::NewOrder(*key),
         }
     }
 

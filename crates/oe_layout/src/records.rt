@@ -1,6 +1,10 @@
 //! Undo records with their rows.
+ghost use Rattle.std.specs.Prelude.{◌≡◌};
+ghost use Rattle.oe_model.specs.Changes.{record_key};
+ghost use Rattle.oe_layout.specs.Records.{record_of_own};
+
 use oe_keys::{
-    CustomerKey, DistrictKey, HistoryKey, NewOrderKey, OrderKey, OrderLineKey, StockKey,
+    CustomerKey, DistrictKey, HistoryKey, Key, NewOrderKey, OrderKey, OrderLineKey, StockKey,
     WarehouseKey,
 };
 use oe_rows::customers::Customer;
@@ -24,4 +28,25 @@ pub enum OwnRecord {
     UpdatedOrderLine(OrderLineKey, OrderLine),
     UpdatedStock(StockKey, Stock),
     DeletedNewOrder(NewOrderKey),
+}
+
+impl OwnRecord {
+    /// The key of the row that was changed.
+    pub fn key(&self) -> Key
+        ensures { result ≡ record_key (record_of_own self.now) }
+    {
+        match self {
+            OwnRecord::InsertedHistory(key) => Key::History(*key),
+            OwnRecord::InsertedNewOrder(key) => Key::NewOrder(*key),
+            OwnRecord::InsertedOrder(key) => Key::Order(*key),
+            OwnRecord::InsertedOrderLine(key) => Key::OrderLine(*key),
+            OwnRecord::UpdatedWarehouse(key, _) => Key::Warehouse(*key),
+            OwnRecord::UpdatedDistrict(key, _) => Key::District(*key),
+            OwnRecord::UpdatedCustomer(key, _) => Key::Customer(*key),
+            OwnRecord::UpdatedOrder(key, _) => Key::Order(*key),
+            OwnRecord::UpdatedOrderLine(key, _) => Key::OrderLine(*key),
+            OwnRecord::UpdatedStock(key, _) => Key::Stock(*key),
+            OwnRecord::DeletedNewOrder(key) => Key::NewOrder(*key),
+        }
+    }
 }

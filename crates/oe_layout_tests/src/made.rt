@@ -6,8 +6,8 @@ use oe_values::numbers::{Amount, Number};
 use oe_values::stamps::Stamp;
 use oe_values::texts::Text;
 
-/// Warehouse 1 as it is populated at 10 customers a district.
-pub(crate) fn warehouse() -> Option<(WarehouseKey, Warehouse)> {
+/// Warehouse 1 with a year to date of so many cents: 1,000.00 as it is populated at 10 customers a district.
+pub(crate) fn warehouse(year_to_date: u64) -> Option<(WarehouseKey, Warehouse)> {
     let key = WarehouseKey {
         warehouse: Number::new(1)?,
     };
@@ -22,7 +22,7 @@ pub(crate) fn warehouse() -> Option<(WarehouseKey, Warehouse)> {
         name: Text::read("WARE01")?,
         address,
         tax: Number::new(100)?,
-        ytd: Amount::new(100_000)?,
+        ytd: Amount::new(year_to_date)?,
     };
     Some((key, row))
 }

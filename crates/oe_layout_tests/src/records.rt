@@ -10,6 +10,10 @@ use oe_values::numbers::Moment;
 const WAREHOUSE: &[u8] =
     b"\x00\x4d\x02\x01\xff\xff\xff\xff\x00\x00\x00\x00\x00\x00\x00\x00\x00\x01\x00\x06WARE01\x00\x07STREET1\x00\x07STREET2\x00\x04CITY\x00\x02ST\x00\x09000111111\x00\x64\x00\x00\x00\x00\x00\x01\x86\xa0\x00\x4d";
 
+// The second payment of 1.00 to the warehouse; the record of the first begins the ring, and its commit made moment 1.
+const SECOND_PAYMENT: &[u8] =
+    b"\x00\x4d\x02\x01\x00\x00\x00\x00\x00\x00\x00\x00\x00\x00\x00\x01\x00\x01\x00\x06WARE01\x00\x07STREET1\x00\x07STREET2\x00\x04CITY\x00\x02ST\x00\x09000111111\x00\x64\x00\x00\x00\x00\x00\x01\x87\x04\x00\x4d";
+
 const QUEUE_ENTRY: &[u8] =
     b"\x00\x19\x03\x05\xff\xff\xff\xff\x00\x00\x00\x00\x00\x00\x00\x00\x00\x01\x01\x00\x00\x00\x08\x00\x19";
 
@@ -45,7 +49,7 @@ fn is_refused(image: &[u8], offset: usize, byte: u8) -> bool {
 }
 
 fn writes_warehouse() -> bool {
-    let Some((key, row)) = warehouse() else {
+    let Some((key, row)) = warehouse(100_000) else {
         return false;
     };
     let record = LinkedRecord {
@@ -55,8 +59,25 @@ fn writes_warehouse() -> bool {
     is_written(&record, WAREHOUSE)
 }
 
+fn writes_second_payment() -> bool {
+    let Some((key, row)) = warehouse(100_100) else {
+        return false;
+    };
+    let Some(first) = address(0, 0) else {
+        return false;
+    };
+    let Some(moment) = Moment::new(1) else {
+        return false;
+    };
+    let record = LinkedRecord {
+        previous: Previous::Committed(first, moment),
+        record: LentRecord::UpdatedWarehouse(key, &row),
+    };
+    is_written(&record, SECOND_PAYMENT)
+}
+
 fn reads_warehouse() -> bool {
-    let Some((key, row)) = warehouse() else {
+    let Some((key, row)) = warehouse(100_000) else {
         return false;
     };
     let Some((previous, record)) = read_record(WAREHOUSE) else {
@@ -124,6 +145,7 @@ fn writes_stock() -> bool {
 #[test]
 fn records_are_as_worked(rt: HostRuntime) {
     assert!(rt; writes_warehouse());
+    assert!(rt; writes_second_payment());
     assert!(rt; writes_queue_entry());
     assert!(rt; writes_stock());
 }
