@@ -22,7 +22,7 @@ use Rattle.oe_chains.specs.Held.{Held, held_open, held_commits, held, of_key, ho
 use Rattle.oe_chains.specs.Chains.{link_from, IsEnd, IsChain, AreChained, linked, holder_sealed, holder_reopened, with_holder, marked}
 use Rattle.oe_chains.specs.Laws.{IsWhole}
 use Rattle.oe_model.proofs.RowFacts.{key_true, key_refl}
-use Rattle.oe_chains.proofs.ChainFacts.{at_moment, chain_open, chain-open, chain-same, own, commits-append, commits-up, nobody, no_record}
+use Rattle.oe_chains.proofs.ChainFacts.{given, chain_open, chain-open, chain-same, own, commits-append, commits-up, nobody, no_record}
 use Rattle.oe_chains.proofs.ChainFacts as chain
 
 -- ---- terminals' states
@@ -214,12 +214,12 @@ seals u links t o q y whole is c = λ k.
     one_less : (n : ℕ) → n ≡ suc n - 1
     one_less n = omega arith
 
--- links that are given a moment one after another
-twice : (m : ℕ) (xs : List Held) (l : Option Link) → at_moment m xs (with_holder (λ h. At m) l) ≡ with_holder (λ h. At m) l
-twice m [] None = refl
-twice m [] (Some x) = refl
-twice m (x ∷ xs) None = refl
-twice m (x ∷ xs) (Some y) = refl
+-- links that are given a holder one after another
+twice : (h : Holder) (xs : List Held) (l : Option Link) → given h xs (with_holder (λ _. h) l) ≡ with_holder (λ _. h) l
+twice h [] None = refl
+twice h [] (Some x) = refl
+twice h (x ∷ xs) None = refl
+twice h (x ∷ xs) (Some y) = refl
 
 key_same : (a b : Key) → is_key a b ≡ is_key b a
 key_same a b = go (is_key a b) (is_key b a) refl refl
@@ -229,27 +229,41 @@ key_same a b = go (is_key a b) (is_key b a) refl refl
     go false true p q = let same : is_key a b ≡ true = subst (λ z. is_key a z ≡ true) (sym (key_true b a q)) (key_refl a) in same ∙ sym q
     go false false p q = p ∙ sym q
 
-marked_at : (m t : ℕ) (k : Key) (rs : List Logged) (links : Key → Option Link) → marked m (model_records rs) links k ≡ at_moment m (own k (Open t) rs) (links k)
-marked_at m t k [] links = refl
-marked_at m t k (r ∷ rs) links =
+marked_by : (x h : Holder) (k : Key) (rs : List Logged) (links : Key → Option Link) → marked x (model_records rs) links k ≡ given x (own k h rs) (links k)
+marked_by x h k [] links = refl
+marked_by x h k (r ∷ rs) links =
     let j : Key = record_key r.before in
-    marked_at m t k rs (linked links j (with_holder (λ h. At m) (links j)))
-    ∙ ap (λ c. at_moment m (own k (Open t) rs) (cond c (with_holder (λ h. At m) (links j)) (links k))) (key_same j k)
+    marked_by x h k rs (linked links j (with_holder (λ _. x) (links j)))
+    ∙ ap (λ c. given x (own k h rs) (cond c (with_holder (λ _. x) (links j)) (links k))) (key_same j k)
     ∙ go (is_key k j) refl
   where
     go : (c : Bool) → is_key k (record_key r.before) ≡ c
-        → at_moment m (own k (Open t) rs) (cond c (with_holder (λ h. At m) (links (record_key r.before))) (links k))
-        ≡ at_moment m (cond c (record { logged = r; holder = Open t } ∷ own k (Open t) rs) (own k (Open t) rs)) (links k)
-    go true e =
-        ap (λ z. at_moment m (own k (Open t) rs) (with_holder (λ h. At m) (links z))) (sym (key_true k (record_key r.before) e)) ∙ twice m (own k (Open t) rs) (links k)
+        → given x (own k h rs) (cond c (with_holder (λ _. x) (links (record_key r.before))) (links k))
+        ≡ given x (cond c (record { logged = r; holder = h } ∷ own k h rs) (own k h rs)) (links k)
+    go true e = ap (λ z. given x (own k h rs) (with_holder (λ _. x) (links z))) (sym (key_true k (record_key r.before) e)) ∙ twice x (own k h rs) (links k)
     go false e = refl
 
 pub marks : (u : SegmentLog) (links : Key → Option Link) (t : ℕ) (o : OpenSegment) (m : ℕ) (k : Key) → IsWhole u → active_at u t ≡ Some o
-    → AreChained u links → marked m (model_records (records_at u t)) links k ≡ with_holder (holder_sealed t m) (links k)
+    → AreChained u links → marked (At m) (model_records (records_at u t)) links k ≡ with_holder (holder_sealed t m) (links k)
 marks u links t o m k whole is c =
-    marked_at m t k (records_at u t) links
+    marked_by (At m) (Open t) k (records_at u t) links
     ∙ chain.sealed_links k (horizon u) (total_count u) (records_at u) t m (commits k (total_count u) u.committed) (links k)
     (commits-up k (total_count u) (total_count u) u.committed (omega arith)) terminal_limit (below_limit u t whole (known u t o is)) (opened_up k u (links k) (c k))
+
+pub reopen_marks : (u : SegmentLog) (links : Key → Option Link) (c : CommitSegment) (cs : List CommitSegment) (k : Key) → IsWhole u
+    → u.committed ≡ c ∷ cs → ((t : ℕ) → active_at u t ≡ None) → AreChained u links
+    → marked (Open c.terminal) (model_records c.records) links k ≡ with_holder (holder_reopened c.terminal (total_count u)) (links k)
+reopen_marks u links c cs k whole e closed chained =
+    let n : ℕ = total_count u in
+    let size = ap length e in
+    let few = whole.commits in
+    let older : List Held = commits k (n - 1) cs in
+    let all : chain_open k (records_at u) terminal_limit (commits k n u.committed) ≡ own k (At n) c.records ++ older =
+    nobody k (records_at u) terminal_limit (commits k n u.committed) (λ s less. ap (λ a. own k (Open s) (records_in a)) (closed s))
+    ∙ ap (commits k n) e ∙ commits-append k n c cs in
+    marked_by (Open c.terminal) (At n) k c.records links
+    ∙ chain.reopened_links k (horizon u) (n - 1) c.terminal n c.records older (links k) (omega (arith, size, few)) (omega (arith, size, few))
+    (commits-up k (n - 1) (n - 1) cs (omega arith)) (subst (IsChain (horizon u) (links k)) all (opened_up k u (links k) (chained k)))
 
 counted : (u : SegmentLog) (t : ℕ) → 1 ≤ count_at u t → t < length u.terminals
 counted u t some =

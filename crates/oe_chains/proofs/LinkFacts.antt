@@ -1,19 +1,21 @@
 -- A key's link leads along the key's records.
 use Rattle.std.proofs.Common.{◌≡◌, ℕ, suc, ◌+◌, ◌-◌, ◌≤◌, Bool, true, false, cond, inl, inr, List, [], ◌∷◌, ◌++◌, length, map, get_or, Option, None, Some, refl, sym, ap, ◌∙◌, subst, arith}
 use Rattle.std.specs.List.{AllByRecursion}
-use Rattle.std.proofs.lemmas.Bool.{le-ltb}
+use Rattle.std.proofs.lemmas.Bool.{cases_eq, le-ltb}
 use Rattle.oe_keys.specs.declared.keys.Key.{Key}
 use Rattle.oe_model.specs.Rows.{is_key}
 use Rattle.oe_model.specs.Changes.{Record, record_key}
 use Rattle.oe_model.specs.System.{terminal_limit, system}
+use Rattle.oe_model.proofs.RowFacts.{key_true}
 use Rattle.oe_theory.specs.Store.{all_below}
 use Rattle.oe_log.specs.Log.{Logged, IsAmong}
 use Rattle.oe_segments.specs.Segments.{SegmentLog, Committed as CommitSegment, records_at, records_of, committed_records, total_count}
+use Rattle.oe_segments.specs.Stands.{model_records}
 use Rattle.oe_chains.specs.declared.links.Link.{Link}
 use Rattle.oe_chains.specs.declared.links.Holder.{Holder}
 use Rattle.oe_chains.specs.declared.links.Holder.TheVariants.{Open, At}
 use Rattle.oe_chains.specs.Held.{Held, held_by, held_open, held_commits, held, of_key, horizon, is_later, count_later}
-use Rattle.oe_chains.specs.Chains.{link_to, link_from, IsForgotten, IsEnd, IsChain, AreChained, found, ticks}
+use Rattle.oe_chains.specs.Chains.{link_to, link_from, IsOwnOrDone, IsSeenBy, HaveNone, IsAlone, IsForgotten, IsEnd, IsChain, AreChained, found, ticks}
 use Rattle.oe_chains.specs.Oldest.{oldest_after}
 use Rattle.oe_chains.specs.Laws.{IsWhole}
 use Rattle.oe_chains.specs.Walks.{records_by, leads_later, Walks, Ends, Reads}
@@ -95,3 +97,41 @@ chains_are_walked u links k m count whole c le e =
     subst (λ o. Walks u m (links k) None (count_later m (of_key k (held u))) o) (walk_finds k u m count whole.commits e)
     (subst (λ n. Walks u m (links k) None n (found m (of_key k (held u)) None)) (walk_ticks k u m)
     (walked u (horizon u) m le (of_key k (held u)) (links k) None (stand_of_key u k (held u) (all_stand u whole)) (c k)))
+
+-- ---- who sees a link
+
+all_of_key : (k : Key) (xs : List Held) → AllByRecursion (λ r. record_key r.logged.before ≡ k) (of_key k xs)
+all_of_key k [] = tt
+all_of_key k (x ∷ xs) = go (is_key k (record_key x.logged.before)) refl (all_of_key k xs)
+  where
+    go : (c : Bool) → is_key k (record_key x.logged.before) ≡ c → AllByRecursion (λ r. record_key r.logged.before ≡ k) (of_key k xs)
+        → AllByRecursion (λ r. record_key r.logged.before ≡ k) (cond c (x ∷ of_key k xs) (of_key k xs))
+    go true e i = (sym (key_true k (record_key x.logged.before) e), i)
+    go false e i = i
+
+not_among : (k : Key) (r : Logged) (rs : List Logged) → HaveNone k (model_records rs) → IsAmong r rs → record_key r.before ≡ k → ⊥
+not_among k r [] none i e = i
+not_among k r (x ∷ xs) none (inl q) e = none.0 (ap (λ (z : Logged). record_key z.before) q ∙ e)
+not_among k r (x ∷ xs) none (inr i) e = not_among k r xs none.1 i e
+
+-- the holder of a record of the key
+alone_holds : (u : SegmentLog) (t : ℕ) (k : Key) (r : Logged) (h : Holder) → IsAlone u t k → IsAmong r (records_by u h) → record_key r.before ≡ k → IsOwnOrDone t h
+alone_holds u t k r (At m) alone among e = tt
+alone_holds u t k r (Open s) alone among e = elim (cases_eq s t) [ inl q ↦ q | inr ne ↦ absurd (not_among k r (records_at u s) (alone s ne) among e) ]
+
+end_seen : (h t : ℕ) (l : Option Link) → IsEnd h l → IsSeenBy t l
+end_seen h t None e = tt
+end_seen h t (Some l) e = go l.holder e
+  where
+    go : (x : Holder) → IsForgotten h x → IsOwnOrDone t x
+    go (Open s) f = absurd f
+    go (At n) f = tt
+
+first_seen : (u : SegmentLog) (t : ℕ) (k : Key) (h : ℕ) (l : Option Link) (xs : List Held) → IsAlone u t k → AllStand u xs
+    → AllByRecursion (λ r. record_key r.logged.before ≡ k) xs → IsChain h l xs → IsSeenBy t l
+first_seen u t k h l [] alone stand keys c = end_seen h t l c
+first_seen u t k h l (r ∷ rs) alone stand keys c = subst (IsSeenBy t) (sym c.0.leads) (alone_holds u t k r.logged r.holder alone stand.0 keys.0)
+
+pub sees_alone : (u : SegmentLog) (links : Key → Option Link) (t : ℕ) (k : Key) → IsWhole u → AreChained u links → IsAlone u t k → IsSeenBy t (links k)
+sees_alone u links t k whole c alone =
+    first_seen u t k (horizon u) (links k) (of_key k (held u)) alone (stand_of_key u k (held u) (all_stand u whole)) (all_of_key k (held u)) (c k)

@@ -1,12 +1,13 @@
 -- The records of a key as a chain: a link leads to the newest, and the previous link in each record to the next older one.
-use Rattle.std.specs.Prelude.{◌≡◌, ℕ, suc, ◌≤◌, ◌<◌, ◌==◌, cond, List, [], ◌∷◌, Option, None, Some, ⊤}
+use Rattle.std.specs.Prelude.{◌≡◌, ◌≢◌, ℕ, suc, ◌≤◌, ◌<◌, ◌==◌, cond, List, [], ◌∷◌, Option, None, Some, ⊤}
 use Rattle.oe_keys.specs.declared.keys.Key.{Key}
 use Rattle.oe_model.specs.Rows.{is_key}
 use Rattle.oe_model.specs.Changes.{Record, record_key}
 use Rattle.oe_layout.specs.declared.links.RecordAddress.{RecordAddress}
 use Rattle.oe_layout.specs.declared.links.Previous.{Previous}
 use Rattle.oe_layout.specs.declared.links.Previous.TheVariants.{Nothing, Own, Committed}
-use Rattle.oe_segments.specs.Segments.{SegmentLog}
+use Rattle.oe_segments.specs.Segments.{SegmentLog, records_at}
+use Rattle.oe_segments.specs.Stands.{model_records}
 use Rattle.oe_chains.specs.declared.links.Link.{Link}
 use Rattle.oe_chains.specs.declared.links.Holder.{Holder}
 use Rattle.oe_chains.specs.declared.links.Holder.TheVariants.{Open, At}
@@ -39,6 +40,15 @@ IsOwnOrDone t (At m) = ⊤
 abbrev pub IsSeenBy : ℕ → Option Link → Type 0
 IsSeenBy t None = ⊤
 IsSeenBy t (Some l) = IsOwnOrDone t l.holder
+
+-- none of these records is of the key
+abbrev pub HaveNone : Key → List Record → Type 0
+HaveNone k [] = Unit {0}
+HaveNone k (b ∷ bs) = (record_key b ≢ k) × HaveNone k bs
+
+-- no other terminal's open transaction has a record of the key
+abbrev pub IsAlone : SegmentLog → ℕ → Key → Type 0
+IsAlone u t k = (s : ℕ) → s ≢ t → HaveNone k (model_records (records_at u s))
 
 -- the holder's commit was given up at the horizon
 abbrev pub IsForgotten : ℕ → Holder → Type 0
@@ -100,8 +110,8 @@ abbrev pub with_holder : (Holder → Holder) → Option Link → Option Link
 with_holder f None = None
 with_holder f (Some l) = Some (record { address = l.address; holder = f l.holder })
 
--- the links of these records' keys, one after another, given the moment of their commit
-abbrev pub marked : ℕ → List Record → (Key → Option Link) → Key → Option Link
-marked m [] links = links
-marked m (b ∷ bs) links =
-    marked m bs (linked links (record_key b) (with_holder (λ h. At m) (links (record_key b))))
+-- the links of these records' keys, one after another, given this holder
+abbrev pub marked : Holder → List Record → (Key → Option Link) → Key → Option Link
+marked h [] links = links
+marked h (b ∷ bs) links =
+    marked h bs (linked links (record_key b) (with_holder (λ _. h) (links (record_key b))))

@@ -1,5 +1,5 @@
 //! What keeps chains, and what they are for. Each function has an empty body and carries one law.
-ghost use Rattle.oe_chains.specs.Laws.{Calls_keep_chains, Ends_without_records, Links_are_seen, Walks_find};
+ghost use Rattle.oe_chains.specs.Laws.{Calls_keep_chains, Ends_without_records, Links_are_seen, Sees_alone, Walks_find};
 ghost use Rattle.oe_chains.specs.Walks.{Chains_are_walked};
 
 /// Each call of a log keeps the chains, where the links of keys are set so.
@@ -26,4 +26,9 @@ pub fn chains_are_walked()
 /// The previous link that a record is pushed with leads where its key's link leads.
 pub fn links_are_seen()
     ensures { Links_are_seen }
+{}
+
+/// A terminal sees a key's link where no other terminal's open transaction has a record of the key.
+pub fn sees_alone()
+    ensures { Sees_alone }
 {}

@@ -3,6 +3,8 @@ use Rattle.std.proofs.Common.{◌≡◌, ℕ, zero, suc, ◌+◌, ◌-◌, ◌<�
 use Rattle.std.specs.Option.{IsSome}
 use Rattle.std.specs.Prelude.{slice_get, option_map}
 use Rattle.std.proofs.lemmas.Bool.{cases_eq, cases_lt}
+use Rattle.std.proofs.lemmas.Option.{slice_get_within, get_or_from_slice_get}
+use Rattle.std.proofs.lemmas.List.Elements.{All-get_or}
 use Rattle.std.proofs.lemmas.List.{length-set, get_or-set_same, get_or-set_other, get_or_read, set-get_or, length-replicate, get_or_past}
 use Rattle.std.specs.Prelude.{Result, Ok, Err, IfOk, OnErr}
 use Rattle.oe_model.specs.Changes.{Record}
@@ -15,7 +17,7 @@ use Rattle.oe_segments.specs.declared.heads.SegmentOwner.{SegmentOwner}
 use Rattle.oe_segments.specs.declared.heads.TerminalHead.{TerminalHead}
 use Rattle.oe_segments.specs.Segments as seen
 use Rattle.oe_segments.specs.Segments.{SegmentLog, Open, TerminalState, Committed, log_of, idle_terminals}
-use Rattle.oe_segments.specs.Kept.{Head, idle_head, idle_heads, head_at, open_with, state_with, states, commits, stored, AreHeads, IsKept}
+use Rattle.oe_segments.specs.Kept.{Head, idle_head, idle_heads, head_at, open_with, state_with, states, commits, stored, IsCounted, AreHeads, IsKept}
 use Rattle.oe_segments.proofs.HeadFacts as heads
 use Rattle.oe_segments.proofs.ZipFacts.{states-set, states-length, states-at, states-total, states-opens, seen_records, states-records, seen_other, commits-length, commits-take, commits-records, commits-count, commits-owner, head_owner}
 
@@ -155,6 +157,11 @@ module _ (hs : List TerminalHead) (cs : List Head) (capacity : ℕ) (l : RingLog
   number_is n d found =
       ap (λ k. d.number + k) (commits-count d.terminal n cs l.committed K.one_by_one)
       ∙ K.heads.numbers n d (sym found) ∙ sym (count_is d.terminal)
+
+  pub number_low : (n : ℕ) (d : Head) → Some d ≡ slice_get cs n → 1 ≤ d.number
+  number_low n d found =
+      let counted = All-get_or (IsCounted hs) cs n d (slice_get_within cs n d (sym found)) K.heads.commits in
+      subst (λ (z : Head). 1 ≤ z.number) (get_or_from_slice_get cs n d d (sym found)) counted.first
 
   -- whose a commit was
   pub owner_found : (now : Option Head) (n : ℕ) → now ≡ slice_get cs n → option_map head_owner now ≡ option_map seen.owner_of (slice_get (commits cs l.committed) n)

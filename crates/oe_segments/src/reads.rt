@@ -69,12 +69,13 @@ impl Segments {
     }
 
     /// Whose a commit was, by the number of later ones; none exactly where so many are not kept. Its number is its terminal's count
-    /// less the terminal's later commits.
+    /// less the terminal's later commits, and 1 at least.
     pub fn committed(&self, later: usize) -> Option<SegmentOwner>
         ensures commit { result ≡ option_map owner_of (slice_get self.now.committed later) }
         ensures number { IfSome result
             (λ n. n.number + commits_of n.terminal (take later self.now.committed)
             ≡ count_at self.now n.terminal) }
+        ensures first { IfSome result (λ n. 1 ≤ n.number) }
     {
         match self.commits.get(later) {
             Some(head) => Some(head.owner()),

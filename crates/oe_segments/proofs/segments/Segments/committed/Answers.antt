@@ -2,7 +2,7 @@
 use Rattle.std.proofs.Common.{None, Some, refl, sym, ap, ◌∙◌, deque_capacity}
 use Rattle.std.proofs.lemmas.Option.{slice_get_read}
 use Rattle.oe_segments.proofs.HeadFacts.{none_past}
-use Rattle.oe_segments.proofs.CallFacts.{owner_found, number_is}
+use Rattle.oe_segments.proofs.CallFacts.{owner_found, number_is, number_low}
 use Rattle.oe_segments.proofs.segments.Segments.committed.Goals as goal
 
 pub returns-in-Some-clause-commit : goal.returns-in-Some-clause-commit
@@ -14,6 +14,11 @@ pub returns-in-Some-clause-number : goal.returns-in-Some-clause-number
 returns-in-Some-clause-number c =
     let found = slice_get_read c.self.inside.commits.items _ c.args.later c.in-Some.head.now c.self.inside.commits.ok.0 (c.in-Some.ensures.variant.0 refl) c.in-Some.ensures.lookup in
     rw (← c.self.view_is, c.owner.ensures) (number_is c.self.inside.terminals.items c.self.inside.commits.items (deque_capacity c.self.inside.commits) c.self.inside.log c.self.invariant c.args.later c.in-Some.head.now (sym found))
+
+pub returns-in-Some-clause-first : goal.returns-in-Some-clause-first
+returns-in-Some-clause-first c =
+    let found = slice_get_read c.self.inside.commits.items _ c.args.later c.in-Some.head.now c.self.inside.commits.ok.0 (c.in-Some.ensures.variant.0 refl) c.in-Some.ensures.lookup in
+    rw (c.owner.ensures) (number_low c.self.inside.terminals.items c.self.inside.commits.items (deque_capacity c.self.inside.commits) c.self.inside.log c.self.invariant c.args.later c.in-Some.head.now (sym found))
 
 pub returns-in-None-clause-commit : goal.returns-in-None-clause-commit
 returns-in-None-clause-commit c =
