@@ -1,3 +1,4 @@
--- For the crates above: what was applied can be undone.
+-- For the crates above: what was applied can be undone, and a change that has a cause is refused for it.
 pub mod UndoFacts
+pub mod CauseFacts
 mod PlaceFacts

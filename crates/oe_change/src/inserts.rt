@@ -1,11 +1,11 @@
-//! Inserts of rows: the key is absent, what the row refers to is there, and a key without a place takes memory.
+//! Inserts of rows that the tables accept. A key without a place takes memory.
 ghost use Rattle.std.specs.Prelude.{◌≡◌, IfOk, IfErr, OnErr};
-ghost use Rattle.oe_model.specs.Keys.{supply_of_line};
 ghost use Rattle.oe_model.specs.Changes.{InsertHistory, InsertNewOrder, InsertOrder, InsertOrderLine};
 ghost use Rattle.oe_store.specs.Places.{rows};
 ghost use Rattle.oe_change.specs.Applies.{HasApplied, Refuses, IsFirst};
 
-use oe_keys::{HistoryKey, Key, NewOrderKey, OrderKey, OrderLineKey, StockKey};
+use crate::accepts::{accept_history, accept_new_order, accept_order, accept_order_line};
+use oe_keys::{HistoryKey, NewOrderKey, OrderKey, OrderLineKey};
 use oe_records::Before;
 use oe_requests::Refusal;
 use oe_rows::{History, NewOrder, Order, OrderLine};
@@ -26,16 +26,8 @@ pub fn insert_history(
     ensures first { IfErr result (λ e. IsFirst (InsertHistory key.now row) (rows tables.old) e) }
     ensures unchanged { OnErr result (tables.new ≡ tables.old) }
 {
-    if tables.history(*key).is_some() {
-        return Err(Refusal::RowExists(Key::History(*key)));
-    }
-    let customer = &row.customer;
-    if tables.customer(*customer).is_none() {
-        return Err(Refusal::Reference(Key::Customer(*customer)));
-    }
-    let district = &row.district;
-    if tables.district(*district).is_none() {
-        return Err(Refusal::Reference(Key::District(*district)));
+    if let Err(refusal) = accept_history(tables, key, &row) {
+        return Err(refusal);
     }
     match tables.insert_history(*key, row) {
         Ok(()) => Ok(Before::InsertedHistory(*key)),
@@ -55,12 +47,8 @@ pub fn insert_new_order(tables: &mut Tables, key: &NewOrderKey) -> Result<Before
     ensures first { IfErr result (IsFirst (InsertNewOrder key.now (record {})) (rows tables.old)) }
     ensures unchanged { OnErr result (tables.new ≡ tables.old) }
 {
-    if tables.new_order(*key).is_some() {
-        return Err(Refusal::RowExists(Key::NewOrder(*key)));
-    }
-    let order = &key.order_key();
-    if tables.order(*order).is_none() {
-        return Err(Refusal::Reference(Key::Order(*order)));
+    if let Err(refusal) = accept_new_order(tables, key) {
+        return Err(refusal);
     }
     match tables.insert_new_order(*key, NewOrder) {
         Ok(()) => Ok(Before::InsertedNewOrder(*key)),
@@ -79,27 +67,12 @@ pub fn insert_order(tables: &mut Tables, key: &OrderKey, row: Order) -> Result<B
     ensures first { IfErr result (λ e. IsFirst (InsertOrder key.now row) (rows tables.old) e) }
     ensures unchanged { OnErr result (tables.new ≡ tables.old) }
 {
-    if tables.order(*key).is_some() {
-        return Err(Refusal::RowExists(Key::Order(*key)));
-    }
-    let customer = &key.district_key().customer(row.customer);
-    if tables.customer(*customer).is_none() {
-        return Err(Refusal::Reference(Key::Customer(*customer)));
+    if let Err(refusal) = accept_order(tables, key, &row) {
+        return Err(refusal);
     }
     match tables.insert_order(*key, row) {
         Ok(()) => Ok(Before::InsertedOrder(*key)),
         Err(_) => Err(Refusal::NoMemory),
-    }
-}
-
-/// The key of the stock that a line is supplied from.
-#[inline(always)]
-pub(crate) fn supply_key(row: &OrderLine) -> StockKey
-    ensures { result ≡ supply_of_line row.now }
-{
-    StockKey {
-        warehouse: row.supply,
-        item: row.item,
     }
 }
 
@@ -118,16 +91,8 @@ pub fn insert_order_line(
     ensures first { IfErr result (λ e. IsFirst (InsertOrderLine key.now row) (rows tables.old) e) }
     ensures unchanged { OnErr result (tables.new ≡ tables.old) }
 {
-    if tables.order_line(*key).is_some() {
-        return Err(Refusal::RowExists(Key::OrderLine(*key)));
-    }
-    let order = &key.order_key();
-    if tables.order(*order).is_none() {
-        return Err(Refusal::Reference(Key::Order(*order)));
-    }
-    let supply = &supply_key(&row);
-    if tables.stock(*supply).is_none() {
-        return Err(Refusal::Reference(Key::Stock(*supply)));
+    if let Err(refusal) = accept_order_line(tables, key, &row) {
+        return Err(refusal);
     }
     match tables.insert_order_line(*key, row) {
         Ok(()) => Ok(Before::InsertedOrderLine(*key)),

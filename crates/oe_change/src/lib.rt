@@ -1,12 +1,14 @@
 //! Changes of one row of the tables, and their undo. Clauses of the standard are those of TPC Benchmark C 5.11.
 #![tactic(auto)]
 
+pub mod accepts;
 pub mod changes;
 pub mod inserts;
 pub mod laws;
 pub mod records;
 pub mod updates;
 
+pub use accepts::{accept_history, accept_new_order, accept_order, accept_order_line};
 pub use changes::apply;
 pub use inserts::{insert_history, insert_new_order, insert_order, insert_order_line};
 pub use oe_records::{Before, Change};

@@ -5,7 +5,7 @@ ghost use Rattle.oe_model.specs.Changes.{UpdateWarehouse, UpdateDistrict, Update
 ghost use Rattle.oe_store.specs.Places.{rows};
 ghost use Rattle.oe_change.specs.Applies.{HasApplied, Refuses, IsFirst};
 
-use crate::inserts::supply_key;
+use crate::accepts::supply_key;
 use oe_keys::{
     CustomerKey, DistrictKey, Key, NewOrderKey, OrderKey, OrderLineKey, StockKey, WarehouseKey,
 };
