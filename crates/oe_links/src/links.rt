@@ -1,0 +1,277 @@
+//! Links by key.
+//!
+//! A table of links has a key for each place, and there the key's link, if it has one. Only `add_place` and `lead` take memory, for a
+//! key without a place; where that is refused the links are as before.
+ghost use Rattle.std.specs.Prelude.{◌≡◌, Some, None, IsSome, OnOk, OnErr, option_map};
+ghost use Rattle.oe_chains.specs.Chains.{with_holder};
+ghost use Rattle.oe_links.specs.Links.{place_of, links_of, link_in, HasPlace, no_links, stands_at, SetsAt, SetsPlace, SetsLink};
+
+use oe_chains::{Holder, Link};
+use oe_keys::{
+    CustomerKey, DistrictKey, HistoryKey, ItemKey, Key, NewOrderKey, OrderKey, OrderLineKey,
+    StockKey, WarehouseKey,
+};
+use oe_table::keys::ShelvedKey;
+use oe_table::shelves::Shelves;
+use oe_table::tables::NoMemory;
+use std::alloc::Global;
+use std::marker::Model;
+
+/// The links of keys, each in a place of its own.
+#[derive(Drop)]
+pub struct Links {
+    warehouses: Shelves<WarehouseKey, Option<Link>>,
+    districts: Shelves<DistrictKey, Option<Link>>,
+    customers: Shelves<CustomerKey, Option<Link>>,
+    histories: Shelves<HistoryKey, Option<Link>>,
+    new_orders: Shelves<NewOrderKey, Option<Link>>,
+    orders: Shelves<OrderKey, Option<Link>>,
+    order_lines: Shelves<OrderLineKey, Option<Link>>,
+    items: Shelves<ItemKey, Option<Link>>,
+    stocks: Shelves<StockKey, Option<Link>>,
+}
+
+impl Model for Links {
+    ghost use Rattle.oe_keys.specs.Key.{warehouse_cmp, district_cmp, customer_cmp, history_cmp, new_order_cmp, order_cmp, order_line_cmp, item_cmp, stock_cmp};
+    ghost use Rattle.oe_table.specs.Table.{rows_of};
+    ghost use Rattle.std.specs.Coded.{codes};
+    ghost use Rattle.std.specs.FinMap.{code as map_code};
+    ghost use Rattle.oe_links.specs.Links.{LinkMaps};
+
+    ghost Value = { LinkMaps };
+
+    ghost coded = { Prim.hlevel (codes, map_code) };
+
+    ghost view = { λ l. record {
+      warehouses = rows_of warehouse_cmp l.warehouses;
+      districts = rows_of district_cmp l.districts;
+      customers = rows_of customer_cmp l.customers;
+      histories = rows_of history_cmp l.histories;
+      new_orders = rows_of new_order_cmp l.new_orders;
+      orders = rows_of order_cmp l.orders;
+      order_lines = rows_of order_line_cmp l.order_lines;
+      items = rows_of item_cmp l.items;
+      stocks = rows_of stock_cmp l.stocks;
+    } };
+}
+
+// The link in a key's place, if there is one.
+#[inline(always)]
+fn link_at<K: ShelvedKey>(links: &Shelves<K, Option<Link>>, key: &K) -> Option<Link>
+    ensures { result ≡ link_in (stands_at K.cmp links.now key.now) }
+{
+    match links.get(key) {
+        Some(link) => *link,
+        None => None,
+    }
+}
+
+// Gives a key without a place an empty one.
+fn add_place_in<K: ShelvedKey + Copy + Drop>(
+    links: &mut Shelves<K, Option<Link>>,
+    key: &K,
+) -> Result<(), NoMemory>
+    ensures added { OnOk result (SetsAt K.cmp links.old links.new key.now
+        (Some (link_in (stands_at K.cmp links.old key.now)))) }
+    ensures no_place { OnErr result (stands_at K.cmp links.old key.now ≡ None) }
+    ensures err { OnErr result (links.new ≡ links.old) }
+{
+    if links.get(key).is_some() {
+        return Ok(());
+    }
+    links.put_new(*key, None)
+}
+
+// Gives a key its link, where it stands or in a new place.
+#[inline(always)]
+fn lead_in<K: ShelvedKey + Copy + Drop>(
+    links: &mut Shelves<K, Option<Link>>,
+    key: &K,
+    link: Link,
+) -> Result<(), NoMemory>
+    ensures leads { OnOk result (SetsAt K.cmp links.old links.new key.now
+        (Some (Some link))) }
+    ensures no_place { OnErr result (stands_at K.cmp links.old key.now ≡ None) }
+    ensures err { OnErr result (links.new ≡ links.old) }
+{
+    if let Some(place) = links.row_mut(key) {
+        *place = Some(link);
+        return Ok(());
+    }
+    links.put_new(*key, Some(link))
+}
+
+// Sets the link in a key's place.
+#[inline(always)]
+fn set_in<K: ShelvedKey>(links: &mut Shelves<K, Option<Link>>, key: &K, link: Option<Link>)
+    requires { IsSome (stands_at K.cmp links.old key.now) }
+    ensures { SetsAt K.cmp links.old links.new key.now
+        (Some link) }
+{
+    let place = links.row_mut(key).unwrap();
+    *place = link;
+}
+
+// The link with this holder.
+#[inline(always)]
+fn held(link: &Option<Link>, holder: &Holder) -> Option<Link>
+    ensures { result ≡ with_holder (λ h. holder.now) link.now }
+{
+    match link {
+        Some(link) => Some(Link {
+            address: link.address,
+            holder: *holder,
+        }),
+        None => None,
+    }
+}
+
+// Gives the link in a key's place, if there is one, this holder.
+#[inline(always)]
+fn give_holder_in<K: ShelvedKey>(links: &mut Shelves<K, Option<Link>>, key: &K, holder: &Holder)
+    ensures { SetsAt K.cmp links.old links.new key.now
+        (option_map (with_holder (λ h. holder.now)) (stands_at K.cmp links.old key.now)) }
+{
+    if let Some(place) = links.row_mut(key) {
+        *place = held(place, holder);
+    }
+}
+
+// Gives up a key's place, which is blanked first, since only a blanked one is given up.
+fn give_up_in<K: ShelvedKey + Drop>(links: &mut Shelves<K, Option<Link>>, key: &K)
+    ensures { SetsAt K.cmp links.old links.new key.now None }
+{
+    if links.get(key).is_none() {
+        return;
+    }
+    let _link = links.blank(key);
+    links.give_up(key);
+}
+
+impl Links {
+    /// No place, which takes no memory.
+    pub fn new(alloc: Global) -> Links
+        ensures { result ≡ no_links }
+    {
+        Links {
+            warehouses: Shelves::new(alloc),
+            districts: Shelves::new(alloc),
+            customers: Shelves::new(alloc),
+            histories: Shelves::new(alloc),
+            new_orders: Shelves::new(alloc),
+            orders: Shelves::new(alloc),
+            order_lines: Shelves::new(alloc),
+            items: Shelves::new(alloc),
+            stocks: Shelves::new(alloc),
+        }
+    }
+
+    /// The link of a key, if it has one.
+    pub fn link(&self, key: &Key) -> Option<Link>
+        ensures { result ≡ links_of self.now key.now }
+    {
+        match key {
+            Key::Warehouse(key) => link_at(&self.warehouses, key),
+            Key::District(key) => link_at(&self.districts, key),
+            Key::Customer(key) => link_at(&self.customers, key),
+            Key::History(key) => link_at(&self.histories, key),
+            Key::NewOrder(key) => link_at(&self.new_orders, key),
+            Key::Order(key) => link_at(&self.orders, key),
+            Key::OrderLine(key) => link_at(&self.order_lines, key),
+            Key::Item(key) => link_at(&self.items, key),
+            Key::Stock(key) => link_at(&self.stocks, key),
+        }
+    }
+
+    /// Gives a key without a place an empty one; `NoMemory` where memory for it was refused. A key that has one keeps it.
+    pub fn add_place(&mut self, key: &Key) -> Result<(), NoMemory>
+        ensures added { OnOk result
+            (SetsLink self.old self.new key.now (links_of self.old key.now)) }
+        ensures no_place { OnErr result (place_of self.old key.now ≡ None) }
+        ensures err { OnErr result (self.new ≡ self.old) }
+    {
+        match key {
+            Key::Warehouse(key) => add_place_in(&mut self.warehouses, key),
+            Key::District(key) => add_place_in(&mut self.districts, key),
+            Key::Customer(key) => add_place_in(&mut self.customers, key),
+            Key::History(key) => add_place_in(&mut self.histories, key),
+            Key::NewOrder(key) => add_place_in(&mut self.new_orders, key),
+            Key::Order(key) => add_place_in(&mut self.orders, key),
+            Key::OrderLine(key) => add_place_in(&mut self.order_lines, key),
+            Key::Item(key) => add_place_in(&mut self.items, key),
+            Key::Stock(key) => add_place_in(&mut self.stocks, key),
+        }
+    }
+
+    /// Gives a key its link, and the place for it where it has none; `NoMemory` where memory for a place was refused.
+    pub fn lead(&mut self, key: &Key, link: Link) -> Result<(), NoMemory>
+        ensures leads { OnOk result (SetsLink self.old self.new key.now (Some link)) }
+        ensures no_place { OnErr result (place_of self.old key.now ≡ None) }
+        ensures err { OnErr result (self.new ≡ self.old) }
+    {
+        match key {
+            Key::Warehouse(key) => lead_in(&mut self.warehouses, key, link),
+            Key::District(key) => lead_in(&mut self.districts, key, link),
+            Key::Customer(key) => lead_in(&mut self.customers, key, link),
+            Key::History(key) => lead_in(&mut self.histories, key, link),
+            Key::NewOrder(key) => lead_in(&mut self.new_orders, key, link),
+            Key::Order(key) => lead_in(&mut self.orders, key, link),
+            Key::OrderLine(key) => lead_in(&mut self.order_lines, key, link),
+            Key::Item(key) => lead_in(&mut self.items, key, link),
+            Key::Stock(key) => lead_in(&mut self.stocks, key, link),
+        }
+    }
+
+    /// Sets the link of a key that has a place, or leaves the place empty. It takes no memory.
+    pub fn set(&mut self, key: &Key, link: Option<Link>)
+        requires { HasPlace self.old key.now }
+        ensures { SetsLink self.old self.new key.now link }
+    {
+        match key {
+            Key::Warehouse(key) => set_in(&mut self.warehouses, key, link),
+            Key::District(key) => set_in(&mut self.districts, key, link),
+            Key::Customer(key) => set_in(&mut self.customers, key, link),
+            Key::History(key) => set_in(&mut self.histories, key, link),
+            Key::NewOrder(key) => set_in(&mut self.new_orders, key, link),
+            Key::Order(key) => set_in(&mut self.orders, key, link),
+            Key::OrderLine(key) => set_in(&mut self.order_lines, key, link),
+            Key::Item(key) => set_in(&mut self.items, key, link),
+            Key::Stock(key) => set_in(&mut self.stocks, key, link),
+        }
+    }
+
+    /// Says of a key's link, if it has one, that its record is of this holder. It takes no memory.
+    pub fn give_holder(&mut self, key: &Key, holder: &Holder)
+        ensures { SetsPlace self.old self.new key.now
+            (option_map (with_holder (λ h. holder.now)) (place_of self.old key.now)) }
+    {
+        match key {
+            Key::Warehouse(key) => give_holder_in(&mut self.warehouses, key, holder),
+            Key::District(key) => give_holder_in(&mut self.districts, key, holder),
+            Key::Customer(key) => give_holder_in(&mut self.customers, key, holder),
+            Key::History(key) => give_holder_in(&mut self.histories, key, holder),
+            Key::NewOrder(key) => give_holder_in(&mut self.new_orders, key, holder),
+            Key::Order(key) => give_holder_in(&mut self.orders, key, holder),
+            Key::OrderLine(key) => give_holder_in(&mut self.order_lines, key, holder),
+            Key::Item(key) => give_holder_in(&mut self.items, key, holder),
+            Key::Stock(key) => give_holder_in(&mut self.stocks, key, holder),
+        }
+    }
+
+    /// Gives up the place of a key, if it has one, with its link.
+    pub fn give_up(&mut self, key: &Key)
+        ensures { SetsPlace self.old self.new key.now None }
+    {
+        match key {
+            Key::Warehouse(key) => give_up_in(&mut self.warehouses, key),
+            Key::District(key) => give_up_in(&mut self.districts, key),
+            Key::Customer(key) => give_up_in(&mut self.customers, key),
+            Key::History(key) => give_up_in(&mut self.histories, key),
+            Key::NewOrder(key) => give_up_in(&mut self.new_orders, key),
+            Key::Order(key) => give_up_in(&mut self.orders, key),
+            Key::OrderLine(key) => give_up_in(&mut self.order_lines, key),
+            Key::Item(key) => give_up_in(&mut self.items, key),
+            Key::Stock(key) => give_up_in(&mut self.stocks, key),
+        }
+    }
+}
