@@ -1,0 +1,59 @@
+//! What no clause says: that the calls that take memory succeed where there is memory.
+use crate::made::{order_key, undo};
+use oe_chains::{Holder, Link};
+use oe_keys::{Key, StockKey};
+use oe_layout::RecordAddress;
+use oe_links::Links;
+use oe_values::{Moment, Number};
+
+/// Stock (3, 41).
+fn stock() -> Option<Key> {
+    Some(Key::Stock(StockKey {
+        warehouse: Number::new(3)?,
+        item: Number::new(41)?,
+    }))
+}
+
+/// A link to a record in extent 7 at offset 132, of the commit at moment 258.
+fn some_link() -> Option<Link> {
+    Some(Link {
+        address: RecordAddress {
+            extent: Number::new(7)?,
+            offset: Number::new(132)?,
+        },
+        holder: Holder::At(Moment::new(258)?),
+    })
+}
+
+fn lead(links: &mut Links, key: &Key) -> bool {
+    let Some(link) = some_link() else {
+        return false;
+    };
+    links.lead(key, link).is_ok()
+}
+
+fn has_link(links: &Links, key: &Key) -> bool {
+    links.link(key) == some_link()
+}
+
+fn has_none(links: &Links, key: &Key) -> bool {
+    links.link(key).is_none()
+}
+
+#[test]
+fn places_are_taken(rt: HostRuntime) {
+    let stock = stock().expect(&rt, "a key");
+    let order = Key::Order(order_key().expect(&rt, "a key"));
+    let mut links = Links::new(rt.alloc());
+    assert!(rt; lead(&mut links, &stock));
+    assert!(rt; links.add_place(&order).is_ok());
+    assert!(rt; has_link(&links, &stock));
+    assert!(rt; has_none(&links, &order));
+}
+
+#[test]
+fn an_undo_log_takes_places(rt: HostRuntime) {
+    let stock = stock().expect(&rt, "a key");
+    let mut undo = undo(rt.alloc(), 2).expect(&rt, "a log");
+    assert!(rt; undo.add_place(&stock).is_ok());
+}
