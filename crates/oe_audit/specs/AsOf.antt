@@ -25,12 +25,12 @@ use Rattle.oe_audit.specs.declared.conditions.DistrictCondition.TheVariants as o
 -- the rows as they stand, or stood at a moment
 abbrev pub rows_then : tables.Places → AsOf → Rows
 rows_then ts when.Now = rows ts
-rows_then ts (when.Moment u m) = version ts u.now m
+rows_then ts (when.Moment u m) = version ts u.now.log m
 
 -- why they can't be read: never as they stand
 abbrev pub IsUnread : AsOf → Refusal → Type 0
 IsUnread when.Now e = ⊥
-IsUnread (when.Moment u m) e = IsOutside u.now m e
+IsUnread (when.Moment u m) e = IsOutside u.now.log m e
 
 -- what a key has then, where it has this row now
 abbrev pub row_then : {K X : Type 0} {R : K → K → Ordering} → AsOf → FinMap R X → K → X → Option X

@@ -13,8 +13,8 @@ use oe_moments::{
 };
 use oe_requests::Refusal;
 use oe_rows::{District, Order, Warehouse};
-use oe_segments::Segments;
 use oe_store::Tables;
+use oe_undo::Undo;
 use oe_values::{Moment, OrderNumber, YearToDate};
 
 /// When the rows are looked at.
@@ -23,7 +23,7 @@ pub(crate) enum AsOf<'a> {
     /// As they stand.
     Now,
     /// At a moment, without what was open or committed later.
-    Moment(&'a Segments, Moment),
+    Moment(&'a Undo, Moment),
 }
 
 impl<'a> AsOf<'a> {

@@ -13,9 +13,9 @@ use crate::warehouses::passes_first;
 use oe_keys::{DistrictKey, Key};
 use oe_moments::commits_after;
 use oe_requests::Refusal;
-use oe_segments::Segments;
 use oe_steps::{Condition, Verdict};
 use oe_store::Tables;
+use oe_undo::Undo;
 use oe_values::{Moment, OrderNumber};
 
 /// The conditions that are asked of each district.
@@ -121,23 +121,23 @@ pub fn condition(number: Condition, tables: &Tables) -> Verdict
 }
 
 /// Whether there is nothing to put back: no commit is later, and no transaction is open.
-fn is_settled(undo: &Segments, later: usize) -> bool
+fn is_settled(undo: &Undo, later: usize) -> bool
     ensures commits { IsTrue result → later ≡ 0 }
-    ensures open { IsTrue result → open_total undo.now ≡ 0 }
+    ensures open { IsTrue result → open_total undo.now.log ≡ 0 }
 {
-    later == 0 && undo.open_count() == 0
+    later == 0 && undo.segments().open_count() == 0
 }
 
 /// The verdict of a condition at a moment, found row by row.
 fn found_at<'a>(
     number: Condition,
     tables: &'a Tables,
-    undo: &'a Segments,
+    undo: &'a Undo,
     moment: Moment,
 ) -> Result<Verdict, Refusal>
-    requires { Stand tables.now undo.now }
-    ensures verdict { IfOk result (IsAudited number (version tables.now undo.now moment)) }
-    ensures refusal { IfErr result (λ e. IsOutside undo.now moment e) }
+    requires { Stand tables.now undo.now.log }
+    ensures verdict { IfOk result (IsAudited number (version tables.now undo.now.log moment)) }
+    ensures refusal { IfErr result (λ e. IsOutside undo.now.log moment e) }
 {
     found(number, tables, &AsOf::Moment(undo, moment))
 }
@@ -146,18 +146,18 @@ fn found_at<'a>(
 /// has been open or committed since: that it held, or the first row, in key order, at which it failed.
 ///
 /// `TooOld` with the horizon and `Future` with the newest moment, exactly where the moment is not between the two. It takes no
-/// memory. It walks the rows that it concerns once, and looks for each at the records of open segments and of the commits after the
-/// moment; where there is none of these, it is `condition`.
+/// memory. It walks the rows that it concerns once, and goes for each along its key's records that are open or of commits after the
+/// moment; where nothing is open and no commit is later, it is `condition`.
 pub fn condition_at(
     number: Condition,
     tables: &Tables,
-    undo: &Segments,
+    undo: &Undo,
     moment: Moment,
 ) -> Result<Verdict, Refusal>
-    requires { Stand tables.now undo.now }
-    ensures verdict { IfOk result (IsAudited number (version tables.now undo.now moment)) }
-    ensures readable { OnOk result (IsReadable undo.now moment) }
-    ensures refusal { IfErr result (λ e. IsOutside undo.now moment e) }
+    requires { Stand tables.now undo.now.log }
+    ensures verdict { IfOk result (IsAudited number (version tables.now undo.now.log moment)) }
+    ensures readable { OnOk result (IsReadable undo.now.log moment) }
+    ensures refusal { IfErr result (λ e. IsOutside undo.now.log moment e) }
 {
     match commits_after(undo, moment) {
         Ok(later) => {

@@ -37,9 +37,13 @@ pub struct Core {
 }
 
 impl Model for Core {
+    ghost use Rattle.std.specs.Coded.{codes};
+    ghost use Rattle.std.specs.FinMap.{code as map_code};
     ghost use Rattle.oe_core.specs.Core.{CoreState, IsOrderly};
 
     ghost Value = { CoreState };
+
+    ghost coded = { Prim.hlevel (codes, map_code) };
 
     ghost view = { λ c. record { engine = c.engine; txs = c.txs.items; works = c.works.items } };
 

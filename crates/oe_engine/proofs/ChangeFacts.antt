@@ -19,7 +19,7 @@ use Rattle.oe_log.specs.Log.{IsFull}
 use Rattle.oe_segments.specs.Segments.{SegmentLog, log_of}
 use Rattle.oe_journal.specs.Records.{record_in, record_of_change}
 use Rattle.oe_journal.specs.Writes.{CantChange, NothingThere, HasNoRoom, TablesRefuse}
-use Rattle.oe_journal.proofs.WriteFacts.{there_is}
+use Rattle.oe_journal.proofs.MoreFacts.{there_is}
 use Rattle.oe_engine.specs.Calls.{ChangeRefused, WantsPlace}
 use Rattle.oe_engine.proofs.PartFacts.{refused_so}
 

@@ -102,6 +102,10 @@ rolled_back_is ts ts' u u' ls ls' t n is within h own others =
     let counts_is = s.counts ∙ w.counts in
     λ i. record { rows = rows_is i; undo = undo_is i; seals = seals_is i; counts = counts_is i; held = names i; is_open = opens i; extents = w.extents i }
 
+-- a log and what it is seen as have as many records
+pub counted : (u v : SegmentLog) (t n : ℕ) → v ≡ u → n ≡ length (records_at v t) → n ≡ length (records_at u t)
+counted u v t n same is = is ∙ ap (λ z. length (records_at z t)) same
+
 -- how many are to go to come back to a mark
 pub since_is : (u : SegmentLog) (t k n mark m : ℕ) → t ≡ k → n ≡ length (records_at u t) → m ≡ mark → n - m ≡ length ((undo_of u).active k) - mark
 since_is u t k n mark m same is at =

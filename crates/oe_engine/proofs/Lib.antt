@@ -1,7 +1,9 @@
 pub mod CoveredFacts
 pub mod StageFacts
 pub mod EndFacts
-pub mod KeptFacts
+pub mod LinkFacts
+mod OpenFacts
+mod KeptFacts
 pub mod LockFacts
 pub mod LogFacts
 pub mod MakeFacts

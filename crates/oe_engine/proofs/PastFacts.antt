@@ -27,6 +27,8 @@ use Rattle.oe_journal.specs.Moments as past
 use Rattle.oe_journal.proofs.BackFacts.{more_places}
 use Rattle.oe_journal.proofs.PurgeFacts.{all_more_places}
 use Rattle.oe_journal.proofs.RewindFacts.{none_open, quiet_still, rewinds}
+use Rattle.oe_links.specs.Links as links
+use Rattle.oe_undo.specs.Undo.{UndoState}
 use Rattle.oe_locks.specs.Held.{Holdings}
 use Rattle.oe_engine.specs.View.{View, view_from}
 use Rattle.oe_engine.specs.Covered.{AreOwned, Unwinds, IsSafe}
@@ -34,6 +36,7 @@ use Rattle.oe_engine.specs.Kept.{IsKept, IsSound}
 use Rattle.oe_engine.specs.Calls.{IsQuiet, IsKeptMoment, IsNamedNoMoreAfter, CantRewind, purged_to}
 use Rattle.oe_engine.specs.Calls as calls
 use Rattle.oe_engine.proofs.CoveredFacts.{none_unwinds}
+use Rattle.oe_engine.proofs.LinkFacts.{linked_same, linked_less}
 use Rattle.oe_engine.proofs.LockFacts.{held_of}
 
 -- the commits that are kept have places
@@ -99,22 +102,22 @@ named_no_more : (ts : tables.Places) (u : SegmentLog) (ls : Holdings) (m : ℕ) 
 unfolding view_from
 named_no_more ts u ls m named kept = named kept
 
-pub purge_sound : {T E : Type 0} (r : Result T E) (ts ts' : tables.Places) (u u' : SegmentLog) (ls : Holdings) (m : ℕ)
-    → (IsKeptMoment (view_from ts u ls) m → IsNamedNoMoreAfter m (view_from ts u ls)) → OnOk r (past.IsKeptMoment u m)
-    → OnOk r (u' ≡ with_newest (past.newest u - m) u) → rows ts' ≡ rows ts → OnOk r (GivesUpDeleted ts ts' (drop (past.newest u - m) (undo_of u).history))
-    → OnErr r ((ts' ≡ ts) × (u' ≡ u)) → IsSound ts u ls → IsSound ts' u' ls
-purge_sound (Ok x) ts ts' u u' ls m named kept is rows_same places same s =
-    subst (λ z. IsSound ts' z ls) (sym is)
-    (record {
-      kept = purged_kept ts ts' u ls (past.newest u - m) places (named_no_more ts u ls m named kept) s.kept;
-      safe = subst IsSafe (sym (purged_view ts ts' u ls m rows_same)) (safe_purged m (view_from ts u ls) s.safe);
-    })
-purge_sound (Err e) ts ts' u u' ls m named kept is rows_same places same s =
+pub purge_sound : {T E : Type 0} (r : Result T E) (ts ts' : tables.Places) (u u' : UndoState) (ls : Holdings) (m : ℕ)
+    → (IsKeptMoment (view_from ts u.log ls) m → IsNamedNoMoreAfter m (view_from ts u.log ls)) → OnOk r (past.IsKeptMoment u.log m)
+    → OnOk r (u'.log ≡ with_newest (past.newest u.log - m) u.log) → rows ts' ≡ rows ts → OnOk r (GivesUpDeleted ts ts' (drop (past.newest u.log - m) (undo_of u.log).history))
+    → u'.links ≡ u.links → OnErr r ((ts' ≡ ts) × (u' ≡ u)) → IsSound ts u ls → IsSound ts' u' ls
+purge_sound (Ok x) ts ts' u u' ls m named kept is rows_same places links_same same s = record {
+  kept = subst (λ z. IsKept ts' z ls) (sym is) (purged_kept ts ts' u.log ls (past.newest u.log - m) places (named_no_more ts u.log ls m named kept) s.kept);
+  safe = subst (λ z. IsSafe (view_from ts' z ls)) (sym is) (subst IsSafe (sym (purged_view ts ts' u.log ls m rows_same)) (safe_purged m (view_from ts u.log ls) s.safe));
+  linked = linked_less ts ts' u.links u'.links (λ k. IsDeletedIn k (drop (past.newest u.log - m) (undo_of u.log).history)) places links_same s.linked;
+}
+purge_sound (Err e) ts ts' u u' ls m named kept is rows_same places links_same same s =
     subst (λ z. IsSound z u' ls) (sym same.0) (subst (λ z. IsSound ts z ls) (sym same.1) s)
 
-pub purge_view : {T E : Type 0} (r : Result T E) (ts ts' : tables.Places) (u u' : SegmentLog) (ls : Holdings) (m : ℕ) → OnOk r (u' ≡ with_newest (past.newest u - m) u)
-    → rows ts' ≡ rows ts → OnOk r (view_from ts' u' ls ≡ purged_to m (view_from ts u ls))
-purge_view (Ok x) ts ts' u u' ls m is same = ap (λ z. view_from ts' z ls) is ∙ purged_view ts ts' u ls m same
+pub purge_view : {T E : Type 0} (r : Result T E) (ts ts' : tables.Places) (u u' : UndoState) (ls : Holdings) (m : ℕ)
+    → OnOk r (u'.log ≡ with_newest (past.newest u.log - m) u.log)
+    → rows ts' ≡ rows ts → OnOk r (view_from ts' u'.log ls ≡ purged_to m (view_from ts u.log ls))
+purge_view (Ok x) ts ts' u u' ls m is same = ap (λ z. view_from ts' z ls) is ∙ purged_view ts ts' u.log ls m same
 purge_view (Err e) ts ts' u u' ls m is same = tt
 
 -- A rewind. No segment is open after it either
@@ -174,30 +177,31 @@ safe_rewound m v empty meets s =
 no_records_of : (u : SegmentLog) → ((t : ℕ) → active_at u t ≡ None) → (t : ℕ) → (undo_of u).active t ≡ []
 no_records_of u quiet t = ap (λ a. model_records (records_in a)) (quiet t)
 
-pub rewind_sound : {T E : Type 0} (r : Result T E) (ts ts' : tables.Places) (u u' : SegmentLog) (ls : Holdings) (m : ℕ) → OnOk r (open_total u ≡ 0)
-    → OnOk r (u' ≡ without_newest (past.newest u - m) u)
-    → OnOk r ((slots : ℕ → Option (Slot system)) → store_with (rows ts') u' slots ≡ rewound_to system m (store_with (rows ts) u slots))
-    → SamePlaces ts ts' → OnErr r (u' ≡ u) → OnErr r (ts' ≡ ts) → Meets (rows ts') → IsSound ts u ls → IsSound ts' u' ls
+pub rewind_sound : {T E : Type 0} (r : Result T E) (ts ts' : tables.Places) (u u' : UndoState) (ls : Holdings) (m : ℕ) → OnOk r (open_total u.log ≡ 0)
+    → OnOk r (u'.log ≡ without_newest (past.newest u.log - m) u.log)
+    → OnOk r ((slots : ℕ → Option (Slot system)) → store_with (rows ts') u'.log slots ≡ rewound_to system m (store_with (rows ts) u.log slots))
+    → SamePlaces ts ts' → links.SamePlaces u.links u'.links → OnErr r (u' ≡ u) → OnErr r (ts' ≡ ts) → Meets (rows ts') → IsSound ts u ls → IsSound ts' u' ls
 unfolding view_from
-rewind_sound (Ok x) ts ts' u u' ls m none log is places same same_tables meets s =
-    let quiet = none_open u none in
-    let stored = subst (λ z. (slots : ℕ → Option (Slot system)) → store_with (rows ts') z slots ≡ rewound_to system m (store_with (rows ts) u slots)) log is in
-    let there : rows ts' ≡ (calls.rewound_to m (view_from ts u ls)).rows = ap (λ z. z.tables) (stored (λ t. None)) in
-    subst (λ z. IsSound ts' z ls) (sym log)
-    (record {
-      kept = rewound_kept ts ts' u ls (past.newest u - m) places quiet s.kept;
-      safe = subst IsSafe (sym (rewound_view ts ts' u ls m quiet stored)) (safe_rewound m (view_from ts u ls) (no_records_of u quiet) (subst Meets there meets) s.safe);
-    })
-rewind_sound (Err e) ts ts' u u' ls m none log is places same same_tables meets s =
+rewind_sound (Ok x) ts ts' u u' ls m none log is places same_links same same_tables meets s =
+    let quiet = none_open u.log none in
+    let stored = subst (λ z. (slots : ℕ → Option (Slot system)) → store_with (rows ts') z slots ≡ rewound_to system m (store_with (rows ts) u.log slots)) log is in
+    let there : rows ts' ≡ (calls.rewound_to m (view_from ts u.log ls)).rows = ap (λ z. z.tables) (stored (λ t. None)) in
+    record {
+      kept = subst (λ z. IsKept ts' z ls) (sym log) (rewound_kept ts ts' u.log ls (past.newest u.log - m) places quiet s.kept);
+      safe = subst (λ z. IsSafe (view_from ts' z ls)) (sym log)
+          (subst IsSafe (sym (rewound_view ts ts' u.log ls m quiet stored)) (safe_rewound m (view_from ts u.log ls) (no_records_of u.log quiet) (subst Meets there meets) s.safe));
+      linked = linked_same ts ts' u.links u'.links places same_links s.linked;
+    }
+rewind_sound (Err e) ts ts' u u' ls m none log is places same_links same same_tables meets s =
     subst (λ z. IsSound z u' ls) (sym same_tables) (subst (λ z. IsSound ts z ls) (sym same) s)
 
-pub rewind_view : {T E : Type 0} (r : Result T E) (ts ts' : tables.Places) (u u' : SegmentLog) (ls : Holdings) (m : ℕ) → OnOk r (open_total u ≡ 0)
-    → OnOk r (u' ≡ without_newest (past.newest u - m) u)
-    → OnOk r ((slots : ℕ → Option (Slot system)) → store_with (rows ts') u' slots ≡ rewound_to system m (store_with (rows ts) u slots))
-    → OnOk r (view_from ts' u' ls ≡ calls.rewound_to m (view_from ts u ls))
+pub rewind_view : {T E : Type 0} (r : Result T E) (ts ts' : tables.Places) (u u' : UndoState) (ls : Holdings) (m : ℕ) → OnOk r (open_total u.log ≡ 0)
+    → OnOk r (u'.log ≡ without_newest (past.newest u.log - m) u.log)
+    → OnOk r ((slots : ℕ → Option (Slot system)) → store_with (rows ts') u'.log slots ≡ rewound_to system m (store_with (rows ts) u.log slots))
+    → OnOk r (view_from ts' u'.log ls ≡ calls.rewound_to m (view_from ts u.log ls))
 rewind_view (Ok x) ts ts' u u' ls m none log is =
-    let stored = subst (λ z. (slots : ℕ → Option (Slot system)) → store_with (rows ts') z slots ≡ rewound_to system m (store_with (rows ts) u slots)) log is in
-    ap (λ z. view_from ts' z ls) log ∙ rewound_view ts ts' u ls m (none_open u none) stored
+    let stored = subst (λ z. (slots : ℕ → Option (Slot system)) → store_with (rows ts') z slots ≡ rewound_to system m (store_with (rows ts) u.log slots)) log is in
+    ap (λ z. view_from ts' z ls) log ∙ rewound_view ts ts' u.log ls m (none_open u.log none) stored
 rewind_view (Err e) ts ts' u u' ls m none log is = tt
 
 -- quiet in the view

@@ -12,39 +12,51 @@ use Rattle.oe_records.specs.Writes.{written}
 use Rattle.oe_store.specs.Places.{rows}
 use Rattle.oe_store.specs.Places as tables
 use Rattle.oe_log.specs.Log.{IsFull}
-use Rattle.oe_segments.specs.Segments.{SegmentLog, log_of}
+use Rattle.oe_segments.specs.Segments.{log_of}
+use Rattle.oe_undo.specs.Undo.{UndoState}
+use Rattle.oe_journal.specs.Linked.{AreLinked}
 use Rattle.oe_journal.specs.Writes.{IsRecorded, HasRecorded, HasRoomFor}
 use Rattle.oe_journal.proofs.RecordFacts.{write_records}
 use Rattle.oe_locks.specs.Held.{Holdings}
 use Rattle.oe_engine.specs.View.{view_from}
 use Rattle.oe_engine.specs.Covered.{MayMake, IsSafe}
-use Rattle.oe_engine.specs.Kept.{IsSound}
+use Rattle.oe_engine.specs.Kept.{IsKept, IsSound}
 use Rattle.oe_engine.specs.Calls.{made}
+use Rattle.oe_engine.specs.Writes.{MayWrite}
 use Rattle.oe_engine.proofs.MakeFacts.{change_view, change_kept}
 use Rattle.oe_engine.proofs.SafeFacts.{safe_made}
-use Rattle.oe_engine.proofs.WriteFacts.{at_change, of_change}
+use Rattle.oe_engine.proofs.WriteFacts.{at_change, of_change, may_make}
 
-module _ (ts ts' : tables.Places) (u x : SegmentLog) (ls : Holdings) (t : ℕ) where
+module _ (ts ts' : tables.Places) (u x : UndoState) (ls : Holdings) (t : ℕ) where
   -- a transaction may make this change
   abbrev pub MayHere : Change → Type 0
-  MayHere c = MayMake ((view_from ts u ls).held t) t (suc ((view_from ts u ls).counts t)) c
+  MayHere c = MayMake ((view_from ts u.log ls).held t) t (suc ((view_from ts u.log ls).counts t)) c
 
-  pub change_sound : (c : Change) → MayHere c → IsRecorded c ts ts' u x t → IsSound ts u ls → IsSound ts' x ls
+  -- or this write
+  abbrev pub MayWriteHere : Write → Type 0
+  MayWriteHere w = MayWrite ((view_from ts u.log ls).held t) t (suc ((view_from ts u.log ls).counts t)) w
+
+  pub change_sound : (c : Change) → MayHere c → IsRecorded c ts ts' u x t → AreLinked ts' x.links → IsSound ts u ls → IsSound ts' x ls
   unfolding view_from
-  change_sound c may h s = record {
+  change_sound c may h linked s = record {
     kept = change_kept ts ts' u x ls t c h s.kept;
-    safe = subst IsSafe (sym (change_view ts ts' u x ls t c h)) (safe_made t c (view_from ts u ls) h.applies.accepted may s.safe);
+    safe = subst IsSafe (sym (change_view ts ts' u x ls t c h)) (safe_made t c (view_from ts u.log ls) h.applies.accepted may s.safe);
+    linked = linked;
   }
 
-  same_sound : ts' ≡ ts → x ≡ u → IsSound ts u ls → IsSound ts' x ls
-  same_sound tables log s = subst (λ z. IsSound z x ls) (sym tables) (subst (λ z. IsSound ts z ls) (sym log) s)
+  same_sound : ts' ≡ ts → x.log ≡ u.log → AreLinked ts' x.links → IsSound ts u ls → IsSound ts' x ls
+  same_sound tables log linked s = record {
+    kept = subst (λ z. IsKept z x.log ls) (sym tables) (subst (λ z. IsKept ts z ls) (sym log) s.kept);
+    safe = subst (λ z. IsSafe (view_from z x.log ls)) (sym tables) (subst (λ z. IsSafe (view_from ts z ls)) (sym log) s.safe);
+    linked = linked;
+  }
 
-  pub made_sound : {T E : Type 0} (r : Result T E) (c : Change) → MayHere c → OnOk r (IsRecorded c ts ts' u x t) → OnErr r (ts' ≡ ts) → OnErr r (x ≡ u)
-      → IsSound ts u ls → IsSound ts' x ls
-  made_sound (Ok v) c may h tables log s = change_sound c may h s
-  made_sound (Err e) c may h tables log s = same_sound tables log s
+  pub made_sound : {T E : Type 0} (r : Result T E) (c : Change) → MayHere c → OnOk r (IsRecorded c ts ts' u x t) → OnErr r (ts' ≡ ts) → OnErr r (x.log ≡ u.log)
+      → AreLinked ts' x.links → IsSound ts u ls → IsSound ts' x ls
+  made_sound (Ok v) c may h tables log linked s = change_sound c may h linked s
+  made_sound (Err e) c may h tables log linked s = same_sound tables log linked s
 
-  pub made_view : {T E : Type 0} (r : Result T E) (c : Change) → OnOk r (IsRecorded c ts ts' u x t) → OnOk r (view_from ts' x ls ≡ made t c (view_from ts u ls))
+  pub made_view : {T E : Type 0} (r : Result T E) (c : Change) → OnOk r (IsRecorded c ts ts' u x t) → OnOk r (view_from ts' x.log ls ≡ made t c (view_from ts u.log ls))
   made_view (Ok v) c h = change_view ts ts' u x ls t c h
   made_view (Err e) c h = tt
 
@@ -52,31 +64,33 @@ module _ (ts ts' : tables.Places) (u x : SegmentLog) (ls : Holdings) (t : ℕ) w
   made_accepted (Ok v) c h = h.applies.accepted
   made_accepted (Err e) c h = tt
 
-  pub same_view : {T E : Type 0} (r : Result T E) → OnErr r (ts' ≡ ts) → OnErr r (x ≡ u) → OnErr r (view_from ts' x ls ≡ view_from ts u ls)
+  pub same_view : {T E : Type 0} (r : Result T E) → OnErr r (ts' ≡ ts) → OnErr r (x.log ≡ u.log) → OnErr r (view_from ts' x.log ls ≡ view_from ts u.log ls)
   same_view (Ok v) tables log = tt
   same_view (Err e) tables log = λ i. view_from (tables i) (log i) ls
 
   -- a write is a change of the row that is there
   module _ (w : Write) where
-    pub put_sound : {T E : Type 0} (r : Result T E) → ((c : Change) → written w (rows ts) ≡ Some c → MayHere c) → OnOk r (HasRecorded w ts ts' u x t)
-        → OnErr r (ts' ≡ ts) → OnErr r (x ≡ u) → IsSound ts u ls → IsSound ts' x ls
-    put_sound (Ok v) may h tables log s = let (c, found, is) = at_change _ _ h in change_sound c (may c found) is s
-    put_sound (Err e) may h tables log s = same_sound tables log s
+    pub put_sound : {T E : Type 0} (r : Result T E) → MayWriteHere w → OnOk r (HasRecorded w ts ts' u x t)
+        → OnErr r (ts' ≡ ts) → OnErr r (x.log ≡ u.log) → AreLinked ts' x.links → IsSound ts u ls → IsSound ts' x ls
+    put_sound (Ok v) may h tables log linked s =
+        let (c, found, is) = at_change _ _ h in
+        change_sound c (may_make ((view_from ts u.log ls).held t) t (suc ((view_from ts u.log ls).counts t)) w (rows ts) c found may) is linked s
+    put_sound (Err e) may h tables log linked s = same_sound tables log linked s
 
     put_recorded : {T E : Type 0} (r : Result T E) (c : Change) → written w (rows ts) ≡ Some c → OnOk r (HasRecorded w ts ts' u x t) → OnOk r (IsRecorded c ts ts' u x t)
     put_recorded (Ok v) c found h = of_change _ _ c found h
     put_recorded (Err e) c found h = tt
 
     pub put_view : {T E : Type 0} (r : Result T E) (c : Change) → written w (rows ts) ≡ Some c → OnOk r (HasRecorded w ts ts' u x t)
-        → OnOk r (view_from ts' x ls ≡ made t c (view_from ts u ls))
+        → OnOk r (view_from ts' x.log ls ≡ made t c (view_from ts u.log ls))
     put_view r c found h = made_view r c (put_recorded r c found h)
 
     pub put_accepted : {T E : Type 0} (r : Result T E) (c : Change) → written w (rows ts) ≡ Some c → OnOk r (HasRecorded w ts ts' u x t) → OnOk r (Accepts c (rows ts))
     put_accepted r c found h = made_accepted r c (put_recorded r c found h)
 
-    pub put_fits : {T E : Type 0} (r : Result T E) (c : Change) → written w (rows ts) ≡ Some c → OnOk r (HasRecorded w ts ts' u x t) → OnOk r (HasRoomFor w (rows ts) u t)
-        → OnOk r (IsFull (log_of u) t (record_length (record_on system c (rows ts))) → ⊥)
+    pub put_fits : {T E : Type 0} (r : Result T E) (c : Change) → written w (rows ts) ≡ Some c → OnOk r (HasRecorded w ts ts' u x t) → OnOk r (HasRoomFor w (rows ts) u.log t)
+        → OnOk r (IsFull (log_of u.log) t (record_length (record_on system c (rows ts))) → ⊥)
     put_fits (Ok v) c found h room =
         let accepted = (of_change (λ d. IsRecorded d ts ts' u x t) _ c found h).applies.accepted in
-        subst (λ o. IsSomeAnd o (λ b. IsFull (log_of u) t (record_length b) → ⊥)) (write_records w c (rows ts) found accepted) room
+        subst (λ o. IsSomeAnd o (λ b. IsFull (log_of u.log) t (record_length b) → ⊥)) (write_records w c (rows ts) found accepted) room
     put_fits (Err e) c found h room = tt

@@ -3,6 +3,7 @@ use Rattle.std.proofs.Common.{◌≡◌, ◌≢◌, ℕ, zero, suc, Bool, true, 
 use Rattle.std.specs.Prelude.{IsSome, is_some, Result, Ok, Err, OnOk, OnErr}
 use Rattle.std.proofs.lemmas.Bool.{cases_eq}
 use Rattle.std.proofs.lemmas.List.{take_all, drop_all}
+use Rattle.oe_keys.specs.declared.keys.Key.{Key}
 use Rattle.oe_keys.specs.declared.keys.OrderKey.{OrderKey}
 use Rattle.oe_keys.specs.declared.locks.Mode.{Mode}
 use Rattle.oe_keys.specs.declared.locks.Name.{Name}
@@ -25,6 +26,8 @@ use Rattle.oe_model.proofs.PresenceFacts.{missing}
 use Rattle.oe_model.proofs.SystemLaws as model
 use Rattle.oe_store.specs.Places as tables
 use Rattle.oe_segments.specs.Segments as undo
+use Rattle.oe_segments.specs.Stands.{model_records}
+use Rattle.oe_chains.specs.Chains.{HaveNone, IsAlone}
 use Rattle.oe_locks.specs.Held as locks
 use Rattle.oe_locks.specs.Held.{Holdings}
 use Rattle.oe_engine.specs.View.{View, view_from, opened_view}
@@ -95,6 +98,20 @@ apart_all v s t c m u ne (b ∷ bs) h = (
   },
   apart_all v s t c m u ne bs h.2,
 )
+
+-- no other transaction has a record of a key that one owns
+has_none : (v : View) → IsSafe v → (t : ℕ) (k : Key) → Owns (v.held t) t (suc (v.counts t)) (governs k) → (u : ℕ) → u ≢ t → (bs : List Record)
+    → AreOwned (v.held u) u (suc (v.counts u)) bs → HaveNone k bs
+has_none v s t k own u ne [] h = tt
+has_none v s t k own u ne (b ∷ bs) h = (
+  λ e. two_owners v s t u (suc (v.counts t)) (suc (v.counts u)) ne (governs k) own (subst (λ j. Owns (v.held u) u (suc (v.counts u)) (governs j)) e h.0),
+  has_none v s t k own u ne bs h.2,
+)
+
+pub is_alone : (ts : tables.Places) (u : undo.SegmentLog) (ls : Holdings) (t : ℕ) (k : Key) → IsSafe (view_from ts u ls)
+    → Owns ((view_from ts u ls).held t) t (suc ((view_from ts u ls).counts t)) (governs k) → IsAlone u t k
+unfolding view_from
+is_alone ts u ls t k s own x ne = has_none (view_from ts u ls) s t k own x ne (model_records (undo.records_at u x)) (s.owned x)
 
 -- an engine in which nothing has begun
 pub safe_first : (r : Rows) (n : ℕ) → Meets r → IsSafe (opened_view r n)
@@ -325,7 +342,7 @@ pub covered_after : (t : ℕ) (n : Name) (m : theory.Mode) (c : Change) (v : Vie
 covered_after t n m c v h = subst (λ held. MayMake held t (suc (v.counts t)) c) (sym (set_at t (held_after system (Take n m) (v.held t)) v.held)) h
 
 -- and where its name is taken for it
-owns_to_write : (v : View) (t k : ℕ) (g : Guard Name) → IsOwn t k g → Owns (held_after system (ask_to_write g) (v.held t)) t k g
+pub owns_to_write : (v : View) (t k : ℕ) (g : Guard Name) → IsOwn t k g → Owns (held_after system (ask_to_write g) (v.held t)) t k g
 owns_to_write v t k Free h = h
 owns_to_write v t k (Under n) h = taken_alone (v.held t) n
 owns_to_write v t k (Own u j) h = h

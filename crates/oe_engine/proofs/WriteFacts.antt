@@ -3,6 +3,7 @@ use Rattle.std.proofs.Common.{◌≡◌, ◌+◌, ◌≤◌, refl, sym, ◌∙�
 use Rattle.std.specs.Prelude.{IsSome, option_map, option_and_then}
 use Rattle.std.specs.Option.{IsSomeAnd}
 use Rattle.std.specs.FinMap.{get}
+use Rattle.oe_theory.specs.Machine.{Take}
 use Rattle.oe_theory.specs.Machine as theory
 use Rattle.oe_theory.proofs.Sets.{some_inj}
 use Rattle.oe_keys.specs.declared.locks.Name.{Name}
@@ -10,7 +11,7 @@ use Rattle.oe_requests.specs.declared.refusals.Refusal.{Refusal}
 use Rattle.oe_requests.specs.declared.refusals.Refusal.TheVariants.{UndoFull, NoMemory}
 use Rattle.oe_rows.specs.declared.orders.NewOrder.{NewOrder}
 use Rattle.oe_rows.specs.declared.rows.Row.TheVariants as row
-use Rattle.oe_theory.specs.Next.{record_on}
+use Rattle.oe_theory.specs.Next.{held_after, record_on}
 use Rattle.oe_model.specs.Rows.{Rows, as_warehouse, as_district, as_customer, as_new_order, as_order, as_order_line, as_stock}
 use Rattle.oe_model.specs.Changes.{Change, key_of, Record, UpdatedWarehouse, UpdatedDistrict, UpdatedCustomer, UpdatedOrder, UpdatedOrderLine, UpdatedStock, DeletedNewOrder}
 use Rattle.oe_model.specs.Lengths.{record_length}
@@ -27,10 +28,11 @@ use Rattle.oe_journal.specs.Records.{record_of_write}
 use Rattle.oe_journal.specs.Writes.{CantWrite, Absent, Full, Refused}
 use Rattle.oe_journal.proofs.RecordFacts.{recorded}
 use Rattle.oe_engine.specs.View.{View}
-use Rattle.oe_engine.specs.Covered.{HoldsOrder, IsOwn}
-use Rattle.oe_engine.specs.Calls.{ask_to_write, IsCovered, ChangeRefused}
-use Rattle.oe_engine.specs.Writes.{ask_of_write, change_written, WriteHoldsOrder, AbsentRefused, WantsRow}
-use Rattle.oe_engine.proofs.SafeFacts.{covered_to_write}
+use Rattle.oe_engine.specs.Covered.{Owns, HoldsOrder, MayMake, IsOwn}
+use Rattle.oe_engine.specs.Calls.{locked, ChangeRefused}
+use Rattle.oe_engine.specs.Writes.{ask_of_write, WriteHoldsOrder, MayWrite, AbsentRefused, WantsRow}
+use Rattle.oe_engine.proofs.LockFacts.{set_at}
+use Rattle.oe_engine.proofs.SafeFacts.{owns_to_write}
 use Rattle.oe_engine.proofs.PartFacts.{refused_so}
 
 -- what holds of the change that is there
@@ -68,13 +70,35 @@ is_of held (InsertOrder k x) r c e = of_this (IsOf held (InsertOrder k x)) _ c (
 is_of held (InsertOrderLine k x) r c e = of_this (IsOf held (InsertOrderLine k x)) _ c (refl, λ h. tt) e
 is_of held (DeleteNewOrder k) r c e = of_this (IsOf held (DeleteNewOrder k)) _ c (refl, λ h. tt) e
 
--- it is covered once its name was taken
-pub covered_written : (v : View) (t : ℕ) (w : Write) (c : Change) → change_written w v ≡ Some c → IsOwn t (suc (v.counts t)) (governs (key_written w))
-    → WriteHoldsOrder (v.held t) w → IsCovered v t (ask_of_write w) (Some c)
-covered_written v t w c e own order =
-    let (same, holds) = is_of (v.held t) w v.rows c e in
-    subst (λ k. IsCovered v t (ask_to_write (governs k)) (Some c)) same
-    (covered_to_write v t c (subst (λ k. IsOwn t (suc (v.counts t)) (governs k)) (sym same) own) (holds order))
+-- so a transaction that may make the write may make the change
+pub may_make : (held : Name → Option theory.Mode) (t k : ℕ) (w : Write) (r : Rows) (c : Change) → written w r ≡ Some c → MayWrite held t k w → MayMake held t k c
+may_make held t k w r c e may =
+    let (same, holds) = is_of held w r c e in
+    (subst (λ j. Owns held t k (governs j)) (sym same) may.0, holds may.1)
+
+-- it may make the write once its name was taken
+order_still : (v : View) (t : ℕ) (w : Write) → WriteHoldsOrder (v.held t) w → WriteHoldsOrder (held_after system (ask_of_write w) (v.held t)) w
+order_still v t (InsertNewOrder k) h = h
+order_still v t (WarehouseYtd k y) h = tt
+order_still v t (DistrictYtd k y) h = tt
+order_still v t (NextOrder k n) h = tt
+order_still v t (CustomerAccount k a) h = tt
+order_still v t (BadCredit k a e) h = tt
+order_still v t (StockCounters k n) h = tt
+order_still v t (Carrier k n) h = tt
+order_still v t (DeliveryDate k d) h = tt
+order_still v t (InsertHistory k x) h = tt
+order_still v t (InsertOrder k x) h = tt
+order_still v t (InsertOrderLine k x) h = tt
+order_still v t (DeleteNewOrder k) h = tt
+
+pub may_write : (v : View) (t : ℕ) (w : Write) → IsOwn t (suc (v.counts t)) (governs (key_written w)) → WriteHoldsOrder (v.held t) w
+    → MayWrite (held_after system (ask_of_write w) (v.held t)) t (suc (v.counts t)) w
+may_write v t w own order = (owns_to_write v t (suc (v.counts t)) (governs (key_written w)) own, order_still v t w order)
+
+pub may_after : (t : ℕ) (n : Name) (m : theory.Mode) (w : Write) (v : View) → MayWrite (held_after system (Take n m) (v.held t)) t (suc (v.counts t)) w
+    → MayWrite ((locked t n m v).held t) t (suc ((locked t n m v).counts t)) w
+may_after t n m w v h = subst (λ held. MayWrite held t (suc (v.counts t)) w) (sym (set_at t (held_after system (Take n m) (v.held t)) v.held)) h
 
 -- ---- why it is refused
 

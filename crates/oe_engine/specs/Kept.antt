@@ -6,7 +6,9 @@ use Rattle.oe_segments.specs.Segments.{active_at, count_at}
 use Rattle.oe_segments.specs.Segments as undo
 use Rattle.oe_segments.specs.Stands.{undo_of}
 use Rattle.oe_locks.specs.Held.{Holdings, HoldsNothing}
+use Rattle.oe_undo.specs.Undo.{UndoState}
 use Rattle.oe_journal.specs.GoesBack.{HavePlaces, AllHavePlaces}
+use Rattle.oe_journal.specs.Linked.{AreLinked}
 use Rattle.oe_engine.specs.View.{view_from}
 use Rattle.oe_engine.specs.Covered.{IsSafe}
 
@@ -21,6 +23,8 @@ pub record IsKept (ts : tables.Places) (u : undo.SegmentLog) (ls : Holdings) : T
   pub counted : (t : ℕ) → is_some (active_at u t) ≡ true → count_at u t < 4_294_967_295
 
 -- an engine's tables, undo log and locks
-pub record IsSound (ts : tables.Places) (u : undo.SegmentLog) (ls : Holdings) : Type 0 where
-  pub kept : IsKept ts u ls
-  pub safe : IsSafe (view_from ts u ls)
+pub record IsSound (ts : tables.Places) (s : UndoState) (ls : Holdings) : Type 0 where
+  pub kept : IsKept ts s.log ls
+  pub safe : IsSafe (view_from ts s.log ls)
+  -- only an insert at a key without a place in its table takes memory for a link
+  pub linked : AreLinked ts s.links

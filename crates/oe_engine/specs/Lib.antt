@@ -2,6 +2,7 @@
 pub mod View
 pub mod Covered
 pub mod Kept
+pub mod Opened
 pub mod Loans
 pub mod Calls
 pub mod Writes

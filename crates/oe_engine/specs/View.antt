@@ -12,6 +12,7 @@ use Rattle.oe_store.specs.Places as tables
 use Rattle.oe_segments.specs.Segments.{active_at}
 use Rattle.oe_segments.specs.Segments as undo
 use Rattle.oe_segments.specs.Stands.{undo_of, seals_of, counts_of}
+use Rattle.oe_links.specs.Links.{LinkMaps}
 use Rattle.oe_locks.specs.Held.{Holdings, held}
 
 -- the rows as they are, open work included; the undo records of open transactions and of commits; the commits, newest first; the
@@ -41,10 +42,11 @@ view_from ts u ls = record {
 pub record EngineState : Type 0 where
   pub tables : tables.Places
   pub undo : undo.SegmentLog
+  pub links : LinkMaps
   pub locks : Holdings
   pub name : ℕ
 
--- what it stands for. Places of blanked keys and the order in which names are kept are not part of that
+-- what it stands for. Places of blanked keys, links, and the order in which names are kept are not part of that
 unfoldable pub view_of : EngineState → View
 view_of s = view_from s.tables s.undo s.locks
 

@@ -16,6 +16,7 @@ use Rattle.oe_records.specs.declared.writes.Write.TheVariants.{InsertNewOrder}
 use Rattle.oe_records.specs.Writes.{key_written, written}
 use Rattle.oe_store.specs.Places as tables
 use Rattle.oe_engine.specs.View.{EngineState, View, view_of, Handle, IsOpen}
+use Rattle.oe_engine.specs.Covered.{Owns}
 use Rattle.oe_engine.specs.Calls.{ask_to_write, IsFree, IsInTheWay, LockRefused, WantsPlace}
 
 -- the lock under which it is made
@@ -30,6 +31,10 @@ change_written w v = written w v.rows
 abbrev pub WriteHoldsOrder : (Name → Option theory.Mode) → Write → Type 0
 WriteHoldsOrder held (InsertNewOrder k) = IsSome (held (name.Order (order_of_new_order k)))
 WriteHoldsOrder held _ = Unit {0}
+
+-- transaction k of terminal t may make the write beside others' open work: of a row that it alone may change
+abbrev pub MayWrite : (Name → Option theory.Mode) → ℕ → ℕ → Write → Type 0
+MayWrite held t k w = Owns held t k (governs (key_written w)) × WriteHoldsOrder held w
 
 -- why a write without its row is refused: the row is absent
 abbrev pub AbsentRefused : Key → Refusal → Type 0

@@ -21,13 +21,13 @@ use oe_locks::Locks;
 use oe_records::{Change, Write};
 use oe_requests::Refusal;
 use oe_rows::Row;
-use oe_segments::Segments;
 use oe_store::Tables;
+use oe_undo::Undo;
 
 /// What an engine is made of, to be read.
 pub struct Parts<'a> {
     pub tables: &'a Tables,
-    pub undo: &'a Segments,
+    pub undo: &'a Undo,
     pub locks: &'a Locks,
 }
 
@@ -195,7 +195,8 @@ impl Engine {
     /// What the engine is made of.
     pub fn parts(&self) -> Parts<'_>
         ensures tables { result.tables.now ≡ self.now.tables }
-        ensures undo { result.undo.now ≡ self.now.undo }
+        ensures undo { result.undo.now.log ≡ self.now.undo }
+        ensures links { result.undo.now.links ≡ self.now.links }
         ensures locks { result.locks.now ≡ self.now.locks }
     {
         Parts {

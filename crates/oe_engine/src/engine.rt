@@ -17,14 +17,16 @@ ghost use Rattle.oe_engine.specs.View.{view_of, opened_view, IsOpen};
 ghost use Rattle.oe_engine.specs.Covered.{MayMake, IsUnused, IsSafe};
 ghost use Rattle.oe_engine.specs.Calls.{ask_of, IsFree, IsBusy, IsFullFor, IsFullForAny, IsBelow, begun, CantBegin, locked, made, put_mode, LockRefused, ChangeRefused, PairRefused, stage_done, StageRefused, WantsPlace, AcceptsAll, IsCovered, back_at, committed, rolled_back};
 
+use crate::opening::linked_undo;
 use crate::programs::Lock;
 use oe_keys::{Mode, Name};
 use oe_locks::Locks;
 use oe_records::Change;
 use oe_requests::{Column, Refusal, Reply, Request};
-use oe_segments::{ExtentCount, Segment, Segments};
+use oe_segments::{ExtentCount, Segment};
 use oe_store::Tables;
 use oe_table::tables::NoMemory;
+use oe_undo::Undo;
 use oe_values::{Moment, Terminal, TransactionNumber};
 use std::alloc::Global;
 use std::marker::Model;
@@ -34,21 +36,26 @@ use std::snapshot::Snapshot;
 #[derive(Drop)]
 pub struct Engine {
     pub(crate) tables: Tables,
-    pub(crate) undo: Segments,
+    pub(crate) undo: Undo,
     pub(crate) locks: Locks,
     name: u32,
     alloc: Global,
 }
 
 impl Model for Engine {
+    ghost use Rattle.std.specs.Coded.{codes};
+    ghost use Rattle.std.specs.FinMap.{code as map_code};
     ghost use Rattle.oe_engine.specs.View.{EngineState};
     ghost use Rattle.oe_engine.specs.Kept.{IsSound};
 
     ghost Value = { EngineState };
 
+    ghost coded = { Prim.hlevel (codes, map_code) };
+
     ghost view = { λ e. record {
       tables = e.tables;
-      undo = e.undo;
+      undo = e.undo.log;
+      links = e.undo.links;
       locks = e.locks;
       name = e.name;
     } };
@@ -115,7 +122,7 @@ fn is_below(mode: Option<Mode>, held: Option<Mode>) -> bool
 
 impl Engine {
     /// An engine on tables where nothing has begun or committed; its name tells its transactions from other engines'.
-    /// `NoMemory` where memory was refused.
+    /// Each key of the tables that are changed gets a place for its link. `NoMemory` where memory was refused.
     pub fn open(
         alloc: Global,
         tables: Tables,
@@ -125,7 +132,7 @@ impl Engine {
         ensures view { IfOk result (λ e. view_of e ≡ opened_view (rows tables) extents) }
         ensures name { IfOk result (λ e. e.name ≡ name) }
     {
-        let Ok(undo) = Segments::new(alloc, extents) else {
+        let Ok(undo) = linked_undo(alloc, &tables, extents) else {
             return Err(NoMemory);
         };
         let Ok(locks) = Locks::new(alloc) else {
@@ -154,9 +161,10 @@ impl Engine {
         &self.tables
     }
 
-    /// The undo log: the records of open transactions and of commits.
-    pub fn undo(&self) -> &Segments
-        ensures { result.now ≡ self.now.undo }
+    /// The undo log: the records of open transactions and of commits, with each key's link to its newest.
+    pub fn undo(&self) -> &Undo
+        ensures log { result.now.log ≡ self.now.undo }
+        ensures links { result.now.links ≡ self.now.links }
     {
         &self.undo
     }
@@ -166,7 +174,7 @@ impl Engine {
     pub fn newest(&self) -> Moment
         ensures { result ≡ total terminal_limit (view_of self.now).counts }
     {
-        self.undo.newest()
+        self.undo.segments().newest()
     }
 
     /// The oldest moment that can be read.
@@ -175,7 +183,7 @@ impl Engine {
         ensures { result ≡ total terminal_limit (view_of self.now).counts - length
             (view_of self.now).seals }
     {
-        self.undo.horizon()
+        self.undo.segments().horizon()
     }
 
     /// How many transactions are open.
@@ -185,7 +193,7 @@ impl Engine {
             → ((t : ℕ) → is_some (slots t) ≡ (view_of self.now).is_open t)
             → result ≡ count_slots system slots terminal_limit }
     {
-        self.undo.open_count()
+        self.undo.segments().open_count()
     }
 
     /// Begins a transaction of a terminal. It takes all memory that its commit will need.
@@ -207,10 +215,10 @@ impl Engine {
         ensures err { OnErr result (self.new ≡ self.old) }
     {
         let _number = terminal.get();
-        if self.undo.is_open(terminal) {
+        if self.undo.segments().is_open(terminal) {
             return Err(Refusal::AlreadyOpen);
         }
-        if self.undo.count(terminal) == u32::MAX {
+        if self.undo.segments().count(terminal) == u32::MAX {
             return Err(Refusal::Overflow(Column::HistoryNumber));
         }
         let Ok(_) = self.undo.open_segment(terminal) else {
@@ -229,7 +237,7 @@ impl Engine {
         requires { IsOpen self.now tx.now }
         ensures { result ≡ suc ((view_of self.now).counts tx.now.terminal) }
     {
-        self.undo.number(tx.terminal)
+        self.undo.segments().number(tx.terminal)
     }
 
     /// Whether a lock is free for an open transaction: `Busy` names the least terminal that is in its way. It takes no memory.
@@ -263,7 +271,7 @@ impl Engine {
     pub fn is_open(&self, tx: &Tx) -> bool
         ensures { IsTrue result ↔ IsOpen self.now tx.now }
     {
-        tx.engine == self.name && self.undo.is_open(tx.terminal)
+        tx.engine == self.name && self.undo.segments().is_open(tx.terminal)
     }
 }
 
@@ -281,6 +289,7 @@ impl Engine {
             (view_of self.new ≡ locked terminal lock.name (mode_of lock.mode) (view_of self.old)) }
         ensures tables { self.new.tables ≡ self.old.tables }
         ensures undo { self.new.undo ≡ self.old.undo }
+        ensures links { self.new.links ≡ self.old.links }
         ensures name { self.new.name ≡ self.old.name }
         ensures cause { IfErr result
             (LockRefused (view_of self.old) terminal lock.name (mode_of lock.mode)) }
@@ -436,7 +445,7 @@ impl Engine {
             return Mark::start();
         }
         Mark {
-            records: self.undo.mark(Segment::of(tx.terminal)),
+            records: self.undo.segments().mark(Segment::of(tx.terminal)),
         }
     }
 
@@ -449,7 +458,7 @@ impl Engine {
         ensures name { self.new.name ≡ self.old.name }
     {
         let segment = Segment::of(tx.terminal);
-        let count = self.undo.mark(segment) - mark.records;
+        let count = self.undo.segments().mark(segment) - mark.records;
         oe_journal::take_back(&mut self.tables, &mut self.undo, segment, count);
     }
 
@@ -506,7 +515,7 @@ impl Engine {
         } = tx;
         let _number = terminal.get();
         let segment = Segment::of(terminal);
-        let count = self.undo.mark(segment);
+        let count = self.undo.segments().mark(segment);
         oe_journal::take_back(&mut self.tables, &mut self.undo, segment, count);
         self.undo.drop_segment(segment);
         self.locks.release_all(terminal);

@@ -5,6 +5,7 @@ pub mod access;
 pub mod choices;
 pub mod engine;
 pub mod loans;
+mod opening;
 pub mod past;
 pub mod programs;
 pub mod stages;

@@ -2,15 +2,15 @@
 ghost use Rattle.std.specs.Prelude.{◌≡◌, ◌<◌, suc, true, Some, None, IsSome, IfErr, OnOk, OnErr};
 ghost use Rattle.std.specs.Option.{ForSome};
 ghost use Rattle.oe_theory.specs.Machine.{Take};
-ghost use Rattle.oe_theory.specs.Next.{IsNew};
+ghost use Rattle.oe_theory.specs.Next.{IsNew, held_after};
 ghost use Rattle.oe_model.specs.Locks.{mode_of, governs};
 ghost use Rattle.oe_model.specs.Meets.{Accepts};
 ghost use Rattle.oe_model.specs.System.{system};
 ghost use Rattle.oe_records.specs.Writes.{key_written};
 ghost use Rattle.oe_engine.specs.View.{view_of, IsOpen};
-ghost use Rattle.oe_engine.specs.Covered.{MayMake, IsOwn};
-ghost use Rattle.oe_engine.specs.Calls.{IsFree, IsFullFor, locked, made, ChangeRefused, PairRefused, stage_done, StageRefused, IsCovered};
-ghost use Rattle.oe_engine.specs.Writes.{ask_of_write, change_written, WriteHoldsOrder, AbsentRefused, AbsentPairRefused, AbsentRowRefused, WantsRow};
+ghost use Rattle.oe_engine.specs.Covered.{IsOwn};
+ghost use Rattle.oe_engine.specs.Calls.{IsFree, IsFullFor, locked, made, ChangeRefused, PairRefused, stage_done, StageRefused};
+ghost use Rattle.oe_engine.specs.Writes.{ask_of_write, change_written, WriteHoldsOrder, MayWrite, AbsentRefused, AbsentPairRefused, AbsentRowRefused, WantsRow};
 
 use crate::access::lock_of_write;
 use crate::engine::{Engine, Tx};
@@ -25,9 +25,8 @@ impl Engine {
     #[inline]
     fn put(&mut self, terminal: Terminal, write: &Write) -> Result<(), Refusal>
         requires open { (view_of self.old).is_open terminal ≡ true }
-        requires covered { ForSome (change_written write.now (view_of self.old))
-            (MayMake ((view_of self.old).held terminal) terminal
-            (suc ((view_of self.old).counts terminal))) }
+        requires covered { MayWrite ((view_of self.old).held terminal) terminal
+            (suc ((view_of self.old).counts terminal)) write.now }
         ensures there { OnOk result (IsSome (change_written write.now (view_of self.old))) }
         ensures accepted { ForSome (change_written write.now (view_of self.old))
             (λ c. OnOk result (Accepts c (view_of self.old).rows)) }
@@ -61,9 +60,10 @@ impl Engine {
         write: &Write,
     ) -> Result<(), Refusal>
         requires open { (view_of self.old).is_open terminal ≡ true }
-        requires covered { ForSome (change_written write.now (view_of self.old))
-            (λ c. IsCovered (view_of self.old) terminal (Take lock.now.name (mode_of lock.now.mode))
-            (Some c)) }
+        requires covered { MayWrite
+            (held_after system (Take lock.now.name (mode_of lock.now.mode))
+            ((view_of self.old).held terminal)) terminal
+            (suc ((view_of self.old).counts terminal)) write.now }
         ensures free { OnOk result
             (IsFree (view_of self.old) terminal (Take lock.now.name (mode_of lock.now.mode))) }
         ensures there { OnOk result (IsSome (change_written write.now (view_of self.old))) }

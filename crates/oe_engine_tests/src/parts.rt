@@ -7,7 +7,7 @@ use std::process::Abort;
 
 /// How many transactions are open in the log that is lent.
 fn look(engine: &mut Engine) -> Result<u32, Refusal> {
-    engine.with_parts(|_tables, undo| undo.open_count())
+    engine.with_parts(|_tables, undo| undo.segments().open_count())
 }
 
 /// They are lent before a transaction and after it, and not beside it.

@@ -1,6 +1,6 @@
 -- Records are put back one after another, the newest first.
-use Rattle.std.proofs.Common.{◌≡◌, ℕ, suc, ◌<◌, ◌≤◌, true, refl, sym, ap, ◌∙◌, subst, arith, List, [], ◌∷◌, length, take, drop, None, Some}
-use Rattle.std.specs.Prelude.{is_some}
+use Rattle.std.proofs.Common.{◌≡◌, ℕ, suc, ◌<◌, ◌≤◌, true, refl, sym, ap, ◌∙◌, subst, arith, List, [], ◌∷◌, length, take, drop, Option, None, Some}
+use Rattle.std.specs.Prelude.{is_some, option_map}
 use Rattle.std.specs.List.{drop-map}
 use Rattle.oe_theory.proofs.Sets.{some_inj}
 use Rattle.oe_keys.specs.declared.keys.Key.{Key}
@@ -51,22 +51,24 @@ pub still_open : (ts ts' : tables.Places) (v v' : SegmentLog) (t count : ℕ) (r
     → (x : ℕ) → is_some (active_at v' x) ≡ is_some (active_at v x)
 still_open ts ts' v v' t count rs left h x = ap (λ z. is_some (active_at z x)) h.log ∙ records_open v t rs x
 
+-- the newest of some records, if there is one
+abbrev pub newest_before : List Logged → Option Record
+newest_before rs = option_map (λ (z : Previous × Record). z.1) (newest_of rs)
+
 -- the next record can be put back
-pub can_go : (ts ts' : tables.Places) (v v' : SegmentLog) (t count : ℕ) (rs : List Logged) (left : ℕ) (n : Previous × Record) → newest_of rs ≡ Some n
-    → GoesBack ts ts' v v' t count rs (suc left) → CanPutBack ts' n.1
-can_go ts ts' v v' t count [] left n e h = cc
-can_go ts ts' v v' t count (r ∷ rs) left n e h =
-    let same : r.before ≡ n.1 = ap (λ (z : Previous × Record). z.1) (some_inj _ _ e) in
-    subst (CanPutBack ts') same (record { stands = h.can.0; place = h.own.0; schema = h.can.1 })
+pub can_go : (ts ts' : tables.Places) (v v' : SegmentLog) (t count : ℕ) (rs : List Logged) (left : ℕ) (b : Record) → newest_before rs ≡ Some b
+    → GoesBack ts ts' v v' t count rs (suc left) → CanPutBack ts' b
+can_go ts ts' v v' t count [] left b e h = cc
+can_go ts ts' v v' t count (r ∷ rs) left b e h =
+    subst (CanPutBack ts') (some_inj _ _ e) (record { stands = h.can.0; place = h.own.0; schema = h.can.1 })
 
 -- and what is then left
-pub goes : (ts ts' ts'' : tables.Places) (v v' : SegmentLog) (t count : ℕ) (o : Open) (rs : List Logged) (left : ℕ) (n : Previous × Record)
-    → active_at v t ≡ Some o → newest_of rs ≡ Some n → rows ts'' ≡ put_back n.1 (rows ts') → SamePlaces ts' ts''
+pub goes : (ts ts' ts'' : tables.Places) (v v' : SegmentLog) (t count : ℕ) (o : Open) (rs : List Logged) (left : ℕ) (b : Record)
+    → active_at v t ≡ Some o → newest_before rs ≡ Some b → rows ts'' ≡ put_back b (rows ts') → SamePlaces ts' ts''
     → GoesBack ts ts' v v' t count rs (suc left) → GoesBack ts ts'' v (popped v' t) t count (drop 1 rs) left
-goes ts ts' ts'' v v' t count o [] left n is e put same h = cc
-goes ts ts' ts'' v v' t count o (r ∷ rs) left n is e put same h =
-    let before : n.1 ≡ r.before = sym (ap (λ (z : Previous × Record). z.1) (some_inj _ _ e)) in
-    let now : rows ts'' ≡ put_back r.before (rows ts') = put ∙ ap (λ b. put_back b (rows ts')) before in
+goes ts ts' ts'' v v' t count o [] left b is e put same h = cc
+goes ts ts' ts'' v v' t count o (r ∷ rs) left b is e put same h =
+    let now : rows ts'' ≡ put_back r.before (rows ts') = put ∙ ap (λ z. put_back z (rows ts')) (sym (some_inj _ _ e)) in
     record {
       log = ap (λ z. popped z t) h.log ∙ one_popped v t o (r ∷ rs) is;
       rest = h.rest;
@@ -78,19 +80,19 @@ goes ts ts' ts'' v v' t count o (r ∷ rs) left n is e put same h =
     }
 
 -- they are what the terminal then has
-pub goes_on : (ts ts' ts'' : tables.Places) (v v' w : SegmentLog) (t count left : ℕ) (n : Previous × Record)
-    → is_some (active_at v t) ≡ true → newest_of (records_at v' t) ≡ Some n → rows ts'' ≡ put_back n.1 (rows ts') → SamePlaces ts' ts'' → w ≡ popped v' t
+pub goes_on : (ts ts' ts'' : tables.Places) (v v' w : SegmentLog) (t count left : ℕ) (b : Record)
+    → is_some (active_at v t) ≡ true → newest_before (records_at v' t) ≡ Some b → rows ts'' ≡ put_back b (rows ts') → SamePlaces ts' ts'' → w ≡ popped v' t
     → GoesBack ts ts' v v' t count (records_at v' t) (suc left) → GoesBack ts ts'' v w t count (records_at w t) left
-goes_on ts ts' ts'' v v' w t count left n open_is e put same pop h =
+goes_on ts ts' ts'' v v' w t count left b open_is e put same pop h =
     let o = some_of (active_at v t) open_is in
     let g : GoesBack ts ts'' v w t count (drop 1 (records_at v' t)) left =
     subst (λ z. GoesBack ts ts'' v z t count (drop 1 (records_at v' t)) left) (sym pop)
-    (goes ts ts' ts'' v v' t count o.0 (records_at v' t) left n o.1 e put same h) in
+    (goes ts ts' ts'' v v' t count o.0 (records_at v' t) left b o.1 e put same h) in
     let own : drop 1 (records_at v' t) ≡ records_at w t = sym (ap (λ z. records_at z t) g.log ∙ records_are v t o.0 (drop 1 (records_at v' t)) o.1) in
     subst (λ rs. GoesBack ts ts'' v w t count rs left) own g
 
 -- there is one as long as any are to go
-pub none_left : (ts ts' : tables.Places) (v v' : SegmentLog) (t count : ℕ) (rs : List Logged) (left : ℕ) → 0 < left → newest_of rs ≡ None
+pub none_left : (ts ts' : tables.Places) (v v' : SegmentLog) (t count : ℕ) (rs : List Logged) (left : ℕ) → 0 < left → newest_before rs ≡ None
     → GoesBack ts ts' v v' t count rs left → ⊥
 none_left ts ts' v v' t count [] left some e h = let enough = h.enough in omega arith
 none_left ts ts' v v' t count (r ∷ rs) left some e h = cc

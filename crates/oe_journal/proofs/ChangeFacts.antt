@@ -1,5 +1,5 @@
 -- What a change's record and the change make together, and why a change is refused.
-use Rattle.std.proofs.Common.{◌≡◌, ℕ, refl, sym, ap, ◌∙◌, subst, ◌∷◌, Option, None, Some, is_some, true}
+use Rattle.std.proofs.Common.{◌≡◌, ℕ, refl, sym, ap, ◌∙◌, subst, Option, None, Some, is_some, true}
 use Rattle.std.specs.Prelude.{IsSome, option_map, option_and_then}
 use Rattle.std.specs.Option.{IsSomeAnd}
 use Rattle.std.specs.FinMap.{get}
@@ -8,21 +8,22 @@ use Rattle.oe_requests.specs.declared.refusals.Refusal.TheVariants.{UndoFull}
 use Rattle.oe_rows.specs.declared.orders.NewOrder.{NewOrder}
 use Rattle.oe_rows.specs.declared.rows.Row.TheVariants as row
 use Rattle.oe_model.specs.Rows.{Rows, as_warehouse, as_district, as_customer, as_history, as_new_order, as_order, as_order_line, as_stock}
-use Rattle.oe_model.specs.Changes.{Change, Record, UpdatedWarehouse, UpdatedDistrict, UpdatedCustomer, UpdatedOrder, UpdatedOrderLine, UpdatedStock, InsertedHistory, InsertedNewOrder, InsertedOrder, InsertedOrderLine, DeletedNewOrder}
+use Rattle.oe_model.specs.Changes.{Change, Record, record_key, key_of, UpdatedWarehouse, UpdatedDistrict, UpdatedCustomer, UpdatedOrder, UpdatedOrderLine, UpdatedStock, InsertedHistory, InsertedNewOrder, InsertedOrder, InsertedOrderLine, DeletedNewOrder}
 use Rattle.oe_model.specs.Changes as model
 use Rattle.oe_model.specs.Lengths.{record_length}
 use Rattle.oe_model.specs.Meets.{Accepts}
-use Rattle.oe_layout.specs.declared.links.Previous.TheVariants.{Nothing}
 use Rattle.oe_layout.specs.declared.loans.LentRecord.{LentRecord}
 use Rattle.oe_layout.specs.Records.{record_of_lent}
 use Rattle.oe_store.specs.Places.{Places, rows}
 use Rattle.oe_change.specs.Applies.{Applies}
-use Rattle.oe_log.specs.Log.{logged, IsFull}
-use Rattle.oe_segments.specs.Segments.{SegmentLog, active_at, records_at, popped, log_of}
+use Rattle.oe_log.specs.Log.{IsFull}
+use Rattle.oe_segments.specs.Segments.{SegmentLog, active_at, log_of}
+use Rattle.oe_undo.specs.Undo.{UndoState}
+use Rattle.oe_journal.specs.Linked.{MayChange}
 use Rattle.oe_journal.specs.Records.{record_in, record_of_change}
 use Rattle.oe_journal.specs.Writes.{HasMore, HasPushedChange, HasRoomToChange, IsRecorded, CantChange, HasNoRoom}
-use Rattle.oe_journal.proofs.LogFacts.{some_of, records_open, pushed_popped}
-use Rattle.oe_journal.proofs.WriteFacts.{there_is, more_stands}
+use Rattle.oe_journal.proofs.LogFacts.{some_of}
+use Rattle.oe_journal.proofs.MoreFacts.{of_some, there_is, more_stands, mapped_key, own_key}
 
 -- the row that is looked up is the one before
 of_row : {A : Type 0} (f : A → Record) (o : Option A) → (b : Record) → ((x : A) → o ≡ Some x → f x ≡ b) → IsSome o → option_map f o ≡ Some b
@@ -54,12 +55,40 @@ lent_is o b p e is = sym e ∙ ap (option_map record_of_lent) is
 pub none_lent : (o : Option LentRecord) (p : Option Record) → option_map record_of_lent o ≡ p → o ≡ None → p ≡ None
 none_lent o p e is = sym e ∙ ap (option_map record_of_lent) is
 
+-- its key is the change's
+pub record_changed : (c : Change) (r : Rows) (b : Record) → record_of_change c r ≡ Some b → record_key b ≡ key_of c
+record_changed (model.InsertHistory k x) r b e = own_key _ b e
+record_changed (model.InsertNewOrder k x) r b e = own_key _ b e
+record_changed (model.InsertOrder k x) r b e = own_key _ b e
+record_changed (model.InsertOrderLine k x) r b e = own_key _ b e
+record_changed (model.UpdateWarehouse k x) r b e = mapped_key _ _ (get r.warehouses k) b (λ y. refl) e
+record_changed (model.UpdateDistrict k x) r b e = mapped_key _ _ (get r.districts k) b (λ y. refl) e
+record_changed (model.UpdateCustomer k x) r b e = mapped_key _ _ (get r.customers k) b (λ y. refl) e
+record_changed (model.UpdateOrder k x) r b e = mapped_key _ _ (get r.orders k) b (λ y. refl) e
+record_changed (model.UpdateOrderLine k x) r b e = mapped_key _ _ (get r.order_lines k) b (λ y. refl) e
+record_changed (model.UpdateStock k x) r b e = mapped_key _ _ (get r.stocks k) b (λ y. refl) e
+record_changed (model.DeleteNewOrder k) r b e = own_key _ b e
+
+-- which is of a table that is changed
+pub changes_may : (c : Change) → MayChange (key_of c)
+changes_may (model.InsertHistory k x) = tt
+changes_may (model.InsertNewOrder k x) = tt
+changes_may (model.InsertOrder k x) = tt
+changes_may (model.InsertOrderLine k x) = tt
+changes_may (model.UpdateWarehouse k x) = tt
+changes_may (model.UpdateDistrict k x) = tt
+changes_may (model.UpdateCustomer k x) = tt
+changes_may (model.UpdateOrder k x) = tt
+changes_may (model.UpdateOrderLine k x) = tt
+changes_may (model.UpdateStock k x) = tt
+changes_may (model.DeleteNewOrder k) = tt
+
 -- the record first, and then the change
-pub change_recorded : (c : Change) (old new : Places) (u u' : SegmentLog) (t : ℕ) → is_some (active_at u t) ≡ true
+pub change_recorded : (c : Change) (old new : Places) (u u' : UndoState) (t : ℕ) → is_some (active_at u.log t) ≡ true
     → HasPushedChange c (rows old) u u' t → Applies c old new (record_in c (rows old)) → IsRecorded c old new u u' t
 change_recorded c old new u u' t is push applies =
     let b = there_is (λ b. HasMore b u u' t) (record_of_change c (rows old)) push in
-    let o = some_of (active_at u t) is in
+    let o = some_of (active_at u.log t) is in
     let same : b.0 ≡ record_in c (rows old) = some_inj _ _ (sym b.1 ∙ change_records c (rows old) applies.accepted) in
     more_stands b.0 c old new u u' t o.0 o.1 same applies b.2
 
@@ -68,18 +97,6 @@ pub change_fits : (c : Change) (old new : Places) (u : SegmentLog) (t : ℕ) →
     → IsFull (log_of u) t (record_length (record_in c (rows old))) → ⊥
 change_fits c old new u t accepted room = subst (λ z. IsSomeAnd z (λ b. IsFull (log_of u) t (record_length b) → ⊥)) (change_records c (rows old) accepted) room
 
--- a record that is taken off again leaves the log as it was
-pub change_unpushed : (c : Change) (r : Rows) (u u' u'' : SegmentLog) (t : ℕ) → is_some (active_at u t) ≡ true → HasPushedChange c r u u' t → u'' ≡ popped u' t → u'' ≡ u
-change_unpushed c r u u' u'' t is push pop =
-    let b = there_is (λ b. HasMore b u u' t) (record_of_change c r) push in
-    let o = some_of (active_at u t) is in
-    pop ∙ ap (λ z. popped z t) b.2.more ∙ pushed_popped u t o.0 (logged b.2.address Nothing b.0) o.1
-
-pub change_open : (c : Change) (r : Rows) (u u' : SegmentLog) (t : ℕ) → is_some (active_at u t) ≡ true → HasPushedChange c r u u' t → is_some (active_at u' t) ≡ true
-change_open c r u u' t is push =
-    let b = there_is (λ b. HasMore b u u' t) (record_of_change c r) push in
-    ap (λ z. is_some (active_at z t)) b.2.more ∙ records_open u t (logged b.2.address Nothing b.0 ∷ records_at u t) t ∙ is
-
 -- a record without room
 pub no_room : (c : Change) (s : Places) (u : SegmentLog) (t : ℕ) (b : Record) → record_of_change c (rows s) ≡ Some b → IsFull (log_of u) t (record_length b) → CantChange c s u t UndoFull
-no_room c s u t b e f = HasNoRoom (subst (λ o. IsSomeAnd o (λ x. IsFull (log_of u) t (record_length x))) (sym e) f)
+no_room c s u t b e f = HasNoRoom (of_some (λ x. IsFull (log_of u) t (record_length x)) (record_of_change c (rows s)) b e f)

@@ -6,6 +6,10 @@ pub mod RewindFacts
 pub mod BackFacts
 mod SetFacts
 mod UndoneFacts
+pub mod LinkFacts
+mod ChainedFacts
+pub mod MoreFacts
 pub mod WriteFacts
+mod UnplacedFacts
 pub mod PurgeFacts
 mod ChangeFacts

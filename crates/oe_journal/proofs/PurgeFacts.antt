@@ -14,11 +14,10 @@ use Rattle.oe_store.specs.Places.{rows, HasPlace, GivesUp}
 use Rattle.oe_store.specs.Places as tables
 use Rattle.oe_deleted.specs.Deleted.{IsDelete, HasDelete}
 use Rattle.oe_layout.specs.Stored.{deleted_new_order}
-use Rattle.oe_log.specs.Log.{Logged}
 use Rattle.oe_segments.specs.Segments.{SegmentLog, Committed, committed_records, records_of, with_newest}
 use Rattle.oe_segments.specs.Stands.{model_records, undo_of}
 use Rattle.oe_segments.proofs.LawFacts as stands
-use Rattle.oe_journal.specs.GoesBack.{HavePlaces, AllHavePlaces}
+use Rattle.oe_journal.specs.GoesBack.{AllHavePlaces}
 use Rattle.oe_journal.specs.GivesUp.{IsDeleted, IsDeletedIn, GivesUpThose, GivesUpDeleted}
 use Rattle.oe_journal.specs.Moments.{store_with, newest}
 use Rattle.oe_journal.proofs.BackFacts.{more_places}

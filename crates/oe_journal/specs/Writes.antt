@@ -4,18 +4,21 @@ use Rattle.std.specs.Option.{IsSomeAnd}
 use Rattle.oe_requests.specs.declared.refusals.Refusal.{Refusal}
 use Rattle.oe_requests.specs.declared.refusals.Refusal.TheVariants.{NoSuchRow, UndoFull}
 use Rattle.oe_model.specs.Rows.{Rows}
-use Rattle.oe_model.specs.Changes.{Change, Record, key_of}
+use Rattle.oe_model.specs.Changes.{Change, Record, record_key, key_of}
 use Rattle.oe_model.specs.Lengths.{record_length}
 use Rattle.oe_records.specs.declared.writes.Write.{Write}
 use Rattle.oe_records.specs.Writes.{key_written, written}
-use Rattle.oe_layout.specs.declared.links.RecordAddress.{RecordAddress}
-use Rattle.oe_layout.specs.declared.links.Previous.TheVariants.{Nothing}
+use Rattle.oe_layout.specs.declared.links.Previous.{Previous}
 use Rattle.oe_store.specs.Places.{Places, rows}
 use Rattle.oe_change.specs.Applies.{Applies, Refuses, IsFirst}
-use Rattle.oe_log.specs.Log.{logged, IsFull, IsFresh}
-use Rattle.oe_segments.specs.Segments.{SegmentLog, active_at, pushed, log_of}
+use Rattle.oe_log.specs.Log.{IsFull}
+use Rattle.oe_segments.specs.Segments.{SegmentLog, active_at, log_of}
 use Rattle.oe_segments.specs.Stands.{undo_of}
 use Rattle.oe_segments.specs.Laws.{StandsWith}
+use Rattle.oe_chains.specs.declared.links.Holder.TheVariants.{Open}
+use Rattle.oe_chains.specs.Chains.{link_from}
+use Rattle.oe_links.specs.Links.{links_of}
+use Rattle.oe_undo.specs.Undo.{UndoState, HasPushed}
 use Rattle.oe_journal.specs.Records.{record_in, record_of_write, record_of_change}
 
 -- a change is accepted and made, and its record would have the row before
@@ -34,28 +37,28 @@ IsMade w old new = IsSomeAnd (written w (rows old)) (λ c. IsApplied c old new)
 abbrev pub RefusesWrite : Write → Places → Refusal → Type 0
 RefusesWrite w s e = IsSomeAnd (written w (rows s)) (λ c. IsRefused c s e)
 
--- a terminal's open segment has this record more, at an address where no other is; no link leads on from it
-pub record HasMore (b : Record) (u u' : SegmentLog) (t : ℕ) : Type 0 where
-  pub address : RecordAddress
-  pub fresh : IsFresh (log_of u) address
-  pub more : u' ≡ pushed u t (logged address Nothing b)
+-- a terminal's open segment has this record more, with its key's link, which leads to it then
+pub record HasMore (b : Record) (u u' : UndoState) (t : ℕ) : Type 0 where
+  pub previous : Previous
+  pub leads : link_from (Open t) previous ≡ links_of u.links (record_key b)
+  pub pushed : HasPushed u u' t previous b
 
 -- it has the write's record more
-abbrev pub HasPushed : Write → Rows → SegmentLog → SegmentLog → ℕ → Type 0
-HasPushed w r u u' t = IsSomeAnd (record_of_write w r) (λ b. HasMore b u u' t)
+abbrev pub HasWritten : Write → Rows → UndoState → UndoState → ℕ → Type 0
+HasWritten w r u u' t = IsSomeAnd (record_of_write w r) (λ b. HasMore b u u' t)
 
 -- a change was accepted and made, with its record in the log; nothing else has changed there
-pub record IsRecorded (c : Change) (old new : Places) (u u' : SegmentLog) (t : ℕ) : Type 0 where
+pub record IsRecorded (c : Change) (old new : Places) (u u' : UndoState) (t : ℕ) : Type 0 where
   pub applies : Applies c old new (record_in c (rows old))
   pub has_more : HasMore (record_in c (rows old)) u u' t
   -- in the theory's words
-  pub stands : StandsWith u' u t (record_in c (rows old) ∷ (undo_of u).active t)
-  pub is_open : (x : ℕ) → is_some (active_at u' x) ≡ is_some (active_at u x)
-  pub size : length u'.terminals ≡ length u.terminals
-  pub extents : u'.extents ≡ u.extents
+  pub stands : StandsWith u'.log u.log t (record_in c (rows old) ∷ (undo_of u.log).active t)
+  pub is_open : (x : ℕ) → is_some (active_at u'.log x) ≡ is_some (active_at u.log x)
+  pub size : length u'.log.terminals ≡ length u.log.terminals
+  pub extents : u'.log.extents ≡ u.log.extents
 
 -- so it is with the change that the write is of these rows
-abbrev pub HasRecorded : Write → Places → Places → SegmentLog → SegmentLog → ℕ → Type 0
+abbrev pub HasRecorded : Write → Places → Places → UndoState → UndoState → ℕ → Type 0
 HasRecorded w old new u u' t = IsSomeAnd (written w (rows old)) (λ c. IsRecorded c old new u u' t)
 
 -- the write's record fits the rest of the terminal's newest extent, or an extent is free
@@ -65,13 +68,6 @@ HasRoomFor w r u t = IsSomeAnd (record_of_write w r) (λ b. IsFull (log_of u) t 
 -- it fits neither there nor in a free extent
 abbrev pub IsFullFor : Write → Rows → SegmentLog → ℕ → Type 0
 IsFullFor w r u t = IsSomeAnd (record_of_write w r) (λ b. IsFull (log_of u) t (record_length b))
-
--- why a record can't be pushed
-pub data CantPush (w : Write) (r : Rows) (u : SegmentLog) (t : ℕ) : Refusal → Type 0 where
-  -- the row to be updated is absent
-  NoRow : written w r ≡ None → CantPush w r u t (NoSuchRow (key_written w))
-  -- the record has no room
-  NoRoom : IsFullFor w r u t → CantPush w r u t UndoFull
 
 -- why a write is refused, by its first cause
 pub data CantWrite (w : Write) (s : Places) (u : SegmentLog) (t : ℕ) : Refusal → Type 0 where
@@ -83,7 +79,7 @@ pub data CantWrite (w : Write) (s : Places) (u : SegmentLog) (t : ℕ) : Refusal
   Refused : (e : Refusal) → HasRoomFor w (rows s) u t → RefusesWrite w s e → CantWrite w s u t e
 
 -- a terminal's open segment has the record of a change more
-abbrev pub HasPushedChange : Change → Rows → SegmentLog → SegmentLog → ℕ → Type 0
+abbrev pub HasPushedChange : Change → Rows → UndoState → UndoState → ℕ → Type 0
 HasPushedChange c r u u' t = IsSomeAnd (record_of_change c r) (λ b. HasMore b u u' t)
 
 -- that record fits the rest of the terminal's newest extent, or an extent is free

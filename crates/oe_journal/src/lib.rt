@@ -11,6 +11,7 @@ pub mod purges;
 pub mod rewinds;
 mod settings;
 pub mod undoing;
+mod unplaced;
 pub mod unwinding;
 pub mod writes;
 

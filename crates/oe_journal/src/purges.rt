@@ -13,8 +13,8 @@ use crate::moments::{commits_after, kept};
 use oe_layout::StoredRecord;
 use oe_log::Records;
 use oe_requests::Refusal;
-use oe_segments::Segments;
 use oe_store::Tables;
+use oe_undo::Undo;
 use oe_values::Moment;
 
 /// Gives up the segments of the commits up to a moment, which becomes the horizon, and the places of the NEW-ORDER keys that these
@@ -22,21 +22,25 @@ use oe_values::Moment;
 /// It takes no memory, and visits no segment that is kept.
 ///
 /// `TooOld` with the horizon, `Future` with the newest moment: the moment is not between the two. Nothing has changed then.
-pub fn purge(tables: &mut Tables, undo: &mut Segments, moment: Moment) -> Result<(), Refusal>
-    ensures kept { OnOk result (IsKeptMoment undo.old moment) }
-    ensures log { OnOk result (undo.new ≡ with_newest (newest undo.old - moment) undo.old) }
+pub fn purge(tables: &mut Tables, undo: &mut Undo, moment: Moment) -> Result<(), Refusal>
+    ensures kept { OnOk result (IsKeptMoment undo.old.log moment) }
+    ensures log { OnOk result
+        (undo.new.log ≡ with_newest (newest undo.old.log - moment) undo.old.log) }
     ensures purged { OnOk result
         ((r : Rows) (slots : ℕ → Option (Slot system))
-        → store_with r undo.new slots ≡ purged_to system moment (store_with r undo.old slots)) }
+        → store_with r undo.new.log slots
+        ≡ purged_to system moment (store_with r undo.old.log slots)) }
     ensures rows { rows tables.new ≡ rows tables.old }
     ensures places { OnOk result (GivesUpDeleted tables.old tables.new
-        (drop (newest undo.old - moment) (undo_of undo.old).history)) }
-    ensures cause { IfErr result (IsOutside (horizon undo.old) (newest undo.old) moment) }
+        (drop (newest undo.old.log - moment) (undo_of undo.old.log).history)) }
+    ensures links { undo.new.links ≡ undo.old.links }
+    ensures cause { IfErr result
+        (IsOutside (horizon undo.old.log) (newest undo.old.log) moment) }
     ensures err { OnErr result ((tables.new ≡ tables.old) × (undo.new ≡ undo.old)) }
 {
-    match commits_after(undo, moment) {
+    match commits_after(undo.segments(), moment) {
         Ok(later) => {
-            forget_oldest(tables, undo, kept(undo) - later);
+            forget_oldest(tables, undo, kept(undo.segments()) - later);
             Ok(())
         }
         Err(refusal) => Err(refusal),
@@ -44,16 +48,18 @@ pub fn purge(tables: &mut Tables, undo: &mut Segments, moment: Moment) -> Result
 }
 
 /// Gives up the segments of the oldest commits, so many, with the places of what they deleted.
-fn forget_oldest(tables: &mut Tables, undo: &mut Segments, count: usize)
-    requires { count ≤ length undo.old.committed }
-    ensures log { undo.new ≡ with_newest (length undo.old.committed - count) undo.old }
+fn forget_oldest(tables: &mut Tables, undo: &mut Undo, count: usize)
+    requires { count ≤ length undo.old.log.committed }
+    ensures log { undo.new.log
+        ≡ with_newest (length undo.old.log.committed - count) undo.old.log }
     ensures rows { rows tables.new ≡ rows tables.old }
     ensures places { GivesUpDeleted tables.old tables.new
-        (drop (length undo.old.committed - count) (undo_of undo.old).history) }
+        (drop (length undo.old.log.committed - count) (undo_of undo.old.log).history) }
+    ensures links { undo.new.links ≡ undo.old.links }
 {
     for _ in 0..count {
-        let oldest = kept(undo) - 1;
-        give_up_deleted(tables, undo.committed_records(oldest));
+        let oldest = kept(undo.segments()) - 1;
+        give_up_deleted(tables, undo.segments().committed_records(oldest));
         let _owner = undo.drop_oldest();
     }
 }

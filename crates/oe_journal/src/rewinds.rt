@@ -6,6 +6,7 @@ ghost use Rattle.oe_model.specs.System.{system};
 ghost use Rattle.oe_store.specs.Places.{rows, SamePlaces};
 ghost use Rattle.oe_segments.specs.Segments.{active_at, open_total};
 ghost use Rattle.oe_segments.specs.Stands.{undo_of};
+ghost use Rattle.oe_links.specs.Links as links;
 ghost use Rattle.oe_journal.specs.GoesBack.{CanUnwindAll, AllHavePlaces};
 ghost use Rattle.oe_journal.specs.Moments.{store_with, newest, IsKeptMoment, CantRewind};
 ghost use Rattle.oe_journal.specs.Rewinds.{without_newest};
@@ -13,8 +14,8 @@ ghost use Rattle.oe_journal.specs.Rewinds.{without_newest};
 use crate::moments::commits_after;
 use crate::unwinding::take_back;
 use oe_requests::Refusal;
-use oe_segments::Segments;
 use oe_store::Tables;
+use oe_undo::Undo;
 use oe_values::{Moment, TerminalCount};
 
 /// Undoes the commits after a moment, which becomes the newest: their records are put back, the newest first, and their terminals
@@ -23,26 +24,28 @@ use oe_values::{Moment, TerminalCount};
 /// `NotQuiet`: so many transactions are open. `TooOld` with the horizon, `Future` with the newest moment: the moment is not
 /// between the two. The first of these is named, and nothing has changed then.
 #[tactic(auto, using(crate::proofs::RewindFacts::none_open))]
-pub fn rewind(tables: &mut Tables, undo: &mut Segments, moment: Moment) -> Result<(), Refusal>
-    requires places { AllHavePlaces tables.old (undo_of undo.old).history }
-    requires unwinds { open_total undo.old ≡ 0
-        → CanUnwindAll (undo_of undo.old).history (rows tables.old) }
-    ensures quiet { OnOk result (open_total undo.old ≡ 0) }
-    ensures kept { OnOk result (IsKeptMoment undo.old moment) }
-    ensures log { OnOk result (undo.new ≡ without_newest (newest undo.old - moment) undo.old) }
+pub fn rewind(tables: &mut Tables, undo: &mut Undo, moment: Moment) -> Result<(), Refusal>
+    requires places { AllHavePlaces tables.old (undo_of undo.old.log).history }
+    requires unwinds { open_total undo.old.log ≡ 0
+        → CanUnwindAll (undo_of undo.old.log).history (rows tables.old) }
+    ensures quiet { OnOk result (open_total undo.old.log ≡ 0) }
+    ensures kept { OnOk result (IsKeptMoment undo.old.log moment) }
+    ensures log { OnOk result
+        (undo.new.log ≡ without_newest (newest undo.old.log - moment) undo.old.log) }
     ensures rewound { OnOk result
         ((slots : ℕ → Option (Slot system))
-        → store_with (rows tables.new) undo.new slots
-        ≡ rewound_to system moment (store_with (rows tables.old) undo.old slots)) }
+        → store_with (rows tables.new) undo.new.log slots
+        ≡ rewound_to system moment (store_with (rows tables.old) undo.old.log slots)) }
     ensures places { SamePlaces tables.old tables.new }
-    ensures cause { IfErr result (CantRewind undo.old moment) }
+    ensures links { links.SamePlaces undo.old.links undo.new.links }
+    ensures cause { IfErr result (CantRewind undo.old.log moment) }
     ensures err { OnErr result (undo.new ≡ undo.old) }
     ensures err_tables { OnErr result (tables.new ≡ tables.old) }
 {
-    if let Some(open) = TerminalCount::new(undo.open_count()) {
+    if let Some(open) = TerminalCount::new(undo.segments().open_count()) {
         return Err(Refusal::NotQuiet(open));
     }
-    match commits_after(undo, moment) {
+    match commits_after(undo.segments(), moment) {
         Ok(later) => {
             take_newest(tables, undo, later);
             Ok(())
@@ -52,15 +55,16 @@ pub fn rewind(tables: &mut Tables, undo: &mut Segments, moment: Moment) -> Resul
 }
 
 /// Undoes the newest commits, so many.
-fn take_newest(tables: &mut Tables, undo: &mut Segments, count: usize)
-    requires quiet { (t : ℕ) → active_at undo.old t ≡ None }
-    requires enough { count ≤ length undo.old.committed }
-    requires places { AllHavePlaces tables.old (undo_of undo.old).history }
-    requires unwinds { CanUnwindAll (undo_of undo.old).history (rows tables.old) }
+fn take_newest(tables: &mut Tables, undo: &mut Undo, count: usize)
+    requires quiet { (t : ℕ) → active_at undo.old.log t ≡ None }
+    requires enough { count ≤ length undo.old.log.committed }
+    requires places { AllHavePlaces tables.old (undo_of undo.old.log).history }
+    requires unwinds { CanUnwindAll (undo_of undo.old.log).history (rows tables.old) }
     ensures rows { rows tables.new
-        ≡ unwind_commits system (take count (undo_of undo.old).history) (rows tables.old) }
-    ensures log { undo.new ≡ without_newest count undo.old }
+        ≡ unwind_commits system (take count (undo_of undo.old.log).history) (rows tables.old) }
+    ensures log { undo.new.log ≡ without_newest count undo.old.log }
     ensures places { SamePlaces tables.old tables.new }
+    ensures links { links.SamePlaces undo.old.links undo.new.links }
 {
     for _ in 0..count {
         undo_newest(tables, undo);
@@ -68,23 +72,24 @@ fn take_newest(tables: &mut Tables, undo: &mut Segments, count: usize)
 }
 
 /// Undoes the newest commit.
-fn undo_newest(tables: &mut Tables, undo: &mut Segments)
-    requires quiet { (t : ℕ) → active_at undo.old t ≡ None }
-    requires some { 0 < length undo.old.committed }
-    requires places { AllHavePlaces tables.old (undo_of undo.old).history }
-    requires unwinds { CanUnwindAll (undo_of undo.old).history (rows tables.old) }
+fn undo_newest(tables: &mut Tables, undo: &mut Undo)
+    requires quiet { (t : ℕ) → active_at undo.old.log t ≡ None }
+    requires some { 0 < length undo.old.log.committed }
+    requires places { AllHavePlaces tables.old (undo_of undo.old.log).history }
+    requires unwinds { CanUnwindAll (undo_of undo.old.log).history (rows tables.old) }
     ensures rows { rows tables.new
-        ≡ unwind_commits system (take 1 (undo_of undo.old).history) (rows tables.old) }
-    ensures log { undo.new ≡ without_newest 1 undo.old }
+        ≡ unwind_commits system (take 1 (undo_of undo.old.log).history) (rows tables.old) }
+    ensures log { undo.new.log ≡ without_newest 1 undo.old.log }
     ensures places { SamePlaces tables.old tables.new }
+    ensures links { links.SamePlaces undo.old.links undo.new.links }
 {
     // For the proof: the segment is of one of the log's terminals.
-    undo.terminals_are();
+    undo.segments().terminals_are();
     let Some(segment) = undo.reopen_newest() else {
         unreachable!()
     };
     let _terminal = segment.terminal().get();
-    let count = undo.mark(segment);
+    let count = undo.segments().mark(segment);
     take_back(tables, undo, segment, count);
     undo.drop_segment(segment);
 }

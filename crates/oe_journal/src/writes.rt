@@ -1,17 +1,21 @@
 //! What a transaction writes to one row, with its record.
 ghost use Rattle.std.specs.Prelude.{◌≡◌, IsSome, IfErr, OnOk, OnErr};
-ghost use Rattle.oe_records.specs.Writes.{written};
+ghost use Rattle.oe_records.specs.Writes.{key_written, written};
 ghost use Rattle.oe_store.specs.Places.{rows};
 ghost use Rattle.oe_segments.specs.Segments.{active_at};
-ghost use Rattle.oe_journal.specs.Writes.{HasRoomFor, HasPushed, HasRecorded, CantPush, CantWrite};
+ghost use Rattle.oe_chains.specs.Chains.{IsAlone};
+ghost use Rattle.oe_journal.specs.Linked.{AreLinked, SameLinks};
+ghost use Rattle.oe_journal.specs.Writes.{HasRoomFor, HasWritten, HasRecorded, CantWrite};
 
 use crate::lending::lend;
 use crate::settings::set;
-use oe_layout::{LinkedRecord, Previous};
+use crate::unplaced::unplaced;
+use oe_layout::LinkedRecord;
 use oe_records::Write;
 use oe_requests::Refusal;
-use oe_segments::{Segment, Segments};
+use oe_segments::Segment;
 use oe_store::Tables;
+use oe_undo::{CantPush, Undo};
 
 /// Writes to one row in its place, with its record in an open segment, or says why not. The record goes first, straight from where
 /// the row lies.
@@ -19,21 +23,26 @@ use oe_store::Tables;
 /// `NoSuchRow`: the row to be updated is absent. `UndoFull`: its record fits neither the rest of the segment's newest extent nor a
 /// free one. Else, where the tables refuse the change, `RowExists`: the key of an insert is there; `Reference`: what the new row
 /// refers to is absent (clauses 1.3 and 1.4); `NoSuchRow`: the row to be deleted is absent; `NoMemory`: the tables accept the insert,
-/// but its key takes a new place, and its memory was refused. The first of these is named, and nothing has changed then.
+/// but its key takes a new place there and one for its link, and memory for one of them was refused. The first of these is named.
+/// Nothing has changed then, but that the key may have a place for its link, an empty one where it had none.
 pub fn write(
     tables: &mut Tables,
-    undo: &mut Segments,
+    undo: &mut Undo,
     segment: Segment,
     write: &Write,
 ) -> Result<(), Refusal>
-    requires { IsSome (active_at undo.old segment) }
+    requires open { IsSome (active_at undo.old.log segment) }
+    requires alone { IsAlone undo.old.log segment (key_written write.now) }
+    requires linked { AreLinked tables.old undo.old.links }
     ensures there { OnOk result (IsSome (written write.now (rows tables.old))) }
     ensures written { OnOk result
         (HasRecorded write.now tables.old tables.new undo.old undo.new segment) }
-    ensures room { OnOk result (HasRoomFor write.now (rows tables.old) undo.old segment) }
-    ensures cause { IfErr result (CantWrite write.now tables.old undo.old segment) }
+    ensures room { OnOk result (HasRoomFor write.now (rows tables.old) undo.old.log segment) }
+    ensures linked { AreLinked tables.new undo.new.links }
+    ensures cause { IfErr result (CantWrite write.now tables.old undo.old.log segment) }
     ensures err { OnErr result (tables.new ≡ tables.old) }
-    ensures err_undo { OnErr result (undo.new ≡ undo.old) }
+    ensures err_undo { OnErr result (undo.new.log ≡ undo.old.log) }
+    ensures err_links { OnErr result (SameLinks undo.old.links undo.new.links) }
 {
     if let Err(refusal) = push(tables, undo, segment, write) {
         return Err(refusal);
@@ -47,33 +56,31 @@ pub fn write(
     }
 }
 
-/// Appends the record of a write to rows as they stand to an open segment.
-///
-/// `NoSuchRow`: the row to be updated is absent. `UndoFull`: its record has no room. The log is as before then.
+/// Appends the record of a write to rows as they stand to an open segment, with its key's link; refused as `write`, where the row to be
+/// updated is absent, the record has no room, or memory was refused for the place of its key's link. Nothing has changed then.
 #[inline(always)]
-fn push(
-    tables: &Tables,
-    undo: &mut Segments,
-    segment: Segment,
-    write: &Write,
-) -> Result<(), Refusal>
-    requires { IsSome (active_at undo.old segment) }
+fn push(tables: &Tables, undo: &mut Undo, segment: Segment, write: &Write) -> Result<(), Refusal>
+    requires open { IsSome (active_at undo.old.log segment) }
+    requires alone { IsAlone undo.old.log segment (key_written write.now) }
+    requires linked { AreLinked tables.now undo.old.links }
     ensures pushed { OnOk result
-        (HasPushed write.now (rows tables.now) undo.old undo.new segment) }
-    ensures room { OnOk result (HasRoomFor write.now (rows tables.now) undo.old segment) }
-    ensures cause { IfErr result (CantPush write.now (rows tables.now) undo.old segment) }
+        (HasWritten write.now (rows tables.now) undo.old undo.new segment) }
+    ensures room { OnOk result (HasRoomFor write.now (rows tables.now) undo.old.log segment) }
+    ensures cause { IfErr result (CantWrite write.now tables.now undo.old.log segment) }
     ensures err { OnErr result (undo.new ≡ undo.old) }
 {
     let before = match lend(tables, write) {
         Ok(before) => before,
         Err(refusal) => return Err(refusal),
     };
+    let previous = undo.previous(segment, &before.key());
     let lent = LinkedRecord {
-        previous: Previous::Nothing,
+        previous,
         record: before,
     };
     match undo.push(segment, &lent) {
-        Ok(_address) => Ok(()),
-        Err(_full) => Err(Refusal::UndoFull),
+        Ok(()) => Ok(()),
+        Err(CantPush::Full) => Err(Refusal::UndoFull),
+        Err(CantPush::NoMemory) => Err(unplaced(tables, write)),
     }
 }

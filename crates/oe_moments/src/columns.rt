@@ -11,8 +11,8 @@ use crate::records::found_at;
 use oe_keys::{CustomerKey, DistrictKey, Key, StockKey, WarehouseKey};
 use oe_layout::{OwnRecord, StoredRecord};
 use oe_requests::Refusal;
-use oe_segments::Segments;
 use oe_store::Tables;
+use oe_undo::Undo;
 use oe_values::{Balance, Count, Moment, OrderNumber, YearToDate};
 
 /// W_YTD of the row that a record has, or of the one that stands where there is no record.
@@ -36,14 +36,15 @@ fn warehouse_ytd(
 /// W_YTD of a warehouse at a moment, if it was there; refused as `row_at`.
 pub fn warehouse_ytd_at(
     tables: &Tables,
-    undo: &Segments,
+    undo: &Undo,
     key: &WarehouseKey,
     moment: Moment,
 ) -> Result<Option<YearToDate>, Refusal>
     ensures column { IfOk result (λ y. y
-        ≡ option_map (λ x. x.ytd) (get (version tables.now undo.now moment).warehouses key.now)) }
-    ensures readable { OnOk result (IsReadable undo.now moment) }
-    ensures refusal { IfErr result (λ e. IsOutside undo.now moment e) }
+        ≡ option_map (λ x. x.ytd)
+        (get (version tables.now undo.now.log moment).warehouses key.now)) }
+    ensures readable { OnOk result (IsReadable undo.now.log moment) }
+    ensures refusal { IfErr result (λ e. IsOutside undo.now.log moment e) }
 {
     match found_at(undo, &Key::Warehouse(*key), moment) {
         Ok(found) => Ok(warehouse_ytd(tables, key, found)),
@@ -72,14 +73,15 @@ fn district_ytd(
 /// D_YTD of a district at a moment, if it was there; refused as `row_at`.
 pub fn district_ytd_at(
     tables: &Tables,
-    undo: &Segments,
+    undo: &Undo,
     key: &DistrictKey,
     moment: Moment,
 ) -> Result<Option<YearToDate>, Refusal>
     ensures column { IfOk result (λ y. y
-        ≡ option_map (λ x. x.ytd) (get (version tables.now undo.now moment).districts key.now)) }
-    ensures readable { OnOk result (IsReadable undo.now moment) }
-    ensures refusal { IfErr result (λ e. IsOutside undo.now moment e) }
+        ≡ option_map (λ x. x.ytd)
+        (get (version tables.now undo.now.log moment).districts key.now)) }
+    ensures readable { OnOk result (IsReadable undo.now.log moment) }
+    ensures refusal { IfErr result (λ e. IsOutside undo.now.log moment e) }
 {
     match found_at(undo, &Key::District(*key), moment) {
         Ok(found) => Ok(district_ytd(tables, key, found)),
@@ -108,15 +110,15 @@ fn next_order(
 /// D_NEXT_O_ID of a district at a moment, if it was there; refused as `row_at`.
 pub fn next_order_at(
     tables: &Tables,
-    undo: &Segments,
+    undo: &Undo,
     key: &DistrictKey,
     moment: Moment,
 ) -> Result<Option<OrderNumber>, Refusal>
     ensures column { IfOk result (λ y. y
         ≡ option_map (λ x. x.next_order)
-        (get (version tables.now undo.now moment).districts key.now)) }
-    ensures readable { OnOk result (IsReadable undo.now moment) }
-    ensures refusal { IfErr result (λ e. IsOutside undo.now moment e) }
+        (get (version tables.now undo.now.log moment).districts key.now)) }
+    ensures readable { OnOk result (IsReadable undo.now.log moment) }
+    ensures refusal { IfErr result (λ e. IsOutside undo.now.log moment e) }
 {
     match found_at(undo, &Key::District(*key), moment) {
         Ok(found) => Ok(next_order(tables, key, found)),
@@ -141,15 +143,15 @@ fn balance(tables: &Tables, key: &CustomerKey, found: Option<StoredRecord<'_>>) 
 /// C_BALANCE of a customer at a moment, if it was there; refused as `row_at`.
 pub fn balance_at(
     tables: &Tables,
-    undo: &Segments,
+    undo: &Undo,
     key: &CustomerKey,
     moment: Moment,
 ) -> Result<Option<Balance>, Refusal>
     ensures column { IfOk result (λ y. y
         ≡ option_map (λ x. x.account.balance)
-        (get (version tables.now undo.now moment).customers key.now)) }
-    ensures readable { OnOk result (IsReadable undo.now moment) }
-    ensures refusal { IfErr result (λ e. IsOutside undo.now moment e) }
+        (get (version tables.now undo.now.log moment).customers key.now)) }
+    ensures readable { OnOk result (IsReadable undo.now.log moment) }
+    ensures refusal { IfErr result (λ e. IsOutside undo.now.log moment e) }
 {
     match found_at(undo, &Key::Customer(*key), moment) {
         Ok(found) => Ok(balance(tables, key, found)),
@@ -174,14 +176,15 @@ fn stock_quantity(tables: &Tables, key: &StockKey, found: Option<StoredRecord<'_
 /// S_QUANTITY of a stock at a moment, if it was there; refused as `row_at`.
 pub fn stock_quantity_at(
     tables: &Tables,
-    undo: &Segments,
+    undo: &Undo,
     key: &StockKey,
     moment: Moment,
 ) -> Result<Option<Count>, Refusal>
     ensures column { IfOk result (λ y. y
-        ≡ option_map (λ x. x.quantity) (get (version tables.now undo.now moment).stocks key.now)) }
-    ensures readable { OnOk result (IsReadable undo.now moment) }
-    ensures refusal { IfErr result (λ e. IsOutside undo.now moment e) }
+        ≡ option_map (λ x. x.quantity)
+        (get (version tables.now undo.now.log moment).stocks key.now)) }
+    ensures readable { OnOk result (IsReadable undo.now.log moment) }
+    ensures refusal { IfErr result (λ e. IsOutside undo.now.log moment e) }
 {
     match found_at(undo, &Key::Stock(*key), moment) {
         Ok(found) => Ok(stock_quantity(tables, key, found)),

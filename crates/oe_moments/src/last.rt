@@ -11,8 +11,8 @@ use crate::rows::order_at;
 use oe_keys::{CustomerKey, OrderKey};
 use oe_requests::Refusal;
 use oe_rows::Order;
-use oe_segments::Segments;
 use oe_store::Tables;
+use oe_undo::Undo;
 use oe_values::Moment;
 use std::cmp::Ordering;
 
@@ -29,15 +29,15 @@ fn is_own(key: &OrderKey, order: &Order, customer: &CustomerKey) -> bool
 /// refused as `row_at`.
 pub fn last_order_at(
     tables: &Tables,
-    undo: &Segments,
+    undo: &Undo,
     customer: CustomerKey,
     moment: Moment,
 ) -> Result<Option<(OrderKey, Order)>, Refusal>
-    requires { Stand tables.now undo.now }
+    requires { Stand tables.now undo.now.log }
     ensures order { IfOk result (λ e.
-        e ≡ last_order customer (version tables.now undo.now moment).orders) }
-    ensures readable { OnOk result (IsReadable undo.now moment) }
-    ensures refusal { IfErr result (λ e. IsOutside undo.now moment e) }
+        e ≡ last_order customer (version tables.now undo.now.log moment).orders) }
+    ensures readable { OnOk result (IsReadable undo.now.log moment) }
+    ensures refusal { IfErr result (λ e. IsOutside undo.now.log moment e) }
 {
     commits_after(undo, moment)?;
     let mut last = None;

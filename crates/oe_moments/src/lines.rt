@@ -9,8 +9,8 @@ use crate::rows::order_line_at;
 use oe_keys::OrderKey;
 use oe_requests::{Refusal, StatusLine, StatusLines};
 use oe_rows::OrderLine;
-use oe_segments::Segments;
 use oe_store::Tables;
+use oe_undo::Undo;
 use oe_values::Moment;
 
 /// What is told of a line (clause 2.6.3).
@@ -29,16 +29,16 @@ fn told(line: &OrderLine) -> StatusLine
 /// What is told of the lines that an order had at a moment, by OL_NUMBER (clause 2.6.3). It is refused as `row_at`.
 pub fn lines_at(
     tables: &Tables,
-    undo: &Segments,
+    undo: &Undo,
     order: OrderKey,
     moment: Moment,
 ) -> Result<StatusLines, Refusal>
-    requires { Stand tables.now undo.now }
+    requires { Stand tables.now undo.now.log }
     ensures lines { IfOk result (λ l. l
         ≡ map (λ e. status_line e.1)
-        (lines_of order (version tables.now undo.now moment).order_lines)) }
-    ensures readable { OnOk result (IsReadable undo.now moment) }
-    ensures refusal { IfErr result (λ e. IsOutside undo.now moment e) }
+        (lines_of order (version tables.now undo.now.log moment).order_lines)) }
+    ensures readable { OnOk result (IsReadable undo.now.log moment) }
+    ensures refusal { IfErr result (λ e. IsOutside undo.now.log moment e) }
 {
     commits_after(undo, moment)?;
     let mut lines = StatusLines::new();

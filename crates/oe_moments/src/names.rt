@@ -6,8 +6,8 @@ ghost use Rattle.oe_moments.specs.Versions.{version, Stand, IsReadable, IsOutsid
 use crate::records::commits_after;
 use oe_keys::DistrictKey;
 use oe_requests::Refusal;
-use oe_segments::Segments;
 use oe_store::Tables;
+use oe_undo::Undo;
 use oe_values::{CustomerNumber, Moment, Text};
 
 /// C_ID of the customer of a district and last name in position n / 2, rounded up, of the n that there were at a moment, by
@@ -16,16 +16,17 @@ use oe_values::{CustomerNumber, Moment, Text};
 /// Names stay, so it walks over the customers that stand, and looks at no record.
 pub fn names_at(
     tables: &Tables,
-    undo: &Segments,
+    undo: &Undo,
     district: &DistrictKey,
     last: &Text<0, 16>,
     moment: Moment,
 ) -> Result<Option<CustomerNumber>, Refusal>
-    requires { Stand tables.now undo.now }
+    requires { Stand tables.now undo.now.log }
     ensures customer { IfOk result (λ c. c
-        ≡ middle (namesakes district.now last.now (version tables.now undo.now moment).customers)) }
-    ensures readable { OnOk result (IsReadable undo.now moment) }
-    ensures refusal { IfErr result (λ e. IsOutside undo.now moment e) }
+        ≡ middle (namesakes district.now last.now
+        (version tables.now undo.now.log moment).customers)) }
+    ensures readable { OnOk result (IsReadable undo.now.log moment) }
+    ensures refusal { IfErr result (λ e. IsOutside undo.now.log moment e) }
 {
     match commits_after(undo, moment) {
         Ok(_) => Ok(tables.middle(district, last)),

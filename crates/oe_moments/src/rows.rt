@@ -1,21 +1,23 @@
 //! Rows as they stood at a moment.
-ghost use Rattle.std.specs.Prelude.{◌≡◌, IfOk, IfErr, OnOk, is_some, option_and_then};
+ghost use Rattle.std.specs.Prelude.{◌≡◌, IfOk, IfErr, OnOk, OnErr, is_some, option_and_then};
 ghost use Rattle.std.specs.FinMap.{get};
 ghost use Rattle.oe_keys.specs.declared.keys.Key.TheVariants as keys;
 ghost use Rattle.oe_model.specs.Rows.{row_at, as_new_order, as_order, as_order_line};
 ghost use Rattle.oe_model.specs.Changes.{row_before};
 ghost use Rattle.oe_layout.specs.Records.{record_of_own};
 ghost use Rattle.oe_store.specs.Places.{rows};
+ghost use Rattle.oe_chains.specs.Held.{held, of_key, count_later};
+ghost use Rattle.oe_undo.specs.Ticks.{ticked};
 ghost use Rattle.oe_moments.specs.Versions.{version, IsReadable, IsOutside};
 ghost use Rattle.oe_moments.specs.Found.{row_found};
 
-use crate::records::found_at;
+use crate::records::{found_at, found_counted};
 use oe_keys::{Key, NewOrderKey, OrderKey, OrderLineKey};
 use oe_layout::{OwnRecord, StoredRecord};
 use oe_requests::Refusal;
 use oe_rows::{NewOrder, Order, OrderLine, Row};
-use oe_segments::Segments;
 use oe_store::Tables;
+use oe_undo::{Ticks, Undo};
 use oe_values::Moment;
 
 /// A copy of the row of a key as it stands, if it has one.
@@ -54,27 +56,47 @@ fn row_before(before: OwnRecord) -> Option<Row>
     }
 }
 
-/// A copy of the row that a key had at a moment, if it had one: what the commits up to the moment left, without anybody's open
-/// work.
-///
-/// `TooOld` with the horizon and `Future` with the newest moment, exactly where the moment is not between the two. It looks at
-/// the keys of the records of open segments and of the commits after the moment, reads one record, and takes no memory. So do the
-/// other calls here.
-pub fn row_at(
+/// `row_at`, and each record that is read ticks: the key's own that are open or of commits after the moment, each once. A refusal reads
+/// none.
+pub fn row_counted(
     tables: &Tables,
-    undo: &Segments,
+    undo: &Undo,
     key: &Key,
     moment: Moment,
+    ticks: &mut Ticks,
 ) -> Result<Option<Row>, Refusal>
-    ensures row { IfOk result (λ x. x ≡ row_at (version tables.now undo.now moment) key.now) }
-    ensures readable { OnOk result (IsReadable undo.now moment) }
-    ensures refusal { IfErr result (λ e. IsOutside undo.now moment e) }
+    ensures row { IfOk result (λ x. x ≡ row_at (version tables.now undo.now.log moment) key.now) }
+    ensures readable { OnOk result (IsReadable undo.now.log moment) }
+    ensures refusal { IfErr result (λ e. IsOutside undo.now.log moment e) }
+    ensures ticks { OnOk result (ticks.new
+        ≡ ticked ticks.old (count_later moment (of_key key.now (held undo.now.log)))) }
+    ensures unread { OnErr result (ticks.new ≡ ticks.old) }
 {
-    match found_at(undo, key, moment) {
+    match found_counted(undo, key, moment, ticks) {
         Ok(Some(before)) => Ok(row_before(before.read())),
         Ok(None) => Ok(row_now(tables, key)),
         Err(refusal) => Err(refusal),
     }
+}
+
+/// A copy of the row that a key had at a moment, if it had one: what the commits up to the moment left, without anybody's open
+/// work.
+///
+/// `TooOld` with the horizon and `Future` with the newest moment, exactly where the moment is not between the two. From the key's
+/// newest record on it goes along the key's own records that are open or of commits after the moment, reads the row of one of them,
+/// and takes no memory. So do the other calls here.
+pub fn row_at(
+    tables: &Tables,
+    undo: &Undo,
+    key: &Key,
+    moment: Moment,
+) -> Result<Option<Row>, Refusal>
+    ensures row { IfOk result (λ x. x ≡ row_at (version tables.now undo.now.log moment) key.now) }
+    ensures readable { OnOk result (IsReadable undo.now.log moment) }
+    ensures refusal { IfErr result (λ e. IsOutside undo.now.log moment e) }
+{
+    let mut ticks = Ticks::new();
+    row_counted(tables, undo, key, moment, &mut ticks)
 }
 
 /// Whether the row that a record has, or the one that stands where there is no record, is one of NEW-ORDER: that has no column but its
@@ -92,14 +114,14 @@ fn has_new_order(tables: &Tables, key: &NewOrderKey, found: Option<StoredRecord<
 /// Whether a key had a NEW-ORDER row at a moment; refused as `row_at`.
 pub fn has_new_order_at(
     tables: &Tables,
-    undo: &Segments,
+    undo: &Undo,
     key: &NewOrderKey,
     moment: Moment,
 ) -> Result<bool, Refusal>
     ensures row { IfOk result (λ b.
-        b ≡ is_some (get (version tables.now undo.now moment).new_orders key.now)) }
-    ensures readable { OnOk result (IsReadable undo.now moment) }
-    ensures refusal { IfErr result (λ e. IsOutside undo.now moment e) }
+        b ≡ is_some (get (version tables.now undo.now.log moment).new_orders key.now)) }
+    ensures readable { OnOk result (IsReadable undo.now.log moment) }
+    ensures refusal { IfErr result (λ e. IsOutside undo.now.log moment e) }
 {
     match found_at(undo, &Key::NewOrder(*key), moment) {
         Ok(found) => Ok(has_new_order(tables, key, found)),
@@ -124,14 +146,14 @@ fn order_row(tables: &Tables, key: &OrderKey, found: Option<StoredRecord<'_>>) -
 /// A copy of the ORDER row that a key had at a moment, if it had one; refused as `row_at`.
 pub fn order_at(
     tables: &Tables,
-    undo: &Segments,
+    undo: &Undo,
     key: &OrderKey,
     moment: Moment,
 ) -> Result<Option<Order>, Refusal>
     ensures row { IfOk result (λ x.
-        x ≡ get (version tables.now undo.now moment).orders key.now) }
-    ensures readable { OnOk result (IsReadable undo.now moment) }
-    ensures refusal { IfErr result (λ e. IsOutside undo.now moment e) }
+        x ≡ get (version tables.now undo.now.log moment).orders key.now) }
+    ensures readable { OnOk result (IsReadable undo.now.log moment) }
+    ensures refusal { IfErr result (λ e. IsOutside undo.now.log moment e) }
 {
     match found_at(undo, &Key::Order(*key), moment) {
         Ok(found) => Ok(order_row(tables, key, found)),
@@ -160,14 +182,14 @@ fn order_line_row(
 /// A copy of the ORDER-LINE row that a key had at a moment, if it had one; refused as `row_at`.
 pub fn order_line_at(
     tables: &Tables,
-    undo: &Segments,
+    undo: &Undo,
     key: &OrderLineKey,
     moment: Moment,
 ) -> Result<Option<OrderLine>, Refusal>
     ensures row { IfOk result (λ x.
-        x ≡ get (version tables.now undo.now moment).order_lines key.now) }
-    ensures readable { OnOk result (IsReadable undo.now moment) }
-    ensures refusal { IfErr result (λ e. IsOutside undo.now moment e) }
+        x ≡ get (version tables.now undo.now.log moment).order_lines key.now) }
+    ensures readable { OnOk result (IsReadable undo.now.log moment) }
+    ensures refusal { IfErr result (λ e. IsOutside undo.now.log moment e) }
 {
     match found_at(undo, &Key::OrderLine(*key), moment) {
         Ok(found) => Ok(order_line_row(tables, key, found)),

@@ -15,22 +15,22 @@ use crate::warehouses::absent;
 use oe_keys::{Key, StockKey};
 use oe_moments::{lines_at, next_order_at, stock_quantity_at};
 use oe_requests::{LevelQuery, Refusal, StatusLine};
-use oe_segments::Segments;
 use oe_store::Tables;
+use oe_undo::Undo;
 use oe_values::{ItemNumber, LowStock, Moment, OrderNumber};
 
 /// Whether the district's warehouse had less of the item than the threshold.
 fn is_short_at(
     tables: &Tables,
-    undo: &Segments,
+    undo: &Undo,
     query: &LevelQuery,
     item: ItemNumber,
     moment: Moment,
 ) -> Result<bool, Refusal>
     ensures short { IfOk result (λ b. b
-        ≡ is_short query.now (version tables.now undo.now moment) item) }
-    ensures readable { OnOk result (IsReadable undo.now moment) }
-    ensures refusal { IfErr result (λ e. IsOutside undo.now moment e) }
+        ≡ is_short query.now (version tables.now undo.now.log moment) item) }
+    ensures readable { OnOk result (IsReadable undo.now.log moment) }
+    ensures refusal { IfErr result (λ e. IsOutside undo.now.log moment e) }
 {
     let key = StockKey {
         warehouse: query.district.warehouse,
@@ -47,7 +47,7 @@ fn is_short_at(
 #[tactic(auto, using(crate::proofs::ShortFacts::stays_listed, crate::proofs::ShortFacts::comes_in, crate::proofs::ShortFacts::is_enough, crate::proofs::ShortFacts::one_more))]
 fn list_if_short(
     tables: &Tables,
-    undo: &Segments,
+    undo: &Undo,
     query: &LevelQuery,
     item: ItemNumber,
     moment: Moment,
@@ -55,10 +55,10 @@ fn list_if_short(
 ) -> Result<(), Refusal>
     requires { length items.old < 300 }
     ensures items { OnOk result (items.new
-        ≡ listed (is_short query.now (version tables.now undo.now moment))
+        ≡ listed (is_short query.now (version tables.now undo.now.log moment))
         items.old (item ∷ [])) }
     ensures few { length items.new ≤ length items.old + 1 }
-    ensures refusal { IfErr result (λ e. IsOutside undo.now moment e) }
+    ensures refusal { IfErr result (λ e. IsOutside undo.now.log moment e) }
 {
     if is_listed(items, item) {
         return Ok(());
@@ -77,7 +77,7 @@ fn list_if_short(
 #[tactic(auto, using(crate::proofs::ShortFacts::line_listed))]
 fn list_short(
     tables: &Tables,
-    undo: &Segments,
+    undo: &Undo,
     query: &LevelQuery,
     lines: &[StatusLine],
     moment: Moment,
@@ -85,10 +85,10 @@ fn list_short(
 ) -> Result<(), Refusal>
     requires { length items.old + length lines.now ≤ 300 }
     ensures items { OnOk result (items.new
-        ≡ listed (is_short query.now (version tables.now undo.now moment))
+        ≡ listed (is_short query.now (version tables.now undo.now.log moment))
         items.old (map (λ l. l.item) lines.now)) }
     ensures few { length items.new ≤ length items.old + length lines.now }
-    ensures refusal { IfErr result (λ e. IsOutside undo.now moment e) }
+    ensures refusal { IfErr result (λ e. IsOutside undo.now.log moment e) }
 {
     for line in lines {
         match list_if_short(tables, undo, query, line.item, moment, items) {
@@ -103,20 +103,20 @@ fn list_short(
 #[tactic(auto, using(crate::proofs::ShortFacts::order_listed))]
 fn list_order(
     tables: &Tables,
-    undo: &Segments,
+    undo: &Undo,
     query: &LevelQuery,
     number: OrderNumber,
     moment: Moment,
     items: &mut Items,
 ) -> Result<(), Refusal>
-    requires stand { Stand tables.now undo.now }
+    requires stand { Stand tables.now undo.now.log }
     requires room { length items.old + 15 ≤ 300 }
     ensures items { OnOk result (items.new
-        ≡ listed (is_short query.now (version tables.now undo.now moment))
+        ≡ listed (is_short query.now (version tables.now undo.now.log moment))
         items.old (items_of (order_in query.now.district number)
-        (version tables.now undo.now moment).order_lines)) }
+        (version tables.now undo.now.log moment).order_lines)) }
     ensures few { length items.new ≤ length items.old + 15 }
-    ensures refusal { IfErr result (λ e. IsOutside undo.now moment e) }
+    ensures refusal { IfErr result (λ e. IsOutside undo.now.log moment e) }
 {
     match lines_at(tables, undo, query.district.order(number), moment) {
         Ok(lines) => list_short(tables, undo, query, lines.as_slice(), moment, items),
@@ -148,15 +148,15 @@ fn order_number(number: u32) -> OrderNumber
 /// The distinct items that were short among those of the district's last 20 orders before the next one (clause 2.8.2.2).
 fn short_items(
     tables: &Tables,
-    undo: &Segments,
+    undo: &Undo,
     query: &LevelQuery,
     next: OrderNumber,
     moment: Moment,
 ) -> Result<Items, Refusal>
-    requires { Stand tables.now undo.now }
+    requires { Stand tables.now undo.now.log }
     ensures items { IfOk result (λ v.
-        AreLow query.now (version tables.now undo.now moment) next v) }
-    ensures refusal { IfErr result (λ e. IsOutside undo.now moment e) }
+        AreLow query.now (version tables.now undo.now.log moment) next v) }
+    ensures refusal { IfErr result (λ e. IsOutside undo.now.log moment e) }
 {
     tables.numbers_hold();
     let end = next.get();
@@ -192,16 +192,16 @@ fn count_of(items: &Items) -> LowStock
 #[tactic(auto, using(crate::proofs::AnswerFacts::level_counted, crate::proofs::AnswerFacts::outside_untold, crate::proofs::AnswerFacts::no_district_untold))]
 fn level_at(
     tables: &Tables,
-    undo: &Segments,
+    undo: &Undo,
     query: &LevelQuery,
     moment: Moment,
 ) -> Result<LowStock, Refusal>
-    requires { Stand tables.now undo.now }
+    requires { Stand tables.now undo.now.log }
     ensures reply { IfOk result (λ n.
-        stock_level query.now (version tables.now undo.now moment) ≡ Here (told.Level n)) }
-    ensures readable { OnOk result (IsReadable undo.now moment) }
+        stock_level query.now (version tables.now undo.now.log moment) ≡ Here (told.Level n)) }
+    ensures readable { OnOk result (IsReadable undo.now.log moment) }
     ensures refusal { IfErr result
-        (λ e. HasNoReply (Level query.now) tables.now undo.now moment e) }
+        (λ e. HasNoReply (Level query.now) tables.now undo.now.log moment e) }
 {
     let next = match next_order_at(tables, undo, &query.district, moment) {
         Ok(Some(next)) => next,
@@ -223,15 +223,15 @@ fn level_at(
 #[tactic(auto, using(crate::proofs::AnswerFacts::is_level, crate::proofs::AnswerFacts::level_absent, crate::proofs::AnswerFacts::level_refused))]
 pub fn stock_level(
     tables: &Tables,
-    undo: &Segments,
+    undo: &Undo,
     query: &LevelQuery,
     moment: Moment,
 ) -> Result<LowStock, Refusal>
-    requires { Stand tables.now undo.now }
+    requires { Stand tables.now undo.now.log }
     ensures reply { IfOk result (λ n.
-        IsReply (Level query.now) tables.now undo.now moment (told.Level n)) }
+        IsReply (Level query.now) tables.now undo.now.log moment (told.Level n)) }
     ensures refusal { IfErr result
-        (λ e. IsRefused (Level query.now) tables.now undo.now moment e) }
+        (λ e. IsRefused (Level query.now) tables.now undo.now.log moment e) }
 {
     match absent(tables, query.district.warehouse) {
         Some(refusal) => Err(refusal),

@@ -6,20 +6,20 @@ ghost use Rattle.oe_queries.specs.Reply.{IsReply, IsRefused};
 use crate::level::stock_level;
 use crate::status::order_status;
 use oe_requests::{Query, QueryReply, Refusal};
-use oe_segments::Segments;
 use oe_store::Tables;
+use oe_undo::Undo;
 use oe_values::Moment;
 
 /// What a query is answered of a moment, as `order_status` and `stock_level`.
 pub fn answer(
     tables: &Tables,
-    undo: &Segments,
+    undo: &Undo,
     query: &Query,
     moment: Moment,
 ) -> Result<QueryReply, Refusal>
-    requires { Stand tables.now undo.now }
-    ensures reply { IfOk result (λ f. IsReply query.now tables.now undo.now moment f) }
-    ensures refusal { IfErr result (λ e. IsRefused query.now tables.now undo.now moment e) }
+    requires { Stand tables.now undo.now.log }
+    ensures reply { IfOk result (λ f. IsReply query.now tables.now undo.now.log moment f) }
+    ensures refusal { IfErr result (λ e. IsRefused query.now tables.now undo.now.log moment e) }
 {
     match query {
         Query::Status(query) => match order_status(tables, undo, query, moment) {

@@ -12,23 +12,23 @@ use crate::warehouses::absent;
 use oe_keys::{CustomerKey, DistrictKey};
 use oe_moments::{balance_at, last_order_at, lines_at, names_at};
 use oe_requests::{CustomerChoice, OrderStatus, Refusal, StatusQuery, StatusReply};
-use oe_segments::Segments;
 use oe_store::Tables;
+use oe_undo::Undo;
 use oe_values::{CustomerNumber, Moment};
 
 /// C_ID of the customer that is meant, where there was one at the moment (clause 2.6.2.2).
 fn chosen_at(
     tables: &Tables,
-    undo: &Segments,
+    undo: &Undo,
     district: &DistrictKey,
     choice: &CustomerChoice,
     moment: Moment,
 ) -> Result<Option<CustomerNumber>, Refusal>
-    requires { Stand tables.now undo.now }
+    requires { Stand tables.now undo.now.log }
     ensures chosen { IfOk result (λ c. c
-        ≡ chosen district.now choice.now (version tables.now undo.now moment).customers) }
-    ensures readable { OnOk result (IsReadable undo.now moment) }
-    ensures refusal { IfErr result (λ e. IsOutside undo.now moment e) }
+        ≡ chosen district.now choice.now (version tables.now undo.now.log moment).customers) }
+    ensures readable { OnOk result (IsReadable undo.now.log moment) }
+    ensures refusal { IfErr result (λ e. IsOutside undo.now.log moment e) }
 {
     match choice {
         CustomerChoice::Number(number) => {
@@ -47,16 +47,16 @@ fn chosen_at(
 /// What is told of the newest order that a customer had at the moment, if there was any, with its lines by OL_NUMBER.
 fn newest_order_at(
     tables: &Tables,
-    undo: &Segments,
+    undo: &Undo,
     customer: CustomerKey,
     moment: Moment,
 ) -> Result<Option<OrderStatus>, Refusal>
-    requires { Stand tables.now undo.now }
+    requires { Stand tables.now undo.now.log }
     ensures order { IfOk result (λ o. o
-        ≡ status_of (version tables.now undo.now moment).order_lines
-        (last_order customer (version tables.now undo.now moment).orders)) }
-    ensures readable { OnOk result (IsReadable undo.now moment) }
-    ensures refusal { IfErr result (λ e. IsOutside undo.now moment e) }
+        ≡ status_of (version tables.now undo.now.log moment).order_lines
+        (last_order customer (version tables.now undo.now.log moment).orders)) }
+    ensures readable { OnOk result (IsReadable undo.now.log moment) }
+    ensures refusal { IfErr result (λ e. IsOutside undo.now.log moment e) }
 {
     let (key, order) = match last_order_at(tables, undo, customer, moment) {
         Ok(Some(last)) => last,
@@ -79,16 +79,16 @@ fn newest_order_at(
 #[tactic(auto, using(crate::proofs::AnswerFacts::status_told, crate::proofs::AnswerFacts::outside_untold, crate::proofs::AnswerFacts::nobody_untold, crate::proofs::AnswerFacts::no_row_untold))]
 fn status_at(
     tables: &Tables,
-    undo: &Segments,
+    undo: &Undo,
     query: &StatusQuery,
     moment: Moment,
 ) -> Result<StatusReply, Refusal>
-    requires { Stand tables.now undo.now }
+    requires { Stand tables.now undo.now.log }
     ensures reply { IfOk result (λ y.
-        order_status query.now (version tables.now undo.now moment) ≡ Here (told.Status y)) }
-    ensures readable { OnOk result (IsReadable undo.now moment) }
+        order_status query.now (version tables.now undo.now.log moment) ≡ Here (told.Status y)) }
+    ensures readable { OnOk result (IsReadable undo.now.log moment) }
     ensures refusal { IfErr result
-        (λ e. HasNoReply (Status query.now) tables.now undo.now moment e) }
+        (λ e. HasNoReply (Status query.now) tables.now undo.now.log moment e) }
 {
     let number = match chosen_at(tables, undo, &query.district, &query.customer, moment) {
         Ok(Some(number)) => number,
@@ -119,15 +119,15 @@ fn status_at(
 #[tactic(auto, using(crate::proofs::AnswerFacts::is_status, crate::proofs::AnswerFacts::status_absent, crate::proofs::AnswerFacts::status_refused))]
 pub fn order_status(
     tables: &Tables,
-    undo: &Segments,
+    undo: &Undo,
     query: &StatusQuery,
     moment: Moment,
 ) -> Result<StatusReply, Refusal>
-    requires { Stand tables.now undo.now }
+    requires { Stand tables.now undo.now.log }
     ensures reply { IfOk result (λ y.
-        IsReply (Status query.now) tables.now undo.now moment (told.Status y)) }
+        IsReply (Status query.now) tables.now undo.now.log moment (told.Status y)) }
     ensures refusal { IfErr result (λ e.
-        IsRefused (Status query.now) tables.now undo.now moment e) }
+        IsRefused (Status query.now) tables.now undo.now.log moment e) }
 {
     match absent(tables, query.district.warehouse) {
         Some(refusal) => Err(refusal),

@@ -3,37 +3,44 @@ use Rattle.std.proofs.Common.{◌≡◌, suc, ◌+◌, ◌-◌, ◌∙◌, sym, 
 use Rattle.oe_layout.specs.Records.{record_of_own}
 use Rattle.oe_segments.specs.Segments.{active_at, records_at}
 use Rattle.oe_journal.proofs.LogFacts.{some_of}
+use Rattle.oe_journal.proofs.LinkFacts.{then_links}
+use Rattle.oe_journal.proofs.ChainedFacts.{same_given_back}
 use Rattle.oe_journal.proofs.BackFacts.{GoesBack, begins, still_open, can_go, goes_on, ends}
 use Rattle.oe_journal.proofs.unwinding.take_back.Goals as goal
 
 pub loop-init : goal.loop-init
 loop-init c =
-    let all : c.args.count ≡ c.args.count - 0 = omega arith in
-    subst (λ n. GoesBack c.args.tables.now c.args.tables.now c.args.undo.now c.args.undo.now c.args.segment c.args.count (records_at c.args.undo.now c.args.segment) n) all
-    (begins c.args.tables.now c.args.undo.now c.args.segment c.args.count c.requires.enough c.requires.places c.requires.unwinds)
+    let all : c.args.count ≡ c.args.count - 0 = omega arith in (
+      subst (λ n. GoesBack c.args.tables.now c.args.tables.now c.args.undo.now.log c.args.undo.now.log c.args.segment c.args.count (records_at c.args.undo.now.log c.args.segment) n) all
+          (begins c.args.tables.now c.args.undo.now.log c.args.segment c.args.count c.requires.enough c.requires.places c.requires.unwinds),
+      λ k. (λ h. h, λ h. h),
+    )
 
-pub newest_record-requires : goal.newest_record-requires
-newest_record-requires c =
-    still_open c.args.tables.now c.loop.tables c.args.undo.now c.loop.undo c.args.segment c.args.count (records_at c.loop.undo c.args.segment) (c.args.count - c.loop.counter) c.loop.invariant c.args.segment
+pub take_newest-requires : goal.take_newest-requires
+take_newest-requires c =
+    still_open c.args.tables.now c.loop.tables c.args.undo.now.log c.loop.undo.log c.args.segment c.args.count (records_at c.loop.undo.log c.args.segment) (c.args.count - c.loop.counter) c.loop.invariant.0 c.args.segment
     ∙ c.requires.open
 
 pub undo-requires : goal.undo-requires
 undo-requires c =
     let one_less : c.args.count - c.loop.counter ≡ suc (c.args.count - (c.loop.counter + 1)) = omega arith in
-    can_go c.args.tables.now c.loop.tables c.args.undo.now c.loop.undo c.args.segment c.args.count (records_at c.loop.undo c.args.segment) (c.args.count - (c.loop.counter + 1))
-    (c.in-Some.newest.0, record_of_own c.in-Some.newest.1) (sym c.in-Some.ensures)
-    (subst (λ n. GoesBack c.args.tables.now c.loop.tables c.args.undo.now c.loop.undo c.args.segment c.args.count (records_at c.loop.undo c.args.segment) n) one_less c.loop.invariant)
+    can_go c.args.tables.now c.loop.tables c.args.undo.now.log c.loop.undo.log c.args.segment c.args.count (records_at c.loop.undo.log c.args.segment) (c.args.count - (c.loop.counter + 1))
+    (record_of_own c.in-Some.newest) (sym c.in-Some.ensures.newest)
+    (subst (λ n. GoesBack c.args.tables.now c.loop.tables c.args.undo.now.log c.loop.undo.log c.args.segment c.args.count (records_at c.loop.undo.log c.args.segment) n) one_less c.loop.invariant.0)
 
 pub loop-preserved : goal.loop-preserved
 loop-preserved c =
-    let one_less : c.args.count - c.loop.counter ≡ suc (c.args.count - (c.loop.counter + 1)) = omega arith in
-    goes_on c.args.tables.now c.loop.tables c.undo.new.tables c.args.undo.now c.loop.undo c.pop.new.self c.args.segment c.args.count (c.args.count - (c.loop.counter + 1))
-    (c.in-Some.newest.0, record_of_own c.in-Some.newest.1) c.requires.open (sym c.in-Some.ensures) c.undo.ensures.rows c.undo.ensures.places c.pop.ensures
-    (subst (λ n. GoesBack c.args.tables.now c.loop.tables c.args.undo.now c.loop.undo c.args.segment c.args.count (records_at c.loop.undo c.args.segment) n) one_less c.loop.invariant)
+    let one_less : c.args.count - c.loop.counter ≡ suc (c.args.count - (c.loop.counter + 1)) = omega arith in (
+      goes_on c.args.tables.now c.loop.tables c.undo.new.tables c.args.undo.now.log c.loop.undo.log c.take_newest.new.self.log c.args.segment c.args.count (c.args.count - (c.loop.counter + 1))
+          (record_of_own c.in-Some.newest) c.requires.open (sym c.in-Some.ensures.newest) c.undo.ensures.rows c.undo.ensures.places c.take_newest.ensures.log
+          (subst (λ n. GoesBack c.args.tables.now c.loop.tables c.args.undo.now.log c.loop.undo.log c.args.segment c.args.count (records_at c.loop.undo.log c.args.segment) n) one_less c.loop.invariant.0),
+      then_links c.args.undo.now.links c.loop.undo.links c.take_newest.new.self.links c.loop.invariant.1
+          (same_given_back c.loop.undo.log c.loop.undo.links c.take_newest.new.self.links c.args.segment c.is_chained.ensures.whole c.is_chained.ensures.chained c.take_newest.ensures.links),
+    )
 
 pub returns-clause-back : goal.returns-clause-back
 returns-clause-back c =
     let none : c.args.count - c.loop.counter ≡ 0 = omega arith in
-    let o = some_of (active_at c.args.undo.now c.args.segment) c.requires.open in
-    ends c.args.tables.now c.loop.tables c.args.undo.now c.loop.undo c.args.segment c.args.count o.0 (records_at c.loop.undo c.args.segment) o.1
-    (subst (λ n. GoesBack c.args.tables.now c.loop.tables c.args.undo.now c.loop.undo c.args.segment c.args.count (records_at c.loop.undo c.args.segment) n) none c.loop.invariant)
+    let o = some_of (active_at c.args.undo.now.log c.args.segment) c.requires.open in
+    ends c.args.tables.now c.loop.tables c.args.undo.now.log c.loop.undo.log c.args.segment c.args.count o.0 (records_at c.loop.undo.log c.args.segment) o.1
+    (subst (λ n. GoesBack c.args.tables.now c.loop.tables c.args.undo.now.log c.loop.undo.log c.args.segment c.args.count (records_at c.loop.undo.log c.args.segment) n) none c.loop.invariant.0)

@@ -1,25 +1,42 @@
 -- The record first, and then the change.
+use Rattle.std.proofs.Common.{sym, subst}
 use Rattle.oe_store.specs.Places.{rows}
+use Rattle.oe_journal.specs.Linked.{AreLinked}
+use Rattle.oe_journal.specs.Records.{record_of_write}
 use Rattle.oe_journal.specs.Writes.{Refused}
-use Rattle.oe_journal.proofs.WriteFacts.{made_recorded, unpushed, pushed_open, cant_push}
+use Rattle.oe_journal.proofs.MoreFacts.{unpushed, pushed_open, links_given_back, unpushed_linked}
+use Rattle.oe_journal.proofs.WriteFacts.{made_recorded, made_linked}
 use Rattle.oe_journal.proofs.writes.write.Goals as goal
-
-pub returns-in-Err-clause-cause : goal.returns-in-Err-clause-cause
-returns-in-Err-clause-cause c =
-    cant_push c.args.write.now c.args.tables.now c.args.undo.now c.args.segment c.in-Err.refusal c.in-Err.ensures.cause
 
 pub pop-requires : goal.pop-requires
 pop-requires c =
-    pushed_open c.args.write.now (rows c.args.tables.now) c.args.undo.now c.push.new.undo c.args.segment c.requires c.in_default.ensures.pushed
+    pushed_open (record_of_write c.args.write.now (rows c.args.tables.now)) c.args.undo.now c.push.new.undo c.args.segment c.requires.open c.in_default.ensures.pushed
 
 pub returns-in-Ok-clause-written : goal.returns-in-Ok-clause-written
 returns-in-Ok-clause-written c =
-    made_recorded c.args.write.now c.args.tables.now c.set.new.tables c.args.undo.now c.push.new.undo c.args.segment c.requires c.in_default.ensures.pushed c.in-Ok.ensures.made
+    made_recorded c.args.write.now c.args.tables.now c.set.new.tables c.args.undo.now c.push.new.undo c.args.segment c.requires.open c.in_default.ensures.pushed c.in-Ok.ensures.made
+
+pub returns-in-Ok-clause-linked : goal.returns-in-Ok-clause-linked
+returns-in-Ok-clause-linked c =
+    made_linked c.args.write.now c.args.tables.now c.set.new.tables c.args.undo.now c.push.new.undo c.args.segment c.requires.open c.in_default.ensures.pushed c.in-Ok.ensures.made
+    c.requires.linked
 
 pub returns-in-Err-set-clause-cause : goal.returns-in-Err-set-clause-cause
 returns-in-Err-set-clause-cause c =
     Refused c.in-Err-set.refusal c.in_default.ensures.room c.in-Err-set.ensures.refused
 
+pub returns-in-Err-set-clause-linked : goal.returns-in-Err-set-clause-linked
+returns-in-Err-set-clause-linked c =
+    subst (λ ts. AreLinked ts c.pop.new.self.links) (sym c.in-Err-set.ensures.unchanged)
+    (unpushed_linked (record_of_write c.args.write.now (rows c.args.tables.now)) c.args.undo.now c.push.new.undo c.args.segment c.requires.open c.in_default.ensures.pushed
+    c.args.tables.now c.pop.new.self.links c.pop.ensures.links c.requires.linked)
+
 pub returns-in-Err-set-clause-err_undo : goal.returns-in-Err-set-clause-err_undo
 returns-in-Err-set-clause-err_undo c =
-    unpushed c.args.write.now (rows c.args.tables.now) c.args.undo.now c.push.new.undo c.pop.new.self c.args.segment c.requires c.in_default.ensures.pushed c.pop.ensures
+    unpushed (record_of_write c.args.write.now (rows c.args.tables.now)) c.args.undo.now c.push.new.undo c.args.segment c.requires.open c.in_default.ensures.pushed
+    c.pop.new.self.log c.pop.ensures.log
+
+pub returns-in-Err-set-clause-err_links : goal.returns-in-Err-set-clause-err_links
+returns-in-Err-set-clause-err_links c =
+    links_given_back (record_of_write c.args.write.now (rows c.args.tables.now)) c.args.undo.now c.push.new.undo c.args.segment c.requires.open c.in_default.ensures.pushed
+    c.pop.new.self.links c.pop.ensures.links

@@ -8,4 +8,4 @@ use Rattle.oe_moments.proofs.names.names_at.Goals as goal
 pub returns-in-Ok-clause-customer : goal.returns-in-Ok-clause-customer
 returns-in-Ok-clause-customer c =
     c.middle.ensures
-    ∙ ap middle (sym (names_last (record (store_with (rows c.args.tables.now) c.args.undo.now) { slots = c.requires.0 }) c.args.moment c.args.district.now c.args.last.now c.requires.1))
+    ∙ ap middle (sym (names_last (record (store_with (rows c.args.tables.now) c.args.undo.now.log) { slots = c.requires.0 }) c.args.moment c.args.district.now c.args.last.now c.requires.1))

@@ -19,4 +19,4 @@ loop-number-preserved c =
 
 pub returns-clause-items : goal.returns-clause-items
 returns-clause-items c =
-    low_items c.args.tables.now c.args.undo.now c.args.moment c.args.query.now c.args.next c.loop-number.number c.loop-number.items c.requires c.numbers_hold.ensures (omega arith) c.loop-number.invariant
+    low_items c.args.tables.now c.args.undo.now.log c.args.moment c.args.query.now c.args.next c.loop-number.number c.loop-number.items c.requires c.numbers_hold.ensures (omega arith) c.loop-number.invariant

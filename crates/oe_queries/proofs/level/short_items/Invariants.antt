@@ -5,4 +5,4 @@ use Rattle.oe_queries.proofs.level.short_items.Given as goal
 
 abbrev pub invariant-loop-number : goal.invariant-loop-number
 invariant-loop-number l =
-    IsLeft (is_short l.query (version l.tables l.undo l.moment)) l.query.district l.fn.next (version l.tables l.undo l.moment).order_lines l.number l.items
+    IsLeft (is_short l.query (version l.tables l.undo.log l.moment)) l.query.district l.fn.next (version l.tables l.undo.log l.moment).order_lines l.number l.items

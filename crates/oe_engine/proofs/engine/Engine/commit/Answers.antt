@@ -10,6 +10,7 @@ use Rattle.oe_engine.proofs.LogFacts.{sealed_is}
 use Rattle.oe_engine.specs.Covered.{IsSafe}
 use Rattle.oe_engine.proofs.KeptFacts.{sealed_kept}
 use Rattle.oe_engine.proofs.SafeFacts.{safe_committed}
+use Rattle.oe_engine.proofs.LinkFacts.{linked_sealed}
 use Rattle.oe_engine.proofs.engine.Engine.commit.Goals as goal
 
 pub seal-moment-requires : goal.seal-moment-requires
@@ -17,35 +18,36 @@ unfolding view_of view_from
 seal-moment-requires c =
     let o : IsOpen c.args.self.now c.args.tx = c.is_open.ensures.0 c.if-not-is_open.false in
     let given = rw (← c.self.view_is) at o.terminal in
-    let is : IsSome (active_at c.self.inside.undo c.args.tx.terminal) = given in
-    subst (λ s. IsSome (active_at c.self.inside.undo s)) (sym (c.of-segment.ensures ∙ ap (λ x. x.terminal) c.tx.view_is)) is
+    let is : IsSome (active_at c.self.inside.undo.log c.args.tx.terminal) = given in
+    subst (λ s. IsSome (active_at c.self.inside.undo.log s)) (sym (c.of-segment.ensures ∙ ap (λ x. x.terminal) c.tx.view_is)) is
 
 pub returns-clause-moment : goal.returns-clause-moment
 unfolding view_of view_from
 returns-clause-moment c =
     rw (← c.self.view_is)
-    (c.seal-moment.ensures.moment ∙ add-one _ ∙ ap suc (sym (totals c.self.inside.undo c.self.invariant.kept.size)))
+    (c.seal-moment.ensures.moment ∙ add-one _ ∙ ap suc (sym (totals c.self.inside.undo.log c.self.invariant.kept.size)))
 
 pub invariant_of-self : goal.invariant_of-self
 unfolding view_of view_from
 invariant_of-self c =
     let o : IsOpen c.args.self.now c.args.tx = c.is_open.ensures.0 c.if-not-is_open.false in
     let given = rw (← c.self.view_is) at o.terminal in
-    let is : IsSome (active_at c.self.inside.undo c.args.tx.terminal) = given in
-    let here : IsSome (active_at c.self.inside.undo c.of-segment.result) =
-    subst (λ s. IsSome (active_at c.self.inside.undo s)) (sym (c.of-segment.ensures ∙ ap (λ x. x.terminal) c.tx.view_is)) is in
+    let is : IsSome (active_at c.self.inside.undo.log c.args.tx.terminal) = given in
+    let here : IsSome (active_at c.self.inside.undo.log c.of-segment.result) =
+    subst (λ s. IsSome (active_at c.self.inside.undo.log s)) (sym (c.of-segment.ensures ∙ ap (λ x. x.terminal) c.tx.view_is)) is in
     let own : HoldsNothing c.release_all.new.self c.of-segment.result = subst (HoldsNothing c.release_all.new.self) c.terminal.ensures c.release_all.ensures.own in
     let others : OthersKeep c.self.inside.locks c.release_all.new.self c.of-segment.result =
     subst (OthersKeep c.self.inside.locks c.release_all.new.self) c.terminal.ensures c.release_all.ensures.others in
-    let size : length c.self.inside.undo.terminals ≡ 65 = c.self.invariant.kept.size in
-    let within : c.of-segment.result < length c.self.inside.undo.terminals = omega (arith, c.get-number.ensures.value, c.get-number.ensures.high, c.of-segment.ensures) in
+    let size : length c.self.inside.undo.log.terminals ≡ 65 = c.self.invariant.kept.size in
+    let within : c.of-segment.result < length c.self.inside.undo.log.terminals = omega (arith, c.get-number.ensures.value, c.get-number.ensures.high, c.of-segment.ensures) in
     record {
       kept = subst (λ u. IsKept c.self.inside.tables u c.release_all.new.self) (sym c.seal-moment.ensures.sealed)
-          (sealed_kept c.self.inside.tables c.self.inside.undo c.self.inside.locks c.release_all.new.self c.of-segment.result c.args.request.value c.args.reply.value within here own others c.self.invariant.kept);
+          (sealed_kept c.self.inside.tables c.self.inside.undo.log c.self.inside.locks c.release_all.new.self c.of-segment.result c.args.request.value c.args.reply.value within here own others c.self.invariant.kept);
       safe = subst IsSafe
           (sym (ap (λ u. view_from c.self.inside.tables u c.release_all.new.self) c.seal-moment.ensures.sealed
-          ∙ sealed_is c.self.inside.tables c.self.inside.undo c.self.inside.locks c.release_all.new.self c.of-segment.result c.args.request.value c.args.reply.value within here own others))
-          (safe_committed c.of-segment.result c.args.request.value c.args.reply.value (view_from c.self.inside.tables c.self.inside.undo c.self.inside.locks) c.self.invariant.safe);
+          ∙ sealed_is c.self.inside.tables c.self.inside.undo.log c.self.inside.locks c.release_all.new.self c.of-segment.result c.args.request.value c.args.reply.value within here own others))
+          (safe_committed c.of-segment.result c.args.request.value c.args.reply.value (view_from c.self.inside.tables c.self.inside.undo.log c.self.inside.locks) c.self.invariant.safe);
+      linked = linked_sealed c.self.inside.tables _ _ c.self.inside.undo.links _ c.seal-moment.ensures.links c.self.invariant.linked;
     }
 
 pub returns-clause-committed : goal.returns-clause-committed
@@ -53,15 +55,15 @@ unfolding view_of view_from
 returns-clause-committed c =
     let o : IsOpen c.args.self.now c.args.tx = c.is_open.ensures.0 c.if-not-is_open.false in
     let given = rw (← c.self.view_is) at o.terminal in
-    let is : IsSome (active_at c.self.inside.undo c.args.tx.terminal) = given in
+    let is : IsSome (active_at c.self.inside.undo.log c.args.tx.terminal) = given in
     let same : c.of-segment.result ≡ c.args.tx.terminal = c.of-segment.ensures ∙ ap (λ x. x.terminal) c.tx.view_is in
-    let here : IsSome (active_at c.self.inside.undo c.of-segment.result) = subst (λ s. IsSome (active_at c.self.inside.undo s)) (sym same) is in
+    let here : IsSome (active_at c.self.inside.undo.log c.of-segment.result) = subst (λ s. IsSome (active_at c.self.inside.undo.log s)) (sym same) is in
     let own : HoldsNothing c.release_all.new.self c.of-segment.result = subst (HoldsNothing c.release_all.new.self) c.terminal.ensures c.release_all.ensures.own in
     let others : OthersKeep c.self.inside.locks c.release_all.new.self c.of-segment.result =
     subst (OthersKeep c.self.inside.locks c.release_all.new.self) c.terminal.ensures c.release_all.ensures.others in
-    let size : length c.self.inside.undo.terminals ≡ 65 = c.self.invariant.kept.size in
-    let within : c.of-segment.result < length c.self.inside.undo.terminals = omega (arith, c.get-number.ensures.value, c.get-number.ensures.high, c.of-segment.ensures) in
+    let size : length c.self.inside.undo.log.terminals ≡ 65 = c.self.invariant.kept.size in
+    let within : c.of-segment.result < length c.self.inside.undo.log.terminals = omega (arith, c.get-number.ensures.value, c.get-number.ensures.high, c.of-segment.ensures) in
     rw (← c.self.view_is)
     (ap (λ u. view_from c.self.inside.tables u c.release_all.new.self) c.seal-moment.ensures.sealed
-    ∙ sealed_is c.self.inside.tables c.self.inside.undo c.self.inside.locks c.release_all.new.self c.of-segment.result c.args.request.value c.args.reply.value within here own others
-    ∙ ap (λ t. committed t c.args.request.value c.args.reply.value (view_from c.self.inside.tables c.self.inside.undo c.self.inside.locks)) same)
+    ∙ sealed_is c.self.inside.tables c.self.inside.undo.log c.self.inside.locks c.release_all.new.self c.of-segment.result c.args.request.value c.args.reply.value within here own others
+    ∙ ap (λ t. committed t c.args.request.value c.args.reply.value (view_from c.self.inside.tables c.self.inside.undo.log c.self.inside.locks)) same)

@@ -5,4 +5,4 @@ use Rattle.oe_engine.proofs.engine.Engine.is_safe.Goals as goal
 pub returns-clause-unwinds : goal.returns-clause-unwinds
 unfolding view_of
 returns-clause-unwinds c =
-    rw (← c.self.view_is) (λ t. all_unwind t (view_from c.self.inside.tables c.self.inside.undo c.self.inside.locks) c.self.invariant.safe)
+    rw (← c.self.view_is) (λ t. all_unwind t (view_from c.self.inside.tables c.self.inside.undo.log c.self.inside.locks) c.self.invariant.safe)

@@ -9,7 +9,7 @@ unfolding view_of
 invariant_of-self c =
     purge_sound c.purge.result c.self.inside.tables c.purge.new.tables c.self.inside.undo c.purge.new.undo c.self.inside.locks c.args.moment
     (subst (λ s. IsKeptMoment (view_of s) c.args.moment → IsNamedNoMoreAfter c.args.moment (view_of s)) (sym c.self.view_is) c.requires)
-    c.purge.ensures.kept c.purge.ensures.log c.purge.ensures.rows c.purge.ensures.places c.purge.ensures.err c.self.invariant
+    c.purge.ensures.kept c.purge.ensures.log c.purge.ensures.rows c.purge.ensures.places c.purge.ensures.links c.purge.ensures.err c.self.invariant
 
 pub returns-clause-purged : goal.returns-clause-purged
 unfolding view_of

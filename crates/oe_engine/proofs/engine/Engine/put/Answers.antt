@@ -2,37 +2,48 @@ use Rattle.std.proofs.Common.{sym, subst}
 use Rattle.std.specs.Prelude.{OnOk, IfErr, IsSome}
 use Rattle.oe_store.specs.Places.{rows}
 use Rattle.oe_segments.specs.Segments.{active_at}
+use Rattle.oe_records.specs.Writes.{key_written}
+use Rattle.oe_chains.specs.Chains.{IsAlone}
 use Rattle.oe_journal.specs.Writes.{HasRecorded, HasRoomFor, CantWrite}
 use Rattle.oe_engine.specs.View.{view_of, view_from}
 use Rattle.oe_engine.proofs.PartFacts.{if_err, on_ok}
+use Rattle.oe_engine.proofs.SafeFacts.{is_alone}
 use Rattle.oe_engine.proofs.FullFacts.{full_so, full_as}
-use Rattle.oe_engine.proofs.PutFacts.{put_sound, put_view, put_accepted, put_fits, same_view}
+use Rattle.oe_engine.proofs.PutFacts.{MayWriteHere, put_sound, put_view, put_accepted, put_fits, same_view}
 use Rattle.oe_engine.proofs.WriteFacts.{refused_written, refused_full, refused_absent, wants_row}
 use Rattle.oe_engine.proofs.engine.Engine.put.Goals as goal
 
-pub write-requires : goal.write-requires
+pub write-requires-clause-open : goal.write-requires-clause-open
 unfolding view_of view_from
-write-requires c =
+write-requires-clause-open c =
     let given = rw (← c.self.view_is) at c.requires.open in
-    let is : IsSome (active_at c.self.inside.undo c.args.terminal) = given in
-    subst (λ s. IsSome (active_at c.self.inside.undo s)) (sym c.of-segment.ensures) is
+    let is : IsSome (active_at c.self.inside.undo.log c.args.terminal) = given in
+    subst (λ s. IsSome (active_at c.self.inside.undo.log s)) (sym c.of-segment.ensures) is
+
+-- no other transaction has changed the row
+pub write-requires-clause-alone : goal.write-requires-clause-alone
+unfolding view_of
+write-requires-clause-alone c =
+    let may : MayWriteHere c.self.inside.tables c.self.inside.tables c.self.inside.undo c.self.inside.undo c.self.inside.locks c.args.terminal c.args.write.now = rw (← c.self.view_is) at c.requires.covered in
+    subst (λ t. IsAlone c.self.inside.undo.log t (key_written c.args.write.now)) (sym c.of-segment.ensures)
+    (is_alone c.self.inside.tables c.self.inside.undo.log c.self.inside.locks c.args.terminal (key_written c.args.write.now) c.self.invariant.safe may.0)
 
 -- the segment is the terminal's
 recorded : (c : goal.After-write) → OnOk c.write.result (HasRecorded c.args.write.now c.self.inside.tables c.write.new.tables c.self.inside.undo c.write.new.undo c.args.terminal)
 recorded c = subst (λ t. OnOk c.write.result (HasRecorded c.args.write.now c.self.inside.tables c.write.new.tables c.self.inside.undo c.write.new.undo t)) c.of-segment.ensures c.write.ensures.written
 
-has_room : (c : goal.After-write) → OnOk c.write.result (HasRoomFor c.args.write.now (rows c.self.inside.tables) c.self.inside.undo c.args.terminal)
-has_room c = subst (λ t. OnOk c.write.result (HasRoomFor c.args.write.now (rows c.self.inside.tables) c.self.inside.undo t)) c.of-segment.ensures c.write.ensures.room
+has_room : (c : goal.After-write) → OnOk c.write.result (HasRoomFor c.args.write.now (rows c.self.inside.tables) c.self.inside.undo.log c.args.terminal)
+has_room c = subst (λ t. OnOk c.write.result (HasRoomFor c.args.write.now (rows c.self.inside.tables) c.self.inside.undo.log t)) c.of-segment.ensures c.write.ensures.room
 
-refused : (c : goal.After-write) → IfErr c.write.result (CantWrite c.args.write.now c.self.inside.tables c.self.inside.undo c.args.terminal)
-refused c = subst (λ t. IfErr c.write.result (CantWrite c.args.write.now c.self.inside.tables c.self.inside.undo t)) c.of-segment.ensures c.write.ensures.cause
+refused : (c : goal.After-write) → IfErr c.write.result (CantWrite c.args.write.now c.self.inside.tables c.self.inside.undo.log c.args.terminal)
+refused c = subst (λ t. IfErr c.write.result (CantWrite c.args.write.now c.self.inside.tables c.self.inside.undo.log t)) c.of-segment.ensures c.write.ensures.cause
 
 pub invariant_of-self : goal.invariant_of-self
 unfolding view_of view_from
 invariant_of-self c =
     let covered = rw (← c.self.view_is) at c.requires.covered in
     put_sound c.self.inside.tables c.write.new.tables c.self.inside.undo c.write.new.undo c.self.inside.locks c.args.terminal c.args.write.now
-    c.write.result covered (recorded c) c.write.ensures.err c.write.ensures.err_undo c.self.invariant
+    c.write.result covered (recorded c) c.write.ensures.err c.write.ensures.err_undo c.write.ensures.linked c.self.invariant
 
 pub returns-clause-there : goal.returns-clause-there
 unfolding view_of view_from
@@ -51,29 +62,29 @@ returns-clause-made c = rw (← c.self.view_is) (λ d found.
 pub returns-clause-cause : goal.returns-clause-cause
 unfolding view_of view_from
 returns-clause-cause c = rw (← c.self.view_is) (λ d found.
-    if_err c.write.result (λ e h. refused_written c.args.write.now c.self.inside.tables c.self.inside.undo c.args.terminal d e found h) (refused c))
+    if_err c.write.result (λ e h. refused_written c.args.write.now c.self.inside.tables c.self.inside.undo.log c.args.terminal d e found h) (refused c))
 
 pub returns-clause-absent : goal.returns-clause-absent
 unfolding view_of view_from
 returns-clause-absent c = rw (← c.self.view_is) (λ absent.
-    if_err c.write.result (λ e h. refused_absent c.args.write.now c.self.inside.tables c.self.inside.undo c.args.terminal e absent h) (refused c))
+    if_err c.write.result (λ e h. refused_absent c.args.write.now c.self.inside.tables c.self.inside.undo.log c.args.terminal e absent h) (refused c))
 
 pub returns-clause-full : goal.returns-clause-full
 unfolding view_of view_from
 returns-clause-full c = rw (← c.self.view_is) (λ d found.
-    if_err c.write.result (λ e h same. full_so c.self.inside.tables c.self.inside.undo c.self.inside.locks c.args.terminal d c.self.invariant.kept.size
-    (refused_full c.args.write.now c.self.inside.tables c.self.inside.undo c.args.terminal d e found h same)) (refused c))
+    if_err c.write.result (λ e h same. full_so c.self.inside.tables c.self.inside.undo.log c.self.inside.locks c.args.terminal d c.self.invariant.kept.size
+    (refused_full c.args.write.now c.self.inside.tables c.self.inside.undo.log c.args.terminal d e found h same)) (refused c))
 
 pub returns-clause-fits : goal.returns-clause-fits
 unfolding view_of view_from
 returns-clause-fits c = rw (← c.self.view_is) (λ d found.
-    on_ok c.write.result (λ fits full. fits (full_as c.self.inside.tables c.self.inside.undo c.self.inside.locks c.args.terminal d c.self.invariant.kept.size full))
+    on_ok c.write.result (λ fits full. fits (full_as c.self.inside.tables c.self.inside.undo.log c.self.inside.locks c.args.terminal d c.self.invariant.kept.size full))
     (put_fits c.self.inside.tables c.write.new.tables c.self.inside.undo c.write.new.undo c.self.inside.locks c.args.terminal c.args.write.now c.write.result d found (recorded c) (has_room c)))
 
 pub returns-clause-wants : goal.returns-clause-wants
 unfolding view_of view_from
 returns-clause-wants c = rw (← c.self.view_is)
-    (if_err c.write.result (λ e h. wants_row c.args.write.now c.self.inside.tables c.self.inside.undo c.args.terminal e h) (refused c))
+    (if_err c.write.result (λ e h. wants_row c.args.write.now c.self.inside.tables c.self.inside.undo.log c.args.terminal e h) (refused c))
 
 pub returns-clause-err : goal.returns-clause-err
 unfolding view_of

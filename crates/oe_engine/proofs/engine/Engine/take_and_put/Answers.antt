@@ -5,11 +5,17 @@ use Rattle.oe_records.specs.Writes.{written}
 use Rattle.oe_store.specs.Places.{rows}
 use Rattle.oe_engine.specs.View.{View, view_of, view_from}
 use Rattle.oe_engine.specs.Calls.{IsBelow, IsFullFor, locked, put_mode}
+use Rattle.oe_engine.specs.Writes.{MayWrite, WantsRow}
 use Rattle.oe_engine.specs.Covered.{IsUnused, IsSafe}
 use Rattle.oe_engine.proofs.SafeFacts.{unused_if_lower, not_exclusive}
 use Rattle.oe_engine.proofs.PartFacts.{can_restore, restored}
-use Rattle.oe_engine.specs.Writes.{WantsRow}
+use Rattle.oe_engine.proofs.WriteFacts.{may_after}
 use Rattle.oe_engine.proofs.engine.Engine.take_and_put.Goals as goal
+
+pub put-requires-clause-covered : goal.put-requires-clause-covered
+put-requires-clause-covered c =
+    subst (λ (v : View). MayWrite (v.held c.args.terminal) c.args.terminal (suc (v.counts c.args.terminal)) c.args.write.now) (sym c.in-Ok.ensures.locked)
+    (may_after c.args.terminal c.args.lock.now.name (mode_of c.args.lock.now.mode) c.args.write.now (view_of c.args.self.now) c.requires.covered)
 
 -- where the name was not held alone before, nothing was changed under it
 pub restore-requires-clause-unused : goal.restore-requires-clause-unused

@@ -1,18 +1,32 @@
-use Rattle.std.proofs.Common.{Some, sym, ap, ◌∙◌, subst}
+use Rattle.std.proofs.Common.{suc, Some, sym, ap, ◌∙◌, subst}
 use Rattle.oe_theory.specs.Machine.{Take}
+use Rattle.oe_theory.specs.Next.{held_after}
 use Rattle.oe_model.specs.Locks.{mode_of}
+use Rattle.oe_model.specs.System.{system}
 use Rattle.oe_engine.specs.View.{view_of}
-use Rattle.oe_engine.specs.Calls.{made, stage_done, IsCovered}
+use Rattle.oe_engine.specs.Calls.{made, stage_done}
+use Rattle.oe_engine.specs.Writes.{MayWrite}
 use Rattle.oe_engine.proofs.PartFacts.{on_ok, change_done}
-use Rattle.oe_engine.proofs.WriteFacts.{covered_written}
+use Rattle.oe_engine.proofs.WriteFacts.{may_write}
 use Rattle.oe_engine.proofs.engine.Engine.write.Goals as goal
 
+-- with the write's lock a transaction may make it
 pub take_and_put-requires-clause-covered : goal.take_and_put-requires-clause-covered
-take_and_put-requires-clause-covered c = λ d found.
+take_and_put-requires-clause-covered c =
+    let v = view_of c.args.self.now in
     let open_here = c.is_open.ensures.0 c.if-not-is_open.false in
-    subst (λ t. IsCovered (view_of c.args.self.now) t (Take c.in-Some.lock.name (mode_of c.in-Some.lock.mode)) (Some d)) (sym c.terminal-terminal.ensures)
-    (subst (λ a. IsCovered (view_of c.args.self.now) c.args.tx.now.terminal a (Some d)) (sym c.in-Some.ensures)
-    (covered_written (view_of c.args.self.now) c.args.tx.now.terminal c.args.write.now d found (c.requires.own open_here) (c.requires.order open_here)))
+    subst (λ t. MayWrite (held_after system (Take c.in-Some.lock.name (mode_of c.in-Some.lock.mode)) (v.held t)) t (suc (v.counts t)) c.args.write.now) (sym c.terminal-terminal.ensures)
+    (subst (λ a. MayWrite (held_after system a (v.held c.args.tx.now.terminal)) c.args.tx.now.terminal (suc (v.counts c.args.tx.now.terminal)) c.args.write.now) (sym c.in-Some.ensures)
+    (may_write v c.args.tx.now.terminal c.args.write.now (c.requires.own open_here) (c.requires.order open_here)))
+
+-- and where it asks for none
+pub put-requires-clause-covered : goal.put-requires-clause-covered
+put-requires-clause-covered c =
+    let v = view_of c.args.self.now in
+    let open_here = c.is_open.ensures.0 c.if-not-is_open.false in
+    subst (λ t. MayWrite (v.held t) t (suc (v.counts t)) c.args.write.now) (sym c.terminal-terminal.ensures)
+    (subst (λ a. MayWrite (held_after system a (v.held c.args.tx.now.terminal)) c.args.tx.now.terminal (suc (v.counts c.args.tx.now.terminal)) c.args.write.now) (sym c.in-None.ensures)
+    (may_write v c.args.tx.now.terminal c.args.write.now (c.requires.own open_here) (c.requires.order open_here)))
 
 pub returns-in-None-clause-done : goal.returns-in-None-clause-done
 returns-in-None-clause-done c = λ d found.

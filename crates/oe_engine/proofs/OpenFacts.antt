@@ -1,0 +1,82 @@
+-- How the keys of tables get places for their links, one after another.
+use Rattle.std.proofs.Common.{◌≡◌, refl, sym, ◌∙◌, subst, List, [], ◌∷◌, ap}
+use Rattle.std.specs.Prelude.{IsSome, cond, Option, Some, true, false, Bool}
+use Rattle.oe_keys.specs.declared.keys.Key.{Key}
+use Rattle.oe_keys.specs.declared.keys.Key.TheVariants as key
+use Rattle.oe_keys.specs.declared.keys.Table.{Table}
+use Rattle.oe_keys.specs.declared.keys.Table.TheVariants as table
+use Rattle.oe_model.specs.Rows.{is_key}
+use Rattle.oe_model.proofs.RowFacts.{key_refl}
+use Rattle.oe_chains.specs.declared.links.Link.{Link}
+use Rattle.oe_links.specs.Links.{LinkMaps, HasPlace, place_of, SetsLink}
+use Rattle.oe_undo.specs.Undo.{UndoState}
+use Rattle.oe_store.specs.Places.{Places}
+use Rattle.std.specs.List.{AllByRecursion}
+use Rattle.oe_store.specs.KeyWalk.{placed_keys}
+use Rattle.oe_store.proofs.KeyWalkFacts.{in_table}
+use Rattle.oe_journal.specs.Linked.{AreLinked}
+use Rattle.oe_engine.specs.Opened.{IsLinked, KeepsPlaces}
+
+-- a key was given a place
+had_or_has : (b : Bool) (l : Option Link) (p : Option (Option Link)) → IsSome p → IsSome (cond b (Some l) p)
+had_or_has true l p h = refl
+had_or_has false l p h = h
+
+pub set_keeps : (m m' : LinkMaps) (own : Key) (l : Option Link) → SetsLink m m' own l → KeepsPlaces m m'
+set_keeps m m' own l set k h =
+    subst (λ (p : Option (Option Link)). IsSome p) (sym (set k)) (had_or_has (is_key own k) l (place_of m k) h)
+
+pub set_has : (m m' : LinkMaps) (own : Key) (l : Option Link) → SetsLink m m' own l → HasPlace m' own
+set_has m m' own l set =
+    subst (λ (p : Option (Option Link)). IsSome p) (sym (set own ∙ ap (λ b. cond b (Some l) (place_of m own)) (key_refl own))) refl
+
+-- some of all were given places, and no place went: when the rest have theirs, all have
+pub record IsLinking {X : Type 0} (P : LinkMaps → X → Type 0) (first now : UndoState) (rest all : List X) : Type 0 where
+  pub log : now.log ≡ first.log
+  pub kept : KeepsPlaces first.links now.links
+  pub left : (m : LinkMaps) → KeepsPlaces now.links m → AllByRecursion (P m) rest → AllByRecursion (P m) all
+
+module _ {X : Type 0} (P : LinkMaps → X → Type 0) where
+  pub none_linked : (s : UndoState) (all : List X) → IsLinking P s s all all
+  none_linked s all = record {
+    log = refl;
+    kept = λ k h. h;
+    left = λ m kept h. h;
+  }
+
+  pub one_linked : ((m m' : LinkMaps) (x : X) → KeepsPlaces m m' → P m x → P m' x) → (first now next : UndoState) (x : X) (rest all : List X)
+      → next.log ≡ now.log → KeepsPlaces now.links next.links → P next.links x → IsLinking P first now (x ∷ rest) all → IsLinking P first next rest all
+  one_linked still first now next x rest all same kept has h = record {
+    log = same ∙ h.log;
+    kept = λ k p. kept k (h.kept k p);
+    left = λ m more others. h.left m (λ k p. more k (kept k p)) (still next.links m x more has, others);
+  }
+
+  pub all_linked : (first now : UndoState) (all : List X) → IsLinking P first now [] all → AllByRecursion (P now.links) all
+  all_linked first now all h = h.left now.links (λ k p. p) tt
+
+-- what has a place keeps it, and so does a table
+pub keys_still : (m m' : LinkMaps) (k : Key) → KeepsPlaces m m' → HasPlace m k → HasPlace m' k
+keys_still m m' k kept h = kept k h
+
+still_of_all : (m m' : LinkMaps) (ks : List Key) → KeepsPlaces m m' → AllByRecursion (HasPlace m) ks → AllByRecursion (HasPlace m') ks
+still_of_all m m' [] kept h = tt
+still_of_all m m' (k ∷ ks) kept h = (kept k h.0, still_of_all m m' ks kept h.1)
+
+pub tables_still : (ts : Places) (m m' : LinkMaps) (t : Table) → KeepsPlaces m m' → IsLinked ts m t → IsLinked ts m' t
+tables_still ts m m' t = still_of_all m m' (placed_keys t ts)
+
+-- the tables that are changed
+abbrev pub changed_tables : List Table
+changed_tables = table.Warehouse ∷ table.District ∷ table.Customer ∷ table.History ∷ table.NewOrder ∷ table.Order ∷ table.OrderLine ∷ table.Stock ∷ []
+
+pub are_linked : (ts : Places) (m : LinkMaps) → AllByRecursion (IsLinked ts m) changed_tables → AreLinked ts m
+are_linked ts m h (key.Item k) may = absurd may
+are_linked ts m h (key.Warehouse k) may = in_table (HasPlace m) ts (key.Warehouse k) h.0
+are_linked ts m h (key.District k) may = in_table (HasPlace m) ts (key.District k) h.1.0
+are_linked ts m h (key.Customer k) may = in_table (HasPlace m) ts (key.Customer k) h.1.1.0
+are_linked ts m h (key.History k) may = in_table (HasPlace m) ts (key.History k) h.1.1.1.0
+are_linked ts m h (key.NewOrder k) may = in_table (HasPlace m) ts (key.NewOrder k) h.1.1.1.1.0
+are_linked ts m h (key.Order k) may = in_table (HasPlace m) ts (key.Order k) h.1.1.1.1.1.0
+are_linked ts m h (key.OrderLine k) may = in_table (HasPlace m) ts (key.OrderLine k) h.1.1.1.1.1.1.0
+are_linked ts m h (key.Stock k) may = in_table (HasPlace m) ts (key.Stock k) h.1.1.1.1.1.1.1.0

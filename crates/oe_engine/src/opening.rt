@@ -1,0 +1,67 @@
+//! The undo log of an engine that is opened. Each key that has a place in a table that is changed has one for its link, so that no
+//! later change of its row takes memory for that.
+ghost use Rattle.std.specs.Prelude.{◌≡◌, IfOk, OnOk};
+ghost use Rattle.oe_segments.specs.Segments.{no_segments};
+ghost use Rattle.oe_journal.specs.Linked.{AreLinked};
+ghost use Rattle.oe_engine.specs.Opened.{IsLinked, KeepsPlaces};
+
+use oe_keys::Table;
+use oe_segments::ExtentCount;
+use oe_store::Tables;
+use oe_table::tables::NoMemory;
+use oe_undo::Undo;
+use std::alloc::Global;
+
+// The tables that are changed: all but ITEM.
+const CHANGED: [Table; 8] = [
+    Table::Warehouse,
+    Table::District,
+    Table::Customer,
+    Table::History,
+    Table::NewOrder,
+    Table::Order,
+    Table::OrderLine,
+    Table::Stock,
+];
+
+// Gives each key that has a place in a table one for its link.
+fn link_table(tables: &Tables, undo: &mut Undo, table: Table) -> Result<(), NoMemory>
+    ensures log { undo.new.log ≡ undo.old.log }
+    ensures linked { OnOk result (IsLinked tables.now undo.new.links table) }
+    ensures kept { KeepsPlaces undo.old.links undo.new.links }
+{
+    for key in tables.keys(table) {
+        undo.add_place(&key)?;
+    }
+    Ok(())
+}
+
+// Gives each key that has a place in a table that is changed one for its link.
+fn link_all(tables: &Tables, undo: &mut Undo) -> Result<(), NoMemory>
+    ensures log { undo.new.log ≡ undo.old.log }
+    ensures linked { OnOk result (AreLinked tables.now undo.new.links) }
+{
+    for table in CHANGED {
+        link_table(tables, undo, table)?;
+    }
+    Ok(())
+}
+
+/// An undo log in which nothing has begun, beside tables: each key that has a place in one that is changed has one for its link.
+/// `NoMemory` where memory was refused.
+pub(crate) fn linked_undo(
+    alloc: Global,
+    tables: &Tables,
+    extents: ExtentCount,
+) -> Result<Undo, NoMemory>
+    ensures log { IfOk result (λ u. u.log ≡ no_segments extents) }
+    ensures linked { IfOk result (λ u. AreLinked tables.now u.links) }
+{
+    let Ok(mut undo) = Undo::new(alloc, extents) else {
+        return Err(NoMemory);
+    };
+    if let Err(refusal) = link_all(tables, &mut undo) {
+        return Err(refusal);
+    }
+    Ok(undo)
+}

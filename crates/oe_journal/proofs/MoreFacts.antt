@@ -1,0 +1,115 @@
+-- What is known where a terminal's open segment has a record more, and after that is taken off again.
+use Rattle.std.proofs.Common.{◌≡◌, ℕ, refl, sym, ap, ◌∙◌, subst, ◌∷◌, length, Option, None, Some, is_some, true}
+use Rattle.std.specs.Prelude.{option_map}
+use Rattle.std.specs.Option.{IsSomeAnd}
+use Rattle.oe_theory.proofs.Sets.{some_inj}
+use Rattle.oe_keys.specs.declared.keys.Key.{Key}
+use Rattle.oe_model.specs.Rows.{row_at}
+use Rattle.oe_model.specs.Changes.{Change, Record, record_key, key_of}
+use Rattle.oe_model.proofs.RowFacts.{record_key_of}
+use Rattle.oe_store.specs.Places.{Places, rows}
+use Rattle.oe_change.specs.Applies.{Applies}
+use Rattle.oe_log.specs.Log.{Logged, logged}
+use Rattle.oe_segments.specs.Segments.{SegmentLog, Open as OpenSegment, active_at, records_at, popped}
+use Rattle.oe_segments.specs.Stands.{model_records}
+use Rattle.oe_segments.specs.Laws.{StandsWith}
+use Rattle.oe_chains.specs.declared.links.Holder.TheVariants.{Open}
+use Rattle.oe_chains.specs.Chains.{link_from}
+use Rattle.oe_links.specs.Links.{LinkMaps, HasPlace, SetsLink}
+use Rattle.oe_undo.specs.Undo.{UndoState, GivesBack}
+use Rattle.oe_journal.specs.Linked.{AreLinked, SameLinks}
+use Rattle.oe_journal.specs.Records.{record_in}
+use Rattle.oe_journal.specs.Writes.{HasMore, IsRecorded}
+use Rattle.oe_journal.proofs.LogFacts.{some_of, records_open, records_size, records_are, records_stand, pushed_popped}
+use Rattle.oe_journal.proofs.LinkFacts.{more_links, own_link, given_back, still_linked, one_more_linked}
+
+-- what is said of an option's value
+pub of_some : {A : Type 0} (P : A → Type 0) (o : Option A) (x : A) → o ≡ Some x → P x → IsSomeAnd o P
+of_some P o x e h = subst (λ z. IsSomeAnd z P) (sym e) h
+
+pub there_is : {A : Type 0} (P : A → Type 0) (o : Option A) → IsSomeAnd o P → (x : A) × (o ≡ Some x) × P x
+there_is P None h = absurd h
+there_is P (Some x) h = (x, refl, h)
+
+-- ---- a record's key
+
+pub mapped_key : {A : Type 0} (f : A → Record) (k : Key) (o : Option A) (b : Record) → ((x : A) → record_key (f x) ≡ k) → option_map f o ≡ Some b → record_key b ≡ k
+mapped_key f k None b same e = cc
+mapped_key f k (Some x) b same e = ap record_key (sym (some_inj _ _ e)) ∙ same x
+
+pub own_key : (a b : Record) → ◌≡◌ {A = Option Record} (Some a) (Some b) → record_key b ≡ record_key a
+own_key a b e = ap record_key (sym (some_inj _ _ e))
+
+-- ---- a record more, and the change that it is of
+
+module _ (b : Record) (u u' : UndoState) (t : ℕ) (h : HasMore b u u' t) where
+  abbrev pushed_record : Logged
+  pushed_record = logged h.pushed.address h.previous b
+
+  is_open_still : (x : ℕ) → is_some (active_at u'.log x) ≡ is_some (active_at u.log x)
+  is_open_still x = ap (λ z. is_some (active_at z x)) h.pushed.log ∙ records_open u.log t (pushed_record ∷ records_at u.log t) x
+
+  -- no place of a link is lost
+  has_place_still : (k : Key) → HasPlace u.links k → HasPlace u'.links k
+  has_place_still = more_links u.links u'.links (record_key b) _ h.pushed.links
+
+-- in the theory's words
+pub more_stands : (b : Record) (c : Change) (old new : Places) (u u' : UndoState) (t : ℕ) (o : OpenSegment) → active_at u.log t ≡ Some o
+    → b ≡ record_in c (rows old) → Applies c old new (record_in c (rows old)) → HasMore b u u' t → IsRecorded c old new u u' t
+more_stands b c old new u u' t o is same applies h =
+    let m : HasMore (record_in c (rows old)) u u' t = subst (λ z. HasMore z u u' t) same h in
+    let rs = pushed_record (record_in c (rows old)) u u' t m ∷ records_at u.log t in
+    record {
+      applies = applies;
+      has_more = m;
+      stands = subst (λ z. StandsWith z u.log t (record_in c (rows old) ∷ model_records (records_at u.log t))) (sym m.pushed.log) (records_stand u.log t o rs is);
+      is_open = is_open_still (record_in c (rows old)) u u' t m;
+      size = ap (λ (z : SegmentLog). length z.terminals) m.pushed.log ∙ records_size u.log t rs;
+      extents = ap (λ (z : SegmentLog). z.extents) m.pushed.log;
+    }
+
+-- each key of the tables has a place for its link
+pub recorded_linked : (c : Change) (old new : Places) (u u' : UndoState) (t : ℕ) → AreLinked old u.links → IsRecorded c old new u u' t → AreLinked new u'.links
+recorded_linked c old new u u' t linked h =
+    let b : Record = record_in c (rows old) in
+    let own : record_key b ≡ key_of c = record_key_of c (row_at (rows old) (key_of c)) in
+    one_more_linked old new u.links u'.links (key_of c) (has_place_still b u u' t h.has_more)
+    (subst (HasPlace u'.links) own (own_link u.links u'.links (record_key b) _ h.has_more.pushed.links)) h.applies.places linked
+
+-- ---- and that is taken off again
+
+module _ (o : Option Record) (u u' : UndoState) (t : ℕ) (is : is_some (active_at u.log t) ≡ true) (push : IsSomeAnd o (λ b. HasMore b u u' t)) where
+  -- the terminal's segment is open still
+  pub pushed_open : is_some (active_at u'.log t) ≡ true
+  pushed_open =
+      let b = there_is (λ b. HasMore b u u' t) o push in
+      is_open_still b.0 u u' t b.2 t ∙ is
+
+  -- the log is as it was
+  pub unpushed : (v : SegmentLog) → v ≡ popped u'.log t → v ≡ u.log
+  unpushed v pop =
+      let b = there_is (λ b. HasMore b u u' t) o push in
+      let a = some_of (active_at u.log t) is in
+      pop ∙ ap (λ z. popped z t) b.2.pushed.log ∙ pushed_popped u.log t a.0 (pushed_record b.0 u u' t b.2) a.1
+
+  -- the record's key has its previous link again
+  key_given_back : (links : LinkMaps) → GivesBack t (records_at u'.log t) u'.links links
+      → (b : Record) × (h : HasMore b u u' t) × SetsLink u'.links links (record_key b) (link_from (Open t) h.previous)
+  key_given_back links back =
+      let b = there_is (λ b. HasMore b u u' t) o push in
+      let a = some_of (active_at u.log t) is in
+      let rs = pushed_record b.0 u u' t b.2 ∷ records_at u.log t in
+      let newest : records_at u'.log t ≡ rs = ap (λ z. records_at z t) b.2.pushed.log ∙ records_are u.log t a.0 rs a.1 in
+      (b.0, b.2, subst (λ z. GivesBack t z u'.links links) newest back)
+
+  pub links_given_back : (links : LinkMaps) → GivesBack t (records_at u'.log t) u'.links links → SameLinks u.links links
+  links_given_back links back =
+      let b = key_given_back links back in
+      given_back u.links u'.links links (record_key b.0) _ _ b.1.pushed.links b.2 b.1.leads
+
+  -- and the keys of the tables have their places
+  pub unpushed_linked : (ts : Places) (links : LinkMaps) → GivesBack t (records_at u'.log t) u'.links links → AreLinked ts u.links → AreLinked ts links
+  unpushed_linked ts links back linked =
+      let b = key_given_back links back in
+      still_linked ts u.links links
+      (λ k had. more_links u'.links links (record_key b.0) _ b.2 k (has_place_still b.0 u u' t b.1 k had)) linked

@@ -1,0 +1,13 @@
+use Rattle.std.proofs.Common.{sym, subst}
+use Rattle.oe_requests.specs.declared.refusals.Refusal.TheVariants.{NoSuchRow}
+use Rattle.oe_records.specs.Changes.{change_of}
+use Rattle.oe_journal.specs.Writes.{IsRefused}
+use Rattle.oe_journal.proofs.UnplacedFacts.{change_unplaced}
+use Rattle.oe_journal.proofs.unplaced.unplaced_change.Goals as goal
+
+pub returns-in_default : goal.returns-in_default
+returns-in_default c =
+    let none = c.in_default in
+    subst (λ k. IsRefused (change_of c.args.change.now) c.args.tables.now (NoSuchRow k)) (sym c.key.ensures)
+    (change_unplaced c.args.change.now c.args.tables.now none.not-InsertHistory none.not-InsertNewOrder none.not-InsertOrder none.not-InsertOrderLine
+    c.requires.there c.requires.unplaced)

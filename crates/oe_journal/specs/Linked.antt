@@ -1,0 +1,21 @@
+-- Which keys have places for their links.
+use Rattle.std.specs.Prelude.{◌≡◌}
+use Rattle.oe_keys.specs.declared.keys.Key.{Key}
+use Rattle.oe_keys.specs.declared.keys.Key.TheVariants as key
+use Rattle.oe_store.specs.Places.{Places}
+use Rattle.oe_store.specs.Places as tables
+use Rattle.oe_links.specs.Links.{LinkMaps, HasPlace, links_of}
+
+-- rows of this key's table are changed; those of ITEM never are
+abbrev pub MayChange : Key → Type 0
+MayChange (key.Item k) = ⊥
+MayChange _ = Unit {0}
+
+-- Each key with a place in a table that is changed has a place for its link, a blanked one too. So only an insert at a key without a
+-- place in its table takes memory for a link.
+abbrev pub AreLinked : Places → LinkMaps → Type 0
+AreLinked ts links = (k : Key) → MayChange k → tables.HasPlace ts k → HasPlace links k
+
+-- each key has the same link, or none
+abbrev pub SameLinks : LinkMaps → LinkMaps → Type 0
+SameLinks old new = (k : Key) → links_of new k ≡ links_of old k
