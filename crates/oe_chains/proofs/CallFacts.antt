@@ -14,20 +14,19 @@ use Rattle.oe_requests.specs.declared.requests.Request.{Request}
 use Rattle.oe_requests.specs.declared.replies.Reply.{Reply}
 use Rattle.oe_log.specs.Log.{Logged}
 use Rattle.oe_segments.specs.Segments.{SegmentLog, TerminalState, Open as OpenSegment, Committed as CommitSegment, idle, idle_terminals, records_in, active_at, records_at, count_at, total_count, no_segments, opened, pushed, popped, sealed, dropped, with_newest, reopened}
-use Rattle.oe_segments.specs.Stands.{model_records}
 use Rattle.oe_chains.specs.declared.links.Link.{Link}
 use Rattle.oe_chains.specs.declared.links.Holder.{Holder}
 use Rattle.oe_chains.specs.declared.links.Holder.TheVariants.{Open, At}
 use Rattle.oe_chains.specs.Held.{Held, held_open, held_commits, held, of_key, horizon}
-use Rattle.oe_chains.specs.Chains.{link_from, IsEnd, IsChain, AreChained, linked, holder_sealed, holder_reopened, with_holder, marked}
+use Rattle.oe_chains.specs.Chains.{link_from, IsEnd, IsChain, AreChained, linked, holder_sealed, holder_reopened, with_holder}
 use Rattle.oe_chains.specs.Laws.{IsWhole}
 use Rattle.oe_model.proofs.RowFacts.{key_true, key_refl}
-use Rattle.oe_chains.proofs.ChainFacts.{given, chain_open, chain-open, chain-same, own, commits-append, commits-up, nobody, no_record}
+use Rattle.oe_chains.proofs.ChainFacts.{chain_open, chain-open, chain-same, own, commits-append, commits-up, nobody, no_record}
 use Rattle.oe_chains.proofs.ChainFacts as chain
 
 -- ---- terminals' states
 
-known : (v : SegmentLog) (t : ℕ) (o : OpenSegment) → active_at v t ≡ Some o → t < length v.terminals
+pub known : (v : SegmentLog) (t : ℕ) (o : OpenSegment) → active_at v t ≡ Some o → t < length v.terminals
 known v t o e =
     elim (cases_lt t (length v.terminals)) [
       | inl within ↦ within
@@ -48,7 +47,7 @@ module _ (v : SegmentLog) (t : ℕ) (s : TerminalState) where
   records_here : t < length v.terminals → records_at after t ≡ records_in s.active
   records_here within = ap (λ (z : TerminalState). records_in z.active) (get_or-set_same v.terminals t s idle within)
 
-  records_there : (u : ℕ) → u ≢ t → records_at after u ≡ records_at v u
+  pub records_there : (u : ℕ) → u ≢ t → records_at after u ≡ records_at v u
   records_there u ne = ap (λ (z : TerminalState). records_in z.active) (get_or-set_other v.terminals t u s idle ne)
 
   records_same : records_in s.active ≡ records_at v t → (u : ℕ) → records_at after u ≡ records_at v u
@@ -61,7 +60,7 @@ module _ (v : SegmentLog) (t : ℕ) (s : TerminalState) where
         | inr past ↦ ap (λ z. records_in (get_or z u idle).active) (set_past v.terminals t s past)
       ]
 
-  total_same : s.count ≡ count_at v t → total_count after ≡ total_count v
+  pub total_same : s.count ≡ count_at v t → total_count after ≡ total_count v
   total_same same =
       elim (cases_lt t (length v.terminals)) [
         | inl within ↦ let sums = sum_by-set (λ (z : TerminalState). z.count) v.terminals t s idle within in omega (arith, sums, same)
@@ -182,7 +181,7 @@ pops u links t r rs whole had c =
 
 -- ---- commits
 
-total_more : (u : SegmentLog) (t : ℕ) (q : Request) (y : Reply) → t < length u.terminals → total_count (sealed u t q y) ≡ suc (total_count u)
+pub total_more : (u : SegmentLog) (t : ℕ) (q : Request) (y : Reply) → t < length u.terminals → total_count (sealed u t q y) ≡ suc (total_count u)
 total_more u t q y within =
     let sums = sum_by-set (λ (z : TerminalState). z.count) u.terminals t (record { count = suc (count_at u t); active = None }) idle within in
     omega (arith, sums)
@@ -214,58 +213,7 @@ seals u links t o q y whole is c = λ k.
     one_less : (n : ℕ) → n ≡ suc n - 1
     one_less n = omega arith
 
--- links that are given a holder one after another
-twice : (h : Holder) (xs : List Held) (l : Option Link) → given h xs (with_holder (λ _. h) l) ≡ with_holder (λ _. h) l
-twice h [] None = refl
-twice h [] (Some x) = refl
-twice h (x ∷ xs) None = refl
-twice h (x ∷ xs) (Some y) = refl
-
-key_same : (a b : Key) → is_key a b ≡ is_key b a
-key_same a b = go (is_key a b) (is_key b a) refl refl
-  where
-    go : (x y : Bool) → is_key a b ≡ x → is_key b a ≡ y → is_key a b ≡ is_key b a
-    go true y p q = let same : is_key b a ≡ true = subst (λ z. is_key b z ≡ true) (sym (key_true a b p)) (key_refl b) in p ∙ sym same
-    go false true p q = let same : is_key a b ≡ true = subst (λ z. is_key a z ≡ true) (sym (key_true b a q)) (key_refl a) in same ∙ sym q
-    go false false p q = p ∙ sym q
-
-marked_by : (x h : Holder) (k : Key) (rs : List Logged) (links : Key → Option Link) → marked x (model_records rs) links k ≡ given x (own k h rs) (links k)
-marked_by x h k [] links = refl
-marked_by x h k (r ∷ rs) links =
-    let j : Key = record_key r.before in
-    marked_by x h k rs (linked links j (with_holder (λ _. x) (links j)))
-    ∙ ap (λ c. given x (own k h rs) (cond c (with_holder (λ _. x) (links j)) (links k))) (key_same j k)
-    ∙ go (is_key k j) refl
-  where
-    go : (c : Bool) → is_key k (record_key r.before) ≡ c
-        → given x (own k h rs) (cond c (with_holder (λ _. x) (links (record_key r.before))) (links k))
-        ≡ given x (cond c (record { logged = r; holder = h } ∷ own k h rs) (own k h rs)) (links k)
-    go true e = ap (λ z. given x (own k h rs) (with_holder (λ _. x) (links z))) (sym (key_true k (record_key r.before) e)) ∙ twice x (own k h rs) (links k)
-    go false e = refl
-
-pub marks : (u : SegmentLog) (links : Key → Option Link) (t : ℕ) (o : OpenSegment) (m : ℕ) (k : Key) → IsWhole u → active_at u t ≡ Some o
-    → AreChained u links → marked (At m) (model_records (records_at u t)) links k ≡ with_holder (holder_sealed t m) (links k)
-marks u links t o m k whole is c =
-    marked_by (At m) (Open t) k (records_at u t) links
-    ∙ chain.sealed_links k (horizon u) (total_count u) (records_at u) t m (commits k (total_count u) u.committed) (links k)
-    (commits-up k (total_count u) (total_count u) u.committed (omega arith)) terminal_limit (below_limit u t whole (known u t o is)) (opened_up k u (links k) (c k))
-
-pub reopen_marks : (u : SegmentLog) (links : Key → Option Link) (c : CommitSegment) (cs : List CommitSegment) (k : Key) → IsWhole u
-    → u.committed ≡ c ∷ cs → ((t : ℕ) → active_at u t ≡ None) → AreChained u links
-    → marked (Open c.terminal) (model_records c.records) links k ≡ with_holder (holder_reopened c.terminal (total_count u)) (links k)
-reopen_marks u links c cs k whole e closed chained =
-    let n : ℕ = total_count u in
-    let size = ap length e in
-    let few = whole.commits in
-    let older : List Held = commits k (n - 1) cs in
-    let all : chain_open k (records_at u) terminal_limit (commits k n u.committed) ≡ own k (At n) c.records ++ older =
-    nobody k (records_at u) terminal_limit (commits k n u.committed) (λ s less. ap (λ a. own k (Open s) (records_in a)) (closed s))
-    ∙ ap (commits k n) e ∙ commits-append k n c cs in
-    marked_by (Open c.terminal) (At n) k c.records links
-    ∙ chain.reopened_links k (horizon u) (n - 1) c.terminal n c.records older (links k) (omega (arith, size, few)) (omega (arith, size, few))
-    (commits-up k (n - 1) (n - 1) cs (omega arith)) (subst (IsChain (horizon u) (links k)) all (opened_up k u (links k) (chained k)))
-
-counted : (u : SegmentLog) (t : ℕ) → 1 ≤ count_at u t → t < length u.terminals
+pub counted : (u : SegmentLog) (t : ℕ) → 1 ≤ count_at u t → t < length u.terminals
 counted u t some =
     elim (cases_lt t (length u.terminals)) [
       | inl within ↦ within

@@ -61,11 +61,6 @@ end_weaker : (h g : ℕ) (l : Option Link) → h ≤ g → IsEnd h l → IsEnd g
 end_weaker h g None le e = e
 end_weaker h g (Some l) le e = weaker h g l.holder le e
 
--- the link of a key that has records, and of one that has none
-abbrev pub given : Holder → List Held → Option Link → Option Link
-given h [] l = l
-given h (x ∷ xs) l = with_holder (λ _. h) l
-
 lower : (t m : ℕ) → t < suc m → t ≢ m → t < m
 lower t m lt ne = elim (cases_lt t m) [ inl q ↦ q | inr q ↦ absurd (ne (omega (arith, q, lt))) ]
 
@@ -359,11 +354,6 @@ module _ (k : Key) where
       go false c i = i l c
 
   -- where a terminal has records of the key, the link leads to one of its
-  leads_own : (h : ℕ) (f : ℕ → List Logged) (t : ℕ) (ys : List Held) (x : Held) (xs : List Held) → own (Open t) (f t) ≡ x ∷ xs
-      → (n : ℕ) → t < n → (l : Option Link) → IsChain h l (chain_open f n ys) → number l ≡ suc t
-  leads_own h f t ys x xs e n lt l c =
-      first_number h t (f t) ys l x xs e (subst (IsChain h l) (only f t n ys lt (alone h f t ys x xs e n lt l c)) c)
-
   sealed_moment : (t m : ℕ) (l : Option Link) → number l ≡ suc t → with_holder (λ h. At m) l ≡ with_holder (holder_sealed t m) l
   sealed_moment t m None e = refl
   sealed_moment t m (Some x) e = ap (λ (h : Holder). Some (record { address = x.address; holder = h })) (go x.holder e)
@@ -371,14 +361,6 @@ module _ (k : Key) where
       go : (h : Holder) → open_number h ≡ suc t → At m ≡ holder_sealed t m h
       go (Open s) q = sym (cond-true (s == t) (At m) (Open s) (eq-eqb s t (omega (arith, q))))
       go (At n) q = absurd (omega (arith, q))
-
-  pub sealed_links : (h b : ℕ) (f : ℕ → List Logged) (t m : ℕ) (ys : List Held) (l : Option Link) → AreUpTo b ys → (n : ℕ) → t < n → IsChain h l (chain_open f n ys)
-      → given (At m) (own (Open t) (f t)) l ≡ with_holder (holder_sealed t m) l
-  sealed_links h b f t m ys l up n lt c = go (own (Open t) (f t)) refl
-    where
-      go : (xs : List Held) → own (Open t) (f t) ≡ xs → given (At m) xs l ≡ with_holder (holder_sealed t m) l
-      go [] e = sym (unsealed t m l (leads_elsewhere h b f t ys up e n l c))
-      go (x ∷ xs) e = sealed_moment t m l (leads_own h f t ys x xs e n lt l c)
 
   pub sealed : (h m : ℕ) (f g : ℕ → List Logged) (t : ℕ) (ys : List Held) (l : Option Link) → h ≤ m → AreUpTo m ys
       → g t ≡ [] → ((s : ℕ) → s ≢ t → g s ≡ f s) → (n : ℕ) → t < n → IsChain h l (chain_open f n ys)
@@ -452,20 +434,6 @@ module _ (k : Key) where
       only f t n (own (At m) (g t) ++ ys) lt (λ s less ne. ap (own (Open s)) (closed s)) ∙ ap (λ zs. own (Open t) zs ++ (own (At m) (g t) ++ ys)) (closed t) in
       let after : chain_open g n ys ≡ own (Open t) (g t) ++ ys = only g t n ys lt (λ s less ne. ap (own (Open s)) (others s ne)) in
       subst (IsChain h (with_holder (holder_reopened t m) l)) (sym after) (reopened_own h b t m ys lh lb up (g t) l (subst (IsChain h l) before c))
-
-  pub reopened_links : (h n t m : ℕ) (rs : List Logged) (ys : List Held) (l : Option Link) → h < m → n < m → AreUpTo n ys → IsChain h l (own (At m) rs ++ ys)
-      → given (Open t) (own (At m) rs) l ≡ with_holder (holder_reopened t m) l
-  reopened_links h n t m rs ys l lh ln up c = go (own (At m) rs) refl
-    where
-      opens : (x : Holder) → x ≡ At m → Open t ≡ holder_reopened t m x
-      opens x e = subst (λ z. Open t ≡ holder_reopened t m z) (sym e) (sym (cond-true (m == m) (Open t) (At m) (eq-eqb m m refl)))
-
-      go : (xs : List Held) → own (At m) rs ≡ xs → given (Open t) xs l ≡ with_holder (holder_reopened t m) l
-      go [] e = sym (unopened h n t m l ys lh ln up (subst (λ zs. IsChain h l (zs ++ ys)) e c))
-      go (x ∷ xs) e =
-          let d : IsChain h l ((x ∷ xs) ++ ys) = subst (λ zs. IsChain h l (zs ++ ys)) e c in
-          subst (λ z. with_holder (λ _. Open t) z ≡ with_holder (holder_reopened t m) z) (sym d.0.leads)
-          (ap (λ (z : Holder). Some (record { address = x.logged.address; holder = z })) (opens x.holder (first_holder (At m) rs x xs e)))
 
   -- ---- a purge
 

@@ -109,9 +109,3 @@ holder_reopened t m (At n) = cond (n == m) (Open t) (At n)
 abbrev pub with_holder : (Holder → Holder) → Option Link → Option Link
 with_holder f None = None
 with_holder f (Some l) = Some (record { address = l.address; holder = f l.holder })
-
--- the links of these records' keys, one after another, given this holder
-abbrev pub marked : Holder → List Record → (Key → Option Link) → Key → Option Link
-marked h [] links = links
-marked h (b ∷ bs) links =
-    marked h bs (linked links (record_key b) (with_holder (λ _. h) (links (record_key b))))

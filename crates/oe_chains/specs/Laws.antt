@@ -7,12 +7,11 @@ use Rattle.oe_requests.specs.declared.requests.Request.{Request}
 use Rattle.oe_requests.specs.declared.replies.Reply.{Reply}
 use Rattle.oe_log.specs.Log.{Logged}
 use Rattle.oe_segments.specs.Segments.{SegmentLog, Open as OpenSegment, Committed as CommitSegment, count_at, active_at, records_at, total_count, no_segments, opened, pushed, popped, sealed, dropped, with_newest, reopened}
-use Rattle.oe_segments.specs.Stands.{model_records}
 use Rattle.oe_chains.specs.declared.links.Link.{Link}
 use Rattle.oe_chains.specs.declared.links.Holder.TheVariants.{Open, At}
 use Rattle.oe_chains.specs.Oldest.{oldest_after}
 use Rattle.oe_chains.specs.Held.{held, of_key, horizon, count_later}
-use Rattle.oe_chains.specs.Chains.{link_from, previous_of, IsSeenBy, IsAlone, IsEnd, AreChained, found, ticks, linked, holder_sealed, holder_reopened, with_holder, marked}
+use Rattle.oe_chains.specs.Chains.{link_from, previous_of, IsSeenBy, IsAlone, IsEnd, AreChained, found, ticks, linked, holder_sealed, holder_reopened, with_holder}
 
 -- the log has a state of each terminal, and keeps no more commits than were made
 pub record IsWhole (u : SegmentLog) : Type 0 where
@@ -33,17 +32,10 @@ pub record Calls_keep_chains : Type 0 where
   -- a commit gives its moment to the links that lead to its records
   pub seals : (u : SegmentLog) (links : Key → Option Link) (t : ℕ) (o : OpenSegment) (q : Request) (y : Reply) → IsWhole u → active_at u t ≡ Some o
       → AreChained u links → AreChained (sealed u t q y) (λ k. with_holder (holder_sealed t (suc (total_count u))) (links k))
-  -- a walk over its own records gives it to exactly these links
-  pub marks : (u : SegmentLog) (links : Key → Option Link) (t : ℕ) (o : OpenSegment) (m : ℕ) (k : Key) → IsWhole u → active_at u t ≡ Some o
-      → AreChained u links → marked (At m) (model_records (records_at u t)) links k ≡ with_holder (holder_sealed t m) (links k)
   -- a commit that is opened again takes it back
   pub reopens : (u : SegmentLog) (links : Key → Option Link) (c : CommitSegment) (cs : List CommitSegment) → IsWhole u → u.committed ≡ c ∷ cs
       → 1 ≤ count_at u c.terminal → ((t : ℕ) → active_at u t ≡ None) → AreChained u links
       → AreChained (reopened u u.committed) (λ k. with_holder (holder_reopened c.terminal (total_count u)) (links k))
-  -- a walk over its records gives its terminal to exactly these links, where no segment is open
-  pub reopen_marks : (u : SegmentLog) (links : Key → Option Link) (c : CommitSegment) (cs : List CommitSegment) (k : Key) → IsWhole u
-      → u.committed ≡ c ∷ cs → ((t : ℕ) → active_at u t ≡ None) → AreChained u links
-      → marked (Open c.terminal) (model_records c.records) links k ≡ with_holder (holder_reopened c.terminal (total_count u)) (links k)
   -- a purge leaves all links
   pub purges : (u : SegmentLog) (links : Key → Option Link) (n : ℕ) → AreChained u links → AreChained (with_newest n u) links
   -- a link that is an end may be given up

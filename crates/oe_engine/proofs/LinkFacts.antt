@@ -1,12 +1,9 @@
 -- That keys have places for their links each call keeps, and how they get them.
-use Rattle.std.proofs.Common.{◌≡◌, ℕ, refl, sym, subst, Option, None, Some}
-use Rattle.std.specs.Prelude.{IsSome, option_map}
+use Rattle.std.proofs.Common.{◌≡◌, sym, subst}
 use Rattle.oe_keys.specs.declared.keys.Key.{Key}
 use Rattle.oe_store.specs.Places.{Places, SamePlaces}
-use Rattle.oe_chains.specs.declared.links.Link.{Link}
-use Rattle.oe_links.specs.Links.{LinkMaps, HasPlace, place_of}
+use Rattle.oe_links.specs.Links.{LinkMaps, HasPlace}
 use Rattle.oe_links.specs.Links as links
-use Rattle.oe_undo.specs.Undo.{GivesMoment}
 use Rattle.oe_journal.specs.GivesUp.{GivesUpThose}
 use Rattle.oe_journal.specs.Linked.{AreLinked}
 
@@ -16,11 +13,3 @@ linked_same ts ts' m m' same same_links linked k may h = (same_links k).1 (linke
 -- places of the tables went
 pub linked_less : (ts ts' : Places) (m m' : LinkMaps) (P : Key → Type 0) → GivesUpThose ts ts' P → m' ≡ m → AreLinked ts m → AreLinked ts' m'
 linked_less ts ts' m m' P gone same linked k may h = subst (λ z. HasPlace z k) (sym same) (linked k may ((gone k).0 h).0)
-
--- links were given their moment
-still_there : {A : Type 0} (f : A → A) (p : Option A) → IsSome p → IsSome (option_map f p)
-still_there f None h = cc
-still_there f (Some x) h = refl
-
-pub linked_sealed : (ts : Places) (t n : ℕ) (m m' : LinkMaps) → GivesMoment t n m m' → AreLinked ts m → AreLinked ts m'
-linked_sealed ts t n m m' given linked k may h = subst (λ (p : Option (Option Link)). IsSome p) (sym (given k)) (still_there _ (place_of m k) (linked k may h))

@@ -7,7 +7,7 @@ use Rattle.oe_keys.specs.declared.keys.Table.{Table}
 use Rattle.oe_keys.specs.declared.keys.Table.TheVariants as table
 use Rattle.oe_model.specs.Rows.{is_key}
 use Rattle.oe_model.proofs.RowFacts.{key_refl}
-use Rattle.oe_chains.specs.declared.links.Link.{Link}
+use Rattle.oe_links.specs.declared.links.OwnedLink.{OwnedLink}
 use Rattle.oe_links.specs.Links.{LinkMaps, HasPlace, place_of, SetsLink}
 use Rattle.oe_undo.specs.Undo.{UndoState}
 use Rattle.oe_store.specs.Places.{Places}
@@ -18,17 +18,17 @@ use Rattle.oe_journal.specs.Linked.{AreLinked}
 use Rattle.oe_engine.specs.Opened.{IsLinked, KeepsPlaces}
 
 -- a key was given a place
-had_or_has : (b : Bool) (l : Option Link) (p : Option (Option Link)) → IsSome p → IsSome (cond b (Some l) p)
+had_or_has : (b : Bool) (l : Option OwnedLink) (p : Option (Option OwnedLink)) → IsSome p → IsSome (cond b (Some l) p)
 had_or_has true l p h = refl
 had_or_has false l p h = h
 
-pub set_keeps : (m m' : LinkMaps) (own : Key) (l : Option Link) → SetsLink m m' own l → KeepsPlaces m m'
+pub set_keeps : (m m' : LinkMaps) (own : Key) (l : Option OwnedLink) → SetsLink m m' own l → KeepsPlaces m m'
 set_keeps m m' own l set k h =
-    subst (λ (p : Option (Option Link)). IsSome p) (sym (set k)) (had_or_has (is_key own k) l (place_of m k) h)
+    subst (λ (p : Option (Option OwnedLink)). IsSome p) (sym (set k)) (had_or_has (is_key own k) l (place_of m k) h)
 
-pub set_has : (m m' : LinkMaps) (own : Key) (l : Option Link) → SetsLink m m' own l → HasPlace m' own
+pub set_has : (m m' : LinkMaps) (own : Key) (l : Option OwnedLink) → SetsLink m m' own l → HasPlace m' own
 set_has m m' own l set =
-    subst (λ (p : Option (Option Link)). IsSome p) (sym (set own ∙ ap (λ b. cond b (Some l) (place_of m own)) (key_refl own))) refl
+    subst (λ (p : Option (Option OwnedLink)). IsSome p) (sym (set own ∙ ap (λ b. cond b (Some l) (place_of m own)) (key_refl own))) refl
 
 -- some of all were given places, and no place went: when the rest have theirs, all have
 pub record IsLinking {X : Type 0} (P : LinkMaps → X → Type 0) (first now : UndoState) (rest all : List X) : Type 0 where

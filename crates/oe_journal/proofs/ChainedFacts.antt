@@ -17,22 +17,24 @@ use Rattle.oe_chains.specs.Held.{Held, held_by, held_open, held_commits, held, o
 use Rattle.oe_chains.specs.Chains.{IsChain, AreChained}
 use Rattle.oe_chains.specs.Laws.{IsWhole}
 use Rattle.oe_chains.proofs.WalkFacts.{of_key-append}
-use Rattle.oe_links.specs.Links.{LinkMaps, place_of, link_in, links_of, HasPlace, SamePlaces}
-use Rattle.oe_undo.specs.Undo.{GivesBack}
+use Rattle.oe_links.specs.declared.links.OwnedLink.{OwnedLink}
+use Rattle.oe_links.specs.Links.{place_of, link_in, HasPlace, SamePlaces}
+use Rattle.oe_undo.specs.Owners.{followed}
+use Rattle.oe_undo.specs.Undo.{UndoState, seen, GivesBack}
 use Rattle.oe_journal.proofs.LinkFacts.{same_links, no_links_set}
 
 -- a list that begins with nothing
-none_first : (xs ys : List Held) → xs ++ ys ≡ [] → xs ≡ []
+pub none_first : (xs ys : List Held) → xs ++ ys ≡ [] → xs ≡ []
 none_first [] ys e = refl
 none_first (x ∷ xs) ys e = cc
 
-none_after : (xs ys : List Held) → xs ++ ys ≡ [] → ys ≡ []
+pub none_after : (xs ys : List Held) → xs ++ ys ≡ [] → ys ≡ []
 none_after [] ys e = e
 none_after (x ∷ xs) ys e = cc
 
 module _ (k : Key) where
   -- where no record of a terminal below n is of the key
-  none_open : (f : ℕ → List Logged) (t n : ℕ) → t < n → of_key k (held_open f (all_below system n)) ≡ [] → of_key k (held_by (Open t) (f t)) ≡ []
+  pub none_open : (f : ℕ → List Logged) (t n : ℕ) → t < n → of_key k (held_open f (all_below system n)) ≡ [] → of_key k (held_by (Open t) (f t)) ≡ []
   none_open f t zero less e = absurd (omega (arith, less))
   none_open f t (suc m) less e =
       let parts = sym (of_key-append k (held_by (Open m) (f m)) (held_open f (all_below system m))) ∙ e in
@@ -49,23 +51,24 @@ module _ (k : Key) where
   some_link h l [] some c = absurd (some refl)
   some_link h l (r ∷ rs) some c = ap is_some c.0.leads
 
-has_link : (p : Option (Option Link)) → is_some (link_in p) ≡ true → is_some p ≡ true
-has_link None h = h
-has_link (Some l) h = refl
+has_link : (u : SegmentLog) (p : Option (Option OwnedLink)) → is_some (followed u (link_in p)) ≡ true → is_some p ≡ true
+has_link u None h = h
+has_link u (Some l) h = refl
 
-known_by_record : (u : SegmentLog) (t : ℕ) (r : Logged) (rs : List Logged) → records_at u t ≡ r ∷ rs → t < length u.terminals
+pub known_by_record : (u : SegmentLog) (t : ℕ) (r : Logged) (rs : List Logged) → records_at u t ≡ r ∷ rs → t < length u.terminals
 known_by_record u t r rs e =
     elim (cases_lt t (length u.terminals)) [
       | inl within ↦ within
       | inr past ↦ let none : ◌≡◌ {A = List Logged} [] (r ∷ rs) = ap (λ z. records_in z.active) (sym (get_or_past u.terminals t idle past)) ∙ e in cc
     ]
 
-pub linked_place : (u : SegmentLog) (links : LinkMaps) (t : ℕ) (r : Logged) (rs : List Logged) → IsWhole u → AreChained u (links_of links)
-    → records_at u t ≡ r ∷ rs → HasPlace links (record_key r.before)
-linked_place u links t r rs whole chained e =
+pub linked_place : (s : UndoState) (t : ℕ) (r : Logged) (rs : List Logged) → IsWhole s.log → AreChained s.log (seen s) → records_at s.log t ≡ r ∷ rs
+    → HasPlace s.links (record_key r.before)
+linked_place s t r rs whole chained e =
+    let u : SegmentLog = s.log in
     let k : Key = record_key r.before in
     let less : t < terminal_limit = subst (λ n. t < n) whole.terminals (known_by_record u t r rs e) in
-    has_link (place_of links k) (some_link k (horizon u) (links_of links k) (of_key k (held u)) (λ none.
+    has_link u (place_of s.links k) (some_link k (horizon u) (seen s k) (of_key k (held u)) (λ none.
     let open_none = none_first _ _ (sym (of_key-append k (held_open (records_at u) (all_below system terminal_limit)) (held_commits (total_count u) u.committed)) ∙ none) in
     let own_none = none_open k (records_at u) t terminal_limit less open_none in
     let own : of_key k (held_by (Open t) (records_at u t)) ≡ record { logged = r; holder = Open t } ∷ of_key k (held_by (Open t) rs) =
@@ -74,10 +77,10 @@ linked_place u links t r rs whole chained e =
     cc) (chained k))
 
 -- so the newest record that is taken off leaves the places
-pub same_given_back : (u : SegmentLog) (old new : LinkMaps) (t : ℕ) → IsWhole u → AreChained u (links_of old) → GivesBack t (records_at u t) old new
-    → SamePlaces old new
-same_given_back u old new t whole chained back = go (records_at u t) refl back
+pub same_given_back : (old new : UndoState) (t : ℕ) → IsWhole old.log → AreChained old.log (seen old) → GivesBack old new t (records_at old.log t)
+    → SamePlaces old.links new.links
+same_given_back old new t whole chained back = go (records_at old.log t) refl back
   where
-    go : (rs : List Logged) → records_at u t ≡ rs → GivesBack t rs old new → SamePlaces old new
-    go [] e back = no_links_set old new back
-    go (r ∷ rs) e back = same_links old new (record_key r.before) _ back (linked_place u old t r rs whole chained e)
+    go : (rs : List Logged) → records_at old.log t ≡ rs → GivesBack old new t rs → SamePlaces old.links new.links
+    go [] e back = no_links_set old.links new.links back
+    go (r ∷ rs) e back = same_links old.links new.links (record_key r.before) back.link back.set (linked_place old t r rs whole chained e)

@@ -1,24 +1,24 @@
 -- Which keys have places for their links, after a link is set, and after a record that was pushed is taken off again.
-use Rattle.std.proofs.Common.{◌≡◌, ℕ, Bool, true, false, cond, refl, sym, ap, ◌∙◌, subst, inl, inr, List, [], ◌∷◌, Option, None, Some, is_some}
-use Rattle.std.specs.Prelude.{IsSome, option_map}
+use Rattle.std.proofs.Common.{◌≡◌, Bool, true, false, cond, refl, sym, ap, ◌∙◌, subst, inl, inr, Option, None, Some, is_some}
+use Rattle.std.specs.Prelude.{IsSome}
 use Rattle.oe_keys.specs.declared.keys.Key.{Key}
 use Rattle.oe_model.specs.Rows.{is_key}
 use Rattle.oe_model.proofs.RowFacts.{key_true, key_refl}
 use Rattle.oe_store.specs.Places.{AddsPlace}
 use Rattle.oe_store.specs.Places as tables
-use Rattle.oe_segments.specs.Segments.{Committed}
-use Rattle.oe_chains.specs.declared.links.Link.{Link}
+use Rattle.oe_links.specs.declared.links.OwnedLink.{OwnedLink}
 use Rattle.oe_links.specs.Links.{LinkMaps, place_of, link_in, links_of, HasPlace, SetsLink, SamePlaces}
-use Rattle.oe_undo.specs.Undo.{TakesMoment}
+use Rattle.oe_undo.specs.Owners.{followed}
+use Rattle.oe_undo.specs.Undo.{UndoState, seen}
 use Rattle.oe_journal.specs.Linked.{MayChange, AreLinked, SameLinks}
 
 -- ---- a key's link is set
 
-has_still : (b : Bool) (l : Option Link) (old new : Option (Option Link)) → new ≡ cond b (Some l) old → IsSome old → IsSome new
+has_still : (b : Bool) (l : Option OwnedLink) (old new : Option (Option OwnedLink)) → new ≡ cond b (Some l) old → IsSome old → IsSome new
 has_still true l old new e h = ap is_some e
 has_still false l old new e h = ap is_some e ∙ h
 
-module _ (old new : LinkMaps) (own : Key) (l : Option Link) (set : SetsLink old new own l) where
+module _ (old new : LinkMaps) (own : Key) (l : Option OwnedLink) (set : SetsLink old new own l) where
   -- no place is lost
   pub more_links : (k : Key) → HasPlace old k → HasPlace new k
   more_links k h = has_still (is_key own k) l (place_of old k) (place_of new k) (set k) h
@@ -35,14 +35,16 @@ module _ (old new : LinkMaps) (own : Key) (l : Option Link) (set : SetsLink old 
       there true e h = subst (HasPlace old) (key_true own k e) had
       there false e h = subst IsSome (set k ∙ ap (λ b. cond b (Some l) (place_of old k)) e) h
 
--- it is set, and then it is as it was
-pub given_back : (old mid new : LinkMaps) (own : Key) (l p : Option Link) → SetsLink old mid own l → SetsLink mid new own p → p ≡ links_of old own
-    → SameLinks old new
-given_back old mid new own l p set back was k = ap link_in (back k) ∙ go (is_key own k) refl
+-- it is set, and then it leads again where it led, in the same log
+pub given_back : (old mid new : UndoState) (own : Key) (l p : Option OwnedLink) → SetsLink old.links mid.links own l → SetsLink mid.links new.links own p
+    → new.log ≡ old.log → followed new.log p ≡ seen old own → SameLinks old new
+given_back old mid new own l p set back log was k = ap (λ z. followed new.log (link_in z)) (back k) ∙ go (is_key own k) refl
   where
-    go : (b : Bool) → is_key own k ≡ b → link_in (cond b (Some p) (place_of mid k)) ≡ links_of old k
-    go true e = was ∙ ap (links_of old) (key_true own k e)
-    go false e = ap link_in (set k ∙ ap (λ b. cond b (Some l) (place_of old k)) e)
+    go : (b : Bool) → is_key own k ≡ b → followed new.log (link_in (cond b (Some p) (place_of mid.links k))) ≡ seen old k
+    go true e = was ∙ ap (seen old) (key_true own k e)
+    go false e =
+        ap (λ z. followed new.log (link_in z)) (set k ∙ ap (λ b. cond b (Some l) (place_of old.links k)) e)
+        ∙ ap (λ v. followed v (links_of old.links k)) log
 
 -- ---- keys of the tables have places for their links
 
@@ -72,14 +74,3 @@ then_links old mid new a b k = (λ h. (a k).0 ((b k).0 h), λ h. (b k).1 ((a k).
 
 pub no_links_set : (old new : LinkMaps) → new ≡ old → SamePlaces old new
 no_links_set old new e = subst (SamePlaces old) (sym e) (λ k. (λ h. h, λ h. h))
-
-mapped : (f : Option Link → Option Link) (o : Option (Option Link)) → is_some (option_map f o) ≡ is_some o
-mapped f None = refl
-mapped f (Some l) = refl
-
--- where links are given another holder
-pub moment_taken : (m : ℕ) (cs : List Committed) (old new : LinkMaps) → TakesMoment m cs old new → SamePlaces old new
-moment_taken m [] old new e k = no_links_set old new e k
-moment_taken m (c ∷ cs) old new taken k =
-    let same : is_some (place_of new k) ≡ is_some (place_of old k) = ap is_some (taken k) ∙ mapped _ (place_of old k) in
-    (λ h. sym same ∙ h, λ h. same ∙ h)

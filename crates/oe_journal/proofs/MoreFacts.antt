@@ -13,14 +13,15 @@ use Rattle.oe_log.specs.Log.{Logged, logged}
 use Rattle.oe_segments.specs.Segments.{SegmentLog, Open as OpenSegment, active_at, records_at, popped}
 use Rattle.oe_segments.specs.Stands.{model_records}
 use Rattle.oe_segments.specs.Laws.{StandsWith}
-use Rattle.oe_chains.specs.declared.links.Holder.TheVariants.{Open}
-use Rattle.oe_chains.specs.Chains.{link_from}
-use Rattle.oe_links.specs.Links.{LinkMaps, HasPlace, SetsLink}
-use Rattle.oe_undo.specs.Undo.{UndoState, GivesBack}
+use Rattle.oe_chains.specs.Held.{horizon}
+use Rattle.oe_chains.specs.Laws.{IsWhole}
+use Rattle.oe_links.specs.Links.{HasPlace, links_of}
+use Rattle.oe_undo.specs.Undo.{UndoState, seen, unended, IsGivenBack, GivesBack}
 use Rattle.oe_journal.specs.Linked.{AreLinked, SameLinks}
 use Rattle.oe_journal.specs.Records.{record_in}
 use Rattle.oe_journal.specs.Writes.{HasMore, IsRecorded}
 use Rattle.oe_journal.proofs.LogFacts.{some_of, records_open, records_size, records_are, records_stand, pushed_popped}
+use Rattle.oe_undo.proofs.OwnerFacts.{followed_unended}
 use Rattle.oe_journal.proofs.LinkFacts.{more_links, own_link, given_back, still_linked, one_more_linked}
 
 -- what is said of an option's value
@@ -51,7 +52,7 @@ module _ (b : Record) (u u' : UndoState) (t : ℕ) (h : HasMore b u u' t) where
 
   -- no place of a link is lost
   has_place_still : (k : Key) → HasPlace u.links k → HasPlace u'.links k
-  has_place_still = more_links u.links u'.links (record_key b) _ h.pushed.links
+  has_place_still = more_links u.links u'.links (record_key b) _ h.pushed.link
 
 -- in the theory's words
 pub more_stands : (b : Record) (c : Change) (old new : Places) (u u' : UndoState) (t : ℕ) (o : OpenSegment) → active_at u.log t ≡ Some o
@@ -74,7 +75,7 @@ recorded_linked c old new u u' t linked h =
     let b : Record = record_in c (rows old) in
     let own : record_key b ≡ key_of c = record_key_of c (row_at (rows old) (key_of c)) in
     one_more_linked old new u.links u'.links (key_of c) (has_place_still b u u' t h.has_more)
-    (subst (HasPlace u'.links) own (own_link u.links u'.links (record_key b) _ h.has_more.pushed.links)) h.applies.places linked
+    (subst (HasPlace u'.links) own (own_link u.links u'.links (record_key b) _ h.has_more.pushed.link)) h.applies.places linked
 
 -- ---- and that is taken off again
 
@@ -92,24 +93,28 @@ module _ (o : Option Record) (u u' : UndoState) (t : ℕ) (is : is_some (active_
       let a = some_of (active_at u.log t) is in
       pop ∙ ap (λ z. popped z t) b.2.pushed.log ∙ pushed_popped u.log t a.0 (pushed_record b.0 u u' t b.2) a.1
 
-  -- the record's key has its previous link again
-  key_given_back : (links : LinkMaps) → GivesBack t (records_at u'.log t) u'.links links
-      → (b : Record) × (h : HasMore b u u' t) × SetsLink u'.links links (record_key b) (link_from (Open t) h.previous)
-  key_given_back links back =
+  -- the record's key is given its previous link back
+  key_given_back : (x : UndoState) → GivesBack u' x t (records_at u'.log t)
+      → (b : Record) × (h : HasMore b u u' t) × IsGivenBack u' x t (pushed_record b u u' t h)
+  key_given_back x back =
       let b = there_is (λ b. HasMore b u u' t) o push in
       let a = some_of (active_at u.log t) is in
       let rs = pushed_record b.0 u u' t b.2 ∷ records_at u.log t in
       let newest : records_at u'.log t ≡ rs = ap (λ z. records_at z t) b.2.pushed.log ∙ records_are u.log t a.0 rs a.1 in
-      (b.0, b.2, subst (λ z. GivesBack t z u'.links links) newest back)
+      (b.0, b.2, subst (GivesBack u' x t) newest back)
 
-  pub links_given_back : (links : LinkMaps) → GivesBack t (records_at u'.log t) u'.links links → SameLinks u.links links
-  links_given_back links back =
-      let b = key_given_back links back in
-      given_back u.links u'.links links (record_key b.0) _ _ b.1.pushed.links b.2 b.1.leads
+  -- which leads where it led, since its commit is kept
+  pub links_given_back : (x : UndoState) → IsWhole x.log → x.log ≡ popped u'.log t → GivesBack u' x t (records_at u'.log t) → SameLinks u x
+  links_given_back x whole pop back =
+      let log : x.log ≡ u.log = unpushed x.log pop in
+      let b = key_given_back x back in
+      given_back u u' x (record_key b.0) _ b.2.link b.1.pushed.link b.2.set log
+      (b.2.leads ∙ ap (unended (horizon x.log)) b.1.leads ∙ ap (λ v. unended (horizon v) (seen u (record_key b.0))) log
+      ∙ followed_unended u.log (links_of u.links (record_key b.0)) (subst IsWhole log whole).commits)
 
   -- and the keys of the tables have their places
-  pub unpushed_linked : (ts : Places) (links : LinkMaps) → GivesBack t (records_at u'.log t) u'.links links → AreLinked ts u.links → AreLinked ts links
-  unpushed_linked ts links back linked =
-      let b = key_given_back links back in
-      still_linked ts u.links links
-      (λ k had. more_links u'.links links (record_key b.0) _ b.2 k (has_place_still b.0 u u' t b.1 k had)) linked
+  pub unpushed_linked : (ts : Places) (x : UndoState) → GivesBack u' x t (records_at u'.log t) → AreLinked ts u.links → AreLinked ts x.links
+  unpushed_linked ts x back linked =
+      let b = key_given_back x back in
+      still_linked ts u.links x.links
+      (λ k had. more_links u'.links x.links (record_key b.0) b.2.link b.2.set k (has_place_still b.0 u u' t b.1 k had)) linked

@@ -4,7 +4,8 @@ use Rattle.oe_keys.specs.declared.keys.Key.{Key}
 use Rattle.oe_keys.specs.declared.keys.Key.TheVariants as key
 use Rattle.oe_store.specs.Places.{Places}
 use Rattle.oe_store.specs.Places as tables
-use Rattle.oe_links.specs.Links.{LinkMaps, HasPlace, links_of}
+use Rattle.oe_links.specs.Links.{LinkMaps, HasPlace}
+use Rattle.oe_undo.specs.Undo.{UndoState, seen}
 
 -- rows of this key's table are changed; those of ITEM never are
 abbrev pub MayChange : Key → Type 0
@@ -16,6 +17,6 @@ MayChange _ = Unit {0}
 abbrev pub AreLinked : Places → LinkMaps → Type 0
 AreLinked ts links = (k : Key) → MayChange k → tables.HasPlace ts k → HasPlace links k
 
--- each key has the same link, or none
-abbrev pub SameLinks : LinkMaps → LinkMaps → Type 0
-SameLinks old new = (k : Key) → links_of new k ≡ links_of old k
+-- each key leads where it led
+abbrev pub SameLinks : UndoState → UndoState → Type 0
+SameLinks old new = (k : Key) → seen new k ≡ seen old k

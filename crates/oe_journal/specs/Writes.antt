@@ -17,8 +17,7 @@ use Rattle.oe_segments.specs.Stands.{undo_of}
 use Rattle.oe_segments.specs.Laws.{StandsWith}
 use Rattle.oe_chains.specs.declared.links.Holder.TheVariants.{Open}
 use Rattle.oe_chains.specs.Chains.{link_from}
-use Rattle.oe_links.specs.Links.{links_of}
-use Rattle.oe_undo.specs.Undo.{UndoState, HasPushed}
+use Rattle.oe_undo.specs.Undo.{UndoState, seen, HasPushed}
 use Rattle.oe_journal.specs.Records.{record_in, record_of_write, record_of_change}
 
 -- a change is accepted and made, and its record would have the row before
@@ -40,7 +39,7 @@ RefusesWrite w s e = IsSomeAnd (written w (rows s)) (λ c. IsRefused c s e)
 -- a terminal's open segment has this record more, with its key's link, which leads to it then
 pub record HasMore (b : Record) (u u' : UndoState) (t : ℕ) : Type 0 where
   pub previous : Previous
-  pub leads : link_from (Open t) previous ≡ links_of u.links (record_key b)
+  pub leads : link_from (Open t) previous ≡ seen u (record_key b)
   pub pushed : HasPushed u u' t previous b
 
 -- it has the write's record more

@@ -45,7 +45,7 @@ pub fn change(
     ensures cause { IfErr result (CantChange (change_of change) tables.old undo.old.log segment) }
     ensures err { OnErr result (tables.new ≡ tables.old) }
     ensures err_undo { OnErr result (undo.new.log ≡ undo.old.log) }
-    ensures err_links { OnErr result (SameLinks undo.old.links undo.new.links) }
+    ensures err_links { OnErr result (SameLinks undo.old undo.new) }
 {
     if let Err(refusal) = push_changed(tables, undo, segment, &change) {
         return Err(refusal);
@@ -54,6 +54,8 @@ pub fn change(
         Ok(_before) => Ok(()),
         Err(refusal) => {
             undo.pop(segment);
+            // For the proof: the log keeps no more commits than were made.
+            undo.is_chained();
             Err(refusal)
         }
     }

@@ -42,7 +42,7 @@ pub fn write(
     ensures cause { IfErr result (CantWrite write.now tables.old undo.old.log segment) }
     ensures err { OnErr result (tables.new ≡ tables.old) }
     ensures err_undo { OnErr result (undo.new.log ≡ undo.old.log) }
-    ensures err_links { OnErr result (SameLinks undo.old.links undo.new.links) }
+    ensures err_links { OnErr result (SameLinks undo.old undo.new) }
 {
     if let Err(refusal) = push(tables, undo, segment, write) {
         return Err(refusal);
@@ -51,6 +51,8 @@ pub fn write(
         Ok(()) => Ok(()),
         Err(refusal) => {
             undo.pop(segment);
+            // For the proof: the log keeps no more commits than were made.
+            undo.is_chained();
             Err(refusal)
         }
     }

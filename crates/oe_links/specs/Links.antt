@@ -8,22 +8,22 @@ use Rattle.oe_keys.specs.declared.keys.Key.{Key}
 use Rattle.oe_keys.specs.declared.keys.Key.TheVariants as key
 use Rattle.oe_table.specs.Table.{rows_of}
 use Rattle.oe_model.specs.Rows.{is_key}
-use Rattle.oe_chains.specs.declared.links.Link.{Link}
+use Rattle.oe_links.specs.declared.links.OwnedLink.{OwnedLink}
 
 -- of each key that has a place, its link, if it has one
 pub record LinkMaps : Type 0 where
-  pub warehouses : FinMap warehouse_cmp (Option Link)
-  pub districts : FinMap district_cmp (Option Link)
-  pub customers : FinMap customer_cmp (Option Link)
-  pub histories : FinMap history_cmp (Option Link)
-  pub new_orders : FinMap new_order_cmp (Option Link)
-  pub orders : FinMap order_cmp (Option Link)
-  pub order_lines : FinMap order_line_cmp (Option Link)
-  pub items : FinMap item_cmp (Option Link)
-  pub stocks : FinMap stock_cmp (Option Link)
+  pub warehouses : FinMap warehouse_cmp (Option OwnedLink)
+  pub districts : FinMap district_cmp (Option OwnedLink)
+  pub customers : FinMap customer_cmp (Option OwnedLink)
+  pub histories : FinMap history_cmp (Option OwnedLink)
+  pub new_orders : FinMap new_order_cmp (Option OwnedLink)
+  pub orders : FinMap order_cmp (Option OwnedLink)
+  pub order_lines : FinMap order_line_cmp (Option OwnedLink)
+  pub items : FinMap item_cmp (Option OwnedLink)
+  pub stocks : FinMap stock_cmp (Option OwnedLink)
 
 -- what stands at a key: nothing, an empty place, or a link
-abbrev pub place_of : LinkMaps → Key → Option (Option Link)
+abbrev pub place_of : LinkMaps → Key → Option (Option OwnedLink)
 place_of m (key.Warehouse k) = get m.warehouses k
 place_of m (key.District k) = get m.districts k
 place_of m (key.Customer k) = get m.customers k
@@ -39,12 +39,12 @@ abbrev pub HasPlace : LinkMaps → Key → Type 0
 HasPlace m k = IsSome (place_of m k)
 
 -- the link in a place, if there is one
-abbrev pub link_in : Option (Option Link) → Option Link
+abbrev pub link_in : Option (Option OwnedLink) → Option OwnedLink
 link_in None = None
 link_in (Some l) = l
 
 -- the link of a key, if it has one
-abbrev pub links_of : LinkMaps → Key → Option Link
+abbrev pub links_of : LinkMaps → Key → Option OwnedLink
 links_of m k = link_in (place_of m k)
 
 -- no key has a place
@@ -70,11 +70,11 @@ abbrev pub SetsAt : {K X : Type 0} (cmp : K → K → Ordering) → List (K × O
 SetsAt {K = K} cmp old new own p = (k : K) → stands_at cmp new k ≡ cond (eq_by_cmp cmp own k) p (stands_at cmp old k)
 
 -- the same of all tables
-abbrev pub SetsPlace : LinkMaps → LinkMaps → Key → Option (Option Link) → Type 0
+abbrev pub SetsPlace : LinkMaps → LinkMaps → Key → Option (Option OwnedLink) → Type 0
 SetsPlace old new own p = (k : Key) → place_of new k ≡ cond (is_key own k) p (place_of old k)
 
 -- the key has this link, or an empty place
-abbrev pub SetsLink : LinkMaps → LinkMaps → Key → Option Link → Type 0
+abbrev pub SetsLink : LinkMaps → LinkMaps → Key → Option OwnedLink → Type 0
 SetsLink old new own l = SetsPlace old new own (Some l)
 
 -- the same keys have places

@@ -4,4 +4,4 @@
 
 pub mod links;
 
-pub use links::Links;
+pub use links::{Links, OwnedLink};

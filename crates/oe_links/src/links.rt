@@ -2,33 +2,41 @@
 //!
 //! A table of links has a key for each place, and there the key's link, if it has one. Only `add_place` and `lead` take memory, for a
 //! key without a place; where that is refused the links are as before.
-ghost use Rattle.std.specs.Prelude.{◌≡◌, Some, None, IsSome, OnOk, OnErr, option_map};
-ghost use Rattle.oe_chains.specs.Chains.{with_holder};
+ghost use Rattle.std.specs.Prelude.{◌≡◌, Some, None, IsSome, OnOk, OnErr};
 ghost use Rattle.oe_links.specs.Links.{place_of, links_of, link_in, HasPlace, no_links, stands_at, SetsAt, SetsPlace, SetsLink};
 
-use oe_chains::{Holder, Link};
 use oe_keys::{
     CustomerKey, DistrictKey, HistoryKey, ItemKey, Key, NewOrderKey, OrderKey, OrderLineKey,
     StockKey, WarehouseKey,
 };
+use oe_layout::RecordAddress;
+use oe_segments::SegmentOwner;
 use oe_table::keys::ShelvedKey;
 use oe_table::shelves::Shelves;
 use oe_table::tables::NoMemory;
 use std::alloc::Global;
 use std::marker::Model;
 
+/// Where a key's newest record lies, and which transaction's it is. Whether that is open, or at which moment it committed, is the log's
+/// to know, so that no commit changes a link.
+#[derive(Clone, Copy, Debug, PartialEq, Eq)]
+pub struct OwnedLink {
+    pub address: RecordAddress,
+    pub owner: SegmentOwner,
+}
+
 /// The links of keys, each in a place of its own.
 #[derive(Drop)]
 pub struct Links {
-    warehouses: Shelves<WarehouseKey, Option<Link>>,
-    districts: Shelves<DistrictKey, Option<Link>>,
-    customers: Shelves<CustomerKey, Option<Link>>,
-    histories: Shelves<HistoryKey, Option<Link>>,
-    new_orders: Shelves<NewOrderKey, Option<Link>>,
-    orders: Shelves<OrderKey, Option<Link>>,
-    order_lines: Shelves<OrderLineKey, Option<Link>>,
-    items: Shelves<ItemKey, Option<Link>>,
-    stocks: Shelves<StockKey, Option<Link>>,
+    warehouses: Shelves<WarehouseKey, Option<OwnedLink>>,
+    districts: Shelves<DistrictKey, Option<OwnedLink>>,
+    customers: Shelves<CustomerKey, Option<OwnedLink>>,
+    histories: Shelves<HistoryKey, Option<OwnedLink>>,
+    new_orders: Shelves<NewOrderKey, Option<OwnedLink>>,
+    orders: Shelves<OrderKey, Option<OwnedLink>>,
+    order_lines: Shelves<OrderLineKey, Option<OwnedLink>>,
+    items: Shelves<ItemKey, Option<OwnedLink>>,
+    stocks: Shelves<StockKey, Option<OwnedLink>>,
 }
 
 impl Model for Links {
@@ -57,7 +65,7 @@ impl Model for Links {
 
 // The link in a key's place, if there is one.
 #[inline(always)]
-fn link_at<K: ShelvedKey>(links: &Shelves<K, Option<Link>>, key: &K) -> Option<Link>
+fn link_at<K: ShelvedKey>(links: &Shelves<K, Option<OwnedLink>>, key: &K) -> Option<OwnedLink>
     ensures { result ≡ link_in (stands_at K.cmp links.now key.now) }
 {
     match links.get(key) {
@@ -68,7 +76,7 @@ fn link_at<K: ShelvedKey>(links: &Shelves<K, Option<Link>>, key: &K) -> Option<L
 
 // Gives a key without a place an empty one.
 fn add_place_in<K: ShelvedKey + Copy + Drop>(
-    links: &mut Shelves<K, Option<Link>>,
+    links: &mut Shelves<K, Option<OwnedLink>>,
     key: &K,
 ) -> Result<(), NoMemory>
     ensures added { OnOk result (SetsAt K.cmp links.old links.new key.now
@@ -85,9 +93,9 @@ fn add_place_in<K: ShelvedKey + Copy + Drop>(
 // Gives a key its link, where it stands or in a new place.
 #[inline(always)]
 fn lead_in<K: ShelvedKey + Copy + Drop>(
-    links: &mut Shelves<K, Option<Link>>,
+    links: &mut Shelves<K, Option<OwnedLink>>,
     key: &K,
-    link: Link,
+    link: OwnedLink,
 ) -> Result<(), NoMemory>
     ensures leads { OnOk result (SetsAt K.cmp links.old links.new key.now
         (Some (Some link))) }
@@ -103,7 +111,11 @@ fn lead_in<K: ShelvedKey + Copy + Drop>(
 
 // Sets the link in a key's place.
 #[inline(always)]
-fn set_in<K: ShelvedKey>(links: &mut Shelves<K, Option<Link>>, key: &K, link: Option<Link>)
+fn set_in<K: ShelvedKey>(
+    links: &mut Shelves<K, Option<OwnedLink>>,
+    key: &K,
+    link: Option<OwnedLink>,
+)
     requires { IsSome (stands_at K.cmp links.old key.now) }
     ensures { SetsAt K.cmp links.old links.new key.now
         (Some link) }
@@ -112,33 +124,8 @@ fn set_in<K: ShelvedKey>(links: &mut Shelves<K, Option<Link>>, key: &K, link: Op
     *place = link;
 }
 
-// The link with this holder.
-#[inline(always)]
-fn held(link: &Option<Link>, holder: &Holder) -> Option<Link>
-    ensures { result ≡ with_holder (λ h. holder.now) link.now }
-{
-    match link {
-        Some(link) => Some(Link {
-            address: link.address,
-            holder: *holder,
-        }),
-        None => None,
-    }
-}
-
-// Gives the link in a key's place, if there is one, this holder.
-#[inline(always)]
-fn give_holder_in<K: ShelvedKey>(links: &mut Shelves<K, Option<Link>>, key: &K, holder: &Holder)
-    ensures { SetsAt K.cmp links.old links.new key.now
-        (option_map (with_holder (λ h. holder.now)) (stands_at K.cmp links.old key.now)) }
-{
-    if let Some(place) = links.row_mut(key) {
-        *place = held(place, holder);
-    }
-}
-
 // Gives up a key's place, which is blanked first, since only a blanked one is given up.
-fn give_up_in<K: ShelvedKey + Drop>(links: &mut Shelves<K, Option<Link>>, key: &K)
+fn give_up_in<K: ShelvedKey + Drop>(links: &mut Shelves<K, Option<OwnedLink>>, key: &K)
     ensures { SetsAt K.cmp links.old links.new key.now None }
 {
     if links.get(key).is_none() {
@@ -167,7 +154,7 @@ impl Links {
     }
 
     /// The link of a key, if it has one.
-    pub fn link(&self, key: &Key) -> Option<Link>
+    pub fn link(&self, key: &Key) -> Option<OwnedLink>
         ensures { result ≡ links_of self.now key.now }
     {
         match key {
@@ -204,7 +191,7 @@ impl Links {
     }
 
     /// Gives a key its link, and the place for it where it has none; `NoMemory` where memory for a place was refused.
-    pub fn lead(&mut self, key: &Key, link: Link) -> Result<(), NoMemory>
+    pub fn lead(&mut self, key: &Key, link: OwnedLink) -> Result<(), NoMemory>
         ensures leads { OnOk result (SetsLink self.old self.new key.now (Some link)) }
         ensures no_place { OnErr result (place_of self.old key.now ≡ None) }
         ensures err { OnErr result (self.new ≡ self.old) }
@@ -223,7 +210,7 @@ impl Links {
     }
 
     /// Sets the link of a key that has a place, or leaves the place empty. It takes no memory.
-    pub fn set(&mut self, key: &Key, link: Option<Link>)
+    pub fn set(&mut self, key: &Key, link: Option<OwnedLink>)
         requires { HasPlace self.old key.now }
         ensures { SetsLink self.old self.new key.now link }
     {
@@ -237,24 +224,6 @@ impl Links {
             Key::OrderLine(key) => set_in(&mut self.order_lines, key, link),
             Key::Item(key) => set_in(&mut self.items, key, link),
             Key::Stock(key) => set_in(&mut self.stocks, key, link),
-        }
-    }
-
-    /// Says of a key's link, if it has one, that its record is of this holder. It takes no memory.
-    pub fn give_holder(&mut self, key: &Key, holder: &Holder)
-        ensures { SetsPlace self.old self.new key.now
-            (option_map (with_holder (λ h. holder.now)) (place_of self.old key.now)) }
-    {
-        match key {
-            Key::Warehouse(key) => give_holder_in(&mut self.warehouses, key, holder),
-            Key::District(key) => give_holder_in(&mut self.districts, key, holder),
-            Key::Customer(key) => give_holder_in(&mut self.customers, key, holder),
-            Key::History(key) => give_holder_in(&mut self.histories, key, holder),
-            Key::NewOrder(key) => give_holder_in(&mut self.new_orders, key, holder),
-            Key::Order(key) => give_holder_in(&mut self.orders, key, holder),
-            Key::OrderLine(key) => give_holder_in(&mut self.order_lines, key, holder),
-            Key::Item(key) => give_holder_in(&mut self.items, key, holder),
-            Key::Stock(key) => give_holder_in(&mut self.stocks, key, holder),
         }
     }
 

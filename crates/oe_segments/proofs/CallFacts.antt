@@ -149,6 +149,16 @@ module _ (hs : List TerminalHead) (cs : List Head) (capacity : ℕ) (l : RingLog
       open_not_none (head_at hs t).active (some_open t (subst (λ z. IsSome (seen.active_at (stored hs cs l) z)) (sym tu) some))
       (ap (λ z. z.active) (sym (is_head t x high read)) ∙ none)
 
+  -- the open transaction of a terminal is its next
+  pub owner_is : (t u : ℕ) (x : TerminalHead) (a : SegmentOwner) → t ≡ u → t ≤ 64 → x ≡ get_or hs t x → x.active ≡ Some a
+      → a ≡ record { terminal = u; number = suc (seen.count_at (stored hs cs l) u) }
+  owner_is t u x a tu high read active =
+      let is = is_head t x high read in
+      let of = heads.is_of hs cs capacity l.newest l.opens t x a K.heads is active in
+      let count : x.count ≡ seen.count_at (stored hs cs l) u =
+      ap (λ z. z.count) is ∙ sym (count_is t) ∙ ap (λ z. seen.count_at (stored hs cs l) z) tu in
+      λ i. record { terminal = (of.terminal ∙ tu) i; number = (of.number ∙ ap suc count) i }
+
   pub moment_fits : l.newest < 999_999_999_999
   moment_fits = let most = heads.moment_fits hs cs capacity l.newest l.opens K.heads in omega arith
 

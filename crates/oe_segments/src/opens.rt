@@ -1,5 +1,5 @@
 //! Open segments.
-ghost use Rattle.std.specs.Prelude.{◌≡◌, ◌<◌, ◌↔◌, [], length, option_map, None, IsSome, IsErr, IfOk, OnOk, OnErr};
+ghost use Rattle.std.specs.Prelude.{◌≡◌, ◌<◌, ◌↔◌, suc, [], length, option_map, None, IsSome, IsErr, IfOk, OnOk, OnErr};
 ghost use Rattle.oe_model.specs.Lengths.{record_length};
 ghost use Rattle.oe_layout.specs.Records.{record_of_own, record_of_lent};
 ghost use Rattle.oe_log.specs.Log.{logged, newest_of, IsFull, IsFresh};
@@ -61,6 +61,18 @@ impl Segments {
         ensures fresh { IfOk result (IsFresh (log_of self.old)) }
     {
         self.log.push(segment.terminal(), lent)
+    }
+
+    /// Whose an open segment is: its terminal's next transaction.
+    pub fn owner(&self, segment: Segment) -> SegmentOwner
+        requires { IsSome (active_at self.now segment) }
+        ensures { result
+            ≡ record { terminal = segment; number = suc (count_at self.now segment) } }
+    {
+        match self.terminals[segment.terminal().get() as usize].active {
+            Some(owner) => owner,
+            None => unreachable!(),
+        }
     }
 
     /// A mark in an open segment: the number of its records.

@@ -1,16 +1,19 @@
 -- The undo log beside the links of keys to their newest records, and what each call makes of the two.
-use Rattle.std.specs.Prelude.{◌≡◌, ◌≢◌, ℕ, suc, List, [], ◌∷◌, Option, None, Some, option_map}
+use Rattle.std.specs.Prelude.{◌≡◌, ℕ, cond, List, [], ◌∷◌, Option, None, Some}
 use Rattle.oe_keys.specs.declared.keys.Key.{Key}
 use Rattle.oe_model.specs.Changes.{Record, record_key}
 use Rattle.oe_model.specs.Lengths.{record_length}
 use Rattle.oe_layout.specs.declared.links.RecordAddress.{RecordAddress}
 use Rattle.oe_layout.specs.declared.links.Previous.{Previous}
 use Rattle.oe_log.specs.Log.{Logged, logged, IsFull, IsFresh}
-use Rattle.oe_segments.specs.Segments.{SegmentLog, Committed as CommitSegment, pushed, total_count, log_of}
+use Rattle.oe_segments.specs.Segments.{SegmentLog, pushed, log_of}
 use Rattle.oe_chains.specs.declared.links.Link.{Link}
 use Rattle.oe_chains.specs.declared.links.Holder.TheVariants.{Open}
-use Rattle.oe_chains.specs.Chains.{link_from, holder_sealed, holder_reopened, with_holder}
-use Rattle.oe_links.specs.Links.{LinkMaps, place_of, links_of, HasPlace, SetsLink}
+use Rattle.oe_chains.specs.Held.{horizon, is_later}
+use Rattle.oe_chains.specs.Chains.{link_from}
+use Rattle.oe_links.specs.declared.links.OwnedLink.{OwnedLink}
+use Rattle.oe_links.specs.Links.{LinkMaps, place_of, links_of, SetsLink}
+use Rattle.oe_undo.specs.Owners.{followed, next_owner}
 use Rattle.oe_undo.specs.declared.pushes.CantPush.{CantPush}
 use Rattle.oe_undo.specs.declared.pushes.CantPush.TheVariants as cant_push
 
@@ -19,12 +22,16 @@ pub record UndoState : Type 0 where
   pub log : SegmentLog
   pub links : LinkMaps
 
+-- the link of a key, by what became of its transaction; none where the key has no record
+abbrev pub seen : UndoState → Key → Option Link
+seen s k = followed s.log (links_of s.links k)
+
 -- a terminal's open segment has this record more, at an address where no other is, and the record's key has a link to it
 pub record HasPushed (old new : UndoState) (t : ℕ) (p : Previous) (b : Record) : Type 0 where
   pub address : RecordAddress
   pub fresh : IsFresh (log_of old.log) address
   pub log : new.log ≡ pushed old.log t (logged address p b)
-  pub links : SetsLink old.links new.links (record_key b) (Some (record { address = address; holder = Open t }))
+  pub link : SetsLink old.links new.links (record_key b) (Some (record { address = address; owner = next_owner old.log t }))
 
 -- why a record is not pushed: it fits neither the rest of the terminal's newest extent nor a free one; or it does, and memory was
 -- refused for the place of its key's link
@@ -33,17 +40,18 @@ IsUnpushed s t b cant_push.Full = IsFull (log_of s.log) t (record_length b)
 IsUnpushed s t b cant_push.NoMemory =
     (IsFull (log_of s.log) t (record_length b) → ⊥) × (place_of s.links (record_key b) ≡ None)
 
--- the newest of these records is taken off: its key has the record's previous link again
-abbrev pub GivesBack : ℕ → List Logged → LinkMaps → LinkMaps → Type 0
-GivesBack t [] old new = new ≡ old
-GivesBack t (r ∷ rs) old new = SetsLink old new (record_key r.before) (link_from (Open t) r.previous)
+-- the link, or none where its commit was given up at the horizon
+abbrev pub unended : ℕ → Option Link → Option Link
+unended h None = None
+unended h (Some l) = cond (is_later h l.holder) (Some l) None
 
--- each link that leads to a record of the terminal's open transaction has the moment of its commit
-abbrev pub GivesMoment : ℕ → ℕ → LinkMaps → LinkMaps → Type 0
-GivesMoment t m old new = (k : Key) → place_of new k ≡ option_map (with_holder (holder_sealed t m)) (place_of old k)
+-- the key's link leads to where the previous one of a record did that was taken off
+pub record IsGivenBack (old new : UndoState) (t : ℕ) (r : Logged) : Type 0 where
+  pub link : Option OwnedLink
+  pub set : SetsLink old.links new.links (record_key r.before) link
+  pub leads : followed new.log link ≡ unended (horizon new.log) (link_from (Open t) r.previous)
 
--- each link that leads to a record of the first of these commits, which is the one at this moment, is its terminal's again
-abbrev pub TakesMoment : ℕ → List CommitSegment → LinkMaps → LinkMaps → Type 0
-TakesMoment m [] old new = new ≡ old
-TakesMoment m (c ∷ cs) old new =
-    (k : Key) → place_of new k ≡ option_map (with_holder (holder_reopened c.terminal m)) (place_of old k)
+-- the newest of these records is taken off, and its key's link given back
+abbrev pub GivesBack : UndoState → UndoState → ℕ → List Logged → Type 0
+GivesBack old new t [] = new.links ≡ old.links
+GivesBack old new t (r ∷ rs) = IsGivenBack old new t r

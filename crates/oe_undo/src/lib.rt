@@ -3,6 +3,7 @@
 #![tactic(auto)]
 
 pub mod commits;
+mod moments;
 pub mod pushes;
 pub mod undo;
 pub mod walks;

@@ -1,5 +1,5 @@
 //! Records pushed and taken off, each with its key's link.
-ghost use Rattle.std.specs.Prelude.{◌≡◌, Option, option_map, IsSome, IfErr, OnOk, OnErr};
+ghost use Rattle.std.specs.Prelude.{◌≡◌, option_map, IsSome, IfErr, OnOk, OnErr};
 ghost use Rattle.oe_model.specs.Changes.{record_key};
 ghost use Rattle.oe_model.specs.Lengths.{record_length};
 ghost use Rattle.oe_layout.specs.Records.{record_of_lent, record_of_own};
@@ -7,12 +7,11 @@ ghost use Rattle.oe_log.specs.Log.{newest_of, IsFull};
 ghost use Rattle.oe_segments.specs.Segments.{active_at, records_at, popped, log_of};
 ghost use Rattle.oe_chains.specs.Chains.{link_from};
 ghost use Rattle.oe_chains.specs.declared.links.Holder.TheVariants.{Open};
-ghost use Rattle.oe_links.specs.Links.{links_of};
-ghost use Rattle.oe_undo.specs.Undo.{HasPushed, IsUnpushed, GivesBack};
+ghost use Rattle.oe_undo.specs.Undo.{seen, HasPushed, IsUnpushed, GivesBack};
 
 use crate::undo::Undo;
-use oe_chains::{Holder, Link};
 use oe_layout::{LinkedRecord, OwnRecord};
+use oe_links::OwnedLink;
 use oe_segments::Segment;
 
 /// Why a record was not pushed.
@@ -34,7 +33,7 @@ impl Undo {
     pub fn push(&mut self, segment: Segment, lent: &LinkedRecord<'_>) -> Result<(), CantPush>
         requires open { IsSome (active_at self.old.log segment) }
         requires linked { link_from (Open segment) lent.now.previous
-            ≡ links_of self.old.links (record_key (record_of_lent lent.now.record)) }
+            ≡ seen self.old (record_key (record_of_lent lent.now.record)) }
         ensures pushed { OnOk result
             (HasPushed self.old self.new segment lent.now.previous
             (record_of_lent lent.now.record)) }
@@ -46,13 +45,11 @@ impl Undo {
         ensures err { OnErr result (self.new ≡ self.old) }
     {
         self.is_chained();
+        let owner = self.segments.owner(segment);
         let Ok(address) = self.segments.push(segment, lent) else {
             return Err(CantPush::Full);
         };
-        let link = Link {
-            address,
-            holder: Holder::Open(segment.terminal()),
-        };
+        let link = OwnedLink { address, owner };
         match self.links.lead(&lent.record.key(), link) {
             Ok(()) => Ok(()),
             Err(_refused) => {
@@ -68,8 +65,7 @@ impl Undo {
     pub fn pop(&mut self, segment: Segment)
         requires { IsSome (active_at self.old.log segment) }
         ensures log { self.new.log ≡ popped self.old.log segment }
-        ensures links { GivesBack segment (records_at self.old.log segment)
-            self.old.links self.new.links }
+        ensures links { GivesBack self.old self.new segment (records_at self.old.log segment) }
     {
         let _taken = self.take_newest(segment);
     }
@@ -80,16 +76,15 @@ impl Undo {
         ensures newest { option_map record_of_own result
             ≡ option_map (λ x. x.1) (newest_of (records_at self.old.log segment)) }
         ensures log { self.new.log ≡ popped self.old.log segment }
-        ensures links { GivesBack segment (records_at self.old.log segment)
-            self.old.links self.new.links }
+        ensures links { GivesBack self.old self.new segment (records_at self.old.log segment) }
     {
         self.is_chained();
         let Some((previous, before)) = self.segments.newest_record(segment) else {
             return None;
         };
-        let holder = Holder::Open(segment.terminal());
+        let link = self.owned(segment, previous);
         self.segments.pop(segment);
-        self.links.set(&before.key(), holder.link_from(previous));
+        self.links.set(&before.key(), link);
         Some(before)
     }
 }

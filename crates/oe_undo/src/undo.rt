@@ -1,16 +1,20 @@
 //! The undo log beside the links.
-ghost use Rattle.std.specs.Prelude.{◌≡◌, ◌<◌, [], None, IsSome, IfOk, OnOk, OnErr};
+ghost use Rattle.std.specs.Prelude.{◌≡◌, ◌<◌, [], None, IsSome, IfSome, IfOk, OnOk, OnErr};
 ghost use Rattle.oe_segments.specs.Segments.{count_at, active_at, records_at, no_segments, opened, dropped};
 ghost use Rattle.oe_chains.specs.declared.links.Holder.TheVariants.{Open};
+ghost use Rattle.oe_chains.specs.Held.{horizon};
 ghost use Rattle.oe_chains.specs.Chains.{link_from, AreChained, IsAlone};
 ghost use Rattle.oe_chains.specs.Laws.{IsWhole};
 ghost use Rattle.oe_links.specs.Links.{place_of, links_of, no_links, SetsLink};
+ghost use Rattle.oe_undo.specs.Owners.{followed, holder_of, IsMade, IsOwner};
+ghost use Rattle.oe_undo.specs.Undo.{seen, unended};
 
-use oe_chains::{Link, previous_of};
+use crate::moments::{TerminalMoments, idle_moments};
+use oe_chains::{Holder, Link, previous_of};
 use oe_keys::Key;
 use oe_layout::Previous;
-use oe_links::Links;
-use oe_segments::{ExtentCount, Segment, Segments};
+use oe_links::{Links, OwnedLink};
+use oe_segments::{ExtentCount, Segment, SegmentOwner, Segments};
 use oe_table::tables::NoMemory;
 use oe_values::Terminal;
 use std::alloc::Global;
@@ -18,19 +22,22 @@ use std::marker::Model;
 
 /// The segments of undo records, with the link of each key to its newest record.
 ///
-/// By the invariant each key's link leads along all records of the key, from the newest on. All memory for records is taken by `new`,
-/// that for a segment's later commit by `open_segment`, and that for a key's link by `add_place`, or by `push` where the key has no place.
+/// A link keeps the transaction of its record, and what became of that is looked up, so that no commit changes a link. By the invariant
+/// each key's link, looked up so, leads along all records of the key, from the newest on. All memory for records is taken by `new`, that
+/// for a segment's later commit by `open_segment`, and that for a key's link by `add_place`, or by `push` where the key has no place.
 #[derive(Drop)]
 pub struct Undo {
     pub(crate) segments: Segments,
     pub(crate) links: Links,
+    // By the terminals' numbers; 0 is nobody's.
+    pub(crate) moments: Vec<TerminalMoments>,
 }
 
 impl Model for Undo {
     ghost use Rattle.std.specs.Coded.{codes};
     ghost use Rattle.std.specs.FinMap.{code as map_code};
     ghost use Rattle.oe_undo.specs.Undo.{UndoState};
-    ghost use Rattle.oe_chains.specs.Chains.{AreChained};
+    ghost use Rattle.oe_undo.specs.Owners.{IsLinked};
     ghost use Rattle.oe_links.specs.Links.{links_of};
 
     ghost Value = { UndoState };
@@ -39,7 +46,7 @@ impl Model for Undo {
 
     ghost view = { λ u. record { log = u.segments; links = u.links } };
 
-    ghost invariant = { λ u. AreChained u.segments (links_of u.links) };
+    ghost invariant = { λ u. IsLinked u.segments (links_of u.links) u.moments.items };
 }
 
 impl Undo {
@@ -49,9 +56,11 @@ impl Undo {
         ensures links { IfOk result (λ u. u.links ≡ no_links) }
     {
         let segments = Segments::new(alloc, extents)?;
+        let moments = idle_moments(alloc)?;
         Ok(Undo {
             segments,
             links: Links::new(alloc),
+            moments,
         })
     }
 
@@ -63,18 +72,41 @@ impl Undo {
         &self.segments
     }
 
-    /// The link of a key, if it has one.
-    pub fn link(&self, key: &Key) -> Option<Link>
-        ensures { result ≡ links_of self.now.links key.now }
+    /// What became of a transaction that has committed or is open; none where its commit was given up.
+    #[inline(always)]
+    fn holder(&self, owner: &SegmentOwner) -> Option<Holder>
+        ensures { result ≡ holder_of self.now.log owner.now }
     {
-        self.links.link(key)
+        let terminal = owner.terminal;
+        let count = self.segments.count(terminal);
+        let number = owner.number.get();
+        if count < number {
+            return Some(Holder::Open(terminal));
+        }
+        match self.moments[terminal.get() as usize].at((count - number) as usize) {
+            Some(moment) => Some(Holder::At(moment)),
+            None => None,
+        }
+    }
+
+    /// The link of a key to its newest record, if it has a record.
+    #[inline(always)]
+    pub fn link(&self, key: &Key) -> Option<Link>
+        ensures { result ≡ seen self.now key.now }
+    {
+        let link = self.links.link(key)?;
+        let holder = self.holder(&link.owner)?;
+        Some(Link {
+            address: link.address,
+            holder,
+        })
     }
 
     /// Each key's link leads along the key's records. It does nothing: it is for proofs above, which see no invariant.
     #[inline(always)]
     pub fn is_chained(&self)
         ensures whole { IsWhole self.now.log }
-        ensures chained { AreChained self.now.log (links_of self.now.links) }
+        ensures chained { AreChained self.now.log (seen self.now) }
     {
         self.segments.terminals_are();
         let _horizon = self.segments.horizon();
@@ -101,6 +133,7 @@ impl Undo {
         ensures links { self.new.links ≡ self.old.links }
         ensures err { OnErr result (self.new ≡ self.old) }
     {
+        self.moments[terminal.get() as usize].reserve()?;
         self.segments.open_segment(terminal)
     }
 
@@ -116,12 +149,36 @@ impl Undo {
 
     /// What leads to a key's newest record, to be written in a record of that key which an open segment gets next. No other open
     /// transaction has a record of the key.
+    #[inline(always)]
     pub fn previous(&self, segment: Segment, key: &Key) -> Previous
         requires { IsAlone self.now.log segment key.now }
-        ensures { link_from (Open segment) result ≡ links_of self.now.links key.now }
+        ensures { link_from (Open segment) result ≡ seen self.now key.now }
     {
         self.is_chained();
         let _terminal = segment.terminal();
-        previous_of(self.links.link(key))
+        previous_of(self.link(key))
+    }
+
+    /// The link to where a previous one leads, which a record of an open segment has; none where its commit was given up.
+    pub(crate) fn owned(&self, segment: Segment, previous: Previous) -> Option<OwnedLink>
+        requires open { IsSome (active_at self.now.log segment) }
+        requires made { IsMade self.now.log (link_from (Open segment) previous) }
+        ensures followed { followed self.now.log result
+            ≡ unended (horizon self.now.log) (link_from (Open segment) previous) }
+        ensures owner { IfSome result (λ l. IsOwner self.now.log l.owner) }
+    {
+        self.is_chained();
+        match previous {
+            Previous::Nothing => None,
+            Previous::Own(address) => Some(OwnedLink {
+                address,
+                owner: self.segments.owner(segment),
+            }),
+            Previous::Committed(address, moment) => {
+                let later = self.segments.newest().get().saturating_sub(moment.get());
+                let owner = self.segments.committed(later as usize)?;
+                Some(OwnedLink { address, owner })
+            }
+        }
     }
 }

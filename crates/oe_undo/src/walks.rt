@@ -105,7 +105,7 @@ impl Undo {
         chains_are_walked();
         self.is_chained();
         let _known = ticks.records;
-        let mut link = self.links.link(key);
+        let mut link = self.link(key);
         let mut oldest = None;
         while let Some(newer) = link {
             if !is_later(&newer.holder, moment) {

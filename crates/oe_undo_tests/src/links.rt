@@ -108,19 +108,21 @@ fn reopen(undo: &mut Undo) -> Option<u32> {
     Some(undo.reopen_newest()?.terminal().get())
 }
 
-/// The newest commit is terminal 5's again, and then a commit; then both commits are given up.
+/// The newest commit is terminal 5's again, and then a commit; then both commits are given up, and the link leads nowhere.
 fn given_up(undo: &mut Undo, key: &OrderKey) -> Option<bool> {
     let terminal = Terminal::new(5)?;
     let reopened = reopen(undo)?;
     let opened = link(undo, key);
     commit(undo, terminal)?;
     let first = undo.drop_oldest()?.terminal.get();
+    let kept = link(undo, key);
     let second = undo.drop_oldest()?.terminal.get();
     Some(
         reopened == 5
             && opened == open_at(1, 0, terminal)
             && (first, second) == (41, 5)
-            && link(undo, key) == made_at(1, 0, 2),
+            && kept == made_at(1, 0, 2)
+            && link(undo, key).is_none(),
     )
 }
 

@@ -2,7 +2,7 @@
 ghost use Rattle.std.specs.Prelude.{◌≡◌, IfSome};
 ghost use Rattle.oe_chains.specs.Chains.{link_from};
 ghost use Rattle.oe_chains.specs.declared.links.Holder.TheVariants.{Open};
-ghost use Rattle.oe_links.specs.Links.{links_of};
+ghost use Rattle.oe_undo.specs.Undo.{seen};
 
 use oe_chains::Holder;
 use oe_keys::{DistrictKey, Key, OrderKey};
@@ -68,7 +68,7 @@ pub(crate) fn begin(undo: &mut Undo, terminal: Terminal) -> Option<()> {
 /// What leads to a key's newest record, as a terminal sees it; none where that record is another's that is open.
 fn previous(undo: &Undo, terminal: Terminal, key: &Key) -> Option<Previous>
     ensures { IfSome result
-        (λ p. link_from (Open terminal) p ≡ links_of undo.now.links key.now) }
+        (λ p. link_from (Open terminal) p ≡ seen undo.now key.now) }
 {
     let Some(link) = undo.link(key) else {
         return Some(Previous::Nothing);

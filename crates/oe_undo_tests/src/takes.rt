@@ -1,10 +1,10 @@
 //! What no clause says: that the calls that take memory succeed where there is memory.
 use crate::made::{order_key, undo};
-use oe_chains::{Holder, Link};
 use oe_keys::{Key, StockKey};
 use oe_layout::RecordAddress;
-use oe_links::Links;
-use oe_values::{Moment, Number};
+use oe_links::{Links, OwnedLink};
+use oe_segments::SegmentOwner;
+use oe_values::{Number, Terminal, TransactionNumber};
 
 /// Stock (3, 41).
 fn stock() -> Option<Key> {
@@ -14,14 +14,17 @@ fn stock() -> Option<Key> {
     }))
 }
 
-/// A link to a record in extent 7 at offset 132, of the commit at moment 258.
-fn some_link() -> Option<Link> {
-    Some(Link {
+/// A link to a record in extent 7 at offset 132, of terminal 41's transaction 258.
+fn some_link() -> Option<OwnedLink> {
+    Some(OwnedLink {
         address: RecordAddress {
             extent: Number::new(7)?,
             offset: Number::new(132)?,
         },
-        holder: Holder::At(Moment::new(258)?),
+        owner: SegmentOwner {
+            terminal: Terminal::new(41)?,
+            number: TransactionNumber::new(258)?,
+        },
     })
 }
 

@@ -6,7 +6,7 @@ use Rattle.oe_store.specs.Places.{rows}
 use Rattle.oe_segments.specs.Segments.{SegmentLog, active_at, records_at, with_records}
 use Rattle.oe_segments.specs.Stands.{undo_of}
 use Rattle.oe_journal.specs.GoesBack.{CanUnwind}
-use Rattle.oe_journal.proofs.LinkFacts.{moment_taken, then_links, no_links_set}
+use Rattle.oe_journal.proofs.LinkFacts.{then_links, no_links_set}
 use Rattle.oe_journal.proofs.RewindFacts.{IsNewest, newest_found, newest_open, newest_gone, none_recorded}
 use Rattle.oe_journal.proofs.UndoneFacts.{own_places, own_can, newest_undone}
 use Rattle.oe_journal.proofs.rewinds.undo_newest.Goals.{After-segments-2, After-take_back}
@@ -75,6 +75,6 @@ returns-clause-log c =
 pub returns-clause-links : goal.returns-clause-links
 returns-clause-links c =
     then_links c.args.undo.now.links c.reopen_newest.new.self.links c.drop_segment.new.self.links
-    (moment_taken _ c.args.undo.now.log.committed c.args.undo.now.links c.reopen_newest.new.self.links c.reopen_newest.ensures.links)
+    (no_links_set c.args.undo.now.links c.reopen_newest.new.self.links c.reopen_newest.ensures.links)
     (then_links c.reopen_newest.new.self.links c.take_back.new.undo.links c.drop_segment.new.self.links c.take_back.ensures.links
     (no_links_set c.take_back.new.undo.links c.drop_segment.new.self.links c.drop_segment.ensures.links))

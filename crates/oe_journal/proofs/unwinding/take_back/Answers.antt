@@ -35,7 +35,7 @@ loop-preserved c =
           (record_of_own c.in-Some.newest) c.requires.open (sym c.in-Some.ensures.newest) c.undo.ensures.rows c.undo.ensures.places c.take_newest.ensures.log
           (subst (λ n. GoesBack c.args.tables.now c.loop.tables c.args.undo.now.log c.loop.undo.log c.args.segment c.args.count (records_at c.loop.undo.log c.args.segment) n) one_less c.loop.invariant.0),
       then_links c.args.undo.now.links c.loop.undo.links c.take_newest.new.self.links c.loop.invariant.1
-          (same_given_back c.loop.undo.log c.loop.undo.links c.take_newest.new.self.links c.args.segment c.is_chained.ensures.whole c.is_chained.ensures.chained c.take_newest.ensures.links),
+          (same_given_back c.loop.undo c.take_newest.new.self c.args.segment c.is_chained.ensures.whole c.is_chained.ensures.chained c.take_newest.ensures.links),
     )
 
 pub returns-clause-back : goal.returns-clause-back

@@ -29,7 +29,7 @@ pub returns-in-Err-set-clause-linked : goal.returns-in-Err-set-clause-linked
 returns-in-Err-set-clause-linked c =
     subst (λ ts. AreLinked ts c.pop.new.self.links) (sym c.in-Err-set.ensures.unchanged)
     (unpushed_linked (record_of_write c.args.write.now (rows c.args.tables.now)) c.args.undo.now c.push.new.undo c.args.segment c.requires.open c.in_default.ensures.pushed
-    c.args.tables.now c.pop.new.self.links c.pop.ensures.links c.requires.linked)
+    c.args.tables.now c.pop.new.self c.pop.ensures.links c.requires.linked)
 
 pub returns-in-Err-set-clause-err_undo : goal.returns-in-Err-set-clause-err_undo
 returns-in-Err-set-clause-err_undo c =
@@ -39,4 +39,4 @@ returns-in-Err-set-clause-err_undo c =
 pub returns-in-Err-set-clause-err_links : goal.returns-in-Err-set-clause-err_links
 returns-in-Err-set-clause-err_links c =
     links_given_back (record_of_write c.args.write.now (rows c.args.tables.now)) c.args.undo.now c.push.new.undo c.args.segment c.requires.open c.in_default.ensures.pushed
-    c.pop.new.self.links c.pop.ensures.links
+    c.pop.new.self c.is_chained.ensures.whole c.pop.ensures.log c.pop.ensures.links

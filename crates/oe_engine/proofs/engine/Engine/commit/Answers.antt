@@ -3,6 +3,7 @@ use Rattle.std.specs.Prelude.{IsSome}
 use Rattle.oe_segments.specs.Segments.{active_at}
 use Rattle.oe_segments.proofs.StandsFacts.{totals}
 use Rattle.oe_locks.specs.Held.{HoldsNothing, OthersKeep}
+use Rattle.oe_journal.specs.Linked.{AreLinked}
 use Rattle.oe_engine.specs.View.{view_of, view_from, IsOpen}
 use Rattle.oe_engine.specs.Kept.{IsKept}
 use Rattle.oe_engine.specs.Calls.{committed}
@@ -10,7 +11,6 @@ use Rattle.oe_engine.proofs.LogFacts.{sealed_is}
 use Rattle.oe_engine.specs.Covered.{IsSafe}
 use Rattle.oe_engine.proofs.KeptFacts.{sealed_kept}
 use Rattle.oe_engine.proofs.SafeFacts.{safe_committed}
-use Rattle.oe_engine.proofs.LinkFacts.{linked_sealed}
 use Rattle.oe_engine.proofs.engine.Engine.commit.Goals as goal
 
 pub seal-moment-requires : goal.seal-moment-requires
@@ -47,7 +47,7 @@ invariant_of-self c =
           (sym (ap (λ u. view_from c.self.inside.tables u c.release_all.new.self) c.seal-moment.ensures.sealed
           ∙ sealed_is c.self.inside.tables c.self.inside.undo.log c.self.inside.locks c.release_all.new.self c.of-segment.result c.args.request.value c.args.reply.value within here own others))
           (safe_committed c.of-segment.result c.args.request.value c.args.reply.value (view_from c.self.inside.tables c.self.inside.undo.log c.self.inside.locks) c.self.invariant.safe);
-      linked = linked_sealed c.self.inside.tables _ _ c.self.inside.undo.links _ c.seal-moment.ensures.links c.self.invariant.linked;
+      linked = subst (AreLinked c.self.inside.tables) (sym c.seal-moment.ensures.links) c.self.invariant.linked;
     }
 
 pub returns-clause-committed : goal.returns-clause-committed

@@ -1,9 +1,6 @@
-use Rattle.std.proofs.Common.{◌≡◌, ◌-◌, ◌+◌, None, refl, sym, ap, ◌∙◌, arith}
+use Rattle.std.proofs.Common.{◌≡◌, ◌-◌, ◌+◌, refl, sym, ◌∙◌, arith}
 use Rattle.oe_segments.specs.Segments.{total_count}
-use Rattle.oe_chains.specs.Held.{held, of_key, count_later}
-use Rattle.oe_chains.specs.Oldest.{oldest_after}
-use Rattle.oe_chains.specs.Walks.{Walks}
-use Rattle.oe_links.specs.Links.{links_of}
+use Rattle.oe_undo.specs.Undo.{seen}
 use Rattle.oe_undo.proofs.WalkFacts.{goes_first, stands_there, goes_on, leaves_fewer}
 use Rattle.oe_undo.proofs.undo.Undo.oldest_after.Goals as goal
 
@@ -11,8 +8,8 @@ pub loop-link-init : goal.loop-link-init
 loop-link-init c =
     let u = c.args.self.now.log in
     let at : total_count u - c.args.moment + c.args.moment ≡ total_count u = omega (arith, c.requires.made) in
-    let link : c.link-link.result ≡ links_of c.args.self.now.links c.args.key.now = c.link-link.ensures ∙ ap (λ s. links_of s.links c.args.key.now) c.self.view_is in
-    let walks = c.chains_are_walked.ensures u (links_of c.args.self.now.links) c.args.key.now c.args.moment (total_count u - c.args.moment) c.is_chained.ensures.whole
+    let link : c.link-link.result ≡ seen c.args.self.now c.args.key.now = c.link-link.ensures in
+    let walks = c.chains_are_walked.ensures u (seen c.args.self.now) c.args.key.now c.args.moment (total_count u - c.args.moment) c.is_chained.ensures.whole
     c.is_chained.ensures.chained c.requires.kept at in
     goes_first _ _ _ _ _ _ _ (rw link walks) refl (omega (arith, c.ticks.invariant))
 

@@ -1,12 +1,11 @@
-use Rattle.oe_segments.specs.Segments.{opened}
-use Rattle.oe_links.specs.Links.{links_of}
-use Rattle.oe_chains.proofs.CallFacts.{opens}
-use Rattle.oe_undo.proofs.ChainedFacts.{changed_chained}
+-- The terminal has room for its commit, whether its segment is open or was refused.
+use Rattle.std.proofs.Common.{arith}
+use Rattle.oe_undo.proofs.ChainedFacts.{open_either}
 use Rattle.oe_undo.proofs.undo.Undo.open_segment.Goals as goal
 
-pub invariant_of-self : goal.invariant_of-self
-invariant_of-self c =
+pub invariant_of-self-2 : goal.invariant_of-self-2
+invariant_of-self-2 c =
     let closed = rw (← c.self.view_is) at c.requires.closed in
-    changed_chained c.open_segment.result c.self.inside.segments (opened c.self.inside.segments c.args.terminal) c.open_segment.new.self c.self.inside.links
-    c.open_segment.ensures.opened c.open_segment.ensures.err
-    (opens c.self.inside.segments (links_of c.self.inside.links) c.args.terminal closed c.self.invariant) c.self.invariant
+    open_either c.self.inside.segments _ c.self.inside.moments.items c.self.invariant c.args.terminal c.get.result c.get.ensures.value (omega (arith, c.get.ensures.high))
+    c.open_segment.result c.open_segment.new.self c.index_mut.result.now c.reserve.new.self closed c.open_segment.ensures.opened c.open_segment.ensures.err
+    c.index_mut.ensures.value c.in_ok-reserve.ensures.moments c.in_ok-reserve.ensures.room

@@ -2,9 +2,9 @@
 use Rattle.std.proofs.Common.{sym, subst, ◌∙◌}
 use Rattle.oe_layout.specs.Records.{record_of_lent}
 use Rattle.oe_segments.specs.Segments.{SegmentLog}
-use Rattle.oe_chains.specs.Chains.{AreChained}
 use Rattle.oe_links.specs.Links.{LinkMaps, links_of}
-use Rattle.oe_undo.proofs.ChainedFacts.{push_chained, push_undone}
+use Rattle.oe_undo.specs.Owners.{IsLinked}
+use Rattle.oe_undo.proofs.ChainedFacts.{push_linked, push_undone}
 use Rattle.oe_undo.proofs.undo.Undo.push.Goals as goal
 
 pub invariant_of-self-in-Ok-lead : goal.invariant_of-self-in-Ok-lead
@@ -12,15 +12,15 @@ invariant_of-self-in-Ok-lead c =
     let some = rw (← c.self.view_is) at c.requires.open in
     let leads = rw (← c.self.view_is) at c.requires.linked in
     let whole = rw (← c.self.view_is) at c.is_chained.ensures.whole in
-    push_chained c.self.inside.segments c.push.new.self c.args.segment c.in-Ok.address c.args.lent.now.previous (record_of_lent c.args.lent.now.record) some c.in-Ok.ensures.pushed
-    c.self.inside.links c.lead.new.self c.key.result c.terminal.result whole leads c.key.ensures c.terminal.ensures c.in-Ok-lead.ensures.leads c.self.invariant
+    push_linked c.self.inside.segments c.push.new.self c.args.segment c.in-Ok.address c.args.lent.now.previous (record_of_lent c.args.lent.now.record) some c.in-Ok.ensures.pushed
+    c.self.inside.links c.lead.new.self c.self.inside.moments.items c.key.result c.owner-owner.result whole leads c.key.ensures c.owner-owner.ensures c.in-Ok-lead.ensures.leads c.self.invariant
 
 pub invariant_of-self-in-Err : goal.invariant_of-self-in-Err
 invariant_of-self-in-Err c =
     let some = rw (← c.self.view_is) at c.requires.open in
     let same = push_undone c.self.inside.segments c.push.new.self c.args.segment c.in-Ok.address c.args.lent.now.previous (record_of_lent c.args.lent.now.record) some c.in-Ok.ensures.pushed c.pop.new.self c.pop.ensures in
-    subst (λ (u : SegmentLog). AreChained u (links_of c.lead.new.self)) (sym same)
-    (subst (λ (maps : LinkMaps). AreChained c.self.inside.segments (links_of maps)) (sym c.in-Err.ensures.err) c.self.invariant)
+    subst (λ (u : SegmentLog). IsLinked u (links_of c.lead.new.self) c.self.inside.moments.items) (sym same)
+    (subst (λ (maps : LinkMaps). IsLinked c.self.inside.segments (links_of maps) c.self.inside.moments.items) (sym c.in-Err.ensures.err) c.self.invariant)
 
 pub returns-in-Err-clause-err : goal.returns-in-Err-clause-err
 returns-in-Err-clause-err c =

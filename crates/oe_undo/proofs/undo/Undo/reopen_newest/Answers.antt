@@ -1,19 +1,12 @@
--- The links that lead to the newest commit's records are its terminal's again.
-use Rattle.oe_undo.proofs.ChainedFacts.{reopen_chained, moment_taken}
+-- The newest moment of its terminal goes with it.
+use Rattle.std.proofs.Common.{refl, arith}
+use Rattle.oe_undo.proofs.ChainedFacts.{reopen_linked}
 use Rattle.oe_undo.proofs.undo.Undo.reopen_newest.Goals as goal
 
-pub invariant_of-self-2 : goal.invariant_of-self-2
-invariant_of-self-2 c =
+pub invariant_of-self : goal.invariant_of-self
+invariant_of-self c =
     let closed = rw (← c.self.view_is) at c.requires in
     let whole = rw (← c.self.view_is) at c.is_chained.ensures.whole in
-    reopen_chained c.self.inside.segments c.self.inside.links c.give_holders.new.links c.in-Some.owner c.committed_records-records.result whole closed
-    c.in-Some.ensures.commit c.committed_records-records.ensures c.give_holders.ensures.links c.self.invariant
-    c.reopen_newest-2.new.self _ c.reopen_newest-2.ensures.reopened c.in-Some.ensures.first c.in-Some.ensures.number
-
-pub returns-clause-links : goal.returns-clause-links
-returns-clause-links c =
-    let closed = rw (← c.self.view_is) at c.requires in
-    let whole = rw (← c.self.view_is) at c.is_chained.ensures.whole in
-    rw (← c.self.view_is)
-    (moment_taken c.self.inside.segments c.self.inside.links c.give_holders.new.links c.in-Some.owner c.committed_records-records.result whole closed
-    c.in-Some.ensures.commit c.committed_records-records.ensures c.give_holders.ensures.links c.self.invariant c.give_holders.ensures.places)
+    reopen_linked c.self.inside.segments _ c.self.inside.moments.items c.self.invariant c.in-Some.owner.terminal c.get.result c.get.ensures.value (omega (arith, c.get.ensures.high))
+    c.reopen_newest-segment.new.self c.index_mut.result.now c.take_back.new.self c.in-Some.owner _ whole closed c.in-Some.ensures.commit refl c.in-Some.ensures.first c.in-Some.ensures.number
+    c.reopen_newest-segment.ensures.reopened c.index_mut.ensures.value c.take_back.ensures.moments c.take_back.ensures.room
