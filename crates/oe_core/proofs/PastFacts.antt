@@ -17,13 +17,12 @@ use Rattle.oe_model.specs.Meets.{Meets}
 use Rattle.oe_model.specs.System.{system, terminal_limit}
 use Rattle.oe_model.proofs.ChangeFacts.{accepted_meets}
 use Rattle.oe_model.proofs.SystemLaws.{laws}
-use Rattle.oe_deleted.proofs.HistoryFacts.{deleted_for_good}
 use Rattle.oe_change.specs.PutBack.{Stands}
 use Rattle.oe_journal.specs.GoesBack.{CanUnwind, CanUnwindAll}
 use Rattle.oe_journal.specs.Moments.{IsBetween, IsOutside}
 use Rattle.oe_engine.specs.View.{View, view_of, Handle}
 use Rattle.oe_engine.specs.View as engine
-use Rattle.oe_engine.specs.Calls.{newest, horizon, IsQuiet, IsNamedNoMoreAfter, CantRewind, purged_to, rewound_to}
+use Rattle.oe_engine.specs.Calls.{newest, horizon, IsQuiet, CantRewind, purged_to, rewound_to}
 use Rattle.oe_engine.proofs.CoveredFacts.{stands_left}
 use Rattle.oe_core.specs.Core.{CoreState, in_slot, work_of, work_at, open_at, store_with, store_of, position_of, Works, IsOrderly, Moves}
 use Rattle.oe_core.specs.Steps.{refusal_in}
@@ -59,11 +58,6 @@ purged_here s o e' m kept now name =
     ∙ same_parts _ _ _ _ _ _ _ _ _ _ _ _ refl refl (fun_ext (λ u. same_slot v (purged_to m v) u (work_at s u) refl refl)) refl refl refl)
     o.tx_slots o.work_slots
     (λ u. works_still s.engine e' (ap (λ (z : View). z.is_open) now) name u (in_slot s.txs u) (in_slot s.works u) (o.works u))
-
--- the commits that a purge forgets have deleted what nothing that is kept names
-pub named_no_more : (s : CoreState) → IsOrderly s → (m : ℕ) → IsNamedNoMoreAfter m (view_of s.engine)
-named_no_more s o m k d =
-    deleted_for_good _ (view_of s.engine).undo (newest (view_of s.engine) - m) k (standing s o).reached (standing s o).keeps d
 
 pub purge_refused : (s : CoreState) → IsOrderly s → (m : ℕ) (e : Refusal) → IsOutside (horizon (view_of s.engine)) (newest (view_of s.engine)) m e
     → Moves s (Purge m) (refusal_in (step.Purge m) e) s

@@ -3,7 +3,6 @@ use Rattle.std.proofs.Common.{◌≡◌, ℕ, zero, suc, ◌-◌, true, false, r
 use Rattle.std.specs.Prelude.{Option, None, is_some, Result, Ok, Err, OnOk, OnErr, IfErr}
 use Rattle.std.proofs.lemmas.List.{length-set}
 use mathlib.Core.Path.{fun_ext}
-use Rattle.oe_keys.specs.declared.keys.NewOrderKey.{NewOrderKey}
 use Rattle.oe_keys.specs.declared.keys.Key.{Key}
 use Rattle.oe_requests.specs.declared.refusals.Refusal.{Refusal}
 use Rattle.oe_requests.specs.declared.refusals.Refusal.TheVariants.{TooOld, Future, NotQuiet}
@@ -11,7 +10,7 @@ use Rattle.oe_theory.specs.Undo.{HasRecord, HasRecordIn}
 use Rattle.oe_theory.specs.Store.{Slot, rewound_to}
 use Rattle.oe_model.specs.Changes.{Record, record_key}
 use Rattle.oe_model.specs.Meets.{Meets}
-use Rattle.oe_model.specs.System.{system}
+use Rattle.oe_model.specs.System.{system, terminal_limit}
 use Rattle.oe_store.specs.Places.{rows, SamePlaces}
 use Rattle.oe_store.specs.Places as tables
 use Rattle.oe_segments.specs.Segments.{SegmentLog, Committed, active_at, open_total, with_newest, records_in}
@@ -19,12 +18,12 @@ use Rattle.oe_journal.specs.Rewinds.{uncounted, without_newest}
 use Rattle.oe_segments.specs.Stands.{model_records, undo_of}
 use Rattle.oe_segments.proofs.LawFacts as stands
 use Rattle.oe_segments.proofs.StandsFacts.{slots_counted}
-use Rattle.oe_deleted.specs.Deleted.{HasDeleteIn, IsNamedNoMore}
-use Rattle.oe_journal.specs.GivesUp.{IsDeletedIn, GivesUpThose, GivesUpDeleted}
+use Rattle.oe_journal.specs.GivesUp.{IsDeletedIn, HasNoRecord, GivesUpThose, GivesUpDeleted}
 use Rattle.oe_journal.specs.GoesBack.{HavePlaces, AllHavePlaces}
 use Rattle.oe_journal.specs.Moments.{store_with}
 use Rattle.oe_journal.specs.Moments as past
 use Rattle.oe_journal.proofs.BackFacts.{more_places}
+use Rattle.oe_journal.proofs.LeftFacts.{none_in_open, none_in_commits}
 use Rattle.oe_journal.proofs.PurgeFacts.{all_more_places}
 use Rattle.oe_journal.proofs.RewindFacts.{none_open, quiet_still, rewinds}
 use Rattle.oe_links.specs.Links as links
@@ -33,7 +32,7 @@ use Rattle.oe_locks.specs.Held.{Holdings}
 use Rattle.oe_engine.specs.View.{View, view_from}
 use Rattle.oe_engine.specs.Covered.{AreOwned, Unwinds, IsSafe}
 use Rattle.oe_engine.specs.Kept.{IsKept, IsSound}
-use Rattle.oe_engine.specs.Calls.{IsQuiet, IsKeptMoment, IsNamedNoMoreAfter, CantRewind, purged_to}
+use Rattle.oe_engine.specs.Calls.{IsQuiet, CantRewind, purged_to}
 use Rattle.oe_engine.specs.Calls as calls
 use Rattle.oe_engine.proofs.CoveredFacts.{none_unwinds}
 use Rattle.oe_engine.proofs.LinkFacts.{linked_same, linked_less}
@@ -63,20 +62,21 @@ all_still_places ts ts' P g [] other h = tt
 all_still_places ts ts' P g (bs ∷ ss) other h =
     (still_places ts ts' P g bs (λ k p e. other k p (inl e)) h.0, all_still_places ts ts' P g ss (λ k p e. other k p (inr e)) h.1)
 
--- A purge
-purged_kept : (ts ts' : tables.Places) (u : SegmentLog) (ls : Holdings) (n : ℕ) → GivesUpDeleted ts ts' (drop n (undo_of u).history)
-    → ((k : NewOrderKey) → HasDeleteIn k (drop n (undo_of u).history) → IsNamedNoMore (undo_of u) n k) → IsKept ts u ls → IsKept ts' (with_newest n u) ls
-purged_kept ts ts' u ls n g named k = record {
-  size = k.size;
-  active = λ t. still_places ts ts' (λ j. IsDeletedIn j (drop n (undo_of u).history)) g ((undo_of u).active t)
-      (λ j p e. (named p.0 p.2).opens t (subst (λ z. HasRecord system z ((undo_of u).active t)) p.1 e)) (k.active t);
-  history = subst (λ z. AllHavePlaces ts' z.history) (sym (stands.cuts u n).undo)
-      (all_still_places ts ts' (λ j. IsDeletedIn j (drop n (undo_of u).history)) g (take n (undo_of u).history)
-      (λ j p e. (named p.0 p.2).commits (subst (λ z. HasRecordIn system z (take n (undo_of u).history)) p.1 e))
-      (taken_places ts n (undo_of u).history k.history));
-  idle = k.idle;
-  counted = k.counted;
-}
+-- A purge. A record that is kept is of no key whose place went
+purged_kept : (ts ts' : tables.Places) (u : SegmentLog) (ls : Holdings) (n : ℕ) → GivesUpDeleted ts ts' (drop n (undo_of u).history) (with_newest n u)
+    → IsKept ts u ls → IsKept ts' (with_newest n u) ls
+unfolding terminal_limit
+purged_kept ts ts' u ls n g k =
+    let w : SegmentLog = with_newest n u in
+    let gone : Key → Type 0 = λ j. IsDeletedIn j (drop n (undo_of u).history) × HasNoRecord w j in
+    record {
+      size = k.size;
+      active = λ t. still_places ts ts' gone g ((undo_of u).active t) (λ j p e. none_in_open j w k.size p.1 t e) (k.active t);
+      history = all_still_places ts ts' gone g (undo_of w).history (λ j p e. none_in_commits j w p.1 e)
+          (subst (λ z. AllHavePlaces ts z.history) (sym (stands.cuts u n).undo) (taken_places ts n (undo_of u).history k.history));
+      idle = k.idle;
+      counted = k.counted;
+    }
 
 purged_view : (ts ts' : tables.Places) (u : SegmentLog) (ls : Holdings) (m : ℕ) → rows ts' ≡ rows ts
     → view_from ts' (with_newest (past.newest u - m) u) ls ≡ purged_to m (view_from ts u ls)
@@ -96,22 +96,17 @@ purged_view ts ts' u ls m same =
 safe_purged : (m : ℕ) (v : View) → IsSafe v → IsSafe (purged_to m v)
 safe_purged m v s = record { owned = s.owned; alone = s.alone; unwinds = s.unwinds }
 
--- what the caller knows of a moment that is kept
-named_no_more : (ts : tables.Places) (u : SegmentLog) (ls : Holdings) (m : ℕ) → (IsKeptMoment (view_from ts u ls) m → IsNamedNoMoreAfter m (view_from ts u ls))
-    → past.IsKeptMoment u m → (k : NewOrderKey) → HasDeleteIn k (drop (past.newest u - m) (undo_of u).history) → IsNamedNoMore (undo_of u) (past.newest u - m) k
-unfolding view_from
-named_no_more ts u ls m named kept = named kept
-
 pub purge_sound : {T E : Type 0} (r : Result T E) (ts ts' : tables.Places) (u u' : UndoState) (ls : Holdings) (m : ℕ)
-    → (IsKeptMoment (view_from ts u.log ls) m → IsNamedNoMoreAfter m (view_from ts u.log ls)) → OnOk r (past.IsKeptMoment u.log m)
-    → OnOk r (u'.log ≡ with_newest (past.newest u.log - m) u.log) → rows ts' ≡ rows ts → OnOk r (GivesUpDeleted ts ts' (drop (past.newest u.log - m) (undo_of u.log).history))
+    → OnOk r (u'.log ≡ with_newest (past.newest u.log - m) u.log) → rows ts' ≡ rows ts → OnOk r (GivesUpDeleted ts ts' (drop (past.newest u.log - m) (undo_of u.log).history) u'.log)
     → u'.links ≡ u.links → OnErr r ((ts' ≡ ts) × (u' ≡ u)) → IsSound ts u ls → IsSound ts' u' ls
-purge_sound (Ok x) ts ts' u u' ls m named kept is rows_same places links_same same s = record {
-  kept = subst (λ z. IsKept ts' z ls) (sym is) (purged_kept ts ts' u.log ls (past.newest u.log - m) places (named_no_more ts u.log ls m named kept) s.kept);
-  safe = subst (λ z. IsSafe (view_from ts' z ls)) (sym is) (subst IsSafe (sym (purged_view ts ts' u.log ls m rows_same)) (safe_purged m (view_from ts u.log ls) s.safe));
-  linked = linked_less ts ts' u.links u'.links (λ k. IsDeletedIn k (drop (past.newest u.log - m) (undo_of u.log).history)) places links_same s.linked;
-}
-purge_sound (Err e) ts ts' u u' ls m named kept is rows_same places links_same same s =
+purge_sound (Ok x) ts ts' u u' ls m is rows_same places links_same same s =
+    let gone = drop (past.newest u.log - m) (undo_of u.log).history in
+    record {
+      kept = subst (λ z. IsKept ts' z ls) (sym is) (purged_kept ts ts' u.log ls (past.newest u.log - m) (subst (GivesUpDeleted ts ts' gone) is places) s.kept);
+      safe = subst (λ z. IsSafe (view_from ts' z ls)) (sym is) (subst IsSafe (sym (purged_view ts ts' u.log ls m rows_same)) (safe_purged m (view_from ts u.log ls) s.safe));
+      linked = linked_less ts ts' u.links u'.links (λ k. IsDeletedIn k gone × HasNoRecord u'.log k) places links_same s.linked;
+    }
+purge_sound (Err e) ts ts' u u' ls m is rows_same places links_same same s =
     subst (λ z. IsSound z u' ls) (sym same.0) (subst (λ z. IsSound ts z ls) (sym same.1) s)
 
 pub purge_view : {T E : Type 0} (r : Result T E) (ts ts' : tables.Places) (u u' : UndoState) (ls : Holdings) (m : ℕ)

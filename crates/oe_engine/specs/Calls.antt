@@ -6,7 +6,6 @@ use Rattle.oe_theory.specs.World.{go_together, set, bump, total}
 use Rattle.oe_theory.specs.Next.{held_after, record_on, filled, IsNew}
 use Rattle.oe_theory.specs.Undo.{unwind, unwind_commits, put_records, lengths_of, used_of}
 use Rattle.oe_theory.specs.Store.{Slot, with_change_of, with_record_of, count_slots, counts_before}
-use Rattle.oe_keys.specs.declared.keys.NewOrderKey.{NewOrderKey}
 use Rattle.oe_keys.specs.declared.locks.Name.{Name}
 use Rattle.oe_requests.specs.declared.requests.Request.{Request}
 use Rattle.oe_requests.specs.declared.replies.Reply.{Reply}
@@ -21,7 +20,6 @@ use Rattle.oe_model.specs.System.{system, terminal_limit}
 use Rattle.oe_store.specs.Places as tables
 use Rattle.oe_change.specs.Applies.{Refuses}
 use Rattle.oe_journal.specs.Moments.{IsBetween, IsOutside}
-use Rattle.oe_deleted.specs.Deleted.{HasDeleteIn, IsNamedNoMore}
 use Rattle.oe_engine.specs.View.{EngineState, View, view_of, Handle, IsOpen}
 use Rattle.oe_engine.specs.Covered.{MayMake}
 use Rattle.oe_engine.specs.declared.programs.Lock.{Lock}
@@ -214,10 +212,6 @@ CantRewind v m e = IsQuiet v × IsOutside (horizon v) (newest v) m e
 -- the records of the commits up to a moment
 abbrev pub records_up_to : ℕ → View → List (List Record)
 records_up_to m v = drop (newest v - m) v.undo.history
-
--- a NEW-ORDER row that one of them deleted is named by no later commit and by no open transaction
-abbrev pub IsNamedNoMoreAfter : ℕ → View → Type 0
-IsNamedNoMoreAfter m v = (k : NewOrderKey) → HasDeleteIn k (records_up_to m v) → IsNamedNoMore v.undo (newest v - m) k
 
 -- the records and seals of the commits up to a moment gone
 abbrev pub purged_to : ℕ → View → View

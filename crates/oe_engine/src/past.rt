@@ -4,7 +4,7 @@ ghost use Rattle.oe_journal.specs.GivesUp.{GivesUpDeleted};
 ghost use Rattle.oe_journal.specs.GoesBack.{CanUnwindAll};
 ghost use Rattle.oe_journal.specs.Moments.{IsOutside};
 ghost use Rattle.oe_engine.specs.View.{view_of};
-ghost use Rattle.oe_engine.specs.Calls.{newest, horizon, records_up_to, IsQuiet, IsKeptMoment, IsNamedNoMoreAfter, CantRewind, purged_to, rewound_to};
+ghost use Rattle.oe_engine.specs.Calls.{newest, horizon, records_up_to, IsQuiet, IsKeptMoment, CantRewind, purged_to, rewound_to};
 
 use crate::engine::Engine;
 use oe_requests::Refusal;
@@ -12,18 +12,16 @@ use oe_values::Moment;
 
 impl Engine {
     /// Forgets the commits up to a moment, which becomes the oldest that can be read. All rows, open work and the later commits
-    /// stay as they are; the NEW-ORDER keys that the forgotten commits deleted, and that have no row, have no place any more. It
-    /// takes no memory. That nothing that is kept names such a key is the caller's to know, as of a store that stands.
+    /// stay as they are; the NEW-ORDER keys that the forgotten commits deleted, that have no row, and of which no record is left, have
+    /// no place any more. It takes no memory.
     ///
     /// `TooOld` with the oldest, `Future` with the newest moment: the moment is not between the two. Nothing has changed then.
     #[tactic(auto, unfolding(crate::specs::View::view_of, crate::specs::View::view_from))]
     pub fn purge(&mut self, moment: Moment) -> Result<(), Refusal>
-        requires { IsKeptMoment (view_of self.old) moment
-            → IsNamedNoMoreAfter moment (view_of self.old) }
         ensures kept { OnOk result (IsKeptMoment (view_of self.old) moment) }
         ensures purged { OnOk result (view_of self.new ≡ purged_to moment (view_of self.old)) }
         ensures places { OnOk result (GivesUpDeleted self.old.tables self.new.tables
-            (records_up_to moment (view_of self.old))) }
+            (records_up_to moment (view_of self.old)) self.new.undo) }
         ensures name { self.new.name ≡ self.old.name }
         ensures cause { IfErr result
             (IsOutside (horizon (view_of self.old)) (newest (view_of self.old)) moment) }

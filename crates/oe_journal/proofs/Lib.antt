@@ -1,5 +1,5 @@
 -- For the crates above: what a write records and why it is refused, what the log makes of its records, and what it is without its
--- newest commits.
+-- newest commits; what a purge leaves.
 pub mod RecordFacts
 pub mod LogFacts
 pub mod RewindFacts
@@ -12,4 +12,5 @@ pub mod MoreFacts
 pub mod WriteFacts
 mod UnplacedFacts
 pub mod PurgeFacts
+pub mod LeftFacts
 mod ChangeFacts

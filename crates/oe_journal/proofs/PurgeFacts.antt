@@ -9,16 +9,20 @@ use Rattle.oe_theory.specs.Store.{Slot, purged_to}
 use Rattle.oe_model.specs.Rows.{Rows, row_at}
 use Rattle.oe_model.specs.Changes.{Record}
 use Rattle.oe_model.specs.Changes as model
-use Rattle.oe_model.specs.System.{system}
+use Rattle.oe_model.specs.System.{system, terminal_limit}
 use Rattle.oe_store.specs.Places.{rows, HasPlace, GivesUp}
 use Rattle.oe_store.specs.Places as tables
-use Rattle.oe_deleted.specs.Deleted.{IsDelete, HasDelete}
 use Rattle.oe_layout.specs.Stored.{deleted_new_order}
-use Rattle.oe_segments.specs.Segments.{SegmentLog, Committed, committed_records, records_of, with_newest}
+use Rattle.oe_segments.specs.Segments.{SegmentLog, Committed, committed_records, records_of, total_count, with_newest}
 use Rattle.oe_segments.specs.Stands.{model_records, undo_of}
 use Rattle.oe_segments.proofs.LawFacts as stands
+use Rattle.oe_segments.proofs.StandsFacts.{totals}
+use Rattle.oe_chains.specs.declared.links.Link.{Link}
+use Rattle.oe_chains.specs.Held.{horizon}
+use Rattle.oe_chains.specs.Chains.{IsEnd, AreChained}
+use Rattle.oe_chains.specs.Laws.{IsWhole, Calls_keep_chains, Ends_without_records}
 use Rattle.oe_journal.specs.GoesBack.{AllHavePlaces}
-use Rattle.oe_journal.specs.GivesUp.{IsDeleted, IsDeletedIn, GivesUpThose, GivesUpDeleted}
+use Rattle.oe_journal.specs.GivesUp.{IsDelete, HasDelete, IsDeleted, IsDeletedIn, HasNoRecord, GivesUpThose, GivesUpDeleted}
 use Rattle.oe_journal.specs.Moments.{store_with, newest}
 use Rattle.oe_journal.proofs.BackFacts.{more_places}
 
@@ -33,6 +37,11 @@ take_take zero k xs h = refl
 take_take (suc n) zero xs h = let no : ⊥ = omega arith in absurd no
 take_take (suc n) (suc k) [] h = refl
 take_take (suc n) (suc k) (x ∷ xs) h = ap (λ z. x ∷ z) (take_take n k xs (omega arith))
+
+length_take_le : {A : Type 0} (n : ℕ) (xs : List A) → length (take n xs) ≤ length xs
+length_take_le zero xs = omega arith
+length_take_le (suc n) [] = omega arith
+length_take_le (suc n) (x ∷ xs) = let fewer = length_take_le n xs in omega (arith, fewer)
 
 length_taken : {A : Type 0} (n : ℕ) (xs : List A) → n ≤ length xs → length (take n xs) ≡ n
 length_taken zero xs h = refl
@@ -87,56 +96,71 @@ both_given_up old mid new P Q R same is first second k = (there, back)
     back h =
         (second k).1 ((first k).1 (h.0, λ p. h.1 ((is k).1 (inl p))), λ q. subst (λ z. IsSome (row_at z k)) (sym same) (h.1 ((is k).1 (inr q))))
 
--- One record. It is of a delete
-one_given_up : (old new : tables.Places) (o : NewOrderKey) (b : Record) → deleted_new_order b ≡ Some o → GivesUp old new (key.NewOrder o)
-    → GivesUpThose old new (λ k. IsDeleted k (b ∷ []))
-one_given_up old new o (model.DeletedNewOrder p v) e g = same_given_up old new (λ k. k ≡ key.NewOrder o) (λ k. IsDeleted k (model.DeletedNewOrder p v ∷ [])) (λ k. (own k, its k)) g
+-- where keys of a kind are those of two others, so are those of them that have something more
+each_with : {A B C E : Type 0} → A ↔ (B ⊎ C) → (A × E) ↔ ((B × E) ⊎ (C × E))
+each_with {A} {B} {C} {E} is = (there, back)
   where
-    here : p ≡ o
-    here = cc
+    there : (A × E) → (B × E) ⊎ (C × E)
+    there d = elim (is.0 d.0) [ inl x ↦ inl (x, d.1) | inr x ↦ inr (x, d.1) ]
 
-    own : (k : Key) → k ≡ key.NewOrder o → IsDeleted k (model.DeletedNewOrder p v ∷ [])
-    own k is = (p, is ∙ ap key.NewOrder (sym here), inl (_, refl))
+    back : ((B × E) ⊎ (C × E)) → (A × E)
+    back (inl d) = (is.1 (inl d.0), d.1)
+    back (inr d) = (is.1 (inr d.0), d.1)
 
-    same : (q : NewOrderKey) → IsDelete q (model.DeletedNewOrder p v) → q ≡ p
-    same q d = let is = d.1 in cc
+-- One record, whose key goes where E holds of it. It is of a delete
+delete_of : (b : Record) (o : NewOrderKey) → deleted_new_order b ≡ Some o → IsDelete o b
+delete_of (model.DeletedNewOrder p v) o e = let same : p ≡ o = cc in (v, ap (λ q. model.DeletedNewOrder q v) same)
+delete_of (model.InsertedHistory k v) o e = cc
+delete_of (model.InsertedNewOrder k v) o e = cc
+delete_of (model.InsertedOrder k v) o e = cc
+delete_of (model.InsertedOrderLine k v) o e = cc
+delete_of (model.UpdatedWarehouse k v) o e = cc
+delete_of (model.UpdatedDistrict k v) o e = cc
+delete_of (model.UpdatedCustomer k v) o e = cc
+delete_of (model.UpdatedOrder k v) o e = cc
+delete_of (model.UpdatedOrderLine k v) o e = cc
+delete_of (model.UpdatedStock k v) o e = cc
 
-    its : (k : Key) → IsDeleted k (model.DeletedNewOrder p v ∷ []) → k ≡ key.NewOrder o
-    its k d = d.1 ∙ ap key.NewOrder (elim d.2 [ inl is ↦ same d.0 is | inr none ↦ absurd none ] ∙ here)
-one_given_up old new o (model.InsertedHistory k v) e g = cc
-one_given_up old new o (model.InsertedNewOrder k v) e g = cc
-one_given_up old new o (model.InsertedOrder k v) e g = cc
-one_given_up old new o (model.InsertedOrderLine k v) e g = cc
-one_given_up old new o (model.UpdatedWarehouse k v) e g = cc
-one_given_up old new o (model.UpdatedDistrict k v) e g = cc
-one_given_up old new o (model.UpdatedCustomer k v) e g = cc
-one_given_up old new o (model.UpdatedOrder k v) e g = cc
-one_given_up old new o (model.UpdatedOrderLine k v) e g = cc
-one_given_up old new o (model.UpdatedStock k v) e g = cc
-
-pub deleted_given_up : (old new : tables.Places) (b : Record) (o : NewOrderKey) → deleted_new_order b ≡ Some o → GivesUp old new (key.NewOrder o)
-    → GivesUpThose old new (λ k. IsDeleted k (b ∷ []))
-deleted_given_up old new b o is g = one_given_up old new o b is g
-
--- or of another change
-no_delete : (b : Record) (o : NewOrderKey) → deleted_new_order b ≡ None → IsDelete o b → ⊥
-no_delete b o none d =
-    let is : deleted_new_order b ≡ Some o = ap deleted_new_order d.1 in
-    let no : ◌≡◌ {A = Option NewOrderKey} None (Some o) = sym none ∙ is in cc
-
-pub other_given_up : (ts : tables.Places) (b : Record) → deleted_new_order b ≡ None → GivesUpThose ts ts (λ k. IsDeleted k (b ∷ []))
-other_given_up ts b other = none_given_up ts (λ k. IsDeleted k (b ∷ [])) none
+deleted_is : (b : Record) (o : NewOrderKey) (k : Key) → deleted_new_order b ≡ Some o → IsDeleted k (b ∷ []) → k ≡ key.NewOrder o
+deleted_is b o k e d = d.1 ∙ ap key.NewOrder (elim d.2 [ inl is ↦ same d.0 is | inr none ↦ absurd none ])
   where
-    none : (k : Key) → IsDeleted k (b ∷ []) → ⊥
-    none k d = elim d.2 [ inl e ↦ no_delete b d.0 other e | inr never ↦ never ]
+    same : (q : NewOrderKey) → IsDelete q b → q ≡ o
+    same q is =
+        let of_q : deleted_new_order b ≡ Some q = ap deleted_new_order is.1 in
+        let both : ◌≡◌ {A = Option NewOrderKey} (Some q) (Some o) = sym of_q ∙ e in cc
+
+module _ (E : Key → Type 0) where
+  pub deleted_given_up : (old new : tables.Places) (b : Record) (o : NewOrderKey) → deleted_new_order b ≡ Some o → E (key.NewOrder o) → GivesUp old new (key.NewOrder o)
+      → GivesUpThose old new (λ k. IsDeleted k (b ∷ []) × E k)
+  deleted_given_up old new b o e ended g = same_given_up old new (λ k. k ≡ key.NewOrder o) (λ k. IsDeleted k (b ∷ []) × E k) (λ k. (own k, λ d. deleted_is b o k e d.0)) g
+    where
+      own : (k : Key) → k ≡ key.NewOrder o → IsDeleted k (b ∷ []) × E k
+      own k is = ((o, is, inl (delete_of b o e)), subst E (sym is) ended)
+
+  -- or of one whose key stays
+  pub deleted_stays : (ts : tables.Places) (b : Record) (o : NewOrderKey) → deleted_new_order b ≡ Some o → (E (key.NewOrder o) → ⊥)
+      → GivesUpThose ts ts (λ k. IsDeleted k (b ∷ []) × E k)
+  deleted_stays ts b o e other = none_given_up ts (λ k. IsDeleted k (b ∷ []) × E k) (λ k d. other (subst E (deleted_is b o k e d.0) d.1))
+
+  -- or of another change
+  pub other_given_up : (ts : tables.Places) (b : Record) → deleted_new_order b ≡ None → GivesUpThose ts ts (λ k. IsDeleted k (b ∷ []) × E k)
+  other_given_up ts b other = none_given_up ts (λ k. IsDeleted k (b ∷ []) × E k) (λ k d. none k d.0)
+    where
+      no_delete : (o : NewOrderKey) → IsDelete o b → ⊥
+      no_delete o d =
+          let is : deleted_new_order b ≡ Some o = ap deleted_new_order d.1 in
+          let no : ◌≡◌ {A = Option NewOrderKey} None (Some o) = sym other ∙ is in cc
+
+      none : (k : Key) → IsDeleted k (b ∷ []) → ⊥
+      none k d = elim d.2 [ inl e ↦ no_delete d.0 e | inr never ↦ never ]
 
 -- The records of a commit: on old those of `all` before `left` have been looked at
-pub record LooksAt (old now : tables.Places) (all left : List Record) : Type 0 where
+pub record LooksAt (E : Key → Type 0) (old now : tables.Places) (all left : List Record) : Type 0 where
   pub same : rows now ≡ rows old
-  pub rest : (new : tables.Places) → GivesUpThose now new (λ k. IsDeleted k left) → GivesUpThose old new (λ k. IsDeleted k all)
+  pub rest : (new : tables.Places) → GivesUpThose now new (λ k. IsDeleted k left × E k) → GivesUpThose old new (λ k. IsDeleted k all × E k)
 
-pub none_looked_at : (ts : tables.Places) (all : List Record) → LooksAt ts ts all all
-none_looked_at ts all = record { same = refl; rest = λ new g. g }
+pub none_looked_at : (E : Key → Type 0) (ts : tables.Places) (all : List Record) → LooksAt E ts ts all all
+none_looked_at E ts all = record { same = refl; rest = λ new g. g }
 
 one_or_rest : (b : Record) (bs : List Record) (k : Key) → IsDeleted k (b ∷ bs) ↔ (IsDeleted k (b ∷ []) ⊎ IsDeleted k bs)
 one_or_rest b bs k = (there, back)
@@ -155,23 +179,24 @@ one_or_rest b bs k = (there, back)
     back (inl d) = (d.0, d.1, front d.0 d.2)
     back (inr d) = (d.0, d.1, inr d.2)
 
-pub one_looked_at : (old now now' : tables.Places) (all : List Record) (b : Record) (bs : List Record) → rows now' ≡ rows now
-    → GivesUpThose now now' (λ k. IsDeleted k (b ∷ [])) → LooksAt old now all (b ∷ bs) → LooksAt old now' all bs
-one_looked_at old now now' all b bs same g h =
+pub one_looked_at : (E : Key → Type 0) (old now now' : tables.Places) (all : List Record) (b : Record) (bs : List Record) → rows now' ≡ rows now
+    → GivesUpThose now now' (λ k. IsDeleted k (b ∷ []) × E k) → LooksAt E old now all (b ∷ bs) → LooksAt E old now' all bs
+one_looked_at E old now now' all b bs same g h =
     record {
       same = same ∙ h.same;
       rest = λ new rest. h.rest new
-          (both_given_up now now' new (λ k. IsDeleted k (b ∷ [])) (λ k. IsDeleted k bs) (λ k. IsDeleted k (b ∷ bs)) same (one_or_rest b bs) g rest);
+          (both_given_up now now' new (λ k. IsDeleted k (b ∷ []) × E k) (λ k. IsDeleted k bs × E k) (λ k. IsDeleted k (b ∷ bs) × E k) same
+          (λ k. each_with (one_or_rest b bs k)) g rest);
     }
 
-pub all_looked_at : (old now : tables.Places) (all : List Record) → LooksAt old now all [] → GivesUpThose old now (λ k. IsDeleted k all)
-all_looked_at old now all h = h.rest now (none_given_up now (λ k. IsDeleted k []) (λ k d. d.2))
+pub all_looked_at : (E : Key → Type 0) (old now : tables.Places) (all : List Record) → LooksAt E old now all [] → GivesUpThose old now (λ k. IsDeleted k all × E k)
+all_looked_at E old now all h = h.rest now (none_given_up now (λ k. IsDeleted k [] × E k) (λ k d. d.0.2))
 
--- The oldest commits: of those of u the newest `left` are there still
-pub record ForgetsOldest (old now : tables.Places) (u u' : SegmentLog) (left : ℕ) : Type 0 where
+-- The oldest commits: of those of u the newest `left` are there still, and `last` will be
+pub record ForgetsOldest (old now : tables.Places) (u u' : SegmentLog) (last left : ℕ) : Type 0 where
   pub log : u' ≡ with_newest left u
   pub same : rows now ≡ rows old
-  pub places : GivesUpDeleted old now (drop left (undo_of u).history)
+  pub places : GivesUpDeleted old now (drop left (undo_of u).history) (with_newest last u)
 
 abbrev records_in : Committed → List Record
 records_in c = model_records c.records
@@ -182,16 +207,17 @@ none_left [] (suc n) h = refl
 none_left (c ∷ cs) zero h = let no : ⊥ = omega arith in absurd no
 none_left (c ∷ cs) (suc n) h = none_left cs n (omega arith)
 
-pub none_forgotten : (ts : tables.Places) (u : SegmentLog) → ForgetsOldest ts ts u u (length u.committed - 0)
-none_forgotten ts u = record {
+pub none_forgotten : (ts : tables.Places) (u : SegmentLog) (last : ℕ) → ForgetsOldest ts ts u u last (length u.committed - 0)
+none_forgotten ts u last = record {
   log = none_cut u;
   same = refl;
-  places = subst (GivesUpDeleted ts ts) (sym (none_left u.committed (length u.committed - 0) (omega arith))) (none_given_up ts (λ k. IsDeletedIn k []) (λ k d. d.2));
+  places = subst (λ ss. GivesUpDeleted ts ts ss (with_newest last u)) (sym (none_left u.committed (length u.committed - 0) (omega arith)))
+      (none_given_up ts (λ k. IsDeletedIn k [] × HasNoRecord (with_newest last u) k) (λ k d. d.0.2));
 }
 
 -- how many are left
-pub left_are : (old now : tables.Places) (u u' : SegmentLog) (left : ℕ) → ForgetsOldest old now u u' left → left ≤ length u.committed → length u'.committed ≡ left
-left_are old now u u' left h enough = ap (λ z. length z.committed) h.log ∙ length_taken left u.committed enough
+pub left_are : (old now : tables.Places) (u u' : SegmentLog) (last left : ℕ) → ForgetsOldest old now u u' last left → left ≤ length u.committed → length u'.committed ≡ left
+left_are old now u u' last left h enough = ap (λ z. length z.committed) h.log ∙ length_taken left u.committed enough
 
 -- the records of the oldest of those that are left
 abbrev pub oldest_records : SegmentLog → ℕ → List Record
@@ -222,21 +248,50 @@ one_or_older bs ss k = (there, back)
     back (inl d) = (d.0, d.1, inr d.2)
     back (inr d) = (d.0, d.1, inl d.2)
 
-pub one_forgotten : (old now now' : tables.Places) (u u' : SegmentLog) (left j : ℕ) → left ≤ length u.committed → 0 < left → j ≡ left - 1
-    → rows now' ≡ rows now → GivesUpThose now now' (λ k. IsDeleted k (oldest_records u' j))
-    → ForgetsOldest old now u u' left → ForgetsOldest old now' u (with_newest (length u'.committed - 1) u') (left - 1)
-one_forgotten old now now' u u' left j enough some at same g h =
+-- A link ends at the moment to which is purged exactly where the log that is left then has no record of the key
+last_cut : (u u' : SegmentLog) (last left : ℕ) → last ≤ left → u' ≡ with_newest left u → with_newest last u' ≡ with_newest last u
+last_cut u u' last left less is =
+    ap (with_newest last) is ∙ (λ i. record { terminals = u.terminals; committed = take_take last left u.committed less i; extents = u.extents })
+
+newest_is : (u : SegmentLog) → IsWhole u → newest u ≡ total_count u
+unfolding terminal_limit
+newest_is u whole = totals u whole.terminals
+
+last_moment : (u : SegmentLog) (last : ℕ) → IsWhole (with_newest last u) → last ≤ length u.committed → newest u - last ≡ horizon (with_newest last u)
+last_moment u last whole enough =
+    let all : newest u ≡ total_count u = newest_is (with_newest last u) whole in
+    let many : length (take last u.committed) ≡ last = length_taken last u.committed enough in
+    ap (λ n. n - last) all ∙ ap (λ n. total_count u - n) (sym many)
+
+pub ends_there : Calls_keep_chains → Ends_without_records → (u u' : SegmentLog) (links : Key → Option Link) (m last left : ℕ) → last ≤ left → last ≤ length u.committed
+    → m ≡ newest u - last → u' ≡ with_newest left u → IsWhole u' → AreChained u' links → (k : Key) → IsEnd m (links k) ↔ HasNoRecord (with_newest last u) k
+ends_there keep ends u u' links m last left less enough moment is whole chained k =
+    let w : SegmentLog = with_newest last u in
+    let cut : with_newest last u' ≡ w = last_cut u u' last left less is in
+    let fewer : length (take last u'.committed) ≤ length u'.committed = length_take_le last u'.committed in
+    let whole_last : IsWhole w = subst IsWhole cut (record { terminals = whole.terminals; commits = omega (arith, fewer, whole.commits) }) in
+    let chained_last : AreChained w links = subst (λ z. AreChained z links) cut (keep.purges u' links last chained) in
+    subst (λ n. IsEnd n (links k) ↔ HasNoRecord w k) (sym (moment ∙ last_moment u last whole_last enough)) (ends w links k whole_last chained_last)
+
+pub one_forgotten : (old now now' : tables.Places) (u u' : SegmentLog) (E : Key → Type 0) (last left j : ℕ) → left ≤ length u.committed → 0 < left → j ≡ left - 1
+    → ((k : Key) → E k ↔ HasNoRecord (with_newest last u) k)
+    → rows now' ≡ rows now → GivesUpThose now now' (λ k. IsDeleted k (oldest_records u' j) × E k)
+    → ForgetsOldest old now u u' last left → ForgetsOldest old now' u (with_newest (length u'.committed - 1) u') last (left - 1)
+one_forgotten old now now' u u' E last left j enough some at ends same g h =
+    let none : Key → Type 0 = HasNoRecord (with_newest last u) in
     let here : suc (left - 1) ≡ left = omega arith in
     let bs : List Record = model_records (get_or (map records_of u.committed) (left - 1) []) in
     let all : drop (left - 1) (undo_of u).history ≡ bs ∷ drop left (undo_of u).history =
     one_more (left - 1) u.committed (omega arith) ∙ ap (λ n. bs ∷ drop n (undo_of u).history) here in
     let oldest : oldest_records u' j ≡ bs =
     ap (λ n. oldest_records u' n) at ∙ ap (λ z. oldest_records z (left - 1)) h.log ∙ ap (λ rs. model_records rs) (found_first (left - 1) left u.committed (omega arith)) in
-    let given : GivesUpThose now now' (λ k. IsDeleted k bs) = subst (λ z. GivesUpThose now now' (λ k. IsDeleted k z)) oldest g in
+    let given : GivesUpThose now now' (λ k. IsDeleted k bs × E k) = subst (λ z. GivesUpThose now now' (λ k. IsDeleted k z × E k)) oldest g in
+    let without : GivesUpThose now now' (λ k. IsDeleted k bs × none k) =
+    same_given_up now now' (λ k. IsDeleted k bs × E k) (λ k. IsDeleted k bs × none k) (λ k. (λ d. (d.0, (ends k).0 d.1), λ d. (d.0, (ends k).1 d.1))) given in
     record {
       log = one_cut u u' left enough h.log;
       same = same ∙ h.same;
-      places = subst (GivesUpDeleted old now') (sym all)
-          (both_given_up old now now' (λ k. IsDeletedIn k (drop left (undo_of u).history)) (λ k. IsDeleted k bs)
-          (λ k. IsDeletedIn k (bs ∷ drop left (undo_of u).history)) h.same (one_or_older bs (drop left (undo_of u).history)) h.places given);
+      places = subst (λ ss. GivesUpDeleted old now' ss (with_newest last u)) (sym all)
+          (both_given_up old now now' (λ k. IsDeletedIn k (drop left (undo_of u).history) × none k) (λ k. IsDeleted k bs × none k)
+          (λ k. IsDeletedIn k (bs ∷ drop left (undo_of u).history) × none k) h.same (λ k. each_with (one_or_older bs (drop left (undo_of u).history) k)) h.places without);
     }

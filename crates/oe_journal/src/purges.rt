@@ -1,15 +1,20 @@
 //! A purge: the oldest commits are forgotten.
-ghost use Rattle.std.specs.Prelude.{◌≡◌, ◌-◌, ◌≤◌, ◌∷◌, [], ℕ, Option, length, drop, IfErr, OnOk, OnErr};
+ghost use Rattle.std.specs.Prelude.{◌≡◌, ◌-◌, ◌≤◌, ◌↔◌, ◌∷◌, [], ℕ, Option, length, drop, IsTrue, IfErr, OnOk, OnErr};
 ghost use Rattle.oe_theory.specs.Store.{Slot, purged_to};
 ghost use Rattle.oe_model.specs.Rows.{Rows};
 ghost use Rattle.oe_model.specs.System.{system};
 ghost use Rattle.oe_store.specs.Places.{rows};
 ghost use Rattle.oe_segments.specs.Segments.{with_newest};
 ghost use Rattle.oe_segments.specs.Stands.{undo_of};
+ghost use Rattle.oe_chains.specs.Chains.{IsForgotten, IsEnd};
+ghost use Rattle.oe_undo.specs.Undo.{seen};
 ghost use Rattle.oe_journal.specs.GivesUp.{IsDeleted, GivesUpThose, GivesUpDeleted};
 ghost use Rattle.oe_journal.specs.Moments.{store_with, newest, horizon, IsKeptMoment, IsOutside};
 
 use crate::moments::{commits_after, kept};
+use oe_chains::Holder;
+use oe_chains::laws::{calls_keep_chains, ends_without_records};
+use oe_keys::{Key, NewOrderKey};
 use oe_layout::StoredRecord;
 use oe_log::Records;
 use oe_requests::Refusal;
@@ -18,8 +23,8 @@ use oe_undo::Undo;
 use oe_values::Moment;
 
 /// Gives up the segments of the commits up to a moment, which becomes the horizon, and the places of the NEW-ORDER keys that these
-/// commits deleted and that have no row. Rows, counts of commits and open segments stay as they are, and so do all later versions.
-/// It takes no memory, and visits no segment that is kept.
+/// commits deleted, that have no row, and of which no record is left. Rows, counts of commits and open segments stay as they are, and
+/// so do all later versions. It takes no memory, and visits no segment that is kept.
 ///
 /// `TooOld` with the horizon, `Future` with the newest moment: the moment is not between the two. Nothing has changed then.
 pub fn purge(tables: &mut Tables, undo: &mut Undo, moment: Moment) -> Result<(), Refusal>
@@ -32,7 +37,7 @@ pub fn purge(tables: &mut Tables, undo: &mut Undo, moment: Moment) -> Result<(),
         ≡ purged_to system moment (store_with r undo.old.log slots)) }
     ensures rows { rows tables.new ≡ rows tables.old }
     ensures places { OnOk result (GivesUpDeleted tables.old tables.new
-        (drop (newest undo.old.log - moment) (undo_of undo.old.log).history)) }
+        (drop (newest undo.old.log - moment) (undo_of undo.old.log).history) undo.new.log) }
     ensures links { undo.new.links ≡ undo.old.links }
     ensures cause { IfErr result
         (IsOutside (horizon undo.old.log) (newest undo.old.log) moment) }
@@ -40,47 +45,83 @@ pub fn purge(tables: &mut Tables, undo: &mut Undo, moment: Moment) -> Result<(),
 {
     match commits_after(undo.segments(), moment) {
         Ok(later) => {
-            forget_oldest(tables, undo, kept(undo.segments()) - later);
+            forget_oldest(tables, undo, moment, kept(undo.segments()) - later);
             Ok(())
         }
         Err(refusal) => Err(refusal),
     }
 }
 
-/// Gives up the segments of the oldest commits, so many, with the places of what they deleted.
-fn forget_oldest(tables: &mut Tables, undo: &mut Undo, count: usize)
-    requires { count ≤ length undo.old.log.committed }
+/// Gives up the segments of the oldest commits, so many, of which the moment is the last, with the places of what they deleted.
+fn forget_oldest(tables: &mut Tables, undo: &mut Undo, moment: Moment, count: usize)
+    requires kept { count ≤ length undo.old.log.committed }
+    requires last { moment
+        ≡ newest undo.old.log - (length undo.old.log.committed - count) }
     ensures log { undo.new.log
         ≡ with_newest (length undo.old.log.committed - count) undo.old.log }
     ensures rows { rows tables.new ≡ rows tables.old }
     ensures places { GivesUpDeleted tables.old tables.new
-        (drop (length undo.old.log.committed - count) (undo_of undo.old.log).history) }
+        (drop (length undo.old.log.committed - count) (undo_of undo.old.log).history)
+        undo.new.log }
     ensures links { undo.new.links ≡ undo.old.links }
 {
+    calls_keep_chains();
+    ends_without_records();
     for _ in 0..count {
+        // For the proof: a link that ends at the moment has no record that the purge leaves.
+        undo.is_chained();
         let oldest = kept(undo.segments()) - 1;
-        give_up_deleted(tables, undo.segments().committed_records(oldest));
+        give_up_deleted(
+            tables,
+            undo,
+            undo.segments().committed_records(oldest),
+            moment,
+        );
         let _owner = undo.drop_oldest();
     }
 }
 
-/// Gives up the places of the NEW-ORDER keys that a commit deleted and that have no row.
-fn give_up_deleted(tables: &mut Tables, records: Records<'_>)
+/// Gives up the places of the NEW-ORDER keys that a commit deleted, that have no row, and whose links end at the moment.
+fn give_up_deleted(tables: &mut Tables, undo: &Undo, records: Records<'_>, moment: Moment)
     ensures rows { rows tables.new ≡ rows tables.old }
-    ensures places { GivesUpThose tables.old tables.new (λ k. IsDeleted k records.entry) }
+    ensures places { GivesUpThose tables.old tables.new
+        (λ k. IsDeleted k records.entry × IsEnd moment (seen undo.now k)) }
 {
     for before in records {
-        give_up_key(tables, &before);
+        give_up_key(tables, undo, &before, moment);
     }
 }
 
-/// Gives up the place of the NEW-ORDER key that a record says was deleted, if it says so, and if the key has no row.
-fn give_up_key(tables: &mut Tables, before: &StoredRecord<'_>)
+/// Gives up the place of the NEW-ORDER key that a record says was deleted, if it says so, if the key has no row, and if its link
+/// ends at the moment.
+fn give_up_key(tables: &mut Tables, undo: &Undo, before: &StoredRecord<'_>, moment: Moment)
     ensures rows { rows tables.new ≡ rows tables.old }
     ensures places { GivesUpThose tables.old tables.new
-        (λ k. IsDeleted k (before.now ∷ [])) }
+        (λ k. IsDeleted k (before.now ∷ []) × IsEnd moment (seen undo.now k)) }
 {
     if let Some(key) = before.deleted_new_order() {
-        tables.give_up_new_order(key);
+        if has_ended(undo, &key, moment) {
+            tables.give_up_new_order(key);
+        }
+    }
+}
+
+/// Whether a key's link leads to no record of an open transaction, nor of a commit after the moment.
+fn has_ended(undo: &Undo, key: &NewOrderKey, moment: Moment) -> bool
+    ensures { IsTrue result ↔ IsEnd moment (seen undo.now (Key.NewOrder key.now)) }
+{
+    match undo.link(&Key::NewOrder(*key)) {
+        None => true,
+        Some(link) => is_forgotten(&link.holder, moment),
+    }
+}
+
+/// Whether a holder's commit is given up by a purge to the moment.
+fn is_forgotten(holder: &Holder, moment: Moment) -> bool
+    ensures { IsTrue result ↔ IsForgotten moment holder.now }
+{
+    match holder {
+        Holder::Open(_) => false,
+        Holder::At(made) => *made <= moment,
     }
 }

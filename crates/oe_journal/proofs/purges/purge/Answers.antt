@@ -22,5 +22,5 @@ returns-in-Ok-clause-purged c =
 
 pub returns-in-Ok-clause-places : goal.returns-in-Ok-clause-places
 returns-in-Ok-clause-places c =
-    subst (λ n. GivesUpDeleted c.args.tables.now c.forget_oldest.new.tables (drop n (undo_of c.args.undo.now.log).history))
+    subst (λ n. GivesUpDeleted c.args.tables.now c.forget_oldest.new.tables (drop n (undo_of c.args.undo.now.log).history) c.forget_oldest.new.undo.log)
     (left (goal.at.returns-in-Ok-clause-places c).After-forget_oldest) c.forget_oldest.ensures.places

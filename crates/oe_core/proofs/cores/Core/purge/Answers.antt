@@ -1,9 +1,6 @@
 use Rattle.oe_core.proofs.MoveFacts.{carries}
-use Rattle.oe_core.proofs.PastFacts.{unchanged, named_no_more, purged_here, purge_refused}
+use Rattle.oe_core.proofs.PastFacts.{unchanged, purged_here, purge_refused}
 use Rattle.oe_core.proofs.cores.Core.purge.Goals as goal
-
-pub purge-requires : goal.purge-requires
-purge-requires c = λ kept. named_no_more _ c.self.invariant c.args.moment
 
 pub invariant_of-self : goal.invariant_of-self
 invariant_of-self c = (unchanged c.purge.new.self c.in-Err.ensures.err (purge_refused _ c.self.invariant c.args.moment c.in-Err.cause c.in-Err.ensures.cause)).orderly

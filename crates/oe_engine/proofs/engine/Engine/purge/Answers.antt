@@ -1,6 +1,4 @@
-use Rattle.std.proofs.Common.{sym, subst}
 use Rattle.oe_engine.specs.View.{view_of, view_from}
-use Rattle.oe_engine.specs.Calls.{IsKeptMoment, IsNamedNoMoreAfter}
 use Rattle.oe_engine.proofs.PastFacts.{purge_sound, purge_view}
 use Rattle.oe_engine.proofs.engine.Engine.purge.Goals as goal
 
@@ -8,8 +6,7 @@ pub invariant_of-self : goal.invariant_of-self
 unfolding view_of
 invariant_of-self c =
     purge_sound c.purge.result c.self.inside.tables c.purge.new.tables c.self.inside.undo c.purge.new.undo c.self.inside.locks c.args.moment
-    (subst (λ s. IsKeptMoment (view_of s) c.args.moment → IsNamedNoMoreAfter c.args.moment (view_of s)) (sym c.self.view_is) c.requires)
-    c.purge.ensures.kept c.purge.ensures.log c.purge.ensures.rows c.purge.ensures.places c.purge.ensures.links c.purge.ensures.err c.self.invariant
+    c.purge.ensures.log c.purge.ensures.rows c.purge.ensures.places c.purge.ensures.links c.purge.ensures.err c.self.invariant
 
 pub returns-clause-purged : goal.returns-clause-purged
 unfolding view_of

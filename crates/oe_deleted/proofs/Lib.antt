@@ -1,3 +1,0 @@
-pub mod MoveFacts
-pub mod GoneFacts
-pub mod HistoryFacts
