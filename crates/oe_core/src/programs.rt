@@ -134,7 +134,7 @@ impl Program {
     }
 
     /// One stage of the program of this request: its lock and its change. `Refused` leaves all as it was.
-    #[inline]
+    #[inline(always)]
     pub fn next(&mut self, request: &Request, engine: &mut Engine, tx: &Tx) -> Progress
         requires of { IsOf request.now self.old }
         requires held { IsOpen engine.old tx.now

@@ -149,10 +149,7 @@ pub fn history_data(warehouse: &Text<0, 10>, district: &Text<0, 10>) -> Text<0, 
     spelled.push_str(warehouse.as_str());
     spelled.push_str("    ");
     spelled.push_str(district.as_str());
-    match Text::read(spelled.as_str()) {
-        Some(text) => text,
-        None => unreachable!(),
-    }
+    Text::of_printable(spelled.as_bytes())
 }
 
 /// The HISTORY row of a payment by the customer with that number.

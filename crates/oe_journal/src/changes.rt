@@ -13,7 +13,7 @@ ghost use Rattle.oe_journal.specs.Writes.{HasPushedChange, HasRoomToChange, IsRe
 
 use crate::lending::lend_changed;
 use crate::unplaced::unplaced_change;
-use oe_layout::LinkedRecord;
+use oe_layout::{LinkedRecord, Previous};
 use oe_records::Change;
 use oe_requests::Refusal;
 use oe_segments::Segment;
@@ -83,12 +83,11 @@ fn push_changed(
     let Some(before) = lend_changed(tables, change) else {
         return Err(Refusal::NoSuchRow(change.key()));
     };
-    let previous = undo.previous(segment, &before.key());
-    let lent = LinkedRecord {
-        previous,
+    let mut lent = LinkedRecord {
+        previous: Previous::Nothing,
         record: before,
     };
-    match undo.push(segment, &lent) {
+    match undo.push(segment, &mut lent) {
         Ok(()) => Ok(()),
         Err(CantPush::Full) => Err(Refusal::UndoFull),
         Err(CantPush::NoMemory) => Err(unplaced_change(tables, change)),

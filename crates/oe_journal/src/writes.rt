@@ -10,7 +10,7 @@ ghost use Rattle.oe_journal.specs.Writes.{HasRoomFor, HasWritten, HasRecorded, C
 use crate::lending::lend;
 use crate::settings::set;
 use crate::unplaced::unplaced;
-use oe_layout::LinkedRecord;
+use oe_layout::{LinkedRecord, Previous};
 use oe_records::Write;
 use oe_requests::Refusal;
 use oe_segments::Segment;
@@ -75,12 +75,11 @@ fn push(tables: &Tables, undo: &mut Undo, segment: Segment, write: &Write) -> Re
         Ok(before) => before,
         Err(refusal) => return Err(refusal),
     };
-    let previous = undo.previous(segment, &before.key());
-    let lent = LinkedRecord {
-        previous,
+    let mut lent = LinkedRecord {
+        previous: Previous::Nothing,
         record: before,
     };
-    match undo.push(segment, &lent) {
+    match undo.push(segment, &mut lent) {
         Ok(()) => Ok(()),
         Err(CantPush::Full) => Err(Refusal::UndoFull),
         Err(CantPush::NoMemory) => Err(unplaced(tables, write)),

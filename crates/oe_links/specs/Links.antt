@@ -2,7 +2,7 @@
 use Rattle.std.specs.Prelude.{◌≡◌, ◌↔◌, ◌⊎◌, cond, List, Option, None, Some, IsSome}
 use Rattle.std.specs.Ordering.{eq_by_cmp}
 use Rattle.std.specs.declared.cmp.Ordering.{Ordering}
-use Rattle.std.specs.FinMap.{FinMap, empty, get}
+use Rattle.std.specs.FinMap.{FinMap, empty, get, insert}
 use Rattle.oe_keys.specs.Key.{warehouse_cmp, district_cmp, customer_cmp, history_cmp, new_order_cmp, order_cmp, order_line_cmp, item_cmp, stock_cmp}
 use Rattle.oe_keys.specs.declared.keys.Key.{Key}
 use Rattle.oe_keys.specs.declared.keys.Key.TheVariants as key
@@ -46,6 +46,18 @@ link_in (Some l) = l
 -- the link of a key, if it has one
 abbrev pub links_of : LinkMaps → Key → Option OwnedLink
 links_of m k = link_in (place_of m k)
+
+-- a key's place has this link, or is empty
+abbrev pub with_link : LinkMaps → Key → Option OwnedLink → LinkMaps
+with_link m (key.Warehouse k) l = record m { warehouses = insert m.warehouses k l }
+with_link m (key.District k) l = record m { districts = insert m.districts k l }
+with_link m (key.Customer k) l = record m { customers = insert m.customers k l }
+with_link m (key.History k) l = record m { histories = insert m.histories k l }
+with_link m (key.NewOrder k) l = record m { new_orders = insert m.new_orders k l }
+with_link m (key.Order k) l = record m { orders = insert m.orders k l }
+with_link m (key.OrderLine k) l = record m { order_lines = insert m.order_lines k l }
+with_link m (key.Item k) l = record m { items = insert m.items k l }
+with_link m (key.Stock k) l = record m { stocks = insert m.stocks k l }
 
 -- no key has a place
 abbrev pub no_links : LinkMaps

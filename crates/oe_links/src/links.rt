@@ -1,6 +1,6 @@
 //! Links by key.
 //!
-//! A table of links has a key for each place, and there the key's link, if it has one. Only `add_place` and `lead` take memory, for a
+//! A table of links has a key for each place, and there the key's link, if it has one. Only `add_place` and `insert` take memory, for a
 //! key without a place; where that is refused the links are as before.
 ghost use Rattle.std.specs.Prelude.{◌≡◌, Some, None, IsSome, OnOk, OnErr};
 ghost use Rattle.oe_links.specs.Links.{place_of, links_of, link_in, HasPlace, no_links, stands_at, SetsAt, SetsPlace, SetsLink};
@@ -90,25 +90,6 @@ fn add_place_in<K: ShelvedKey + Copy + Drop>(
     links.put_new(*key, None)
 }
 
-// Gives a key its link, where it stands or in a new place.
-#[inline(always)]
-fn lead_in<K: ShelvedKey + Copy + Drop>(
-    links: &mut Shelves<K, Option<OwnedLink>>,
-    key: &K,
-    link: OwnedLink,
-) -> Result<(), NoMemory>
-    ensures leads { OnOk result (SetsAt K.cmp links.old links.new key.now
-        (Some (Some link))) }
-    ensures no_place { OnErr result (stands_at K.cmp links.old key.now ≡ None) }
-    ensures err { OnErr result (links.new ≡ links.old) }
-{
-    if let Some(place) = links.row_mut(key) {
-        *place = Some(link);
-        return Ok(());
-    }
-    links.put_new(*key, Some(link))
-}
-
 // Sets the link in a key's place.
 #[inline(always)]
 fn set_in<K: ShelvedKey>(
@@ -136,6 +117,10 @@ fn give_up_in<K: ShelvedKey + Drop>(links: &mut Shelves<K, Option<OwnedLink>>, k
 }
 
 impl Links {
+    ghost use Rattle.std.specs.Borrow.{sem};
+    ghost use Rattle.std.specs.Option.{option_copied_mut};
+    ghost use Rattle.oe_links.specs.LinksLend.{lends_link};
+
     /// No place, which takes no memory.
     pub fn new(alloc: Global) -> Links
         ensures { result ≡ no_links }
@@ -190,22 +175,41 @@ impl Links {
         }
     }
 
-    /// Gives a key its link, and the place for it where it has none; `NoMemory` where memory for a place was refused.
-    pub fn lead(&mut self, key: &Key, link: OwnedLink) -> Result<(), NoMemory>
-        ensures leads { OnOk result (SetsLink self.old self.new key.now (Some link)) }
-        ensures no_place { OnErr result (place_of self.old key.now ≡ None) }
+    /// The place of a key that has one, with the key's link in it, to be set there. It takes no memory.
+    #[inline(always)]
+    pub fn place_mut(&mut self, key: &Key) -> Option<&mut Option<OwnedLink>>
+        ensures* writes_back { sem 𝓛 (lends_link self.entry key.now result) }
+        ensures place { option_copied_mut result ≡ place_of self.old key.now }
+    {
+        match key {
+            Key::Warehouse(key) => self.warehouses.row_mut(key),
+            Key::District(key) => self.districts.row_mut(key),
+            Key::Customer(key) => self.customers.row_mut(key),
+            Key::History(key) => self.histories.row_mut(key),
+            Key::NewOrder(key) => self.new_orders.row_mut(key),
+            Key::Order(key) => self.orders.row_mut(key),
+            Key::OrderLine(key) => self.order_lines.row_mut(key),
+            Key::Item(key) => self.items.row_mut(key),
+            Key::Stock(key) => self.stocks.row_mut(key),
+        }
+    }
+
+    /// Gives a key without a place one with its link; `NoMemory` where memory for it was refused.
+    pub fn insert(&mut self, key: &Key, link: OwnedLink) -> Result<(), NoMemory>
+        requires { place_of self.old key.now ≡ None }
+        ensures inserted { OnOk result (SetsLink self.old self.new key.now (Some link)) }
         ensures err { OnErr result (self.new ≡ self.old) }
     {
         match key {
-            Key::Warehouse(key) => lead_in(&mut self.warehouses, key, link),
-            Key::District(key) => lead_in(&mut self.districts, key, link),
-            Key::Customer(key) => lead_in(&mut self.customers, key, link),
-            Key::History(key) => lead_in(&mut self.histories, key, link),
-            Key::NewOrder(key) => lead_in(&mut self.new_orders, key, link),
-            Key::Order(key) => lead_in(&mut self.orders, key, link),
-            Key::OrderLine(key) => lead_in(&mut self.order_lines, key, link),
-            Key::Item(key) => lead_in(&mut self.items, key, link),
-            Key::Stock(key) => lead_in(&mut self.stocks, key, link),
+            Key::Warehouse(key) => self.warehouses.put_new(*key, Some(link)),
+            Key::District(key) => self.districts.put_new(*key, Some(link)),
+            Key::Customer(key) => self.customers.put_new(*key, Some(link)),
+            Key::History(key) => self.histories.put_new(*key, Some(link)),
+            Key::NewOrder(key) => self.new_orders.put_new(*key, Some(link)),
+            Key::Order(key) => self.orders.put_new(*key, Some(link)),
+            Key::OrderLine(key) => self.order_lines.put_new(*key, Some(link)),
+            Key::Item(key) => self.items.put_new(*key, Some(link)),
+            Key::Stock(key) => self.stocks.put_new(*key, Some(link)),
         }
     }
 

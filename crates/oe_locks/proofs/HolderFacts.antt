@@ -1,11 +1,11 @@
 -- Modes of the terminals that hold one name.
-use Rattle.std.proofs.Common.{◌≡◌, ◌≢◌, ℕ, ◌==◌, inl, inr, true, false, if◌then◌else◌, None, Some, refl, sym, ap, ◌∙◌}
+use Rattle.std.proofs.Common.{◌≡◌, ◌≢◌, ℕ, ◌==◌, inl, inr, Bool, true, false, if◌then◌else◌, None, Some, refl, sym, ap, ◌∙◌}
 use Rattle.std.proofs.lemmas.Bool.{cases_eq, cond-true, cond-false, eq-eqb, ne_eqb, eqb-false, false≢true}
 use Rattle.oe_keys.specs.declared.locks.Mode.{Mode}
 use Rattle.oe_keys.specs.declared.locks.Mode.TheVariants.{Shared, Exclusive}
 use Rattle.oe_locks.specs.declared.holders.Holders.TheVariants.{Alone, Together}
 use Rattle.oe_locks.specs.Held.{go_together, risen, IsFree}
-use Rattle.oe_locks.specs.Holders.{has, mode_among, IsLeast}
+use Rattle.oe_locks.specs.Holders.{has, mode_among, mode_by, IsLeast}
 
 -- a terminal that is alone holds the name as exclusive
 alone_has : (t : ℕ) → mode_among (Alone t) t ≡ Some Exclusive
@@ -31,6 +31,14 @@ stays_alone h t free u = elim (cases_eq u t) [
       own ∙ (ap (λ o. Some (risen Shared o)) (sym own) ∙ sym (cond-true (u == t) (Some (risen Shared (mode_among (Alone h) u))) (mode_among (Alone h) u) (eq-eqb u t e)))
   | inr ne ↦ sym (cond-false (u == t) (Some (risen Shared (mode_among (Alone h) u))) (mode_among (Alone h) u) (ne_eqb u t ne))
 ]
+
+-- nobody is left where a terminal that is alone lets go
+pub nobody_left : (t u : ℕ) → mode_by None u ≡ (if u == t then None else mode_among (Alone t) u)
+nobody_left t u = go (u == t)
+  where
+    go : (b : Bool) → mode_by None u ≡ (if b then None else (if b then Some Exclusive else None))
+    go true = refl
+    go false = refl
 
 -- somebody else is left
 pub other_alone : (h t : ℕ) → (h == t) ≡ false → ((u : ℕ) → u ≢ t → mode_among (Alone h) u ≡ None) → ⊥

@@ -1,5 +1,6 @@
 -- Entries of names on a list before others.
-use Rattle.std.proofs.Common.{◌≡◌, ℕ, zero, suc, ◌<◌, ◌≤◌, Bool, true, false, not, cond, [], ◌∷◌, ◌++◌, length, take, set, get_or, Option, None, Some, refl, sym, ap, ◌∙◌, arith}
+use Rattle.std.proofs.Common.{◌≡◌, ℕ, zero, suc, ◌<◌, ◌≤◌, Bool, true, false, not, cond, [], ◌∷◌, ◌++◌, length, take, set, get_or, Option, None, Some, IsSome, is_some, option_to_list, refl, sym, ap, ◌∙◌, subst, arith, add-one, ◌+◌}
+use Rattle.std.proofs.lemmas.Bool.{false≢true}
 use Rattle.std.proofs.lemmas.List.{take_all}
 use Rattle.std.specs.Map.{lookup}
 use Rattle.std.specs.List.{filter}
@@ -88,6 +89,33 @@ changes-both xs ys r s n first others q =
     go true = refl
     go false = refl
 
+-- the last entry has the name where the others before it have not, and it is found
+pub named-last : (xs : Holdings) (x : Name × Holders) (n : Name) → lookup (ghosts.eq n) xs ≡ None → IsSome (lookup (ghosts.eq n) (xs ++ x ∷ [])) → ghosts.eq n x.0 ≡ true
+named-last xs x n none some = go (ghosts.eq n x.0) (subst IsSome (found-later n xs (x ∷ []) none) some)
+  where
+    go : (b : Bool) → IsSome (cond {A = Option Holders} b (Some x.1) None) → b ≡ true
+    go true s = refl
+    go false s = absurd (false≢true s)
+
+-- the last entry has gone, the only one with the name
+pub changes-last : (es xs : Holdings) (o : Option (Name × Holders)) (n : Name) → es ≡ xs ++ option_to_list o → lookup (ghosts.eq n) xs ≡ None → IsSome (lookup (ghosts.eq n) es)
+    → Changes es xs n None
+changes-last es xs None n is none some = absurd (false≢true (sym (ap is_some (ap (lookup (ghosts.eq n)) is ∙ found-later n xs [] none)) ∙ some))
+changes-last es xs (Some x) n is none some = λ q. go q (ghosts.eq n q) refl ∙ ap (λ z. cond (ghosts.eq n q) None (lookup (ghosts.eq q) z)) (sym is)
+  where
+    this : n ≡ x.0
+    this = same_true n x.0 (named-last xs x n none (subst (λ z. IsSome (lookup (ghosts.eq n) z)) is some))
+
+    other : (o : Option Holders) (b : Bool) → b ≡ false → o ≡ or_else o (cond b (Some x.1) None)
+    other None false e = refl
+    other None true e = absurd (false≢true (sym e))
+    other (Some h) b e = refl
+
+    go : (q : Name) (b : Bool) → ghosts.eq n q ≡ b → lookup (ghosts.eq q) xs ≡ cond b None (lookup (ghosts.eq q) (xs ++ x ∷ []))
+    go q true e = ap (λ m. lookup (ghosts.eq m) xs) (sym (same_true n q e)) ∙ none
+    go q false e =
+        other (lookup (ghosts.eq q) xs) (ghosts.eq q x.0) (ap (ghosts.eq q) (sym this) ∙ (same_sym q n ∙ e)) ∙ sym (lookup-append q xs (x ∷ []))
+
 -- entries without a name
 pub changes-filter : (xs : Holdings) (n : Name) → Changes xs (filter (λ x. not (ghosts.eq n x.0)) xs) n None
 changes-filter xs n q =
@@ -116,6 +144,28 @@ none_next n (e ∷ es) (suc i) x within at other none = go (ghosts.eq n e.0) non
         → cond b (Some e.1) (lookup (ghosts.eq n) (take (suc i) es)) ≡ None
     go true f ih = f
     go false f ih = ih f
+
+-- the entries up to the next, which is the name's
+pub found_next : (n : Name) (es : Holdings) (i : ℕ) (x : Name × Holders) → i < length es → x ≡ get_or es i x → ghosts.eq n x.0 ≡ true → IsSome (lookup (ghosts.eq n) (take (suc i) es))
+found_next n [] i x within at this = absurd (omega (arith, within))
+found_next n (e ∷ es) zero x within at this =
+    ap (λ (z : Name × Holders). is_some (cond {A = Option Holders} (ghosts.eq n z.0) (Some z.1) None)) (sym at) ∙ ap (λ b. is_some (cond {A = Option Holders} b (Some x.1) None)) this
+found_next n (e ∷ es) (suc i) x within at this = go (ghosts.eq n e.0) (found_next n es i x (omega (arith, within)) at this)
+  where
+    go : (b : Bool) → IsSome (lookup (ghosts.eq n) (take (suc i) es)) → IsSome (cond b (Some e.1) (lookup (ghosts.eq n) (take (suc i) es)))
+    go true s = refl
+    go false s = s
+
+-- the entry has the name where those before it have not, and it is found with it
+pub named_at : (n : Name) (es : Holdings) (i : ℕ) (x : Name × Holders) → i < length es → x ≡ get_or es i x → lookup (ghosts.eq n) (take i es) ≡ None
+    → IsSome (lookup (ghosts.eq n) (take (i + 1) es)) → ghosts.eq n x.0 ≡ true
+named_at n es i x within at none some = go (ghosts.eq n x.0) refl
+  where
+    go : (b : Bool) → ghosts.eq n x.0 ≡ b → ghosts.eq n x.0 ≡ true
+    go true e = e
+    go false e =
+        let gone : lookup (ghosts.eq n) (take (i + 1) es) ≡ None = subst (λ (k : ℕ). lookup (ghosts.eq n) (take k es) ≡ None) (sym (add-one i)) (none_next n es i x within at e none) in
+        absurd (false≢true (sym (ap is_some gone) ∙ some))
 
 -- the first entry with the name
 pub found_at : (n : Name) (es : Holdings) (i : ℕ) (x : Name × Holders) → i < length es → x ≡ get_or es i x → ghosts.eq n x.0 ≡ true → lookup (ghosts.eq n) (take i es) ≡ None → Some x.1 ≡ lookup (ghosts.eq n) es

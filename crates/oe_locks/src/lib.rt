@@ -74,8 +74,8 @@ fn depart(holders: &mut NameMap, name: &Name, before: &Holders, terminal: Termin
 }
 
 // The same, where perhaps nobody holds it.
-#[inline(always)]
-fn leave(holders: &mut NameMap, name: &Name, terminal: Terminal)
+#[inline(never)]
+fn leave_elsewhere(holders: &mut NameMap, name: &Name, terminal: Terminal)
     ensures own { GivesBack holders.old holders.new terminal name.now None }
     ensures others { OthersKeep holders.old holders.new terminal }
 {
@@ -83,6 +83,18 @@ fn leave(holders: &mut NameMap, name: &Name, terminal: Terminal)
         Some(before) => depart(holders, name, &before, terminal),
         None => (),
     }
+}
+
+// The same, with one look where the terminal alone holds the name and it is the last on the map's list.
+#[inline(always)]
+fn leave(holders: &mut NameMap, name: &Name, terminal: Terminal)
+    ensures own { GivesBack holders.old holders.new terminal name.now None }
+    ensures others { OthersKeep holders.old holders.new terminal }
+{
+    if holders.leave_last(name, terminal) {
+        return;
+    }
+    leave_elsewhere(holders, name, terminal);
 }
 
 // The same with each name of the terminal's list, from the last one on. The list keeps its room.

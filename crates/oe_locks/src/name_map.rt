@@ -1,13 +1,15 @@
 //! Which names are held, and by whom. The first few lie on a short list, where a name is found by comparing it with each, and only
 //! those beyond it in a map: so the names of a few transactions are never hashed. Nothing is moved from one to the other. Only
 //! `insert` takes memory, and only it can fail.
-ghost use Rattle.std.specs.Prelude.{◌≡◌, [], IsSome, None, Some, OnOk, OnErr, true, false};
+ghost use Rattle.std.specs.Prelude.{◌≡◌, ◌<◌, ◌+◌, [], length, take, IfSome, IfNone, IsSome, None, Some, OnOk, OnErr, true, false};
 ghost use Rattle.std.specs.Map.{lookup};
 ghost use Rattle.oe_keys.specs.contracts.locks.NamePartialEq.TheImpl.{ghosts};
+ghost use Rattle.oe_locks.specs.declared.holders.Holders.TheVariants.{Alone};
 ghost use Rattle.oe_locks.specs.Names.{Changes};
 
 use crate::holders::Holders;
 use oe_keys::Name;
+use oe_values::Terminal;
 use std::alloc::{AllocError, Global};
 use std::collections::HashMap;
 use std::marker::Model;
@@ -56,6 +58,24 @@ fn mapped(entries: &HashMap<Name, Holders>, name: &Name) -> Option<Holders>
     Some(*entries.get(name)?)
 }
 
+// The place of the first entry with the name.
+#[inline(always)]
+fn place(entries: &[(Name, Holders)], name: &Name) -> Option<usize>
+    ensures within { IfSome result (λ at. at < length entries.now) }
+    ensures first { IfSome result (λ at.
+        lookup (ghosts.eq name.now) (take at entries.now) ≡ None) }
+    ensures there { IfSome result (λ at.
+        IsSome (lookup (ghosts.eq name.now) (take (at + 1) entries.now))) }
+    ensures absent { IfNone result (lookup (ghosts.eq name.now) entries.now ≡ None) }
+{
+    for i in 0..entries.len() {
+        if *name == entries[i].0 {
+            return Some(i);
+        }
+    }
+    None
+}
+
 // Puts other holders into the first entry with the name, if there is one, and answers whether there is.
 #[inline]
 fn put(entries: &mut Vec<(Name, Holders)>, name: &Name, after: &Holders) -> bool
@@ -79,6 +99,30 @@ fn strike_listed(entries: &mut Vec<(Name, Holders)>, name: &Name)
     ensures { Changes entries.old.items entries.new.items name.now None }
 {
     entries.retain(|entry| *name != entry.0);
+}
+
+// Takes the last entry off the list where it alone has the name and the terminal alone holds it, and answers whether it was so.
+#[inline(always)]
+fn strike_last(entries: &mut Vec<(Name, Holders)>, name: &Name, terminal: Terminal) -> bool
+    ensures alone { result ≡ true →
+        lookup (ghosts.eq name.now) entries.old.items ≡ Some (Alone terminal) }
+    ensures left { result ≡ true →
+        Changes entries.old.items entries.new.items name.now None }
+    ensures same { result ≡ false → entries.new.items ≡ entries.old.items }
+{
+    let Some(at) = place(entries, name) else {
+        return false;
+    };
+    if at + 1 != entries.len() {
+        return false;
+    }
+    match entries[at].1 {
+        Holders::Alone(holder) if holder == terminal => {
+            entries.pop();
+            true
+        }
+        _ => false,
+    }
 }
 
 // Puts the name's entry into the map. After an error nothing has changed.
@@ -180,6 +224,22 @@ impl NameMap {
             return;
         }
         replace_mapped(&mut self.rest, name, after);
+    }
+
+    /// Lets go of a name where the terminal alone holds it and it is the last on the list, as the newest of few names is, and
+    /// answers whether it was so.
+    #[inline(always)]
+    pub(crate) fn leave_last(&mut self, name: &Name, terminal: Terminal) -> bool
+        ensures alone { result ≡ true →
+            lookup (ghosts.eq name.now) self.old ≡ Some (Alone terminal) }
+        ensures left { result ≡ true → Changes self.old self.new name.now None }
+        ensures same { result ≡ false → self.new ≡ self.old }
+    {
+        if !strike_last(&mut self.few, name, terminal) {
+            return false;
+        }
+        strike_mapped(&mut self.rest, name);
+        true
     }
 
     /// Lets go of a name. Nobody holds it then.

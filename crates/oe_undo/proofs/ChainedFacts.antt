@@ -767,3 +767,10 @@ of_some P (Some y) h x e = subst P (owner.some_is y x e) h
 pub leads_previous : (u : SegmentLog) (links : Key → Option Link) (t : ℕ) (k : Key) → IsWhole u → AreChained u links → IsAlone u t k
     → link_from (Open t) (previous_of (links k)) ≡ links k
 leads_previous u links t k whole c alone = seen_again t (links k) (sees_alone u links t k whole c alone)
+
+-- a record is led to where its key's link in its place leads
+pub push_leads : (u : SegmentLog) (links : LinkMaps) (t : ℕ) (k key : Key) (place : Option OwnedLink) (l : Option Link) (p : Previous) → k ≡ key → Some place ≡ place_of links k
+    → l ≡ followed u place → p ≡ previous_of l → IsWhole u → AreChained u (λ j. followed u (links_of links j)) → IsAlone u t key → link_from (Open t) p ≡ followed u (links_of links key)
+push_leads u links t k key place l p own found is by whole chained alone =
+    ap (λ q. link_from (Open t) q) (by ∙ ap previous_of (is ∙ ap (λ o. followed u (link_in o)) (found ∙ ap (place_of links) own)))
+    ∙ leads_previous u (λ j. followed u (links_of links j)) t key whole chained alone

@@ -1,16 +1,21 @@
 //! Records pushed and taken off, each with its key's link.
-ghost use Rattle.std.specs.Prelude.{◌≡◌, option_map, IsSome, IfErr, OnOk, OnErr};
+ghost use Rattle.std.specs.Prelude.{◌≡◌, None, option_map, IsSome, IfErr, OnOk, OnErr};
+ghost use Rattle.std.specs.Borrow.{sem};
+ghost use Rattle.std.specs.Io.BufRead.{Rests};
 ghost use Rattle.oe_model.specs.Changes.{record_key};
 ghost use Rattle.oe_model.specs.Lengths.{record_length};
 ghost use Rattle.oe_layout.specs.Records.{record_of_lent, record_of_own};
+ghost use Rattle.oe_layout.specs.declared.links.Previous.TheVariants.{Nothing};
 ghost use Rattle.oe_log.specs.Log.{newest_of, IsFull};
 ghost use Rattle.oe_segments.specs.Segments.{active_at, records_at, popped, log_of};
-ghost use Rattle.oe_chains.specs.Chains.{link_from};
+ghost use Rattle.oe_chains.specs.Chains.{link_from, previous_of, IsAlone};
+ghost use Rattle.oe_links.specs.Links.{place_of};
 ghost use Rattle.oe_chains.specs.declared.links.Holder.TheVariants.{Open};
 ghost use Rattle.oe_undo.specs.Undo.{seen, HasPushed, IsUnpushed, GivesBack};
 
-use crate::undo::Undo;
-use oe_layout::{LinkedRecord, OwnRecord};
+use crate::undo::{Undo, followed_in};
+use oe_chains::{Link, previous_of};
+use oe_layout::{LinkedRecord, OwnRecord, Previous};
 use oe_links::OwnedLink;
 use oe_segments::Segment;
 
@@ -23,34 +28,90 @@ pub enum CantPush {
     NoMemory,
 }
 
+// What is behind a `&mut`, to be read. To read it without a call is more than the borrow checker's proof can do here.
+#[inline(always)]
+fn shared<T>(lent: &mut T) -> &T
+    ensures* stays { sem 𝓛 (Rests T.row lent.entry (λ v. v ≡ lent.entry.now)) }
+    ensures value { result.now ≡ lent.old }
+{
+    lent
+}
+
+// Sets what leads to a record's previous one, by its key's link.
+#[inline(always)]
+fn lead_from(lent: &mut LinkedRecord<'_>, link: Option<Link>)
+    ensures previous { lent.new.previous ≡ previous_of link }
+    ensures record { lent.new.record ≡ lent.old.record }
+{
+    lent.previous = previous_of(link);
+}
+
 impl Undo {
-    /// Appends a record to an open segment, with its key's link as what leads to the previous one of its row, and has the link lead
-    /// to it, at an address where no other record is. The row before an update is written from where it lies. A key that has a place
-    /// for its link takes no memory.
+    /// Appends a record to an open segment, and has its key's link lead to it. What leads to the previous record of its row is written
+    /// into it first: its key's link as it was. No other open transaction has a record of the key, and no other record is at its address.
+    /// The row before an update is written from where it lies. A key that has a place for its link takes no memory.
     ///
     /// `Full` exactly where the record fits neither the rest of the segment's newest extent nor a free one. `NoMemory`: the record fits, its key
-    /// has no place for a link, and memory for that was refused. Nothing has changed then.
-    pub fn push(&mut self, segment: Segment, lent: &LinkedRecord<'_>) -> Result<(), CantPush>
+    /// has no place for a link, and memory for that was refused. The log and the links are as before then.
+    #[inline(always)]
+    pub fn push(&mut self, segment: Segment, lent: &mut LinkedRecord<'_>) -> Result<(), CantPush>
         requires open { IsSome (active_at self.old.log segment) }
-        requires linked { link_from (Open segment) lent.now.previous
-            ≡ seen self.old (record_key (record_of_lent lent.now.record)) }
+        requires alone { IsAlone self.old.log segment (record_key (record_of_lent lent.old.record)) }
+        ensures linked { link_from (Open segment) lent.new.previous
+            ≡ seen self.old (record_key (record_of_lent lent.old.record)) }
+        ensures record { lent.new.record ≡ lent.old.record }
         ensures pushed { OnOk result
-            (HasPushed self.old self.new segment lent.now.previous
-            (record_of_lent lent.now.record)) }
+            (HasPushed self.old self.new segment lent.new.previous
+            (record_of_lent lent.old.record)) }
         ensures room { OnOk result
             (IsFull (log_of self.old.log) segment
-            (record_length (record_of_lent lent.now.record)) → ⊥) }
+            (record_length (record_of_lent lent.old.record)) → ⊥) }
         ensures cause { IfErr result
-            (IsUnpushed self.old segment (record_of_lent lent.now.record)) }
+            (IsUnpushed self.old segment (record_of_lent lent.old.record)) }
         ensures err { OnErr result (self.new ≡ self.old) }
     {
         self.is_chained();
         let owner = self.segments.owner(segment);
-        let Ok(address) = self.segments.push(segment, lent) else {
+        let key = shared(lent).record.key();
+        let Some(place) = self.links.place_mut(&key) else {
+            return self.push_new(segment, lent);
+        };
+        lead_from(lent, followed_in(&self.segments, &self.moments, *place));
+        let linked = shared(lent);
+        let Ok(address) = self.segments.push(segment, linked) else {
+            return Err(CantPush::Full);
+        };
+        *place = Some(OwnedLink { address, owner });
+        Ok(())
+    }
+
+    // The same for a key that has no place for a link, and so no record.
+    #[inline(never)]
+    fn push_new(&mut self, segment: Segment, lent: &mut LinkedRecord<'_>) -> Result<(), CantPush>
+        requires open { IsSome (active_at self.old.log segment) }
+        requires no_place { place_of self.old.links (record_key (record_of_lent lent.old.record))
+            ≡ None }
+        ensures linked { lent.new.previous ≡ Nothing }
+        ensures record { lent.new.record ≡ lent.old.record }
+        ensures pushed { OnOk result
+            (HasPushed self.old self.new segment Nothing (record_of_lent lent.old.record)) }
+        ensures room { OnOk result
+            (IsFull (log_of self.old.log) segment
+            (record_length (record_of_lent lent.old.record)) → ⊥) }
+        ensures cause { IfErr result
+            (IsUnpushed self.old segment (record_of_lent lent.old.record)) }
+        ensures err { OnErr result (self.new ≡ self.old) }
+    {
+        self.is_chained();
+        let owner = self.segments.owner(segment);
+        lead_from(lent, None);
+        let key = shared(lent).record.key();
+        let linked = shared(lent);
+        let Ok(address) = self.segments.push(segment, linked) else {
             return Err(CantPush::Full);
         };
         let link = OwnedLink { address, owner };
-        match self.links.lead(&lent.record.key(), link) {
+        match self.links.insert(&key, link) {
             Ok(()) => Ok(()),
             Err(_refused) => {
                 self.segments.pop(segment);

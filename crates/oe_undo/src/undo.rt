@@ -3,14 +3,14 @@ ghost use Rattle.std.specs.Prelude.{◌≡◌, ◌<◌, [], None, IsSome, IfSome
 ghost use Rattle.oe_segments.specs.Segments.{count_at, active_at, records_at, no_segments, opened, dropped};
 ghost use Rattle.oe_chains.specs.declared.links.Holder.TheVariants.{Open};
 ghost use Rattle.oe_chains.specs.Held.{horizon};
-ghost use Rattle.oe_chains.specs.Chains.{link_from, AreChained, IsAlone};
+ghost use Rattle.oe_chains.specs.Chains.{link_from, AreChained};
 ghost use Rattle.oe_chains.specs.Laws.{IsWhole};
 ghost use Rattle.oe_links.specs.Links.{place_of, links_of, no_links, SetsLink};
-ghost use Rattle.oe_undo.specs.Owners.{followed, holder_of, IsMade, IsOwner};
+ghost use Rattle.oe_undo.specs.Owners.{followed, holder_of, AreMoments, IsMade, IsOwner};
 ghost use Rattle.oe_undo.specs.Undo.{seen, unended};
 
 use crate::moments::{TerminalMoments, idle_moments};
-use oe_chains::{Holder, Link, previous_of};
+use oe_chains::{Holder, Link};
 use oe_keys::Key;
 use oe_layout::Previous;
 use oe_links::{Links, OwnedLink};
@@ -49,6 +49,46 @@ impl Model for Undo {
     ghost invariant = { λ u. IsLinked u.segments (links_of u.links) u.moments.items };
 }
 
+/// What became of a transaction that has committed or is open; none where its commit was given up.
+#[inline(always)]
+fn holder_in(
+    segments: &Segments,
+    moments: &[TerminalMoments],
+    owner: &SegmentOwner,
+) -> Option<Holder>
+    requires { AreMoments segments.now moments.now }
+    ensures { result ≡ holder_of segments.now owner.now }
+{
+    let terminal = owner.terminal;
+    let count = segments.count(terminal);
+    let number = owner.number.get();
+    if count < number {
+        return Some(Holder::Open(terminal));
+    }
+    match moments[terminal.get() as usize].at((count - number) as usize) {
+        Some(moment) => Some(Holder::At(moment)),
+        None => None,
+    }
+}
+
+/// A key's link, if it has one, with what became of its transaction by now.
+#[inline(always)]
+pub(crate) fn followed_in(
+    segments: &Segments,
+    moments: &[TerminalMoments],
+    link: Option<OwnedLink>,
+) -> Option<Link>
+    requires { AreMoments segments.now moments.now }
+    ensures { result ≡ followed segments.now link }
+{
+    let link = link?;
+    let holder = holder_in(segments, moments, &link.owner)?;
+    Some(Link {
+        address: link.address,
+        holder,
+    })
+}
+
 impl Undo {
     /// No segment, no commit and no link, on a ring of so many extents; `NoMemory` where memory was refused.
     pub fn new(alloc: Global, extents: ExtentCount) -> Result<Undo, NoMemory>
@@ -72,34 +112,12 @@ impl Undo {
         &self.segments
     }
 
-    /// What became of a transaction that has committed or is open; none where its commit was given up.
-    #[inline(always)]
-    fn holder(&self, owner: &SegmentOwner) -> Option<Holder>
-        ensures { result ≡ holder_of self.now.log owner.now }
-    {
-        let terminal = owner.terminal;
-        let count = self.segments.count(terminal);
-        let number = owner.number.get();
-        if count < number {
-            return Some(Holder::Open(terminal));
-        }
-        match self.moments[terminal.get() as usize].at((count - number) as usize) {
-            Some(moment) => Some(Holder::At(moment)),
-            None => None,
-        }
-    }
-
     /// The link of a key to its newest record, if it has a record.
     #[inline(always)]
     pub fn link(&self, key: &Key) -> Option<Link>
         ensures { result ≡ seen self.now key.now }
     {
-        let link = self.links.link(key)?;
-        let holder = self.holder(&link.owner)?;
-        Some(Link {
-            address: link.address,
-            holder,
-        })
+        followed_in(&self.segments, &self.moments, self.links.link(key))
     }
 
     /// Each key's link leads along the key's records. It does nothing: it is for proofs above, which see no invariant.
@@ -145,18 +163,6 @@ impl Undo {
         ensures links { self.new.links ≡ self.old.links }
     {
         self.segments.drop_segment(segment)
-    }
-
-    /// What leads to a key's newest record, to be written in a record of that key which an open segment gets next. No other open
-    /// transaction has a record of the key.
-    #[inline(always)]
-    pub fn previous(&self, segment: Segment, key: &Key) -> Previous
-        requires { IsAlone self.now.log segment key.now }
-        ensures { link_from (Open segment) result ≡ seen self.now key.now }
-    {
-        self.is_chained();
-        let _terminal = segment.terminal();
-        previous_of(self.link(key))
     }
 
     /// The link to where a previous one leads, which a record of an open segment has; none where its commit was given up.

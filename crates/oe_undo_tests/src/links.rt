@@ -22,18 +22,6 @@ fn committed(extent: u32, offset: u32, moment: u64) -> Option<Previous> {
     Some(Previous::Committed(address(extent, offset)?, Moment::new(moment)?))
 }
 
-/// What a terminal that alone has a segment open is told to write in a record of the order.
-fn told(undo: &Undo, terminal: Terminal, key: &OrderKey) -> Option<Previous> {
-    let segments = undo.segments();
-    if !segments.is_open(terminal) {
-        return None;
-    }
-    if segments.open_count() != 1 {
-        return None;
-    }
-    Some(undo.previous(Segment::of(terminal), &Key::Order(*key)))
-}
-
 fn link(undo: &Undo, key: &OrderKey) -> Option<Link> {
     undo.link(&Key::Order(*key))
 }
@@ -54,24 +42,22 @@ fn made_at(extent: u32, offset: u32, moment: u64) -> Option<Link> {
     })
 }
 
-/// Two records of terminal 41, and its commit, after which terminal 5 has a segment open.
-fn told_by_turns(undo: &mut Undo, key: &OrderKey) -> Option<bool> {
+/// Two records of terminal 41, and its commit, after which terminal 5 has a segment open with one.
+fn pushed_by_turns(undo: &mut Undo, key: &OrderKey) -> Option<bool> {
     let row = order(11)?;
     let first = Terminal::new(41)?;
     let second = Terminal::new(5)?;
     begin(undo, first)?;
-    let at_first = told(undo, first, key);
-    push_order(undo, first, key, &row)?;
-    let behind_one = told(undo, first, key);
-    push_order(undo, first, key, &row)?;
-    let behind_two = told(undo, first, key);
+    let at_first = push_order(undo, first, key, &row)?;
+    let behind_one = push_order(undo, first, key, &row)?;
     commit(undo, first)?;
     begin(undo, second)?;
+    let behind_commit = push_order(undo, second, key, &row);
+    pop(undo, second)?;
     Some(
-        at_first == Some(Previous::Nothing)
-            && behind_one == own(0, 0)
-            && behind_two == own(0, 38)
-            && told(undo, second, key) == committed(0, 38, 1),
+        at_first == Previous::Nothing
+            && Some(behind_one) == own(0, 0)
+            && behind_commit == committed(0, 38, 1),
     )
 }
 
@@ -130,7 +116,7 @@ fn given_up(undo: &mut Undo, key: &OrderKey) -> Option<bool> {
 fn links_are_handed_on(rt: HostRuntime) {
     let key = order_key().expect(&rt, "a key");
     let mut undo = undo(rt.alloc(), 2).expect(&rt, "a log");
-    assert!(rt; told_by_turns(&mut undo, &key) == Some(true));
+    assert!(rt; pushed_by_turns(&mut undo, &key) == Some(true));
     assert!(rt; taken_off(&mut undo, &key) == Some(true));
     assert!(rt; given_up(&mut undo, &key) == Some(true));
 }

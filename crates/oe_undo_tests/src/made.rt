@@ -1,11 +1,10 @@
 //! What several tests use. `None` where a value could not be made, or a call was refused.
-ghost use Rattle.std.specs.Prelude.{◌≡◌, IfSome};
-ghost use Rattle.oe_chains.specs.Chains.{link_from};
-ghost use Rattle.oe_chains.specs.declared.links.Holder.TheVariants.{Open};
-ghost use Rattle.oe_undo.specs.Undo.{seen};
+ghost use Rattle.std.specs.Prelude.{IfSome, IsSome};
+ghost use Rattle.oe_keys.specs.declared.keys.Key.{Key};
+ghost use Rattle.oe_segments.specs.Segments.{active_at};
+ghost use Rattle.oe_chains.specs.Chains.{IsAlone};
 
-use oe_chains::Holder;
-use oe_keys::{DistrictKey, Key, OrderKey};
+use oe_keys::{DistrictKey, OrderKey};
 use oe_layout::{LentRecord, LinkedRecord, Previous};
 use oe_requests::{DeliveryRequest, DistrictDelivery, Reply, Request};
 use oe_rows::Order;
@@ -65,42 +64,45 @@ pub(crate) fn begin(undo: &mut Undo, terminal: Terminal) -> Option<()> {
     Some(())
 }
 
-/// What leads to a key's newest record, as a terminal sees it; none where that record is another's that is open.
-fn previous(undo: &Undo, terminal: Terminal, key: &Key) -> Option<Previous>
-    ensures { IfSome result
-        (λ p. link_from (Open terminal) p ≡ seen undo.now key.now) }
+/// A terminal's segment, where it alone has one open.
+#[tactic(auto, using(crate::proofs::AloneFacts::only_one_is_alone))]
+pub(crate) fn only_segment(undo: &Undo, terminal: Terminal) -> Option<Segment>
+    ensures open { IfSome result (λ s. IsSome (active_at undo.now.log s)) }
+    ensures alone { IfSome result (λ s. (k : Key) → IsAlone undo.now.log s k) }
 {
-    let Some(link) = undo.link(key) else {
-        return Some(Previous::Nothing);
-    };
-    match &link.holder {
-        Holder::At(moment) => Some(Previous::Committed(link.address, *moment)),
-        Holder::Open(holder) => {
-            if *holder == terminal {
-                Some(Previous::Own(link.address))
-            } else {
-                None
-            }
-        }
+    let segments = undo.segments();
+    if !segments.is_open(terminal) {
+        return None;
     }
+    if segments.open_count() != 1 {
+        return None;
+    }
+    Some(Segment::of(terminal))
 }
 
-/// Pushes an update of an order by a terminal that has a segment open, with the order's link.
+/// Pushes a record by a terminal that alone has a segment open, and tells what it was pushed with as what leads to its previous one.
+pub(crate) fn push(
+    undo: &mut Undo,
+    terminal: Terminal,
+    record: LentRecord<'_>,
+) -> Option<Previous> {
+    let segment = only_segment(undo, terminal)?;
+    let mut lent = LinkedRecord {
+        previous: Previous::Nothing,
+        record,
+    };
+    undo.push(segment, &mut lent).ok()?;
+    Some(lent.previous)
+}
+
+/// Pushes an update of an order, likewise.
 pub(crate) fn push_order(
     undo: &mut Undo,
     terminal: Terminal,
     key: &OrderKey,
     row: &Order,
-) -> Option<()> {
-    let previous = previous(undo, terminal, &Key::Order(*key))?;
-    if !undo.segments().is_open(terminal) {
-        return None;
-    }
-    let lent = LinkedRecord {
-        previous,
-        record: LentRecord::UpdatedOrder(*key, row),
-    };
-    undo.push(Segment::of(terminal), &lent).ok()
+) -> Option<Previous> {
+    push(undo, terminal, LentRecord::UpdatedOrder(*key, row))
 }
 
 fn seal(undo: &mut Undo, terminal: Terminal, request: &Request, reply: &Reply) -> Option<Moment> {

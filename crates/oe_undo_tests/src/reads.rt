@@ -1,8 +1,7 @@
 //! Reads of past moments, of an order among 100,000 records of other keys.
-use crate::made::{begin, commit, order, order_key, push_order, undo};
+use crate::made::{begin, commit, order, order_key, push, push_order, undo};
 use oe_keys::{Key, OrderKey, OrderLineKey};
-use oe_layout::{LentRecord, LinkedRecord, OwnRecord, Previous, StoredRecord};
-use oe_segments::Segment;
+use oe_layout::{LentRecord, OwnRecord, StoredRecord};
 use oe_undo::{Ticks, Undo};
 use oe_values::{Moment, Number, Terminal};
 
@@ -16,26 +15,13 @@ fn line(number: u32) -> Option<OrderLineKey> {
     })
 }
 
-/// Pushes an insert of a line that has no record.
-fn push_line(undo: &mut Undo, terminal: Terminal, key: &OrderLineKey) -> Option<()> {
-    let link = undo.link(&Key::OrderLine(*key));
-    if link.is_some() || !undo.segments().is_open(terminal) {
-        return None;
-    }
-    let lent = LinkedRecord {
-        previous: Previous::Nothing,
-        record: LentRecord::InsertedOrderLine(*key),
-    };
-    undo.push(Segment::of(terminal), &lent).ok()
-}
-
 /// A transaction of a terminal of the round's, which inserts 5,000 lines and is open then.
 fn insert_lines(undo: &mut Undo, round: u32) -> Option<Terminal> {
     let terminal = Terminal::new(round.saturating_add(1))?;
     begin(undo, terminal)?;
     for step in 0..5_000u32 {
         let key = line(round.saturating_mul(5_000).saturating_add(step))?;
-        push_line(undo, terminal, &key)?;
+        push(undo, terminal, LentRecord::InsertedOrderLine(key))?;
     }
     Some(terminal)
 }

@@ -28,11 +28,14 @@ fn some_link() -> Option<OwnedLink> {
     })
 }
 
-fn lead(links: &mut Links, key: &Key) -> bool {
+fn insert(links: &mut Links, key: &Key) -> bool {
     let Some(link) = some_link() else {
         return false;
     };
-    links.lead(key, link).is_ok()
+    if links.place_mut(key).is_some() {
+        return false;
+    }
+    links.insert(key, link).is_ok()
 }
 
 fn has_link(links: &Links, key: &Key) -> bool {
@@ -48,7 +51,7 @@ fn places_are_taken(rt: HostRuntime) {
     let stock = stock().expect(&rt, "a key");
     let order = Key::Order(order_key().expect(&rt, "a key"));
     let mut links = Links::new(rt.alloc());
-    assert!(rt; lead(&mut links, &stock));
+    assert!(rt; insert(&mut links, &stock));
     assert!(rt; links.add_place(&order).is_ok());
     assert!(rt; has_link(&links, &stock));
     assert!(rt; has_none(&links, &order));

@@ -1,30 +1,91 @@
--- A record more; or it is taken off again, since memory was refused for the place of its key's link.
-use Rattle.std.proofs.Common.{sym, subst, ◌∙◌}
+-- A record more, behind the one to which its key's link led.
+use Rattle.std.proofs.Common.{◌≡◌, sym, ap, subst, ◌∙◌, Option, Some}
+use Rattle.oe_keys.specs.declared.keys.Key.{Key}
+use Rattle.oe_model.specs.Changes.{record_key}
 use Rattle.oe_layout.specs.Records.{record_of_lent}
-use Rattle.oe_segments.specs.Segments.{SegmentLog}
-use Rattle.oe_links.specs.Links.{LinkMaps, links_of}
-use Rattle.oe_undo.specs.Owners.{IsLinked}
-use Rattle.oe_undo.proofs.ChainedFacts.{push_linked, push_undone}
+use Rattle.oe_log.specs.Log.{logged}
+use Rattle.oe_segments.specs.declared.heads.SegmentOwner.{SegmentOwner}
+use Rattle.oe_segments.specs.Segments.{SegmentLog, pushed}
+use Rattle.oe_chains.specs.Chains.{IsAlone}
+use Rattle.oe_links.specs.declared.links.OwnedLink.{OwnedLink}
+use Rattle.oe_links.specs.Links.{LinkMaps, links_of, SetsLink}
+use Rattle.oe_links.proofs.LinkFacts.{on_row, sets_with, with_same}
+use Rattle.oe_undo.specs.Owners.{next_owner, IsLinked}
+use Rattle.oe_undo.proofs.ChainedFacts.{push_linked, push_leads}
 use Rattle.oe_undo.proofs.undo.Undo.push.Goals as goal
 
-pub invariant_of-self-in-Ok-lead : goal.invariant_of-self-in-Ok-lead
-invariant_of-self-in-Ok-lead c =
-    let some = rw (← c.self.view_is) at c.requires.open in
-    let leads = rw (← c.self.view_is) at c.requires.linked in
-    let whole = rw (← c.self.view_is) at c.is_chained.ensures.whole in
-    push_linked c.self.inside.segments c.push.new.self c.args.segment c.in-Ok.address c.args.lent.now.previous (record_of_lent c.args.lent.now.record) some c.in-Ok.ensures.pushed
-    c.self.inside.links c.lead.new.self c.self.inside.moments.items c.key.result c.owner-owner.result whole leads c.key.ensures c.owner-owner.ensures c.in-Ok-lead.ensures.leads c.self.invariant
+pub returns-in_default-clause-cause : goal.returns-in_default-clause-cause
+returns-in_default-clause-cause c =
+    rw (← c.self.view_is) (rw (c.shared.follows.holds-at-none, c.place_mut.follows.holds-at-none) at c.push_new.ensures.cause)
 
-pub invariant_of-self-in-Err : goal.invariant_of-self-in-Err
-invariant_of-self-in-Err c =
-    let some = rw (← c.self.view_is) at c.requires.open in
-    let same = push_undone c.self.inside.segments c.push.new.self c.args.segment c.in-Ok.address c.args.lent.now.previous (record_of_lent c.args.lent.now.record) some c.in-Ok.ensures.pushed c.pop.new.self c.pop.ensures in
-    subst (λ (u : SegmentLog). IsLinked u (links_of c.lead.new.self) c.self.inside.moments.items) (sym same)
-    (subst (λ (maps : LinkMaps). IsLinked c.self.inside.segments (links_of maps) c.self.inside.moments.items) (sym c.in-Err.ensures.err) c.self.invariant)
+pub invariant_of-self-in_default-push : goal.invariant_of-self-in_default-push
+invariant_of-self-in_default-push c =
+    let set = on_row c.place_mut.result c.in-Some.place c.in-Some.is (c.place_mut.follows.holds c.in-Some.place.now) in
+    let same : c.place_mut.follows.lender c.in-Some.place.now ≡ c.self.inside.links = set ∙ with_same c.self.inside.links c.key-key.result c.in-Some.place.now (sym c.in-Some.ensures.place) in
+    subst (λ (u : SegmentLog). IsLinked u (links_of (c.place_mut.follows.lender c.in-Some.place.now)) c.self.inside.moments.items) (sym c.in_default-push.ensures.same)
+    (subst (λ (maps : LinkMaps). IsLinked c.self.inside.segments (links_of maps) c.self.inside.moments.items) (sym same) c.self.invariant)
 
-pub returns-in-Err-clause-err : goal.returns-in-Err-clause-err
-returns-in-Err-clause-err c =
-    let some = rw (← c.self.view_is) at c.requires.open in
-    let same = push_undone c.self.inside.segments c.push.new.self c.args.segment c.in-Ok.address c.args.lent.now.previous (record_of_lent c.args.lent.now.record) some c.in-Ok.ensures.pushed c.pop.new.self c.pop.ensures in
-    let links = c.in-Err.ensures.err in
+pub returns-in_default-push-clause-err : goal.returns-in_default-push-clause-err
+returns-in_default-push-clause-err c =
+    let set = on_row c.place_mut.result c.in-Some.place c.in-Some.is (c.place_mut.follows.holds c.in-Some.place.now) in
+    let links : c.place_mut.follows.lender c.in-Some.place.now ≡ c.self.inside.links = set ∙ with_same c.self.inside.links c.key-key.result c.in-Some.place.now (sym c.in-Some.ensures.place) in
+    let same = c.in_default-push.ensures.same in
     (λ i. record { log = same i; links = links i }) ∙ c.self.view_is
+
+pub returns-in_default-push-clause-linked : goal.returns-in_default-push-clause-linked
+returns-in_default-push-clause-linked c =
+    let whole = rw (← c.self.view_is) at c.is_chained.ensures.whole in
+    let alone = rw (← c.self.view_is) at c.requires.alone in
+    let own : c.key-key.result ≡ record_key (record_of_lent c.args.lent.now.record) = c.key-key.ensures ∙ ap (λ x. record_key (record_of_lent x.record)) c.shared.ensures.value in
+    rw (← c.self.view_is) (push_leads c.self.inside.segments c.self.inside.links c.args.segment c.key-key.result _ c.in-Some.place.now c.followed_in.result _ own
+    c.in-Some.ensures.place c.followed_in.ensures (ap (λ x. x.previous) c.shared-linked.follows.holds-at-none ∙ c.lead_from.ensures.previous) whole c.self.invariant.chained alone)
+
+pub returns-clause-linked : goal.returns-clause-linked
+returns-clause-linked c =
+    let whole = rw (← c.self.view_is) at c.is_chained.ensures.whole in
+    let alone = rw (← c.self.view_is) at c.requires.alone in
+    let own : c.key-key.result ≡ record_key (record_of_lent c.args.lent.now.record) = c.key-key.ensures ∙ ap (λ x. record_key (record_of_lent x.record)) c.shared.ensures.value in
+    rw (← c.self.view_is) (push_leads c.self.inside.segments c.self.inside.links c.args.segment c.key-key.result _ c.in-Some.place.now c.followed_in.result _ own
+    c.in-Some.ensures.place c.followed_in.ensures (ap (λ x. x.previous) c.shared-linked.follows.holds-at-none ∙ c.lead_from.ensures.previous) whole c.self.invariant.chained alone)
+
+pub invariant_of-self-2 : goal.invariant_of-self-2
+invariant_of-self-2 c =
+    let some = rw (← c.self.view_is) at c.requires.open in
+    let whole = rw (← c.self.view_is) at c.is_chained.ensures.whole in
+    let alone = rw (← c.self.view_is) at c.requires.alone in
+    let lent = c.shared-linked.result.now in
+    let kept = ap (λ x. x.record) c.shared-linked.ensures.value ∙ c.lead_from.ensures.record ∙ ap (λ x. x.record) c.shared.follows.holds-at-none in
+    let was : record_key (record_of_lent lent.record) ≡ record_key (record_of_lent c.args.lent.now.record) = ap (λ r. record_key (record_of_lent r)) kept in
+    let own : c.key-key.result ≡ record_key (record_of_lent lent.record) = c.key-key.ensures ∙ ap (λ x. record_key (record_of_lent x.record)) c.shared.ensures.value ∙ sym was in
+    let alone_here : IsAlone c.self.inside.segments c.args.segment (record_key (record_of_lent lent.record)) = subst (λ (k : Key). IsAlone c.self.inside.segments c.args.segment k) (sym was) alone in
+    let leads = push_leads c.self.inside.segments c.self.inside.links c.args.segment c.key-key.result _ c.in-Some.place.now c.followed_in.result lent.previous own
+    c.in-Some.ensures.place c.followed_in.ensures (ap (λ x. x.previous) c.shared-linked.ensures.value ∙ c.lead_from.ensures.previous) whole c.self.invariant.chained alone_here
+    in
+    let l : Option OwnedLink = Some (record { address = c.in-Ok.address; owner = c.owner-owner.result }) in
+    let set = on_row c.place_mut.result c.in-Some.place c.in-Some.is (c.place_mut.follows.holds l) in
+    let sets : SetsLink c.self.inside.links (c.place_mut.follows.lender l) c.key-key.result l =
+    subst (λ (m : LinkMaps). SetsLink c.self.inside.links m c.key-key.result l) (sym set) (sets_with c.self.inside.links c.key-key.result l)
+    in
+    push_linked c.self.inside.segments c.push.new.self c.args.segment c.in-Ok.address lent.previous (record_of_lent lent.record) some c.in-Ok.ensures.pushed
+    c.self.inside.links (c.place_mut.follows.lender l) c.self.inside.moments.items c.key-key.result c.owner-owner.result whole leads own c.owner-owner.ensures sets c.self.invariant
+
+pub returns-clause-pushed : goal.returns-clause-pushed
+returns-clause-pushed c =
+    let own : c.key-key.result ≡ record_key (record_of_lent c.args.lent.now.record) = c.key-key.ensures ∙ ap (λ x. record_key (record_of_lent x.record)) c.shared.ensures.value in
+    let l : Option OwnedLink = Some (record { address = c.in-Ok.address; owner = c.owner-owner.result }) in
+    let set = on_row c.place_mut.result c.in-Some.place c.in-Some.is (c.place_mut.follows.holds l) in
+    let sets : SetsLink c.self.inside.links (c.place_mut.follows.lender l) c.key-key.result l =
+    subst (λ (m : LinkMaps). SetsLink c.self.inside.links m c.key-key.result l) (sym set) (sets_with c.self.inside.links c.key-key.result l)
+    in
+    let linked : SetsLink c.self.inside.links (c.place_mut.follows.lender l) (record_key (record_of_lent c.args.lent.now.record)) (Some (record { address = c.in-Ok.address; owner = next_owner c.self.inside.segments c.args.segment })) =
+    subst (λ (k : Key). SetsLink c.self.inside.links (c.place_mut.follows.lender l) k (Some (record { address = c.in-Ok.address; owner = next_owner c.self.inside.segments c.args.segment }))) own
+    (subst (λ (n : SegmentOwner). SetsLink c.self.inside.links (c.place_mut.follows.lender l) c.key-key.result (Some (record { address = c.in-Ok.address; owner = n }))) c.owner-owner.ensures sets)
+    in
+    let lent = c.shared-linked.result.now in
+    let kept = ap (λ x. x.record) c.shared-linked.ensures.value ∙ c.lead_from.ensures.record ∙ ap (λ x. x.record) c.shared.follows.holds-at-none in
+    let previous = ap (λ x. x.previous) (c.shared-linked.ensures.value ∙ sym c.shared-linked.follows.holds-at-none) in
+    let log =
+    c.in-Ok.ensures.pushed ∙ ap (λ p. pushed c.self.inside.segments c.args.segment (logged c.in-Ok.address p (record_of_lent lent.record))) previous
+    ∙ ap (λ r. pushed c.self.inside.segments c.args.segment (logged c.in-Ok.address c.shared-linked.follows.lender-at-none.previous (record_of_lent r))) kept
+    in
+    rw (← c.self.view_is) (record { address = c.in-Ok.address; fresh = c.in-Ok.ensures.fresh; log = log; link = linked })

@@ -1,0 +1,50 @@
+-- A record more of a key that has no place for a link yet; or it is taken off again, since memory was refused for that.
+use Rattle.std.proofs.Common.{◌≡◌, sym, ap, subst, ◌∙◌}
+use Rattle.oe_keys.specs.declared.keys.Key.{Key}
+use Rattle.oe_model.specs.Changes.{record_key}
+use Rattle.oe_layout.specs.Records.{record_of_lent}
+use Rattle.oe_segments.specs.Segments.{SegmentLog}
+use Rattle.oe_chains.specs.Chains.{link_from}
+use Rattle.oe_chains.specs.declared.links.Holder.TheVariants.{Open}
+use Rattle.oe_links.specs.Links.{LinkMaps, links_of, link_in}
+use Rattle.oe_undo.specs.Owners.{followed, IsLinked}
+use Rattle.oe_undo.proofs.ChainedFacts.{push_linked, push_undone}
+use Rattle.oe_undo.proofs.undo.Undo.push_new.Goals as goal
+
+pub invariant_of-self-in-Ok-insert : goal.invariant_of-self-in-Ok-insert
+invariant_of-self-in-Ok-insert c =
+    let some = rw (← c.self.view_is) at c.requires.open in
+    let whole = rw (← c.self.view_is) at c.is_chained.ensures.whole in
+    let no_place = rw (← c.self.view_is) at c.requires.no_place in
+    let lent = c.shared-linked.result.now in
+    let set : c.shared.follows.lender-at-none ≡ c.lead_from.new.lent = c.shared.follows.holds-at-none in
+    let first : c.shared.result.now ≡ c.lead_from.new.lent = c.shared.ensures.value in
+    let second : lent ≡ c.lead_from.new.lent = c.shared-linked.ensures.value ∙ set in
+    let was : record_key (record_of_lent lent.record) ≡ record_key (record_of_lent c.args.lent.now.record) =
+    ap (λ x. record_key (record_of_lent x.record)) second ∙ ap (λ r. record_key (record_of_lent r)) c.lead_from.ensures.record
+    in
+    let own : c.key-key.result ≡ record_key (record_of_lent lent.record) =
+    c.key-key.ensures ∙ ap (λ x. record_key (record_of_lent x.record)) (first ∙ sym second)
+    in
+    let leads : link_from (Open c.args.segment) lent.previous ≡ followed c.self.inside.segments (links_of c.self.inside.links (record_key (record_of_lent lent.record))) =
+    ap (λ p. link_from (Open c.args.segment) p) (ap (λ x. x.previous) second ∙ c.lead_from.ensures.previous)
+    ∙ sym (ap (λ (k : Key). followed c.self.inside.segments (links_of c.self.inside.links k)) was ∙ ap (λ o. followed c.self.inside.segments (link_in o)) no_place)
+    in
+    push_linked c.self.inside.segments c.push.new.self c.args.segment c.in-Ok.address lent.previous (record_of_lent lent.record) some c.in-Ok.ensures.pushed
+    c.self.inside.links c.insert.new.self c.self.inside.moments.items c.key-key.result c.owner-owner.result whole leads own c.owner-owner.ensures c.in-Ok-insert.ensures.inserted c.self.invariant
+
+pub invariant_of-self-in-Err : goal.invariant_of-self-in-Err
+invariant_of-self-in-Err c =
+    let some = rw (← c.self.view_is) at c.requires.open in
+    let lent = c.shared-linked.result.now in
+    let same = push_undone c.self.inside.segments c.push.new.self c.args.segment c.in-Ok.address lent.previous (record_of_lent lent.record) some c.in-Ok.ensures.pushed c.pop.new.self c.pop.ensures in
+    subst (λ (u : SegmentLog). IsLinked u (links_of c.insert.new.self) c.self.inside.moments.items) (sym same)
+    (subst (λ (maps : LinkMaps). IsLinked c.self.inside.segments (links_of maps) c.self.inside.moments.items) (sym c.in-Err.ensures.err) c.self.invariant)
+
+pub returns-in-Err-clause-err : goal.returns-in-Err-clause-err
+returns-in-Err-clause-err c =
+    let some = rw (← c.self.view_is) at c.requires.open in
+    let lent = c.shared-linked.result.now in
+    let same = push_undone c.self.inside.segments c.push.new.self c.args.segment c.in-Ok.address lent.previous (record_of_lent lent.record) some c.in-Ok.ensures.pushed c.pop.new.self c.pop.ensures in
+    let links = c.in-Err.ensures.err in
+    (λ i. record { log = same i; links = links i }) ∙ c.self.view_is
