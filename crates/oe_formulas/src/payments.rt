@@ -149,7 +149,7 @@ pub fn history_data(warehouse: &Text<0, 10>, district: &Text<0, 10>) -> Text<0, 
     spelled.push_str(warehouse.as_str());
     spelled.push_str("    ");
     spelled.push_str(district.as_str());
-    Text::of_printable(spelled.as_bytes())
+    Text::of_printable(spelled.as_str().as_bytes())
 }
 
 /// The HISTORY row of a payment by the customer with that number.

@@ -65,7 +65,6 @@ pub(crate) fn begin(undo: &mut Undo, terminal: Terminal) -> Option<()> {
 }
 
 /// A terminal's segment, where it alone has one open.
-#[tactic(auto, using(crate::proofs::AloneFacts::only_one_is_alone))]
 pub(crate) fn only_segment(undo: &Undo, terminal: Terminal) -> Option<Segment>
     ensures open { IfSome result (λ s. IsSome (active_at undo.now.log s)) }
     ensures alone { IfSome result (λ s. (k : Key) → IsAlone undo.now.log s k) }
@@ -80,29 +79,21 @@ pub(crate) fn only_segment(undo: &Undo, terminal: Terminal) -> Option<Segment>
     Some(Segment::of(terminal))
 }
 
-/// Pushes a record by a terminal that alone has a segment open, and tells what it was pushed with as what leads to its previous one.
-pub(crate) fn push(
-    undo: &mut Undo,
-    terminal: Terminal,
-    record: LentRecord<'_>,
-) -> Option<Previous> {
-    let segment = only_segment(undo, terminal)?;
-    let mut lent = LinkedRecord {
-        previous: Previous::Nothing,
-        record,
-    };
-    undo.push(segment, &mut lent).ok()?;
-    Some(lent.previous)
-}
-
-/// Pushes an update of an order, likewise.
+/// Pushes an update of an order by a terminal that alone has a segment open, and tells what it was pushed with as what leads to the
+/// order's previous record.
 pub(crate) fn push_order(
     undo: &mut Undo,
     terminal: Terminal,
     key: &OrderKey,
     row: &Order,
 ) -> Option<Previous> {
-    push(undo, terminal, LentRecord::UpdatedOrder(*key, row))
+    let segment = only_segment(undo, terminal)?;
+    let mut lent = LinkedRecord {
+        previous: Previous::Nothing,
+        record: LentRecord::UpdatedOrder(*key, row),
+    };
+    undo.push(segment, &mut lent).ok()?;
+    Some(lent.previous)
 }
 
 fn seal(undo: &mut Undo, terminal: Terminal, request: &Request, reply: &Reply) -> Option<Moment> {

@@ -1,7 +1,7 @@
 //! Reads of past moments, of an order among 100,000 records of other keys.
-use crate::made::{begin, commit, order, order_key, push, push_order, undo};
+use crate::made::{begin, commit, only_segment, order, order_key, push_order, undo};
 use oe_keys::{Key, OrderKey, OrderLineKey};
-use oe_layout::{LentRecord, OwnRecord, StoredRecord};
+use oe_layout::{LentRecord, LinkedRecord, OwnRecord, Previous, StoredRecord};
 use oe_undo::{Ticks, Undo};
 use oe_values::{Moment, Number, Terminal};
 
@@ -15,13 +15,23 @@ fn line(number: u32) -> Option<OrderLineKey> {
     })
 }
 
+/// Pushes an insert of a line by a terminal that alone has a segment open.
+fn push_line(undo: &mut Undo, terminal: Terminal, key: &OrderLineKey) -> Option<()> {
+    let segment = only_segment(undo, terminal)?;
+    let mut lent = LinkedRecord {
+        previous: Previous::Nothing,
+        record: LentRecord::InsertedOrderLine(*key),
+    };
+    undo.push(segment, &mut lent).ok()
+}
+
 /// A transaction of a terminal of the round's, which inserts 5,000 lines and is open then.
 fn insert_lines(undo: &mut Undo, round: u32) -> Option<Terminal> {
     let terminal = Terminal::new(round.saturating_add(1))?;
     begin(undo, terminal)?;
     for step in 0..5_000u32 {
         let key = line(round.saturating_mul(5_000).saturating_add(step))?;
-        push(undo, terminal, LentRecord::InsertedOrderLine(key))?;
+        push_line(undo, terminal, &key)?;
     }
     Some(terminal)
 }
