@@ -12,7 +12,8 @@ use Rattle.oe_model.proofs.PresenceFacts.{some-map, present_some}
 use Rattle.oe_store.specs.Places.{rows}
 use Rattle.oe_store.specs.Places as tables
 use Rattle.oe_segments.specs.Segments.{SegmentLog}
-use Rattle.oe_moments.specs.Versions.{store_with, version, Stand}
+use Rattle.oe_segments.specs.Moments.{store_with}
+use Rattle.oe_moments.specs.Versions.{version, Stand}
 use Rattle.oe_moments.proofs.LastingFacts.{rows_last, versions_meet}
 use Rattle.oe_audit.specs.AsOf.{ArePassed}
 
@@ -30,7 +31,7 @@ module _ (ts : tables.Places) (u : SegmentLog) (m : ℕ) (h : Stand ts u) where
   past = version ts u m
 
   abbrev store : Store system
-  store = record (store_with (rows ts) u) { slots = h.0 }
+  store = store_with (rows ts) u h.0
 
   pub passed_at : ArePassed past (rows ts)
   passed_at = record {

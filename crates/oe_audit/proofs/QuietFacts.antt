@@ -14,7 +14,8 @@ use Rattle.oe_store.specs.Places.{rows}
 use Rattle.oe_store.specs.Places as tables
 use Rattle.oe_segments.specs.Stands.{undo_of, model_records}
 use Rattle.oe_segments.specs.Segments.{Open, TerminalState, SegmentLog, idle, open_total, records_in}
-use Rattle.oe_moments.specs.Versions.{newest, version}
+use Rattle.oe_segments.specs.Moments.{newest}
+use Rattle.oe_moments.specs.Versions.{version}
 
 none_open : (v : Option Open) (n : ℕ) → cond (is_some v) 1 0 + n ≡ 0 → (v ≡ None) × (n ≡ 0)
 none_open None n e = (refl, omega (arith, e))
@@ -40,12 +41,12 @@ none_taken : {A : Type 0} (xs : List A) → take 0 xs ≡ []
 none_taken [] = refl
 none_taken (x ∷ xs) = refl
 
-pub nothing_since : (ts : tables.Places) (u : SegmentLog) (m n : ℕ) → n + m ≡ newest u → n ≡ 0 → open_total u ≡ 0 → version ts u m ≡ rows ts
+pub nothing_since : (ts : tables.Places) (u : SegmentLog) (m n : ℕ) → n ≡ newest u - m → n ≡ 0 → open_total u ≡ 0 → version ts u m ≡ rows ts
 nothing_since ts u m n after none quiet =
-    let last : newest u - m ≡ 0 = omega (arith, after, none) in
+    let last : newest u - m ≡ 0 = sym after ∙ none in
     ap (λ k. unwind_commits system (take k (undo_of u).history) (unwind_open system (undo_of u).active (all_below system terminal_limit) (rows ts))) last
     ∙ ap (λ ss. unwind_commits system ss (unwind_open system (undo_of u).active (all_below system terminal_limit) (rows ts))) (none_taken (undo_of u).history)
     ∙ none_put_back (undo_of u).active (λ t. ap (λ o. model_records (records_in o)) (shut u.terminals quiet t)) (all_below system terminal_limit) (rows ts)
 
-pub audited_now : (ts : tables.Places) (u : SegmentLog) (m n : ℕ) (c : Condition) (v : Verdict) → n + m ≡ newest u → n ≡ 0 → open_total u ≡ 0 → v ≡ verdict c (rows ts) → v ≡ verdict c (version ts u m)
+pub audited_now : (ts : tables.Places) (u : SegmentLog) (m n : ℕ) (c : Condition) (v : Verdict) → n ≡ newest u - m → n ≡ 0 → open_total u ≡ 0 → v ≡ verdict c (rows ts) → v ≡ verdict c (version ts u m)
 audited_now ts u m n c v after none quiet told = told ∙ ap (verdict c) (sym (nothing_since ts u m n after none quiet))

@@ -15,7 +15,8 @@ use Rattle.oe_model.specs.Rows.{Rows}
 use Rattle.oe_model.specs.Audits.{Condition, Second, Third, Fourth}
 use Rattle.oe_store.specs.Places.{rows}
 use Rattle.oe_store.specs.Places as tables
-use Rattle.oe_moments.specs.Versions.{version, IsOutside}
+use Rattle.oe_segments.specs.Moments.{IsUnkept}
+use Rattle.oe_moments.specs.Versions.{version}
 use Rattle.oe_audit.specs.Tests.{is_numbered, are_counted, lines_agree}
 use Rattle.oe_audit.specs.declared.as_of.AsOf.{AsOf}
 use Rattle.oe_audit.specs.declared.as_of.AsOf.TheVariants as when
@@ -30,7 +31,7 @@ rows_then ts (when.Moment u m) = version ts u.now.log m
 -- why they can't be read: never as they stand
 abbrev pub IsUnread : AsOf → Refusal → Type 0
 IsUnread when.Now e = ⊥
-IsUnread (when.Moment u m) e = IsOutside u.now.log m e
+IsUnread (when.Moment u m) e = IsUnkept u.now.log m e
 
 -- what a key has then, where it has this row now
 abbrev pub row_then : {K X : Type 0} {R : K → K → Ordering} → AsOf → FinMap R X → K → X → Option X

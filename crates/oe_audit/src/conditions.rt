@@ -3,7 +3,8 @@ ghost use Rattle.std.specs.Prelude.{◌≡◌, IsTrue, IfOk, IfErr, OnOk};
 ghost use Rattle.oe_model.specs.Audits.{First};
 ghost use Rattle.oe_store.specs.Places.{rows};
 ghost use Rattle.oe_segments.specs.Segments.{open_total};
-ghost use Rattle.oe_moments.specs.Versions.{version, Stand, IsReadable, IsOutside};
+ghost use Rattle.oe_segments.specs.Moments.{IsKeptMoment, IsUnkept};
+ghost use Rattle.oe_moments.specs.Versions.{version, Stand};
 ghost use Rattle.oe_audit.specs.AsOf.{rows_then, model_condition, passes, ArePassed, IsUnread};
 ghost use Rattle.oe_audit.specs.Verdict.{IsVerdict, IsAudited};
 
@@ -11,7 +12,6 @@ use crate::as_of::AsOf;
 use crate::districts::{passes_fourth, passes_second, passes_third};
 use crate::warehouses::passes_first;
 use oe_keys::{DistrictKey, Key};
-use oe_moments::commits_after;
 use oe_requests::Refusal;
 use oe_steps::{Condition, Verdict};
 use oe_store::Tables;
@@ -137,7 +137,7 @@ fn found_at<'a>(
 ) -> Result<Verdict, Refusal>
     requires { Stand tables.now undo.now.log }
     ensures verdict { IfOk result (IsAudited number (version tables.now undo.now.log moment)) }
-    ensures refusal { IfErr result (λ e. IsOutside undo.now.log moment e) }
+    ensures refusal { IfErr result (IsUnkept undo.now.log moment) }
 {
     found(number, tables, &AsOf::Moment(undo, moment))
 }
@@ -156,10 +156,10 @@ pub fn condition_at(
 ) -> Result<Verdict, Refusal>
     requires { Stand tables.now undo.now.log }
     ensures verdict { IfOk result (IsAudited number (version tables.now undo.now.log moment)) }
-    ensures readable { OnOk result (IsReadable undo.now.log moment) }
-    ensures refusal { IfErr result (λ e. IsOutside undo.now.log moment e) }
+    ensures readable { OnOk result (IsKeptMoment undo.now.log moment) }
+    ensures refusal { IfErr result (IsUnkept undo.now.log moment) }
 {
-    match commits_after(undo, moment) {
+    match undo.segments().commits_after(moment) {
         Ok(later) => {
             if is_settled(undo, later) {
                 return Ok(condition(number, tables));

@@ -8,7 +8,7 @@ use Rattle.oe_requests.specs.declared.replies.Reply.{Reply}
 use Rattle.oe_log.specs.Log.{Logged}
 use Rattle.oe_segments.specs.Segments.{SegmentLog, Open as OpenSegment, Committed as CommitSegment, count_at, active_at, records_at, total_count, no_segments, opened, pushed, popped, sealed, dropped, with_newest, reopened}
 use Rattle.oe_chains.specs.declared.links.Link.{Link}
-use Rattle.oe_chains.specs.declared.links.Holder.TheVariants.{Open, At}
+use Rattle.oe_chains.specs.declared.links.Holder.TheVariants.{Open}
 use Rattle.oe_chains.specs.Oldest.{oldest_after}
 use Rattle.oe_chains.specs.Held.{held, of_key, horizon, count_later}
 use Rattle.oe_chains.specs.Chains.{link_from, previous_of, IsSeenBy, IsAlone, IsEnd, AreChained, found, ticks, linked, holder_sealed, holder_reopened, with_holder}

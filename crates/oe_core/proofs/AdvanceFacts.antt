@@ -1,11 +1,10 @@
 -- A row of a transaction, and its commit.
-use Rattle.std.proofs.Common.{◌≡◌, ℕ, suc, inl, inr, true, false, List, [], ◌∷◌, Option, Some, None, length, slice_get, slice_set, sym, ap, ◌∙◌, subst, refl}
+use Rattle.std.proofs.Common.{◌≡◌, ℕ, suc, inl, inr, true, false, List, Option, Some, None, length, slice_get, slice_set, sym, ap, ◌∙◌, subst, refl}
 use Rattle.std.specs.Prelude.{◌⊎◌}
-use Rattle.std.specs.FinMap.{get}
 use Rattle.std.proofs.lemmas.Bool.{cases_lt}
 use Rattle.oe_theory.specs.Machine.{Mode, Ask, Stop, Plain, Take, Fail, Go, Tx}
 use Rattle.oe_theory.specs.World.{Open, World, total, go_together, latest}
-use Rattle.oe_theory.specs.Next.{Next, Step, Answer, Advance, More, Committed, Aborted, IsNew, GivesWay, held_after, filled, record_on}
+use Rattle.oe_theory.specs.Next.{Advance, More, Committed, Aborted, IsNew, GivesWay, held_after, filled, record_on}
 use Rattle.oe_theory.specs.Undo.{lengths_of, used_of}
 use Rattle.oe_theory.specs.Store.{Slot, Store, tx_in, opened_by, slot_after, dropped, IsGrantedIn, IsInTheWayIn, HasRoomIn, MayLackMemoryIn}
 use Rattle.oe_theory.specs.Store as theory
@@ -15,21 +14,16 @@ use Rattle.oe_theory.proofs.Replay.{taken_held}
 use Rattle.oe_theory.proofs.Sets.{set_same, set_other, set_idle}
 use Rattle.oe_theory.proofs.StoreSteps.{tables_here, is_open_in, granted_here, acts_here}
 use Rattle.oe_theory.proofs.Theorems.{reached_sound, changes_are_accepted, abort_is_its_own}
-use Rattle.oe_requests.specs.declared.requests.PaymentRequest.{PaymentRequest}
-use Rattle.oe_requests.specs.declared.requests.NewOrderRequest.{NewOrderRequest}
-use Rattle.oe_requests.specs.declared.requests.DeliveryRequest.{DeliveryRequest}
 use Rattle.oe_requests.specs.declared.requests.Request.{Request}
 use Rattle.oe_requests.specs.declared.requests.Request.TheVariants as request
 use Rattle.oe_requests.specs.declared.replies.Reply.{Reply}
 use Rattle.oe_requests.specs.declared.replies.Reply.TheVariants as reply
 use Rattle.oe_requests.specs.declared.replies.PaymentReply.{PaymentReply}
-use Rattle.oe_keys.specs.declared.keys.Key.TheVariants as key
 use Rattle.oe_keys.specs.declared.locks.Name.{Name}
 use Rattle.oe_requests.specs.declared.refusals.Refusal.{Refusal}
 use Rattle.oe_requests.specs.declared.refusals.Refusal.TheVariants.{BadLine, NoSuchRow, RowExists, Overflow, Reference, KeyColumn, Busy, UndoFull, NoMemory, NotOpen, AlreadyOpen, InvalidItem, NoCustomer, TooOld, Future, NotQuiet, NotPinned}
 use Rattle.oe_steps.specs.declared.steps.Step.TheVariants as step
 use Rattle.oe_steps.specs.declared.answers.Answer.TheVariants as answer
-use Rattle.oe_model.specs.Rows.{Rows}
 use Rattle.oe_model.specs.Changes.{Change}
 use Rattle.oe_model.specs.Meets.{Accepts}
 use Rattle.oe_model.specs.Positions as model

@@ -20,7 +20,8 @@ use Rattle.oe_store.specs.Places as stands
 use Rattle.oe_segments.specs.Stands.{undo_of, seals_of, counts_of}
 use Rattle.oe_segments.specs.Segments as undo
 use Rattle.oe_engine.specs.View.{view_from, view_of}
-use Rattle.oe_moments.specs.Versions.{store_with, version, Stand, IsReadable, IsOutside}
+use Rattle.oe_segments.specs.Moments.{store_with, IsKeptMoment, IsUnkept}
+use Rattle.oe_moments.specs.Versions.{version, Stand}
 use Rattle.oe_core.specs.Core.{CoreState, store_of, world_of, IsOrderly}
 use Rattle.oe_core.specs.Steps.{refusal_in}
 use Rattle.oe_core.proofs.MoveFacts.{standing, the_steps}
@@ -36,7 +37,7 @@ tables_are s o = tables_here system laws (store_of s) (standing s o)
 -- tables and undo log that the engine lends, as they stand for the core's world
 module _ (s : CoreState) (o : IsOrderly s) (ts : stands.Places) (u : undo.SegmentLog) (lent : rows ts ≡ (view_of s.engine).rows) (log : u ≡ s.engine.undo) where
   abbrev beside : Store system
-  beside = record (store_with (rows ts) u) { slots = (store_of s).slots }
+  beside = store_with (rows ts) u (store_of s).slots
 
   same_store : beside ≡ store_of s
   unfolding view_of view_from
@@ -46,7 +47,7 @@ module _ (s : CoreState) (o : IsOrderly s) (ts : stands.Places) (u : undo.Segmen
   stand_here = ((store_of s).slots, subst (IsStanding system) (sym same_store) (standing s o))
 
   module _ (n : Condition) (m : ℕ) where
-    pub audited_here : (v : model.Verdict) → v ≡ model.verdict (condition_of n) (version ts u m) → IsReadable u m → Next system (world_of s) (Audit m (condition_of n)) (Audited v) (world_of s)
+    pub audited_here : (v : model.Verdict) → v ≡ model.verdict (condition_of n) (version ts u m) → IsKeptMoment u m → Next system (world_of s) (Audit m (condition_of n)) (Audited v) (world_of s)
     unfolding world_of
     audited_here v is r =
         subst (λ (z : model.Verdict). Next system (world_of s) (Audit m (condition_of n)) (Audited z) (world_of s))
@@ -54,7 +55,7 @@ module _ (s : CoreState) (o : IsOrderly s) (ts : stands.Places) (u : undo.Segmen
         (the_steps.audits (store_of s) m (condition_of n) (standing s o)
         (subst (λ (z : Store system). horizon_of system z ≤ m) same_store r.old) (subst (λ (z : Store system). m ≤ newest_of system z) same_store r.new)).next
 
-    pub refused_here : (e : Refusal) → IsOutside u m e → Next system (world_of s) (Audit m (condition_of n)) (refusal_in (step.Audit n m) e) (world_of s)
+    pub refused_here : (e : Refusal) → IsUnkept u m e → Next system (world_of s) (Audit m (condition_of n)) (refusal_in (step.Audit n m) e) (world_of s)
     unfolding world_of
     refused_here (TooOld k) i =
         subst (λ (z : ℕ). Next system (world_of s) (Audit m (condition_of n)) (theory.Too_old z) (world_of s))

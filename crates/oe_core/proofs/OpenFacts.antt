@@ -2,7 +2,7 @@
 use Rattle.std.proofs.Common.{◌≡◌, ℕ, zero, suc, List, Option, None, length, replicate, sym, ap, ◌∙◌, subst, refl}
 use mathlib.Core.Path.{fun_ext}
 use Rattle.oe_theory.specs.Store as theory
-use Rattle.oe_theory.specs.Store.{Slot, Store, opened_store}
+use Rattle.oe_theory.specs.Store.{opened_store}
 use Rattle.oe_theory.specs.Theorems.{opened}
 use Rattle.oe_theory.specs.StoreTheorems.{IsStanding}
 use Rattle.oe_theory.proofs.StoreSteps.{opening_stands}

@@ -1,12 +1,11 @@
 -- A query of a moment is answered as by a step of the world, which stays as it is.
 use Rattle.std.proofs.Common.{◌≡◌, ℕ, ◌≤◌, ◌<◌, cond, Bool, true, false, List, [], ◌∷◌, Option, Some, None, inl, inr, refl, sym, ap, subst, ◌∙◌}
-use Rattle.std.specs.Prelude.{is_some, ◌⊎◌, count_by}
+use Rattle.std.specs.Prelude.{is_some, count_by}
 use Rattle.std.specs.FinMap.{get, entries}
 use Rattle.oe_theory.specs.Machine.{Outcome, Here, Missing}
 use Rattle.oe_theory.specs.Next.{Read, Answer, Replied, Rejected, Too_old, Future}
 use Rattle.oe_theory.specs.Store.{version_of, horizon_of, newest_of}
 use Rattle.oe_theory.specs.StoreTheorems.{IsStanding}
-use Rattle.oe_keys.specs.declared.keys.Key.{Key}
 use Rattle.oe_keys.specs.declared.keys.Key.TheVariants as key
 use Rattle.oe_rows.specs.declared.customers.Customer.{Customer}
 use Rattle.oe_rows.specs.declared.districts.District.{District}
@@ -27,7 +26,8 @@ use Rattle.oe_store.specs.Places.{rows}
 use Rattle.oe_store.specs.Places as tables
 use Rattle.oe_segments.specs.Segments as undo
 use Rattle.oe_engine.specs.View.{view_of, view_from}
-use Rattle.oe_moments.specs.Versions.{Stand, IsReadable, IsOutside, horizon, newest}
+use Rattle.oe_segments.specs.Moments.{store_with, IsKeptMoment, IsUnkept, horizon, newest}
+use Rattle.oe_moments.specs.Versions.{Stand}
 use Rattle.oe_moments.specs.Versions as versions
 use Rattle.oe_queries.specs.Reply.{IsReply, HasNoReply, IsRefused}
 use Rattle.oe_core.specs.Core.{CoreState, store_of, IsOrderly, Moves}
@@ -38,8 +38,8 @@ pub stand_here : (s : CoreState) → IsOrderly s → (ts : tables.Places) (u : u
 unfolding view_of view_from
 stand_here s o ts u e f = (
   (store_of s).slots,
-  subst (λ (v : undo.SegmentLog). IsStanding system (record (versions.store_with (rows ts) v) { slots = (store_of s).slots })) (sym f)
-      (subst (λ (r : Rows). IsStanding system (record (versions.store_with r s.engine.undo) { slots = (store_of s).slots })) (sym e) (standing s o)),
+  subst (λ (v : undo.SegmentLog). IsStanding system (store_with (rows ts) v (store_of s).slots)) (sym f)
+      (subst (λ (r : Rows). IsStanding system (store_with r s.engine.undo (store_of s).slots)) (sym e) (standing s o)),
 )
 
 -- what is said of the tables and the log that are lent is said of the store
@@ -50,8 +50,8 @@ module _ (s : CoreState) (ts : tables.Places) (u : undo.SegmentLog) (m : ℕ) (q
   found_here : (a : Outcome QueryReply Refusal) → answer_of q (versions.version ts u m) ≡ a → answer_of q (version_of system (store_of s) m) ≡ a
   unfolding view_of view_from
   found_here a h =
-      subst (λ (v : undo.SegmentLog). answer_of q (version_of system (versions.store_with (rows s.engine.tables) v) m) ≡ a) is
-      (subst (λ (r : Rows). answer_of q (version_of system (versions.store_with r u) m) ≡ a) same h)
+      subst (λ (v : undo.SegmentLog). answer_of q (version_of system (versions.without_slots (rows s.engine.tables) v) m) ≡ a) is
+      (subst (λ (r : Rows). answer_of q (version_of system (versions.without_slots r u) m) ≡ a) same h)
 
   horizon_here : horizon u ≡ horizon_of system (store_of s)
   unfolding view_of view_from
@@ -61,10 +61,10 @@ module _ (s : CoreState) (ts : tables.Places) (u : undo.SegmentLog) (m : ℕ) (q
   unfolding view_of view_from
   newest_here = ap newest is
 
-  old_here : IsReadable u m → horizon_of system (store_of s) ≤ m
+  old_here : IsKeptMoment u m → horizon_of system (store_of s) ≤ m
   old_here h = subst (λ (n : ℕ). n ≤ m) horizon_here h.old
 
-  new_here : IsReadable u m → m ≤ newest_of system (store_of s)
+  new_here : IsKeptMoment u m → m ≤ newest_of system (store_of s)
   new_here h = subst (λ (n : ℕ). m ≤ n) newest_here h.new
 
   pub replied_here : IsOrderly s → (f : QueryReply) → IsReply q ts u m f → Moves s (Read m q) (Replied f) s
@@ -75,7 +75,7 @@ module _ (s : CoreState) (ts : tables.Places) (u : undo.SegmentLog) (m : ℕ) (q
   turned_away : IsOrderly s → (e : Refusal) → query_rejection q (rows ts) ≡ Some e → Moves s (Read m q) (Rejected e) s
   turned_away o e h = stays s o (Read m q) (Rejected e) (the_steps.query_is_rejected (store_of s) m q e (standing s o) (known (Some e) h))
 
-  missed : IsOrderly s → (e : Refusal) → query_rejection q (rows ts) ≡ None → IsReadable u m → answer_of q (versions.version ts u m) ≡ Missing e → Moves s (Read m q) (Rejected e) s
+  missed : IsOrderly s → (e : Refusal) → query_rejection q (rows ts) ≡ None → IsKeptMoment u m → answer_of q (versions.version ts u m) ≡ Missing e → Moves s (Read m q) (Rejected e) s
   missed o e h r a =
       stays s o (Read m q) (Rejected e)
       (the_steps.misses (store_of s) m q e (standing s o) (known None h) (old_here r) (new_here r) (found_here (Missing e) a))
@@ -126,7 +126,7 @@ module _ (s : CoreState) (ts : tables.Places) (u : undo.SegmentLog) (m : ℕ) (q
       told_is {A = District} (refusal.NoSuchRow (key.District p.district)) (get r.districts p.district)
       (λ x. told.Level (count_by (is_low p (recent_lines p.district x.next_order r.order_lines)) (entries r.stocks))) e refl h
 
-  outside : IsOrderly s → (e : Refusal) → query_rejection q (rows ts) ≡ None → IsOutside u m e → Moves s (Read m q) (refusal_in (step.Read m q) e) s
+  outside : IsOrderly s → (e : Refusal) → query_rejection q (rows ts) ≡ None → IsUnkept u m e → Moves s (Read m q) (refusal_in (step.Read m q) e) s
   outside o (refusal.TooOld h) k i = too_old o h k i.0 i.1
   outside o (refusal.Future n) k i = future o n k i.0 i.1
   outside o _ k i = absurd i

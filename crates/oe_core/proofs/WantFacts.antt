@@ -1,5 +1,5 @@
 -- Which stages may need memory for their changes: those that insert a row.
-use Rattle.std.proofs.Common.{◌≡◌, ℕ, Bool, true, false, List, [], ◌∷◌, Option, Some, None, sym, ◌∙◌, subst, refl}
+use Rattle.std.proofs.Common.{◌≡◌, ℕ, true, false, [], ◌∷◌, Option, Some, None, sym, ◌∙◌, subst, refl}
 use Rattle.std.specs.FinMap.{get}
 use Rattle.oe_theory.specs.Machine.{Go, Tx}
 use Rattle.oe_keys.specs.declared.keys.Key.TheVariants as key

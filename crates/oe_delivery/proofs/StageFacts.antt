@@ -2,7 +2,7 @@
 use Rattle.std.proofs.Common.{◌≡◌, ℕ, zero, suc, ◌+◌, refl, sym, ap, ◌∙◌, subst, inl, List, [], ◌∷◌, drop, map, Option, None, Some, Result, Ok, Err, arith}
 use Rattle.std.specs.Prelude.{IsSome, is_some, option_map}
 use Rattle.std.specs.FinMap.{get}
-use Rattle.oe_theory.specs.Machine.{Ask, Plain, Take, Fail, Go, Exclusive}
+use Rattle.oe_theory.specs.Machine.{Plain, Take, Go, Exclusive}
 use Rattle.oe_theory.specs.Machine as theory
 use Rattle.oe_theory.specs.World.{IsEnough}
 use Rattle.oe_keys.specs.declared.keys.OrderKey.{OrderKey}

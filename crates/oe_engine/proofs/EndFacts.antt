@@ -14,6 +14,7 @@ use Rattle.oe_log.specs.Log.{Logged}
 use Rattle.oe_segments.specs.Segments.{SegmentLog, active_at, records_at, count_at, dropped}
 use Rattle.oe_segments.specs.Stands.{model_records, undo_of}
 use Rattle.oe_segments.proofs.LawFacts as stands
+use Rattle.oe_segments.proofs.StateFacts.{seen_same}
 use Rattle.oe_locks.specs.Held.{Holdings, OthersKeep, HoldsNothing}
 use Rattle.oe_engine.specs.View.{view_from}
 use Rattle.oe_journal.specs.GoesBack.{HavePlaces, AllHavePlaces}
@@ -23,7 +24,7 @@ use Rattle.oe_engine.specs.Kept.{IsKept}
 use Rattle.oe_engine.specs.Calls.{back_at, rolled_back}
 use Rattle.oe_journal.specs.Unwinds.{TakesBack}
 use Rattle.oe_engine.proofs.LockFacts.{held_of, released_is}
-use Rattle.oe_engine.proofs.LogFacts.{active_set, seen_same}
+use Rattle.oe_engine.proofs.LogFacts.{active_set}
 use Rattle.oe_engine.proofs.KeptFacts.{places_set, released_idle}
 
 -- the engine's promise after records were put back
@@ -46,7 +47,7 @@ dropped_kept ts u ls ls' t within empty own others k =
     let s = stands.drops u t empty in
     let open_is : (x : ℕ) → is_some (active_at (dropped u t) x) ≡ world.set t false (λ y. is_some (active_at u y)) x =
     active_set u t (record { count = count_at u t; active = None }) within in
-    let counts : (x : ℕ) → count_at (dropped u t) x ≡ count_at u x = seen_same (λ z. z.count) u t (record { count = count_at u t; active = None }) refl in
+    let counts : (x : ℕ) → count_at (dropped u t) x ≡ count_at u x = seen_same (λ z. z.count) u.terminals t (record { count = count_at u t; active = None }) refl in
     record {
       size = length-set u.terminals t _ ∙ k.size;
       active = λ x. subst (λ z. HavePlaces ts (z.active x)) (sym s.undo) (k.active x);

@@ -12,10 +12,11 @@ use Rattle.oe_segments.specs.Segments.{SegmentLog, TerminalState, idle, active_a
 use Rattle.oe_segments.specs.Stands.{undo_of}
 use Rattle.oe_segments.proofs.LawFacts as stands
 use Rattle.oe_segments.proofs.LawFacts.{idle_at}
+use Rattle.oe_segments.proofs.StateFacts.{seen_same, some_of}
 use Rattle.oe_locks.specs.Held.{Holdings, OthersKeep, HoldsNothing, IsIdle}
 use Rattle.oe_journal.specs.GoesBack.{HavePlaces, AllHavePlaces}
 use Rattle.oe_engine.specs.Kept.{IsKept}
-use Rattle.oe_engine.proofs.LogFacts.{active_set, seen_same, some_of}
+use Rattle.oe_engine.proofs.LogFacts.{active_set}
 
 -- one terminal's records replaced
 pub places_set : (ts : tables.Places) (t : ℕ) (bs : List Record) (f : ℕ → List Record) → HavePlaces ts bs → ((x : ℕ) → HavePlaces ts (f x))
@@ -58,7 +59,7 @@ opened_kept ts u ls t within closed below k =
     let open_is : (x : ℕ) → is_some (active_at (opened u t) x) ≡ world.set t true (λ y. is_some (active_at u y)) x =
     active_set u t (record { count = count_at u t; active = Some (record { terminal = t; number = suc (count_at u t); records = [] }) }) within in
     let counts : (x : ℕ) → count_at (opened u t) x ≡ count_at u x =
-    seen_same (λ z. z.count) u t (record { count = count_at u t; active = Some (record { terminal = t; number = suc (count_at u t); records = [] }) }) refl in
+    seen_same (λ z. z.count) u.terminals t (record { count = count_at u t; active = Some (record { terminal = t; number = suc (count_at u t); records = [] }) }) refl in
     record {
       size = length-set u.terminals t _ ∙ k.size;
       active = λ x. subst (λ z. HavePlaces ts (z.active x)) (sym s.undo) (k.active x);

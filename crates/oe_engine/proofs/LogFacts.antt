@@ -1,8 +1,8 @@
 -- What the calls of the undo log make of what an engine stands for.
 use Rattle.std.proofs.Common.{◌≡◌, ℕ, suc, ◌<◌, ◌==◌, Bool, true, false, refl, sym, ap, ◌∙◌, inl, inr, [], length, get_or, set}
 use Rattle.std.specs.Prelude.{Option, None, Some, is_some, option_map}
-use Rattle.std.proofs.lemmas.Bool.{cases_eq, cases_lt, cond-true, cond-false, eq-eqb, ne_eqb}
-use Rattle.std.proofs.lemmas.List.{get_or-set_same, get_or-set_other, set_past}
+use Rattle.std.proofs.lemmas.Bool.{cases_eq, cond-true, cond-false, eq-eqb, ne_eqb}
+use Rattle.std.proofs.lemmas.List.{get_or-set_same, get_or-set_other}
 use mathlib.Core.Path.{fun_ext}
 use Rattle.oe_requests.specs.declared.requests.Request.{Request}
 use Rattle.oe_requests.specs.declared.replies.Reply.{Reply}
@@ -13,6 +13,7 @@ use Rattle.oe_store.specs.Places as tables
 use Rattle.oe_segments.specs.Segments.{SegmentLog, TerminalState, Open, idle, active_at, count_at, no_segments, idle_terminals, with_state, opened, sealed}
 use Rattle.oe_segments.proofs.LawFacts as stands
 use Rattle.oe_segments.proofs.LawFacts.{idle_at}
+use Rattle.oe_segments.proofs.StateFacts.{some_of}
 use Rattle.oe_locks.specs.Held.{Holdings, OthersKeep, HoldsNothing, IsIdle}
 use Rattle.oe_engine.specs.View.{view_from, opened_view}
 use Rattle.oe_engine.specs.Calls.{begun, committed}
@@ -27,28 +28,12 @@ active_set u t s within x =
       | inr ne ↦ ap (λ (z : TerminalState). is_some z.active) (get_or-set_other u.terminals t x s idle ne) ∙ sym (cond-false (x == t) (is_some s.active) (is_some (active_at u x)) (ne_eqb x t ne))
     ]
 
--- what is seen of the terminals stays where one is replaced by a state that looks the same
-pub seen_same : {A : Type 0} (see : TerminalState → A) (u : SegmentLog) (t : ℕ) (s : TerminalState) → see s ≡ see (get_or u.terminals t idle)
-    → (x : ℕ) → see (get_or (set u.terminals t s) x idle) ≡ see (get_or u.terminals x idle)
-seen_same see u t s same x =
-    elim (cases_lt t (length u.terminals)) [
-      | inl within ↦ elim (cases_eq x t) [
-        | inl e ↦ ap (λ y. see (get_or (set u.terminals t s) y idle)) e ∙ ap see (get_or-set_same u.terminals t s idle within) ∙ same ∙ ap (λ y. see (get_or u.terminals y idle)) (sym e)
-        | inr ne ↦ ap see (get_or-set_other u.terminals t x s idle ne)
-      ]
-      | inr past ↦ ap (λ z. see (get_or z x idle)) (set_past u.terminals t s past)
-    ]
-
 pub see_open : TerminalState → Bool
 see_open z = is_some z.active
 
 pub is_none : (a : Option Open) → is_some a ≡ false → a ≡ None
 is_none None e = refl
 is_none (Some o) e = cc
-
-pub some_of : (a : Option Open) → is_some a ≡ true → (o : Open) × (a ≡ Some o)
-some_of None e = cc
-some_of (Some o) e = (o, refl)
 
 -- an engine in which nothing has begun
 pub first_is : (ts : tables.Places) (n : ℕ) (ls : Holdings) → IsIdle ls → view_from ts (no_segments n) ls ≡ opened_view (rows ts) n

@@ -15,13 +15,14 @@ use Rattle.oe_store.specs.Places.{rows, SamePlaces}
 use Rattle.oe_store.specs.Places as tables
 use Rattle.oe_segments.specs.Segments.{SegmentLog, Committed, active_at, open_total, with_newest, records_in}
 use Rattle.oe_journal.specs.Rewinds.{uncounted, without_newest}
+use Rattle.oe_journal.specs.Rewinds as journal
 use Rattle.oe_segments.specs.Stands.{model_records, undo_of}
 use Rattle.oe_segments.proofs.LawFacts as stands
 use Rattle.oe_segments.proofs.StandsFacts.{slots_counted}
 use Rattle.oe_journal.specs.GivesUp.{IsDeletedIn, HasNoRecord, GivesUpThose, GivesUpDeleted}
 use Rattle.oe_journal.specs.GoesBack.{HavePlaces, AllHavePlaces}
-use Rattle.oe_journal.specs.Moments.{store_with}
-use Rattle.oe_journal.specs.Moments as past
+use Rattle.oe_segments.specs.Moments.{store_with}
+use Rattle.oe_segments.specs.Moments as past
 use Rattle.oe_journal.proofs.BackFacts.{more_places}
 use Rattle.oe_journal.proofs.LeftFacts.{none_in_open, none_in_commits}
 use Rattle.oe_journal.proofs.PurgeFacts.{all_more_places}
@@ -209,7 +210,7 @@ rewind_quiet (Ok x) ts u ls none = is_quiet ts u ls none
 rewind_quiet (Err e) ts u ls none = tt
 
 -- why it is refused
-cause_is : (ts : tables.Places) (u : SegmentLog) (ls : Holdings) (m : ℕ) (e : Refusal) → length u.terminals ≡ 65 → past.CantRewind u m e → CantRewind (view_from ts u ls) m e
+cause_is : (ts : tables.Places) (u : SegmentLog) (ls : Holdings) (m : ℕ) (e : Refusal) → length u.terminals ≡ 65 → journal.CantRewind u m e → CantRewind (view_from ts u ls) m e
 unfolding view_from
 cause_is ts u ls m (NotQuiet n) size h = (λ slots same. slots_counted u slots size same ∙ sym h.0, h.1)
 cause_is ts u ls m (TooOld k) size h = (is_quiet ts u ls h.0, h.1)
@@ -217,6 +218,6 @@ cause_is ts u ls m (Future k) size h = (is_quiet ts u ls h.0, h.1)
 cause_is ts u ls m _ size h = absurd h.1
 
 pub rewind_cause : {T : Type 0} (r : Result T Refusal) (ts : tables.Places) (u : SegmentLog) (ls : Holdings) (m : ℕ) → length u.terminals ≡ 65
-    → IfErr r (past.CantRewind u m) → IfErr r (CantRewind (view_from ts u ls) m)
+    → IfErr r (journal.CantRewind u m) → IfErr r (CantRewind (view_from ts u ls) m)
 rewind_cause (Ok x) ts u ls m size h = tt
 rewind_cause (Err e) ts u ls m size h = cause_is ts u ls m e size h

@@ -3,7 +3,7 @@ use Rattle.std.proofs.Common.{◌≡◌, ℕ, Bool, true, false, cond, ◌∷◌
 use Rattle.std.specs.Prelude.{Result, Ok, Err, OnOk, IfErr}
 use Rattle.std.proofs.lemmas.Bool.{true≢false}
 use mathlib.Core.Path.{fun_ext}
-use Rattle.oe_theory.specs.Machine.{Ask, Stop, Plain, Take, Fail, Go, Guard, Free, Under, Own}
+use Rattle.oe_theory.specs.Machine.{Ask, Stop, Plain, Take, Go, Guard, Free, Under, Own}
 use Rattle.oe_theory.specs.Machine as theory
 use Rattle.oe_theory.specs.World as world
 use Rattle.oe_theory.specs.Undo.{put_records}

@@ -1,6 +1,6 @@
 -- A stage of a program, in the words of the theory of transactions.
 use Rattle.std.specs.Prelude.{◌≡◌, ◌⊎◌, suc, [], Option, None, Some}
-use Rattle.oe_theory.specs.Machine.{Tx, Ask, Stop, Plain, Take, Act, Fail, Go, Ready}
+use Rattle.oe_theory.specs.Machine.{Tx, Ask, Stop, Take, Act, Fail, Go, Ready}
 use Rattle.oe_theory.specs.Machine as theory
 use Rattle.oe_theory.specs.Next.{IsNew, GivesWay}
 use Rattle.oe_requests.specs.declared.requests.Request.{Request}

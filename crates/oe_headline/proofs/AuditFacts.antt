@@ -2,7 +2,7 @@
 use Rattle.std.proofs.Common.{◌≡◌, ℕ, zero, suc, ◌≤◌, ◌<◌, None, Some, List, ◌∷◌, ◌++◌, refl, sym, ap, ◌∙◌, subst, inl, inr, arith}
 use Rattle.oe_theory.specs.World.{World, horizon, newest, at}
 use Rattle.oe_theory.specs.Next as theory
-use Rattle.oe_theory.specs.Next.{Next, audits, not_open, too_old, future, IsPast}
+use Rattle.oe_theory.specs.Next.{Next, audits, not_open, too_old, future}
 use Rattle.oe_theory.specs.Theorems.{IsReached}
 use Rattle.oe_theory.proofs.Sets.{some_inj, some_none}
 use Rattle.oe_requests.specs.declared.refusals.Refusal.TheVariants as refusal

@@ -11,7 +11,7 @@ use Rattle.oe_steps.specs.declared.steps.Step.TheVariants as step
 use Rattle.oe_lines.specs.declared.commands.Command.{Command}
 use Rattle.oe_lines.specs.declared.commands.Command.TheVariants as command
 use Rattle.oe_script.specs.Script as script
-use Rattle.oe_script.specs.Script.{State, moment_in, told, RunsIn, Answers, Asks, bad_line, LineAnswer, RunOfLines}
+use Rattle.oe_script.specs.Script.{State, told, RunsIn, Answers, Asks, LineAnswer, RunOfLines}
 use Rattle.oe_headline.specs.Deeds.{Deed, No_form, Opening, Dump, Steps, Entry, step_of, IsUpTo, Takes, Was, Passed, text_of, lines_of, texts_of}
 use Rattle.oe_headline.specs.Laws.{Lines_are_deeds}
 

@@ -20,7 +20,7 @@ use Rattle.oe_lines.specs.declared.commands.Command.{Command}
 use Rattle.oe_lines.specs.declared.commands.Command.TheVariants as command
 use Rattle.oe_core.specs.Steps.{answer_in}
 use Rattle.oe_script.specs.Script as script
-use Rattle.oe_script.specs.Script.{State, moment_in, Answers, Asks, LineAnswer}
+use Rattle.oe_script.specs.Script.{moment_in, Answers}
 use Rattle.oe_script.proofs.LineFacts.{one_command}
 use Rattle.oe_headline.specs.Laws.{Tells, IsRead, Reads_are_of_moments}
 use Rattle.oe_headline.proofs.AnswerFacts.{answer_once, rejected_once}

@@ -16,7 +16,7 @@ use Rattle.oe_segments.specs.Segments.{SegmentLog, Open, active_at, records_at, 
 use Rattle.oe_segments.specs.Stands.{model_records, undo_of, seals_of, counts_of}
 use Rattle.oe_journal.specs.GoesBack.{CanUnwind, HavePlaces}
 use Rattle.oe_journal.specs.Unwinds.{TakesBack}
-use Rattle.oe_journal.proofs.LogFacts.{some_of, records_open, records_size, records_are, own_records, one_popped, records_stand}
+use Rattle.oe_segments.proofs.StateFacts.{some_of, records_open, records_size, records_are, own_records, one_popped, records_stand}
 
 -- keys that had places have them in tables in which none was lost
 pub more_places : (ts ts' : tables.Places) → ((k : Key) → HasPlace ts k → HasPlace ts' k) → (bs : List Record) → HavePlaces ts bs → HavePlaces ts' bs

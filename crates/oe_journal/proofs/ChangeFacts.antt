@@ -22,7 +22,7 @@ use Rattle.oe_undo.specs.Undo.{UndoState}
 use Rattle.oe_journal.specs.Linked.{MayChange}
 use Rattle.oe_journal.specs.Records.{record_in, record_of_change}
 use Rattle.oe_journal.specs.Writes.{HasMore, HasPushedChange, HasRoomToChange, IsRecorded, CantChange, HasNoRoom}
-use Rattle.oe_journal.proofs.LogFacts.{some_of}
+use Rattle.oe_segments.proofs.StateFacts.{some_of}
 use Rattle.oe_journal.proofs.MoreFacts.{of_some, there_is, more_stands, mapped_key, own_key}
 
 -- the row that is looked up is the one before

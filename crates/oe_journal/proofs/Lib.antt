@@ -1,7 +1,6 @@
--- For the crates above: what a write records and why it is refused, what the log makes of its records, and what it is without its
--- newest commits; what a purge leaves.
+-- For the crates above: what a write records and why it is refused, what the log is without its newest commits, and what a purge
+-- leaves.
 pub mod RecordFacts
-pub mod LogFacts
 pub mod RewindFacts
 pub mod BackFacts
 mod SetFacts

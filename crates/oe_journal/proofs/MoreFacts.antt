@@ -20,7 +20,7 @@ use Rattle.oe_undo.specs.Undo.{UndoState, seen, unended, IsGivenBack, GivesBack}
 use Rattle.oe_journal.specs.Linked.{AreLinked, SameLinks}
 use Rattle.oe_journal.specs.Records.{record_in}
 use Rattle.oe_journal.specs.Writes.{HasMore, IsRecorded}
-use Rattle.oe_journal.proofs.LogFacts.{some_of, records_open, records_size, records_are, records_stand, pushed_popped}
+use Rattle.oe_segments.proofs.StateFacts.{some_of, records_open, records_size, records_are, records_stand, pushed_popped}
 use Rattle.oe_undo.proofs.OwnerFacts.{followed_unended}
 use Rattle.oe_journal.proofs.LinkFacts.{more_links, own_link, given_back, still_linked, one_more_linked}
 

@@ -23,7 +23,7 @@ use Rattle.oe_chains.specs.Chains.{IsEnd, AreChained}
 use Rattle.oe_chains.specs.Laws.{IsWhole, Calls_keep_chains, Ends_without_records}
 use Rattle.oe_journal.specs.GoesBack.{AllHavePlaces}
 use Rattle.oe_journal.specs.GivesUp.{IsDelete, HasDelete, IsDeleted, IsDeletedIn, HasNoRecord, GivesUpThose, GivesUpDeleted}
-use Rattle.oe_journal.specs.Moments.{store_with, newest}
+use Rattle.oe_segments.specs.Moments.{store_with, newest}
 use Rattle.oe_journal.proofs.BackFacts.{more_places}
 
 -- Keys that had places have them in tables in which none was lost

@@ -6,7 +6,7 @@ use Rattle.oe_theory.proofs.Sets.{some_inj}
 use Rattle.oe_rows.specs.declared.orders.NewOrder.{NewOrder}
 use Rattle.oe_rows.specs.declared.rows.Row.TheVariants as row
 use Rattle.oe_model.specs.Rows.{Rows, as_warehouse, as_district, as_customer, as_history, as_new_order, as_order, as_order_line, as_stock}
-use Rattle.oe_model.specs.Changes.{Change, Record, key_of, record_of, UpdatedWarehouse, UpdatedDistrict, UpdatedCustomer, UpdatedOrder, UpdatedOrderLine, UpdatedStock, InsertedHistory, InsertedNewOrder, InsertedOrder, InsertedOrderLine, DeletedNewOrder}
+use Rattle.oe_model.specs.Changes.{Change, Record, UpdatedWarehouse, UpdatedDistrict, UpdatedCustomer, UpdatedOrder, UpdatedOrderLine, UpdatedStock, InsertedHistory, InsertedNewOrder, InsertedOrder, InsertedOrderLine, DeletedNewOrder}
 use Rattle.oe_model.specs.Changes as model
 use Rattle.oe_model.specs.Meets.{Accepts}
 use Rattle.oe_records.specs.declared.writes.Write.{Write}

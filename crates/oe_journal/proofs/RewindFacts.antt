@@ -13,7 +13,7 @@ use Rattle.oe_model.specs.System.{system}
 use Rattle.oe_segments.specs.Segments.{SegmentLog, Open, TerminalState, Committed, idle, records_in, active_at, records_at, count_at, open_total, with_records, dropped, reopened}
 use Rattle.oe_segments.specs.Stands.{model_records, undo_of, seal_of, seals_of, counts_of}
 use Rattle.oe_journal.specs.Rewinds.{uncounted, without_newest, StandsRewound}
-use Rattle.oe_journal.proofs.LogFacts.{set_twice, seen_same, records_are}
+use Rattle.oe_segments.proofs.StateFacts.{set_twice, seen_same, records_are}
 
 abbrev see_records : TerminalState → List Record
 see_records s = model_records (records_in s.active)

@@ -18,7 +18,7 @@ use Rattle.oe_journal.specs.Linked.{MayChange, AreLinked}
 use Rattle.oe_journal.specs.Records.{record_in, record_of_write}
 use Rattle.oe_journal.specs.Writes.{IsMade, HasMore, HasWritten, IsRecorded, HasRecorded, CantWrite, Absent}
 use Rattle.oe_journal.proofs.RecordFacts.{write_records, recorded}
-use Rattle.oe_journal.proofs.LogFacts.{some_of}
+use Rattle.oe_segments.proofs.StateFacts.{some_of}
 use Rattle.oe_journal.proofs.MoreFacts.{of_some, there_is, mapped_key, own_key, more_stands, recorded_linked}
 
 -- ---- the record's key is the one that is written

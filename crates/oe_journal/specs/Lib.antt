@@ -5,5 +5,4 @@ pub mod Linked
 pub mod GoesBack
 pub mod Unwinds
 pub mod Rewinds
-pub mod Moments
 pub mod GivesUp

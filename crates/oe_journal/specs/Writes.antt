@@ -65,15 +65,15 @@ abbrev pub HasRoomFor : Write → Rows → SegmentLog → ℕ → Type 0
 HasRoomFor w r u t = IsSomeAnd (record_of_write w r) (λ b. IsFull (log_of u) t (record_length b) → ⊥)
 
 -- it fits neither there nor in a free extent
-abbrev pub IsFullFor : Write → Rows → SegmentLog → ℕ → Type 0
-IsFullFor w r u t = IsSomeAnd (record_of_write w r) (λ b. IsFull (log_of u) t (record_length b))
+abbrev pub IsFullForWrite : Write → Rows → SegmentLog → ℕ → Type 0
+IsFullForWrite w r u t = IsSomeAnd (record_of_write w r) (λ b. IsFull (log_of u) t (record_length b))
 
 -- why a write is refused, by its first cause
 pub data CantWrite (w : Write) (s : Places) (u : SegmentLog) (t : ℕ) : Refusal → Type 0 where
   -- the row to be updated is absent
   Absent : written w (rows s) ≡ None → CantWrite w s u t (NoSuchRow (key_written w))
   -- the record has no room
-  Full : IsFullFor w (rows s) u t → CantWrite w s u t UndoFull
+  Full : IsFullForWrite w (rows s) u t → CantWrite w s u t UndoFull
   -- it has, and the tables refuse the change: they never say `UndoFull`
   Refused : (e : Refusal) → HasRoomFor w (rows s) u t → RefusesWrite w s e → CantWrite w s u t e
 

@@ -6,7 +6,6 @@
 pub mod changes;
 mod inserts;
 mod lending;
-mod moments;
 pub mod purges;
 pub mod rewinds;
 mod settings;

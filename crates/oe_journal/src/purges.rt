@@ -6,12 +6,11 @@ ghost use Rattle.oe_model.specs.System.{system};
 ghost use Rattle.oe_store.specs.Places.{rows};
 ghost use Rattle.oe_segments.specs.Segments.{with_newest};
 ghost use Rattle.oe_segments.specs.Stands.{undo_of};
+ghost use Rattle.oe_segments.specs.Moments.{store_with, newest, IsKeptMoment, IsUnkept};
 ghost use Rattle.oe_chains.specs.Chains.{IsForgotten, IsEnd};
 ghost use Rattle.oe_undo.specs.Undo.{seen};
 ghost use Rattle.oe_journal.specs.GivesUp.{IsDeleted, GivesUpThose, GivesUpDeleted};
-ghost use Rattle.oe_journal.specs.Moments.{store_with, newest, horizon, IsKeptMoment, IsOutside};
 
-use crate::moments::{commits_after, kept};
 use oe_chains::Holder;
 use oe_chains::laws::{calls_keep_chains, ends_without_records};
 use oe_keys::{Key, NewOrderKey};
@@ -39,13 +38,12 @@ pub fn purge(tables: &mut Tables, undo: &mut Undo, moment: Moment) -> Result<(),
     ensures places { OnOk result (GivesUpDeleted tables.old tables.new
         (drop (newest undo.old.log - moment) (undo_of undo.old.log).history) undo.new.log) }
     ensures links { undo.new.links ≡ undo.old.links }
-    ensures cause { IfErr result
-        (IsOutside (horizon undo.old.log) (newest undo.old.log) moment) }
+    ensures cause { IfErr result (IsUnkept undo.old.log moment) }
     ensures err { OnErr result ((tables.new ≡ tables.old) × (undo.new ≡ undo.old)) }
 {
-    match commits_after(undo.segments(), moment) {
+    match undo.segments().commits_after(moment) {
         Ok(later) => {
-            forget_oldest(tables, undo, moment, kept(undo.segments()) - later);
+            forget_oldest(tables, undo, moment, undo.segments().kept() - later);
             Ok(())
         }
         Err(refusal) => Err(refusal),
@@ -70,7 +68,7 @@ fn forget_oldest(tables: &mut Tables, undo: &mut Undo, moment: Moment, count: us
     for _ in 0..count {
         // For the proof: a link that ends at the moment has no record that the purge leaves.
         undo.is_chained();
-        let oldest = kept(undo.segments()) - 1;
+        let oldest = undo.segments().kept() - 1;
         give_up_deleted(
             tables,
             undo,

@@ -5,13 +5,12 @@ ghost use Rattle.oe_theory.specs.Store.{Slot, rewound_to};
 ghost use Rattle.oe_model.specs.System.{system};
 ghost use Rattle.oe_store.specs.Places.{rows, SamePlaces};
 ghost use Rattle.oe_segments.specs.Segments.{active_at, open_total};
+ghost use Rattle.oe_segments.specs.Moments.{store_with, newest, IsKeptMoment};
 ghost use Rattle.oe_segments.specs.Stands.{undo_of};
 ghost use Rattle.oe_links.specs.Links as links;
 ghost use Rattle.oe_journal.specs.GoesBack.{CanUnwindAll, AllHavePlaces};
-ghost use Rattle.oe_journal.specs.Moments.{store_with, newest, IsKeptMoment, CantRewind};
-ghost use Rattle.oe_journal.specs.Rewinds.{without_newest};
+ghost use Rattle.oe_journal.specs.Rewinds.{without_newest, CantRewind};
 
-use crate::moments::commits_after;
 use crate::unwinding::take_back;
 use oe_requests::Refusal;
 use oe_store::Tables;
@@ -45,7 +44,7 @@ pub fn rewind(tables: &mut Tables, undo: &mut Undo, moment: Moment) -> Result<()
     if let Some(open) = TerminalCount::new(undo.segments().open_count()) {
         return Err(Refusal::NotQuiet(open));
     }
-    match commits_after(undo.segments(), moment) {
+    match undo.segments().commits_after(moment) {
         Ok(later) => {
             take_newest(tables, undo, later);
             Ok(())

@@ -18,7 +18,8 @@ use Rattle.oe_segments.specs.Segments.{SegmentLog, total_count}
 use Rattle.oe_segments.proofs.StandsFacts.{totals}
 use Rattle.oe_chains.specs.Held.{horizon}
 use Rattle.oe_chains.specs.Oldest.{oldest_in, oldest_open, oldest_of_commits, oldest_after}
-use Rattle.oe_moments.specs.Versions.{store_with, newest, IsReadable}
+use Rattle.oe_segments.specs.Moments.{newest, IsKeptMoment}
+use Rattle.oe_moments.specs.Versions.{without_slots}
 use Rattle.oe_moments.specs.Found.{row_found, HasRow}
 
 -- putting back the records of a key, one after another, leaves the row of the last
@@ -59,13 +60,13 @@ found_is : (u : SegmentLog) (count m : ℕ) (k : Key) → count + m ≡ newest u
 found_is u count m k e = λ r.
     let after : newest u - m ≡ count = omega (arith, e) in
     let back : List (List Record) = take (newest u - m) (undo_of u).history in
-    at_restored_commits system laws back (newest_version system (store_with r u)) k
+    at_restored_commits system laws back (newest_version system (without_slots r u)) k
     ∙ ap (restored_commits system k back) (at_restored_open system laws (undo_of u).active (all_below system terminal_limit) r k ∙ open_found terminal_limit (undo_of u).active k None (row_at r k))
     ∙ commits_found k back (oldest_open k (undo_of u).active (all_below system terminal_limit) None) (row_at r k)
     ∙ ap (λ n. row_found (oldest_after k u n) (row_at r k)) after
 
 -- a moment that can be read is kept, as the log counts
-module _ (u : SegmentLog) (m : ℕ) (all : length u.terminals ≡ 65) (readable : IsReadable u m) where
+module _ (u : SegmentLog) (m : ℕ) (all : length u.terminals ≡ 65) (readable : IsKeptMoment u m) where
   pub is_made : m ≤ total_count u
   is_made =
       let new : m ≤ newest u = readable.new in

@@ -23,7 +23,8 @@ use Rattle.oe_model.proofs.PresenceFacts.{some-map}
 use Rattle.oe_store.specs.Places.{rows}
 use Rattle.oe_store.specs.Places as tables
 use Rattle.oe_segments.specs.Segments.{SegmentLog}
-use Rattle.oe_moments.specs.Versions.{store_with, version, Stand}
+use Rattle.oe_segments.specs.Moments.{store_with}
+use Rattle.oe_moments.specs.Versions.{version, Stand}
 use Rattle.oe_moments.proofs.LastingFacts.{order_is, rows_last}
 use Rattle.oe_moments.proofs.ChosenFacts.{rows_at, rows_some, rows_none, all_is}
 use Rattle.oe_moments.proofs.LineFacts.{left, right, lower, same_number}
@@ -175,14 +176,14 @@ module _ (ts : tables.Places) (u : SegmentLog) (m : ℕ) (c : CustomerKey) where
   -- an order has the customer that it has now
   same_customer : Stand ts u → (e : Entry) (x : Order) → get now e.0 ≡ Some e.1 → get past e.0 ≡ Some x → x.customer ≡ e.1.customer
   same_customer h e x stands at =
-      let y = rows_last (record (store_with (rows ts) u) { slots = h.0 }) m (key.Order e.0) h.1 x (ap (option_map row.Order) at) in
+      let y = rows_last (store_with (rows ts) u h.0) m (key.Order e.0) h.1 x (ap (option_map row.Order) at) in
       let is : y.0 ≡ e.1 = order_is y.0 e.1 (sym y.1 ∙ ap (option_map row.Order) stands) in
       sym y.2 ∙ ap (λ (z : Order). z.customer) is
 
   there_now : Stand ts u → (q : OrderKey) (v : Option Order) → get past q ≡ v → IsSome v → IsSome (get now q)
   there_now h q None e i = let no : ⊥ = cc in absurd no
   there_now h q (Some x) e i =
-      let y = rows_last (record (store_with (rows ts) u) { slots = h.0 }) m (key.Order q) h.1 x (ap (option_map row.Order) e) in
+      let y = rows_last (store_with (rows ts) u h.0) m (key.Order q) h.1 x (ap (option_map row.Order) e) in
       sym (some-map row.Order (get now q)) ∙ ap is_some y.1
 
   -- the customer's orders are those of the same keys

@@ -26,7 +26,8 @@ use Rattle.oe_model.proofs.PresenceFacts.{some-map}
 use Rattle.oe_store.specs.Places.{rows}
 use Rattle.oe_store.specs.Places as tables
 use Rattle.oe_segments.specs.Segments.{SegmentLog}
-use Rattle.oe_moments.specs.Versions.{store_with, version, Stand}
+use Rattle.oe_segments.specs.Moments.{store_with}
+use Rattle.oe_moments.specs.Versions.{version, Stand}
 use Rattle.oe_moments.proofs.LastingFacts.{rows_last}
 use Rattle.oe_moments.proofs.ChosenFacts.{rows_at, kept_is}
 
@@ -89,7 +90,7 @@ pub lines_are : (ts : tables.Places) (u : SegmentLog) (m : ℕ) (k : OrderKey) �
 lines_are ts u m k h =
     sym (kept_is (version ts u m).order_lines order_line_total exact_order_line (rows ts).order_lines (own k) (λ q there.
     sym (some-map row.OrderLine (get (rows ts).order_lines q))
-    ∙ rows_last (record (store_with (rows ts) u) { slots = h.0 }) m (key.OrderLine q) h.1 (some-map row.OrderLine (get (version ts u m).order_lines q) ∙ there)))
+    ∙ rows_last (store_with (rows ts) u h.0) m (key.OrderLine q) h.1 (some-map row.OrderLine (get (version ts u m).order_lines q) ∙ there)))
 
 -- what is told of lines with their keys
 abbrev told : List (OrderLineKey × OrderLine) → List StatusLine

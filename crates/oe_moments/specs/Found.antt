@@ -7,7 +7,7 @@ use Rattle.oe_model.specs.Rows.{Rows, row_at}
 use Rattle.oe_model.specs.Changes.{Record, row_before}
 use Rattle.oe_model.specs.System.{system}
 use Rattle.oe_segments.specs.Segments.{SegmentLog}
-use Rattle.oe_moments.specs.Versions.{store_with}
+use Rattle.oe_moments.specs.Versions.{without_slots}
 
 -- the row that a record has, or the one that stands where there is no record
 abbrev pub row_found : Option Record → Option Row → Option Row
@@ -17,4 +17,4 @@ row_found (Some b) now = row_before b
 -- whatever rows stand, the key's row of the moment is found so
 abbrev pub HasRow : SegmentLog → ℕ → Key → Option Record → Type 0
 HasRow u m k o =
-    (r : Rows) → row_at (version_of system (store_with r u) m) k ≡ row_found o (row_at r k)
+    (r : Rows) → row_at (version_of system (without_slots r u) m) k ≡ row_found o (row_at r k)

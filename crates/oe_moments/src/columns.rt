@@ -4,7 +4,8 @@ ghost use Rattle.std.specs.FinMap.{get};
 ghost use Rattle.oe_keys.specs.declared.keys.Key.TheVariants as keys;
 ghost use Rattle.oe_model.specs.Rows.{row_at, as_warehouse, as_district, as_customer, as_stock};
 ghost use Rattle.oe_store.specs.Places.{rows};
-ghost use Rattle.oe_moments.specs.Versions.{version, IsReadable, IsOutside};
+ghost use Rattle.oe_segments.specs.Moments.{IsKeptMoment, IsUnkept};
+ghost use Rattle.oe_moments.specs.Versions.{version};
 ghost use Rattle.oe_moments.specs.Found.{row_found};
 
 use crate::records::found_at;
@@ -43,8 +44,8 @@ pub fn warehouse_ytd_at(
     ensures column { IfOk result (λ y. y
         ≡ option_map (λ x. x.ytd)
         (get (version tables.now undo.now.log moment).warehouses key.now)) }
-    ensures readable { OnOk result (IsReadable undo.now.log moment) }
-    ensures refusal { IfErr result (λ e. IsOutside undo.now.log moment e) }
+    ensures readable { OnOk result (IsKeptMoment undo.now.log moment) }
+    ensures refusal { IfErr result (IsUnkept undo.now.log moment) }
 {
     match found_at(undo, &Key::Warehouse(*key), moment) {
         Ok(found) => Ok(warehouse_ytd(tables, key, found)),
@@ -80,8 +81,8 @@ pub fn district_ytd_at(
     ensures column { IfOk result (λ y. y
         ≡ option_map (λ x. x.ytd)
         (get (version tables.now undo.now.log moment).districts key.now)) }
-    ensures readable { OnOk result (IsReadable undo.now.log moment) }
-    ensures refusal { IfErr result (λ e. IsOutside undo.now.log moment e) }
+    ensures readable { OnOk result (IsKeptMoment undo.now.log moment) }
+    ensures refusal { IfErr result (IsUnkept undo.now.log moment) }
 {
     match found_at(undo, &Key::District(*key), moment) {
         Ok(found) => Ok(district_ytd(tables, key, found)),
@@ -117,8 +118,8 @@ pub fn next_order_at(
     ensures column { IfOk result (λ y. y
         ≡ option_map (λ x. x.next_order)
         (get (version tables.now undo.now.log moment).districts key.now)) }
-    ensures readable { OnOk result (IsReadable undo.now.log moment) }
-    ensures refusal { IfErr result (λ e. IsOutside undo.now.log moment e) }
+    ensures readable { OnOk result (IsKeptMoment undo.now.log moment) }
+    ensures refusal { IfErr result (IsUnkept undo.now.log moment) }
 {
     match found_at(undo, &Key::District(*key), moment) {
         Ok(found) => Ok(next_order(tables, key, found)),
@@ -150,8 +151,8 @@ pub fn balance_at(
     ensures column { IfOk result (λ y. y
         ≡ option_map (λ x. x.account.balance)
         (get (version tables.now undo.now.log moment).customers key.now)) }
-    ensures readable { OnOk result (IsReadable undo.now.log moment) }
-    ensures refusal { IfErr result (λ e. IsOutside undo.now.log moment e) }
+    ensures readable { OnOk result (IsKeptMoment undo.now.log moment) }
+    ensures refusal { IfErr result (IsUnkept undo.now.log moment) }
 {
     match found_at(undo, &Key::Customer(*key), moment) {
         Ok(found) => Ok(balance(tables, key, found)),
@@ -183,8 +184,8 @@ pub fn stock_quantity_at(
     ensures column { IfOk result (λ y. y
         ≡ option_map (λ x. x.quantity)
         (get (version tables.now undo.now.log moment).stocks key.now)) }
-    ensures readable { OnOk result (IsReadable undo.now.log moment) }
-    ensures refusal { IfErr result (λ e. IsOutside undo.now.log moment e) }
+    ensures readable { OnOk result (IsKeptMoment undo.now.log moment) }
+    ensures refusal { IfErr result (IsUnkept undo.now.log moment) }
 {
     match found_at(undo, &Key::Stock(*key), moment) {
         Ok(found) => Ok(stock_quantity(tables, key, found)),

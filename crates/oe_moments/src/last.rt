@@ -4,9 +4,9 @@ ghost use Rattle.std.specs.Ordering.{eq_by_cmp};
 ghost use Rattle.oe_keys.specs.Key.{customer_cmp};
 ghost use Rattle.oe_model.specs.Keys.{customer_of_order};
 ghost use Rattle.oe_model.specs.Queries.{last_order};
-ghost use Rattle.oe_moments.specs.Versions.{version, Stand, IsReadable, IsOutside};
+ghost use Rattle.oe_segments.specs.Moments.{IsKeptMoment, IsUnkept};
+ghost use Rattle.oe_moments.specs.Versions.{version, Stand};
 
-use crate::records::commits_after;
 use crate::rows::order_at;
 use oe_keys::{CustomerKey, OrderKey};
 use oe_requests::Refusal;
@@ -36,10 +36,10 @@ pub fn last_order_at(
     requires { Stand tables.now undo.now.log }
     ensures order { IfOk result (λ e.
         e ≡ last_order customer (version tables.now undo.now.log moment).orders) }
-    ensures readable { OnOk result (IsReadable undo.now.log moment) }
-    ensures refusal { IfErr result (λ e. IsOutside undo.now.log moment e) }
+    ensures readable { OnOk result (IsKeptMoment undo.now.log moment) }
+    ensures refusal { IfErr result (IsUnkept undo.now.log moment) }
 {
-    commits_after(undo, moment)?;
+    undo.segments().commits_after(moment)?;
     let mut last = None;
     for (key, row) in tables.orders_of_customer(&customer) {
         if is_own(key, row, &customer) {

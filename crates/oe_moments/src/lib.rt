@@ -16,5 +16,4 @@ pub use columns::{
 pub use last::last_order_at;
 pub use lines::lines_at;
 pub use names::names_at;
-pub use records::commits_after;
 pub use rows::{has_new_order_at, order_at, order_line_at, row_at, row_counted};

@@ -2,9 +2,9 @@
 ghost use Rattle.std.specs.Prelude.{◌≡◌, map, IfOk, IfErr, OnOk};
 ghost use Rattle.oe_model.specs.Delivery.{lines_of};
 ghost use Rattle.oe_model.specs.Queries.{status_line};
-ghost use Rattle.oe_moments.specs.Versions.{version, Stand, IsReadable, IsOutside};
+ghost use Rattle.oe_segments.specs.Moments.{IsKeptMoment, IsUnkept};
+ghost use Rattle.oe_moments.specs.Versions.{version, Stand};
 
-use crate::records::commits_after;
 use crate::rows::order_line_at;
 use oe_keys::OrderKey;
 use oe_requests::{Refusal, StatusLine, StatusLines};
@@ -37,10 +37,10 @@ pub fn lines_at(
     ensures lines { IfOk result (λ l. l
         ≡ map (λ e. status_line e.1)
         (lines_of order (version tables.now undo.now.log moment).order_lines)) }
-    ensures readable { OnOk result (IsReadable undo.now.log moment) }
-    ensures refusal { IfErr result (λ e. IsOutside undo.now.log moment e) }
+    ensures readable { OnOk result (IsKeptMoment undo.now.log moment) }
+    ensures refusal { IfErr result (IsUnkept undo.now.log moment) }
 {
-    commits_after(undo, moment)?;
+    undo.segments().commits_after(moment)?;
     let mut lines = StatusLines::new();
     for (key, _) in tables.order_lines_of(order) {
         let _number = key.number.get();

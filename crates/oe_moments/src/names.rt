@@ -1,9 +1,9 @@
 //! The customer that a last name meant at a moment.
 ghost use Rattle.std.specs.Prelude.{◌≡◌, IfOk, IfErr, OnOk};
 ghost use Rattle.oe_model.specs.Choice.{namesakes, middle};
-ghost use Rattle.oe_moments.specs.Versions.{version, Stand, IsReadable, IsOutside};
+ghost use Rattle.oe_segments.specs.Moments.{IsKeptMoment, IsUnkept};
+ghost use Rattle.oe_moments.specs.Versions.{version, Stand};
 
-use crate::records::commits_after;
 use oe_keys::DistrictKey;
 use oe_requests::Refusal;
 use oe_store::Tables;
@@ -25,10 +25,10 @@ pub fn names_at(
     ensures customer { IfOk result (λ c. c
         ≡ middle (namesakes district.now last.now
         (version tables.now undo.now.log moment).customers)) }
-    ensures readable { OnOk result (IsReadable undo.now.log moment) }
-    ensures refusal { IfErr result (λ e. IsOutside undo.now.log moment e) }
+    ensures readable { OnOk result (IsKeptMoment undo.now.log moment) }
+    ensures refusal { IfErr result (IsUnkept undo.now.log moment) }
 {
-    match commits_after(undo, moment) {
+    match undo.segments().commits_after(moment) {
         Ok(_) => Ok(tables.middle(district, last)),
         Err(refusal) => Err(refusal),
     }

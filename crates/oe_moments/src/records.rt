@@ -1,9 +1,9 @@
 //! The record that has a row of a moment: the oldest of its key that is put back on the way there. It is looked for along the key's own
 //! records, from the newest on: no row is read, and nothing takes memory.
-ghost use Rattle.std.specs.Prelude.{◌≡◌, ◌+◌, IfOk, IfErr, OnOk, OnErr};
+ghost use Rattle.std.specs.Prelude.{◌≡◌, IfOk, IfErr, OnOk, OnErr};
 ghost use Rattle.oe_chains.specs.Held.{held, of_key, count_later};
 ghost use Rattle.oe_undo.specs.Ticks.{ticked};
-ghost use Rattle.oe_moments.specs.Versions.{newest, IsReadable, IsOutside};
+ghost use Rattle.oe_segments.specs.Moments.{IsKeptMoment, IsUnkept};
 ghost use Rattle.oe_moments.specs.Found.{HasRow};
 
 use oe_keys::Key;
@@ -11,24 +11,6 @@ use oe_layout::StoredRecord;
 use oe_requests::Refusal;
 use oe_undo::{Ticks, Undo};
 use oe_values::Moment;
-
-/// How many commits came after a moment; `TooOld` with the horizon, or `Future` with the newest moment, exactly where it is not
-/// between the two.
-pub fn commits_after(undo: &Undo, moment: Moment) -> Result<usize, Refusal>
-    ensures count { IfOk result (λ n. n + moment ≡ newest undo.now.log) }
-    ensures readable { OnOk result (IsReadable undo.now.log moment) }
-    ensures refusal { IfErr result (λ e. IsOutside undo.now.log moment e) }
-{
-    let newest = undo.segments().newest();
-    let horizon = undo.segments().horizon();
-    if moment < horizon {
-        return Err(Refusal::TooOld(horizon));
-    }
-    if newest < moment {
-        return Err(Refusal::Future(newest));
-    }
-    Ok((newest.get() - moment.get()) as usize)
-}
 
 /// The record that has the row which the key had at a moment, or none where that row stands; refused as `row_at`. Each record that
 /// is read ticks: the key's own that are open or of later commits.
@@ -40,14 +22,14 @@ pub(crate) fn found_counted<'a>(
     ticks: &mut Ticks,
 ) -> Result<Option<StoredRecord<'a>>, Refusal>
     ensures found { IfOk result (λ b. HasRow undo.now.log moment key.now b) }
-    ensures readable { OnOk result (IsReadable undo.now.log moment) }
-    ensures refusal { IfErr result (λ e. IsOutside undo.now.log moment e) }
+    ensures readable { OnOk result (IsKeptMoment undo.now.log moment) }
+    ensures refusal { IfErr result (IsUnkept undo.now.log moment) }
     ensures ticks { OnOk result (ticks.new
         ≡ ticked ticks.old (count_later moment (of_key key.now (held undo.now.log)))) }
     ensures unread { OnErr result (ticks.new ≡ ticks.old) }
 {
     undo.segments().terminals_are();
-    match commits_after(undo, moment) {
+    match undo.segments().commits_after(moment) {
         Ok(_) => Ok(undo.oldest_after(key, moment, ticks)),
         Err(refusal) => Err(refusal),
     }
@@ -60,8 +42,8 @@ pub(crate) fn found_at<'a>(
     moment: Moment,
 ) -> Result<Option<StoredRecord<'a>>, Refusal>
     ensures found { IfOk result (λ b. HasRow undo.now.log moment key.now b) }
-    ensures readable { OnOk result (IsReadable undo.now.log moment) }
-    ensures refusal { IfErr result (λ e. IsOutside undo.now.log moment e) }
+    ensures readable { OnOk result (IsKeptMoment undo.now.log moment) }
+    ensures refusal { IfErr result (IsUnkept undo.now.log moment) }
 {
     let mut ticks = Ticks::new();
     found_counted(undo, key, moment, &mut ticks)

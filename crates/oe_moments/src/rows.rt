@@ -8,7 +8,8 @@ ghost use Rattle.oe_layout.specs.Records.{record_of_own};
 ghost use Rattle.oe_store.specs.Places.{rows};
 ghost use Rattle.oe_chains.specs.Held.{held, of_key, count_later};
 ghost use Rattle.oe_undo.specs.Ticks.{ticked};
-ghost use Rattle.oe_moments.specs.Versions.{version, IsReadable, IsOutside};
+ghost use Rattle.oe_segments.specs.Moments.{IsKeptMoment, IsUnkept};
+ghost use Rattle.oe_moments.specs.Versions.{version};
 ghost use Rattle.oe_moments.specs.Found.{row_found};
 
 use crate::records::{found_at, found_counted};
@@ -66,8 +67,8 @@ pub fn row_counted(
     ticks: &mut Ticks,
 ) -> Result<Option<Row>, Refusal>
     ensures row { IfOk result (λ x. x ≡ row_at (version tables.now undo.now.log moment) key.now) }
-    ensures readable { OnOk result (IsReadable undo.now.log moment) }
-    ensures refusal { IfErr result (λ e. IsOutside undo.now.log moment e) }
+    ensures readable { OnOk result (IsKeptMoment undo.now.log moment) }
+    ensures refusal { IfErr result (IsUnkept undo.now.log moment) }
     ensures ticks { OnOk result (ticks.new
         ≡ ticked ticks.old (count_later moment (of_key key.now (held undo.now.log)))) }
     ensures unread { OnErr result (ticks.new ≡ ticks.old) }
@@ -92,8 +93,8 @@ pub fn row_at(
     moment: Moment,
 ) -> Result<Option<Row>, Refusal>
     ensures row { IfOk result (λ x. x ≡ row_at (version tables.now undo.now.log moment) key.now) }
-    ensures readable { OnOk result (IsReadable undo.now.log moment) }
-    ensures refusal { IfErr result (λ e. IsOutside undo.now.log moment e) }
+    ensures readable { OnOk result (IsKeptMoment undo.now.log moment) }
+    ensures refusal { IfErr result (IsUnkept undo.now.log moment) }
 {
     let mut ticks = Ticks::new();
     row_counted(tables, undo, key, moment, &mut ticks)
@@ -120,8 +121,8 @@ pub fn has_new_order_at(
 ) -> Result<bool, Refusal>
     ensures row { IfOk result (λ b.
         b ≡ is_some (get (version tables.now undo.now.log moment).new_orders key.now)) }
-    ensures readable { OnOk result (IsReadable undo.now.log moment) }
-    ensures refusal { IfErr result (λ e. IsOutside undo.now.log moment e) }
+    ensures readable { OnOk result (IsKeptMoment undo.now.log moment) }
+    ensures refusal { IfErr result (IsUnkept undo.now.log moment) }
 {
     match found_at(undo, &Key::NewOrder(*key), moment) {
         Ok(found) => Ok(has_new_order(tables, key, found)),
@@ -152,8 +153,8 @@ pub fn order_at(
 ) -> Result<Option<Order>, Refusal>
     ensures row { IfOk result (λ x.
         x ≡ get (version tables.now undo.now.log moment).orders key.now) }
-    ensures readable { OnOk result (IsReadable undo.now.log moment) }
-    ensures refusal { IfErr result (λ e. IsOutside undo.now.log moment e) }
+    ensures readable { OnOk result (IsKeptMoment undo.now.log moment) }
+    ensures refusal { IfErr result (IsUnkept undo.now.log moment) }
 {
     match found_at(undo, &Key::Order(*key), moment) {
         Ok(found) => Ok(order_row(tables, key, found)),
@@ -188,8 +189,8 @@ pub fn order_line_at(
 ) -> Result<Option<OrderLine>, Refusal>
     ensures row { IfOk result (λ x.
         x ≡ get (version tables.now undo.now.log moment).order_lines key.now) }
-    ensures readable { OnOk result (IsReadable undo.now.log moment) }
-    ensures refusal { IfErr result (λ e. IsOutside undo.now.log moment e) }
+    ensures readable { OnOk result (IsKeptMoment undo.now.log moment) }
+    ensures refusal { IfErr result (IsUnkept undo.now.log moment) }
 {
     match found_at(undo, &Key::OrderLine(*key), moment) {
         Ok(found) => Ok(order_line_row(tables, key, found)),

@@ -26,7 +26,8 @@ use Rattle.oe_model.proofs.PresenceFacts.{mapped_absent}
 use Rattle.oe_store.specs.Places.{rows}
 use Rattle.oe_store.specs.Places as tables
 use Rattle.oe_segments.specs.Segments.{SegmentLog}
-use Rattle.oe_moments.specs.Versions.{version, IsReadable, IsOutside}
+use Rattle.oe_segments.specs.Moments.{IsKeptMoment, IsUnkept}
+use Rattle.oe_moments.specs.Versions.{version}
 use Rattle.oe_queries.specs.Reply.{IsReply, HasNoReply, IsRefused}
 use Rattle.oe_queries.proofs.LevelFacts.{level_told}
 
@@ -66,26 +67,26 @@ module _ (q : StatusQuery) (r : Rows) where
       ∙ on_none NoCustomer (get r.customers (customer_in q.district c)) _ (no_row_of (λ (x : Customer). x.account.balance) (get r.customers k) none ∙ ap (get r.customers) is)
 
 module _ (ts : tables.Places) (u : SegmentLog) (m : ℕ) where
-  pub outside_untold : (q : Query) (e : Refusal) → IsOutside u m e → HasNoReply q ts u m e
+  pub outside_untold : (q : Query) (e : Refusal) → IsUnkept u m e → HasNoReply q ts u m e
   outside_untold q e h = inl h
 
-  pub nobody_untold : (q : StatusQuery) → IsReadable u m → None ≡ chosen q.district q.customer (version ts u m).customers → HasNoReply (Status q) ts u m NoCustomer
+  pub nobody_untold : (q : StatusQuery) → IsKeptMoment u m → None ≡ chosen q.district q.customer (version ts u m).customers → HasNoReply (Status q) ts u m NoCustomer
   nobody_untold q i h = inr (i, nobody q (version ts u m) h)
 
-  pub no_row_untold : (q : StatusQuery) (c : ℕ) (k : CustomerKey) → IsReadable u m → Some c ≡ chosen q.district q.customer (version ts u m).customers → k ≡ customer_in q.district c
+  pub no_row_untold : (q : StatusQuery) (c : ℕ) (k : CustomerKey) → IsKeptMoment u m → Some c ≡ chosen q.district q.customer (version ts u m).customers → k ≡ customer_in q.district c
       → None ≡ option_map (λ (x : Customer). x.account.balance) (get (version ts u m).customers k) → HasNoReply (Status q) ts u m NoCustomer
   no_row_untold q c k i at is h = inr (i, no_row q (version ts u m) c k at is h)
 
-  pub no_district_untold : (q : LevelQuery) → IsReadable u m → None ≡ option_map (λ (x : District). x.next_order) (get (version ts u m).districts q.district)
+  pub no_district_untold : (q : LevelQuery) → IsKeptMoment u m → None ≡ option_map (λ (x : District). x.next_order) (get (version ts u m).districts q.district)
       → HasNoReply (Level q) ts u m (NoSuchRow (key.District q.district))
   no_district_untold q i h =
       inr (i, on_none (NoSuchRow (key.District q.district)) (get (version ts u m).districts q.district) _ (no_row_of (λ (x : District). x.next_order) (get (version ts u m).districts q.district) h))
 
-  pub is_status : (q : StatusQuery) (f : QueryReply) → None ≡ first_absent (q.district.warehouse ∷ []) (rows ts) → IsReadable u m → order_status q (version ts u m) ≡ Here f
+  pub is_status : (q : StatusQuery) (f : QueryReply) → None ≡ first_absent (q.district.warehouse ∷ []) (rows ts) → IsKeptMoment u m → order_status q (version ts u m) ≡ Here f
       → IsReply (Status q) ts u m f
   is_status q f w i h = record { warehouse = sym w; readable = i; answer = h }
 
-  pub is_level : (q : LevelQuery) (f : QueryReply) → None ≡ first_absent (q.district.warehouse ∷ []) (rows ts) → IsReadable u m → stock_level q (version ts u m) ≡ Here f
+  pub is_level : (q : LevelQuery) (f : QueryReply) → None ≡ first_absent (q.district.warehouse ∷ []) (rows ts) → IsKeptMoment u m → stock_level q (version ts u m) ≡ Here f
       → IsReply (Level q) ts u m f
   is_level q f w i h = record { warehouse = sym w; readable = i; answer = h }
 

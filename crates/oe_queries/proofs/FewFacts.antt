@@ -37,7 +37,8 @@ use Rattle.oe_store.specs.Numbered.{AreNumbered}
 use Rattle.oe_store.specs.Places.{rows}
 use Rattle.oe_store.specs.Places as tables
 use Rattle.oe_segments.specs.Segments.{SegmentLog}
-use Rattle.oe_moments.specs.Versions.{store_with, version, Stand}
+use Rattle.oe_segments.specs.Moments.{store_with}
+use Rattle.oe_moments.specs.Versions.{version, Stand}
 use Rattle.oe_moments.proofs.LastingFacts.{rows_last}
 use Rattle.oe_moments.proofs.LineFacts.{left, right, lower, same_number}
 use Rattle.oe_queries.specs.Few.{Orders_are_short, Recent_are_few, Levels_are_small}
@@ -208,6 +209,6 @@ module _ (r : Rows) (range : InRange r.order_lines) where
 pub in_range_past : (ts : tables.Places) (u : SegmentLog) (m : ℕ) → Stand ts u → AreNumbered (rows ts) → InRange (version ts u m).order_lines
 in_range_past ts u m stand numbered k h =
     let now : IsSome (option_map row.OrderLine (get (rows ts).order_lines k)) =
-    rows_last (record (store_with (rows ts) u) { slots = stand.0 }) m (key.OrderLine k) stand.1 (some-map row.OrderLine (get (version ts u m).order_lines k) ∙ h)
+    rows_last (store_with (rows ts) u stand.0) m (key.OrderLine k) stand.1 (some-map row.OrderLine (get (version ts u m).order_lines k) ∙ h)
     in
     let n = (numbered (key.OrderLine k) now).1 in (n.0, n.1)

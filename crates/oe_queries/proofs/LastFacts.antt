@@ -12,7 +12,8 @@ use Rattle.oe_store.specs.Numbered.{AreNumbered}
 use Rattle.oe_store.specs.Places.{rows}
 use Rattle.oe_store.specs.Places as tables
 use Rattle.oe_segments.specs.Segments.{SegmentLog}
-use Rattle.oe_moments.specs.Versions.{store_with, version, Stand}
+use Rattle.oe_segments.specs.Moments.{store_with}
+use Rattle.oe_moments.specs.Versions.{version, Stand}
 use Rattle.oe_moments.proofs.LastingFacts.{rows_last}
 use Rattle.oe_queries.specs.Level.{is_short}
 use Rattle.oe_queries.proofs.LevelFacts.{are_low}
@@ -23,7 +24,7 @@ module _ (ts : tables.Places) (u : SegmentLog) (m : ℕ) (stand : Stand ts u) (n
   pub numbers_past : (k : OrderLineKey) → IsSome (get (version ts u m).order_lines k) → 1 ≤ k.order
   numbers_past k h =
       let now : IsSome (option_map row.OrderLine (get (rows ts).order_lines k)) =
-      rows_last (record (store_with (rows ts) u) { slots = stand.0 }) m (key.OrderLine k) stand.1 (some-map row.OrderLine (get (version ts u m).order_lines k) ∙ h)
+      rows_last (store_with (rows ts) u stand.0) m (key.OrderLine k) stand.1 (some-map row.OrderLine (get (version ts u m).order_lines k) ∙ h)
       in
       (numbered (key.OrderLine k) now).0.0
 

@@ -9,17 +9,18 @@ use Rattle.oe_model.specs.Queries.{answer_of}
 use Rattle.oe_store.specs.Places.{rows}
 use Rattle.oe_store.specs.Places as tables
 use Rattle.oe_segments.specs.Segments.{SegmentLog}
-use Rattle.oe_moments.specs.Versions.{version, IsReadable, IsOutside}
+use Rattle.oe_segments.specs.Moments.{IsKeptMoment, IsUnkept}
+use Rattle.oe_moments.specs.Versions.{version}
 
 -- the reply, where its warehouse is there: the answer of the version of that moment, which can be read
 pub record IsReply (q : Query) (ts : tables.Places) (u : SegmentLog) (m : ℕ) (f : QueryReply) : Type 0 where
   pub warehouse : query_rejection q (rows ts) ≡ None
-  pub readable : IsReadable u m
+  pub readable : IsKeptMoment u m
   pub answer : answer_of q (version ts u m) ≡ Here f
 
 -- there is no reply of a moment that can't be read, nor of what is not there at one that can
 abbrev pub HasNoReply : Query → tables.Places → SegmentLog → ℕ → Refusal → Type 0
-HasNoReply q ts u m e = IsOutside u m e ⊎ (IsReadable u m × (answer_of q (version ts u m) ≡ Missing e))
+HasNoReply q ts u m e = IsUnkept u m e ⊎ (IsKeptMoment u m × (answer_of q (version ts u m) ≡ Missing e))
 
 -- a query is refused for an absent warehouse before it is for the moment, and for the moment before it is for what is not there
 abbrev pub IsRefused : Query → tables.Places → SegmentLog → ℕ → Refusal → Type 0

@@ -6,7 +6,8 @@ ghost use Rattle.oe_requests.specs.declared.replies.QueryReply.TheVariants as to
 ghost use Rattle.oe_model.specs.Keys.{order_in};
 ghost use Rattle.oe_model.specs.Queries.{stock_level};
 ghost use Rattle.oe_model.specs.Rules.{AreLow};
-ghost use Rattle.oe_moments.specs.Versions.{version, Stand, IsReadable, IsOutside};
+ghost use Rattle.oe_segments.specs.Moments.{IsKeptMoment, IsUnkept};
+ghost use Rattle.oe_moments.specs.Versions.{version, Stand};
 ghost use Rattle.oe_queries.specs.Reply.{IsReply, HasNoReply, IsRefused};
 ghost use Rattle.oe_queries.specs.Level.{is_short, listed, items_of};
 
@@ -29,8 +30,8 @@ fn is_short_at(
 ) -> Result<bool, Refusal>
     ensures short { IfOk result (λ b. b
         ≡ is_short query.now (version tables.now undo.now.log moment) item) }
-    ensures readable { OnOk result (IsReadable undo.now.log moment) }
-    ensures refusal { IfErr result (λ e. IsOutside undo.now.log moment e) }
+    ensures readable { OnOk result (IsKeptMoment undo.now.log moment) }
+    ensures refusal { IfErr result (IsUnkept undo.now.log moment) }
 {
     let key = StockKey {
         warehouse: query.district.warehouse,
@@ -58,7 +59,7 @@ fn list_if_short(
         ≡ listed (is_short query.now (version tables.now undo.now.log moment))
         items.old (item ∷ [])) }
     ensures few { length items.new ≤ length items.old + 1 }
-    ensures refusal { IfErr result (λ e. IsOutside undo.now.log moment e) }
+    ensures refusal { IfErr result (IsUnkept undo.now.log moment) }
 {
     if is_listed(items, item) {
         return Ok(());
@@ -88,7 +89,7 @@ fn list_short(
         ≡ listed (is_short query.now (version tables.now undo.now.log moment))
         items.old (map (λ l. l.item) lines.now)) }
     ensures few { length items.new ≤ length items.old + length lines.now }
-    ensures refusal { IfErr result (λ e. IsOutside undo.now.log moment e) }
+    ensures refusal { IfErr result (IsUnkept undo.now.log moment) }
 {
     for line in lines {
         match list_if_short(tables, undo, query, line.item, moment, items) {
@@ -116,7 +117,7 @@ fn list_order(
         items.old (items_of (order_in query.now.district number)
         (version tables.now undo.now.log moment).order_lines)) }
     ensures few { length items.new ≤ length items.old + 15 }
-    ensures refusal { IfErr result (λ e. IsOutside undo.now.log moment e) }
+    ensures refusal { IfErr result (IsUnkept undo.now.log moment) }
 {
     match lines_at(tables, undo, query.district.order(number), moment) {
         Ok(lines) => list_short(tables, undo, query, lines.as_slice(), moment, items),
@@ -156,7 +157,7 @@ fn short_items(
     requires { Stand tables.now undo.now.log }
     ensures items { IfOk result (λ v.
         AreLow query.now (version tables.now undo.now.log moment) next v) }
-    ensures refusal { IfErr result (λ e. IsOutside undo.now.log moment e) }
+    ensures refusal { IfErr result (IsUnkept undo.now.log moment) }
 {
     tables.numbers_hold();
     let end = next.get();
@@ -199,7 +200,7 @@ fn level_at(
     requires { Stand tables.now undo.now.log }
     ensures reply { IfOk result (λ n.
         stock_level query.now (version tables.now undo.now.log moment) ≡ Here (told.Level n)) }
-    ensures readable { OnOk result (IsReadable undo.now.log moment) }
+    ensures readable { OnOk result (IsKeptMoment undo.now.log moment) }
     ensures refusal { IfErr result
         (λ e. HasNoReply (Level query.now) tables.now undo.now.log moment e) }
 {

@@ -5,7 +5,8 @@ ghost use Rattle.oe_requests.specs.declared.requests.Query.TheVariants.{Status};
 ghost use Rattle.oe_requests.specs.declared.replies.QueryReply.TheVariants as told;
 ghost use Rattle.oe_model.specs.Choice.{chosen};
 ghost use Rattle.oe_model.specs.Queries.{status_of, last_order, order_status};
-ghost use Rattle.oe_moments.specs.Versions.{version, Stand, IsReadable, IsOutside};
+ghost use Rattle.oe_segments.specs.Moments.{IsKeptMoment, IsUnkept};
+ghost use Rattle.oe_moments.specs.Versions.{version, Stand};
 ghost use Rattle.oe_queries.specs.Reply.{IsReply, HasNoReply, IsRefused};
 
 use crate::warehouses::absent;
@@ -27,8 +28,8 @@ fn chosen_at(
     requires { Stand tables.now undo.now.log }
     ensures chosen { IfOk result (λ c. c
         ≡ chosen district.now choice.now (version tables.now undo.now.log moment).customers) }
-    ensures readable { OnOk result (IsReadable undo.now.log moment) }
-    ensures refusal { IfErr result (λ e. IsOutside undo.now.log moment e) }
+    ensures readable { OnOk result (IsKeptMoment undo.now.log moment) }
+    ensures refusal { IfErr result (IsUnkept undo.now.log moment) }
 {
     match choice {
         CustomerChoice::Number(number) => {
@@ -55,8 +56,8 @@ fn newest_order_at(
     ensures order { IfOk result (λ o. o
         ≡ status_of (version tables.now undo.now.log moment).order_lines
         (last_order customer (version tables.now undo.now.log moment).orders)) }
-    ensures readable { OnOk result (IsReadable undo.now.log moment) }
-    ensures refusal { IfErr result (λ e. IsOutside undo.now.log moment e) }
+    ensures readable { OnOk result (IsKeptMoment undo.now.log moment) }
+    ensures refusal { IfErr result (IsUnkept undo.now.log moment) }
 {
     let (key, order) = match last_order_at(tables, undo, customer, moment) {
         Ok(Some(last)) => last,
@@ -86,7 +87,7 @@ fn status_at(
     requires { Stand tables.now undo.now.log }
     ensures reply { IfOk result (λ y.
         order_status query.now (version tables.now undo.now.log moment) ≡ Here (told.Status y)) }
-    ensures readable { OnOk result (IsReadable undo.now.log moment) }
+    ensures readable { OnOk result (IsKeptMoment undo.now.log moment) }
     ensures refusal { IfErr result
         (λ e. HasNoReply (Status query.now) tables.now undo.now.log moment e) }
 {

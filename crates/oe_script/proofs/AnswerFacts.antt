@@ -6,7 +6,7 @@ use Rattle.std.proofs.lemmas.Bool.{cases_order}
 use Rattle.oe_theory.specs.Machine.{Outcome, Here, Missing}
 use Rattle.oe_theory.specs.World.{World, Open, at, horizon, newest, tables, number}
 use Rattle.oe_theory.specs.Next as theory
-use Rattle.oe_theory.specs.Next.{Next, begun, put_active, Begin, Advance, Save, Back, Rollback, Read, Audit, Purge, Rewind, begins, goes_on, commits, saves, goes_back, rolls_back, reads, audits, purges, rewinds, stops, fails, is_busy, is_full, is_rejected, is_open, number_is_rejected, query_is_rejected, misses, not_open, too_old, future, not_quiet, lacks_memory}
+use Rattle.oe_theory.specs.Next.{Next, Begin, Advance, Save, Back, Rollback, Read, Audit, Purge, Rewind, begins, goes_on, commits, saves, goes_back, rolls_back, reads, audits, purges, rewinds, stops, fails, is_busy, is_full, is_rejected, is_open, number_is_rejected, query_is_rejected, misses, not_open, too_old, future, not_quiet, lacks_memory}
 use Rattle.oe_theory.specs.Theorems.{IsReached}
 use Rattle.oe_theory.proofs.Theorems.{each_is_answered, abort_is_its_own}
 use Rattle.oe_keys.specs.declared.keys.Key.TheVariants as key

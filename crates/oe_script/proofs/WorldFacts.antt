@@ -1,12 +1,12 @@
 -- What the steps of today keep of a world, that each of them is answered, and that a run of them ends.
-use Rattle.std.proofs.Common.{◌≡◌, ℕ, zero, suc, ◌+◌, ◌*◌, ◌<◌, ◌==◌, cond, Bool, true, false, Option, None, Some, [], ◌∷◌, map, length, refl, sym, ap, ◌∙◌, subst, arith}
+use Rattle.std.proofs.Common.{◌≡◌, ℕ, zero, suc, ◌+◌, ◌*◌, ◌<◌, ◌==◌, cond, Bool, true, false, Option, None, Some, [], ◌∷◌, map, length, refl, ap, ◌∙◌, subst, arith}
 use Rattle.std.specs.FinMap.{get}
 use Rattle.std.proofs.lemmas.List.{length-map}
 use Rattle.oe_theory.specs.Machine.{Go, Tx}
 use Rattle.oe_theory.specs.World.{World, Open, set, tx_of, tables}
 use Rattle.oe_theory.specs.Theorems.{IsReached}
 use Rattle.oe_theory.specs.Next as theory
-use Rattle.oe_theory.specs.Next.{Next, IsQuiet, count_open, begun, moved, committed, Begin, Advance, Save, Back, Rollback, Rewind, More, Busy, begins, goes_on, commits, saves, goes_back, rolls_back, reads, audits, purges, rewinds, stops, fails, is_busy, is_full, is_rejected, is_open, number_is_rejected, query_is_rejected, misses, not_open, too_old, future, not_quiet, lacks_memory_at_begin, lacks_memory, works_on, IsPast}
+use Rattle.oe_theory.specs.Next.{Next, begun, moved, Begin, Advance, More, begins, goes_on, commits, saves, goes_back, rolls_back, reads, audits, purges, rewinds, stops, fails, is_busy, is_full, is_rejected, is_open, number_is_rejected, query_is_rejected, misses, not_open, too_old, future, not_quiet, lacks_memory_at_begin, lacks_memory}
 use Rattle.oe_theory.specs.Undo.{with_change, changed}
 use Rattle.oe_theory.proofs.Sets.{set_same}
 use Rattle.oe_theory.proofs.Theorems.{run_is_reached, world_has_records, tables_follow}

@@ -16,7 +16,7 @@ use Rattle.oe_log.specs.Log.{Logged, RingLog, no_lists}
 use Rattle.oe_segments.specs.declared.heads.SegmentOwner.{SegmentOwner}
 use Rattle.oe_segments.specs.declared.heads.TerminalHead.{TerminalHead}
 use Rattle.oe_segments.specs.Segments as seen
-use Rattle.oe_segments.specs.Segments.{SegmentLog, Open, TerminalState, Committed, log_of, idle_terminals}
+use Rattle.oe_segments.specs.Segments.{SegmentLog, Open, TerminalState, log_of, idle_terminals}
 use Rattle.oe_segments.specs.Kept.{Head, idle_head, idle_heads, head_at, open_with, state_with, states, commits, stored, IsCounted, AreHeads, IsKept}
 use Rattle.oe_segments.proofs.HeadFacts as heads
 use Rattle.oe_segments.proofs.ZipFacts.{states-set, states-length, states-at, states-total, states-opens, seen_records, states-records, seen_other, commits-length, commits-take, commits-records, commits-count, commits-owner, head_owner}

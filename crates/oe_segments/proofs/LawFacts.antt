@@ -1,7 +1,6 @@
 -- What each call makes of the segments, in the words of the theory of transactions.
 use Rattle.std.proofs.Common.{◌≡◌, ℕ, suc, ◌-◌, ◌<◌, ◌≤◌, ◌==◌, refl, sym, ap, ◌∙◌, subst, inl, inr, arith, cond, List, [], ◌∷◌, length, map, get_or, set, take, drop, replicate, Option, None, Some}
 use mathlib.Core.Path.{fun_ext}
-use Rattle.std.specs.Prelude.{option_map}
 use Rattle.std.proofs.lemmas.Bool.{cases_eq, cases_lt, eq-eqb, ne_eqb, cond-true, cond-false}
 use Rattle.std.proofs.lemmas.List.{get_or-set_same, get_or-set_other, get_or_past, get_or-replicate, length-replicate, set_past, take-map}
 use Rattle.oe_requests.specs.declared.requests.Request.{Request}
@@ -14,34 +13,7 @@ use Rattle.oe_log.specs.Log.{Logged}
 use Rattle.oe_segments.specs.Segments.{SegmentLog, Open, TerminalState, Committed, idle, state_at, records_in, active_at, records_at, count_at, idle_terminals, no_segments, opened, pushed, popped, sealed, dropped, with_newest, reopened}
 use Rattle.oe_segments.specs.Stands.{model_records, undo_of, seal_of, seals_of, counts_of}
 use Rattle.oe_segments.specs.Laws.{StandAlike, StandsWith, StandsSealed, StandsCut, StandsReopened}
-
--- what is seen of the terminals' states where one is replaced
-module _ {A : Type 0} (see : TerminalState → A) (ts : List TerminalState) (t : ℕ) (s : TerminalState) where
-  seen_set : t < length ts → (u : ℕ) → see (get_or (set ts t s) u idle) ≡ cond (u == t) (see s) (see (get_or ts u idle))
-  seen_set within u =
-      elim (cases_eq u t) [
-        | inl e ↦ ap (λ v. see (get_or (set ts t s) v idle)) e ∙ ap see (get_or-set_same ts t s idle within) ∙ sym (cond-true (u == t) (see s) (see (get_or ts u idle)) (eq-eqb u t e))
-        | inr ne ↦ ap see (get_or-set_other ts t u s idle ne) ∙ sym (cond-false (u == t) (see s) (see (get_or ts u idle)) (ne_eqb u t ne))
-      ]
-
-  -- by a state that looks the same
-  seen_same : see s ≡ see (get_or ts t idle) → (u : ℕ) → see (get_or (set ts t s) u idle) ≡ see (get_or ts u idle)
-  seen_same same u =
-      elim (cases_lt t (length ts)) [
-        | inl within ↦ elim (cases_eq u t) [
-          | inl e ↦ ap (λ v. see (get_or (set ts t s) v idle)) e ∙ ap see (get_or-set_same ts t s idle within) ∙ same ∙ ap (λ v. see (get_or ts v idle)) (sym e)
-          | inr ne ↦ ap see (get_or-set_other ts t u s idle ne)
-        ]
-        | inr past ↦ ap (λ z. see (get_or z u idle)) (set_past ts t s past)
-      ]
-
--- a terminal whose segment is open is one of the log's
-known : (v : SegmentLog) (t : ℕ) (o : Open) → active_at v t ≡ Some o → t < length v.terminals
-known v t o e =
-    elim (cases_lt t (length v.terminals)) [
-      | inl within ↦ within
-      | inr past ↦ let none : ◌≡◌ {A = Option Open} None (Some o) = ap (λ z. z.active) (sym (get_or_past v.terminals t idle past)) ∙ e in cc
-    ]
+use Rattle.oe_segments.proofs.StateFacts.{known, seen_set, seen_same, records_stand}
 
 abbrev see_records : TerminalState → List Record
 see_records s = model_records (records_in s.active)
@@ -60,34 +32,18 @@ alike v t s records counts =
       counts = fun_ext (seen_same see_count v.terminals t s counts);
     }
 
--- by one with these records
-with_records : (v : SegmentLog) (t : ℕ) (o : Open) (s : TerminalState) (bs : List Record) → active_at v t ≡ Some o → see_records s ≡ bs → s.count ≡ count_at v t
-    → StandsWith (record v { terminals = set v.terminals t s }) v t bs
-with_records v t o s bs is records counts =
-    let active : (u : ℕ) → see_records (get_or (set v.terminals t s) u idle) ≡ cond (u == t) bs (see_records (get_or v.terminals u idle)) =
-    λ u. seen_set see_records v.terminals t s (known v t o is) u ∙ ap (λ z. cond (u == t) z (see_records (get_or v.terminals u idle))) records in
-    record {
-      undo = λ i. record { active = λ u. active u i; history = (undo_of v).history };
-      seals = refl;
-      counts = fun_ext (seen_same see_count v.terminals t s counts);
-    }
-
 pub opens : (v : SegmentLog) (t : ℕ) → active_at v t ≡ None → StandAlike (opened v t) v
 opens v t closed = alike v t _ (sym (ap (λ a. model_records (records_in a)) closed)) refl
 
-now_with : (rs : List Logged) (a : Option Open) (o : Open) → a ≡ Some o → model_records (records_in (option_map {T = Open} (λ z. record z { records = rs }) a)) ≡ model_records rs
-now_with rs None o e = cc
-now_with rs (Some a) o e = refl
-
 pub pushes : (v : SegmentLog) (t : ℕ) (o : Open) (r : Logged) → active_at v t ≡ Some o → StandsWith (pushed v t r) v t (r.before ∷ (undo_of v).active t)
-pushes v t o r is = with_records v t o _ _ is (now_with (r ∷ records_at v t) (active_at v t) o is) refl
+pushes v t o r is = records_stand v t o (r ∷ records_at v t) is
 
 drop_records : (rs : List Logged) → model_records (drop 1 rs) ≡ drop 1 (model_records rs)
 drop_records [] = refl
 drop_records (r ∷ rs) = refl
 
 pub pops : (v : SegmentLog) (t : ℕ) (o : Open) → active_at v t ≡ Some o → StandsWith (popped v t) v t (drop 1 ((undo_of v).active t))
-pops v t o is = with_records v t o _ _ is (now_with (drop 1 (records_at v t)) (active_at v t) o is ∙ drop_records (records_at v t)) refl
+pops v t o is = subst (λ bs. StandsWith (popped v t) v t bs) (drop_records (records_at v t)) (records_stand v t o (drop 1 (records_at v t)) is)
 
 pub seals : (v : SegmentLog) (t : ℕ) (o : Open) (q : Request) (y : Reply) → active_at v t ≡ Some o → StandsSealed (sealed v t q y) v t q y
 seals v t o q y is =

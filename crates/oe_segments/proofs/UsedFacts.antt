@@ -2,7 +2,7 @@
 use Rattle.std.proofs.Common.{◌≡◌, ℕ, zero, suc, add-one, ◌+◌, ◌-◌, ◌<◌, ◌≤◌, refl, sym, ap, ◌∙◌, subst, arith, cond, List, [], ◌∷◌, length, map, get_or, take}
 use Rattle.std.specs.Prelude.{nat_le}
 use Rattle.std.specs.List.{sum_by}
-use Rattle.std.proofs.lemmas.List.{take_all, length-map, get_or-map}
+use Rattle.std.proofs.lemmas.List.{take_all}
 use Rattle.std.proofs.lemmas.List.Sums.{sum_by_more, sum_by-cons}
 use Rattle.oe_model.specs.Lengths.{record_length}
 use Rattle.oe_model.specs.System.{machine, InExtents, length_in, terminal_limit}
@@ -11,7 +11,6 @@ use Rattle.oe_theory.specs.Undo.{lengths_of, used_open, used_commits}
 use Rattle.oe_ring.specs.Segments as ring
 use Rattle.oe_log.specs.Log.{Logged, lengths, IsFull, records_at}
 use Rattle.oe_segments.specs.Segments.{SegmentLog, TerminalState, Committed, idle, records_in, records_of, log_of}
-use Rattle.oe_segments.specs.Segments as segments
 use Rattle.oe_segments.specs.Stands.{model_records, undo_in}
 use Rattle.oe_segments.specs.Laws.{IsFullIn}
 

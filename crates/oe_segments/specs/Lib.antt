@@ -3,3 +3,4 @@ pub mod Segments
 pub mod Kept
 pub mod Stands
 pub mod Laws
+pub mod Moments

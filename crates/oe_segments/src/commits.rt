@@ -1,9 +1,7 @@
 //! Commits: how an open segment becomes that of one, and how their segments are given up, or opened again.
 ghost use Rattle.std.specs.Prelude.{◌≡◌, ◌+◌, ◌-◌, ℕ, length, slice_get, option_map, None, IsSome};
-ghost use Rattle.oe_model.specs.System.{terminal_limit};
-ghost use Rattle.oe_theory.specs.World.{total};
 ghost use Rattle.oe_segments.specs.Segments.{active_at, total_count, owner_of, sealed, with_newest, reopened};
-ghost use Rattle.oe_segments.specs.Stands.{counts_of, seals_of};
+ghost use Rattle.oe_segments.specs.Moments.{newest, horizon};
 
 use crate::heads::{CommitHead, SegmentOwner};
 use crate::segments::{Segment, Segments};
@@ -16,7 +14,7 @@ impl Segments {
     /// The newest moment: the number of all commits so far.
     pub fn newest(&self) -> Moment
         ensures value { result ≡ total_count self.now }
-        ensures moment { result ≡ total terminal_limit (counts_of self.now) }
+        ensures moment { result ≡ newest self.now }
     {
         self.log.newest()
     }
@@ -24,8 +22,7 @@ impl Segments {
     /// The oldest moment that can be read: as many commits ago as segments of commits are kept.
     pub fn horizon(&self) -> Moment
         ensures value { result + length self.now.committed ≡ total_count self.now }
-        ensures moment { result ≡ total terminal_limit (counts_of self.now) - length
-            (seals_of self.now) }
+        ensures moment { result ≡ horizon self.now }
     {
         self.log.horizon()
     }

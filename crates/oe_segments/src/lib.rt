@@ -5,6 +5,7 @@
 pub mod commits;
 pub mod heads;
 pub mod laws;
+pub mod moments;
 pub mod opens;
 pub mod reads;
 pub mod segments;

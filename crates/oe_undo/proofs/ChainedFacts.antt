@@ -36,7 +36,7 @@ use Rattle.oe_links.specs.declared.links.OwnedLink.{OwnedLink}
 use Rattle.oe_links.specs.Links.{LinkMaps, place_of, links_of, link_in, no_links, HasPlace, SetsLink}
 use Rattle.oe_undo.specs.Owners.{MomentList, no_moments, moments_at, moments_of, holder_of, followed, next_owner, IsOwner, AreOwned, AreIdle, AreMoments, IsLinked, IsMadeBy, IsMade}
 use Rattle.oe_undo.specs.Undo.{UndoState, unended, GivesBack}
-use Rattle.oe_undo.proofs.LogFacts.{some_of, known, pushed_popped}
+use Rattle.oe_segments.proofs.StateFacts.{some_of, known, pushed_popped}
 use Rattle.oe_undo.proofs.OwnerFacts as owner
 
 -- ---- what the log keeps of itself

@@ -1,5 +1,4 @@
--- For the crates above: what the log makes of its records, and what calls make of the links.
-pub mod LogFacts
+-- For the crates above: what calls make of the links.
 pub mod ChainedFacts
 pub mod OwnerFacts
 mod WalkFacts

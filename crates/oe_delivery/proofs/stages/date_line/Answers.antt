@@ -8,7 +8,6 @@ use Rattle.oe_model.specs.Keys.{order_of_line, order_in, line_in}
 use Rattle.oe_model.specs.Changes.{UpdateOrderLine}
 use Rattle.oe_model.specs.Delivery.{dated}
 use Rattle.oe_model.specs.Positions.{DeliveryLine, InDelivery}
-use Rattle.oe_store.specs.Places.{rows}
 use Rattle.oe_engine.specs.View.{view_of}
 use Rattle.oe_engine.specs.Programs.{GoesOn}
 use Rattle.oe_delivery.specs.Program.{line_position}

@@ -3,7 +3,7 @@ use Rattle.oe_theory.specs.Undo.{unwind_commits}
 use Rattle.oe_model.specs.System.{system}
 use Rattle.oe_store.specs.Places.{rows}
 use Rattle.oe_segments.specs.Stands.{undo_of}
-use Rattle.oe_journal.specs.Moments.{store_with, newest}
+use Rattle.oe_segments.specs.Moments.{store_with, newest}
 use Rattle.oe_journal.specs.Rewinds.{without_newest}
 use Rattle.oe_journal.proofs.UndoneFacts.{rewound_is}
 use Rattle.oe_journal.proofs.rewinds.rewind.Goals as goal

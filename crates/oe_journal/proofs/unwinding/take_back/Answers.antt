@@ -2,7 +2,7 @@
 use Rattle.std.proofs.Common.{◌≡◌, suc, ◌+◌, ◌-◌, ◌∙◌, sym, subst, arith}
 use Rattle.oe_layout.specs.Records.{record_of_own}
 use Rattle.oe_segments.specs.Segments.{active_at, records_at}
-use Rattle.oe_journal.proofs.LogFacts.{some_of}
+use Rattle.oe_segments.proofs.StateFacts.{some_of}
 use Rattle.oe_journal.proofs.LinkFacts.{then_links}
 use Rattle.oe_journal.proofs.ChainedFacts.{same_given_back}
 use Rattle.oe_journal.proofs.BackFacts.{GoesBack, begins, still_open, can_go, goes_on, ends}

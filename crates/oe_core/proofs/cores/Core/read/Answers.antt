@@ -1,4 +1,3 @@
-use Rattle.std.proofs.Common.{sym, ◌∙◌}
 use Rattle.oe_core.proofs.MoveFacts.{carries}
 use Rattle.oe_core.proofs.ReadFacts.{stand_here, replied_here, refused_here}
 use Rattle.oe_core.proofs.cores.Core.read.Goals as goal

@@ -1,4 +1,4 @@
--- What the calls of the log make of its terminals' states.
+-- Terminals' states in the log, where one is replaced, and what that makes of records.
 use Rattle.std.proofs.Common.{◌≡◌, ℕ, zero, suc, ◌<◌, ◌==◌, true, refl, sym, ap, ◌∙◌, inl, inr, cond, List, [], ◌∷◌, length, get_or, set, drop, Option, None, Some, is_some}
 use Rattle.std.specs.Prelude.{option_map}
 use mathlib.Core.Path.{fun_ext}
@@ -101,6 +101,10 @@ one_popped v t o rs e =
 -- a record that is pushed and popped leaves the log as it was
 pub pushed_popped : (v : SegmentLog) (t : ℕ) (o : Open) (r : Logged) → active_at v t ≡ Some o → popped (pushed v t r) t ≡ v
 pushed_popped v t o r e = one_popped v t o (r ∷ records_at v t) e ∙ own_records v t
+
+-- without a record there is none to be taken off
+pub none_popped : (v : SegmentLog) (t : ℕ) → records_at v t ≡ [] → popped v t ≡ v
+none_popped v t e = ap (λ rs. with_records v t (drop 1 rs)) e ∙ ap (with_records v t) (sym e) ∙ own_records v t
 
 -- in the theory's words
 pub records_stand : (v : SegmentLog) (t : ℕ) (o : Open) (rs : List Logged) → active_at v t ≡ Some o → StandsWith (with_records v t rs) v t (model_records rs)
