@@ -14,7 +14,7 @@ use Rattle.oe_store.specs.Places.{rows, HasPlace, GivesUp}
 use Rattle.oe_store.specs.Places as tables
 use Rattle.oe_layout.specs.Stored.{deleted_new_order}
 use Rattle.oe_segments.specs.Segments.{SegmentLog, Committed, committed_records, records_of, total_count, with_newest}
-use Rattle.oe_segments.specs.Stands.{model_records, undo_of}
+use Rattle.oe_segments.specs.Stands.{model_records, undo_of, DeletesNothing}
 use Rattle.oe_segments.proofs.LawFacts as stands
 use Rattle.oe_segments.proofs.StandsFacts.{totals}
 use Rattle.oe_chains.specs.declared.links.Link.{Link}
@@ -153,6 +153,19 @@ module _ (E : Key → Type 0) where
 
       none : (k : Key) → IsDeleted k (b ∷ []) → ⊥
       none k d = elim d.2 [ inl e ↦ no_delete d.0 e | inr never ↦ never ]
+
+  -- or of no deleted row, all of them
+  pub nothing_given_up : (ts : tables.Places) (bs : List Record) → DeletesNothing bs → GivesUpThose ts ts (λ k. IsDeleted k bs × E k)
+  nothing_given_up ts bs nothing = none_given_up ts (λ k. IsDeleted k bs × E k) (λ k d. none d.0.0 bs nothing d.0.2)
+    where
+      no_delete : (b : Record) (o : NewOrderKey) → deleted_new_order b ≡ None → IsDelete o b → ⊥
+      no_delete b o other d =
+          let is : deleted_new_order b ≡ Some o = ap deleted_new_order d.1 in
+          let no : ◌≡◌ {A = Option NewOrderKey} None (Some o) = sym other ∙ is in cc
+
+      none : (o : NewOrderKey) (bs : List Record) → DeletesNothing bs → HasDelete o bs → ⊥
+      none o [] h d = d
+      none o (b ∷ bs) h d = elim d [ inl is ↦ no_delete b o h.0 is | inr rest ↦ none o bs h.1 rest ]
 
 -- The records of a commit: on old those of `all` before `left` have been looked at
 pub record LooksAt (E : Key → Type 0) (old now : tables.Places) (all left : List Record) : Type 0 where

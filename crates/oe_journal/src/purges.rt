@@ -1,11 +1,11 @@
 //! A purge: the oldest commits are forgotten.
-ghost use Rattle.std.specs.Prelude.{◌≡◌, ◌-◌, ◌≤◌, ◌↔◌, ◌∷◌, [], ℕ, Option, length, drop, IsTrue, IfErr, OnOk, OnErr};
+ghost use Rattle.std.specs.Prelude.{◌≡◌, ◌-◌, ◌<◌, ◌≤◌, ◌↔◌, ◌∷◌, [], ℕ, Option, length, drop, get_or, IsTrue, IfErr, OnOk, OnErr};
 ghost use Rattle.oe_theory.specs.Store.{Slot, purged_to};
 ghost use Rattle.oe_model.specs.Rows.{Rows};
 ghost use Rattle.oe_model.specs.System.{system};
 ghost use Rattle.oe_store.specs.Places.{rows};
-ghost use Rattle.oe_segments.specs.Segments.{with_newest};
-ghost use Rattle.oe_segments.specs.Stands.{undo_of};
+ghost use Rattle.oe_segments.specs.Segments.{with_newest, committed_records};
+ghost use Rattle.oe_segments.specs.Stands.{undo_of, model_records};
 ghost use Rattle.oe_segments.specs.Moments.{store_with, newest, IsKeptMoment, IsUnkept};
 ghost use Rattle.oe_chains.specs.Chains.{IsForgotten, IsEnd};
 ghost use Rattle.oe_undo.specs.Undo.{seen};
@@ -69,18 +69,29 @@ fn forget_oldest(tables: &mut Tables, undo: &mut Undo, moment: Moment, count: us
         // For the proof: a link that ends at the moment has no record that the purge leaves.
         undo.is_chained();
         let oldest = undo.segments().kept() - 1;
-        give_up_deleted(
-            tables,
-            undo,
-            undo.segments().committed_records(oldest),
-            moment,
-        );
+        give_up_deleted(tables, undo, oldest, moment);
         let _owner = undo.drop_oldest();
     }
 }
 
-/// Gives up the places of the NEW-ORDER keys that a commit deleted, that have no row, and whose links end at the moment.
-fn give_up_deleted(tables: &mut Tables, undo: &Undo, records: Records<'_>, moment: Moment)
+/// Gives up the places of the NEW-ORDER keys that a commit deleted, that have no row, and whose links end at the moment. The commit is
+/// given by the number of later ones. The records of one that deleted nothing are not looked at.
+fn give_up_deleted(tables: &mut Tables, undo: &Undo, later: usize, moment: Moment)
+    requires { later < length undo.now.log.committed }
+    ensures rows { rows tables.new ≡ rows tables.old }
+    ensures places { GivesUpThose tables.old tables.new
+        (λ k. IsDeleted k (model_records (get_or (committed_records undo.now.log) later []))
+        × IsEnd moment (seen undo.now k)) }
+{
+    if !undo.segments().may_delete(later) {
+        return;
+    }
+    let records = undo.segments().committed_records(later);
+    give_up_those(tables, undo, records, moment)
+}
+
+/// The same of those that records are of.
+fn give_up_those(tables: &mut Tables, undo: &Undo, records: Records<'_>, moment: Moment)
     ensures rows { rows tables.new ≡ rows tables.old }
     ensures places { GivesUpThose tables.old tables.new
         (λ k. IsDeleted k records.entry × IsEnd moment (seen undo.now k)) }

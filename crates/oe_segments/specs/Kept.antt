@@ -1,5 +1,5 @@
 -- How segments are kept: their transactions here, and their records in the log below.
-use Rattle.std.specs.Prelude.{◌≡◌, ℕ, suc, ◌+◌, ◌<◌, ◌≤◌, ◌==◌, cond, List, [], ◌∷◌, length, take, replicate, slice_get, get_or, option_map, None, Some, is_some}
+use Rattle.std.specs.Prelude.{◌≡◌, ℕ, suc, ◌+◌, ◌<◌, ◌≤◌, ◌==◌, cond, Bool, false, List, [], ◌∷◌, length, take, replicate, slice_get, get_or, option_map, None, Some, is_some}
 use Rattle.std.specs.List.{All, sum_by, count_by}
 use Rattle.oe_values.specs.declared.numbers.TheConstants.{TERMINALS}
 use Rattle.oe_requests.specs.declared.requests.Request.{Request}
@@ -8,11 +8,13 @@ use Rattle.oe_log.specs.Log.{Logged, RingLog}
 use Rattle.oe_segments.specs.declared.heads.SegmentOwner.{SegmentOwner}
 use Rattle.oe_segments.specs.declared.heads.TerminalHead.{TerminalHead}
 use Rattle.oe_segments.specs.Segments.{Open, TerminalState, Committed, SegmentLog}
+use Rattle.oe_segments.specs.Stands.{model_records, DeletesNothing}
 
 -- a commit without its records
 pub record Head : Type 0 where
   pub terminal : ℕ
   pub number : ℕ
+  pub deletes : Bool
   pub request : Request
   pub reply : Reply
 
@@ -48,7 +50,7 @@ stored hs cs l =
 -- ---- what is promised
 
 abbrev pub idle_head : TerminalHead
-idle_head = record { count = 0; active = None }
+idle_head = record { count = 0; active = None; deletes = false }
 
 -- nobody and the terminals; shut, so that no proof counts them
 unfoldable pub idle_heads : List TerminalHead
@@ -90,6 +92,11 @@ pub record AreHeads (hs : List TerminalHead) (cs : List Head) (capacity newest o
   pub opens_are : opens ≡ count_by (λ h. is_some h.active) hs
   pub spare : length cs + opens ≤ capacity
 
+-- a commit that does not say that it deletes has no record of a deleted row
+abbrev pub CommitsTell : List Head → List (List Logged) → Type 0
+CommitsTell cs rss =
+    (later : ℕ) (c : Head) → slice_get cs later ≡ Some c → c.deletes ≡ false → DeletesNothing (model_records (get_or rss later []))
+
 -- of them and of the log with their records
 pub record IsKept (hs : List TerminalHead) (cs : List Head) (capacity : ℕ) (l : RingLog) : Type 0 where
   pub heads : AreHeads hs cs capacity l.newest l.opens
@@ -97,3 +104,6 @@ pub record IsKept (hs : List TerminalHead) (cs : List Head) (capacity : ℕ) (l 
   pub one_by_one : length l.committed ≡ length cs
   -- a terminal without an open segment has no records
   pub empty : (t : ℕ) → (head_at hs t).active ≡ None → get_or l.active t [] ≡ []
+  -- what does not say that it deletes has no record of a deleted row
+  pub open_deletes : (t : ℕ) → (head_at hs t).deletes ≡ false → DeletesNothing (model_records (get_or l.active t []))
+  pub commit_deletes : CommitsTell cs l.committed

@@ -1,15 +1,21 @@
 -- What segments stand for, in the words of the theory of transactions.
-use Rattle.std.specs.Prelude.{ℕ, List, map}
+use Rattle.std.specs.Prelude.{◌≡◌, ℕ, List, map, None}
+use Rattle.std.specs.List.{AllByRecursion}
 use Rattle.oe_model.specs.Changes.{Record}
 use Rattle.oe_model.specs.System.{Layout, machine, system}
 use Rattle.oe_theory.specs.Undo.{Undo}
 use Rattle.oe_theory.specs.Store.{Seal}
+use Rattle.oe_layout.specs.Stored.{deleted_new_order}
 use Rattle.oe_log.specs.Log.{Logged}
 use Rattle.oe_segments.specs.Segments.{Committed, SegmentLog, records_at, count_at}
 
 -- the records without their addresses, newest first
 abbrev pub model_records : List Logged → List Record
 model_records rs = map (λ r. r.before) rs
+
+-- none of these records is of a NEW-ORDER row that was deleted
+abbrev pub DeletesNothing : List Record → Type 0
+DeletesNothing bs = AllByRecursion (λ b. deleted_new_order b ≡ None) bs
 
 -- the records of each open transaction and of each commit
 abbrev pub undo_of : SegmentLog → Undo system

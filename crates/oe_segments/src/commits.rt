@@ -45,8 +45,10 @@ impl Segments {
             unreachable!()
         };
         state.count += 1;
+        let deletes = state.deletes;
         self.commits.push_front_reserved(CommitHead {
             owner,
+            deletes,
             request,
             reply,
         });
@@ -84,6 +86,7 @@ impl Segments {
         let state = &mut self.terminals[terminal.get() as usize];
         state.count -= 1;
         state.active = Some(owner);
+        state.deletes = head.may_delete();
         self.log.reopen_newest(terminal);
         Some(Segment::of(terminal))
     }

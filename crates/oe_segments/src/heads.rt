@@ -19,12 +19,16 @@ pub struct SegmentOwner {
 pub struct TerminalHead {
     pub count: u32,
     pub active: Option<SegmentOwner>,
+    // Whether that has recorded a deleted row, be the record taken off since.
+    pub(crate) deletes: bool,
 }
 
 /// A transaction that has committed. What it was begun with and what it answered are for clauses alone: no byte is kept of either.
 #[derive(Drop)]
 pub struct CommitHead {
     pub(crate) owner: SegmentOwner,
+    // As its terminal's head said.
+    pub(crate) deletes: bool,
     pub(crate) request: Snapshot<Request>,
     pub(crate) reply: Snapshot<Reply>,
 }
@@ -37,6 +41,7 @@ impl Model for CommitHead {
     ghost view = { λ c. record {
       terminal = c.owner.terminal;
       number = c.owner.number;
+      deletes = c.deletes;
       request = c.request.value;
       reply = c.reply.value;
     } };
@@ -48,5 +53,12 @@ impl CommitHead {
         ensures { result ≡ record { terminal = self.now.terminal; number = self.now.number } }
     {
         self.owner
+    }
+
+    /// Whether it may have deleted a row.
+    pub(crate) fn may_delete(&self) -> bool
+        ensures { result ≡ self.now.deletes }
+    {
+        self.deletes
     }
 }

@@ -1,16 +1,28 @@
 //! Open segments.
-ghost use Rattle.std.specs.Prelude.{◌≡◌, ◌<◌, ◌↔◌, suc, [], length, option_map, None, IsSome, IsErr, IfOk, OnOk, OnErr};
+ghost use Rattle.std.specs.Prelude.{◌≡◌, ◌<◌, ◌↔◌, suc, false, [], length, option_map, None, IsSome, IsErr, IfOk, OnOk, OnErr};
 ghost use Rattle.oe_model.specs.Lengths.{record_length};
 ghost use Rattle.oe_layout.specs.Records.{record_of_own, record_of_lent};
+ghost use Rattle.oe_layout.specs.Stored.{deleted_new_order};
 ghost use Rattle.oe_log.specs.Log.{logged, newest_of, IsFull, IsFresh};
 ghost use Rattle.oe_segments.specs.Segments.{count_at, active_at, records_at, opened, pushed, popped, dropped, log_of};
 
 use crate::heads::SegmentOwner;
 use crate::segments::{Segment, Segments};
-use oe_layout::{LinkedRecord, OwnRecord, Previous, RecordAddress};
+use oe_layout::{LentRecord, LinkedRecord, OwnRecord, Previous, RecordAddress};
 use oe_log::Full;
 use oe_table::tables::NoMemory;
 use oe_values::numbers::{Terminal, TransactionNumber};
+
+/// Whether records may be of deleted rows after one more, by whether they may before.
+fn may_delete(before: bool, record: &LentRecord<'_>) -> bool
+    ensures before { result ≡ false → before ≡ false }
+    ensures record { result ≡ false → deleted_new_order (record_of_lent record.now) ≡ None }
+{
+    match record {
+        LentRecord::DeletedNewOrder(_) => true,
+        _ => before,
+    }
+}
 
 impl Segments {
     /// Opens a segment without records for a terminal that has none open and fewer than 4,294,967,295 commits, and takes all memory
@@ -33,6 +45,7 @@ impl Segments {
         let state = &mut self.terminals[slot];
         let number = TransactionNumber::new(state.count + 1).unwrap();
         state.active = Some(SegmentOwner { terminal, number });
+        state.deletes = false;
         Ok(Segment::of(terminal))
     }
 
@@ -60,7 +73,10 @@ impl Segments {
             (record_length (record_of_lent lent.now.record)) }
         ensures fresh { IfOk result (IsFresh (log_of self.old)) }
     {
-        self.log.push(segment.terminal(), lent)
+        let terminal = segment.terminal();
+        let state = &mut self.terminals[terminal.get() as usize];
+        state.deletes = may_delete(state.deletes, &lent.record);
+        self.log.push(terminal, lent)
     }
 
     /// Whose an open segment is: its terminal's next transaction.

@@ -1,11 +1,11 @@
 //! What is known of terminals, and of records, by their addresses or one after another.
-ghost use Rattle.std.specs.Prelude.{◌≡◌, ◌<◌, ◌≤◌, ◌+◌, ◌↔◌, ℕ, suc, [], length, get_or, take, slice_get, option_map, Option, is_some, IsTrue, IsSome, IfSome};
+ghost use Rattle.std.specs.Prelude.{◌≡◌, ◌<◌, ◌≤◌, ◌+◌, ◌↔◌, ℕ, suc, false, [], length, get_or, take, slice_get, option_map, Option, is_some, IsTrue, IsSome, IfSome};
 ghost use Rattle.oe_layout.specs.Records.{record_of_own};
 ghost use Rattle.oe_log.specs.Log.{HasAddress, IsRecordAt};
 ghost use Rattle.oe_model.specs.System.{system, terminal_limit};
 ghost use Rattle.oe_theory.specs.Store.{Slot, count_slots};
 ghost use Rattle.oe_segments.specs.Segments.{count_at, active_at, records_at, open_total, commits_of, committed_records, owner_of};
-ghost use Rattle.oe_segments.specs.Stands.{model_records};
+ghost use Rattle.oe_segments.specs.Stands.{model_records, DeletesNothing};
 
 use crate::heads::SegmentOwner;
 use crate::segments::Segments;
@@ -80,6 +80,18 @@ impl Segments {
         match self.commits.get(later) {
             Some(head) => Some(head.owner()),
             None => None,
+        }
+    }
+
+    /// Whether a commit may have deleted a NEW-ORDER row, by the number of later ones. One that has recorded no delete has not, so
+    /// that its records need not be looked at.
+    pub fn may_delete(&self, later: usize) -> bool
+        ensures { result ≡ false
+            → DeletesNothing (model_records (get_or (committed_records self.now) later [])) }
+    {
+        match self.commits.get(later) {
+            Some(head) => head.may_delete(),
+            None => false,
         }
     }
 

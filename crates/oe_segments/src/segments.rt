@@ -80,6 +80,7 @@ fn idle_heads(alloc: Global) -> Result<Vec<TerminalHead>, NoMemory>
         terminals.push_reserved(TerminalHead {
             count: 0,
             active: None,
+            deletes: false,
         });
     }
     Ok(terminals)

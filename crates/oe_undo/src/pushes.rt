@@ -56,7 +56,8 @@ impl Undo {
     #[inline(always)]
     pub fn push(&mut self, segment: Segment, lent: &mut LinkedRecord<'_>) -> Result<(), CantPush>
         requires open { IsSome (active_at self.old.log segment) }
-        requires alone { IsAlone self.old.log segment (record_key (record_of_lent lent.old.record)) }
+        requires alone { IsAlone self.old.log segment
+            (record_key (record_of_lent lent.old.record)) }
         ensures linked { link_from (Open segment) lent.new.previous
             ≡ seen self.old (record_key (record_of_lent lent.old.record)) }
         ensures record { lent.new.record ≡ lent.old.record }

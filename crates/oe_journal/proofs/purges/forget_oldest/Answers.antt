@@ -3,8 +3,8 @@ use Rattle.oe_segments.specs.Segments.{SegmentLog, with_newest}
 use Rattle.oe_segments.specs.Stands.{undo_of}
 use Rattle.oe_chains.specs.Chains.{IsEnd}
 use Rattle.oe_undo.specs.Undo.{seen}
-use Rattle.oe_journal.specs.GivesUp.{IsDeleted, GivesUpThose, GivesUpDeleted}
-use Rattle.oe_journal.proofs.PurgeFacts.{none_forgotten, left_are, oldest_records, ends_there, one_forgotten, ForgetsOldest}
+use Rattle.oe_journal.specs.GivesUp.{GivesUpDeleted}
+use Rattle.oe_journal.proofs.PurgeFacts.{none_forgotten, left_are, ends_there, one_forgotten, ForgetsOldest}
 use Rattle.oe_journal.proofs.purges.forget_oldest.Goals as goal
 
 pub loop-init : goal.loop-init
@@ -18,14 +18,13 @@ loop-preserved c =
     let kept = ap (λ (v : SegmentLog). length v.committed) c.segments.ensures in
     let less : all - c.loop.counter - 1 ≡ all - (c.loop.counter + 1) = omega arith in
     let at : c.kept-oldest.result - 1 ≡ all - c.loop.counter - 1 = omega (arith, c.kept-oldest.ensures, kept, many) in
-    let records = c.committed_records.ensures ∙ ap (λ v. oldest_records v (c.kept-oldest.result - 1)) c.segments-in-loop.ensures in
     let ends = ends_there c.calls_keep_chains.ensures c.ends_without_records.ensures c.args.undo.now.log c.loop.undo.log (seen c.loop.undo) c.args.moment
     (all - c.args.count) (all - c.loop.counter) (omega arith) (omega arith) c.requires.last c.loop.invariant.0.log c.is_chained.ensures.whole c.is_chained.ensures.chained in (
       subst (ForgetsOldest c.args.tables.now c.give_up_deleted.new.tables c.args.undo.now.log c.drop_oldest-owner.new.self.log (all - c.args.count)) less
           (subst (λ u. ForgetsOldest c.args.tables.now c.give_up_deleted.new.tables c.args.undo.now.log u (all - c.args.count) (all - c.loop.counter - 1)) (sym c.drop_oldest-owner.ensures.dropped)
           (one_forgotten c.args.tables.now c.loop.tables c.give_up_deleted.new.tables c.args.undo.now.log c.loop.undo.log (λ k. IsEnd c.args.moment (seen c.loop.undo k))
           (all - c.args.count) (all - c.loop.counter) (c.kept-oldest.result - 1) (omega arith) (omega arith) at ends c.give_up_deleted.ensures.rows
-          (subst (λ bs. GivesUpThose c.loop.tables c.give_up_deleted.new.tables (λ k. IsDeleted k bs × IsEnd c.args.moment (seen c.loop.undo k))) records c.give_up_deleted.ensures.places)
+          c.give_up_deleted.ensures.places
           c.loop.invariant.0)),
       c.drop_oldest-owner.ensures.links ∙ c.loop.invariant.1,
     )

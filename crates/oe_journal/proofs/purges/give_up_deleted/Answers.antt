@@ -1,16 +1,15 @@
-use Rattle.std.proofs.Common.{subst}
+-- Nothing is given up for a commit that deleted nothing.
+use Rattle.std.proofs.Common.{[], get_or, subst}
+use Rattle.oe_segments.specs.Segments.{SegmentLog, committed_records}
+use Rattle.oe_segments.specs.Stands.{model_records, DeletesNothing}
 use Rattle.oe_chains.specs.Chains.{IsEnd}
 use Rattle.oe_undo.specs.Undo.{seen}
-use Rattle.oe_journal.proofs.PurgeFacts.{LooksAt, one_looked_at, all_looked_at}
+use Rattle.oe_journal.proofs.PurgeFacts.{nothing_given_up}
 use Rattle.oe_journal.proofs.purges.give_up_deleted.Goals as goal
 
-pub loop-before-preserved : goal.loop-before-preserved
-loop-before-preserved c =
-    one_looked_at (λ k. IsEnd c.args.moment (seen c.args.undo.now k)) c.args.tables.now c.loop-before.tables c.give_up_key.new.tables c.args.records c.in-Some.before c.next.new.self
-    c.give_up_key.ensures.rows c.give_up_key.ensures.places
-    (subst (LooksAt (λ k. IsEnd c.args.moment (seen c.args.undo.now k)) c.args.tables.now c.loop-before.tables c.args.records) c.in-Some.ensures.steps c.loop-before.invariant)
-
-pub returns-clause-places : goal.returns-clause-places
-returns-clause-places c =
-    all_looked_at (λ k. IsEnd c.args.moment (seen c.args.undo.now k)) c.args.tables.now c.loop-before.tables c.args.records
-    (subst (LooksAt (λ k. IsEnd c.args.moment (seen c.args.undo.now k)) c.args.tables.now c.loop-before.tables c.args.records) c.in-None.ensures.steps.0 c.loop-before.invariant)
+pub returns-then-not-may_delete-clause-places : goal.returns-then-not-may_delete-clause-places
+returns-then-not-may_delete-clause-places c =
+    nothing_given_up (λ k. IsEnd c.args.moment (seen c.args.undo.now k)) c.args.tables.now
+    (model_records (get_or (committed_records c.args.undo.now.log) c.args.later []))
+    (subst (λ (v : SegmentLog). DeletesNothing (model_records (get_or (committed_records v) c.args.later []))) c.segments.ensures
+    (c.may_delete.ensures c.if-not-may_delete.true))

@@ -1,6 +1,6 @@
 -- A record more, or no room for it.
-use Rattle.std.proofs.Common.{◌↔◌, IsErr, IfOk, sym, subst, deque_capacity}
-use Rattle.oe_segments.proofs.CallFacts.{kept_pushed, seen_pushed, log_is}
+use Rattle.std.proofs.Common.{◌↔◌, IsErr, IfOk, sym, subst, ◌∙◌, arith, deque_capacity}
+use Rattle.oe_segments.proofs.CallFacts.{kept_pushed, seen_pushed, seen_refused, log_is}
 use Rattle.oe_model.specs.Lengths.{record_length}
 use Rattle.oe_layout.specs.Records.{record_of_lent}
 use Rattle.oe_log.specs.Log.{RingLog, IsFull, IsFresh}
@@ -8,19 +8,34 @@ use Rattle.oe_segments.proofs.segments.Segments.push.Goals as goal
 
 pub invariant_of-self : goal.invariant_of-self
 invariant_of-self c =
-    let some = rw (← c.self.view_is, ← c.terminal.ensures) at c.requires in
-    kept_pushed c.self.inside.terminals.items c.self.inside.commits.items (deque_capacity c.self.inside.commits) c.self.inside.log c.self.invariant c.push.result c.terminal.result c.args.lent.now.previous (record_of_lent c.args.lent.now.record) c.push.new.self some c.push.ensures.pushed c.push.ensures.same
+    let some = rw (← c.self.view_is, ← c.terminal-terminal.ensures) at c.requires in
+    kept_pushed c.self.inside.terminals.items c.self.inside.commits.items (deque_capacity c.self.inside.commits) c.self.inside.log c.self.invariant
+    c.push.result c.get.result c.terminal-terminal.result c.index_mut-state.result.now c.may_delete-state.result c.args.lent.now.previous
+    (record_of_lent c.args.lent.now.record) c.push.new.self c.get.ensures.value c.get.ensures.low (omega (arith, c.get.ensures.high)) c.index_mut-state.ensures.value some
+    c.may_delete-state.ensures.before c.may_delete-state.ensures.record c.push.ensures.pushed c.push.ensures.same
 
 pub returns-clause-pushed : goal.returns-clause-pushed
 returns-clause-pushed c =
-    let some = rw (← c.self.view_is, ← c.terminal.ensures) at c.requires in
-    rw (← c.self.view_is, ← c.terminal.ensures)
-    (seen_pushed c.self.inside.terminals.items c.self.inside.commits.items (deque_capacity c.self.inside.commits) c.self.inside.log c.self.invariant c.push.result c.terminal.result c.args.lent.now.previous (record_of_lent c.args.lent.now.record) c.push.new.self some c.push.ensures.pushed)
+    let some = rw (← c.self.view_is, ← c.terminal-terminal.ensures) at c.requires in
+    rw (← c.self.view_is, ← c.terminal-terminal.ensures)
+    (seen_pushed c.self.inside.terminals.items c.self.inside.commits.items (deque_capacity c.self.inside.commits) c.self.inside.log c.self.invariant
+    c.push.result c.get.result c.terminal-terminal.result c.index_mut-state.result.now c.may_delete-state.result c.args.lent.now.previous
+    (record_of_lent c.args.lent.now.record) c.push.new.self c.get.ensures.value c.get.ensures.low (omega (arith, c.get.ensures.high)) c.index_mut-state.ensures.value some
+    c.may_delete-state.ensures.before c.may_delete-state.ensures.record c.push.ensures.pushed)
+
+pub returns-clause-same : goal.returns-clause-same
+returns-clause-same c =
+    let some = rw (← c.self.view_is, ← c.terminal-terminal.ensures) at c.requires in
+    rw (← c.self.view_is)
+    (seen_refused c.self.inside.terminals.items c.self.inside.commits.items (deque_capacity c.self.inside.commits) c.self.inside.log c.self.invariant
+    c.push.result c.get.result c.terminal-terminal.result c.index_mut-state.result.now c.may_delete-state.result
+    c.push.new.self c.get.ensures.value c.get.ensures.low (omega (arith, c.get.ensures.high)) c.index_mut-state.ensures.value some
+    c.may_delete-state.ensures.before c.push.ensures.same)
 
 pub returns-clause-full : goal.returns-clause-full
 returns-clause-full c =
-    rw (← c.self.view_is, ← c.terminal.ensures)
-    (subst (λ (l : RingLog). IsErr c.push.result ↔ IsFull l c.terminal.result (record_length (record_of_lent c.args.lent.now.record))) (sym (log_is c.self.inside.terminals.items c.self.inside.commits.items (deque_capacity c.self.inside.commits) c.self.inside.log c.self.invariant)) c.push.ensures.full)
+    rw (← c.self.view_is, ← c.terminal-terminal.ensures)
+    (subst (λ (l : RingLog). IsErr c.push.result ↔ IsFull l c.terminal-terminal.result (record_length (record_of_lent c.args.lent.now.record))) (sym (log_is c.self.inside.terminals.items c.self.inside.commits.items (deque_capacity c.self.inside.commits) c.self.inside.log c.self.invariant)) c.push.ensures.full)
 
 pub returns-clause-fresh : goal.returns-clause-fresh
 returns-clause-fresh c =

@@ -22,19 +22,19 @@ seal-requires-clause-moment c = moment_fits c.self.inside.terminals.items c.self
 pub invariant_of-self : goal.invariant_of-self
 invariant_of-self c =
     (sealed c.self.inside.terminals.items c.self.inside.commits.items (deque_capacity c.self.inside.commits) c.self.inside.log c.self.invariant c.get.result c.terminal-terminal.result (c.index_mut-state.result.now.count + 1) c.index_mut-state.result.now c.in-Some.owner c.take.new.self
-    (record { terminal = c.in-Some.owner.terminal; number = c.in-Some.owner.number; request = c.args.request.value; reply = c.args.reply.value })
+    (record { terminal = c.in-Some.owner.terminal; number = c.in-Some.owner.number; deletes = c.index_mut-state.result.now.deletes; request = c.args.request.value; reply = c.args.reply.value })
     (deque_capacity c.push_front_reserved.new.self) _ c.push_front_reserved.new.self.items c.seal.new.self
     c.get.ensures.value c.get.ensures.low (omega (arith, c.get.ensures.high)) c.index_mut-state.ensures.value (sym c.take.ensures.value ∙ c.in-Some.is) c.take.ensures.after refl
-    refl refl refl c.push_front_reserved.ensures.items c.push_front_reserved.ensures.capacity c.seal.ensures.sealed).kept
+    refl refl refl refl c.push_front_reserved.ensures.items c.push_front_reserved.ensures.capacity c.seal.ensures.sealed).kept
 
 pub returns-clause-sealed : goal.returns-clause-sealed
 returns-clause-sealed c =
     rw (← c.self.view_is, ← c.terminal-terminal.ensures)
     ((sealed c.self.inside.terminals.items c.self.inside.commits.items (deque_capacity c.self.inside.commits) c.self.inside.log c.self.invariant c.get.result c.terminal-terminal.result (c.index_mut-state.result.now.count + 1) c.index_mut-state.result.now c.in-Some.owner c.take.new.self
-    (record { terminal = c.in-Some.owner.terminal; number = c.in-Some.owner.number; request = c.args.request.value; reply = c.args.reply.value })
+    (record { terminal = c.in-Some.owner.terminal; number = c.in-Some.owner.number; deletes = c.index_mut-state.result.now.deletes; request = c.args.request.value; reply = c.args.reply.value })
     (deque_capacity c.push_front_reserved.new.self) _ c.push_front_reserved.new.self.items c.seal.new.self
     c.get.ensures.value c.get.ensures.low (omega (arith, c.get.ensures.high)) c.index_mut-state.ensures.value (sym c.take.ensures.value ∙ c.in-Some.is) c.take.ensures.after refl
-    refl refl refl c.push_front_reserved.ensures.items c.push_front_reserved.ensures.capacity c.seal.ensures.sealed).view)
+    refl refl refl refl c.push_front_reserved.ensures.items c.push_front_reserved.ensures.capacity c.seal.ensures.sealed).view)
 
 pub returns-clause-moment : goal.returns-clause-moment
 returns-clause-moment c =
