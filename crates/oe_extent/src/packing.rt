@@ -10,6 +10,12 @@ use std::marker::Model;
 /// How many bytes an extent has.
 const SIZE: usize = 4_096;
 
+/// How many bytes a line of the processor's caches has.
+const LINE: usize = 64;
+
+/// How many lines of an extent are touched: about as many as a payment fills.
+const TOUCHED_LINES: usize = 12;
+
 /// Byte strings packed from byte 0 of an extent on, which clauses see as their list, the newest first. Each string is framed: its
 /// length stands in its first two bytes and in its last two. No call takes memory.
 #[derive(Drop)]
@@ -58,6 +64,19 @@ impl PackedStrings {
             fill: 0,
             count: 0,
         }
+    }
+
+    /// Touches the first lines: reads a byte of each, and answers them joined, which means nothing.
+    ///
+    /// It is for speed alone. Reads wait for memory together, and writes one behind the other; so where the lines were read first,
+    /// strings are written without waiting.
+    #[inline(always)]
+    pub(crate) fn touch(&self) -> u8 {
+        let mut joined = 0;
+        for line in 0..TOUCHED_LINES {
+            joined ^= self.bytes[LINE * line];
+        }
+        joined
     }
 
     /// How many bytes are left behind the strings: 0 to 4,096.

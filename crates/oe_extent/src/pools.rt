@@ -18,6 +18,8 @@ pub struct Pool {
     extents: Vec<Option<Box<Extent>>>,
     free_count: usize,
     cursor: usize,
+    // What the touch of the last extent taken answered: it means nothing, and is kept so that no compiler leaves the touch out.
+    touched: u8,
 }
 
 impl Model for Pool {
@@ -73,6 +75,7 @@ impl Pool {
             extents,
             free_count: count,
             cursor: 0,
+            touched: 0,
         })
     }
 
@@ -102,6 +105,7 @@ impl Pool {
         let Some(extent) = taken else { unreachable!() };
         self.free_count -= 1;
         self.cursor = found + 1;
+        self.touched = extent.touch();
         Some((found, extent.cleared(found)))
     }
 
