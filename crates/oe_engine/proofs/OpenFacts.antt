@@ -1,34 +1,19 @@
 -- How the keys of tables get places for their links, one after another.
-use Rattle.std.proofs.Common.{◌≡◌, refl, sym, ◌∙◌, subst, List, [], ◌∷◌, ap}
-use Rattle.std.specs.Prelude.{IsSome, cond, Option, Some, true, false, Bool}
+use Rattle.std.proofs.Common.{◌≡◌, refl, sym, ◌∙◌, subst, List, [], ◌∷◌}
+use Rattle.std.specs.Prelude.{Option, None, Some, true}
 use Rattle.oe_keys.specs.declared.keys.Key.{Key}
 use Rattle.oe_keys.specs.declared.keys.Key.TheVariants as key
 use Rattle.oe_keys.specs.declared.keys.Table.{Table}
 use Rattle.oe_keys.specs.declared.keys.Table.TheVariants as table
-use Rattle.oe_model.specs.Rows.{is_key}
-use Rattle.oe_model.proofs.RowFacts.{key_refl}
-use Rattle.oe_links.specs.declared.links.OwnedLink.{OwnedLink}
-use Rattle.oe_links.specs.Links.{LinkMaps, HasPlace, place_of, SetsLink}
+use Rattle.oe_links.specs.Links.{LinkMaps, HasPlace, KeepsPlaces, comes_with}
+use Rattle.oe_links.proofs.LinkFacts.{comes_placed}
 use Rattle.oe_undo.specs.Undo.{UndoState}
 use Rattle.oe_store.specs.Places.{Places}
 use Rattle.std.specs.List.{AllByRecursion}
 use Rattle.oe_store.specs.KeyWalk.{placed_keys}
 use Rattle.oe_store.proofs.KeyWalkFacts.{in_table}
 use Rattle.oe_journal.specs.Linked.{AreLinked}
-use Rattle.oe_engine.specs.Opened.{IsLinked, KeepsPlaces}
-
--- a key was given a place
-had_or_has : (b : Bool) (l : Option OwnedLink) (p : Option (Option OwnedLink)) → IsSome p → IsSome (cond b (Some l) p)
-had_or_has true l p h = refl
-had_or_has false l p h = h
-
-pub set_keeps : (m m' : LinkMaps) (own : Key) (l : Option OwnedLink) → SetsLink m m' own l → KeepsPlaces m m'
-set_keeps m m' own l set k h =
-    subst (λ (p : Option (Option OwnedLink)). IsSome p) (sym (set k)) (had_or_has (is_key own k) l (place_of m k) h)
-
-pub set_has : (m m' : LinkMaps) (own : Key) (l : Option OwnedLink) → SetsLink m m' own l → HasPlace m' own
-set_has m m' own l set =
-    subst (λ (p : Option (Option OwnedLink)). IsSome p) (sym (set own ∙ ap (λ b. cond b (Some l) (place_of m own)) (key_refl own))) refl
+use Rattle.oe_engine.specs.Opened.{IsLinked, HasWaiting, IsCovered}
 
 -- some of all were given places, and no place went: when the rest have theirs, all have
 pub record IsLinking {X : Type 0} (P : LinkMaps → X → Type 0) (first now : UndoState) (rest all : List X) : Type 0 where
@@ -55,10 +40,35 @@ module _ {X : Type 0} (P : LinkMaps → X → Type 0) where
   pub all_linked : (first now : UndoState) (all : List X) → IsLinking P first now [] all → AllByRecursion (P now.links) all
   all_linked first now all h = h.left now.links (λ k p. p) tt
 
--- what has a place keeps it, and so does a table
-pub keys_still : (m m' : LinkMaps) (k : Key) → KeepsPlaces m m' → HasPlace m k → HasPlace m' k
-keys_still m m' k kept h = kept k h
+-- the same of keys, of which one may wait
+pub record IsLinkingKeys (first now : UndoState) (waiting : Option Key) (rest all : List Key) : Type 0 where
+  pub log : now.log ≡ first.log
+  pub kept : KeepsPlaces first.links now.links
+  pub left : (m : LinkMaps) → KeepsPlaces now.links m → HasWaiting m waiting → AllByRecursion (HasPlace m) rest → AllByRecursion (HasPlace m) all
 
+pub none_waits : (s : UndoState) (all : List Key) → IsLinkingKeys s s None all all
+none_waits s all = record {
+  log = refl;
+  kept = λ k h. h;
+  left = λ m kept waiting h. h;
+}
+
+pub next_waits : (first now next : UndoState) (waiting : Option Key) (k : Key) (rest all : List Key) → next.log ≡ now.log
+    → KeepsPlaces now.links next.links → IsCovered next.links waiting k → IsLinkingKeys first now waiting (k ∷ rest) all → IsLinkingKeys first next (Some k) rest all
+next_waits first now next waiting k rest all same kept covered h = record {
+  log = same ∙ h.log;
+  kept = λ j p. kept j (h.kept j p);
+  left = λ m more has others. h.left m (λ j p. more j (kept j p)) (covered m more has) (has, others);
+}
+
+pub waiting_linked : (first now next : UndoState) (waiting : Option Key) (all : List Key) → KeepsPlaces now.links next.links → HasWaiting next.links waiting
+    → IsLinkingKeys first now waiting [] all → AllByRecursion (HasPlace next.links) all
+waiting_linked first now next waiting all kept has h = h.left next.links kept has tt
+
+pub waits_covered : (links : LinkMaps) (waiting : Option Key) (k next : Key) → waiting ≡ Some k → comes_with next k ≡ true → IsCovered links waiting next
+waits_covered links waiting k next is with_next m kept has = subst (HasWaiting m) (sym is) (comes_placed m next k with_next has)
+
+-- what has a place keeps it, and so does a table
 still_of_all : (m m' : LinkMaps) (ks : List Key) → KeepsPlaces m m' → AllByRecursion (HasPlace m) ks → AllByRecursion (HasPlace m') ks
 still_of_all m m' [] kept h = tt
 still_of_all m m' (k ∷ ks) kept h = (kept k h.0, still_of_all m m' ks kept h.1)

@@ -4,12 +4,18 @@ use Rattle.oe_keys.specs.declared.keys.Table.{Table}
 use Rattle.oe_store.specs.Places.{Places}
 use Rattle.std.specs.List.{AllByRecursion}
 use Rattle.oe_store.specs.KeyWalk.{placed_keys}
-use Rattle.oe_links.specs.Links.{LinkMaps, HasPlace}
+use Rattle.std.specs.Prelude.{⊤, Option, None, Some}
+use Rattle.oe_links.specs.Links.{LinkMaps, HasPlace, KeepsPlaces}
 
 -- each key that has a place in the table has one for its link
 abbrev pub IsLinked : Places → LinkMaps → Table → Type 0
 IsLinked ts links t = AllByRecursion (HasPlace links) (placed_keys t ts)
 
--- each key that had a place for its link has it still
-abbrev pub KeepsPlaces : LinkMaps → LinkMaps → Type 0
-KeepsPlaces old new = (k : Key) → HasPlace old k → HasPlace new k
+-- a key that waits, if there is one, has a place for its link
+abbrev pub HasWaiting : LinkMaps → Option Key → Type 0
+HasWaiting links None = ⊤
+HasWaiting links (Some k) = HasPlace links k
+
+-- it has one as soon as this one has
+abbrev pub IsCovered : LinkMaps → Option Key → Key → Type 0
+IsCovered links waiting next = (m : LinkMaps) → KeepsPlaces links m → HasPlace m next → HasWaiting m waiting

@@ -3,9 +3,11 @@
 ghost use Rattle.std.specs.Prelude.{◌≡◌, IfOk, OnOk};
 ghost use Rattle.oe_segments.specs.Segments.{no_segments};
 ghost use Rattle.oe_journal.specs.Linked.{AreLinked};
-ghost use Rattle.oe_engine.specs.Opened.{IsLinked, KeepsPlaces};
+ghost use Rattle.oe_links.specs.Links.{KeepsPlaces};
+ghost use Rattle.oe_engine.specs.Opened.{IsLinked, HasWaiting, IsCovered};
 
-use oe_keys::Table;
+use oe_keys::{Key, Table};
+use oe_links::comes_with;
 use oe_segments::ExtentCount;
 use oe_store::Tables;
 use oe_table::tables::NoMemory;
@@ -24,16 +26,46 @@ const CHANGED: [Table; 8] = [
     Table::Stock,
 ];
 
-// Gives each key that has a place in a table one for its link.
+// Gives a key that waits a place for its link, unless it gets one with the key that comes next.
+fn link_before(undo: &mut Undo, waiting: &Option<Key>, next: &Key) -> Result<(), NoMemory>
+    ensures log { undo.new.log ≡ undo.old.log }
+    ensures covered { OnOk result (IsCovered undo.new.links waiting.now next.now) }
+    ensures kept { KeepsPlaces undo.old.links undo.new.links }
+{
+    let Some(key) = waiting else {
+        return Ok(());
+    };
+    if comes_with(next, key) {
+        return Ok(());
+    }
+    undo.add_place(key)
+}
+
+// Gives a key that waits a place for its link.
+fn link_last(undo: &mut Undo, waiting: &Option<Key>) -> Result<(), NoMemory>
+    ensures log { undo.new.log ≡ undo.old.log }
+    ensures given { OnOk result (HasWaiting undo.new.links waiting.now) }
+    ensures kept { KeepsPlaces undo.old.links undo.new.links }
+{
+    match waiting {
+        Some(key) => undo.add_place(key),
+        None => Ok(()),
+    }
+}
+
+// Gives each key that has a place in a table one for its link. A key waits until the next is known: where it gets its place with that,
+// memory is asked for once.
 fn link_table(tables: &Tables, undo: &mut Undo, table: Table) -> Result<(), NoMemory>
     ensures log { undo.new.log ≡ undo.old.log }
     ensures linked { OnOk result (IsLinked tables.now undo.new.links table) }
     ensures kept { KeepsPlaces undo.old.links undo.new.links }
 {
+    let mut waiting = None;
     for key in tables.keys(table) {
-        undo.add_place(&key)?;
+        link_before(undo, &waiting, &key)?;
+        waiting = Some(key);
     }
-    Ok(())
+    link_last(undo, &waiting)
 }
 
 // Gives each key that has a place in a table that is changed one for its link.

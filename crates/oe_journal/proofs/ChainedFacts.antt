@@ -21,7 +21,8 @@ use Rattle.oe_links.specs.declared.links.OwnedLink.{OwnedLink}
 use Rattle.oe_links.specs.Links.{place_of, link_in, HasPlace, SamePlaces}
 use Rattle.oe_undo.specs.Owners.{followed}
 use Rattle.oe_undo.specs.Undo.{UndoState, seen, GivesBack}
-use Rattle.oe_journal.proofs.LinkFacts.{same_links, no_links_set}
+use Rattle.oe_links.proofs.LeadFacts.{set_leads}
+use Rattle.oe_journal.proofs.LinkFacts.{no_links_set}
 
 -- a list that begins with nothing
 pub none_first : (xs ys : List Held) → xs ++ ys ≡ [] → xs ≡ []
@@ -83,4 +84,4 @@ same_given_back old new t whole chained back = go (records_at old.log t) refl ba
   where
     go : (rs : List Logged) → records_at old.log t ≡ rs → GivesBack old new t rs → SamePlaces old.links new.links
     go [] e back = no_links_set old.links new.links back
-    go (r ∷ rs) e back = same_links old.links new.links (record_key r.before) back.link back.set (linked_place old t r rs whole chained e)
+    go (r ∷ rs) e back = (set_leads old.links new.links (record_key r.before) back.link back.set).same (linked_place old t r rs whole chained e)

@@ -1,49 +1,29 @@
 -- Which keys have places for their links, after a link is set, and after a record that was pushed is taken off again.
-use Rattle.std.proofs.Common.{◌≡◌, Bool, true, false, cond, refl, sym, ap, ◌∙◌, subst, inl, inr, Option, None, Some, is_some}
-use Rattle.std.specs.Prelude.{IsSome}
+use Rattle.std.proofs.Common.{◌≡◌, Bool, true, false, cond, refl, sym, ap, ◌∙◌, subst, inl, inr, Option, None, is_some}
 use Rattle.oe_keys.specs.declared.keys.Key.{Key}
 use Rattle.oe_model.specs.Rows.{is_key}
-use Rattle.oe_model.proofs.RowFacts.{key_true, key_refl}
+use Rattle.oe_model.proofs.RowFacts.{key_true}
 use Rattle.oe_store.specs.Places.{AddsPlace}
 use Rattle.oe_store.specs.Places as tables
 use Rattle.oe_links.specs.declared.links.OwnedLink.{OwnedLink}
-use Rattle.oe_links.specs.Links.{LinkMaps, place_of, link_in, links_of, HasPlace, SetsLink, SamePlaces}
+use Rattle.oe_links.specs.Links.{LinkMaps, place_of, links_of, HasPlace, SetsLink, SamePlaces, LeadsTo}
+use Rattle.oe_links.proofs.LeadFacts.{set_leads}
 use Rattle.oe_undo.specs.Owners.{followed}
 use Rattle.oe_undo.specs.Undo.{UndoState, seen}
 use Rattle.oe_journal.specs.Linked.{MayChange, AreLinked, SameLinks}
 
 -- ---- a key's link is set
 
-has_still : (b : Bool) (l : Option OwnedLink) (old new : Option (Option OwnedLink)) → new ≡ cond b (Some l) old → IsSome old → IsSome new
-has_still true l old new e h = ap is_some e
-has_still false l old new e h = ap is_some e ∙ h
-
-module _ (old new : LinkMaps) (own : Key) (l : Option OwnedLink) (set : SetsLink old new own l) where
-  -- no place is lost
-  pub more_links : (k : Key) → HasPlace old k → HasPlace new k
-  more_links k h = has_still (is_key own k) l (place_of old k) (place_of new k) (set k) h
-
-  -- the key has one
-  pub own_link : HasPlace new own
-  own_link = ap is_some (set own ∙ ap (λ b. cond b (Some l) (place_of old own)) (key_refl own))
-
-  -- where it had one before, no other key has a new one
-  pub same_links : HasPlace old own → SamePlaces old new
-  same_links had k = (there (is_key own k) refl, more_links k)
-    where
-      there : (b : Bool) → is_key own k ≡ b → HasPlace new k → HasPlace old k
-      there true e h = subst (HasPlace old) (key_true own k e) had
-      there false e h = subst IsSome (set k ∙ ap (λ b. cond b (Some l) (place_of old k)) e) h
-
 -- it is set, and then it leads again where it led, in the same log
-pub given_back : (old mid new : UndoState) (own : Key) (l p : Option OwnedLink) → SetsLink old.links mid.links own l → SetsLink mid.links new.links own p
+pub given_back : (old mid new : UndoState) (own : Key) (l p : Option OwnedLink) → LeadsTo old.links mid.links own l → SetsLink mid.links new.links own p
     → new.log ≡ old.log → followed new.log p ≡ seen old own → SameLinks old new
-given_back old mid new own l p set back log was k = ap (λ z. followed new.log (link_in z)) (back k) ∙ go (is_key own k) refl
+given_back old mid new own l p leads back log was k =
+    ap (followed new.log) ((set_leads mid.links new.links own p back).links k) ∙ go (is_key own k) refl
   where
-    go : (b : Bool) → is_key own k ≡ b → followed new.log (link_in (cond b (Some p) (place_of mid.links k))) ≡ seen old k
+    go : (b : Bool) → is_key own k ≡ b → followed new.log (cond b p (links_of mid.links k)) ≡ seen old k
     go true e = was ∙ ap (seen old) (key_true own k e)
     go false e =
-        ap (λ z. followed new.log (link_in z)) (set k ∙ ap (λ b. cond b (Some l) (place_of old.links k)) e)
+        ap (followed new.log) (leads.links k ∙ ap (λ b. cond b l (links_of old.links k)) e)
         ∙ ap (λ v. followed v (links_of old.links k)) log
 
 -- ---- keys of the tables have places for their links

@@ -22,7 +22,8 @@ use Rattle.oe_journal.specs.Records.{record_in}
 use Rattle.oe_journal.specs.Writes.{HasMore, IsRecorded}
 use Rattle.oe_segments.proofs.StateFacts.{some_of, records_open, records_size, records_are, records_stand, pushed_popped}
 use Rattle.oe_undo.proofs.OwnerFacts.{followed_unended}
-use Rattle.oe_journal.proofs.LinkFacts.{more_links, own_link, given_back, still_linked, one_more_linked}
+use Rattle.oe_links.proofs.LeadFacts.{set_leads}
+use Rattle.oe_journal.proofs.LinkFacts.{given_back, still_linked, one_more_linked}
 
 -- what is said of an option's value
 pub of_some : {A : Type 0} (P : A → Type 0) (o : Option A) (x : A) → o ≡ Some x → P x → IsSomeAnd o P
@@ -52,7 +53,7 @@ module _ (b : Record) (u u' : UndoState) (t : ℕ) (h : HasMore b u u' t) where
 
   -- no place of a link is lost
   has_place_still : (k : Key) → HasPlace u.links k → HasPlace u'.links k
-  has_place_still = more_links u.links u'.links (record_key b) _ h.pushed.link
+  has_place_still = h.pushed.link.kept
 
 -- in the theory's words
 pub more_stands : (b : Record) (c : Change) (old new : Places) (u u' : UndoState) (t : ℕ) (o : OpenSegment) → active_at u.log t ≡ Some o
@@ -75,7 +76,7 @@ recorded_linked c old new u u' t linked h =
     let b : Record = record_in c (rows old) in
     let own : record_key b ≡ key_of c = record_key_of c (row_at (rows old) (key_of c)) in
     one_more_linked old new u.links u'.links (key_of c) (has_place_still b u u' t h.has_more)
-    (subst (HasPlace u'.links) own (own_link u.links u'.links (record_key b) _ h.has_more.pushed.link)) h.applies.places linked
+    (subst (HasPlace u'.links) own h.has_more.pushed.link.placed) h.applies.places linked
 
 -- ---- and that is taken off again
 
@@ -117,4 +118,4 @@ module _ (o : Option Record) (u u' : UndoState) (t : ℕ) (is : is_some (active_
   unpushed_linked ts x back linked =
       let b = key_given_back x back in
       still_linked ts u.links x.links
-      (λ k had. more_links u'.links x.links (record_key b.0) b.2.link b.2.set k (has_place_still b.0 u u' t b.1 k had)) linked
+      (λ k had. (set_leads u'.links x.links (record_key b.0) b.2.link b.2.set).kept k (has_place_still b.0 u u' t b.1 k had)) linked

@@ -1,1 +1,3 @@
+pub mod LeadFacts
 pub mod LinkFacts
+pub mod NumberFacts

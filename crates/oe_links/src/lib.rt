@@ -3,5 +3,7 @@
 #![tactic(auto)]
 
 pub mod links;
+pub mod numbers;
+pub mod tables;
 
-pub use links::{Links, OwnedLink};
+pub use links::{Links, OwnedLink, comes_with};

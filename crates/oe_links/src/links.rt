@@ -1,17 +1,22 @@
 //! Links by key.
 //!
-//! A table of links has a key for each place, and there the key's link, if it has one. Only `add_place` and `insert` take memory, for a
-//! key without a place; where that is refused the links are as before.
-ghost use Rattle.std.specs.Prelude.{◌≡◌, Some, None, IsSome, OnOk, OnErr};
-ghost use Rattle.oe_links.specs.Links.{place_of, links_of, link_in, HasPlace, no_links, stands_at, SetsAt, SetsPlace, SetsLink};
+//! A key of HISTORY has its place in a table of keys, and one of the other tables by its numbers, so that a place takes no memory that is
+//! touched before the key has its first record. Only `add_place` and `insert` take memory, for a key without a place; where that is refused
+//! the links are as before.
+ghost use Rattle.std.specs.Prelude.{◌≡◌, Some, None, IsSome, OnOk, OnErr, cond};
+ghost use Rattle.std.specs.Ordering.{eq_by_cmp};
+ghost use Rattle.std.specs.FinMap.{get};
+ghost use Rattle.oe_keys.specs.Key.{history_cmp};
+ghost use Rattle.oe_table.specs.Table.{rows_of};
+ghost use Rattle.oe_links.specs.Tables.{link_in, is_not_above};
+ghost use Rattle.oe_links.specs.Links.{place_of, links_of, HasPlace, no_links, comes_with, SetsLink, GivesPlaces, InsertsLink};
 
-use oe_keys::{
-    CustomerKey, DistrictKey, HistoryKey, ItemKey, Key, NewOrderKey, OrderKey, OrderLineKey,
-    StockKey, WarehouseKey,
-};
+use crate::numbers::NumberedKey;
+use crate::tables::{insert, link_in, place_in, reach, set};
+use oe_keys::{HistoryKey, Key};
 use oe_layout::RecordAddress;
+use oe_places::Places;
 use oe_segments::SegmentOwner;
-use oe_table::keys::ShelvedKey;
 use oe_table::shelves::Shelves;
 use oe_table::tables::NoMemory;
 use std::alloc::Global;
@@ -28,19 +33,19 @@ pub struct OwnedLink {
 /// The links of keys, each in a place of its own.
 #[derive(Drop)]
 pub struct Links {
-    warehouses: Shelves<WarehouseKey, Option<OwnedLink>>,
-    districts: Shelves<DistrictKey, Option<OwnedLink>>,
-    customers: Shelves<CustomerKey, Option<OwnedLink>>,
+    warehouses: Places<OwnedLink>,
+    districts: Places<OwnedLink>,
+    customers: Places<OwnedLink>,
     histories: Shelves<HistoryKey, Option<OwnedLink>>,
-    new_orders: Shelves<NewOrderKey, Option<OwnedLink>>,
-    orders: Shelves<OrderKey, Option<OwnedLink>>,
-    order_lines: Shelves<OrderLineKey, Option<OwnedLink>>,
-    items: Shelves<ItemKey, Option<OwnedLink>>,
-    stocks: Shelves<StockKey, Option<OwnedLink>>,
+    new_orders: Places<OwnedLink>,
+    orders: Places<OwnedLink>,
+    order_lines: Places<OwnedLink>,
+    items: Places<OwnedLink>,
+    stocks: Places<OwnedLink>,
 }
 
 impl Model for Links {
-    ghost use Rattle.oe_keys.specs.Key.{warehouse_cmp, district_cmp, customer_cmp, history_cmp, new_order_cmp, order_cmp, order_line_cmp, item_cmp, stock_cmp};
+    ghost use Rattle.oe_keys.specs.Key.{history_cmp};
     ghost use Rattle.oe_table.specs.Table.{rows_of};
     ghost use Rattle.std.specs.Coded.{codes};
     ghost use Rattle.std.specs.FinMap.{code as map_code};
@@ -51,22 +56,25 @@ impl Model for Links {
     ghost coded = { Prim.hlevel (codes, map_code) };
 
     ghost view = { λ l. record {
-      warehouses = rows_of warehouse_cmp l.warehouses;
-      districts = rows_of district_cmp l.districts;
-      customers = rows_of customer_cmp l.customers;
+      warehouses = l.warehouses;
+      districts = l.districts;
+      customers = l.customers;
       histories = rows_of history_cmp l.histories;
-      new_orders = rows_of new_order_cmp l.new_orders;
-      orders = rows_of order_cmp l.orders;
-      order_lines = rows_of order_line_cmp l.order_lines;
-      items = rows_of item_cmp l.items;
-      stocks = rows_of stock_cmp l.stocks;
+      new_orders = l.new_orders;
+      orders = l.orders;
+      order_lines = l.order_lines;
+      items = l.items;
+      stocks = l.stocks;
     } };
 }
 
-// The link in a key's place, if there is one.
+// The link in the place of a HISTORY row's key, if there is one.
 #[inline(always)]
-fn link_at<K: ShelvedKey>(links: &Shelves<K, Option<OwnedLink>>, key: &K) -> Option<OwnedLink>
-    ensures { result ≡ link_in (stands_at K.cmp links.now key.now) }
+fn history_link(
+    links: &Shelves<HistoryKey, Option<OwnedLink>>,
+    key: &HistoryKey,
+) -> Option<OwnedLink>
+    ensures { result ≡ link_in (get (rows_of history_cmp links.now) key.now) }
 {
     match links.get(key) {
         Some(link) => *link,
@@ -74,14 +82,17 @@ fn link_at<K: ShelvedKey>(links: &Shelves<K, Option<OwnedLink>>, key: &K) -> Opt
     }
 }
 
-// Gives a key without a place an empty one.
-fn add_place_in<K: ShelvedKey + Copy + Drop>(
-    links: &mut Shelves<K, Option<OwnedLink>>,
-    key: &K,
+// Gives a HISTORY row's key without a place an empty one.
+fn reach_history(
+    links: &mut Shelves<HistoryKey, Option<OwnedLink>>,
+    key: &HistoryKey,
 ) -> Result<(), NoMemory>
-    ensures added { OnOk result (SetsAt K.cmp links.old links.new key.now
-        (Some (link_in (stands_at K.cmp links.old key.now)))) }
-    ensures no_place { OnErr result (stands_at K.cmp links.old key.now ≡ None) }
+    ensures given { OnOk result ((k : HistoryKey) → get (rows_of history_cmp links.new) k
+        ≡ cond (eq_by_cmp history_cmp key.now k)
+        (Some (link_in (get (rows_of history_cmp links.old) k)))
+        (get (rows_of history_cmp links.old) k)) }
+    ensures own { OnOk result (IsSome (get (rows_of history_cmp links.new) key.now)) }
+    ensures no_place { OnErr result (get (rows_of history_cmp links.old) key.now ≡ None) }
     ensures err { OnErr result (links.new ≡ links.old) }
 {
     if links.get(key).is_some() {
@@ -90,30 +101,46 @@ fn add_place_in<K: ShelvedKey + Copy + Drop>(
     links.put_new(*key, None)
 }
 
-// Sets the link in a key's place.
+// Sets the link in the place of a HISTORY row's key.
 #[inline(always)]
-fn set_in<K: ShelvedKey>(
-    links: &mut Shelves<K, Option<OwnedLink>>,
-    key: &K,
+fn set_history(
+    links: &mut Shelves<HistoryKey, Option<OwnedLink>>,
+    key: &HistoryKey,
     link: Option<OwnedLink>,
 )
-    requires { IsSome (stands_at K.cmp links.old key.now) }
-    ensures { SetsAt K.cmp links.old links.new key.now
-        (Some link) }
+    requires { IsSome (get (rows_of history_cmp links.old) key.now) }
+    ensures { (k : HistoryKey) → get (rows_of history_cmp links.new) k
+        ≡ cond (eq_by_cmp history_cmp key.now k) (Some link)
+        (get (rows_of history_cmp links.old) k) }
 {
     let place = links.row_mut(key).unwrap();
     *place = link;
 }
 
-// Gives up a key's place, which is blanked first, since only a blanked one is given up.
-fn give_up_in<K: ShelvedKey + Drop>(links: &mut Shelves<K, Option<OwnedLink>>, key: &K)
-    ensures { SetsAt K.cmp links.old links.new key.now None }
+// Whether the second key is of the first one's shelf, and not above it.
+fn is_not_above<K: NumberedKey>(own: &K, key: &K) -> bool
+    ensures { result ≡ is_not_above (K.shelf_of own.now) (K.number_of own.now)
+        (K.shelf_of key.now) (K.number_of key.now) }
 {
-    if links.get(key).is_none() {
-        return;
+    own.shelf() == key.shelf() && key.number() <= own.number()
+}
+
+/// Whether the second key gets a place where the first does: it is that key, or one before it on its shelf.
+pub fn comes_with(own: &Key, key: &Key) -> bool
+    ensures { result ≡ comes_with own.now key.now }
+{
+    match (own, key) {
+        (Key::Warehouse(own), Key::Warehouse(key)) => is_not_above(own, key),
+        (Key::District(own), Key::District(key)) => is_not_above(own, key),
+        (Key::Customer(own), Key::Customer(key)) => is_not_above(own, key),
+        (Key::History(own), Key::History(key)) => own.cmp(key).is_eq(),
+        (Key::NewOrder(own), Key::NewOrder(key)) => is_not_above(own, key),
+        (Key::Order(own), Key::Order(key)) => is_not_above(own, key),
+        (Key::OrderLine(own), Key::OrderLine(key)) => is_not_above(own, key),
+        (Key::Item(own), Key::Item(key)) => is_not_above(own, key),
+        (Key::Stock(own), Key::Stock(key)) => is_not_above(own, key),
+        _ => false,
     }
-    let _link = links.blank(key);
-    links.give_up(key);
 }
 
 impl Links {
@@ -126,15 +153,15 @@ impl Links {
         ensures { result ≡ no_links }
     {
         Links {
-            warehouses: Shelves::new(alloc),
-            districts: Shelves::new(alloc),
-            customers: Shelves::new(alloc),
+            warehouses: Places::new(alloc),
+            districts: Places::new(alloc),
+            customers: Places::new(alloc),
             histories: Shelves::new(alloc),
-            new_orders: Shelves::new(alloc),
-            orders: Shelves::new(alloc),
-            order_lines: Shelves::new(alloc),
-            items: Shelves::new(alloc),
-            stocks: Shelves::new(alloc),
+            new_orders: Places::new(alloc),
+            orders: Places::new(alloc),
+            order_lines: Places::new(alloc),
+            items: Places::new(alloc),
+            stocks: Places::new(alloc),
         }
     }
 
@@ -143,35 +170,36 @@ impl Links {
         ensures { result ≡ links_of self.now key.now }
     {
         match key {
-            Key::Warehouse(key) => link_at(&self.warehouses, key),
-            Key::District(key) => link_at(&self.districts, key),
-            Key::Customer(key) => link_at(&self.customers, key),
-            Key::History(key) => link_at(&self.histories, key),
-            Key::NewOrder(key) => link_at(&self.new_orders, key),
-            Key::Order(key) => link_at(&self.orders, key),
-            Key::OrderLine(key) => link_at(&self.order_lines, key),
-            Key::Item(key) => link_at(&self.items, key),
-            Key::Stock(key) => link_at(&self.stocks, key),
+            Key::Warehouse(key) => link_in(&self.warehouses, key),
+            Key::District(key) => link_in(&self.districts, key),
+            Key::Customer(key) => link_in(&self.customers, key),
+            Key::History(key) => history_link(&self.histories, key),
+            Key::NewOrder(key) => link_in(&self.new_orders, key),
+            Key::Order(key) => link_in(&self.orders, key),
+            Key::OrderLine(key) => link_in(&self.order_lines, key),
+            Key::Item(key) => link_in(&self.items, key),
+            Key::Stock(key) => link_in(&self.stocks, key),
         }
     }
 
-    /// Gives a key without a place an empty one; `NoMemory` where memory for it was refused. A key that has one keeps it.
+    /// Gives a key without a place an empty one, and those that come with it; `NoMemory` where memory for them was refused. A key that has
+    /// a place keeps it.
     pub fn add_place(&mut self, key: &Key) -> Result<(), NoMemory>
-        ensures added { OnOk result
-            (SetsLink self.old self.new key.now (links_of self.old key.now)) }
+        ensures given { OnOk result (GivesPlaces self.old self.new key.now) }
+        ensures own { OnOk result (HasPlace self.new key.now) }
         ensures no_place { OnErr result (place_of self.old key.now ≡ None) }
         ensures err { OnErr result (self.new ≡ self.old) }
     {
         match key {
-            Key::Warehouse(key) => add_place_in(&mut self.warehouses, key),
-            Key::District(key) => add_place_in(&mut self.districts, key),
-            Key::Customer(key) => add_place_in(&mut self.customers, key),
-            Key::History(key) => add_place_in(&mut self.histories, key),
-            Key::NewOrder(key) => add_place_in(&mut self.new_orders, key),
-            Key::Order(key) => add_place_in(&mut self.orders, key),
-            Key::OrderLine(key) => add_place_in(&mut self.order_lines, key),
-            Key::Item(key) => add_place_in(&mut self.items, key),
-            Key::Stock(key) => add_place_in(&mut self.stocks, key),
+            Key::Warehouse(key) => reach(&mut self.warehouses, key),
+            Key::District(key) => reach(&mut self.districts, key),
+            Key::Customer(key) => reach(&mut self.customers, key),
+            Key::History(key) => reach_history(&mut self.histories, key),
+            Key::NewOrder(key) => reach(&mut self.new_orders, key),
+            Key::Order(key) => reach(&mut self.orders, key),
+            Key::OrderLine(key) => reach(&mut self.order_lines, key),
+            Key::Item(key) => reach(&mut self.items, key),
+            Key::Stock(key) => reach(&mut self.stocks, key),
         }
     }
 
@@ -182,34 +210,34 @@ impl Links {
         ensures place { option_copied_mut result ≡ place_of self.old key.now }
     {
         match key {
-            Key::Warehouse(key) => self.warehouses.row_mut(key),
-            Key::District(key) => self.districts.row_mut(key),
-            Key::Customer(key) => self.customers.row_mut(key),
+            Key::Warehouse(key) => place_in(&mut self.warehouses, key),
+            Key::District(key) => place_in(&mut self.districts, key),
+            Key::Customer(key) => place_in(&mut self.customers, key),
             Key::History(key) => self.histories.row_mut(key),
-            Key::NewOrder(key) => self.new_orders.row_mut(key),
-            Key::Order(key) => self.orders.row_mut(key),
-            Key::OrderLine(key) => self.order_lines.row_mut(key),
-            Key::Item(key) => self.items.row_mut(key),
-            Key::Stock(key) => self.stocks.row_mut(key),
+            Key::NewOrder(key) => place_in(&mut self.new_orders, key),
+            Key::Order(key) => place_in(&mut self.orders, key),
+            Key::OrderLine(key) => place_in(&mut self.order_lines, key),
+            Key::Item(key) => place_in(&mut self.items, key),
+            Key::Stock(key) => place_in(&mut self.stocks, key),
         }
     }
 
-    /// Gives a key without a place one with its link; `NoMemory` where memory for it was refused.
+    /// Gives a key without a place one with its link, and those that come with it; `NoMemory` where memory for them was refused.
     pub fn insert(&mut self, key: &Key, link: OwnedLink) -> Result<(), NoMemory>
         requires { place_of self.old key.now ≡ None }
-        ensures inserted { OnOk result (SetsLink self.old self.new key.now (Some link)) }
+        ensures inserted { OnOk result (InsertsLink self.old self.new key.now (Some link)) }
         ensures err { OnErr result (self.new ≡ self.old) }
     {
         match key {
-            Key::Warehouse(key) => self.warehouses.put_new(*key, Some(link)),
-            Key::District(key) => self.districts.put_new(*key, Some(link)),
-            Key::Customer(key) => self.customers.put_new(*key, Some(link)),
+            Key::Warehouse(key) => insert(&mut self.warehouses, key, link),
+            Key::District(key) => insert(&mut self.districts, key, link),
+            Key::Customer(key) => insert(&mut self.customers, key, link),
             Key::History(key) => self.histories.put_new(*key, Some(link)),
-            Key::NewOrder(key) => self.new_orders.put_new(*key, Some(link)),
-            Key::Order(key) => self.orders.put_new(*key, Some(link)),
-            Key::OrderLine(key) => self.order_lines.put_new(*key, Some(link)),
-            Key::Item(key) => self.items.put_new(*key, Some(link)),
-            Key::Stock(key) => self.stocks.put_new(*key, Some(link)),
+            Key::NewOrder(key) => insert(&mut self.new_orders, key, link),
+            Key::Order(key) => insert(&mut self.orders, key, link),
+            Key::OrderLine(key) => insert(&mut self.order_lines, key, link),
+            Key::Item(key) => insert(&mut self.items, key, link),
+            Key::Stock(key) => insert(&mut self.stocks, key, link),
         }
     }
 
@@ -219,32 +247,15 @@ impl Links {
         ensures { SetsLink self.old self.new key.now link }
     {
         match key {
-            Key::Warehouse(key) => set_in(&mut self.warehouses, key, link),
-            Key::District(key) => set_in(&mut self.districts, key, link),
-            Key::Customer(key) => set_in(&mut self.customers, key, link),
-            Key::History(key) => set_in(&mut self.histories, key, link),
-            Key::NewOrder(key) => set_in(&mut self.new_orders, key, link),
-            Key::Order(key) => set_in(&mut self.orders, key, link),
-            Key::OrderLine(key) => set_in(&mut self.order_lines, key, link),
-            Key::Item(key) => set_in(&mut self.items, key, link),
-            Key::Stock(key) => set_in(&mut self.stocks, key, link),
-        }
-    }
-
-    /// Gives up the place of a key, if it has one, with its link.
-    pub fn give_up(&mut self, key: &Key)
-        ensures { SetsPlace self.old self.new key.now None }
-    {
-        match key {
-            Key::Warehouse(key) => give_up_in(&mut self.warehouses, key),
-            Key::District(key) => give_up_in(&mut self.districts, key),
-            Key::Customer(key) => give_up_in(&mut self.customers, key),
-            Key::History(key) => give_up_in(&mut self.histories, key),
-            Key::NewOrder(key) => give_up_in(&mut self.new_orders, key),
-            Key::Order(key) => give_up_in(&mut self.orders, key),
-            Key::OrderLine(key) => give_up_in(&mut self.order_lines, key),
-            Key::Item(key) => give_up_in(&mut self.items, key),
-            Key::Stock(key) => give_up_in(&mut self.stocks, key),
+            Key::Warehouse(key) => set(&mut self.warehouses, key, link),
+            Key::District(key) => set(&mut self.districts, key, link),
+            Key::Customer(key) => set(&mut self.customers, key, link),
+            Key::History(key) => set_history(&mut self.histories, key, link),
+            Key::NewOrder(key) => set(&mut self.new_orders, key, link),
+            Key::Order(key) => set(&mut self.orders, key, link),
+            Key::OrderLine(key) => set(&mut self.order_lines, key, link),
+            Key::Item(key) => set(&mut self.items, key, link),
+            Key::Stock(key) => set(&mut self.stocks, key, link),
         }
     }
 }

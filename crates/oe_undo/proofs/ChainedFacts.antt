@@ -3,18 +3,15 @@ use Rattle.std.proofs.Common.{◌≡◌, ℕ, zero, suc, ◌+◌, ◌-◌, ◌<�
 use Rattle.std.specs.Prelude.{◌⊎◌, ◌≢◌, IsSome, IfSome, option_map, slice_get, Result, Ok, Err, OnOk, OnErr}
 use Rattle.std.proofs.lemmas.Bool.{cases_eq, cases_lt}
 use Rattle.std.proofs.lemmas.List.{get_or-set_same, get_or-set_other, get_or_read, set_past, length-set}
-use Rattle.std.specs.FinMap.{get-empty}
 use mathlib.Core.Path.{fun_ext}
 use Rattle.oe_values.specs.declared.numbers.TheConstants.{TERMINALS}
-use Rattle.oe_keys.specs.Key.{warehouse_cmp, district_cmp, customer_cmp, history_cmp, new_order_cmp, order_cmp, order_line_cmp, item_cmp, stock_cmp}
 use Rattle.oe_keys.specs.declared.keys.Key.{Key}
-use Rattle.oe_keys.specs.declared.keys.Key.TheVariants as key
 use Rattle.oe_requests.specs.declared.requests.Request.{Request}
 use Rattle.oe_requests.specs.declared.replies.Reply.{Reply}
 use Rattle.oe_model.specs.Rows.{is_key}
 use Rattle.oe_model.specs.Changes.{Record, record_key}
 use Rattle.oe_model.specs.System.{system, terminal_limit}
-use Rattle.oe_model.proofs.RowFacts.{key_true, key_refl}
+use Rattle.oe_model.proofs.RowFacts.{key_refl}
 use Rattle.oe_theory.specs.Store.{all_below}
 use Rattle.oe_layout.specs.declared.links.RecordAddress.{RecordAddress}
 use Rattle.oe_layout.specs.declared.links.Previous.{Previous}
@@ -33,7 +30,9 @@ use Rattle.oe_chains.proofs.ChainFacts.{own, chain_open, chain-open, seen_again}
 use Rattle.oe_chains.proofs.LinkFacts.{sees_alone}
 use Rattle.oe_chains.proofs.CallFacts as calls
 use Rattle.oe_links.specs.declared.links.OwnedLink.{OwnedLink}
-use Rattle.oe_links.specs.Links.{LinkMaps, place_of, links_of, link_in, no_links, HasPlace, SetsLink}
+use Rattle.oe_links.specs.Links.{LinkMaps, place_of, links_of, link_in, no_links, HasPlace, SetsLink, GivesPlaces, LeadsTo}
+use Rattle.oe_links.proofs.LinkFacts.{no_link}
+use Rattle.oe_links.proofs.LeadFacts.{set_leads, given_links}
 use Rattle.oe_undo.specs.Owners.{MomentList, no_moments, moments_at, moments_of, holder_of, followed, next_owner, IsOwner, AreOwned, AreIdle, AreMoments, IsLinked, IsMadeBy, IsMade}
 use Rattle.oe_undo.specs.Undo.{UndoState, unended, GivesBack}
 use Rattle.oe_segments.proofs.StateFacts.{some_of, known, pushed_popped}
@@ -44,17 +43,6 @@ use Rattle.oe_undo.proofs.OwnerFacts as owner
 pub is_whole : (u : SegmentLog) (h : ℕ) → length u.terminals ≡ suc TERMINALS → h + length u.committed ≡ total_count u → IsWhole u
 unfolding terminal_limit
 is_whole u h size sum = record { terminals = size; commits = omega (arith, sum) }
-
-no_link : (k : Key) → links_of no_links k ≡ None
-no_link (key.Warehouse k) = ap link_in (get-empty warehouse_cmp k)
-no_link (key.District k) = ap link_in (get-empty district_cmp k)
-no_link (key.Customer k) = ap link_in (get-empty customer_cmp k)
-no_link (key.History k) = ap link_in (get-empty history_cmp k)
-no_link (key.NewOrder k) = ap link_in (get-empty new_order_cmp k)
-no_link (key.Order k) = ap link_in (get-empty order_cmp k)
-no_link (key.OrderLine k) = ap link_in (get-empty order_line_cmp k)
-no_link (key.Item k) = ap link_in (get-empty item_cmp k)
-no_link (key.Stock k) = ap link_in (get-empty stock_cmp k)
 
 no_owned : (l : OwnedLink) (P : Type 0) → None ≡ Some l → P
 no_owned l P e = cc
@@ -162,33 +150,18 @@ module _ (u w : SegmentLog) (t : ℕ) (rs : List Logged) (is : w ≡ with_record
 
 -- ---- a key's link is set
 
-set_in : (b : Bool) (l : Option OwnedLink) (p : Option (Option OwnedLink)) → link_in (cond b (Some l) p) ≡ cond b l (link_in p)
-set_in true l p = refl
-set_in false l p = refl
-
--- the key has this link, other keys have theirs
-pub set_links : (old new : LinkMaps) (k : Key) (l : Option OwnedLink) → SetsLink old new k l → (j : Key) → links_of new j ≡ cond (is_key k j) l (links_of old j)
-set_links old new k l sets j = ap link_in (sets j) ∙ set_in (is_key k j) l (place_of old j)
-
-own_link : (links : Key → Option OwnedLink) (k j : Key) → cond (is_key k j) (links k) (links j) ≡ links j
-own_link links k j = go (is_key k j) refl
-  where
-    go : (b : Bool) → is_key k j ≡ b → cond b (links k) (links j) ≡ links j
-    go true e = ap links (key_true k j e)
-    go false e = refl
-
--- a key gets a place, and keeps its link, if it has one
-pub add_linked : {T E : Type 0} (r : Result T E) (u : SegmentLog) (old new : LinkMaps) (ms : List MomentList) (k : Key) → OnOk r (SetsLink old new k (links_of old k)) → OnErr r (new ≡ old)
+-- a key gets a place, and those that come with it; each keeps its link, if it has one
+pub add_linked : {T E : Type 0} (r : Result T E) (u : SegmentLog) (old new : LinkMaps) (ms : List MomentList) (k : Key) → OnOk r (GivesPlaces old new k) → OnErr r (new ≡ old)
     → IsLinked u (links_of old) ms → IsLinked u (links_of new) ms
-add_linked (Ok x) u old new ms k sets same c =
-    let all : links_of new ≡ links_of old = fun_ext (λ j. set_links old new k (links_of old k) sets j ∙ own_link (links_of old) k j) in
+add_linked (Ok x) u old new ms k given same c =
+    let all : links_of new ≡ links_of old = fun_ext (given_links old new k given) in
     subst (λ ls. IsLinked u ls ms) (sym all) c
-add_linked (Err e) u old new ms k sets same c = subst (λ maps. IsLinked u (links_of maps) ms) (sym same) c
+add_linked (Err e) u old new ms k given same c = subst (λ maps. IsLinked u (links_of maps) ms) (sym same) c
 
 -- that of each key which has one
-set_owned : (u : SegmentLog) (old new : LinkMaps) (k : Key) (l : Option OwnedLink) → SetsLink old new k l → ((x : OwnedLink) → l ≡ Some x → IsOwner u x.owner)
+set_owned : (u : SegmentLog) (old new : LinkMaps) (k : Key) (l : Option OwnedLink) → LeadsTo old new k l → ((x : OwnedLink) → l ≡ Some x → IsOwner u x.owner)
     → AreOwned u (links_of old) → AreOwned u (links_of new)
-set_owned u old new k l sets this owned j x is = go (is_key k j) (sym (set_links old new k l sets j) ∙ is)
+set_owned u old new k l leads this owned j x is = go (is_key k j) (sym (leads.links j) ∙ is)
   where
     go : (b : Bool) → cond b l (links_of old j) ≡ Some x → IsOwner u x.owner
     go true e = this x e
@@ -213,15 +186,15 @@ module _ (u w : SegmentLog) (t : ℕ) (a : RecordAddress) (p : Previous) (b : Re
 
   -- a record more, to which its key's link leads
   pub push_linked : (old new : LinkMaps) (ms : List MomentList) (k : Key) (n : SegmentOwner) → IsWhole u → link_from (Open t) p ≡ followed u (links_of old (record_key b)) → k ≡ record_key b
-      → n ≡ next_owner u t → SetsLink old new k (Some (record { address = a; owner = n })) → IsLinked u (links_of old) ms → IsLinked w (links_of new) ms
+      → n ≡ next_owner u t → LeadsTo old new k (Some (record { address = a; owner = n })) → IsLinked u (links_of old) ms → IsLinked w (links_of new) ms
   push_linked old new ms k n whole leads own_key by any_sets c =
       let o = some_of (active_at u t) some in
       let l : Option OwnedLink = Some (record { address = a; owner = next_owner u t }) in
-      let keyed : SetsLink old new (record_key b) (Some (record { address = a; owner = n })) = subst (λ (j : Key). SetsLink old new j (Some (record { address = a; owner = n }))) own_key any_sets in
-      let sets : SetsLink old new (record_key b) l = subst (λ (x : SegmentOwner). SetsLink old new (record_key b) (Some (record { address = a; owner = x }))) by keyed in
+      let keyed : LeadsTo old new (record_key b) (Some (record { address = a; owner = n })) = subst (λ (j : Key). LeadsTo old new j (Some (record { address = a; owner = n }))) own_key any_sets in
+      let sets : LeadsTo old new (record_key b) l = subst (λ (x : SegmentOwner). LeadsTo old new (record_key b) (Some (record { address = a; owner = x }))) by keyed in
       let links : ◌≡◌ {A = Key → Option Link} (linked (λ j. followed u (links_of old j)) (record_key b) (Some (record { address = a; holder = Open t }))) (λ j. followed u (links_of new j)) =
       fun_ext (λ j. ap (λ z. cond (is_key (record_key b) j) z (followed u (links_of old j))) (sym (next_followed u t a)) ∙ sym (followed_cond u (is_key (record_key b) j) l (links_of old j))
-      ∙ ap (followed u) (sym (set_links old new (record_key b) l sets j))) in
+      ∙ ap (followed u) (sym (sets.links j))) in
       let chained : AreChained w (λ j. followed u (links_of new j)) =
       subst (λ v. AreChained v (λ j. followed u (links_of new j))) (sym is)
       (subst (AreChained (pushed u t (logged a p b))) links (calls.pushes u (λ j. followed u (links_of old j)) t o.0 (logged a p b) whole o.1 leads c.chained)) in
@@ -463,8 +436,8 @@ module _ (u : SegmentLog) (old : LinkMaps) (t : ℕ) (p : Previous) (b : Record)
       subst (λ v. AreChained v before) (sym gone)
       (subst (AreChained (popped u t)) links (calls.pops u (λ j. followed u (links_of old j)) t n.first n.older whole n.are c.chained)) in
       record {
-        chained = owner.chained_anew w before (λ j. followed w (links_of new j)) left chained (λ j. by_key (is_key (record_key b) j) j (set_links old new (record_key b) l sets j));
-        owned = replaced_owned u w t rs gone (links_of new) (set_owned u old new (record_key b) l sets owner_of_l c.owned);
+        chained = owner.chained_anew w before (λ j. followed w (links_of new j)) left chained (λ j. by_key (is_key (record_key b) j) j ((set_leads old new (record_key b) l sets).links j));
+        owned = replaced_owned u w t rs gone (links_of new) (set_owned u old new (record_key b) l (set_leads old new (record_key b) l sets) owner_of_l c.owned);
         moments = replaced_moments u w t rs gone ms c.moments;
       }
     where

@@ -12,7 +12,7 @@ use Rattle.oe_chains.specs.declared.links.Holder.TheVariants.{Open}
 use Rattle.oe_chains.specs.Held.{horizon, is_later}
 use Rattle.oe_chains.specs.Chains.{link_from}
 use Rattle.oe_links.specs.declared.links.OwnedLink.{OwnedLink}
-use Rattle.oe_links.specs.Links.{LinkMaps, place_of, links_of, SetsLink}
+use Rattle.oe_links.specs.Links.{LinkMaps, place_of, links_of, SetsLink, LeadsTo}
 use Rattle.oe_undo.specs.Owners.{followed, next_owner}
 use Rattle.oe_undo.specs.declared.pushes.CantPush.{CantPush}
 use Rattle.oe_undo.specs.declared.pushes.CantPush.TheVariants as cant_push
@@ -31,7 +31,7 @@ pub record HasPushed (old new : UndoState) (t : ℕ) (p : Previous) (b : Record)
   pub address : RecordAddress
   pub fresh : IsFresh (log_of old.log) address
   pub log : new.log ≡ pushed old.log t (logged address p b)
-  pub link : SetsLink old.links new.links (record_key b) (Some (record { address = address; owner = next_owner old.log t }))
+  pub link : LeadsTo old.links new.links (record_key b) (Some (record { address = address; owner = next_owner old.log t }))
 
 -- why a record is not pushed: it fits neither the rest of the terminal's newest extent nor a free one; or it does, and memory was
 -- refused for the place of its key's link

@@ -5,7 +5,7 @@ ghost use Rattle.oe_chains.specs.declared.links.Holder.TheVariants.{Open};
 ghost use Rattle.oe_chains.specs.Held.{horizon};
 ghost use Rattle.oe_chains.specs.Chains.{link_from, AreChained};
 ghost use Rattle.oe_chains.specs.Laws.{IsWhole};
-ghost use Rattle.oe_links.specs.Links.{place_of, links_of, no_links, SetsLink};
+ghost use Rattle.oe_links.specs.Links.{place_of, HasPlace, no_links, GivesPlaces};
 ghost use Rattle.oe_undo.specs.Owners.{followed, holder_of, AreMoments, IsMade, IsOwner};
 ghost use Rattle.oe_undo.specs.Undo.{seen, unended};
 
@@ -130,11 +130,12 @@ impl Undo {
         let _horizon = self.segments.horizon();
     }
 
-    /// Gives a key without a place for its link an empty one; `NoMemory` where memory for it was refused. A key that has one keeps it.
+    /// Gives a key without a place for its link an empty one, and those that come with it; `NoMemory` where memory for them was refused.
+    /// A key that has one keeps it.
     pub fn add_place(&mut self, key: &Key) -> Result<(), NoMemory>
         ensures log { self.new.log ≡ self.old.log }
-        ensures added { OnOk result
-            (SetsLink self.old.links self.new.links key.now (links_of self.old.links key.now)) }
+        ensures given { OnOk result (GivesPlaces self.old.links self.new.links key.now) }
+        ensures own { OnOk result (HasPlace self.new.links key.now) }
         ensures no_place { OnErr result (place_of self.old.links key.now ≡ None) }
         ensures err { OnErr result (self.new ≡ self.old) }
     {

@@ -1,5 +1,8 @@
 -- Why a record can't be pushed.
-use Rattle.std.proofs.Common.{subst}
+use Rattle.std.proofs.Common.{◌≡◌, subst, None}
+use Rattle.oe_keys.specs.declared.keys.Key.{Key}
+use Rattle.oe_records.specs.Writes.{key_written}
+use Rattle.oe_links.specs.Links.{place_of}
 use Rattle.oe_model.specs.Lengths.{record_length}
 use Rattle.oe_layout.specs.Records.{record_of_lent}
 use Rattle.oe_store.specs.Places.{rows}
@@ -9,7 +12,8 @@ use Rattle.oe_undo.specs.Undo.{IsUnpushed}
 use Rattle.oe_journal.specs.Records.{record_of_write}
 use Rattle.oe_journal.specs.Writes.{Full, Refused}
 use Rattle.oe_journal.proofs.MoreFacts.{of_some}
-use Rattle.oe_journal.proofs.WriteFacts.{absent_write}
+use Rattle.oe_journal.proofs.LinkFacts.{unplaced}
+use Rattle.oe_journal.proofs.WriteFacts.{absent_write, record_written, writes_may}
 use Rattle.oe_journal.proofs.writes.push.Goals as goal
 
 pub returns-in-Err-clause-cause : goal.returns-in-Err-clause-cause
@@ -28,3 +32,10 @@ returns-in-Err-NoMemory-clause-cause c =
     Refused c.unplaced.result
     (of_some (λ b. IsFull (log_of c.args.undo.now.log) c.args.segment (record_length b) → ⊥) (record_of_write c.args.write.now (rows c.args.tables.now))
     (record_of_lent c.in-Ok.before) c.in-Ok.ensures.lent cause.0) c.unplaced.ensures
+
+pub unplaced-requires-clause-unplaced : goal.unplaced-requires-clause-unplaced
+unplaced-requires-clause-unplaced c =
+    let cause = subst (IsUnpushed c.args.undo.now c.args.segment (record_of_lent c.in-Ok.before)) c.in-Err-NoMemory.field-0-is c.in-Err-NoMemory.ensures.cause in
+    let own = record_written c.args.write.now (rows c.args.tables.now) (record_of_lent c.in-Ok.before) c.in-Ok.ensures.lent in
+    unplaced c.args.tables.now c.args.undo.now.links (key_written c.args.write.now) (writes_may c.args.write.now) c.requires.linked
+    (subst (λ (k : Key). place_of c.args.undo.now.links k ≡ None) own cause.1)

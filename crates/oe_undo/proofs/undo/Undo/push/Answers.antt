@@ -1,5 +1,5 @@
 -- A record more, behind the one to which its key's link led.
-use Rattle.std.proofs.Common.{◌≡◌, sym, ap, subst, ◌∙◌, Option, Some}
+use Rattle.std.proofs.Common.{◌≡◌, sym, ap, subst, ◌∙◌, Option, Some, is_some}
 use Rattle.oe_keys.specs.declared.keys.Key.{Key}
 use Rattle.oe_model.specs.Changes.{record_key}
 use Rattle.oe_layout.specs.Records.{record_of_lent}
@@ -8,8 +8,9 @@ use Rattle.oe_segments.specs.declared.heads.SegmentOwner.{SegmentOwner}
 use Rattle.oe_segments.specs.Segments.{SegmentLog, pushed}
 use Rattle.oe_chains.specs.Chains.{IsAlone}
 use Rattle.oe_links.specs.declared.links.OwnedLink.{OwnedLink}
-use Rattle.oe_links.specs.Links.{LinkMaps, links_of, SetsLink}
+use Rattle.oe_links.specs.Links.{LinkMaps, links_of, HasPlace, SetsLink, LeadsTo}
 use Rattle.oe_links.proofs.LinkFacts.{on_row, sets_with, with_same}
+use Rattle.oe_links.proofs.LeadFacts.{set_leads}
 use Rattle.oe_undo.specs.Owners.{next_owner, IsLinked}
 use Rattle.oe_undo.proofs.ChainedFacts.{push_linked, push_leads}
 use Rattle.oe_undo.proofs.undo.Undo.push.Goals as goal
@@ -63,23 +64,27 @@ invariant_of-self-2 c =
     in
     let l : Option OwnedLink = Some (record { address = c.in-Ok.address; owner = c.owner-owner.result }) in
     let set = on_row c.place_mut.result c.in-Some.place c.in-Some.is (c.place_mut.follows.holds l) in
+    let had : HasPlace c.self.inside.links c.key-key.result = ap is_some (sym c.in-Some.ensures.place) in
     let sets : SetsLink c.self.inside.links (c.place_mut.follows.lender l) c.key-key.result l =
-    subst (λ (m : LinkMaps). SetsLink c.self.inside.links m c.key-key.result l) (sym set) (sets_with c.self.inside.links c.key-key.result l)
+    subst (λ (m : LinkMaps). SetsLink c.self.inside.links m c.key-key.result l) (sym set) (sets_with c.self.inside.links c.key-key.result l had)
     in
+    let leads_to = set_leads c.self.inside.links (c.place_mut.follows.lender l) c.key-key.result l sets in
     push_linked c.self.inside.segments c.push.new.self c.args.segment c.in-Ok.address lent.previous (record_of_lent lent.record) some c.in-Ok.ensures.pushed
-    c.self.inside.links (c.place_mut.follows.lender l) c.self.inside.moments.items c.key-key.result c.owner-owner.result whole leads own c.owner-owner.ensures sets c.self.invariant
+    c.self.inside.links (c.place_mut.follows.lender l) c.self.inside.moments.items c.key-key.result c.owner-owner.result whole leads own c.owner-owner.ensures leads_to c.self.invariant
 
 pub returns-clause-pushed : goal.returns-clause-pushed
 returns-clause-pushed c =
     let own : c.key-key.result ≡ record_key (record_of_lent c.args.lent.now.record) = c.key-key.ensures ∙ ap (λ x. record_key (record_of_lent x.record)) c.shared.ensures.value in
     let l : Option OwnedLink = Some (record { address = c.in-Ok.address; owner = c.owner-owner.result }) in
     let set = on_row c.place_mut.result c.in-Some.place c.in-Some.is (c.place_mut.follows.holds l) in
+    let had : HasPlace c.self.inside.links c.key-key.result = ap is_some (sym c.in-Some.ensures.place) in
     let sets : SetsLink c.self.inside.links (c.place_mut.follows.lender l) c.key-key.result l =
-    subst (λ (m : LinkMaps). SetsLink c.self.inside.links m c.key-key.result l) (sym set) (sets_with c.self.inside.links c.key-key.result l)
+    subst (λ (m : LinkMaps). SetsLink c.self.inside.links m c.key-key.result l) (sym set) (sets_with c.self.inside.links c.key-key.result l had)
     in
-    let linked : SetsLink c.self.inside.links (c.place_mut.follows.lender l) (record_key (record_of_lent c.args.lent.now.record)) (Some (record { address = c.in-Ok.address; owner = next_owner c.self.inside.segments c.args.segment })) =
-    subst (λ (k : Key). SetsLink c.self.inside.links (c.place_mut.follows.lender l) k (Some (record { address = c.in-Ok.address; owner = next_owner c.self.inside.segments c.args.segment }))) own
-    (subst (λ (n : SegmentOwner). SetsLink c.self.inside.links (c.place_mut.follows.lender l) c.key-key.result (Some (record { address = c.in-Ok.address; owner = n }))) c.owner-owner.ensures sets)
+    let leads_to = set_leads c.self.inside.links (c.place_mut.follows.lender l) c.key-key.result l sets in
+    let linked : LeadsTo c.self.inside.links (c.place_mut.follows.lender l) (record_key (record_of_lent c.args.lent.now.record)) (Some (record { address = c.in-Ok.address; owner = next_owner c.self.inside.segments c.args.segment })) =
+    subst (λ (k : Key). LeadsTo c.self.inside.links (c.place_mut.follows.lender l) k (Some (record { address = c.in-Ok.address; owner = next_owner c.self.inside.segments c.args.segment }))) own
+    (subst (λ (n : SegmentOwner). LeadsTo c.self.inside.links (c.place_mut.follows.lender l) c.key-key.result (Some (record { address = c.in-Ok.address; owner = n }))) c.owner-owner.ensures leads_to)
     in
     let lent = c.shared-linked.result.now in
     let kept = ap (λ x. x.record) c.shared-linked.ensures.value ∙ c.lead_from.ensures.record ∙ ap (λ x. x.record) c.shared.follows.holds-at-none in
