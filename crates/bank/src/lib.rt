@@ -10,7 +10,7 @@ ghost use Rattle.bank.specs.Bank.{bank};
 ghost use Rattle.bank.specs.Conditions.{HasMoney};
 
 /// What a transaction can lock.
-#[derive(Clone, Copy, Debug, PartialEq, Eq)]
+#[derive(Clone, Copy, PartialEq, Eq)]
 pub enum Name {
     OfAccount(u64),
     OfQueue(u64),

@@ -6,7 +6,7 @@ use oe_layout::{Previous, RecordAddress};
 use oe_values::{Moment, Terminal};
 
 /// Whose a record is.
-#[derive(Clone, Copy, Debug, PartialEq, Eq)]
+#[derive(Clone, Copy, PartialEq, Eq)]
 pub enum Holder {
     /// That terminal's open transaction's.
     Open(Terminal),
@@ -15,7 +15,7 @@ pub enum Holder {
 }
 
 /// Where a key's newest record lies, and whose it is.
-#[derive(Clone, Copy, Debug, PartialEq, Eq)]
+#[derive(Clone, Copy, PartialEq, Eq)]
 pub struct Link {
     pub address: RecordAddress,
     pub holder: Holder,

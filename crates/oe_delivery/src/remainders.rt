@@ -10,7 +10,7 @@ use oe_values::{Cents, CustomerNumber, LineAmount, LineNumber, OrderNumber};
 use std::marker::Model;
 
 /// OL_NUMBER of a line, in a list of such numbers.
-#[derive(Clone, Copy, Debug)]
+#[derive(Clone, Copy)]
 pub struct Listed {
     number: LineNumber,
 }
@@ -46,7 +46,7 @@ impl Default for Listed {
 pub type LineNumbers = Lines<Listed, 0, 15>;
 
 /// An order that has its carrier, with the numbers of its lines, how many of them are dated, and the sum of their OL_AMOUNTs.
-#[derive(Drop, Debug)]
+#[derive(Drop)]
 pub struct Remainder {
     order: OrderNumber,
     customer: CustomerNumber,

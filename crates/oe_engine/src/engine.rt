@@ -78,7 +78,7 @@ impl Model for Tx {
 }
 
 /// A mark in a transaction: how many records it had made.
-#[derive(Clone, Copy, Debug, PartialEq, Eq)]
+#[derive(Clone, Copy, PartialEq, Eq)]
 pub struct Mark {
     records: usize,
 }

@@ -4,14 +4,14 @@ use oe_keys::{Mode, Name};
 use oe_requests::Refusal;
 
 /// A lock that a stage asks for before its work.
-#[derive(Clone, Copy, Debug, PartialEq, Eq)]
+#[derive(Clone, Copy)]
 pub struct Lock {
     pub name: Name,
     pub mode: Mode,
 }
 
 /// How one stage of a program ends.
-#[derive(Drop, Debug, PartialEq, Eq)]
+#[derive(Drop)]
 pub enum Progress {
     /// It is done, and there is a further one.
     More,

@@ -234,7 +234,7 @@ pub fn line_reply(line: RequestLine, item: &Item, stock: &Stock) -> LineReply
 }
 
 /// What a new order has read before its lines: O_ID, W_TAX, D_TAX, C_DISCOUNT, C_LAST and C_CREDIT.
-#[derive(Drop, Debug, PartialEq, Eq)]
+#[derive(Drop)]
 pub struct Seen {
     pub order: OrderNumber,
     pub warehouse_tax: Rate,

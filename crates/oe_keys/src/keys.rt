@@ -13,20 +13,20 @@ use oe_values::numbers::{
 use std::fmt;
 
 /// The key of a WAREHOUSE row: W_ID.
-#[derive(Clone, Copy, Debug, PartialEq, Eq, PartialOrd, Ord, Hash)]
+#[derive(Clone, Copy, PartialEq, Eq, PartialOrd, Ord, Hash)]
 pub struct WarehouseKey {
     pub warehouse: WarehouseNumber,
 }
 
 /// The key of a DISTRICT row: D_W_ID, D_ID.
-#[derive(Clone, Copy, Debug, PartialEq, Eq, PartialOrd, Ord, Hash)]
+#[derive(Clone, Copy, PartialEq, Eq, PartialOrd, Ord, Hash)]
 pub struct DistrictKey {
     pub warehouse: WarehouseNumber,
     pub district: DistrictNumber,
 }
 
 /// The key of a CUSTOMER row: C_W_ID, C_D_ID, C_ID.
-#[derive(Clone, Copy, Debug, PartialEq, Eq, PartialOrd, Ord, Hash)]
+#[derive(Clone, Copy, PartialEq, Eq, PartialOrd, Ord, Hash)]
 pub struct CustomerKey {
     pub warehouse: WarehouseNumber,
     pub district: DistrictNumber,
@@ -35,7 +35,7 @@ pub struct CustomerKey {
 
 /// The key of a HISTORY row, which the standard leaves without one: the terminal, the number of the transaction among
 /// the terminal's, and the row's ordinal in the transaction.
-#[derive(Clone, Copy, Debug, PartialEq, Eq, PartialOrd, Ord)]
+#[derive(Clone, Copy, PartialEq, Eq, PartialOrd, Ord)]
 pub struct HistoryKey {
     pub terminal: HistoryTerminal,
     pub number: TransactionNumber,
@@ -43,7 +43,7 @@ pub struct HistoryKey {
 }
 
 /// The key of a NEW-ORDER row: NO_W_ID, NO_D_ID, NO_O_ID.
-#[derive(Clone, Copy, Debug, PartialEq, Eq, PartialOrd, Ord)]
+#[derive(Clone, Copy, PartialEq, Eq, PartialOrd, Ord)]
 pub struct NewOrderKey {
     pub warehouse: WarehouseNumber,
     pub district: DistrictNumber,
@@ -51,7 +51,7 @@ pub struct NewOrderKey {
 }
 
 /// The key of an ORDER row: O_W_ID, O_D_ID, O_ID.
-#[derive(Clone, Copy, Debug, PartialEq, Eq, PartialOrd, Ord, Hash)]
+#[derive(Clone, Copy, PartialEq, Eq, PartialOrd, Ord, Hash)]
 pub struct OrderKey {
     pub warehouse: WarehouseNumber,
     pub district: DistrictNumber,
@@ -59,7 +59,7 @@ pub struct OrderKey {
 }
 
 /// The key of an ORDER-LINE row: OL_W_ID, OL_D_ID, OL_O_ID, OL_NUMBER.
-#[derive(Clone, Copy, Debug, PartialEq, Eq, PartialOrd, Ord)]
+#[derive(Clone, Copy, PartialEq, Eq, PartialOrd, Ord)]
 pub struct OrderLineKey {
     pub warehouse: WarehouseNumber,
     pub district: DistrictNumber,
@@ -68,20 +68,20 @@ pub struct OrderLineKey {
 }
 
 /// The key of an ITEM row: I_ID.
-#[derive(Clone, Copy, Debug, PartialEq, Eq, PartialOrd, Ord)]
+#[derive(Clone, Copy, PartialEq, Eq, PartialOrd, Ord)]
 pub struct ItemKey {
     pub item: ItemNumber,
 }
 
 /// The key of a STOCK row: S_W_ID, S_I_ID.
-#[derive(Clone, Copy, Debug, PartialEq, Eq, PartialOrd, Ord, Hash)]
+#[derive(Clone, Copy, PartialEq, Eq, PartialOrd, Ord, Hash)]
 pub struct StockKey {
     pub warehouse: WarehouseNumber,
     pub item: ItemNumber,
 }
 
 /// The key of a row of any table.
-#[derive(Clone, Copy, Debug, PartialEq, Eq)]
+#[derive(Clone, Copy, PartialEq, Eq)]
 pub enum Key {
     Warehouse(WarehouseKey),
     District(DistrictKey),
@@ -95,7 +95,7 @@ pub enum Key {
 }
 
 /// The nine tables (clause 1.2.1).
-#[derive(Clone, Copy, Debug, PartialEq, Eq)]
+#[derive(Clone, Copy)]
 pub enum Table {
     Warehouse,
     District,

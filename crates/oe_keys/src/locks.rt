@@ -7,7 +7,7 @@ use crate::texts::write_name;
 use std::fmt;
 
 /// What a transaction locks: a row, or the queue of a district's orders that are not yet delivered.
-#[derive(Clone, Copy, Debug, PartialEq, Eq, Hash)]
+#[derive(Clone, Copy, PartialEq, Eq, Hash)]
 pub enum Name {
     Warehouse(WarehouseKey),
     District(DistrictKey),
@@ -18,7 +18,7 @@ pub enum Name {
 }
 
 /// How a name is held: with others, or alone.
-#[derive(Clone, Copy, Debug, PartialEq, Eq)]
+#[derive(Clone, Copy, PartialEq, Eq)]
 pub enum Mode {
     Shared,
     Exclusive,

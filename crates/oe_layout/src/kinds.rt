@@ -7,7 +7,7 @@ use oe_bytes::numbers::read_number;
 use oe_image::Imaged;
 
 /// What was done to a row of which table, of the changes that the standard's transactions make (clauses 2.4.2, 2.5.2 and 2.7.4).
-#[derive(Clone, Copy, Debug, PartialEq, Eq)]
+#[derive(Clone, Copy)]
 pub enum RecordKind {
     InsertedHistory,
     InsertedNewOrder,

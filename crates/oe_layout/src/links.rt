@@ -9,14 +9,14 @@ use oe_values::numbers::{Moment, Number};
 
 /// Where a record lies in the ring: the number of an extent, from 0 to 4,095, and the offset of the record's first byte there,
 /// from 0 to 4,095.
-#[derive(Clone, Copy, Debug, PartialEq, Eq)]
+#[derive(Clone, Copy, PartialEq, Eq)]
 pub struct RecordAddress {
     pub extent: Number<0, 4_095>,
     pub offset: Number<0, 4_095>,
 }
 
 /// The previous record of the same row.
-#[derive(Clone, Copy, Debug, PartialEq, Eq)]
+#[derive(Clone, Copy, PartialEq, Eq)]
 pub enum Previous {
     /// There is none.
     Nothing,

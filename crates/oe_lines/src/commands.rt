@@ -10,14 +10,14 @@ use oe_values::{Moment, Number, Terminal};
 pub type ExtentCount = Number<2, 4_096>;
 
 /// The newest moment, or one by its number.
-#[derive(Clone, Copy, Debug, PartialEq, Eq)]
+#[derive(Clone, Copy)]
 pub enum MomentChoice {
     Now,
     At(Moment),
 }
 
 /// What a line asks for.
-#[derive(Drop, Debug, PartialEq, Eq)]
+#[derive(Drop)]
 pub enum Command {
     /// Opens a population of that scale, with so many extents.
     Open(Scale, ExtentCount),

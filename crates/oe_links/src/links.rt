@@ -24,7 +24,7 @@ use std::marker::Model;
 
 /// Where a key's newest record lies, and which transaction's it is. Whether that is open, or at which moment it committed, is the log's
 /// to know, so that no commit changes a link.
-#[derive(Clone, Copy, Debug, PartialEq, Eq)]
+#[derive(Clone, Copy, PartialEq, Eq)]
 pub struct OwnedLink {
     pub address: RecordAddress,
     pub owner: SegmentOwner,

@@ -8,7 +8,7 @@ use oe_keys::Mode;
 use oe_values::Terminal;
 
 /// Who holds a name, and so in which mode: one terminal alone, exclusively, or some terminals, each as shared.
-#[derive(Clone, Copy, Debug)]
+#[derive(Clone, Copy)]
 pub enum Holders {
     Alone(Terminal),
     Together(TerminalSet),

@@ -30,7 +30,7 @@ use std::alloc::{AllocError, Global};
 use std::marker::Model;
 
 /// Which terminals hold which names, each in a mode: shared or exclusive.
-#[derive(Debug, Drop)]
+#[derive(Drop)]
 pub struct Locks {
     // Who holds each name that is held.
     holders: NameMap,

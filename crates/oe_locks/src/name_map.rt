@@ -18,7 +18,7 @@ use std::marker::Model;
 const FEW: usize = 8;
 
 /// The names that are held, each with its holders, which clauses see as a list.
-#[derive(Debug, Drop)]
+#[derive(Drop)]
 pub(crate) struct NameMap {
     few: Vec<(Name, Holders)>,
     // At most 64 transactions' names are keys, so nobody can make many of them collide.

@@ -6,7 +6,7 @@ use oe_values::Terminal;
 use std::marker::Model;
 
 /// A set of terminals: a bit for each, from the first terminal on.
-#[derive(Clone, Copy, Debug)]
+#[derive(Clone, Copy)]
 pub struct TerminalSet {
     bits: u64,
 }

@@ -23,7 +23,7 @@ use oe_rows::OrderLine;
 use oe_values::{LineNumber, OrderNumber};
 
 /// A line whose stock has been taken: its OL_NUMBER, its ORDER-LINE row, which is still to be inserted, and its reply.
-#[derive(Drop, Debug)]
+#[derive(Drop)]
 pub struct Filled {
     pub number: LineNumber,
     pub row: OrderLine,
@@ -32,7 +32,7 @@ pub struct Filled {
 
 /// The lines of an order while they are filled: the replies of those that are done, and the next one, once its stock has been
 /// taken. The lines themselves lie in the request.
-#[derive(Drop, Debug)]
+#[derive(Drop)]
 pub struct Filling {
     pub seen: Seen,
     pub done: LineReplies,

@@ -27,7 +27,7 @@ pub fn warehouse_tax(request: &NewOrderRequest, tables: &Tables) -> Result<Rate,
 }
 
 /// The number that an order gets, D_NEXT_O_ID after it, and D_TAX.
-#[derive(Clone, Copy, Debug)]
+#[derive(Clone, Copy)]
 pub struct Numbered {
     pub order: OrderNumber,
     pub next: OrderNumber,
@@ -76,7 +76,7 @@ pub fn seen(
 }
 
 /// What the stock row of a line comes to.
-#[derive(Drop, Debug)]
+#[derive(Drop)]
 pub enum Supply {
     /// The item is unused.
     Unused,

@@ -17,7 +17,7 @@ use oe_values::{OrderNumber, Rate};
 
 /// Where a New-Order stands: the stage that it comes to next, with what the stages before have read. Its request lies with whoever
 /// carries it out. It is of fixed size, and any value of it is a position of any request.
-#[derive(Drop, Debug)]
+#[derive(Drop)]
 pub enum Program {
     Warehouse,
     /// With W_TAX.

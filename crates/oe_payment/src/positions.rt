@@ -6,7 +6,7 @@ use oe_rows::Credit;
 use oe_values::{Balance, CustomerNumber, Text};
 
 /// The stage that a payment comes to next.
-#[derive(Clone, Copy, Debug)]
+#[derive(Clone, Copy)]
 pub enum Stage {
     Warehouse,
     District,
@@ -16,7 +16,7 @@ pub enum Stage {
 }
 
 /// The stage that a payment comes to next, and what the stages before it have read; what the later ones read is anything yet.
-#[derive(Drop, Debug)]
+#[derive(Drop)]
 pub struct Position {
     pub stage: Stage,
     /// W_NAME, once its stage is done.

@@ -14,7 +14,7 @@ use std::marker::Model;
 
 /// Where a payment stands: the stage that it comes to next, with what the stages before have read. Its request lies
 /// with whoever carries it out. It is of fixed size.
-#[derive(Drop, Debug)]
+#[derive(Drop)]
 pub struct Program {
     position: Position,
 }

@@ -9,7 +9,7 @@ use oe_values::lines::Lines;
 use std::marker::Model;
 
 /// I_ID of an item, in a list of such numbers.
-#[derive(Clone, Copy, Debug)]
+#[derive(Clone, Copy)]
 pub struct Listed {
     item: ItemNumber,
 }

@@ -15,7 +15,7 @@ use oe_rows::warehouses::Warehouse;
 
 /// The undo record of a change: its key, with the row before an update. Before an insert there is no row, and the row before
 /// a delete has no column but its key.
-#[derive(Drop, Debug)]
+#[derive(Drop)]
 pub enum Before {
     InsertedHistory(HistoryKey),
     InsertedNewOrder(NewOrderKey),

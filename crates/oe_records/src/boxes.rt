@@ -3,7 +3,6 @@ ghost use Rattle.std.specs.Prelude.{◌≡◌, IfOk};
 
 use oe_table::tables::NoMemory;
 use std::alloc::Global;
-use std::fmt;
 use std::marker::Model;
 
 /// A row in memory of its own, so that a change or an undo record with a long row is short. Clauses see the row.
@@ -50,11 +49,5 @@ impl<T: Drop> Boxed<T> {
         ensures { result ≡ self }
     {
         Box::into_inner(self.held)
-    }
-}
-
-impl<T: fmt::Debug + Drop> fmt::Debug for Boxed<T> {
-    fn fmt<W: fmt::Write>(&self, f: &mut fmt::Formatter<W>) -> fmt::Result {
-        fmt::Debug::fmt(self.row(), f)
     }
 }

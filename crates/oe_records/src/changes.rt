@@ -18,7 +18,7 @@ use std::alloc::Global;
 
 /// A change of one row, of those that the standard's transactions make (clauses 2.4.2, 2.5.2 and 2.7.4): the row that is
 /// inserted or takes another's place, under its key, or the key whose row is deleted.
-#[derive(Drop, Debug)]
+#[derive(Drop)]
 pub enum Change {
     InsertHistory(HistoryKey, History),
     InsertNewOrder(NewOrderKey),

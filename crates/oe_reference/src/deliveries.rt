@@ -87,7 +87,7 @@ fn sum_and_customer(tables: &Tables, order: &OrderKey, row: &Customer) -> Option
 }
 
 /// What the delivery of an order leaves: the ORDER row, its lines, its customer, and its reply. Its NEW-ORDER row is gone.
-#[derive(Drop, Debug)]
+#[derive(Drop)]
 pub struct Delivered {
     pub order: Order,
     pub lines: Vec<(OrderLineKey, OrderLine)>,
@@ -96,7 +96,7 @@ pub struct Delivered {
 }
 
 /// What a delivery does in a district, which it skips where no order waits.
-#[derive(Drop, Debug)]
+#[derive(Drop)]
 pub enum DistrictEffect {
     Delivered(Delivered),
     Skipped,

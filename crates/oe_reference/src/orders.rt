@@ -90,7 +90,7 @@ fn stock_after(
 }
 
 /// A line of an order as it was filled: its OL_NUMBER, its ORDER-LINE row, and its reply.
-#[derive(Drop, Debug)]
+#[derive(Drop)]
 pub struct FilledLine {
     pub number: LineNumber,
     pub row: OrderLine,
@@ -192,7 +192,7 @@ fn replies_to(lines: &[FilledLine]) -> LineReplies
 
 /// What a new order leaves: its district, its ORDER row, its lines, and its reply. A stock row after it is that after its
 /// lines; its NEW-ORDER row has no column.
-#[derive(Drop, Debug)]
+#[derive(Drop)]
 pub struct Ordered {
     pub district: District,
     pub order: Order,

@@ -17,7 +17,7 @@ use oe_values::{CustomerNumber, Terminal, TransactionNumber};
 use std::alloc::{AllocError, Global};
 
 /// What a payment leaves: its four rows, of the customer with that C_ID, and its reply.
-#[derive(Drop, Debug)]
+#[derive(Drop)]
 pub struct Paid {
     pub warehouse: Warehouse,
     pub district: District,

@@ -20,7 +20,7 @@ use std::alloc::{AllocError, Global};
 use std::cmp::Ordering;
 
 /// A customer's newest order, with its lines by OL_NUMBER.
-#[derive(Drop, Debug)]
+#[derive(Drop)]
 pub struct NewestOrder {
     pub number: OrderNumber,
     pub entry: Stamp,
@@ -29,7 +29,7 @@ pub struct NewestOrder {
 }
 
 /// What Order-Status tells of a customer.
-#[derive(Drop, Debug)]
+#[derive(Drop)]
 pub struct Status {
     pub customer: CustomerNumber,
     pub balance: Balance,

@@ -11,7 +11,7 @@ use std::fmt;
 use thiserror::Error;
 
 /// A column whose range a result may leave (clause 1.3.1).
-#[derive(Clone, Copy, Debug, PartialEq, Eq)]
+#[derive(Clone, Copy, PartialEq, Eq)]
 pub enum Column {
     WarehouseYtd,
     DistrictYtd,
@@ -59,7 +59,7 @@ impl fmt::Display for Column {
 }
 
 /// Why a step is refused.
-#[derive(Clone, Copy, Debug, PartialEq, Eq, Error)]
+#[derive(Clone, Copy, PartialEq, Eq, Error)]
 pub enum Refusal {
     /// The script's line with that number is none of the forms.
     #[error("BadLine {0}")]
@@ -112,6 +112,13 @@ pub enum Refusal {
     /// The pin word with that number holds no moment of the reader's.
     #[error("NotPinned {0}")]
     NotPinned(u64),
+}
+
+/// The same text: `Error` asks for it.
+impl fmt::Debug for Refusal {
+    fn fmt<W: fmt::Write>(&self, f: &mut fmt::Formatter<W>) -> fmt::Result {
+        fmt::Display::fmt(self, f)
+    }
 }
 
 impl Refusal {

@@ -13,14 +13,14 @@ use oe_values::stamps::Stamp;
 use oe_values::texts::{FirstName, LastName, Text};
 
 /// Whether an item and its stock are both original, printed as B, or not, printed as G (clause 2.4.2.2).
-#[derive(Clone, Copy, Debug, PartialEq, Eq)]
+#[derive(Clone, Copy, PartialEq, Eq)]
 pub enum Brand {
     Original,
     Generic,
 }
 
 /// What a payment answers (clause 2.5.3): the customer after it.
-#[derive(Drop, Debug, PartialEq, Eq)]
+#[derive(Drop, PartialEq, Eq)]
 pub struct PaymentReply {
     pub customer: CustomerNumber,
     pub last: Text<0, 16>,
@@ -29,7 +29,7 @@ pub struct PaymentReply {
 }
 
 /// What an order answers of a line (clause 2.4.3): S_QUANTITY after it, and OL_AMOUNT.
-#[derive(Clone, Copy, Debug, PartialEq, Eq)]
+#[derive(Clone, Copy, PartialEq, Eq)]
 pub struct LineReply {
     pub brand: Brand,
     pub quantity: Count,
@@ -40,7 +40,7 @@ pub struct LineReply {
 pub type LineReplies = Lines<LineReply, 0, 15>;
 
 /// What an order answers (clause 2.4.3).
-#[derive(Drop, Debug, PartialEq, Eq)]
+#[derive(Drop, PartialEq, Eq)]
 pub struct NewOrderReply {
     pub order: OrderNumber,
     pub last: Text<0, 16>,
@@ -50,7 +50,7 @@ pub struct NewOrderReply {
 }
 
 /// The order that a delivery delivered, its customer, and the sum of its lines' amounts (clause 2.7.4).
-#[derive(Clone, Copy, Debug, PartialEq, Eq)]
+#[derive(Clone, Copy, PartialEq, Eq)]
 pub struct DeliveredOrder {
     pub order: OrderNumber,
     pub customer: CustomerNumber,
@@ -58,14 +58,14 @@ pub struct DeliveredOrder {
 }
 
 /// What a delivery did in one district, which it skips where no order waits (clause 2.7.4.2).
-#[derive(Clone, Copy, Debug, PartialEq, Eq)]
+#[derive(Clone, Copy, PartialEq, Eq)]
 pub enum DistrictDelivery {
     Delivered(DeliveredOrder),
     Skipped,
 }
 
 /// What a rename answers: the new names.
-#[derive(Drop, Debug, PartialEq, Eq)]
+#[derive(Drop, PartialEq, Eq)]
 pub struct RenameReply {
     pub customer: CustomerNumber,
     pub last: LastName,
@@ -76,7 +76,7 @@ pub struct RenameReply {
 pub type DistrictDeliveries = Lines<DistrictDelivery, 10, 10>;
 
 /// What a transaction answers when it has committed.
-#[derive(Drop, Debug, PartialEq, Eq)]
+#[derive(Drop, PartialEq, Eq)]
 pub enum Reply {
     Payment(PaymentReply),
     NewOrder(NewOrderReply),
@@ -86,7 +86,7 @@ pub enum Reply {
 }
 
 /// A line of a customer's newest order (clause 2.6.3).
-#[derive(Clone, Copy, Debug, PartialEq, Eq)]
+#[derive(Clone, Copy, PartialEq, Eq)]
 pub struct StatusLine {
     pub supply: WarehouseNumber,
     pub item: ItemNumber,
@@ -99,7 +99,7 @@ pub struct StatusLine {
 pub type StatusLines = Lines<StatusLine, 0, 15>;
 
 /// A customer's newest order (clause 2.6.3).
-#[derive(Drop, Debug, PartialEq, Eq)]
+#[derive(Drop, PartialEq, Eq)]
 pub struct OrderStatus {
     pub number: OrderNumber,
     pub entry: Stamp,
@@ -108,7 +108,7 @@ pub struct OrderStatus {
 }
 
 /// What an order status answers (clause 2.6.3), with no order where the customer has none.
-#[derive(Drop, Debug, PartialEq, Eq)]
+#[derive(Drop, PartialEq, Eq)]
 pub struct StatusReply {
     pub customer: CustomerNumber,
     pub balance: Balance,
@@ -116,7 +116,7 @@ pub struct StatusReply {
 }
 
 /// What a query answers.
-#[derive(Drop, Debug, PartialEq, Eq)]
+#[derive(Drop, PartialEq, Eq)]
 pub enum QueryReply {
     Status(StatusReply),
     Level(LowStock),

@@ -13,14 +13,14 @@ use oe_values::stamps::Stamp;
 use oe_values::texts::{FirstName, LastName};
 
 /// A customer by C_ID, or by C_LAST (clauses 2.5.1.2 and 2.6.1.2).
-#[derive(Drop, Debug, PartialEq, Eq)]
+#[derive(Drop)]
 pub enum CustomerChoice {
     Number(CustomerNumber),
     LastName(LastName),
 }
 
 /// A payment at a district, by a customer of that or another one (clause 2.5.1).
-#[derive(Drop, Debug, PartialEq, Eq)]
+#[derive(Drop)]
 pub struct PaymentRequest {
     pub district: DistrictKey,
     pub customer_district: DistrictKey,
@@ -30,7 +30,7 @@ pub struct PaymentRequest {
 }
 
 /// One item of an order (clause 2.4.1.5).
-#[derive(Clone, Copy, Debug, PartialEq, Eq)]
+#[derive(Clone, Copy)]
 pub struct RequestLine {
     pub supply: WarehouseNumber,
     pub item: RequestedItem,
@@ -41,7 +41,7 @@ pub struct RequestLine {
 pub type RequestLines = Lines<RequestLine, 5, 15>;
 
 /// An order (clause 2.4.1).
-#[derive(Drop, Debug, PartialEq, Eq)]
+#[derive(Drop)]
 pub struct NewOrderRequest {
     pub district: DistrictKey,
     pub customer: CustomerNumber,
@@ -50,7 +50,7 @@ pub struct NewOrderRequest {
 }
 
 /// The delivery of the oldest order of one district (clause 2.7.1).
-#[derive(Clone, Copy, Debug, PartialEq, Eq)]
+#[derive(Clone, Copy)]
 pub struct DeliveryRequest {
     pub district: DistrictKey,
     pub carrier: Carrier,
@@ -58,7 +58,7 @@ pub struct DeliveryRequest {
 }
 
 /// The delivery of the oldest order of each of a warehouse's ten districts (clause 2.7.1).
-#[derive(Clone, Copy, Debug, PartialEq, Eq)]
+#[derive(Clone, Copy)]
 pub struct DeliveriesRequest {
     pub warehouse: WarehouseKey,
     pub carrier: Carrier,
@@ -66,7 +66,7 @@ pub struct DeliveriesRequest {
 }
 
 /// A change of a customer's name, which is none of the standard's transactions.
-#[derive(Drop, Debug, PartialEq, Eq)]
+#[derive(Drop)]
 pub struct RenameRequest {
     pub customer: CustomerKey,
     pub last: LastName,
@@ -74,7 +74,7 @@ pub struct RenameRequest {
 }
 
 /// What a transaction is begun with.
-#[derive(Drop, Debug, PartialEq, Eq)]
+#[derive(Drop)]
 pub enum Request {
     Payment(PaymentRequest),
     NewOrder(NewOrderRequest),
@@ -84,28 +84,28 @@ pub enum Request {
 }
 
 /// A customer's newest order (clause 2.6.1).
-#[derive(Drop, Debug, PartialEq, Eq)]
+#[derive(Drop)]
 pub struct StatusQuery {
     pub district: DistrictKey,
     pub customer: CustomerChoice,
 }
 
 /// The number of a district's recent items of which less than the threshold is in stock (clause 2.8.1).
-#[derive(Clone, Copy, Debug, PartialEq, Eq)]
+#[derive(Clone, Copy)]
 pub struct LevelQuery {
     pub district: DistrictKey,
     pub threshold: Threshold,
 }
 
 /// What is read and changes nothing.
-#[derive(Drop, Debug, PartialEq, Eq)]
+#[derive(Drop)]
 pub enum Query {
     Status(StatusQuery),
     Level(LevelQuery),
 }
 
 /// What a terminal asks for: a transaction, a query, or a delivery that is queued (clause 2.7.2).
-#[derive(Drop, Debug, PartialEq, Eq)]
+#[derive(Drop)]
 pub enum Errand {
     Begin(Request),
     Read(Query),

@@ -16,7 +16,7 @@ use std::collections::VecDeque;
 use std::marker::Model;
 
 /// The string fits neither the rest of its segment's newest extent nor a free extent.
-#[derive(Clone, Copy, Debug, PartialEq, Eq)]
+#[derive(Clone, Copy)]
 pub struct Full;
 
 /// Segments of byte strings in extents of 4,096 bytes: the open one of each slot, and those of commits.

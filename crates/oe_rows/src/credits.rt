@@ -12,7 +12,7 @@ use oe_values::numbers::{Cents, LineAmount, PaymentAmount, Rate};
 use oe_values::texts::Text;
 
 /// Whom a payment is by, and where it is made.
-#[derive(Clone, Copy, Debug, PartialEq, Eq)]
+#[derive(Clone, Copy)]
 pub struct CreditIds {
     pub customer: CustomerKey,
     pub district: DistrictKey,

@@ -10,7 +10,7 @@ use oe_values::stamps::Stamp;
 use oe_values::texts::Text;
 
 /// C_FIRST, C_MIDDLE and C_LAST (clause 1.3.1).
-#[derive(Drop, Debug)]
+#[derive(Drop)]
 pub struct CustomerName {
     pub first: Text<0, 16>,
     pub middle: Text<2, 2>,
@@ -18,7 +18,7 @@ pub struct CustomerName {
 }
 
 /// C_CREDIT: `GC` or `BC` (clause 1.3.1).
-#[derive(Clone, Copy, Debug, PartialEq, Eq)]
+#[derive(Clone, Copy, PartialEq, Eq)]
 pub enum Credit {
     Good,
     Bad,
@@ -26,7 +26,7 @@ pub enum Credit {
 
 /// A customer's money and counts: C_CREDIT_LIM, C_DISCOUNT, C_BALANCE, C_YTD_PAYMENT, C_PAYMENT_CNT and C_DELIVERY_CNT
 /// (clause 1.3.1).
-#[derive(Clone, Copy, Debug)]
+#[derive(Clone, Copy)]
 pub struct Account {
     pub credit_limit: YearToDate,
     pub discount: Rate,
@@ -37,7 +37,7 @@ pub struct Account {
 }
 
 /// A CUSTOMER row without its key (clause 1.3.1).
-#[derive(Drop, Debug)]
+#[derive(Drop)]
 pub struct Customer {
     pub name: CustomerName,
     pub address: Address,

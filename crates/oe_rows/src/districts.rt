@@ -6,7 +6,7 @@ use oe_values::numbers::{OrderNumber, Rate, YearToDate};
 use oe_values::texts::Text;
 
 /// A DISTRICT row without its key (clause 1.3.1).
-#[derive(Drop, Debug)]
+#[derive(Drop)]
 pub struct District {
     pub name: Text<0, 10>,
     pub address: Address,

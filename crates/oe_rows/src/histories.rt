@@ -7,7 +7,7 @@ use oe_values::stamps::Stamp;
 use oe_values::texts::Text;
 
 /// A HISTORY row without its key (clause 1.3.1): the customer who paid, and the district where.
-#[derive(Drop, Debug)]
+#[derive(Drop)]
 pub struct History {
     pub customer: CustomerKey,
     pub district: DistrictKey,

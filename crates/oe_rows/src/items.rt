@@ -9,7 +9,7 @@ use oe_values::numbers::{Count, DistrictNumber, ImageNumber, Price, StockYtd};
 use oe_values::texts::Text;
 
 /// An ITEM row without its key (clause 1.3.1).
-#[derive(Drop, Debug)]
+#[derive(Drop)]
 pub struct Item {
     pub image: ImageNumber,
     pub name: Text<0, 24>,
@@ -18,7 +18,7 @@ pub struct Item {
 }
 
 /// A STOCK row without its key (clause 1.3.1). `dist_info` has S_DIST_01 to S_DIST_10.
-#[derive(Drop, Debug)]
+#[derive(Drop)]
 pub struct Stock {
     pub quantity: Count,
     pub dist_info: [Text<24, 24>; 10],
@@ -29,7 +29,7 @@ pub struct Stock {
 }
 
 /// The columns of a STOCK row that orders change: S_QUANTITY, S_YTD, S_ORDER_CNT and S_REMOTE_CNT (clause 2.4.2.2).
-#[derive(Clone, Copy, Debug)]
+#[derive(Clone, Copy)]
 pub struct StockCounters {
     pub quantity: Count,
     pub ytd: StockYtd,

@@ -10,11 +10,11 @@ use oe_values::stamps::Stamp;
 use oe_values::texts::Text;
 
 /// A NEW-ORDER row without its key: it has no other column (clause 1.3.1).
-#[derive(Clone, Copy, Debug, PartialEq, Eq)]
+#[derive(Clone, Copy, PartialEq, Eq)]
 pub struct NewOrder;
 
 /// An ORDER row without its key (clause 1.3.1). The carrier is null until the order is delivered.
-#[derive(Clone, Copy, Debug)]
+#[derive(Clone, Copy)]
 pub struct Order {
     pub customer: CustomerNumber,
     pub entry: Stamp,
@@ -24,7 +24,7 @@ pub struct Order {
 }
 
 /// An ORDER-LINE row without its key (clause 1.3.1). The delivery date is null until the order is delivered.
-#[derive(Drop, Debug)]
+#[derive(Drop)]
 pub struct OrderLine {
     pub item: ItemNumber,
     pub supply: WarehouseNumber,

@@ -11,7 +11,7 @@ use crate::warehouses::Warehouse;
 use oe_keys::keys::Table;
 
 /// A row of any table, without its key.
-#[derive(Drop, Debug)]
+#[derive(Drop)]
 pub enum Row {
     Warehouse(Warehouse),
     District(District),

@@ -2,7 +2,7 @@
 use oe_values::numbers::{CustomerNumber, ItemNumber, WarehouseNumber};
 
 /// The number of warehouses, of customers in each district, and of items.
-#[derive(Clone, Copy, Debug, PartialEq, Eq)]
+#[derive(Clone, Copy)]
 pub struct Scale {
     pub warehouses: WarehouseNumber,
     pub customers: CustomerNumber,

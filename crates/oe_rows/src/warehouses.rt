@@ -7,7 +7,7 @@ use oe_values::numbers::{Rate, YearToDate};
 use oe_values::texts::Text;
 
 /// An address: the columns _STREET_1, _STREET_2, _CITY, _STATE and _ZIP of three tables (clause 1.3.1).
-#[derive(Drop, Debug)]
+#[derive(Drop)]
 pub struct Address {
     pub street_1: Text<0, 20>,
     pub street_2: Text<0, 20>,
@@ -17,7 +17,7 @@ pub struct Address {
 }
 
 /// A WAREHOUSE row without its key (clause 1.3.1).
-#[derive(Drop, Debug)]
+#[derive(Drop)]
 pub struct Warehouse {
     pub name: Text<0, 10>,
     pub address: Address,

@@ -8,7 +8,7 @@ use std::marker::Model;
 use std::snapshot::Snapshot;
 
 /// Whose a segment is: a transaction, by its terminal and its number among the terminal's, from 1.
-#[derive(Clone, Copy, Debug, PartialEq, Eq)]
+#[derive(Clone, Copy, PartialEq, Eq)]
 pub struct SegmentOwner {
     pub terminal: Terminal,
     pub number: TransactionNumber,

@@ -6,7 +6,7 @@ use oe_requests::{QueryReply, Refusal, Reply};
 use oe_values::Moment;
 
 /// What a step is answered.
-#[derive(Drop, Debug, PartialEq, Eq)]
+#[derive(Drop, PartialEq, Eq)]
 pub enum Answer {
     Begun,
     /// The transaction is open, and has a stage left.

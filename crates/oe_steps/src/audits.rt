@@ -5,7 +5,7 @@ ghost use Rattle.oe_steps.specs.Condition.{condition_number};
 use oe_keys::Key;
 
 /// The consistency conditions of clauses 3.3.2.1 to 3.3.2.4.
-#[derive(Clone, Copy, Debug, PartialEq, Eq)]
+#[derive(Clone, Copy, PartialEq, Eq)]
 pub enum Condition {
     First,
     Second,
@@ -28,7 +28,7 @@ impl Condition {
 }
 
 /// What an audit finds: that the condition holds, or the first row, in key order, at which it fails.
-#[derive(Clone, Copy, Debug, PartialEq, Eq)]
+#[derive(Clone, Copy, PartialEq, Eq)]
 pub enum Verdict {
     Holds,
     Fails(Key),

@@ -6,7 +6,7 @@ use oe_requests::{Query, Request};
 use oe_values::{Moment, Terminal};
 
 /// One step of the server. The moments of reads, audits, purges and rewinds are numbers of commits.
-#[derive(Drop, Debug, PartialEq, Eq)]
+#[derive(Drop)]
 pub enum Step {
     /// The terminal begins a transaction.
     Begin(Terminal, Request),

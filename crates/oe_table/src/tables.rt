@@ -1,5 +1,5 @@
 //! What a table may be refused.
 
 /// There was no memory for the place of a new key.
-#[derive(Clone, Copy, Debug, PartialEq, Eq)]
+#[derive(Clone, Copy)]
 pub struct NoMemory;

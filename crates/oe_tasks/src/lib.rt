@@ -10,7 +10,7 @@ use std::alloc::Global;
 use std::convert::AsStr;
 
 /// What the program is asked to do.
-#[derive(Clone, Copy, Debug, PartialEq, Eq)]
+#[derive(Clone, Copy)]
 pub enum Task<'a> {
     /// To answer the script on standard input.
     Script,

@@ -20,7 +20,7 @@ use oe_links::OwnedLink;
 use oe_segments::Segment;
 
 /// Why a record was not pushed.
-#[derive(Clone, Copy, Debug, PartialEq, Eq)]
+#[derive(Clone, Copy)]
 pub enum CantPush {
     /// It fits neither the rest of its segment's newest extent nor a free one.
     Full,

@@ -17,7 +17,7 @@ use oe_values::Moment;
 use std::marker::Model;
 
 /// How many records were read. At its greatest value it rises no further.
-#[derive(Clone, Copy, Debug, PartialEq, Eq)]
+#[derive(Clone, Copy)]
 pub struct Ticks {
     records: u64,
 }

@@ -7,7 +7,7 @@ use arrayvec::ArrayVec;
 use std::marker::Model;
 
 /// A list of `LEAST` to `MOST` values, which takes no memory of its own.
-#[derive(Drop, Debug)]
+#[derive(Drop)]
 pub struct Lines<T, const LEAST: usize, const MOST: usize> {
     lines: ArrayVec<T, MOST>,
 }

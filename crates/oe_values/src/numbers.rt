@@ -9,7 +9,7 @@ ghost use Rattle.oe_values.specs.Number.{IsWithin};
 use std::marker::Model;
 
 /// A number from `LOW` to `HIGH`, both included.
-#[derive(Clone, Copy, Debug, PartialEq, Eq, PartialOrd, Ord, Hash)]
+#[derive(Clone, Copy, PartialEq, Eq, PartialOrd, Ord, Hash)]
 pub struct Number<const LOW: u32, const HIGH: u32> {
     value: u32,
 }
@@ -121,7 +121,7 @@ pub type LowStock = Number<0, 300>;
 pub type PaymentAmount = Number<100, 500_000>;
 
 /// A sum of money in cents, from 0 to `MOST`.
-#[derive(Clone, Copy, Debug, PartialEq, Eq, PartialOrd, Ord, Hash)]
+#[derive(Clone, Copy, PartialEq, Eq)]
 pub struct Amount<const MOST: u64> {
     cents: u64,
 }
@@ -169,7 +169,7 @@ pub type LineAmount = Amount<999_999>;
 pub type Price = Amount<99_999>;
 
 /// C_BALANCE in cents, from -9,999,999,999.99 to 9,999,999,999.99 (clause 1.3.1).
-#[derive(Clone, Copy, Debug, PartialEq, Eq, PartialOrd, Ord, Hash)]
+#[derive(Clone, Copy, PartialEq, Eq)]
 pub struct Balance {
     balance: i64,
 }
@@ -208,7 +208,7 @@ impl Balance {
 }
 
 /// A total or a sum in cents, of any size that a `u64` has.
-#[derive(Clone, Copy, Debug, PartialEq, Eq, PartialOrd, Ord, Hash)]
+#[derive(Clone, Copy, PartialEq, Eq)]
 pub struct Cents {
     total: u64,
 }
@@ -240,7 +240,7 @@ impl Cents {
 }
 
 /// A moment: the number of commits before it, from 0 to 999,999,999,999.
-#[derive(Clone, Copy, Debug, PartialEq, Eq, PartialOrd, Ord, Hash)]
+#[derive(Clone, Copy, PartialEq, Eq, PartialOrd)]
 pub struct Moment {
     commits: u64,
 }

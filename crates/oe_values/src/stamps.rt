@@ -164,7 +164,7 @@ fn spelled(date: civil::Date, time: civil::Time) -> [u8; 19]
 }
 
 /// A civil date and time with whole seconds, from 1900-01-01T00:00:00 to 2100-12-31T23:59:59.
-#[derive(Clone, Copy, Debug, PartialEq, Eq, PartialOrd, Ord)]
+#[derive(Clone, Copy, PartialEq, Eq)]
 pub struct Stamp {
     since_1900: u64,
 }

@@ -10,9 +10,8 @@ ghost use Rattle.std.specs.Cmp.Lexicographic.{pointwise, nat_list_eq_equiv};
 ghost use Rattle.oe_values.specs.Text.{IsText, IsPrintable, IsCapital, IsCapitalOrDigit, IsLastName, IsFirstName};
 
 use arrayvec::ArrayString;
-use std::alloc::AllocError;
 use std::marker::Model;
-use std::{fmt, str};
+use std::str;
 
 /// A text of `LEAST` to `MOST` printable ASCII bytes, which lie in the value itself.
 #[derive(Drop)]
@@ -130,22 +129,6 @@ impl<const LEAST: usize, const MOST: usize> Eq for Text<LEAST, MOST> {
     ghost laws = { nat_list_eq_equiv };
 }
 
-impl<const LEAST: usize, const MOST: usize> fmt::Debug for Text<LEAST, MOST> {
-    fn fmt<W: fmt::Write>(&self, f: &mut fmt::Formatter<W>) -> fmt::Result {
-        fmt::Debug::fmt(&self.as_str(), f)
-    }
-}
-
-impl<const LEAST: usize, const MOST: usize> Clone for Text<LEAST, MOST> {
-    ghost is_infallible = { λ _. Unit {0} };
-
-    ghost is_clone = { λ s t. t ≡ s };
-
-    fn clone(&self) -> Result<Self, AllocError> {
-        Ok(self.copied())
-    }
-}
-
 impl<const LEAST: usize, const MOST: usize> Text<LEAST, MOST> {
     /// The same text, of any length up to `MOST`.
     pub fn of_any_length(&self) -> Text<0, MOST>
@@ -173,7 +156,7 @@ fn is_capitals_or_digits(bytes: &[u8]) -> bool
 }
 
 /// A last name as a request gives it: 1 to 16 letters from A to Z (clause 4.3.2.3).
-#[derive(Drop, Clone, Debug)]
+#[derive(Drop)]
 pub struct LastName {
     capitals: Text<1, 16>,
 }
@@ -226,7 +209,7 @@ impl LastName {
 }
 
 /// A first name as a request gives it: 1 to 16 letters from A to Z or digits.
-#[derive(Drop, Clone, Debug)]
+#[derive(Drop)]
 pub struct FirstName {
     name: Text<1, 16>,
 }
