@@ -1,1 +1,1 @@
-pub mod StepFacts
+pub mod LiveFacts

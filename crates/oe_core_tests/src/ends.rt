@@ -1,38 +1,19 @@
-//! Orders at the ends of the columns that they raise: the last one that fits, and the one after it, which is refused and gone.
+//! Orders and payments at the ends of the columns that they raise: the last one that fits, and the one after it, which is refused and
+//! gone.
+ghost use Rattle.std.specs.Prelude.{IfSome};
+ghost use Rattle.oe_script.specs.Session.{state_of, IsLive};
 
-use crate::acts::{Act, Said, play};
-use crate::openings::scale;
-use oe_audit::is_population;
+use crate::populations::{district_key, populated, stock_key};
+use crate::sessions::{is_answered, session_on};
 use oe_change::apply;
-use oe_core::{Core, ExtentCount};
-use oe_keys::{DistrictKey, OrderKey, StockKey};
+use oe_keys::{OrderKey, StockKey};
 use oe_records::{Boxed, Change};
 use oe_requests::Column;
 use oe_rows::Stock;
-use oe_steps::Condition;
-use oe_store::{Tables, populate};
-use oe_values::{
-    Count, DistrictNumber, ItemNumber, LineNumber, OrderNumber, StockYtd, WarehouseNumber,
-};
+use oe_script::session::Session;
+use oe_store::Tables;
+use oe_values::{Count, LineNumber, Number, OrderNumber, StockYtd};
 use std::alloc::Global;
-use std::process::Abort;
-
-/// Terminal 3 orders in district 4 of warehouse 2, item 5 from warehouse 1, up to its commit.
-const LAST_THAT_FITS: [(Act, Said); 2] = [
-    (Act::Order(3, (2, 4, 7), 1), Said::Begun),
-    (Act::Rows(3, 15), Said::More),
-];
-
-/// The same order again.
-const ONE_MORE: (Act, Said) = (Act::Order(3, (2, 4, 7), 1), Said::Begun);
-
-/// Nothing is left of it.
-const GONE: [(Act, Said); 4] = [
-    (Act::Advance(3), Said::NotOpen),
-    (Act::Audit(Condition::Second, 1), Said::Holds),
-    (Act::Audit(Condition::Third, 1), Said::Holds),
-    (Act::Audit(Condition::Fourth, 1), Said::Holds),
-];
 
 // A change that the tables take.
 fn amend(tables: &mut Tables, change: Change) -> Option<()> {
@@ -42,15 +23,7 @@ fn amend(tables: &mut Tables, change: Change) -> Option<()> {
     }
 }
 
-// That stock row.
-fn stock_key(warehouse: u32, item: u32) -> Option<StockKey> {
-    Some(StockKey {
-        warehouse: WarehouseNumber::new(warehouse)?,
-        item: ItemNumber::new(item)?,
-    })
-}
-
-// Changes it to that row.
+// Changes a stock to that row.
 fn restock(alloc: Global, tables: &mut Tables, key: StockKey, row: Stock) -> Option<()> {
     amend(
         tables,
@@ -82,23 +55,6 @@ fn end_remote_count(alloc: Global, tables: &mut Tables) -> Option<()> {
     restock(alloc, tables, key, row)
 }
 
-// District 4 of warehouse 2.
-fn district() -> Option<DistrictKey> {
-    Some(DistrictKey {
-        warehouse: WarehouseNumber::new(2)?,
-        district: DistrictNumber::new(4)?,
-    })
-}
-
-// Its orders that wait are delivered.
-fn clear(tables: &mut Tables, district: DistrictKey) -> Option<()> {
-    for order in 8..11u32 {
-        let key = district.new_order(OrderNumber::new(order)?);
-        amend(tables, Change::DeleteNewOrder(key))?;
-    }
-    Some(())
-}
-
 // A second order like that one, with its lines.
 fn repeat(tables: &mut Tables, of: OrderKey, to: OrderKey) -> Option<()> {
     let order = tables.order(of)?.copied();
@@ -112,65 +68,212 @@ fn repeat(tables: &mut Tables, of: OrderKey, to: OrderKey) -> Option<()> {
     amend(tables, Change::InsertNewOrder(to.new_order_key()))
 }
 
-// D_NEXT_O_ID of district 4 of warehouse 2 has room for one: its one order that waits has the number before.
-fn end_next_order(tables: &mut Tables) -> Option<()> {
-    let key = district()?;
-    clear(tables, key)?;
+// The orders of district 4 of warehouse 2 that wait are delivered.
+fn clear(tables: &mut Tables) -> Option<()> {
+    let district = district_key(2, 4)?;
+    for order in 8..11u32 {
+        let key = district.new_order(OrderNumber::new(order)?);
+        amend(tables, Change::DeleteNewOrder(key))?;
+    }
+    Some(())
+}
+
+// District 4 of warehouse 2 has one order that waits, with that number, and D_NEXT_O_ID is the next one.
+fn number_orders(tables: &mut Tables, number: u32) -> Option<()> {
+    clear(tables)?;
+    let key = district_key(2, 4)?;
     let of = key.order(OrderNumber::new(10)?);
-    repeat(tables, of, key.order(OrderNumber::new(9_999_998)?))?;
+    repeat(tables, of, key.order(OrderNumber::new(number)?))?;
     let mut row = tables.district(key)?.copied();
-    row.next_order = OrderNumber::new(9_999_999)?;
+    row.next_order = OrderNumber::new(number.checked_add(1)?)?;
     amend(tables, Change::UpdateDistrict(key, row))
 }
 
-// A population in which that column has room for one.
-fn ended(alloc: Global, column: Column) -> Option<Tables> {
-    let Ok(mut tables) = populate(alloc, scale()?) else {
-        return None;
-    };
-    match column {
-        Column::StockYtd => end_stock_ytd(alloc, &mut tables)?,
-        Column::OrderCount => end_order_count(alloc, &mut tables)?,
-        Column::RemoteCount => end_remote_count(alloc, &mut tables)?,
-        _ => end_next_order(&mut tables)?,
-    }
-    Some(tables)
+// C_PAYMENT_CNT of customer 2 in district 1 of warehouse 1 has room for one.
+fn end_payment_count(alloc: Global, tables: &mut Tables) -> Option<()> {
+    let key = district_key(1, 1)?.customer(Number::new(2)?);
+    let mut row = tables.customer(key)?.copied();
+    row.account.payment_count = Count::new(9_998)?;
+    amend(
+        tables,
+        Change::UpdateCustomer(key, Boxed::new(alloc, row).ok()?),
+    )
 }
 
-// A core on it.
-fn opened(rt: &impl Abort, alloc: Global, column: Column) -> Core {
-    let tables = ended(alloc, column).expect(rt, "tables");
-    let is_right = is_population(&tables);
-    assert!(rt; is_right);
-    let extents = ExtentCount::new(64).expect(rt, "extents");
-    Core::open(alloc, tables, extents).ok().expect(rt, "a core")
+fn end(alloc: Global, tables: &mut Tables, column: Column) -> Option<()> {
+    match column {
+        Column::StockYtd => end_stock_ytd(alloc, tables),
+        Column::OrderCount => end_order_count(alloc, tables),
+        Column::RemoteCount => end_remote_count(alloc, tables),
+        _ => end_payment_count(alloc, tables),
+    }
+}
+
+// A session on a population in which that column has room for one.
+fn ended(alloc: Global, column: Column) -> Option<Session>
+    ensures { IfSome result (λ s. IsLive (state_of s.core)) }
+{
+    let mut tables = populated(alloc, 10, 20)?;
+    if end(alloc, &mut tables, column).is_none() {
+        return None;
+    }
+    session_on(alloc, tables)
+}
+
+/// Lines, and their answers.
+#[derive(Clone, Copy)]
+struct Said {
+    lines: &'static [u8],
+    answers: &'static [u8],
+}
+
+/// Terminal 3 orders in district 4 of warehouse 2, item 5 from warehouse 1, and begins the same order again.
+const ORDER_AND_BEGIN: &[u8] =
+    b"begin 3 neworder 2 4 7 2001-01-01T00:00:00 2:1:1 2:2:1 2:3:1 2:4:1 1:5:1\nrun 3\nbegin 3 neworder 2 4 7 2001-01-01T00:00:00 2:1:1 2:2:1 2:3:1 2:4:1 1:5:1\n";
+
+const ORDER: Said = Said {
+    lines: ORDER_AND_BEGIN,
+    answers: b"begun\ncommit 1 neworder 11 BARBARANTI GC 10.90 G:24:1.37 G:37:1.74 G:50:2.11 G:63:2.48 G:75:2.85\nbegun\n",
+};
+
+/// The terminal pays for customer 2 of district 1 of warehouse 1, and begins the same payment again.
+const PAYMENT: Said = Said {
+    lines: b"begin 3 payment 2 3 1 1 2 250.00 2001-01-01T00:00:00\nrun 3\nbegin 3 payment 2 3 1 1 2 250.00 2001-01-01T00:00:00\n",
+    answers: b"begun\ncommit 1 payment 2 BARBAROUGHT GC -260.00\nbegun\n",
+};
+
+// So many stages are carried out.
+fn goes_on(session: &mut Session, alloc: Global, stages: u32) -> bool
+    requires { IsLive (state_of session.old.core) }
+    ensures { IsLive (state_of session.new.core) }
+{
+    for _ in 0..stages {
+        if !is_answered(session, alloc, b"next 3\n", b"more\n") {
+            return false;
+        }
+    }
+    true
+}
+
+/// Nothing is left of it.
+const GONE: Said = Said {
+    lines: b"next 3\naudit 2 1\naudit 3 1\naudit 4 1\n",
+    answers: b"error 10 NotOpen\ncondition 2 holds\ncondition 3 holds\ncondition 4 holds\n",
+};
+
+// Whether these are answered so: first the one that fits, then so many stages of the next, and the one that is refused.
+fn ends_so(session: &mut Session, alloc: Global, fits: &Said, stages: u32, refusal: &[u8]) -> bool
+    requires { IsLive (state_of session.old.core) }
+    ensures { IsLive (state_of session.new.core) }
+{
+    if !is_answered(session, alloc, fits.lines, fits.answers) {
+        return false;
+    }
+    if !goes_on(session, alloc, stages) {
+        return false;
+    }
+    if !is_answered(session, alloc, b"next 3\n", refusal) {
+        return false;
+    }
+    is_answered(session, alloc, GONE.lines, GONE.answers)
+}
+
+// The same of tables in which that column has room for one.
+fn ends(alloc: Global, column: Column, fits: &Said, stages: u32, refusal: &[u8]) -> bool {
+    match ended(alloc, column) {
+        Some(session) => {
+            let mut session = session;
+            let is_right = ends_so(&mut session, alloc, fits, stages, refusal);
+            session.close();
+            is_right
+        }
+        None => false,
+    }
 }
 
 #[test]
 fn orders_end_with_their_columns(rt: HostRuntime) {
-    // The column; the first order's number, total and last quantity; how many rows of the second are done before it is refused.
-    let cases = [
-        (Column::StockYtd, 11, 9),
-        (Column::OrderCount, 11, 11),
-        (Column::RemoteCount, 11, 13),
-        (Column::NextOrder, 9_999_999, 1),
-    ];
-    for (column, order, rows) in &cases {
-        let mut core = opened(&rt, rt.alloc(), *column);
-        play(&rt, &mut core, &LAST_THAT_FITS);
-        play(
-            &rt,
-            &mut core,
-            &[(Act::Advance(3), Said::Ordered(*order, 1_090, 75))],
-        );
-        play(&rt, &mut core, &[ONE_MORE]);
-        play(&rt, &mut core, &[(Act::Rows(3, *rows), Said::More)]);
-        play(
-            &rt,
-            &mut core,
-            &[(Act::Advance(3), Said::Overflow(*column))],
-        );
-        play(&rt, &mut core, &GONE);
-        drop(core.close());
+    let alloc = rt.alloc();
+    assert!(rt;
+        ends(
+            alloc,
+            Column::StockYtd,
+            &ORDER,
+            9,
+            b"error 4 Overflow S_YTD\n"
+        )
+    );
+    assert!(rt;
+        ends(
+            alloc,
+            Column::OrderCount,
+            &ORDER,
+            11,
+            b"error 4 Overflow S_ORDER_CNT\n"
+        )
+    );
+    assert!(rt;
+        ends(
+            alloc,
+            Column::RemoteCount,
+            &ORDER,
+            13,
+            b"error 4 Overflow S_REMOTE_CNT\n"
+        )
+    );
+}
+
+#[test]
+fn payments_end_with_their_count(rt: HostRuntime) {
+    let alloc = rt.alloc();
+    assert!(rt;
+        ends(
+            alloc,
+            Column::PaymentCount,
+            &PAYMENT,
+            2,
+            b"error 4 Overflow C_PAYMENT_CNT\n"
+        )
+    );
+}
+
+/// Where order 9,999,998 is the newest there is room for one, whose lines would take much memory: so it is not carried out.
+const ROOM: Said = Said {
+    lines: b"begin 3 neworder 2 4 7 2001-01-01T00:00:00 2:1:1 2:2:1 2:3:1 2:4:1 1:5:1\nnext 3\nnext 3\nrollback 3\naudit 2 0\n",
+    answers: b"begun\nmore\nmore\nrolled back\ncondition 2 holds\n",
+};
+
+const NO_ROOM: Said = Said {
+    lines: b"begin 3 neworder 2 4 7 2001-01-01T00:00:00 2:1:1 2:2:1 2:3:1 2:4:1 1:5:1\nnext 3\nnext 3\nnext 3\naudit 2 0\n",
+    answers: b"begun\nmore\nerror 4 Overflow D_NEXT_O_ID\nerror 10 NotOpen\ncondition 2 holds\n",
+};
+
+// A session on a population in which an order of that number is the newest of its district.
+fn numbered(alloc: Global, number: u32) -> Option<Session>
+    ensures { IfSome result (λ s. IsLive (state_of s.core)) }
+{
+    let mut tables = populated(alloc, 10, 20)?;
+    if number_orders(&mut tables, number).is_none() {
+        return None;
     }
+    session_on(alloc, tables)
+}
+
+// Whether these lines are answered so there.
+fn says(alloc: Global, number: u32, said: &Said) -> bool {
+    match numbered(alloc, number) {
+        Some(session) => {
+            let mut session = session;
+            let is_right = is_answered(&mut session, alloc, said.lines, said.answers);
+            session.close();
+            is_right
+        }
+        None => false,
+    }
+}
+
+#[test]
+fn order_numbers_end(rt: HostRuntime) {
+    assert!(rt; says(rt.alloc(), 9_999_998, &ROOM));
+    assert!(rt; says(rt.alloc(), 9_999_999, &NO_ROOM));
 }

@@ -1,22 +1,25 @@
-//! Tests of the core, in a crate of their own, so that the core is proved once. They show what no clause says: that the
-//! calls succeed where there is memory.
+//! The tests of engine, core, audits and scripts that need calls of the libraries: tables that no script comes to, transactions of another
+//! engine, locks that rise, and readers and writers that fail. What a clause says is not tested again, and neither is what the program's
+//! examples show.
 #![tactic(auto)]
 
 #[cfg(test)]
-mod acts;
-#[cfg(test)]
-mod deliveries;
+mod audits;
 #[cfg(test)]
 mod ends;
 #[cfg(test)]
-mod locks;
+mod engines;
 #[cfg(test)]
-mod openings;
+mod faults;
 #[cfg(test)]
-mod orders;
+mod memory;
 #[cfg(test)]
-mod pasts;
+mod modes;
 #[cfg(test)]
-mod payments;
+mod populations;
 #[cfg(test)]
-mod runs;
+mod sessions;
+#[cfg(test)]
+mod strangers;
+#[cfg(test)]
+mod trials;

@@ -1,4 +1,4 @@
-//! That the calls that take memory succeed where there is memory, and who is told of whom among several holders.
+//! Who is told of whom among several holders, one of whom wants the name alone.
 use oe_keys::{Mode, Name, StockKey};
 use oe_locks::Locks;
 use oe_requests::Refusal;
@@ -9,15 +9,6 @@ fn stock() -> Option<Name> {
         warehouse: Number::new(2)?,
         item: Number::new(7)?,
     }))
-}
-
-#[test]
-fn names_are_held(rt: HostRuntime) {
-    let mut locks = Locks::new(rt.alloc()).expect(&rt, "locks");
-    let terminal = Number::new(64).expect(&rt, "a terminal");
-    let name = stock().expect(&rt, "a name");
-    let is_taken = locks.acquire(name, terminal, Mode::Exclusive).is_ok();
-    assert!(rt; is_taken && locks.holds(&name, terminal) == Some(Mode::Exclusive));
 }
 
 // Asks for the name, and answers the number of the terminal in the way, 0 for none, and 100 for another refusal.

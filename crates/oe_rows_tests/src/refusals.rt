@@ -1,40 +1,49 @@
-//! The texts of refusals that no script gets yet, with each kind of key and of lock's name, at worked values.
+//! The lines of refusals that no script gets, with each kind of key, and the texts that refusals have outside of scripts.
 use crate::made::district_key;
 use oe_keys::{HistoryKey, Key, Name, StockKey};
 use oe_requests::{Column, Refusal};
 use oe_steps::Answer;
 use oe_texts::{Pending, answer};
-use oe_values::Number;
+use oe_values::{Moment, Number};
 use std::alloc::Global;
-use std::process::Abort;
 
-/// Each refusal's line is that one, and ends with the refusal's text.
-fn assert_refused(rt: &impl Abort, alloc: Global, cases: &[(Refusal, &str)]) {
-    for (refusal, want) in cases {
-        let mut out = Pending::new();
-        answer(&mut out, &Answer::Refused(*refusal));
-        let told = refusal.to_string(alloc).expect(rt, "a text");
-        let ends = want.trim_end().ends_with(told.as_str());
-        assert!(rt; ends && out.as_slice() == want.as_bytes(), "{want}");
-    }
+/// The refusal's line.
+fn line(refusal: &Refusal) -> Pending {
+    let mut out = Pending::new();
+    answer(&mut out, &Answer::Refused(*refusal));
+    out
 }
 
-fn of_values() -> Option<[(Refusal, &'static str); 7]> {
-    Some([
-        (
-            Refusal::Overflow(Column::PaymentCount),
-            "error 4 Overflow C_PAYMENT_CNT\n",
-        ),
-        (Refusal::KeyColumn, "error 6 KeyColumn\n"),
-        (Refusal::UndoFull, "error 8 UndoFull\n"),
-        (Refusal::NoMemory, "error 9 NoMemory\n"),
-        (Refusal::InvalidItem, "error 12 Item number is not valid\n"),
-        (
-            Refusal::NotQuiet(Number::new(64)?),
-            "error 16 NotQuiet 64\n",
-        ),
-        (Refusal::NotPinned(8), "error 17 NotPinned 8\n"),
-    ])
+/// Whether its line ends with its text.
+fn ends_with_text(alloc: Global, refusal: &Refusal) -> bool {
+    let Ok(told) = refusal.to_string(alloc) else {
+        return false;
+    };
+    let out = line(refusal);
+    let Some(whole) = out.as_slice().strip_suffix(b"\n") else {
+        return false;
+    };
+    whole.ends_with(told.as_bytes())
+}
+
+/// The place of the first refusal whose line is another, or does not end with its text; none where there is none.
+fn first_other(alloc: Global, cases: &[(Refusal, &str)]) -> Option<usize> {
+    for (place, (refusal, want)) in cases.iter().enumerate() {
+        if line(refusal).as_slice() != want.as_bytes() || !ends_with_text(alloc, refusal) {
+            return Some(place);
+        }
+    }
+    None
+}
+
+/// The same of the texts alone.
+fn first_other_text(alloc: Global, refusals: &[Refusal]) -> Option<usize> {
+    for (place, refusal) in refusals.iter().enumerate() {
+        if !ends_with_text(alloc, refusal) {
+            return Some(place);
+        }
+    }
+    None
 }
 
 fn history_key() -> Option<HistoryKey> {
@@ -52,21 +61,20 @@ fn stock_key() -> Option<StockKey> {
     })
 }
 
-fn of_keys() -> Option<[(Refusal, &'static str); 9]> {
+/// The refusals that name a key, but for one of a warehouse.
+fn of_keys() -> Option<[(Refusal, &'static str); 8]> {
     let district = district_key(16, 3)?;
     let order = district.order(Number::new(8)?);
     let stock = stock_key()?;
+    let customer = district.customer(Number::new(3_000)?);
+    let line = order.line(Number::new(15)?);
     Some([
-        (
-            Refusal::NoSuchRow(Key::Warehouse(district.warehouse_key())),
-            "error 2 NoSuchRow warehouse 16\n",
-        ),
         (
             Refusal::NoSuchRow(Key::District(district)),
             "error 2 NoSuchRow district 16 3\n",
         ),
         (
-            Refusal::NoSuchRow(Key::Customer(district.customer(Number::new(3_000)?))),
+            Refusal::NoSuchRow(Key::Customer(customer)),
             "error 2 NoSuchRow customer 16 3 3000\n",
         ),
         (
@@ -78,7 +86,7 @@ fn of_keys() -> Option<[(Refusal, &'static str); 9]> {
             "error 3 RowExists neworder 16 3 8\n",
         ),
         (
-            Refusal::RowExists(Key::OrderLine(order.line(Number::new(15)?))),
+            Refusal::RowExists(Key::OrderLine(line)),
             "error 3 RowExists orderline 16 3 8 15\n",
         ),
         (
@@ -96,55 +104,59 @@ fn of_keys() -> Option<[(Refusal, &'static str); 9]> {
     ])
 }
 
-fn of_locks() -> Option<[(Refusal, &'static str); 6]> {
-    let last = Number::new(64)?;
-    let district = district_key(16, 2)?;
-    let customer = district.customer(Number::new(10)?);
-    let order = district.order(Number::new(8)?);
+/// Three more that no script gets.
+fn others() -> Option<[(Refusal, &'static str); 3]> {
+    let order = district_key(16, 2)?.order(Number::new(8)?);
     Some([
+        (Refusal::KeyColumn, "error 6 KeyColumn\n"),
         (
-            Refusal::Busy(Name::Queue(district), last),
-            "error 7 Busy Queue(16,2) 64\n",
-        ),
-        (
-            Refusal::Busy(Name::Warehouse(district.warehouse_key()), last),
-            "error 7 Busy Warehouse(16) 64\n",
-        ),
-        (
-            Refusal::Busy(Name::District(district), last),
-            "error 7 Busy District(16,2) 64\n",
-        ),
-        (
-            Refusal::Busy(Name::Customer(customer), last),
-            "error 7 Busy Customer(16,2,10) 64\n",
-        ),
-        (
-            Refusal::Busy(Name::Order(order), last),
+            Refusal::Busy(Name::Order(order), Number::new(64)?),
             "error 7 Busy Order(16,2,8) 64\n",
         ),
-        (
-            Refusal::Busy(Name::Stock(stock_key()?), last),
-            "error 7 Busy Stock(16,20) 64\n",
-        ),
+        (Refusal::NotPinned(8), "error 17 NotPinned 8\n"),
     ])
 }
 
 #[test]
-fn refusals_of_keys(rt: HostRuntime) {
+fn refusals_that_no_script_gets(rt: HostRuntime) {
     let Some(cases) = of_keys() else {
         panic!(rt; "a number out of its range");
     };
-    assert_refused(&rt, rt.alloc(), &cases);
+    assert!(rt; first_other(rt.alloc(), &cases).is_none());
+    let Some(cases) = others() else {
+        panic!(rt; "a number out of its range");
+    };
+    assert!(rt; first_other(rt.alloc(), &cases).is_none());
+}
+
+/// Those of scripts that tell something.
+fn with_values() -> Option<[Refusal; 6]> {
+    let district = district_key(16, 3)?;
+    let moment = Moment::new(41)?;
+    let last = Number::new(64)?;
+    Some([
+        Refusal::NoSuchRow(Key::Warehouse(district.warehouse_key())),
+        Refusal::Overflow(Column::PaymentCount),
+        Refusal::Busy(Name::Stock(stock_key()?), last),
+        Refusal::TooOld(moment),
+        Refusal::Future(moment),
+        Refusal::NotQuiet(last),
+    ])
 }
 
 #[test]
-fn refusals_of_values_and_locks(rt: HostRuntime) {
-    let Some(cases) = of_values() else {
+fn texts_end_lines(rt: HostRuntime) {
+    let plain = [
+        Refusal::UndoFull,
+        Refusal::NoMemory,
+        Refusal::NotOpen,
+        Refusal::AlreadyOpen,
+        Refusal::InvalidItem,
+        Refusal::NoCustomer,
+    ];
+    assert!(rt; first_other_text(rt.alloc(), &plain).is_none());
+    let Some(cases) = with_values() else {
         panic!(rt; "a number out of its range");
     };
-    assert_refused(&rt, rt.alloc(), &cases);
-    let Some(cases) = of_locks() else {
-        panic!(rt; "a number out of its range");
-    };
-    assert_refused(&rt, rt.alloc(), &cases);
+    assert!(rt; first_other_text(rt.alloc(), &cases).is_none());
 }

@@ -1,0 +1,50 @@
+//! Keys, and small populations.
+use oe_keys::{DistrictKey, HistoryKey, OrderKey, StockKey};
+use oe_rows::Scale;
+use oe_store::{Tables, populate};
+use oe_values::Number;
+use std::alloc::Global;
+
+pub(crate) fn district_key(warehouse: u32, district: u32) -> Option<DistrictKey> {
+    Some(DistrictKey {
+        warehouse: Number::new(warehouse)?,
+        district: Number::new(district)?,
+    })
+}
+
+pub(crate) fn order_key(warehouse: u32, district: u32, order: u32) -> Option<OrderKey> {
+    Some(district_key(warehouse, district)?.order(Number::new(order)?))
+}
+
+pub(crate) fn stock_key(warehouse: u32, item: u32) -> Option<StockKey> {
+    Some(StockKey {
+        warehouse: Number::new(warehouse)?,
+        item: Number::new(item)?,
+    })
+}
+
+pub(crate) fn history_key(terminal: u32, number: u32) -> Option<HistoryKey> {
+    Some(HistoryKey {
+        terminal: Number::new(terminal)?,
+        number: Number::new(number)?,
+        ordinal: Number::new(1)?,
+    })
+}
+
+/// Two warehouses.
+fn scale(customers: u32, items: u32) -> Option<Scale> {
+    Some(Scale {
+        warehouses: Number::new(2)?,
+        customers: Number::new(customers)?,
+        items: Number::new(items)?,
+    })
+}
+
+/// The population of two warehouses with so many customers in each district, and so many items.
+pub(crate) fn populated(alloc: Global, customers: u32, items: u32) -> Option<Tables> {
+    let scale = scale(customers, items)?;
+    match populate(alloc, scale) {
+        Ok(tables) => Some(tables),
+        Err(_) => None,
+    }
+}
