@@ -71,26 +71,29 @@ pub fn slot(terminal: Terminal) -> usize
     terminal.get() as usize
 }
 
+// Empty slots for the terminals 0 to 64, whatever is to stand in them.
+fn empty_slots<T>(alloc: Global) -> Result<Vec<Option<T>>, AllocError>
+    ensures { IfOk result (λ v. v.items ≡ replicate (suc TERMINALS) None) }
+{
+    let mut slots = Vec::with_capacity(alloc, TERMINALS as usize + 1)?;
+    for _ in 0..TERMINALS + 1 {
+        slots.push(None).unwrap();
+    }
+    Ok(slots)
+}
+
 /// Slots for the transactions of the terminals 1 to 64; that of 0 stays empty.
 pub fn empty_txs(alloc: Global) -> Result<Vec<Option<Tx>>, AllocError>
     ensures { IfOk result (λ v. v.items ≡ replicate (suc TERMINALS) None) }
 {
-    let mut txs = Vec::with_capacity(alloc, TERMINALS as usize + 1)?;
-    for _ in 0..TERMINALS + 1 {
-        txs.push(None).unwrap();
-    }
-    Ok(txs)
+    empty_slots(alloc)
 }
 
 /// Slots for what they carry out.
 pub fn empty_works(alloc: Global) -> Result<Vec<Option<Work>>, AllocError>
     ensures { IfOk result (λ v. v.items ≡ replicate (suc TERMINALS) None) }
 {
-    let mut works = Vec::with_capacity(alloc, TERMINALS as usize + 1)?;
-    for _ in 0..TERMINALS + 1 {
-        works.push(None).unwrap();
-    }
-    Ok(works)
+    empty_slots(alloc)
 }
 
 /// Takes what stands in a terminal's slot.

@@ -313,10 +313,13 @@ between-is xs a b e s is_e is_s =
     let fits : s + (e - s) ≡ e = omega arith in
     sym (drop-take s (e - s) xs) ∙ ap (λ n. drop s (take n xs)) (fits ∙ is_e) ∙ ap (drop s) (take_min b xs) ∙ ap (λ n. drop n (take b xs)) (is_s ∙ ap (min a) (sym long)) ∙ drop_min a (take b xs)
 
-pub cut-same : {A : Type 0} (ss : List (List A)) (a i b j : ℕ) (f : List A) (g : List (List A)) (h : List A) → a ≡ b → i ≤ j → f ≡ take (j - i) (drop i (get_or ss a [])) → g ≡ [] → h ≡ [] → f ++ (joined g ++ h) ≡ cut_between ss a i b j
-cut-same ss a i b j f g h e le first none after =
+pub shelf-within : {A : Type 0} (s : List A) (i j : ℕ) (f : List A) (g : List (List A)) (h : List A) → i ≤ j → f ≡ take (j - i) (drop i s) → g ≡ [] → h ≡ [] → f ++ (joined g ++ h) ≡ drop i (take j s)
+shelf-within s i j f g h le first none after =
     let fits : i + (j - i) ≡ j = omega arith in
-    rw (eq-eqb a b e) (ap (λ t. f ++ (joined t ++ h)) none ∙ ap (λ t. f ++ t) after ∙ append-nil f ∙ first ∙ sym (drop-take i (j - i) (get_or ss a [])) ∙ ap (λ n. drop i (take n (get_or ss a []))) fits)
+    ap (λ t. f ++ (joined t ++ h)) none ∙ ap (λ t. f ++ t) after ∙ append-nil f ∙ first ∙ sym (drop-take i (j - i) s) ∙ ap (λ n. drop i (take n s)) fits
+
+pub cut-same : {A : Type 0} (ss : List (List A)) (a i b j : ℕ) (w : List A) → a ≡ b → w ≡ drop i (take j (get_or ss b [])) → w ≡ cut_between ss a i b j
+cut-same ss a i b j w e is = rw (eq-eqb a b e) (is ∙ ap (λ n. drop i (take j (get_or ss n []))) (sym e))
 
 apart-test : (a b : ℕ) (t : Bool) → (a == b) ≡ t → (a ≡ b → ⊥) → t ≡ false
 apart-test a b true e h = absurd (h (eqb-true a b e))

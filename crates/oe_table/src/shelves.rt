@@ -91,6 +91,13 @@ fn no_slots<'a, K, R>() -> &'a [Slot<K, R>]
     &[]
 }
 
+// No shelves.
+fn no_shelves<'a, K, R>() -> &'a [Shelf<K, R>]
+    ensures { result.now ≡ [] }
+{
+    &[]
+}
+
 // The slots of a shelf, of which there are none where there is no such shelf.
 fn slots_on<K, R>(shelves: &[Shelf<K, R>], number: usize) -> &[Slot<K, R>]
     ensures { result.now ≡ slice_index_or shelves.now number [] }
@@ -147,6 +154,46 @@ fn shelves_between<K, R>(shelves: &[Shelf<K, R>], after: usize, before: usize) -
     &shelves[start..end]
 }
 
+// The slots on a shelf from one on and before another.
+#[inline]
+fn slots_within<K, R>(
+    shelves: &[Shelf<K, R>],
+    number: usize,
+    from: usize,
+    to: usize,
+) -> Slots<'_, K, R>
+    requires forward { from ≤ to }
+    requires ends { to ≤ length (slice_index_or shelves.now number []) }
+    ensures { result ≡ drop from (take to (slice_index_or shelves.now number [])) }
+{
+    let slots = slots_on(shelves, number);
+    Slots {
+        front: slots[from..to].iter(),
+        shelves: no_shelves().iter(),
+        back: no_slots().iter(),
+    }
+}
+
+// The slots on a shelf from a cut on.
+#[inline]
+fn slots_from<K, R>(shelves: &[Shelf<K, R>], cut: Cut) -> &[Slot<K, R>]
+    requires { cut.slot ≤ length (slice_index_or shelves.now cut.shelf []) }
+    ensures { result.now ≡ drop cut.slot (slice_index_or shelves.now cut.shelf []) }
+{
+    let (_, behind) = slots_on(shelves, cut.shelf).split_at(cut.slot);
+    behind
+}
+
+// The slots on a shelf before a cut.
+#[inline]
+fn slots_to<K, R>(shelves: &[Shelf<K, R>], cut: Cut) -> &[Slot<K, R>]
+    requires { cut.slot ≤ length (slice_index_or shelves.now cut.shelf []) }
+    ensures { result.now ≡ take cut.slot (slice_index_or shelves.now cut.shelf []) }
+{
+    let (before, _) = slots_on(shelves, cut.shelf).split_at(cut.slot);
+    before
+}
+
 // The slots between two cuts.
 fn slots_between<K, R>(shelves: &[Shelf<K, R>], from: Cut, to: Cut) -> Slots<'_, K, R>
     requires forward { from.shelf ≤ to.shelf }
@@ -155,20 +202,16 @@ fn slots_between<K, R>(shelves: &[Shelf<K, R>], from: Cut, to: Cut) -> Slots<'_,
     requires same { from.shelf ≡ to.shelf → from.slot ≤ to.slot }
     ensures { result ≡ cut_between shelves.now from.shelf from.slot to.shelf to.slot }
 {
-    let first = slots_on(shelves, from.shelf);
     if from.shelf == to.shelf {
-        return Slots {
-            front: first[from.slot..to.slot].iter(),
-            shelves: shelves[..0].iter(),
-            back: first[..0].iter(),
-        };
+        return slots_within(shelves, to.shelf, from.slot, to.slot);
     }
+    let front = slots_from(shelves, from);
     let between = shelves_between(shelves, from.shelf, to.shelf);
-    let last = slots_on(shelves, to.shelf);
+    let back = slots_to(shelves, to);
     Slots {
-        front: first[from.slot..].iter(),
+        front: front.iter(),
         shelves: between.iter(),
-        back: last[..to.slot].iter(),
+        back: back.iter(),
     }
 }
 

@@ -240,7 +240,7 @@ impl Cents {
 }
 
 /// A moment: the number of commits before it, from 0 to 999,999,999,999.
-#[derive(Clone, Copy, PartialEq, Eq, PartialOrd)]
+#[derive(Clone, Copy, PartialEq, Eq, PartialOrd, Ord)]
 pub struct Moment {
     commits: u64,
 }
