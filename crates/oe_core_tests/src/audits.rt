@@ -89,8 +89,8 @@ fn verdicts(tables: &Tables) -> [Verdict; 4] {
 }
 
 /// Whether tables that were a population are none after the change, and have the verdicts that it deserves.
-fn is_found_in(tables: &mut Tables, number: u32) -> Option<bool> {
-    let change = fault(tables, number)?;
+fn is_found_in(alloc: Global, tables: &mut Tables, number: u32) -> Option<bool> {
+    let change = fault(tables, number)?.copied(alloc).ok()?;
     let deserved = deserved(number)?;
     let was_population = is_population(tables);
     let is_made = apply(tables, change).is_ok();
@@ -99,7 +99,7 @@ fn is_found_in(tables: &mut Tables, number: u32) -> Option<bool> {
 
 fn is_found(alloc: Global, number: u32) -> Option<bool> {
     let mut tables = populated(alloc, 4, 7)?;
-    is_found_in(&mut tables, number)
+    is_found_in(alloc, &mut tables, number)
 }
 
 #[test]

@@ -1,5 +1,5 @@
 //! The tests of engine, core, audits and scripts that need calls of the libraries: tables that no script comes to, transactions of another
-//! engine, locks that rise, and readers and writers that fail. What a clause says is not tested again, and neither is what the program's
+//! engine, locks that rise, lists of steps, and readers and writers that fail. What a clause says is not tested again, and neither is what the program's
 //! examples show.
 #![tactic(auto)]
 
@@ -17,6 +17,8 @@ mod memory;
 mod modes;
 #[cfg(test)]
 mod populations;
+#[cfg(test)]
+mod runs;
 #[cfg(test)]
 mod sessions;
 #[cfg(test)]

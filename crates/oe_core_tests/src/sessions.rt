@@ -23,8 +23,9 @@ impl Outlet for Nowhere {
     }
 }
 
+/// A core on these tables; none where they are no population, or memory was refused.
 #[tactic(auto, using(crate::proofs::LiveFacts::opened_is_live))]
-fn core_on(alloc: Global, tables: Tables, extents: ExtentCount) -> Option<Core>
+pub(crate) fn core_on(alloc: Global, tables: Tables, extents: ExtentCount) -> Option<Core>
     ensures { IfSome result (λ c. IsLive (state_of (Some c))) }
 {
     if !is_population(&tables) {
