@@ -3,7 +3,7 @@ ghost use Rattle.std.specs.Prelude.{◌≡◌};
 ghost use Rattle.std.specs.Iterator.{YieldsFirstBy, item_count};
 ghost use Rattle.oe_store.specs.Places.{rows};
 ghost use Rattle.oe_store.specs.Dump.{dumped};
-ghost use Rattle.oe_store.specs.Walk.{entry_of};
+ghost use Rattle.oe_store.specs.Walk.{rest, entry_of};
 
 use crate::tables::Tables;
 use oe_keys::{
@@ -60,6 +60,51 @@ impl<'a> Model for Dump<'a> {
     ghost view = { λ d. rest d.walk };
 }
 
+// The next row of a walk, if it has one.
+#[inline]
+fn next_entry<'a>(walk: &mut Walk<'a>) -> Option<Entry<'a>>
+    ensures { YieldsFirstBy entry_of rest walk.old result walk.new }
+{
+    match walk {
+        Walk::Warehouses(rows) => match rows.next() {
+            Some((key, row)) => Some(Entry::Warehouse(*key, row)),
+            None => None,
+        },
+        Walk::Districts(rows) => match rows.next() {
+            Some((key, row)) => Some(Entry::District(*key, row)),
+            None => None,
+        },
+        Walk::Customers(rows) => match rows.next() {
+            Some((key, row)) => Some(Entry::Customer(*key, row)),
+            None => None,
+        },
+        Walk::Histories(rows) => match rows.next() {
+            Some((key, row)) => Some(Entry::History(*key, row)),
+            None => None,
+        },
+        Walk::NewOrders(rows) => match rows.next() {
+            Some((key, row)) => Some(Entry::NewOrder(*key, row)),
+            None => None,
+        },
+        Walk::Orders(rows) => match rows.next() {
+            Some((key, row)) => Some(Entry::Order(*key, row)),
+            None => None,
+        },
+        Walk::OrderLines(rows) => match rows.next() {
+            Some((key, row)) => Some(Entry::OrderLine(*key, row)),
+            None => None,
+        },
+        Walk::Items(rows) => match rows.next() {
+            Some((key, row)) => Some(Entry::Item(*key, row)),
+            None => None,
+        },
+        Walk::Stocks(rows) => match rows.next() {
+            Some((key, row)) => Some(Entry::Stock(*key, row)),
+            None => None,
+        },
+    }
+}
+
 impl<'a> Iterator for Dump<'a> {
     type Item = Entry<'a>;
 
@@ -68,43 +113,9 @@ impl<'a> Iterator for Dump<'a> {
     ghost remaining = { item_count (λ it. it) };
 
     fn next(&mut self) -> Option<Entry<'a>> {
-        match &mut self.walk {
-            Walk::Warehouses(rows) => {
-                let (key, row) = rows.next()?;
-                Some(Entry::Warehouse(*key, row))
-            }
-            Walk::Districts(rows) => {
-                let (key, row) = rows.next()?;
-                Some(Entry::District(*key, row))
-            }
-            Walk::Customers(rows) => {
-                let (key, row) = rows.next()?;
-                Some(Entry::Customer(*key, row))
-            }
-            Walk::Histories(rows) => {
-                let (key, row) = rows.next()?;
-                Some(Entry::History(*key, row))
-            }
-            Walk::NewOrders(rows) => {
-                let (key, row) = rows.next()?;
-                Some(Entry::NewOrder(*key, row))
-            }
-            Walk::Orders(rows) => {
-                let (key, row) = rows.next()?;
-                Some(Entry::Order(*key, row))
-            }
-            Walk::OrderLines(rows) => {
-                let (key, row) = rows.next()?;
-                Some(Entry::OrderLine(*key, row))
-            }
-            Walk::Items(rows) => {
-                let (key, row) = rows.next()?;
-                Some(Entry::Item(*key, row))
-            }
-            Walk::Stocks(rows) => {
-                let (key, row) = rows.next()?;
-                Some(Entry::Stock(*key, row))
-            }
+        match next_entry(&mut self.walk) {
+            Some(entry) => Some(entry),
+            None => None,
         }
     }
 }

@@ -3,6 +3,7 @@ ghost use Rattle.std.specs.Prelude.{◌≡◌};
 ghost use Rattle.std.specs.Iterator.{YieldsFirstBy, item_count};
 ghost use Rattle.oe_keys.specs.declared.keys.Key.{Key};
 ghost use Rattle.oe_store.specs.KeyWalk.{placed_keys};
+ghost use Rattle.oe_store.specs.KeysLeft.{keys_left};
 
 use crate::tables::Tables;
 use oe_keys::{
@@ -44,6 +45,51 @@ impl<'a> Model for KeyWalk<'a> {
     ghost view = { λ w. keys_left w.walk };
 }
 
+// The next key of a walk, if it has one.
+#[inline]
+fn next_key(walk: &mut PlaceWalk<'_>) -> Option<Key>
+    ensures { YieldsFirstBy (λ (k : Key). k) keys_left walk.old result walk.new }
+{
+    match walk {
+        PlaceWalk::Warehouses(places) => match places.next() {
+            Some((key, _row)) => Some(Key::Warehouse(*key)),
+            None => None,
+        },
+        PlaceWalk::Districts(places) => match places.next() {
+            Some((key, _row)) => Some(Key::District(*key)),
+            None => None,
+        },
+        PlaceWalk::Customers(places) => match places.next() {
+            Some((key, _row)) => Some(Key::Customer(*key)),
+            None => None,
+        },
+        PlaceWalk::Histories(places) => match places.next() {
+            Some((key, _row)) => Some(Key::History(*key)),
+            None => None,
+        },
+        PlaceWalk::NewOrders(places) => match places.next() {
+            Some((key, _row)) => Some(Key::NewOrder(*key)),
+            None => None,
+        },
+        PlaceWalk::Orders(places) => match places.next() {
+            Some((key, _row)) => Some(Key::Order(*key)),
+            None => None,
+        },
+        PlaceWalk::OrderLines(places) => match places.next() {
+            Some((key, _row)) => Some(Key::OrderLine(*key)),
+            None => None,
+        },
+        PlaceWalk::Items(places) => match places.next() {
+            Some((key, _row)) => Some(Key::Item(*key)),
+            None => None,
+        },
+        PlaceWalk::Stocks(places) => match places.next() {
+            Some((key, _row)) => Some(Key::Stock(*key)),
+            None => None,
+        },
+    }
+}
+
 impl<'a> Iterator for KeyWalk<'a> {
     type Item = Key;
 
@@ -52,43 +98,9 @@ impl<'a> Iterator for KeyWalk<'a> {
     ghost remaining = { item_count (λ it. it) };
 
     fn next(&mut self) -> Option<Key> {
-        match &mut self.walk {
-            PlaceWalk::Warehouses(places) => {
-                let (key, _row) = places.next()?;
-                Some(Key::Warehouse(*key))
-            }
-            PlaceWalk::Districts(places) => {
-                let (key, _row) = places.next()?;
-                Some(Key::District(*key))
-            }
-            PlaceWalk::Customers(places) => {
-                let (key, _row) = places.next()?;
-                Some(Key::Customer(*key))
-            }
-            PlaceWalk::Histories(places) => {
-                let (key, _row) = places.next()?;
-                Some(Key::History(*key))
-            }
-            PlaceWalk::NewOrders(places) => {
-                let (key, _row) = places.next()?;
-                Some(Key::NewOrder(*key))
-            }
-            PlaceWalk::Orders(places) => {
-                let (key, _row) = places.next()?;
-                Some(Key::Order(*key))
-            }
-            PlaceWalk::OrderLines(places) => {
-                let (key, _row) = places.next()?;
-                Some(Key::OrderLine(*key))
-            }
-            PlaceWalk::Items(places) => {
-                let (key, _row) = places.next()?;
-                Some(Key::Item(*key))
-            }
-            PlaceWalk::Stocks(places) => {
-                let (key, _row) = places.next()?;
-                Some(Key::Stock(*key))
-            }
+        match next_key(&mut self.walk) {
+            Some(key) => Some(key),
+            None => None,
         }
     }
 }

@@ -1,13 +1,103 @@
 //! The population by formula (clause 4.3.3.1, with values of this project's own where that draws them at random).
+//!
+//! The tables are filled three by three, so that no function has more than two behind it where memory is refused.
 ghost use Rattle.std.specs.Prelude.{IfOk};
-ghost use Rattle.oe_model.specs.Population.{IsPopulated};
+ghost use Rattle.std.specs.FinMap.{empty};
+ghost use Rattle.oe_keys.specs.Key.{warehouse_cmp, district_cmp, customer_cmp, history_cmp, new_order_cmp, order_cmp, order_line_cmp, item_cmp, stock_cmp};
+ghost use Rattle.oe_table.specs.Table.{rows_of};
+ghost use Rattle.oe_model.specs.Population.{IsPopulated, warehouse_of, district_of, customer_of, history_of, counted_customer, order_of, line_of, item_of, stock_of, has_warehouse, has_district, has_customer, has_history, has_new_order, has_order, has_line, has_item, has_stock};
+ghost use Rattle.oe_store.specs.Fill.{Fills};
+ghost use Rattle.oe_store.specs.Group.{no_columns};
 ghost use Rattle.oe_store.specs.Places.{rows};
 
 use crate::fills;
 use crate::tables::Tables;
-use oe_rows::Scale;
+use oe_finders::{Customers, Orders};
+use oe_keys::{
+    DistrictKey, HistoryKey, ItemKey, NewOrderKey, OrderLineKey, StockKey, WarehouseKey,
+};
+use oe_rows::{District, History, Item, NewOrder, OrderLine, Scale, Stock, Warehouse};
+use oe_table::shelves::Shelves;
 use oe_table::tables::NoMemory;
 use std::alloc::Global;
+
+// Warehouses, their districts, and the customers of these.
+#[derive(Drop)]
+struct Homes {
+    warehouses: Shelves<WarehouseKey, Warehouse>,
+    districts: Shelves<DistrictKey, District>,
+    customers: Customers,
+}
+
+// What customers have done.
+#[derive(Drop)]
+struct Deeds {
+    histories: Shelves<HistoryKey, History>,
+    new_orders: Shelves<NewOrderKey, NewOrder>,
+    orders: Orders,
+}
+
+// What was ordered, and what can be.
+#[derive(Drop)]
+struct Goods {
+    order_lines: Shelves<OrderLineKey, OrderLine>,
+    items: Shelves<ItemKey, Item>,
+    stocks: Shelves<StockKey, Stock>,
+}
+
+fn fill_homes(alloc: Global, scale: &Scale) -> Result<Homes, NoMemory>
+    ensures warehouses { IfOk result
+        (λ t. Fills (has_warehouse scale.now) (λ k. warehouse_of scale.now k.warehouse) empty
+        (rows_of warehouse_cmp t.warehouses)) }
+    ensures districts { IfOk result
+        (λ t. Fills (has_district scale.now) (λ k. district_of scale.now k.district) empty
+        (rows_of district_cmp t.districts)) }
+    ensures customers { IfOk result
+        (λ t. Fills (has_customer scale.now) (λ k. customer_of k.customer) empty
+        (rows_of customer_cmp t.customers)) }
+{
+    Ok(Homes {
+        warehouses: fills::warehouses(alloc, scale)?,
+        districts: fills::districts(alloc, scale)?,
+        customers: fills::customers(alloc, scale)?,
+    })
+}
+
+fn fill_deeds(alloc: Global, scale: &Scale) -> Result<Deeds, NoMemory>
+    ensures histories { IfOk result
+        (λ t. Fills (has_history scale.now)
+        (λ k. history_of (counted_customer scale.now k.number)) empty
+        (rows_of history_cmp t.histories)) }
+    ensures new_orders { IfOk result
+        (λ t. Fills (has_new_order scale.now) (λ k. no_columns) empty
+        (rows_of new_order_cmp t.new_orders)) }
+    ensures orders { IfOk result
+        (λ t. Fills (has_order scale.now) (λ k. order_of scale.now k.order) empty
+        (rows_of order_cmp t.orders)) }
+{
+    Ok(Deeds {
+        histories: fills::histories(alloc, scale)?,
+        new_orders: fills::new_orders(alloc, scale)?,
+        orders: fills::orders(alloc, scale)?,
+    })
+}
+
+fn fill_goods(alloc: Global, scale: &Scale) -> Result<Goods, NoMemory>
+    ensures order_lines { IfOk result
+        (λ t. Fills (has_line scale.now) (line_of scale.now) empty
+        (rows_of order_line_cmp t.order_lines)) }
+    ensures items { IfOk result
+        (λ t. Fills (has_item scale.now) (λ k. item_of k.item) empty (rows_of item_cmp t.items)) }
+    ensures stocks { IfOk result
+        (λ t. Fills (has_stock scale.now) (λ k. stock_of k.warehouse k.item) empty
+        (rows_of stock_cmp t.stocks)) }
+{
+    Ok(Goods {
+        order_lines: fills::order_lines(alloc, scale)?,
+        items: fills::items(alloc, scale)?,
+        stocks: fills::stocks(alloc, scale)?,
+    })
+}
 
 /// The tables with the population of a scale, which are refused only where memory is.
 pub fn populate(alloc: Global, scale: Scale) -> Result<Tables, NoMemory>
@@ -16,15 +106,18 @@ pub fn populate(alloc: Global, scale: Scale) -> Result<Tables, NoMemory>
     let _warehouses = scale.warehouses.get();
     let _customers = scale.customers.get();
     let _items = scale.items.get();
+    let first = fill_homes(alloc, &scale)?;
+    let second = fill_deeds(alloc, &scale)?;
+    let third = fill_goods(alloc, &scale)?;
     Ok(Tables {
-        warehouses: fills::warehouses(alloc, &scale)?,
-        districts: fills::districts(alloc, &scale)?,
-        customers: fills::customers(alloc, &scale)?,
-        histories: fills::histories(alloc, &scale)?,
-        new_orders: fills::new_orders(alloc, &scale)?,
-        orders: fills::orders(alloc, &scale)?,
-        order_lines: fills::order_lines(alloc, &scale)?,
-        items: fills::items(alloc, &scale)?,
-        stocks: fills::stocks(alloc, &scale)?,
+        warehouses: first.warehouses,
+        districts: first.districts,
+        customers: first.customers,
+        histories: second.histories,
+        new_orders: second.new_orders,
+        orders: second.orders,
+        order_lines: third.order_lines,
+        items: third.items,
+        stocks: third.stocks,
     })
 }
