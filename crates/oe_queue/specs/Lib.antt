@@ -1,0 +1,4 @@
+-- What the clauses of this crate cite.
+pub mod Order
+pub mod Rule
+pub mod Ends

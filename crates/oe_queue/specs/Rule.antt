@@ -1,0 +1,89 @@
+-- The rule of the queue: of each sender, what was taken and then what is queued is what it submitted.
+use Rattle.std.specs.Prelude.{◌≡◌, ◌≢◌, ℕ, ◌+◌, ◌<◌, ◌≤◌, List, [], ◌∷◌, ◌++◌, None, Some}
+use mathlib.Core.Option.{some}
+use lib.ListN.{get_elem?}
+use Rattle.oe_queue.specs.declared.messages.Message.{Message}
+use Rattle.oe_queue.specs.declared.rules.Submitted.{Submitted}
+use Rattle.oe_queue.specs.declared.rules.Taken.{Taken}
+use Rattle.oe_queue.specs.declared.rules.Knowledge.{Knowledge}
+use Rattle.oe_queue.specs.declared.rules.Knowledge.TheVariants.{Gone, Sending, Taking}
+use Rattle.oe_queue.specs.Order.{messages_of}
+
+-- a terminal that got no sender yet has submitted nothing; a sender that is gone had submitted what it told
+pub record IsTaker (queued : List Message) (t : Taken) : Type 0 where
+  pub unmade : (terminal : ℕ) → t.senders < terminal → messages_of terminal (t.messages ++ queued) ≡ []
+  pub told : (s : Submitted) → t.told ≡ Some s → (s.terminal ≤ t.senders) × (messages_of s.terminal (t.messages ++ queued) ≡ s.messages)
+
+abbrev pub IsSound : List Message → Knowledge → Type 0
+IsSound queued Gone = Unit {0}
+IsSound queued (Sending s) = Unit {0}
+IsSound queued (Taking t) = IsTaker queued t
+
+-- what was taken of a sender and then what is queued of it is what it submitted, and it is not the one that is gone
+pub record IsInOrder (queued : List Message) (t : Taken) (s : Submitted) : Type 0 where
+  pub made : s.terminal ≤ t.senders
+  pub whole : messages_of s.terminal (t.messages ++ queued) ≡ s.messages
+  pub here : (gone : Submitted) → t.told ≡ Some gone → s.terminal ≢ gone.terminal
+
+-- there is one taker, and no two senders of one terminal
+abbrev pub Agree : List Message → Knowledge → Knowledge → Type 0
+Agree queued (Taking t) (Sending s) = IsInOrder queued t s
+Agree queued (Taking t) (Taking u) = ⊥
+Agree queued (Taking t) Gone = Unit {0}
+Agree queued (Sending s) (Sending q) = s.terminal ≢ q.terminal
+Agree queued (Sending s) (Taking t) = Unit {0}
+Agree queued (Sending s) Gone = Unit {0}
+Agree queued Gone v = Unit {0}
+
+pub record Kept (queued : List Message) (views : List Knowledge) : Type 0 where
+  pub each : (i : ℕ) (v : Knowledge) → get_elem? views i ≡ some v → IsSound queued v
+  pub pairs : (i j : ℕ) (v w : Knowledge) → get_elem? views i ≡ some v → get_elem? views j ≡ some w → i ≢ j → Agree queued v w
+
+-- the taker of a new queue
+abbrev pub nothing_taken : Taken
+nothing_taken = record { messages = []; senders = 0; told = None }
+
+-- a message is submitted
+abbrev pub submitted : Submitted → Message → Submitted
+submitted s m = record s { messages = s.messages ++ m ∷ [] }
+
+abbrev pub Submits : Knowledge → Message → Knowledge → Type 0
+Submits v m w = (s : Submitted) → v ≡ Sending s → w ≡ Sending (submitted s m)
+
+-- a message is taken
+abbrev pub taken : Taken → Message → Taken
+taken t m = record t { messages = t.messages ++ m ∷ [] }
+
+abbrev pub Takes : Knowledge → Message → Knowledge → Type 0
+Takes v m w = (t : Taken) → v ≡ Taking t → w ≡ Taking (taken t m)
+
+-- the next terminal gets a sender
+abbrev pub one_more : Taken → Taken
+one_more t = record t { senders = t.senders + 1 }
+
+abbrev pub new_sender : ℕ → Submitted
+new_sender terminal = record { terminal = terminal; messages = [] }
+
+abbrev pub with_next : Knowledge → Knowledge
+with_next (Taking t) = Taking (one_more t)
+with_next Gone = Gone
+with_next (Sending s) = Sending s
+
+abbrev pub next_sender : Knowledge → Knowledge
+next_sender (Taking t) = Sending (new_sender (t.senders + 1))
+next_sender Gone = Gone
+next_sender (Sending s) = Gone
+
+-- a sender tells what it submitted
+abbrev pub told : Taken → Submitted → Taken
+told t s = record t { told = Some s }
+
+abbrev pub told_by : Knowledge → Knowledge → Knowledge
+told_by (Taking t) (Sending s) = Taking (told t s)
+told_by (Taking t) Gone = Taking t
+told_by (Taking t) (Taking u) = Taking t
+told_by Gone w = Gone
+told_by (Sending s) w = Sending s
+
+abbrev pub Tells : Knowledge → List Message → Type 0
+Tells v queued = (t : Taken) → v ≡ Taking t → (s : Submitted) → t.told ≡ Some s → messages_of s.terminal (t.messages ++ queued) ≡ s.messages

@@ -1,0 +1,12 @@
+//! What is put into the queue.
+use oe_requests::DeliveriesRequest;
+use oe_values::Terminal;
+
+/// A message of a terminal.
+#[derive(Clone, Copy, PartialEq, Eq)]
+pub enum Message {
+    /// The terminal asks for the delivery of a warehouse's oldest orders.
+    Delivery(Terminal, DeliveriesRequest),
+    /// The terminal submits nothing after this.
+    End(Terminal),
+}

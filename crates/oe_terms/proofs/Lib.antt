@@ -1,0 +1,5 @@
+-- The proofs of this crate.
+pub mod ChainFacts
+pub mod DrawFacts
+pub mod NameFacts
+pub mod RangeFacts
