@@ -9,11 +9,13 @@ use Rattle.oe_queue.specs.declared.rules.Knowledge.{Knowledge}
 use Rattle.oe_queue.specs.declared.rules.Knowledge.TheVariants.{Gone, Sending, Taking}
 use Rattle.oe_queue.specs.Order.{messages_of}
 
--- a terminal that got no sender yet has submitted nothing; a sender that is gone had submitted what it told
+-- the taker: a terminal that got no sender yet has submitted nothing, and a sender that is gone had submitted what it told
 pub record IsTaker (queued : List Message) (t : Taken) : Type 0 where
   pub unmade : (terminal : ℕ) → t.senders < terminal → messages_of terminal (t.messages ++ queued) ≡ []
-  pub told : (s : Submitted) → t.told ≡ Some s → (s.terminal ≤ t.senders) × (messages_of s.terminal (t.messages ++ queued) ≡ s.messages)
+  pub told : (s : Submitted) → t.told ≡ Some s
+      → (s.terminal ≤ t.senders) × (messages_of s.terminal (t.messages ++ queued) ≡ s.messages)
 
+-- what one of them knows holds of what is queued
 abbrev pub IsSound : List Message → Knowledge → Type 0
 IsSound queued Gone = Unit {0}
 IsSound queued (Sending s) = Unit {0}
@@ -35,6 +37,7 @@ Agree queued (Sending s) (Taking t) = Unit {0}
 Agree queued (Sending s) Gone = Unit {0}
 Agree queued Gone v = Unit {0}
 
+-- what each of them knows holds, and what any two of them know
 pub record Kept (queued : List Message) (views : List Knowledge) : Type 0 where
   pub each : (i : ℕ) (v : Knowledge) → get_elem? views i ≡ some v → IsSound queued v
   pub pairs : (i j : ℕ) (v w : Knowledge) → get_elem? views i ≡ some v → get_elem? views j ≡ some w → i ≢ j → Agree queued v w
@@ -85,5 +88,8 @@ told_by (Taking t) (Taking u) = Taking t
 told_by Gone w = Gone
 told_by (Sending s) w = Sending s
 
+-- what is learnt of it: what was taken of it, and then what is queued of it, is what it submitted
 abbrev pub Tells : Knowledge → List Message → Type 0
-Tells v queued = (t : Taken) → v ≡ Taking t → (s : Submitted) → t.told ≡ Some s → messages_of s.terminal (t.messages ++ queued) ≡ s.messages
+Tells v queued =
+    (t : Taken) → v ≡ Taking t → (s : Submitted) → t.told ≡ Some s
+    → messages_of s.terminal (t.messages ++ queued) ≡ s.messages

@@ -59,7 +59,7 @@ impl Model for Taker {
 }
 
 impl SendingEnd {
-    /// Makes the end of the terminal after the first `senders` ones, from the taker's pass.
+    /// Makes the end of the next terminal, from the taker's pass. Memory is the only refusal.
     pub(crate) fn new(
         end: &RuledSender<Message, Knowledge, InOrder>,
         pass: &mut Pass<Message, Knowledge>,
@@ -69,7 +69,8 @@ impl SendingEnd {
         requires taker { known pass.old ≡ Taking (hand_of (known pass.old)) }
         requires next { (hand_of (known pass.old)).senders + 1 ≡ terminal }
         ensures seat { IsSeatAt (sends_on end.now) pass.new }
-        ensures queue { (pass.new.table_id ≡ pass.old.table_id) × (pass.new.me.0.of ≡ pass.old.me.0.of) }
+        ensures queue { (pass.new.table_id ≡ pass.old.table_id)
+            × (pass.new.me.0.of ≡ pass.old.me.0.of) }
         ensures taker { known pass.new ≡ Taking (one_more (hand_of (known pass.old))) }
         ensures sender { IfOk result (λ s.
             s ≡ unused (record { table = pass.old.table_id; key = pass.old.me.0.of }) terminal) }
@@ -93,7 +94,8 @@ impl SendingEnd {
     /// message is not queued then.
     pub(crate) fn submit<W: Wait>(&mut self, rt: &W, message: Message) -> Result<(), ()>
         requires { sender_of message ≡ self.old.terminal }
-        ensures ok { OnOk result (self.new ≡ record self.old { sent = self.old.sent ++ message ∷ [] }) }
+        ensures ok { OnOk result
+            (self.new ≡ record self.old { sent = self.old.sent ++ message ∷ [] }) }
         ensures err { OnErr result (self.new ≡ self.old) }
     {
         let end = &self.end;
@@ -119,8 +121,7 @@ impl Taker {
         Taker { end, pass }
     }
 
-    /// Takes the oldest message, once there is one. None says that the queue was empty at one moment of the call; it comes where
-    /// all senders are gone, too.
+    /// Takes the oldest message, once there is one. There is none where nothing is queued and all senders are gone.
     pub fn take<W: Wait>(&mut self, rt: &W) -> Option<Message>
         ensures some { IfSome result (λ m.
             self.new ≡ record self.old { taken = self.old.taken ++ m ∷ [] }) }

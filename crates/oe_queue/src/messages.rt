@@ -3,7 +3,7 @@ use oe_requests::DeliveriesRequest;
 use oe_values::Terminal;
 
 /// A message of a terminal.
-#[derive(Clone, Copy, PartialEq, Eq)]
+#[derive(Clone, Copy)]
 pub enum Message {
     /// The terminal asks for the delivery of a warehouse's oldest orders.
     Delivery(Terminal, DeliveriesRequest),

@@ -122,8 +122,8 @@ impl Sender {
 }
 
 impl Finished {
-    /// Compares what was taken with what was submitted: it is a beginning, and with the end mark the whole. This does nothing: it
-    /// is a law.
+    /// Compares what was taken with what was submitted: it is a beginning, and with the end mark the whole. This does nothing:
+    /// it is a law.
     #[tactic(auto, using(crate::proofs::EndFacts::is_whole))]
     pub fn compare(self, taker: &mut Taker)
         requires { self.queue ≡ taker.old.queue }

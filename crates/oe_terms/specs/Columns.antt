@@ -1,5 +1,4 @@
--- The parts of requests, each with the generator after it. A database of another scale than the standard's has its numbers drawn
--- evenly.
+-- The parts of requests, each with the generator after it. At another scale than the standard's, numbers are drawn evenly.
 use Rattle.std.specs.Prelude.{ℕ, ◌+◌, ◌-◌, ◌%◌, ◌==◌, nat_le, if◌then◌else◌, min, List}
 use Rattle.rand_pcg.specs.Lcg.{Lcg}
 use Rattle.oe_rows.specs.declared.scales.Scale.{Scale}
@@ -12,6 +11,10 @@ use Rattle.oe_terms.specs.Draws.{random, nurand}
 -- the terminal's warehouse, which stays the same (clause 2.4.1.1)
 abbrev pub home : Scale → ℕ → ℕ
 home s terminal = 1 + (terminal - 1) % s.warehouses
+
+-- the terminal's district for its stock levels (clause 2.8.1.1)
+abbrev pub own_district : Scale → ℕ → DistrictKey
+own_district s terminal = record { warehouse = home s terminal; district = 1 + (terminal - 1) % 10 }
 
 -- the one warehouse that stands for all others: the next, or the same where there is one alone
 abbrev pub other : Scale → ℕ → ℕ
@@ -31,7 +34,7 @@ district_in warehouse g =
 abbrev pub customer_number : ℕ → Lcg → ℕ × Lcg
 customer_number customers g = if customers == 3_000 then nurand 1_023 987 1 3_000 g else random 1 customers g
 
--- C_LAST: the name of a number that some customer's name has (clause 4.3.2.3)
+-- C_LAST, and its number, which is that of some customer's name (clause 4.3.2.3)
 abbrev pub name_number : ℕ → Lcg → ℕ × Lcg
 name_number customers g = if customers == 3_000 then nurand 255 157 0 999 g else random 0 (min customers 1_000 - 1) g
 

@@ -15,7 +15,7 @@ use Rattle.oe_requests.specs.declared.requests.Errand.TheVariants.{Begin, Read, 
 use Rattle.oe_terms.specs.declared.errands.Kind.{Kind}
 use Rattle.oe_terms.specs.declared.errands.Kind.TheVariants as kind
 use Rattle.oe_terms.specs.Draws.{random, words_of}
-use Rattle.oe_terms.specs.Columns.{home, other, stamp_of, district_in, customer_number, item_number, choice, residence}
+use Rattle.oe_terms.specs.Columns.{home, own_district, other, stamp_of, district_in, customer_number, item_number, choice, residence}
 
 -- a line: in 1 of 100 the other warehouse supplies it; an item past the last one is unused (clause 2.4.1.5)
 abbrev pub line : Scale → ℕ → Bool → Lcg → RequestLine × Lcg
@@ -78,11 +78,11 @@ delivery s terminal r g =
     let carrier = random 1 10 g in
     (record { warehouse = record { warehouse = home s terminal }; carrier = carrier.0; stamp = stamp_of r }, carrier.1)
 
--- clause 2.8.1: each terminal has a district of its own
+-- clause 2.8.1
 abbrev pub stock_level : Scale → ℕ → Lcg → LevelQuery × Lcg
 stock_level s terminal g =
     let threshold = random 10 20 g in
-    (record { district = record { warehouse = home s terminal; district = 1 + (terminal - 1) % 10 }; threshold = threshold.0 }, threshold.1)
+    (record { district = own_district s terminal; threshold = threshold.0 }, threshold.1)
 
 -- the kinds come in turn, in place of the mix of clause 5.2.3
 abbrev pub kind_of : ℕ → Kind

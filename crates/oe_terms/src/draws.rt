@@ -46,7 +46,7 @@ pub fn number_in<const LOW: u32, const HIGH: u32>(words: &mut Lcg64Xsh32) -> Num
     number(random(words, LOW, HIGH))
 }
 
-/// That number, of a range that has it.
+/// Makes a number of a range that has it.
 pub(crate) fn number<const LOW: u32, const HIGH: u32>(value: u32) -> Number<LOW, HIGH>
     requires low { LOW ≤ value }
     requires high { value ≤ HIGH }

@@ -16,7 +16,7 @@ use rand_pcg::Lcg64Xsh32;
 pub type RequestNumber = Number<1, 1_000>;
 
 /// A kind of request: one of the standard's five transactions (clause 1.1).
-#[derive(Clone, Copy, PartialEq, Eq)]
+#[derive(Clone, Copy)]
 pub enum Kind {
     NewOrder,
     Payment,

@@ -50,7 +50,7 @@ fn used_lines(
     ensures long { length result ≡ count }
 {
     let mut drawn = Lines::new();
-    for index in 0..count {
+    for _ in 0..count {
         drawn.push(line(scale, warehouse, false, words));
     }
     drawn

@@ -1,5 +1,5 @@
 use Rattle.oe_terms.proofs.ChainFacts.{used_lines_more, length_more}
 use Rattle.oe_terms.proofs.orders.used_lines.Goals as goal
 
-pub loop-index-preserved : goal.loop-index-preserved
-loop-index-preserved c = (used_lines_more c.args.scale.now c.args.warehouse c.loop-index.index c.args.words.now _ _ _ _ _ c.loop-index.invariant.0 c.line.ensures c.push.ensures, length_more _ _ _ _ c.push.ensures c.loop-index.invariant.1)
+pub loop-preserved : goal.loop-preserved
+loop-preserved c = (used_lines_more c.args.scale.now c.args.warehouse c.loop.counter c.args.words.now _ _ _ _ _ c.loop.invariant.0 c.line.ensures c.push.ensures, length_more _ _ _ _ c.push.ensures c.loop.invariant.1)
