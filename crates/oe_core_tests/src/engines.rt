@@ -43,7 +43,10 @@ fn opened(rt: &impl Abort, alloc: Global, name: u32) -> Result<Engine, NoMemory>
 
 /// An engine of that name on one warehouse.
 pub(crate) fn engine(rt: &impl Abort, alloc: Global, name: u32) -> Engine {
-    opened(rt, alloc, name).expect(rt, "an engine")
+    match opened(rt, alloc, name) {
+        Ok(engine) => engine,
+        Err(_) => panic!(rt; "no engine"),
+    }
 }
 
 /// A payment of 250.00 in district 1 by a customer of it.
