@@ -90,8 +90,8 @@ fn verdicts(tables: &Tables) -> [Verdict; 4] {
 
 /// Whether tables that were a population are none after the change, and have the verdicts that it deserves.
 fn is_found_in(alloc: Global, tables: &mut Tables, number: u32) -> Option<bool> {
-    let change = fault(tables, number)?.copied(alloc).ok()?;
     let deserved = deserved(number)?;
+    let change = fault(tables, number)?.copied(alloc).ok()?;
     let was_population = is_population(tables);
     let is_made = apply(tables, change).is_ok();
     Some(was_population && is_made && !is_population(tables) && verdicts(tables) == deserved)

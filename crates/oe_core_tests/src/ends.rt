@@ -1,10 +1,9 @@
 //! Orders and payments at the ends of the columns that they raise: the last one that fits, and the one after it, which is refused and
 //! gone.
-ghost use Rattle.std.specs.Prelude.{IfSome};
 ghost use Rattle.oe_script.specs.Session.{state_of, IsLive};
 
 use crate::populations::{district_key, populated, stock_key};
-use crate::sessions::{is_answered, session_on};
+use crate::sessions::{core_on, is_answered, session_on};
 use oe_change::apply;
 use oe_keys::{OrderKey, StockKey};
 use oe_records::{Boxed, Change};
@@ -14,6 +13,7 @@ use oe_script::session::Session;
 use oe_store::Tables;
 use oe_values::{Count, LineNumber, Number, OrderNumber, StockYtd};
 use std::alloc::Global;
+use std::process::Abort;
 
 // A change that the tables take.
 fn amend(tables: &mut Tables, change: Change) -> Option<()> {
@@ -109,15 +109,14 @@ fn end(alloc: Global, tables: &mut Tables, column: Column) -> Option<()> {
     }
 }
 
-// A session on a population in which that column has room for one.
-fn ended(alloc: Global, column: Column) -> Option<Session>
-    ensures { IfSome result (λ s. IsLive (state_of s.core)) }
-{
-    let mut tables = populated(alloc, 10, 20)?;
-    if end(alloc, &mut tables, column).is_none() {
-        return None;
-    }
-    session_on(alloc, tables)
+// The population in which that column has room for one.
+fn ended(rt: &impl Abort, alloc: Global, column: Column) -> Tables {
+    let Some(mut tables) = populated(alloc, 10, 20) else {
+        panic!(rt; "no population")
+    };
+    let is_made = end(alloc, &mut tables, column).is_some();
+    assert!(rt; is_made);
+    tables
 }
 
 /// Lines, and their answers.
@@ -178,63 +177,46 @@ fn ends_so(session: &mut Session, alloc: Global, fits: &Said, stages: u32, refus
     is_answered(session, alloc, GONE.lines, GONE.answers)
 }
 
-// The same of tables in which that column has room for one.
-fn ends(alloc: Global, column: Column, fits: &Said, stages: u32, refusal: &[u8]) -> bool {
-    match ended(alloc, column) {
-        Some(session) => {
-            let mut session = session;
-            let is_right = ends_so(&mut session, alloc, fits, stages, refusal);
-            session.close();
-            is_right
-        }
-        None => false,
-    }
+// The same on these tables.
+fn ends(
+    rt: &impl Abort,
+    alloc: Global,
+    tables: Tables,
+    fits: &Said,
+    stages: u32,
+    refusal: &[u8],
+) -> bool {
+    let mut session = session_on(core_on(rt, alloc, tables));
+    let is_right = ends_so(&mut session, alloc, fits, stages, refusal);
+    session.close();
+    is_right
 }
 
 #[test]
 fn orders_end_with_their_columns(rt: HostRuntime) {
-    let alloc = rt.alloc();
-    assert!(rt;
-        ends(
-            alloc,
-            Column::StockYtd,
-            &ORDER,
-            9,
-            b"error 4 Overflow S_YTD\n"
-        )
-    );
-    assert!(rt;
-        ends(
-            alloc,
+    for (column, stages, refusal) in [
+        (Column::StockYtd, 9, b"error 4 Overflow S_YTD\n".as_slice()),
+        (
             Column::OrderCount,
-            &ORDER,
             11,
-            b"error 4 Overflow S_ORDER_CNT\n"
-        )
-    );
-    assert!(rt;
-        ends(
-            alloc,
+            b"error 4 Overflow S_ORDER_CNT\n".as_slice(),
+        ),
+        (
             Column::RemoteCount,
-            &ORDER,
             13,
-            b"error 4 Overflow S_REMOTE_CNT\n"
-        )
-    );
+            b"error 4 Overflow S_REMOTE_CNT\n".as_slice(),
+        ),
+    ] {
+        let tables = ended(&rt, rt.alloc(), column);
+        assert!(rt; ends(&rt, rt.alloc(), tables, &ORDER, stages, refusal));
+    }
 }
 
 #[test]
 fn payments_end_with_their_count(rt: HostRuntime) {
-    let alloc = rt.alloc();
-    assert!(rt;
-        ends(
-            alloc,
-            Column::PaymentCount,
-            &PAYMENT,
-            2,
-            b"error 4 Overflow C_PAYMENT_CNT\n"
-        )
-    );
+    let tables = ended(&rt, rt.alloc(), Column::PaymentCount);
+    let refusal = b"error 4 Overflow C_PAYMENT_CNT\n".as_slice();
+    assert!(rt; ends(&rt, rt.alloc(), tables, &PAYMENT, 2, refusal));
 }
 
 /// Where order 9,999,998 is the newest there is room for one, whose lines would take much memory: so it is not carried out.
@@ -248,32 +230,27 @@ const NO_ROOM: Said = Said {
     answers: b"begun\nmore\nerror 4 Overflow D_NEXT_O_ID\nerror 10 NotOpen\ncondition 2 holds\n",
 };
 
-// A session on a population in which an order of that number is the newest of its district.
-fn numbered(alloc: Global, number: u32) -> Option<Session>
-    ensures { IfSome result (λ s. IsLive (state_of s.core)) }
-{
-    let mut tables = populated(alloc, 10, 20)?;
-    if number_orders(&mut tables, number).is_none() {
-        return None;
-    }
-    session_on(alloc, tables)
+// The population in which an order of that number is the newest of its district.
+fn numbered(rt: &impl Abort, alloc: Global, number: u32) -> Tables {
+    let Some(mut tables) = populated(alloc, 10, 20) else {
+        panic!(rt; "no population")
+    };
+    let is_made = number_orders(&mut tables, number).is_some();
+    assert!(rt; is_made);
+    tables
 }
 
 // Whether these lines are answered so there.
-fn says(alloc: Global, number: u32, said: &Said) -> bool {
-    match numbered(alloc, number) {
-        Some(session) => {
-            let mut session = session;
-            let is_right = is_answered(&mut session, alloc, said.lines, said.answers);
-            session.close();
-            is_right
-        }
-        None => false,
-    }
+fn says(rt: &impl Abort, alloc: Global, number: u32, said: &Said) -> bool {
+    let tables = numbered(rt, alloc, number);
+    let mut session = session_on(core_on(rt, alloc, tables));
+    let is_right = is_answered(&mut session, alloc, said.lines, said.answers);
+    session.close();
+    is_right
 }
 
 #[test]
 fn order_numbers_end(rt: HostRuntime) {
-    assert!(rt; says(rt.alloc(), 9_999_998, &ROOM));
-    assert!(rt; says(rt.alloc(), 9_999_999, &NO_ROOM));
+    assert!(rt; says(&rt, rt.alloc(), 9_999_998, &ROOM));
+    assert!(rt; says(&rt, rt.alloc(), 9_999_999, &NO_ROOM));
 }

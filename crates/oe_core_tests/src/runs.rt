@@ -4,11 +4,10 @@ ghost use Rattle.oe_core.specs.Steps.{IsStep};
 
 use crate::populations::populated;
 use crate::sessions::core_on;
-use oe_core::{Core, ExtentCount, run};
+use oe_core::{Core, run};
 use oe_requests::Refusal;
 use oe_steps::{Answer, Step};
 use oe_values::Terminal;
-use std::alloc::Global;
 
 // Whether the only answer is that nothing is open.
 fn is_not_open(answers: &[Answer]) -> bool {
@@ -34,17 +33,13 @@ fn rolls_nothing_back(core: &mut Core, terminal: Terminal) -> bool {
     run_is_not_open(core, &[Step::Rollback(terminal)])
 }
 
-fn runs(alloc: Global) -> Option<bool> {
-    let terminal = Terminal::new(17)?;
-    let extents = ExtentCount::new(2)?;
-    let tables = populated(alloc, 1, 1)?;
-    let mut core = core_on(alloc, tables, extents)?;
-    let is_right = rolls_nothing_back(&mut core, terminal);
-    drop(core.close());
-    Some(is_right)
-}
-
 #[test]
 fn a_list_of_steps_is_run(rt: HostRuntime) {
-    assert!(rt; runs(rt.alloc()) == Some(true));
+    let terminal = Terminal::new(17).expect(&rt, "a terminal");
+    let Some(tables) = populated(rt.alloc(), 1, 1) else {
+        panic!(rt; "no population")
+    };
+    let mut core = core_on(&rt, rt.alloc(), tables);
+    assert!(rt; rolls_nothing_back(&mut core, terminal));
+    drop(core.close());
 }

@@ -1,5 +1,5 @@
 //! Sessions on tables that no script opens, whose further lines are said all at once.
-ghost use Rattle.std.specs.Prelude.{None, IfSome};
+ghost use Rattle.std.specs.Prelude.{◌≡◌, None, Some};
 ghost use Rattle.oe_script.specs.Session.{state_of, IsLive};
 
 use arrayvec::ArrayVec;
@@ -10,6 +10,7 @@ use oe_script::session::Session;
 use oe_store::Tables;
 use oe_texts::Pending;
 use std::alloc::Global;
+use std::process::Abort;
 
 /// Takes all that is written, and keeps nothing.
 #[derive(Drop)]
@@ -23,34 +24,30 @@ impl Outlet for Nowhere {
     }
 }
 
-/// A core on these tables; none where they are no population, or memory was refused.
-#[tactic(auto, using(crate::proofs::LiveFacts::opened_is_live))]
-pub(crate) fn core_on(alloc: Global, tables: Tables, extents: ExtentCount) -> Option<Core>
-    ensures { IfSome result (λ c. IsLive (state_of (Some c))) }
+/// A core on these tables, which are a population, with 64 undo extents.
+pub(crate) fn core_on(rt: &impl Abort, alloc: Global, tables: Tables) -> Core
+    ensures { IsLive (state_of (Some result)) }
 {
+    let extents = ExtentCount::new(64).expect(rt, "extents");
     if !is_population(&tables) {
-        return None;
+        panic!(rt; "no population");
     }
     match Core::open(alloc, tables, extents) {
-        Ok(core) => Some(core),
-        Err(_) => None,
+        Ok(core) => core,
+        Err(_) => panic!(rt; "no memory"),
     }
 }
 
-/// A session whose tables are these, with 64 undo extents; none where they are no population, or memory was refused.
-pub(crate) fn session_on(alloc: Global, tables: Tables) -> Option<Session>
-    ensures { IfSome result (λ s. IsLive (state_of s.core)) }
+/// A session in which a core was opened.
+pub(crate) fn session_on(core: Core) -> Session
+    ensures core { result.core ≡ Some core }
 {
-    let extents = ExtentCount::new(64)?;
-    match core_on(alloc, tables, extents) {
-        Some(core) => Some(Session {
-            core: Some(core),
-            line: ArrayVec::new(),
-            over: false,
-            count: 0,
-            out: Pending::new(),
-        }),
-        None => None,
+    Session {
+        core: Some(core),
+        line: ArrayVec::new(),
+        over: false,
+        count: 0,
+        out: Pending::new(),
     }
 }
 
