@@ -16,7 +16,7 @@ ghost use Rattle.oe_core.specs.Core.{world_of, reply_of, last_reply, last_paymen
 use crate::advances::Advanced;
 use crate::programs::Program;
 use crate::rejections::rejection;
-use crate::slots::{Work, begin_work, empty_txs, empty_works, open_tx, put_tx, slot, take_tx};
+use crate::slots::{Work, begin_work, empty_places, open_tx, put_tx, slot, take_tx};
 use oe_engine::{Engine, ExtentCount, Progress, Tx};
 use oe_requests::{PaymentReply, Query, Refusal, Reply, Request};
 use oe_steps::{Answer, Condition, Step};
@@ -58,10 +58,8 @@ impl Core {
         ensures { IfOk result (λ c. world_of c ≡ opened system (rows tables) extents) }
     {
         let engine = Engine::open(alloc, tables, extents, 0)?;
-        let Ok(works) = empty_works(alloc) else {
-            return Err(NoMemory);
-        };
-        let Ok(txs) = empty_txs(alloc) else {
+        let Ok((works, txs)) = empty_places(alloc) else {
+            drop(engine);
             return Err(NoMemory);
         };
         Ok(Core {

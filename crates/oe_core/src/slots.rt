@@ -82,18 +82,15 @@ fn empty_slots<T>(alloc: Global) -> Result<Vec<Option<T>>, AllocError>
     Ok(slots)
 }
 
-/// Slots for the transactions of the terminals 1 to 64; that of 0 stays empty.
-pub fn empty_txs(alloc: Global) -> Result<Vec<Option<Tx>>, AllocError>
-    ensures { IfOk result (λ v. v.items ≡ replicate (suc TERMINALS) None) }
+/// Slots for what terminals carry out, and for their transactions; those of 0 stay empty. Where memory is refused, only the first are
+/// there to be dropped.
+pub fn empty_places(alloc: Global) -> Result<(Vec<Option<Work>>, Vec<Option<Tx>>), AllocError>
+    ensures works { IfOk result (λ p. p.0.items ≡ replicate (suc TERMINALS) None) }
+    ensures txs { IfOk result (λ p. p.1.items ≡ replicate (suc TERMINALS) None) }
 {
-    empty_slots(alloc)
-}
-
-/// Slots for what they carry out.
-pub fn empty_works(alloc: Global) -> Result<Vec<Option<Work>>, AllocError>
-    ensures { IfOk result (λ v. v.items ≡ replicate (suc TERMINALS) None) }
-{
-    empty_slots(alloc)
+    let works = empty_slots(alloc)?;
+    let txs = empty_slots(alloc)?;
+    Ok((works, txs))
 }
 
 /// Takes what stands in a terminal's slot.

@@ -1,8 +1,8 @@
 //! Audits of a population with a row changed: the condition that the change breaks fails, at the district or warehouse that it
 //! breaks it at.
-use crate::populations::{district_key, history_key, order_key, populated};
+use crate::populations::{amend, district_key, history_key, order_key, populated};
 use oe_audit::{condition, is_population};
-use oe_change::{Change, apply};
+use oe_change::Change;
 use oe_keys::Key;
 use oe_steps::{Condition, Verdict};
 use oe_store::Tables;
@@ -88,18 +88,29 @@ fn verdicts(tables: &Tables) -> [Verdict; 4] {
     ]
 }
 
+/// Makes a copy of a change.
+fn make(alloc: Global, tables: &mut Tables, change: Change) -> Option<()> {
+    let copied = change.copied(alloc);
+    drop(change);
+    match copied {
+        Ok(copied) => amend(tables, copied),
+        Err(_) => None,
+    }
+}
+
 /// Whether tables that were a population are none after the change, and have the verdicts that it deserves.
 fn is_found_in(alloc: Global, tables: &mut Tables, number: u32) -> Option<bool> {
-    let deserved = deserved(number)?;
-    let change = fault(tables, number)?.copied(alloc).ok()?;
     let was_population = is_population(tables);
-    let is_made = apply(tables, change).is_ok();
-    Some(was_population && is_made && !is_population(tables) && verdicts(tables) == deserved)
+    let change = fault(tables, number)?;
+    make(alloc, tables, change)?;
+    Some(was_population && !is_population(tables) && Some(verdicts(tables)) == deserved(number))
 }
 
 fn is_found(alloc: Global, number: u32) -> Option<bool> {
     let mut tables = populated(alloc, 4, 7)?;
-    is_found_in(alloc, &mut tables, number)
+    let found = is_found_in(alloc, &mut tables, number);
+    drop(tables);
+    found
 }
 
 #[test]

@@ -2,9 +2,8 @@
 //! gone.
 ghost use Rattle.oe_script.specs.Session.{state_of, IsLive};
 
-use crate::populations::{district_key, populated, stock_key};
+use crate::populations::{amend, district_key, populated, stock_key};
 use crate::sessions::{core_on, is_answered, session_on};
-use oe_change::apply;
 use oe_keys::{OrderKey, StockKey};
 use oe_records::{Boxed, Change};
 use oe_requests::Column;
@@ -14,14 +13,6 @@ use oe_store::Tables;
 use oe_values::{Count, LineNumber, Number, OrderNumber, StockYtd};
 use std::alloc::Global;
 use std::process::Abort;
-
-// A change that the tables take.
-fn amend(tables: &mut Tables, change: Change) -> Option<()> {
-    match apply(tables, change) {
-        Ok(_) => Some(()),
-        Err(_) => None,
-    }
-}
 
 // Changes a stock to that row.
 fn restock(alloc: Global, tables: &mut Tables, key: StockKey, row: Stock) -> Option<()> {

@@ -1,7 +1,9 @@
 //! Keys, and small populations.
+use oe_change::{Change, apply};
 use oe_keys::{DistrictKey, HistoryKey, OrderKey, StockKey};
+use oe_population::populate;
 use oe_rows::Scale;
-use oe_store::{Tables, populate};
+use oe_store::Tables;
 use oe_values::Number;
 use std::alloc::Global;
 
@@ -45,6 +47,17 @@ pub(crate) fn populated(alloc: Global, customers: u32, items: u32) -> Option<Tab
     let scale = scale(customers, items)?;
     match populate(alloc, scale) {
         Ok(tables) => Some(tables),
+        Err(_) => None,
+    }
+}
+
+/// Makes a change that the tables take.
+pub(crate) fn amend(tables: &mut Tables, change: Change) -> Option<()> {
+    match apply(tables, change) {
+        Ok(before) => {
+            drop(before);
+            Some(())
+        }
         Err(_) => None,
     }
 }

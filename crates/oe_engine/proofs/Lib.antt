@@ -8,7 +8,6 @@ pub mod LockFacts
 pub mod LogFacts
 pub mod MakeFacts
 mod PutFacts
-mod ChangeFacts
 mod FullFacts
 pub mod PastFacts
 mod WriteFacts

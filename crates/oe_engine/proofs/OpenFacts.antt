@@ -1,6 +1,6 @@
 -- How the keys of tables get places for their links, one after another.
 use Rattle.std.proofs.Common.{◌≡◌, refl, sym, ◌∙◌, subst, List, [], ◌∷◌}
-use Rattle.std.specs.Prelude.{Option, None, Some, true}
+use Rattle.std.specs.Prelude.{Option, None, Some, true, Result, Ok, Err, OnOk}
 use Rattle.oe_keys.specs.declared.keys.Key.{Key}
 use Rattle.oe_keys.specs.declared.keys.Key.TheVariants as key
 use Rattle.oe_keys.specs.declared.keys.Table.{Table}
@@ -64,6 +64,11 @@ next_waits first now next waiting k rest all same kept covered h = record {
 pub waiting_linked : (first now next : UndoState) (waiting : Option Key) (all : List Key) → KeepsPlaces now.links next.links → HasWaiting next.links waiting
     → IsLinkingKeys first now waiting [] all → AllByRecursion (HasPlace next.links) all
 waiting_linked first now next waiting all kept has h = h.left next.links kept has tt
+
+pub placed_covered : {T E : Type 0} (r : Result T E) (links : LinkMaps) (waiting : Option Key) (k next : Key) → waiting ≡ Some k → OnOk r (HasPlace links k)
+    → OnOk r (IsCovered links waiting next)
+placed_covered (Ok v) links waiting k next is has = λ m kept _. subst (HasWaiting m) (sym is) (kept k has)
+placed_covered (Err e) links waiting k next is has = tt
 
 pub waits_covered : (links : LinkMaps) (waiting : Option Key) (k next : Key) → waiting ≡ Some k → comes_with next k ≡ true → IsCovered links waiting next
 waits_covered links waiting k next is with_next m kept has = subst (HasWaiting m) (sym is) (comes_placed m next k with_next has)

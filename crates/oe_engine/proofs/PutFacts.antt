@@ -1,4 +1,4 @@
--- What a write or a change leaves of an engine, whether it was made or refused.
+-- What a write leaves of an engine, whether it was made or refused.
 use Rattle.std.proofs.Common.{◌≡◌, ℕ, suc, sym, subst, Some}
 use Rattle.std.specs.Prelude.{Result, Ok, Err, OnOk, OnErr}
 use Rattle.std.specs.Option.{IsSomeAnd}
@@ -36,7 +36,7 @@ module _ (ts ts' : tables.Places) (u x : UndoState) (ls : Holdings) (t : ℕ) wh
   abbrev pub MayWriteHere : Write → Type 0
   MayWriteHere w = MayWrite ((view_from ts u.log ls).held t) t (suc ((view_from ts u.log ls).counts t)) w
 
-  pub change_sound : (c : Change) → MayHere c → IsRecorded c ts ts' u x t → AreLinked ts' x.links → IsSound ts u ls → IsSound ts' x ls
+  change_sound : (c : Change) → MayHere c → IsRecorded c ts ts' u x t → AreLinked ts' x.links → IsSound ts u ls → IsSound ts' x ls
   unfolding view_from
   change_sound c may h linked s = record {
     kept = change_kept ts ts' u x ls t c h s.kept;
@@ -51,16 +51,11 @@ module _ (ts ts' : tables.Places) (u x : UndoState) (ls : Holdings) (t : ℕ) wh
     linked = linked;
   }
 
-  pub made_sound : {T E : Type 0} (r : Result T E) (c : Change) → MayHere c → OnOk r (IsRecorded c ts ts' u x t) → OnErr r (ts' ≡ ts) → OnErr r (x.log ≡ u.log)
-      → AreLinked ts' x.links → IsSound ts u ls → IsSound ts' x ls
-  made_sound (Ok v) c may h tables log linked s = change_sound c may h linked s
-  made_sound (Err e) c may h tables log linked s = same_sound tables log linked s
-
-  pub made_view : {T E : Type 0} (r : Result T E) (c : Change) → OnOk r (IsRecorded c ts ts' u x t) → OnOk r (view_from ts' x.log ls ≡ made t c (view_from ts u.log ls))
+  made_view : {T E : Type 0} (r : Result T E) (c : Change) → OnOk r (IsRecorded c ts ts' u x t) → OnOk r (view_from ts' x.log ls ≡ made t c (view_from ts u.log ls))
   made_view (Ok v) c h = change_view ts ts' u x ls t c h
   made_view (Err e) c h = tt
 
-  pub made_accepted : {T E : Type 0} (r : Result T E) (c : Change) → OnOk r (IsRecorded c ts ts' u x t) → OnOk r (Accepts c (rows ts))
+  made_accepted : {T E : Type 0} (r : Result T E) (c : Change) → OnOk r (IsRecorded c ts ts' u x t) → OnOk r (Accepts c (rows ts))
   made_accepted (Ok v) c h = h.applies.accepted
   made_accepted (Err e) c h = tt
 

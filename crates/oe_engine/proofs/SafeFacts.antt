@@ -31,10 +31,9 @@ use Rattle.oe_chains.specs.Chains.{HaveNone, IsAlone}
 use Rattle.oe_locks.specs.Held as locks
 use Rattle.oe_locks.specs.Held.{Holdings}
 use Rattle.oe_engine.specs.View.{View, view_from, opened_view}
-use Rattle.oe_engine.specs.Covered.{Owns, AreOwned, IsUnused, HoldsOrder, MayMake, IsOwn, Unwinds, IsSafe}
+use Rattle.oe_engine.specs.Covered.{Owns, AreOwned, IsUnused, MayMake, IsOwn, Unwinds, IsSafe}
 use Rattle.oe_journal.specs.GoesBack.{CanUnwind}
-use Rattle.oe_engine.specs.Calls.{ask_to_write, IsFree, IsBelow, IsCovered, begun, locked, made, put_mode, count_since, back_at, committed, rolled_back}
-use Rattle.oe_engine.proofs.LockFacts.{set_at}
+use Rattle.oe_engine.specs.Calls.{ask_to_write, IsFree, IsBelow, begun, locked, made, put_mode, count_since, back_at, committed, rolled_back}
 use Rattle.oe_engine.proofs.PartFacts.{free_is, locked_is}
 use Rattle.oe_engine.proofs.CoveredFacts.{RefersTo, AreApart, whole_made, made_unwinds, back_unwinds, can_go_back, sealed_unwinds, none_unwinds}
 
@@ -336,30 +335,8 @@ pub all_unwind : (t : ℕ) (v : View) → IsSafe v → CanUnwind (v.undo.active 
 all_unwind t v s =
     subst (λ bs. CanUnwind bs v.rows) (take_all (length (v.undo.active t)) (v.undo.active t) (omega arith)) (newest_unwind t (length (v.undo.active t)) v s)
 
--- A stage's change is covered once its lock was taken
-pub covered_after : (t : ℕ) (n : Name) (m : theory.Mode) (c : Change) (v : View) → IsCovered v t (Take n m) (Some c)
-    → MayMake ((locked t n m v).held t) t (suc ((locked t n m v).counts t)) c
-covered_after t n m c v h = subst (λ held. MayMake held t (suc (v.counts t)) c) (sym (set_at t (held_after system (Take n m) (v.held t)) v.held)) h
-
--- and where its name is taken for it
+-- rows of the transaction's own, or under a name that is taken for it, it alone may change
 pub owns_to_write : (v : View) (t k : ℕ) (g : Guard Name) → IsOwn t k g → Owns (held_after system (ask_to_write g) (v.held t)) t k g
 owns_to_write v t k Free h = h
 owns_to_write v t k (Under n) h = taken_alone (v.held t) n
 owns_to_write v t k (Own u j) h = h
-
-order_to_write : (v : View) (t : ℕ) (c : Change) → HoldsOrder (v.held t) c → HoldsOrder (held_after system (ask_to_write (governs (key_of c))) (v.held t)) c
-order_to_write v t (InsertNewOrder k x) h = h
-order_to_write v t (InsertHistory k x) h = tt
-order_to_write v t (InsertOrder k x) h = tt
-order_to_write v t (InsertOrderLine k x) h = tt
-order_to_write v t (UpdateWarehouse k x) h = tt
-order_to_write v t (UpdateDistrict k x) h = tt
-order_to_write v t (UpdateCustomer k x) h = tt
-order_to_write v t (UpdateOrder k x) h = tt
-order_to_write v t (UpdateOrderLine k x) h = tt
-order_to_write v t (UpdateStock k x) h = tt
-order_to_write v t (DeleteNewOrder k) h = tt
-
-pub covered_to_write : (v : View) (t : ℕ) (c : Change) → IsOwn t (suc (v.counts t)) (governs (key_of c)) → HoldsOrder (v.held t) c
-    → IsCovered v t (ask_to_write (governs (key_of c))) (Some c)
-covered_to_write v t c own order = (owns_to_write v t (suc (v.counts t)) (governs (key_of c)) own, order_to_write v t c order)

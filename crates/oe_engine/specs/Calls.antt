@@ -21,7 +21,6 @@ use Rattle.oe_store.specs.Places as tables
 use Rattle.oe_change.specs.Applies.{Refuses}
 use Rattle.oe_segments.specs.Moments.{IsBetween, IsOutside}
 use Rattle.oe_engine.specs.View.{EngineState, View, view_of, Handle, IsOpen}
-use Rattle.oe_engine.specs.Covered.{MayMake}
 use Rattle.oe_engine.specs.declared.programs.Lock.{Lock}
 
 -- the lock that a row asks for, in the words of the theory
@@ -40,11 +39,6 @@ abbrev pub MayRead : View → ℕ → Guard Name → Type 0
 MayRead v t (Under n) = IsSome (v.held t n)
 MayRead v t (Own u k) = Unit {0}
 MayRead v t Free = Unit {0}
-
--- a stage's change, if it makes one, is one that its transaction may make, once it has the stage's lock
-abbrev pub IsCovered : View → ℕ → Ask Name Refusal → Option Change → Type 0
-IsCovered v t a None = Unit {0}
-IsCovered v t a (Some c) = MayMake (held_after system a (v.held t)) t (suc (v.counts t)) c
 
 -- no other terminal holds the name in a mode that conflicts
 abbrev pub IsFree : View → ℕ → Ask Name Refusal → Type 0

@@ -3,7 +3,6 @@ pub mod View
 pub mod Covered
 pub mod Kept
 pub mod Opened
-pub mod Loans
 pub mod Calls
 pub mod Writes
 pub mod Programs

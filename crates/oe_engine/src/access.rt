@@ -1,24 +1,19 @@
 //! Names and rows of a transaction, one at a time.
-ghost use Rattle.std.specs.Prelude.{◌≡◌, ◌<◌, suc, Option, None, Some, option_map, IfErr, OnOk, OnErr};
+ghost use Rattle.std.specs.Prelude.{◌≡◌, ◌<◌, Option, None, Some, option_map, IfErr, OnOk, OnErr};
 ghost use Rattle.oe_theory.specs.Machine.{Take};
-ghost use Rattle.oe_theory.specs.Next.{IsNew};
-ghost use Rattle.oe_model.specs.Changes.{key_of};
 ghost use Rattle.oe_model.specs.Locks.{mode_of, governs};
-ghost use Rattle.oe_model.specs.Meets.{Accepts};
 ghost use Rattle.oe_model.specs.Rows.{row_at};
-ghost use Rattle.oe_model.specs.System.{system};
-ghost use Rattle.oe_records.specs.Changes.{change_of};
 ghost use Rattle.oe_store.specs.Places.{rows};
 ghost use Rattle.oe_engine.specs.View.{view_of, IsOpen};
-ghost use Rattle.oe_engine.specs.Covered.{IsOwn, HoldsOrder, IsUnused};
+ghost use Rattle.oe_engine.specs.Covered.{IsUnused};
 ghost use Rattle.oe_engine.specs.Writes.{ask_of_write};
-ghost use Rattle.oe_engine.specs.Calls.{ask_of, ask_to_write, IsFree, IsFullFor, IsBelow, MayRead, locked, put_mode, stage_done, StageRefused, WantsPlace};
+ghost use Rattle.oe_engine.specs.Calls.{ask_of, IsFree, IsBelow, MayRead, locked, put_mode, StageRefused};
 
 use crate::engine::{Engine, Tx};
 use crate::programs::Lock;
 use oe_keys::{Key, Mode, Name};
 use oe_locks::Locks;
-use oe_records::{Change, Write};
+use oe_records::Write;
 use oe_requests::Refusal;
 use oe_rows::Row;
 use oe_store::Tables;
@@ -42,24 +37,7 @@ fn exclusive(name: Name) -> Option<Lock>
     })
 }
 
-// The lock under which a row of that key is changed: none for a HISTORY row, which is its own transaction's, and for an ITEM
-// row, which never changes.
-fn lock_to_write(key: Key) -> Option<Lock>
-    ensures { ask_of result ≡ ask_to_write (governs key) }
-{
-    match key {
-        Key::Warehouse(key) => exclusive(Name::Warehouse(key)),
-        Key::District(key) => exclusive(Name::District(key)),
-        Key::Customer(key) => exclusive(Name::Customer(key)),
-        Key::NewOrder(key) => exclusive(Name::Queue(key.order_key().district_key())),
-        Key::Order(key) => exclusive(Name::Order(key)),
-        Key::OrderLine(key) => exclusive(Name::Order(key.order_key())),
-        Key::Stock(key) => exclusive(Name::Stock(key)),
-        Key::History(_) | Key::Item(_) => None,
-    }
-}
-
-// The same of the row that is written, without its key.
+// The lock under which a row is written: none for a HISTORY row, which is its own transaction's.
 #[inline(always)]
 pub(crate) fn lock_of_write(write: &Write) -> Option<Lock>
     ensures { ask_of result ≡ ask_of_write write.now }
@@ -114,7 +92,13 @@ impl Engine {
             (StageRefused self.old tx.now (Take name (mode_of mode)) None) }
         ensures err { OnErr result (view_of self.new ≡ view_of self.old) }
     {
-        self.stage(tx, Some(Lock { name, mode }), None)
+        if !self.is_open(tx) {
+            return Err(Refusal::NotOpen);
+        }
+        match self.take(tx.terminal(), Lock { name, mode }) {
+            Ok(_) => Ok(()),
+            Err(refusal) => Err(refusal),
+        }
     }
 
     /// The mode in which a transaction holds a name; none where it does not hold it, or is not open in this engine.
@@ -153,43 +137,6 @@ impl Engine {
         ensures name { self.new.name ≡ self.old.name }
     {
         self.restore(tx.terminal(), name, mode);
-    }
-
-    /// Makes a change for a transaction, with its undo record. Where the changed row lies under a name, that is taken for the
-    /// transaction alone, if it does not hold it so: an order's for its lines, a queue's for its NEW-ORDER rows, none for a
-    /// HISTORY row. A HISTORY row is the transaction's own, and the order's name of a new NEW-ORDER row it holds already.
-    ///
-    /// The errors are those of `stage`, and after one nothing has changed.
-    pub fn change(&mut self, tx: &Tx, change: Change) -> Result<(), Refusal>
-        requires own { IsOpen self.old tx.now
-            → IsOwn tx.now.terminal (suc ((view_of self.old).counts tx.now.terminal))
-            (governs (key_of (change_of change))) }
-        requires order { IsOpen self.old tx.now
-            → HoldsOrder ((view_of self.old).held tx.now.terminal) (change_of change) }
-        ensures open { OnOk result (IsOpen self.old tx.now) }
-        ensures free { OnOk result
-            (IsFree (view_of self.old) tx.now.terminal
-            (ask_to_write (governs (key_of (change_of change))))) }
-        ensures accepted { OnOk result (Accepts (change_of change) (view_of self.old).rows) }
-        ensures done { OnOk result
-            (view_of self.new
-            ≡ stage_done tx.now.terminal (ask_to_write (governs (key_of (change_of change))))
-            (Some (change_of change)) (view_of self.old)) }
-        ensures name { self.new.name ≡ self.old.name }
-        ensures cause { IfErr result
-            (StageRefused self.old tx.now (ask_to_write (governs (key_of (change_of change))))
-            (Some (change_of change))) }
-        ensures full { IfErr result (λ e. e ≡ Refusal.UndoFull
-            → IsFullFor (view_of self.old) tx.now.terminal (change_of change)) }
-        ensures fits { OnOk result
-            (IsFullFor (view_of self.old) tx.now.terminal (change_of change) → ⊥) }
-        ensures wants { (IsNew system ((view_of self.old).held tx.now.terminal)
-            (ask_to_write (governs (key_of (change_of change)))) → ⊥) → IfErr result
-            (λ e. e ≡ Refusal.NoMemory → WantsPlace (Some (change_of change)) self.old.tables) }
-        ensures err { OnErr result (view_of self.new ≡ view_of self.old) }
-    {
-        let lock = lock_to_write(change.key());
-        self.stage(tx, lock, Some(change))
     }
 
     /// What the engine is made of.

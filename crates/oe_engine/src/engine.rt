@@ -1,27 +1,22 @@
 //! The engine.
-ghost use Rattle.std.specs.Prelude.{◌≡◌, ◌≤◌, ◌<◌, ◌-◌, ◌↔◌, ◌⊎◌, ℕ, IsTrue, suc, true, false, [], length, Option, None, Some, is_some, option_map, IfOk, IfErr, OnOk, OnErr, MatchResult};
+ghost use Rattle.std.specs.Prelude.{◌≡◌, ◌≤◌, ◌<◌, ◌-◌, ◌↔◌, ◌⊎◌, ℕ, IsTrue, suc, true, false, [], length, Option, None, Some, is_some, option_map, IfOk, IfErr, OnOk, OnErr};
 ghost use Rattle.oe_theory.specs.Machine.{Take};
 ghost use Rattle.oe_theory.specs.World.{total};
-ghost use Rattle.oe_theory.specs.Next.{IsNew};
 ghost use Rattle.oe_theory.specs.Store.{Slot, count_slots};
-ghost use Rattle.oe_model.specs.Changes.{key_of};
-ghost use Rattle.oe_model.specs.Locks.{mode_of, governs};
-ghost use Rattle.oe_model.specs.Meets.{Accepts};
+ghost use Rattle.oe_model.specs.Locks.{mode_of};
 ghost use Rattle.oe_model.specs.Requests.{number_rejection};
 ghost use Rattle.oe_model.specs.System.{system, terminal_limit};
 ghost use Rattle.oe_store.specs.Places.{rows};
-ghost use Rattle.oe_records.specs.Changes.{change_of};
 ghost use Rattle.oe_journal.specs.GoesBack.{CanUnwind};
 ghost use Rattle.oe_locks.specs.Held as locks;
 ghost use Rattle.oe_engine.specs.View.{view_of, opened_view, IsOpen};
-ghost use Rattle.oe_engine.specs.Covered.{MayMake, IsUnused, IsSafe};
-ghost use Rattle.oe_engine.specs.Calls.{ask_of, IsFree, IsBusy, IsFullFor, IsFullForAny, IsBelow, begun, CantBegin, locked, made, put_mode, LockRefused, ChangeRefused, PairRefused, stage_done, StageRefused, WantsPlace, AcceptsAll, IsCovered, back_at, committed, rolled_back};
+ghost use Rattle.oe_engine.specs.Covered.{IsUnused, IsSafe};
+ghost use Rattle.oe_engine.specs.Calls.{ask_of, IsFree, IsBusy, IsBelow, begun, CantBegin, locked, put_mode, LockRefused, back_at, committed, rolled_back};
 
-use crate::opening::linked_undo;
+use crate::opening::beside;
 use crate::programs::Lock;
 use oe_keys::{Mode, Name};
 use oe_locks::Locks;
-use oe_records::Change;
 use oe_requests::{Column, Refusal, Reply, Request};
 use oe_segments::{ExtentCount, Segment};
 use oe_store::Tables;
@@ -132,10 +127,8 @@ impl Engine {
         ensures view { IfOk result (λ e. view_of e ≡ opened_view (rows tables) extents) }
         ensures name { IfOk result (λ e. e.name ≡ name) }
     {
-        let Ok(undo) = linked_undo(alloc, &tables, extents) else {
-            return Err(NoMemory);
-        };
-        let Ok(locks) = Locks::new(alloc) else {
+        let Ok((undo, locks)) = beside(alloc, &tables, extents) else {
+            drop(tables);
             return Err(NoMemory);
         };
         tables.schema_holds();
@@ -312,125 +305,6 @@ impl Engine {
     {
         if is_below(mode, self.locks.holds(&name, terminal)) {
             self.locks.give_back(name, terminal, mode);
-        }
-    }
-
-    // Makes a change, with its undo record. Memory is wanted for a place in the tables alone.
-    // It stands in its callers, so that the change is not copied once more.
-    #[inline(always)]
-    fn make(&mut self, terminal: Terminal, change: Change) -> Result<(), Refusal>
-        requires open { (view_of self.old).is_open terminal ≡ true }
-        requires covered { MayMake ((view_of self.old).held terminal) terminal
-            (suc ((view_of self.old).counts terminal)) (change_of change) }
-        ensures accepted { OnOk result (Accepts (change_of change) (view_of self.old).rows) }
-        ensures made { OnOk result
-            (view_of self.new ≡ made terminal (change_of change) (view_of self.old)) }
-        ensures name { self.new.name ≡ self.old.name }
-        ensures cause { IfErr result (ChangeRefused (change_of change) (view_of self.old).rows) }
-        ensures full { IfErr result (λ e. e ≡ Refusal.UndoFull
-            → IsFullFor (view_of self.old) terminal (change_of change)) }
-        ensures fits { OnOk result (IsFullFor (view_of self.old) terminal (change_of change) → ⊥) }
-        ensures wants { IfErr result (λ e. e ≡ Refusal.NoMemory
-            → WantsPlace (Some (change_of change)) self.old.tables) }
-        ensures err { OnErr result (view_of self.new ≡ view_of self.old) }
-    {
-        let segment = Segment::of(terminal);
-        oe_journal::change(&mut self.tables, &mut self.undo, segment, change)
-    }
-
-    // Takes a lock and makes a change; where the change is refused, the name is held as it was. Where the name was held before,
-    // memory is wanted for a place in the tables alone.
-    fn take_and_make(
-        &mut self,
-        terminal: Terminal,
-        lock: Lock,
-        change: Change,
-    ) -> Result<(), Refusal>
-        requires open { (view_of self.old).is_open terminal ≡ true }
-        requires covered { IsCovered (view_of self.old) terminal
-            (Take lock.name (mode_of lock.mode)) (Some (change_of change)) }
-        ensures free { OnOk result
-            (IsFree (view_of self.old) terminal (Take lock.name (mode_of lock.mode))) }
-        ensures accepted { OnOk result (Accepts (change_of change) (view_of self.old).rows) }
-        ensures done { OnOk result
-            (view_of self.new
-            ≡ made terminal (change_of change)
-            (locked terminal lock.name (mode_of lock.mode) (view_of self.old))) }
-        ensures name { self.new.name ≡ self.old.name }
-        ensures cause { IfErr result
-            (PairRefused (view_of self.old) terminal lock.name (mode_of lock.mode)
-            (change_of change)) }
-        ensures full { IfErr result (λ e. e ≡ Refusal.UndoFull
-            → IsFullFor (view_of self.old) terminal (change_of change)) }
-        ensures fits { OnOk result (IsFullFor (view_of self.old) terminal (change_of change) → ⊥) }
-        ensures wants { (IsNew system ((view_of self.old).held terminal)
-            (Take lock.name (mode_of lock.mode)) → ⊥) → IfErr result
-            (λ e. e ≡ Refusal.NoMemory → WantsPlace (Some (change_of change)) self.old.tables) }
-        ensures err { OnErr result (view_of self.new ≡ view_of self.old) }
-    {
-        let before = self.locks.holds(&lock.name, terminal);
-        if let Err(refusal) = self.take(terminal, lock) {
-            return Err(refusal);
-        }
-        if let Err(refusal) = self.make(terminal, change) {
-            self.restore(terminal, lock.name, before);
-            return Err(refusal);
-        }
-        Ok(())
-    }
-
-    /// One stage of a program: takes its lock, if it asks for one, or raises the mode in which the name is held, and makes its
-    /// change, if it makes one, with its undo record.
-    ///
-    /// The change is of a row that the transaction alone may change (`IsCovered`): the row's name it holds exclusively, or takes
-    /// so by this call; a HISTORY row has its terminal and number; and whoever inserts a NEW-ORDER row holds its order's name.
-    ///
-    /// `NotOpen`: the transaction is not one of this engine. `Busy`: the least terminal that holds the name in a mode that
-    /// conflicts. `UndoFull`: the record fits neither the rest of the transaction's last extent nor a free one. `NoMemory`: memory
-    /// was refused for a name that was not held, or for an insert that the tables accept, at a key without a place. 2 to 6: the
-    /// tables don't accept the change. After an error nothing has changed: a lock that was gained is given back, and a mode that
-    /// rose has fallen again.
-    pub fn stage(
-        &mut self,
-        tx: &Tx,
-        lock: Option<Lock>,
-        change: Option<Change>,
-    ) -> Result<(), Refusal>
-        requires { IsOpen self.old tx.now
-            → IsCovered (view_of self.old) tx.now.terminal (ask_of lock)
-            (option_map change_of change) }
-        ensures open { OnOk result (IsOpen self.old tx.now) }
-        ensures free { OnOk result (IsFree (view_of self.old) tx.now.terminal (ask_of lock)) }
-        ensures accepted { OnOk result
-            (AcceptsAll (option_map change_of change) (view_of self.old).rows) }
-        ensures done { OnOk result
-            (view_of self.new
-            ≡ stage_done tx.now.terminal (ask_of lock) (option_map change_of change)
-            (view_of self.old)) }
-        ensures name { self.new.name ≡ self.old.name }
-        ensures cause { IfErr result
-            (StageRefused self.old tx.now (ask_of lock) (option_map change_of change)) }
-        ensures full { IfErr result (λ e. e ≡ Refusal.UndoFull
-            → IsFullForAny (view_of self.old) tx.now.terminal (option_map change_of change)) }
-        ensures fits { OnOk result
-            (IsFullForAny (view_of self.old) tx.now.terminal (option_map change_of change) → ⊥) }
-        ensures wants { (IsNew system ((view_of self.old).held tx.now.terminal) (ask_of lock) → ⊥)
-            → IfErr result
-            (λ e. e ≡ Refusal.NoMemory → WantsPlace (option_map change_of change) self.old.tables) }
-        ensures err { OnErr result (view_of self.new ≡ view_of self.old) }
-    {
-        if !self.is_open(tx) {
-            return Err(Refusal::NotOpen);
-        }
-        let terminal = tx.terminal;
-        match (lock, change) {
-            (None, None) => Ok(()),
-            (None, Some(change)) => self.make(terminal, change),
-            (Some(lock), None) => match self.take(terminal, lock) {
-                Ok(_) => Ok(()),
-                Err(refusal) => Err(refusal),
-            },
-            (Some(lock), Some(change)) => self.take_and_make(terminal, lock, change),
         }
     }
 

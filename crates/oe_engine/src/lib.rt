@@ -4,7 +4,6 @@
 pub mod access;
 pub mod choices;
 pub mod engine;
-pub mod loans;
 mod opening;
 pub mod past;
 pub mod programs;

@@ -4,10 +4,12 @@ ghost use Rattle.std.specs.Prelude.{◌≡◌, IfOk, OnOk};
 ghost use Rattle.oe_segments.specs.Segments.{no_segments};
 ghost use Rattle.oe_journal.specs.Linked.{AreLinked};
 ghost use Rattle.oe_links.specs.Links.{KeepsPlaces};
+ghost use Rattle.oe_locks.specs.Held.{IsIdle};
 ghost use Rattle.oe_engine.specs.Opened.{IsLinked, HasWaiting, IsCovered};
 
 use oe_keys::{Key, Table};
 use oe_links::comes_with;
+use oe_locks::Locks;
 use oe_segments::ExtentCount;
 use oe_store::Tables;
 use oe_table::tables::NoMemory;
@@ -79,13 +81,8 @@ fn link_all(tables: &Tables, undo: &mut Undo) -> Result<(), NoMemory>
     Ok(())
 }
 
-/// An undo log in which nothing has begun, beside tables: each key that has a place in one that is changed has one for its link.
-/// `NoMemory` where memory was refused.
-pub(crate) fn linked_undo(
-    alloc: Global,
-    tables: &Tables,
-    extents: ExtentCount,
-) -> Result<Undo, NoMemory>
+// An undo log in which nothing has begun, beside tables: each key that has a place in one that is changed has one for its link.
+fn linked_undo(alloc: Global, tables: &Tables, extents: ExtentCount) -> Result<Undo, NoMemory>
     ensures log { IfOk result (λ u. u.log ≡ no_segments extents) }
     ensures linked { IfOk result (λ u. AreLinked tables.now u.links) }
 {
@@ -93,7 +90,31 @@ pub(crate) fn linked_undo(
         return Err(NoMemory);
     };
     if let Err(refusal) = link_all(tables, &mut undo) {
+        drop(undo);
         return Err(refusal);
     }
     Ok(undo)
+}
+
+/// What an engine has beside its tables, where nothing has begun: its undo log, and locks that nobody holds. `NoMemory` where memory was
+/// refused; then the locks alone are there to be dropped.
+pub(crate) fn beside(
+    alloc: Global,
+    tables: &Tables,
+    extents: ExtentCount,
+) -> Result<(Undo, Locks), NoMemory>
+    ensures log { IfOk result (λ p. p.0.log ≡ no_segments extents) }
+    ensures linked { IfOk result (λ p. AreLinked tables.now p.0.links) }
+    ensures locks { IfOk result (λ p. IsIdle p.1) }
+{
+    let Ok(locks) = Locks::new(alloc) else {
+        return Err(NoMemory);
+    };
+    match linked_undo(alloc, tables, extents) {
+        Ok(undo) => Ok((undo, locks)),
+        Err(refusal) => {
+            drop(locks);
+            Err(refusal)
+        }
+    }
 }

@@ -3,17 +3,15 @@ ghost use Rattle.std.specs.Prelude.{◌≡◌, true, suc, Some, None, OnErr};
 ghost use Rattle.oe_theory.specs.Machine.{Plain, Take};
 ghost use Rattle.oe_model.specs.Changes as model;
 ghost use Rattle.oe_model.specs.Locks.{mode_of, governs};
-ghost use Rattle.oe_records.specs.Changes.{change_of};
 ghost use Rattle.oe_records.specs.Writes.{key_written};
 ghost use Rattle.oe_engine.specs.View.{view_of, IsOpen};
 ghost use Rattle.oe_engine.specs.Covered.{IsOwn, Owns};
-ghost use Rattle.oe_engine.specs.Calls.{IsCovered};
 ghost use Rattle.oe_engine.specs.Writes.{ask_of_write, change_written, WriteHoldsOrder};
 ghost use Rattle.oe_engine.specs.Stages.{is_failure, IsFailure, Does};
 
 use crate::engine::{Engine, Tx};
 use crate::programs::Lock;
-use oe_records::{Change, Write};
+use oe_records::Write;
 use oe_requests::Refusal;
 
 /// The refusal of a stage that asks for a lock and then fails: who is in the way of the lock, or what it fails with.
@@ -35,7 +33,7 @@ pub fn hold(engine: &mut Engine, tx: &Tx, lock: Lock) -> Result<(), Refusal>
     ensures name { engine.new.name ≡ engine.old.name }
     ensures err { OnErr result (view_of engine.new ≡ view_of engine.old) }
 {
-    engine.stage(tx, Some(lock), None)
+    engine.lock(tx, lock.name, lock.mode)
 }
 
 /// A stage that writes to a row in its place, and takes that row's name alone. After an error the engine stands for what it stood
@@ -53,18 +51,6 @@ pub fn put(engine: &mut Engine, tx: &Tx, write: &Write) -> Result<(), Refusal>
     ensures err { OnErr result (view_of engine.new ≡ view_of engine.old) }
 {
     engine.write(tx, write)
-}
-
-/// A stage that asks for no lock, and makes a change of a row that its transaction alone may change. After an error the engine
-/// stands for what it stood for before.
-pub fn add(engine: &mut Engine, tx: &Tx, change: Change) -> Result<(), Refusal>
-    requires { IsOpen engine.old tx.now
-        → IsCovered (view_of engine.old) tx.now.terminal Plain (Some (change_of change)) }
-    ensures does { Does engine.old tx.now Plain (Some (change_of change)) result engine.new }
-    ensures name { engine.new.name ≡ engine.old.name }
-    ensures err { OnErr result (view_of engine.new ≡ view_of engine.old) }
-{
-    engine.stage(tx, None, Some(change))
 }
 
 /// A stage that asks for no lock, and writes to a row in its place that its transaction alone may change: it holds the row's name

@@ -1,30 +1,12 @@
 //! The rows after the delivery of an order (clause 2.7.4.2).
 ghost use Rattle.std.specs.Prelude.{◌≡◌, ◌↔◌, ◌+ℤ◌, pos, IsTrue, IsSome, IfSome};
 ghost use Rattle.oe_formulas.specs.Checks.{checked, row_with};
-ghost use Rattle.oe_model.specs.Delivery.{carried, dated, delivered_to, delivered_out};
+ghost use Rattle.oe_model.specs.Delivery.{delivered_to, delivered_out};
 ghost use Rattle.oe_model.specs.Payment.{is_balance};
 
 use oe_requests::Column;
-use oe_rows::{Account, Customer, Order, OrderLine};
-use oe_values::{Balance, Carrier, Cents, Count, Stamp};
-
-/// The order after its delivery: O_CARRIER_ID is the carrier.
-pub fn order_after_delivery(row: &Order, carrier: Carrier) -> Order
-    ensures { result ≡ carried carrier row.now }
-{
-    let mut after = row.copied();
-    after.carrier = Some(carrier);
-    after
-}
-
-/// A line of the order after its delivery: OL_DELIVERY_D is the stamp.
-pub fn line_after_delivery(row: &OrderLine, stamp: Stamp) -> OrderLine
-    ensures { result ≡ dated stamp row.now }
-{
-    let mut after = row.copied();
-    after.delivery = Some(stamp);
-    after
-}
+use oe_rows::{Account, Customer};
+use oe_values::{Balance, Cents, Count};
 
 /// C_BALANCE after it has risen by a sum, where it stays in its range.
 fn balance_after(balance: Balance, sum: Cents) -> Option<Balance>
@@ -54,18 +36,4 @@ pub fn account_after_delivery(row: &Customer, sum: Cents) -> Result<Account, Col
         delivery_count,
         ..row.account
     })
-}
-
-/// The customer after the delivery, with that account. Else the first of its columns that would leave its range.
-pub fn customer_after_delivery(row: &Customer, sum: Cents) -> Result<Customer, Column>
-    ensures { result ≡ checked delivered_out (delivered_to sum row.now) }
-{
-    match account_after_delivery(row, sum) {
-        Ok(account) => {
-            let mut after = row.copied();
-            after.account = account;
-            Ok(after)
-        }
-        Err(column) => Err(column),
-    }
 }

@@ -28,20 +28,6 @@ pub fn next_order_after(row: &District) -> Result<OrderNumber, Column>
     }
 }
 
-/// The district after a new order: D_NEXT_O_ID rises by 1. Else D_NEXT_O_ID, which would leave its range.
-pub fn district_after_order(row: &District) -> Result<District, Column>
-    ensures { result ≡ checked next_out (with_next row.now) }
-{
-    match next_order_after(row) {
-        Ok(next_order) => {
-            let mut after = row.copied();
-            after.next_order = next_order;
-            Ok(after)
-        }
-        Err(column) => Err(column),
-    }
-}
-
 /// Whether the warehouse supplies every line.
 fn is_local(lines: &[RequestLine], home: WarehouseNumber) -> bool
     ensures { result ≡ list_all (λ l. l.supply == home) lines.now }
@@ -138,29 +124,6 @@ pub fn counters_after_line(
     })
 }
 
-/// The stock of a key after a line of that quantity for a district of the home warehouse: the columns that the line sets are
-/// those after it. Else the first of them that would leave its range.
-pub fn stock_after_line(
-    home: WarehouseNumber,
-    key: StockKey,
-    row: &Stock,
-    quantity: Quantity,
-) -> Result<Stock, Column>
-    ensures { result ≡ checked stock_out (supplied home key row.now quantity) }
-{
-    match counters_after_line(home, key, row, quantity) {
-        Ok(counters) => {
-            let mut after = row.copied();
-            after.quantity = counters.quantity;
-            after.ytd = counters.ytd;
-            after.order_count = counters.order_count;
-            after.remote_count = counters.remote_count;
-            Ok(after)
-        }
-        Err(column) => Err(column),
-    }
-}
-
 /// Whether a text has `ORIGINAL` in it.
 fn is_original(text: &str) -> bool
     ensures { result ≡ occurs_in (codes "ORIGINAL") text.now }
@@ -224,13 +187,6 @@ pub fn reply_with_quantity(
         quantity,
         amount: amount(line, item),
     }
-}
-
-/// What a new order answers of a line, of its item and of its stock after the line.
-pub fn line_reply(line: RequestLine, item: &Item, stock: &Stock) -> LineReply
-    ensures { (q : NewOrderRequest) (n : ℕ) → result ≡ (fill q n line item.now stock.now).reply }
-{
-    reply_with_quantity(line, item, stock, stock.quantity)
 }
 
 /// What a new order has read before its lines: O_ID, W_TAX, D_TAX, C_DISCOUNT, C_LAST and C_CREDIT.

@@ -2,7 +2,7 @@
 ghost use Rattle.std.specs.Prelude.{◌≡◌, ℕ};
 ghost use Rattle.oe_rows.specs.Credit.{credit_entry};
 ghost use Rattle.oe_formulas.specs.Checks.{checked, row_with, with_warehouse_ytd, with_district_ytd, paid_with, credit_ids};
-ghost use Rattle.oe_model.specs.Payment.{paid_warehouse, paid_warehouse_out, paid_district, paid_district_out, paid_data, paid_customer, paid_customer_out, history_data, history_row, history_key, paid_reply};
+ghost use Rattle.oe_model.specs.Payment.{paid_warehouse, paid_warehouse_out, paid_district, paid_district_out, paid_customer, paid_customer_out, history_data, history_row, history_key, paid_reply};
 
 use arrayvec::ArrayString;
 use oe_keys::HistoryKey;
@@ -27,23 +27,6 @@ pub fn warehouse_ytd_after(row: &Warehouse, request: &PaymentRequest) -> Result<
     }
 }
 
-/// The warehouse after a payment: W_YTD rises by the amount. Else W_YTD, which would leave its range.
-pub fn warehouse_after_payment(
-    row: &Warehouse,
-    request: &PaymentRequest,
-) -> Result<Warehouse, Column>
-    ensures { result ≡ checked paid_warehouse_out (paid_warehouse request.now row.now) }
-{
-    match warehouse_ytd_after(row, request) {
-        Ok(warehouse_ytd) => {
-            let mut after = row.copied();
-            after.ytd = warehouse_ytd;
-            Ok(after)
-        }
-        Err(column) => Err(column),
-    }
-}
-
 /// D_YTD after a payment: it rises by the amount. Else D_YTD, which would leave its range.
 pub fn district_ytd_after(row: &District, request: &PaymentRequest) -> Result<YearToDate, Column>
     ensures { row_with (with_district_ytd row.now) result
@@ -52,20 +35,6 @@ pub fn district_ytd_after(row: &District, request: &PaymentRequest) -> Result<Ye
     match YearToDate::new(row.ytd.cents() + u64::from(request.amount.get())) {
         Some(ytd) => Ok(ytd),
         None => Err(Column::DistrictYtd),
-    }
-}
-
-/// The district after a payment: D_YTD rises by the amount. Else D_YTD, which would leave its range.
-pub fn district_after_payment(row: &District, request: &PaymentRequest) -> Result<District, Column>
-    ensures { result ≡ checked paid_district_out (paid_district request.now row.now) }
-{
-    match district_ytd_after(row, request) {
-        Ok(district_ytd) => {
-            let mut after = row.copied();
-            after.ytd = district_ytd;
-            Ok(after)
-        }
-        Err(column) => Err(column),
     }
 }
 
@@ -84,16 +53,6 @@ pub fn bad_credit_entry(number: CustomerNumber, request: &PaymentRequest) -> Tex
     ensures { result ≡ credit_entry (credit_ids number request.now) request.now.amount }
 {
     credit_entry(credit_ids(number, request), request.amount)
-}
-
-/// C_DATA after a payment by the customer with that number: a bad credit's begins with the payment.
-fn data_after(number: CustomerNumber, row: &Customer, request: &PaymentRequest) -> Text<0, 500>
-    ensures { result ≡ paid_data number request.now row.now.credit row.now.data }
-{
-    match row.credit {
-        Credit::Good => row.data.copied(),
-        Credit::Bad => bad_credit_data(&row.data, credit_ids(number, request), request.amount),
-    }
 }
 
 /// A customer's account after a payment: C_BALANCE falls and C_YTD_PAYMENT rises by the amount, C_PAYMENT_CNT rises by 1. Else the
@@ -119,26 +78,6 @@ pub fn account_after(row: &Customer, request: &PaymentRequest) -> Result<Account
         payment_count,
         ..row.account
     })
-}
-
-/// The customer with that number after a payment: the account is that after it, and the data of a bad credit begins with the
-/// payment. Else the first of the account's columns that would leave its range.
-pub fn customer_after_payment(
-    number: CustomerNumber,
-    row: &Customer,
-    request: &PaymentRequest,
-) -> Result<Customer, Column>
-    ensures { result ≡ checked paid_customer_out (paid_customer number request.now row.now) }
-{
-    match account_after(row, request) {
-        Ok(account) => {
-            let mut after = row.copied();
-            after.account = account;
-            after.data = data_after(number, row, request);
-            Ok(after)
-        }
-        Err(column) => Err(column),
-    }
 }
 
 /// H_DATA of a payment: W_NAME, four spaces, D_NAME.
@@ -194,11 +133,4 @@ pub fn reply_with_account(number: CustomerNumber, row: &Customer, account: &Acco
         credit: row.credit,
         balance: account.balance,
     }
-}
-
-/// What a payment answers, of the customer with that number after it.
-pub fn payment_reply(number: CustomerNumber, after: &Customer) -> PaymentReply
-    ensures { result ≡ paid_reply number after.now }
-{
-    reply_with_account(number, after, &after.account)
 }

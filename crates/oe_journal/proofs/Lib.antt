@@ -12,4 +12,3 @@ pub mod WriteFacts
 mod UnplacedFacts
 pub mod PurgeFacts
 pub mod LeftFacts
-mod ChangeFacts

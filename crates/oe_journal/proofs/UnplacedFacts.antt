@@ -1,4 +1,4 @@
--- Why writes and changes at keys without a place are refused.
+-- Why writes at keys without a place are refused.
 use Rattle.std.proofs.Common.{◌≡◌, refl, ap, Option, None, Some, is_some}
 use Rattle.std.specs.Prelude.{◌≢◌, IsSome}
 use Rattle.oe_keys.specs.declared.keys.HistoryKey.{HistoryKey}
@@ -14,17 +14,12 @@ use Rattle.oe_rows.specs.declared.orders.Order.{Order}
 use Rattle.oe_rows.specs.declared.orders.OrderLine.{OrderLine}
 use Rattle.oe_rows.specs.declared.rows.Row.{Row}
 use Rattle.oe_model.specs.Rows.{row_at}
-use Rattle.oe_model.specs.Changes.{key_of}
-use Rattle.oe_records.specs.declared.changes.Change.{Change}
-use Rattle.oe_records.specs.declared.changes.Change.TheVariants as changes
-use Rattle.oe_records.specs.Changes.{change_of}
 use Rattle.oe_records.specs.declared.writes.Write.{Write}
 use Rattle.oe_records.specs.declared.writes.Write.TheVariants.{WarehouseYtd, DistrictYtd, NextOrder, CustomerAccount, BadCredit, StockCounters, Carrier, DeliveryDate, InsertHistory, InsertNewOrder, InsertOrder, InsertOrderLine, DeleteNewOrder}
 use Rattle.oe_records.specs.Writes.{key_written, written}
 use Rattle.oe_store.specs.Places.{Places, rows, HasPlace}
 use Rattle.oe_store.proofs.PlaceFacts.{place_of_row}
-use Rattle.oe_journal.specs.Records.{record_of_change}
-use Rattle.oe_journal.specs.Writes.{IsRefused, RefusesWrite}
+use Rattle.oe_journal.specs.Writes.{RefusesWrite}
 use Rattle.oe_journal.proofs.SetFacts.{row_there}
 
 -- a key with a row has a place, so that one without a place has no row
@@ -47,7 +42,7 @@ module _ (s : Places) where
       go None e = refl
       go (Some x) e = absurd (none (has_place k (ap is_some e)))
 
--- where a write or a change inserts no row, it deletes one: a row to be updated has a place
+-- where a write inserts no row, it deletes one: a row to be updated has a place
 pub write_unplaced : (w : Write) (s : Places) → ((k : HistoryKey) (x : History) → w ≢ InsertHistory k x) → ((k : NewOrderKey) → w ≢ InsertNewOrder k)
     → ((k : OrderKey) (x : Order) → w ≢ InsertOrder k x) → ((k : OrderLineKey) (x : OrderLine) → w ≢ InsertOrderLine k x)
     → IsSome (written w (rows s)) → (HasPlace s (key_written w) → ⊥) → RefusesWrite w s (NoSuchRow (key_written w))
@@ -64,18 +59,3 @@ write_unplaced (StockCounters k m) s h n o l there none = absurd (none (place_of
 write_unplaced (Carrier k c) s h n o l there none = absurd (none (place_of_row order_total exact_order s.orders k (row_there _ _ there)))
 write_unplaced (DeliveryDate k t) s h n o l there none = absurd (none (place_of_row order_line_total exact_order_line s.order_lines k (row_there _ _ there)))
 write_unplaced (DeleteNewOrder k) s h n o l there none = ((refl, refl, no_row s (key.NewOrder k) none), tt)
-
-pub change_unplaced : (c : Change) (s : Places) → ((k : HistoryKey) (x : History) → c ≢ changes.InsertHistory k x) → ((k : NewOrderKey) → c ≢ changes.InsertNewOrder k)
-    → ((k : OrderKey) (x : Order) → c ≢ changes.InsertOrder k x) → ((k : OrderLineKey) (x : OrderLine) → c ≢ changes.InsertOrderLine k x)
-    → IsSome (record_of_change (change_of c) (rows s)) → (HasPlace s (key_of (change_of c)) → ⊥) → IsRefused (change_of c) s (NoSuchRow (key_of (change_of c)))
-change_unplaced (changes.InsertHistory k x) s h n o l there none = absurd (h k x refl)
-change_unplaced (changes.InsertNewOrder k) s h n o l there none = absurd (n k refl)
-change_unplaced (changes.InsertOrder k x) s h n o l there none = absurd (o k x refl)
-change_unplaced (changes.InsertOrderLine k x) s h n o l there none = absurd (l k x refl)
-change_unplaced (changes.UpdateWarehouse k x) s h n o l there none = absurd (none (place_of_row warehouse_total exact_warehouse s.warehouses k (row_there _ _ there)))
-change_unplaced (changes.UpdateDistrict k x) s h n o l there none = absurd (none (place_of_row district_total exact_district s.districts k (row_there _ _ there)))
-change_unplaced (changes.UpdateCustomer k x) s h n o l there none = absurd (none (place_of_row customer_total exact_customer s.customers k (row_there _ _ there)))
-change_unplaced (changes.UpdateOrder k x) s h n o l there none = absurd (none (place_of_row order_total exact_order s.orders k (row_there _ _ there)))
-change_unplaced (changes.UpdateOrderLine k x) s h n o l there none = absurd (none (place_of_row order_line_total exact_order_line s.order_lines k (row_there _ _ there)))
-change_unplaced (changes.UpdateStock k x) s h n o l there none = absurd (none (place_of_row stock_total exact_stock s.stocks k (row_there _ _ there)))
-change_unplaced (changes.DeleteNewOrder k) s h n o l there none = ((refl, refl, no_row s (key.NewOrder k) none), tt)

@@ -3,7 +3,6 @@ use Rattle.std.specs.Prelude.{Option, None, Some, option_map}
 use Rattle.std.specs.FinMap.{get}
 use Rattle.oe_model.specs.Rows.{Rows, row_at}
 use Rattle.oe_model.specs.Changes.{Change, key_of, Record, record_of, InsertedHistory, InsertedNewOrder, InsertedOrder, InsertedOrderLine, UpdatedWarehouse, UpdatedDistrict, UpdatedCustomer, UpdatedOrder, UpdatedOrderLine, UpdatedStock, DeletedNewOrder}
-use Rattle.oe_model.specs.Changes as model
 use Rattle.oe_records.specs.declared.writes.Write.{Write}
 use Rattle.oe_records.specs.declared.writes.Write.TheVariants.{WarehouseYtd, DistrictYtd, NextOrder, CustomerAccount, BadCredit, StockCounters, Carrier, DeliveryDate, InsertHistory, InsertNewOrder, InsertOrder, InsertOrderLine, DeleteNewOrder}
 
@@ -26,17 +25,3 @@ record_of_write (InsertNewOrder k) r = Some (InsertedNewOrder k None)
 record_of_write (InsertOrder k x) r = Some (InsertedOrder k None)
 record_of_write (InsertOrderLine k x) r = Some (InsertedOrderLine k None)
 record_of_write (DeleteNewOrder k) r = Some (DeletedNewOrder k (Some (record {})))
-
--- the record of a change of these rows, which goes before it: as that of a write
-abbrev pub record_of_change : Change → Rows → Option Record
-record_of_change (model.InsertHistory k x) r = Some (InsertedHistory k None)
-record_of_change (model.InsertNewOrder k x) r = Some (InsertedNewOrder k None)
-record_of_change (model.InsertOrder k x) r = Some (InsertedOrder k None)
-record_of_change (model.InsertOrderLine k x) r = Some (InsertedOrderLine k None)
-record_of_change (model.UpdateWarehouse k x) r = option_map (λ y. UpdatedWarehouse k (Some y)) (get r.warehouses k)
-record_of_change (model.UpdateDistrict k x) r = option_map (λ y. UpdatedDistrict k (Some y)) (get r.districts k)
-record_of_change (model.UpdateCustomer k x) r = option_map (λ y. UpdatedCustomer k (Some y)) (get r.customers k)
-record_of_change (model.UpdateOrder k x) r = option_map (λ y. UpdatedOrder k (Some y)) (get r.orders k)
-record_of_change (model.UpdateOrderLine k x) r = option_map (λ y. UpdatedOrderLine k (Some y)) (get r.order_lines k)
-record_of_change (model.UpdateStock k x) r = option_map (λ y. UpdatedStock k (Some y)) (get r.stocks k)
-record_of_change (model.DeleteNewOrder k) r = Some (DeletedNewOrder k (Some (record {})))

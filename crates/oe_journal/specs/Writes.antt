@@ -4,7 +4,7 @@ use Rattle.std.specs.Option.{IsSomeAnd}
 use Rattle.oe_requests.specs.declared.refusals.Refusal.{Refusal}
 use Rattle.oe_requests.specs.declared.refusals.Refusal.TheVariants.{NoSuchRow, UndoFull}
 use Rattle.oe_model.specs.Rows.{Rows}
-use Rattle.oe_model.specs.Changes.{Change, Record, record_key, key_of}
+use Rattle.oe_model.specs.Changes.{Change, Record, record_key}
 use Rattle.oe_model.specs.Lengths.{record_length}
 use Rattle.oe_records.specs.declared.writes.Write.{Write}
 use Rattle.oe_records.specs.Writes.{key_written, written}
@@ -18,7 +18,7 @@ use Rattle.oe_segments.specs.Laws.{StandsWith}
 use Rattle.oe_chains.specs.declared.links.Holder.TheVariants.{Open}
 use Rattle.oe_chains.specs.Chains.{link_from}
 use Rattle.oe_undo.specs.Undo.{UndoState, seen, HasPushed}
-use Rattle.oe_journal.specs.Records.{record_in, record_of_write, record_of_change}
+use Rattle.oe_journal.specs.Records.{record_in, record_of_write}
 
 -- a change is accepted and made, and its record would have the row before
 abbrev pub IsApplied : Change → Places → Places → Type 0
@@ -76,24 +76,3 @@ pub data CantWrite (w : Write) (s : Places) (u : SegmentLog) (t : ℕ) : Refusal
   Full : IsFullForWrite w (rows s) u t → CantWrite w s u t UndoFull
   -- it has, and the tables refuse the change: they never say `UndoFull`
   Refused : (e : Refusal) → HasRoomFor w (rows s) u t → RefusesWrite w s e → CantWrite w s u t e
-
--- a terminal's open segment has the record of a change more
-abbrev pub HasPushedChange : Change → Rows → UndoState → UndoState → ℕ → Type 0
-HasPushedChange c r u u' t = IsSomeAnd (record_of_change c r) (λ b. HasMore b u u' t)
-
--- that record fits the rest of the terminal's newest extent, or an extent is free
-abbrev pub HasRoomToChange : Change → Rows → SegmentLog → ℕ → Type 0
-HasRoomToChange c r u t = IsSomeAnd (record_of_change c r) (λ b. IsFull (log_of u) t (record_length b) → ⊥)
-
--- it fits neither there nor in a free extent
-abbrev pub IsFullToChange : Change → Rows → SegmentLog → ℕ → Type 0
-IsFullToChange c r u t = IsSomeAnd (record_of_change c r) (λ b. IsFull (log_of u) t (record_length b))
-
--- why a change is refused, by its first cause
-pub data CantChange (c : Change) (s : Places) (u : SegmentLog) (t : ℕ) : Refusal → Type 0 where
-  -- the row to be updated is absent
-  NothingThere : record_of_change c (rows s) ≡ None → CantChange c s u t (NoSuchRow (key_of c))
-  -- the record has no room
-  HasNoRoom : IsFullToChange c (rows s) u t → CantChange c s u t UndoFull
-  -- it has, and the tables refuse the change; of several causes of theirs the first is named
-  TablesRefuse : (e : Refusal) → HasRoomToChange c (rows s) u t → Refuses c s e → IsFirst c (rows s) e → CantChange c s u t e

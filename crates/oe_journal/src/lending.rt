@@ -3,14 +3,13 @@ ghost use Rattle.std.specs.Prelude.{◌≡◌, Some, None, option_map, IfOk, IfE
 ghost use Rattle.std.specs.FinMap.{get};
 ghost use Rattle.oe_model.specs.Changes.{UpdatedWarehouse, UpdatedDistrict, UpdatedCustomer, UpdatedOrder, UpdatedOrderLine, UpdatedStock};
 ghost use Rattle.oe_layout.specs.Records.{record_of_lent};
-ghost use Rattle.oe_records.specs.Changes.{change_of};
 ghost use Rattle.oe_records.specs.Writes.{key_written, written};
 ghost use Rattle.oe_store.specs.Places.{rows};
-ghost use Rattle.oe_journal.specs.Records.{record_of_write, record_of_change};
+ghost use Rattle.oe_journal.specs.Records.{record_of_write};
 
 use oe_keys::{CustomerKey, DistrictKey, OrderKey, OrderLineKey, StockKey, WarehouseKey};
 use oe_layout::LentRecord;
-use oe_records::{Change, Write};
+use oe_records::Write;
 use oe_requests::Refusal;
 use oe_store::Tables;
 
@@ -49,26 +48,6 @@ fn found<'a>(tables: &'a Tables, write: &Write) -> Option<LentRecord<'a>>
         Write::InsertOrder(key, _) => Some(LentRecord::InsertedOrder(*key)),
         Write::InsertOrderLine(key, _) => Some(LentRecord::InsertedOrderLine(*key)),
         Write::DeleteNewOrder(key) => Some(LentRecord::DeletedNewOrder(*key)),
-    }
-}
-
-/// The record of a change of rows as they stand, likewise; none exactly where the row to be updated is absent.
-pub(crate) fn lend_changed<'a>(tables: &'a Tables, change: &Change) -> Option<LentRecord<'a>>
-    ensures { option_map record_of_lent result
-        ≡ record_of_change (change_of change.now) (rows tables.now) }
-{
-    match change {
-        Change::InsertHistory(key, _) => Some(LentRecord::InsertedHistory(*key)),
-        Change::InsertNewOrder(key) => Some(LentRecord::InsertedNewOrder(*key)),
-        Change::InsertOrder(key, _) => Some(LentRecord::InsertedOrder(*key)),
-        Change::InsertOrderLine(key, _) => Some(LentRecord::InsertedOrderLine(*key)),
-        Change::UpdateWarehouse(key, _) => warehouse(tables, key),
-        Change::UpdateDistrict(key, _) => district(tables, key),
-        Change::UpdateCustomer(key, _) => customer(tables, key),
-        Change::UpdateOrder(key, _) => order(tables, key),
-        Change::UpdateOrderLine(key, _) => order_line(tables, key),
-        Change::UpdateStock(key, _) => stock(tables, key),
-        Change::DeleteNewOrder(key) => Some(LentRecord::DeletedNewOrder(*key)),
     }
 }
 

@@ -3,7 +3,6 @@
 //! without a place.
 #![tactic(auto)]
 
-pub mod changes;
 mod inserts;
 mod lending;
 pub mod purges;
@@ -14,7 +13,6 @@ mod unplaced;
 pub mod unwinding;
 pub mod writes;
 
-pub use changes::change;
 pub use purges::purge;
 pub use rewinds::rewind;
 pub use undoing::undo;

@@ -2,15 +2,13 @@
 //! would say.
 ghost use Rattle.std.specs.Prelude.{IsSome};
 ghost use Rattle.oe_model.specs.Changes.{key_of, InsertHistory, InsertNewOrder, InsertOrder, InsertOrderLine};
-ghost use Rattle.oe_records.specs.Changes.{change_of};
 ghost use Rattle.oe_records.specs.Writes.{key_written, written};
 ghost use Rattle.oe_store.specs.Places.{rows, HasPlace};
-ghost use Rattle.oe_journal.specs.Records.{record_of_change};
 ghost use Rattle.oe_journal.specs.Writes.{IsRefused, RefusesWrite};
 
 use oe_change::{accept_history, accept_new_order, accept_order, accept_order_line};
 use oe_keys::{HistoryKey, NewOrderKey, OrderKey, OrderLineKey};
-use oe_records::{Change, Write};
+use oe_records::Write;
 use oe_requests::Refusal;
 use oe_rows::{History, Order, OrderLine};
 use oe_store::Tables;
@@ -29,22 +27,6 @@ pub(crate) fn unplaced(tables: &Tables, write: &Write) -> Refusal
         Write::InsertOrder(key, row) => unplaced_order(tables, key, row),
         Write::InsertOrderLine(key, row) => unplaced_order_line(tables, key, row),
         _ => Refusal::NoSuchRow(write.key()),
-    }
-}
-
-/// Why a change at a key without a place is refused, likewise.
-#[inline(never)]
-pub(crate) fn unplaced_change(tables: &Tables, change: &Change) -> Refusal
-    requires there { IsSome (record_of_change (change_of change.now) (rows tables.now)) }
-    requires unplaced { HasPlace tables.now (key_of (change_of change.now)) → ⊥ }
-    ensures { IsRefused (change_of change.now) tables.now result }
-{
-    match change {
-        Change::InsertHistory(key, row) => unplaced_history(tables, key, row),
-        Change::InsertNewOrder(key) => unplaced_new_order(tables, key),
-        Change::InsertOrder(key, row) => unplaced_order(tables, key, row),
-        Change::InsertOrderLine(key, row) => unplaced_order_line(tables, key, row),
-        _ => Refusal::NoSuchRow(change.key()),
     }
 }
 

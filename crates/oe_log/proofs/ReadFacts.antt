@@ -1,13 +1,11 @@
 -- The string of the ring at a record's address is that record.
-use Rattle.std.proofs.Common.{◌≡◌, ℕ, inl, inr, List, [], ◌∷◌, map, get_or, Option, None, Some, sym, ap, ◌∙◌, subst}
+use Rattle.std.proofs.Common.{◌≡◌, ℕ, inl, inr, List, [], ◌∷◌, map, get_or, sym, ap, ◌∙◌, subst}
 use Rattle.std.specs.List.{AllByRecursion}
 use Rattle.oe_ring.specs.Segments as ring
 use Rattle.oe_model.specs.Changes.{Record}
 use Rattle.oe_layout.specs.declared.links.RecordAddress.{RecordAddress}
 use Rattle.oe_layout.specs.declared.links.Previous.{Previous}
-use Rattle.oe_layout.specs.declared.records.OwnRecord.{OwnRecord}
 use Rattle.oe_layout.specs.Records.{record_of_own}
-use Rattle.oe_layout.specs.RecordFronts.{ReadsRecord}
 use Rattle.oe_log.specs.Log.{Logged, logged, IsAmong, HasAddress}
 use Rattle.oe_log.specs.Kept.{records_in, AreRecords}
 use Rattle.oe_layout.specs.Stored.{IsStoredRecord, IsToldLinked}
@@ -44,42 +42,11 @@ module _ (a : RecordAddress) (p : Previous) (b : Record) where
       → IsString (get_or xs i []) a p b
   string_at xs i h k = string_of (get_or xs i []) (are_at xs i h) (subst (IsAmong (logged a p b)) (at_slot xs i) k)
 
-  -- what is read of the bytes there
-  pub read_there : (ss : List (ring.Addressed)) (bytes : List ℕ) (r : Option (Previous × OwnRecord)) (i : IsString ss a p b)
-      → ring.IsStringAt ss (ring_address a) bytes → ReadsRecord bytes r → r ≡ Some (i.is.previous, i.is.before)
-  read_there ss bytes r i there reads =
-      reads.finds i.is.previous i.is.before i.is.link i.is.ranges (there i.bytes i.stands ∙ i.is.image)
-
 pub has_string : (a : RecordAddress) (xs : List (List (ring.Addressed))) (i : ℕ) → AllByRecursion AreRecords xs → HasAddress (get_or (map records_in xs) i []) a
     → ring.HasAddress (get_or xs i []) (ring_address a)
 has_string a xs i h has =
     let s = string_at a has.previous has.before xs i h has.there in
     record { bytes = s.bytes; stands = s.stands }
-
-abbrev told_as : Previous × OwnRecord → Previous × Record
-told_as y = (y.0, record_of_own y.1)
-
-some_of : (x y : Previous × OwnRecord) → Some x ≡ Some y → x ≡ y
-some_of x y e = ap (λ (o : Option (Previous × OwnRecord)). value_of o) e
-  where
-    value_of : Option (Previous × OwnRecord) → Previous × OwnRecord
-    value_of None = x
-    value_of (Some z) = z
-
-pub told_there : (a : RecordAddress) (p : Previous) (b : Record) (xs : List (List (ring.Addressed))) (i : ℕ) (bytes : List ℕ) (r : Option (Previous × OwnRecord)) (x : Previous × OwnRecord)
-    → AllByRecursion AreRecords xs → IsAmong (logged a p b) (get_or (map records_in xs) i []) → ring.IsStringAt (get_or xs i []) (ring_address a) bytes
-    → ReadsRecord bytes r → r ≡ Some x → ◌≡◌ {A = Previous × Record} (x.0, record_of_own x.1) (p, b)
-told_there a p b xs i bytes r x h k there reads e =
-    let s = string_at a p b xs i h k in
-    let same = some_of x (s.is.previous, s.is.before) (sym e ∙ read_there a p b (get_or xs i []) bytes r s there reads) in
-    ap (λ (y : Previous × OwnRecord). told_as y) same ∙ (λ j. (s.previous j, s.before j))
-
-pub some_read : (a : RecordAddress) (xs : List (List (ring.Addressed))) (i : ℕ) (bytes : List ℕ) (r : Option (Previous × OwnRecord))
-    → AllByRecursion AreRecords xs → HasAddress (get_or (map records_in xs) i []) a → ring.IsStringAt (get_or xs i []) (ring_address a) bytes
-    → ReadsRecord bytes r → (x : Previous × OwnRecord) × (r ≡ Some x)
-some_read a xs i bytes r h has there reads =
-    let s = string_at a has.previous has.before xs i h has.there in
-    ((s.is.previous, s.is.before), read_there a has.previous has.before (get_or xs i []) bytes r s there reads)
 
 -- ---- where it lies
 

@@ -1,11 +1,10 @@
 //! Records read by their addresses.
 ghost use Rattle.std.specs.Prelude.{◌≡◌, ◌<◌, [], length, get_or};
-ghost use Rattle.oe_layout.specs.Records.{record_of_own};
 ghost use Rattle.oe_log.specs.Log.{records_at, HasAddress, IsRecordAt};
 
 use crate::log::Log;
 use oe_extent::Address;
-use oe_layout::{OwnRecord, Previous, RecordAddress, StoredRecord, linked_record, read_record};
+use oe_layout::{Previous, RecordAddress, StoredRecord, linked_record};
 use oe_values::numbers::Terminal;
 
 /// A record's address as one of the ring.
@@ -19,31 +18,6 @@ fn ring_address(address: RecordAddress) -> Address
 }
 
 impl Log {
-    /// The record at that address of a terminal's segment, with what leads to the previous one of its row.
-    pub fn record_at(&self, terminal: Terminal, address: RecordAddress) -> (Previous, OwnRecord)
-        requires { HasAddress (records_at self.now terminal) address }
-        ensures { IsRecordAt (records_at self.now terminal) address
-            (result.0, record_of_own result.1) }
-    {
-        let slot = terminal.get() as usize;
-        let place = ring_address(address);
-        let bytes = self.ring.at(slot, place);
-        read_record(bytes).unwrap()
-    }
-
-    /// The record at that address of a commit's segment, with what leads to the previous one of its row. The newest commit has number
-    /// 0, and each older one the next number.
-    pub fn committed_record(&self, commit: usize, address: RecordAddress) -> (Previous, OwnRecord)
-        requires commit { commit < length self.now.committed }
-        requires some { HasAddress (get_or self.now.committed commit []) address }
-        ensures { IsRecordAt (get_or self.now.committed commit []) address
-            (result.0, record_of_own result.1) }
-    {
-        let place = ring_address(address);
-        let image = self.ring.committed_at(commit, place);
-        read_record(image).unwrap()
-    }
-
     /// The record at that address of a terminal's segment, where it lies, with what leads to the previous one of its row. No row is
     /// read, and no memory is taken.
     pub fn linked_at(

@@ -13,11 +13,11 @@ ghost use Rattle.oe_neworder.specs.Program.{line_position};
 ghost use Rattle.oe_neworder.specs.Stages.{Advances, HoldsTaken, Fills};
 
 use crate::looks::{Supply, supply_of};
-use oe_engine::stages::{add, failed, put};
+use oe_engine::stages::{failed, put, put_held};
 use oe_engine::{Engine, Lock, Progress, Tx};
 use oe_formulas::orders::Seen;
 use oe_keys::{Mode, Name};
-use oe_records::{Change, Write};
+use oe_records::Write;
 use oe_requests::{LineReplies, LineReply, NewOrderReply, NewOrderRequest, Refusal, RequestLine};
 use oe_rows::OrderLine;
 use oe_values::{LineNumber, OrderNumber};
@@ -117,11 +117,8 @@ fn insert(
     ensures err { OnErr result (view_of engine.new ≡ view_of engine.old) }
 {
     let key = request.district.order(order).line(filled.number);
-    add(
-        engine,
-        tx,
-        Change::InsertOrderLine(key, filled.row.copied()),
-    )
+    let write = Write::InsertOrderLine(key, filled.row.copied());
+    put_held(engine, tx, &write)
 }
 
 /// The number of the line after those that are done.

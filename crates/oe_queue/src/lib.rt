@@ -7,8 +7,6 @@ pub mod ends;
 pub mod messages;
 pub mod rules;
 pub mod senders;
-#[cfg(test)]
-mod tests;
 
 pub use ends::{CAPACITY, Taker};
 pub use messages::Message;

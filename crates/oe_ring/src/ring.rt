@@ -7,7 +7,7 @@
 //! nothing then. No other call can be refused.
 ghost use Rattle.std.specs.Prelude.{◌≡◌, ◌<◌, ◌≤◌, ◌+◌, ◌↔◌, [], length, get_or, replicate, IsErr, IfOk, OnOk, OnErr};
 ghost use Rattle.oe_extent.specs.Strings.{IsFramed};
-ghost use Rattle.oe_ring.specs.Segments.{used_of, IsFull, IsFresh, no_segments, pushed_at, popped_at, sealed_at, reopened_at, newest_bytes, strings_of, without_oldest, without_newest, capacity_of, HasAddress, IsStringAt};
+ghost use Rattle.oe_ring.specs.Segments.{used_of, IsFull, IsFresh, no_segments, pushed_at, popped_at, sealed_at, reopened_at, newest_bytes, strings_of, without_oldest, capacity_of, HasAddress, IsStringAt};
 
 use oe_bytes::Written;
 use oe_extent::{Address, Pool, Segment, Strings};
@@ -206,17 +206,6 @@ impl Ring {
         ensures room { capacity_of self.new ≡ capacity_of self.old }
     {
         let taken = self.committed.pop_back();
-        if let Some(segment) = taken {
-            self.pool.give_all(segment);
-        }
-    }
-
-    /// Gives up the newest commit's segment, where there is one. Its extents are free again, and there is room for a commit more.
-    pub fn drop_newest(&mut self)
-        ensures left { self.new ≡ without_newest self.old self.new.room }
-        ensures room { capacity_of self.new ≡ capacity_of self.old }
-    {
-        let taken = self.committed.pop_front();
         if let Some(segment) = taken {
             self.pool.give_all(segment);
         }

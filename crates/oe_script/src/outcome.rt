@@ -22,10 +22,10 @@ use crate::output::{bad, make_room};
 use crate::ports::{Failed, Outlet};
 use oe_core::{Advanced, Core};
 use oe_lines::{Command, ExtentCount, MomentChoice, command, payment_to_begin, terminal_to_run};
+use oe_population::{NoMemory, populate};
 use oe_requests::{Query, Refusal, Request};
 use oe_rows::Scale;
 use oe_steps::{Answer, Condition, Step};
-use oe_store::{NoMemory, populate};
 use oe_texts::{
     LONGEST, Pending, SIZE, answer, audited, begun, committed, committed_payment, more, opened,
     refused,

@@ -1,6 +1,5 @@
 //! What is known of terminals, and of records, by their addresses or one after another.
 ghost use Rattle.std.specs.Prelude.{◌≡◌, ◌<◌, ◌≤◌, ◌+◌, ◌↔◌, ℕ, suc, false, [], length, get_or, take, slice_get, option_map, Option, is_some, IsTrue, IsSome, IfSome};
-ghost use Rattle.oe_layout.specs.Records.{record_of_own};
 ghost use Rattle.oe_log.specs.Log.{HasAddress, IsRecordAt};
 ghost use Rattle.oe_model.specs.System.{system, terminal_limit};
 ghost use Rattle.oe_theory.specs.Store.{Slot, count_slots};
@@ -9,7 +8,7 @@ ghost use Rattle.oe_segments.specs.Stands.{model_records, DeletesNothing};
 
 use crate::heads::SegmentOwner;
 use crate::segments::Segments;
-use oe_layout::{OwnRecord, Previous, RecordAddress, StoredRecord};
+use oe_layout::{Previous, RecordAddress, StoredRecord};
 use oe_log::Records;
 use oe_values::numbers::{TERMINALS, Terminal, TransactionNumber};
 
@@ -19,13 +18,6 @@ impl Segments {
         ensures { result ≡ self.now.extents }
     {
         self.log.extents()
-    }
-
-    /// Terminal 0 is nobody, and has no records. It does nothing: it is for proofs above, which see no invariant.
-    pub fn nobody_has_records(&self)
-        ensures { records_at self.now 0 ≡ [] }
-    {
-        let _known = &self.log;
     }
 
     /// The log has a state of each terminal, and one of nobody. It does nothing: it is for proofs above, which see no invariant.
@@ -95,26 +87,6 @@ impl Segments {
         }
     }
 
-    /// The record at that address of a terminal's open segment, with what leads to the previous one of its row.
-    pub fn record_at(&self, terminal: Terminal, address: RecordAddress) -> (Previous, OwnRecord)
-        requires { HasAddress (records_at self.now terminal) address }
-        ensures { IsRecordAt (records_at self.now terminal) address
-            (result.0, record_of_own result.1) }
-    {
-        self.log.record_at(terminal, address)
-    }
-
-    /// The record at that address of a commit's segment, with what leads to the previous one of its row. The commit is given by the
-    /// number of later ones.
-    pub fn committed_record(&self, later: usize, address: RecordAddress) -> (Previous, OwnRecord)
-        requires commit { later < length self.now.committed }
-        requires some { HasAddress (get_or (committed_records self.now) later []) address }
-        ensures { IsRecordAt (get_or (committed_records self.now) later []) address
-            (result.0, record_of_own result.1) }
-    {
-        self.log.committed_record(later, address)
-    }
-
     /// The record at that address of a terminal's open segment, where it lies, with what leads to the previous one of its row. No row
     /// is read, and no memory is taken.
     pub fn linked_at(
@@ -141,13 +113,6 @@ impl Segments {
             (result.0, result.1) }
     {
         self.log.committed_linked_at(later, address)
-    }
-
-    /// The records of a terminal's open segment, the newest first, where they lie; none where it has none open. It takes no memory.
-    pub fn open_records(&self, terminal: Terminal) -> Records<'_>
-        ensures { result ≡ model_records (records_at self.now terminal) }
-    {
-        self.log.records(terminal)
     }
 
     /// The records of a commit's segment, the newest first, where they lie. The commit is given by the number of later ones. It takes

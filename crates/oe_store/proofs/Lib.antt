@@ -3,12 +3,7 @@ pub mod PlaceFacts
 pub mod SoundFacts
 pub mod KeyWalkFacts
 mod ColumnFacts
-mod FillFacts
-mod KeyTests
-mod HistoryTests
-mod PopulatedFacts
 mod ChoiceFacts
 mod GroupFacts
-mod TextFacts
 mod NewestFacts
 mod GivenUpFacts

@@ -1,8 +1,5 @@
 -- What the clauses of this crate cite.
 pub mod Places
-pub mod Printable
-pub mod Fill
-pub mod Group
 pub mod Dump
 pub mod Walk
 pub mod KeyWalk

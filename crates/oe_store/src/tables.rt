@@ -3,7 +3,7 @@ ghost use Rattle.std.specs.Prelude.{◌≡◌};
 ghost use Rattle.std.specs.Option.{option_copied};
 ghost use Rattle.std.specs.FinMap.{get, empty};
 ghost use Rattle.oe_store.specs.Numbered.{AreNumbered};
-ghost use Rattle.oe_store.specs.Places.{rows, HasPlace};
+ghost use Rattle.oe_store.specs.Places.{rows, HasPlace, IsSound};
 ghost use Rattle.oe_model.specs.Meets.{Meets};
 
 use oe_finders::{Customers, Orders};
@@ -15,6 +15,38 @@ use oe_rows::{Customer, District, History, Item, NewOrder, Order, OrderLine, Sto
 use oe_table::shelves::Shelves;
 use std::alloc::Global;
 use std::marker::Model;
+
+/// Nine tables of any rows, one by one.
+#[derive(Drop)]
+pub struct NineTables {
+    pub warehouses: Shelves<WarehouseKey, Warehouse>,
+    pub districts: Shelves<DistrictKey, District>,
+    pub customers: Customers,
+    pub histories: Shelves<HistoryKey, History>,
+    pub new_orders: Shelves<NewOrderKey, NewOrder>,
+    pub orders: Orders,
+    pub order_lines: Shelves<OrderLineKey, OrderLine>,
+    pub items: Shelves<ItemKey, Item>,
+    pub stocks: Shelves<StockKey, Stock>,
+}
+
+impl Model for NineTables {
+    ghost use Rattle.oe_store.specs.Places.{Places};
+
+    ghost Value = { Places };
+
+    ghost view = { λ t. record {
+      warehouses = t.warehouses;
+      districts = t.districts;
+      customers = t.customers;
+      histories = t.histories;
+      new_orders = t.new_orders;
+      orders = t.orders;
+      order_lines = t.order_lines;
+      items = t.items;
+      stocks = t.stocks;
+    } };
+}
 
 /// The nine tables, whose rows meet the schema (clauses 1.3 and 1.4): each reference finds its row, each warehouse has
 /// ten districts, and each column is in its range. A key that lost its row keeps its place, so that to put a row back
@@ -82,6 +114,24 @@ impl Tables {
             order_lines: Shelves::new(alloc),
             items: Shelves::new(alloc),
             stocks: Shelves::new(alloc),
+        }
+    }
+
+    /// Nine tables whose rows meet the schema.
+    pub fn of(nine: NineTables) -> Self
+        requires { IsSound (rows nine) }
+        ensures { result ≡ nine }
+    {
+        Tables {
+            warehouses: nine.warehouses,
+            districts: nine.districts,
+            customers: nine.customers,
+            histories: nine.histories,
+            new_orders: nine.new_orders,
+            orders: nine.orders,
+            order_lines: nine.order_lines,
+            items: nine.items,
+            stocks: nine.stocks,
         }
     }
 

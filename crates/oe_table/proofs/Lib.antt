@@ -1,12 +1,10 @@
 -- The laws of tables for the crates above, and what this crate's own proofs rest on.
 pub mod TableFacts
 mod WalkFacts
-mod SweepFacts
 pub mod ShelfFacts
 mod NearFacts
 pub mod ShelvesFacts
 mod RangeFacts
-mod ShelfSweepFacts
 mod PassedFacts
 mod GivenUpFacts
 mod FrontFacts

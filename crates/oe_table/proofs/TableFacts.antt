@@ -6,7 +6,7 @@ use Rattle.std.specs.declared.cmp.Ordering.{Ordering}
 use Rattle.std.specs.declared.cmp.Ordering.TheVariants.{Less, Equal, Greater}
 use Rattle.std.specs.Cmp.{IsTotalOrder, eq_by_cmp_equiv}
 use Rattle.std.specs.FinMap.{FinMap, IsAntisymmetric, get, get-empty, get-insert, get-remove, get_tied, same_map}
-use Rattle.oe_table.specs.Table.{place, HasPlace, IsBlanked, SetsPlace, Sweeps, put, rows_of}
+use Rattle.oe_table.specs.Table.{place, HasPlace, IsBlanked, SetsPlace, put, rows_of}
 
 -- the row of a place
 abbrev pub row_in : {R : Type 0} → Option (Option R) → Option R
@@ -17,13 +17,6 @@ pub tied : (r : Ordering) → is_eq r ≡ true → r ≡ Equal
 tied Less e = cc
 tied Equal e = refl
 tied Greater e = cc
-
--- where the test computes, a sweep leaves of a blanked place what the test says
-pub place-swept : {R : Type 0} (Answers : Bool → Type 0) (keeps : Bool) → ((b : Bool) → Answers b → b ≡ keeps) → (old new : Option (Option R)) → old ≡ Some None → Sweeps Answers old new
-    → new ≡ cond keeps (Some None) None
-place-swept Answers keeps says None new blank h = cc
-place-swept Answers keeps says (Some None) new blank (b, answers, e) = rw (← says b answers) e
-place-swept Answers keeps says (Some (Some row)) new blank h = cc
 
 module _ {R : Type 0} where
   row_in-cond : (b : Bool) (p : Option R) (rest : Option (Option R)) (m : Option R) → m ≡ row_in rest → cond b p m ≡ row_in (cond b (Some p) rest)

@@ -3,5 +3,4 @@ pub mod Table
 pub mod Shelf
 pub mod ShelfLends
 pub mod ShelvesLends
-pub mod ShelfSweep
 pub mod FrontVecLends

@@ -1,5 +1,5 @@
 -- A table is seen as the list of its places, in the keys' order: each has a row, or is blanked.
-use Rattle.std.specs.Prelude.{◌≡◌, Bool, true, cond, List, [], ◌∷◌, Option, None, Some}
+use Rattle.std.specs.Prelude.{◌≡◌, cond, List, [], ◌∷◌, Option, None, Some}
 use Rattle.std.specs.declared.cmp.Ordering.{Ordering}
 use Rattle.std.specs.BTreeMap.{is_at}
 use Rattle.std.specs.Map.{lookup}
@@ -15,18 +15,6 @@ abbrev pub live : {K R : Type 0} → List (K × Option R) → List (K × R)
 live [] = []
 live ((key, None) ∷ t) = live t
 live ((key, Some row) ∷ t) = (key, row) ∷ live t
-
--- what a sweep says of a place: it keeps a row, and a blanked place where `Answers` says so
-abbrev pub Judges : {R : Type 0} → (Bool → Type 0) → Option R → Bool → Type 0
-Judges Answers None kept = Answers kept
-Judges Answers (Some row) kept = kept ≡ true
-
--- what a sweep leaves of a place, where `Answers b` says that the test may answer b: of a blanked one nothing, unless the
--- test keeps it
-abbrev pub Sweeps : {R : Type 0} → (Bool → Type 0) → Option (Option R) → Option (Option R) → Type 0
-Sweeps Answers None new = new ≡ None
-Sweeps Answers (Some None) new = (keeps : Bool) × Answers keeps × (new ≡ cond keeps (Some None) None)
-Sweeps Answers (Some (Some row)) new = new ≡ Some (Some row)
 
 -- what is left of a place where a blanked one is given up
 abbrev pub left_of : {R : Type 0} → Option (Option R) → Option (Option R)
@@ -54,10 +42,6 @@ module _ {K R : Type 0} (cmp : K → K → Ordering) where
   -- a blanked key has no place any more; a row, and each other key's place, is as before
   abbrev pub GivesUpPlace : List (K × Option R) → List (K × Option R) → K → Type 0
   GivesUpPlace old new key = (other : K) → place new other ≡ cond (is_at (cmp key) other) (left_of (place old key)) (place old other)
-
-  -- each place is what a sweep leaves of it, where `Answers key b` says that the test may answer b at a key
-  abbrev pub SweepsPlaces : (K → Bool → Type 0) → List (K × Option R) → List (K × Option R) → Type 0
-  SweepsPlaces Answers old new = (key : K) → Sweeps (Answers key) (place old key) (place new key)
 
   -- the rows, as a finite map
   abbrev pub rows_of : List (K × Option R) → FinMap cmp R

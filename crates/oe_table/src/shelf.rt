@@ -7,9 +7,7 @@ ghost use Rattle.std.specs.Prelude.{◌≡◌, ◌+◌, ◌<◌, ◌≤◌, ◌�
 ghost use Rattle.std.specs.List.{insert, remove};
 ghost use Rattle.std.specs.Option.{option_copied, option_copied_mut, ForSome};
 ghost use Rattle.std.specs.Borrow.{sem};
-ghost use Rattle.std.specs.Fn.{FnReturnsAt};
-ghost use Rattle.oe_table.specs.Table.{place, live, Judges};
-ghost use Rattle.oe_table.specs.ShelfSweep.{SweepsShelf};
+ghost use Rattle.oe_table.specs.Table.{place, live};
 ghost use Rattle.oe_table.specs.Shelf.{IsAscending, StandsAt, IsFound, put_at, lower, upper, without_blanked};
 
 use crate::front_vec::FrontVec;
@@ -123,24 +121,6 @@ fn passed_without(passed: usize, at: usize) -> usize
     ensures after { passed ≤ at → result ≡ passed }
 {
     if at < passed { passed - 1 } else { passed }
-}
-
-// Drops exactly those blanked slots whose key the test does not keep.
-fn sweep_slots<K: Drop, R: Drop, F: Fn(&K) -> bool>(slots: &mut FrontVec<Slot<K, R>>, keeps: &F)
-    requires { F.IsAlwaysCallable keeps.now }
-    ensures { SweepsShelf (FnReturnsAt F.Fn keeps.now) slots.old slots.new }
-{
-    slots.retain(
-        |slot: &Slot<K, R>| -> bool
-            requires { F.IsAlwaysCallable keeps.now }
-            ensures { Judges (FnReturnsAt F.Fn keeps.entry.now slot.now.0) slot.now.1 result }
-        {
-            match slot.content {
-                Some(_) => true,
-                None => keeps(&slot.key),
-            }
-        },
-    );
 }
 
 // Where a key stands, or would stand, among slots whose keys ascend.
@@ -431,17 +411,5 @@ impl<K: ShelvedKey, R> Shelf<K, R> {
     {
         self.blanked = passed_without(self.blanked, at);
         self.slots.remove(at);
-    }
-
-    /// Gives up the places of exactly those blanked keys that the test does not keep.
-    pub(crate) fn sweep<F: Fn(&K) -> bool>(&mut self, keeps: &F)
-    where
-        K: Drop,
-        R: Drop,
-        requires { F.IsAlwaysCallable keeps.now }
-        ensures { SweepsShelf (FnReturnsAt F.Fn keeps.now) self.old self.new }
-    {
-        sweep_slots(&mut self.slots, keeps);
-        self.blanked = 0;
     }
 }

@@ -8,14 +8,12 @@ ghost use Rattle.std.specs.Prelude.{◌≡◌, ◌+◌, ◌<◌, ◌≤◌, ℕ,
 ghost use Rattle.std.specs.List.Sorted.{IsStrictlySortedBy};
 ghost use Rattle.std.specs.Map.{keys_of};
 ghost use Rattle.std.specs.BTreeMap.Range.{IsLeBy, entries_between};
-ghost use Rattle.std.specs.declared.ops.Bound.TheVariants.{Included, Excluded};
+ghost use Rattle.std.specs.declared.ops.Bound.TheVariants.{Included};
 ghost use Rattle.std.specs.FinMap.{entries};
 ghost use Rattle.std.specs.Option.{option_copied, option_copied_mut};
 ghost use Rattle.std.specs.Borrow.{sem};
 ghost use Rattle.std.specs.FinMap as map;
-ghost use Rattle.std.specs.Fn.{FnReturnsAt};
-ghost use Rattle.oe_table.specs.Table.{place, live, rows_of, IsBlanked, SetsPlace, GivesUpPlace, SweepsPlaces};
-ghost use Rattle.oe_table.specs.ShelfSweep.{SweepsShelves};
+ghost use Rattle.oe_table.specs.Table.{place, live, rows_of, IsBlanked, SetsPlace, GivesUpPlace};
 ghost use Rattle.oe_table.specs.Shelf.{joined, AreShelves, lower, upper, cut_between};
 
 use crate::keys::ShelvedKey;
@@ -62,19 +60,6 @@ pub fn reach<K: Drop, R: Drop>(
         }
     }
     Ok(())
-}
-
-// Sweeps each shelf.
-fn sweep_each<K: ShelvedKey + Drop, R: Drop, F: Fn(&K) -> bool>(
-    shelves: &mut Vec<Shelf<K, R>>,
-    keeps: &F,
-)
-    requires { F.IsAlwaysCallable keeps.now }
-    ensures { SweepsShelves (FnReturnsAt F.Fn keeps.now) shelves.old.items shelves.new.items }
-{
-    for number in 0..shelves.len() {
-        shelves[number].sweep(keeps);
-    }
 }
 
 // A place between two slots: a shelf, and how many of its slots stand before.
@@ -403,41 +388,12 @@ impl<K: ShelvedKey, R> Shelves<K, R> {
         shelf.give_up(key);
     }
 
-    /// Gives up the places of exactly those blanked keys that the test does not keep.
-    ///
-    /// The rows are as before, and so is each blanked place that the test keeps.
-    pub fn sweep<F: Fn(&K) -> bool>(&mut self, keeps: F)
-    where
-        K: Drop,
-        R: Drop,
-        F: Drop,
-        requires { F.IsAlwaysCallable keeps }
-        ensures places { SweepsPlaces K.cmp (FnReturnsAt F.Fn keeps) self.old self.new }
-        ensures rows { rows_of K.cmp self.new ≡ rows_of K.cmp self.old }
-    {
-        sweep_each(&mut self.shelves, &keeps);
-    }
-
     /// The rows with their keys, in the keys' order.
     pub fn iter(&self) -> Rows<'_, K, R>
         ensures rows { result ≡ entries (rows_of K.cmp self.now) }
         ensures ordered { IsStrictlySortedBy K.cmp (keys_of result) }
     {
         let slots = self.all_slots();
-        Rows { slots }
-    }
-
-    /// The rows whose keys lie from `from` on and before `to`, in the keys' order. The two may be equal:
-    /// there is then none.
-    pub fn range(&self, from: K, to: K) -> Rows<'_, K, R>
-    where
-        K: Drop,
-        requires { IsLeBy K.cmp from to }
-        ensures { result
-            ≡ entries_between K.cmp (Included from) (Excluded to)
-            (entries (rows_of K.cmp self.now)) }
-    {
-        let slots = self.slots_before(&from, &to);
         Rows { slots }
     }
 
@@ -453,32 +409,6 @@ impl<K: ShelvedKey, R> Shelves<K, R> {
         let start = cut_before(&self.shelves, &from);
         let end = cut_after(&self.shelves, &to);
         rows_between(&self.shelves, start, end)
-    }
-
-    /// The keys from `from` on and before `to` that have a place, in their order, each with its row or,
-    /// where it was blanked, `None`.
-    pub fn candidates(&self, from: K, to: K) -> Candidates<'_, K, R>
-    where
-        K: Drop,
-        requires { IsLeBy K.cmp from to }
-        ensures places { result ≡ entries_between K.cmp (Included from) (Excluded to) self.now }
-        ensures ordered { IsStrictlySortedBy K.cmp (keys_of self.now) }
-    {
-        let places = self.slots_before(&from, &to);
-        Candidates { slots: places }
-    }
-
-    /// The keys from `from` up to `to`, both included, that have a place, in their order, each with its row or,
-    /// where it was blanked, `None`.
-    pub fn candidates_inclusive(&self, from: K, to: K) -> Candidates<'_, K, R>
-    where
-        K: Drop,
-        requires { IsLeBy K.cmp from to }
-        ensures places { result ≡ entries_between K.cmp (Included from) (Included to) self.now }
-        ensures ordered { IsStrictlySortedBy K.cmp (keys_of self.now) }
-    {
-        let places = self.slots_up_to(&from, &to);
-        Candidates { slots: places }
     }
 
     /// The keys that have a place, in their order, each with its row or, where it was blanked, `None`.
@@ -499,29 +429,5 @@ impl<K: ShelvedKey, R> Shelves<K, R> {
             shelves: self.shelves.iter(),
             back: no_slots().iter(),
         }
-    }
-
-    // The slots from a key on and before another.
-    fn slots_before(&self, from: &K, to: &K) -> Slots<'_, K, R>
-        requires { IsLeBy K.cmp from.now to.now }
-        ensures places { result
-            ≡ entries_between K.cmp (Included from.now) (Excluded to.now) self.now }
-        ensures ordered { IsStrictlySortedBy K.cmp (keys_of self.now) }
-    {
-        let start = cut_before(&self.shelves, from);
-        let end = cut_before(&self.shelves, to);
-        slots_between(&self.shelves, start, end)
-    }
-
-    // The slots from a key up to another.
-    fn slots_up_to(&self, from: &K, to: &K) -> Slots<'_, K, R>
-        requires { IsLeBy K.cmp from.now to.now }
-        ensures places { result
-            ≡ entries_between K.cmp (Included from.now) (Included to.now) self.now }
-        ensures ordered { IsStrictlySortedBy K.cmp (keys_of self.now) }
-    {
-        let start = cut_before(&self.shelves, from);
-        let end = cut_after(&self.shelves, to);
-        slots_between(&self.shelves, start, end)
     }
 }

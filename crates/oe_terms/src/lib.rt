@@ -8,8 +8,6 @@ pub mod errands;
 pub mod names;
 pub mod orders;
 pub mod payments;
-#[cfg(test)]
-mod tests;
 
 pub use draws::words;
 pub use errands::{Kind, RequestNumber, errand, request};

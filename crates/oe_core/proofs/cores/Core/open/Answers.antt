@@ -2,7 +2,7 @@ use Rattle.oe_core.proofs.OpenFacts.{orderly_opened, world_opened}
 use Rattle.oe_core.proofs.cores.Core.open.Goals as goal
 
 pub invariant_of-result : goal.invariant_of-result
-invariant_of-result c = orderly_opened _ _ _ _ _ c.in-Ok-empty_txs.ensures c.in-Ok.ensures c.requires c.in_ok-engine.ensures.view
+invariant_of-result c = orderly_opened _ _ _ _ _ c.in-Ok.ensures.txs c.in-Ok.ensures.works c.requires c.in_ok-engine.ensures.view
 
 pub returns : goal.returns
-returns c = world_opened _ _ _ _ _ c.in-Ok-empty_txs.ensures c.requires c.in_ok-engine.ensures.view
+returns c = world_opened _ _ _ _ _ c.in-Ok.ensures.txs c.requires c.in_ok-engine.ensures.view

@@ -10,18 +10,18 @@ use Rattle.oe_engine.proofs.engine.Engine.open.Goals as goal
 
 pub invariant_of-result : goal.invariant_of-result
 invariant_of-result c =
-    let quiet = rw c.in-Ok-new.is at c.new.ensures in
-    let first = rw c.in-Ok.is at c.linked_undo.ensures.log in
+    let quiet = rw c.in-Ok.is at c.beside.ensures.locks in
+    let first = rw c.in-Ok.is at c.beside.ensures.log in
     record {
-      kept = subst (λ u. IsKept c.args.tables u c.in-Ok-new.locks) (sym first) (first_kept c.args.tables c.args.extents c.in-Ok-new.locks quiet);
-      safe = subst IsSafe (sym (ap (λ u. view_from c.args.tables u c.in-Ok-new.locks) first ∙ first_is c.args.tables c.args.extents c.in-Ok-new.locks quiet))
+      kept = subst (λ u. IsKept c.args.tables u c.in-Ok.locks) (sym first) (first_kept c.args.tables c.args.extents c.in-Ok.locks quiet);
+      safe = subst IsSafe (sym (ap (λ u. view_from c.args.tables u c.in-Ok.locks) first ∙ first_is c.args.tables c.args.extents c.in-Ok.locks quiet))
           (safe_first (rows c.args.tables) c.args.extents c.schema_holds.ensures);
-      linked = rw c.in-Ok.is at c.linked_undo.ensures.linked;
+      linked = rw c.in-Ok.is at c.beside.ensures.linked;
     }
 
 pub returns-clause-view : goal.returns-clause-view
 unfolding view_of
 returns-clause-view c =
-    let quiet = rw c.in-Ok-new.is at c.new.ensures in
-    let first = rw c.in-Ok.is at c.linked_undo.ensures.log in
-    ap (λ u. view_from c.args.tables u c.in-Ok-new.locks) first ∙ first_is c.args.tables c.args.extents c.in-Ok-new.locks quiet
+    let quiet = rw c.in-Ok.is at c.beside.ensures.locks in
+    let first = rw c.in-Ok.is at c.beside.ensures.log in
+    ap (λ u. view_from c.args.tables u c.in-Ok.locks) first ∙ first_is c.args.tables c.args.extents c.in-Ok.locks quiet

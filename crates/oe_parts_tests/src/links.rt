@@ -1,0 +1,117 @@
+//! Where an order's link leads, call by call.
+use crate::made::{address, order, order_key};
+use crate::opened::{begin, commit, push_order, undo};
+use oe_chains::{Holder, Link};
+use oe_keys::{Key, OrderKey};
+use oe_layout::Previous;
+use oe_segments::Segment;
+use oe_undo::Undo;
+use oe_values::{Moment, Terminal};
+
+fn own(extent: u32, offset: u32) -> Option<Previous> {
+    Some(Previous::Own(address(extent, offset)?))
+}
+
+fn committed(extent: u32, offset: u32, moment: u64) -> Option<Previous> {
+    Some(Previous::Committed(address(extent, offset)?, Moment::new(moment)?))
+}
+
+fn link(undo: &Undo, key: &OrderKey) -> Option<Link> {
+    undo.link(&Key::Order(*key))
+}
+
+/// A link to a record that a terminal has open.
+fn open_at(extent: u32, offset: u32, terminal: Terminal) -> Option<Link> {
+    Some(Link {
+        address: address(extent, offset)?,
+        holder: Holder::Open(terminal),
+    })
+}
+
+/// A link to a record of the commit at a moment.
+fn made_at(extent: u32, offset: u32, moment: u64) -> Option<Link> {
+    Some(Link {
+        address: address(extent, offset)?,
+        holder: Holder::At(Moment::new(moment)?),
+    })
+}
+
+/// Two records of terminal 41, and its commit, after which terminal 5 has a segment open with one.
+fn pushed_by_turns(undo: &mut Undo, key: &OrderKey) -> Option<bool> {
+    let row = order(11)?;
+    let first = Terminal::new(41)?;
+    let second = Terminal::new(5)?;
+    begin(undo, first)?;
+    let at_first = push_order(undo, first, key, &row)?;
+    let behind_one = push_order(undo, first, key, &row)?;
+    commit(undo, first)?;
+    begin(undo, second)?;
+    let behind_commit = push_order(undo, second, key, &row);
+    pop(undo, second)?;
+    Some(
+        at_first == Previous::Nothing
+            && Some(behind_one) == own(0, 0)
+            && behind_commit == committed(0, 38, 1),
+    )
+}
+
+fn pop(undo: &mut Undo, terminal: Terminal) -> Option<()> {
+    if !undo.segments().is_open(terminal) {
+        return None;
+    }
+    undo.pop(Segment::of(terminal));
+    Some(())
+}
+
+/// Terminal 5 pushes a record, takes it off, pushes it again, and commits.
+fn taken_off(undo: &mut Undo, key: &OrderKey) -> Option<bool> {
+    let row = order(12)?;
+    let terminal = Terminal::new(5)?;
+    push_order(undo, terminal, key, &row)?;
+    let pushed = link(undo, key);
+    pop(undo, terminal)?;
+    let popped = link(undo, key);
+    push_order(undo, terminal, key, &row)?;
+    commit(undo, terminal)?;
+    Some(
+        pushed == open_at(1, 0, terminal)
+            && popped == made_at(0, 38, 1)
+            && link(undo, key) == made_at(1, 0, 2),
+    )
+}
+
+#[tactic(auto, using(crate::proofs::AloneFacts::none_open))]
+fn reopen(undo: &mut Undo) -> Option<u32> {
+    if undo.segments().open_count() > 0 {
+        return None;
+    }
+    Some(undo.reopen_newest()?.terminal().get())
+}
+
+/// The newest commit is terminal 5's again, and then a commit; then both commits are given up, and the link leads nowhere.
+fn given_up(undo: &mut Undo, key: &OrderKey) -> Option<bool> {
+    let terminal = Terminal::new(5)?;
+    let reopened = reopen(undo)?;
+    let opened = link(undo, key);
+    commit(undo, terminal)?;
+    let first = undo.drop_oldest()?.terminal.get();
+    let kept = link(undo, key);
+    let second = undo.drop_oldest()?.terminal.get();
+    Some(
+        reopened == 5
+            && opened == open_at(1, 0, terminal)
+            && (first, second) == (41, 5)
+            && kept == made_at(1, 0, 2)
+            && link(undo, key).is_none(),
+    )
+}
+
+#[test]
+fn links_are_handed_on(rt: HostRuntime) {
+    let key = order_key().expect(&rt, "a key");
+    let mut undo = undo(rt.alloc(), 2).expect(&rt, "a log");
+    assert!(rt; pushed_by_turns(&mut undo, &key) == Some(true));
+    assert!(rt; taken_off(&mut undo, &key) == Some(true));
+    assert!(rt; given_up(&mut undo, &key) == Some(true));
+    drop(undo);
+}

@@ -1,0 +1,106 @@
+//! Keys, rows and addresses, whose values differ. `None` where one could not be made.
+use oe_keys::{DistrictKey, NewOrderKey, OrderKey, StockKey, WarehouseKey};
+use oe_layout::RecordAddress;
+use oe_rows::{Address, Order, Stock, Warehouse};
+use oe_values::numbers::{Amount, Number};
+use oe_values::stamps::Stamp;
+use oe_values::texts::Text;
+
+pub(crate) fn district_key(warehouse: u32, district: u32) -> Option<DistrictKey> {
+    Some(DistrictKey {
+        warehouse: Number::new(warehouse)?,
+        district: Number::new(district)?,
+    })
+}
+
+fn warehouse_address() -> Option<Address> {
+    Some(Address {
+        street_1: Text::read("STREET1")?,
+        street_2: Text::read("STREET2")?,
+        city: Text::read("CITY")?,
+        state: Text::read("ST")?,
+        zip: Text::read("000111111")?,
+    })
+}
+
+/// Warehouse 1 with a year to date of so many cents: 1,000.00 as it is populated at 10 customers a district. Its record has 77 bytes.
+pub(crate) fn warehouse(year_to_date: u64) -> Option<(WarehouseKey, Warehouse)> {
+    let key = WarehouseKey {
+        warehouse: Number::new(1)?,
+    };
+    let row = Warehouse {
+        name: Text::read("WARE01")?,
+        address: warehouse_address()?,
+        tax: Number::new(100)?,
+        ytd: Amount::new(year_to_date)?,
+    };
+    Some((key, row))
+}
+
+/// NEW-ORDER (1, 1, 8): its record has 25 bytes.
+pub(crate) fn queue_entry() -> Option<NewOrderKey> {
+    Some(NewOrderKey {
+        warehouse: Number::new(1)?,
+        district: Number::new(1)?,
+        order: Number::new(8)?,
+    })
+}
+
+/// ORDER (12, 3, 66051).
+pub(crate) fn order_key() -> Option<OrderKey> {
+    Some(OrderKey {
+        warehouse: Number::new(12)?,
+        district: Number::new(3)?,
+        order: Number::new(66_051)?,
+    })
+}
+
+/// The order as one of this customer, not yet delivered: a record with its row has 38 bytes.
+pub(crate) fn order(customer: u32) -> Option<Order> {
+    Some(Order {
+        customer: Number::new(customer)?,
+        entry: Stamp::from_seconds(3_155_673_600)?,
+        carrier: None,
+        line_count: Number::new(14)?,
+        all_local: true,
+    })
+}
+
+fn ten_texts() -> Option<[Text<24, 24>; 10]> {
+    Some([
+        Text::read("STOCK-DIST-01-01-0000001")?,
+        Text::read("STOCK-DIST-01-02-0000001")?,
+        Text::read("STOCK-DIST-01-03-0000001")?,
+        Text::read("STOCK-DIST-01-04-0000001")?,
+        Text::read("STOCK-DIST-01-05-0000001")?,
+        Text::read("STOCK-DIST-01-06-0000001")?,
+        Text::read("STOCK-DIST-01-07-0000001")?,
+        Text::read("STOCK-DIST-01-08-0000001")?,
+        Text::read("STOCK-DIST-01-09-0000001")?,
+        Text::read("STOCK-DIST-01-10-0000001")?,
+    ])
+}
+
+/// Stock (1, 1), of which ten were sold since it was populated.
+pub(crate) fn stock() -> Option<(StockKey, Stock)> {
+    let key = StockKey {
+        warehouse: Number::new(1)?,
+        item: Number::new(1)?,
+    };
+    let row = Stock {
+        quantity: Number::new(14)?,
+        dist_info: ten_texts()?,
+        ytd: Number::new(10)?,
+        order_count: Number::new(1)?,
+        remote_count: Number::new(0)?,
+        data: Text::read("STOCKDATA-000001")?,
+    };
+    Some((key, row))
+}
+
+pub(crate) fn address(extent: u32, offset: u32) -> Option<RecordAddress> {
+    Some(RecordAddress {
+        extent: Number::new(extent)?,
+        offset: Number::new(offset)?,
+    })
+}

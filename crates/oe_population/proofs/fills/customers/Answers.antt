@@ -1,0 +1,30 @@
+use Rattle.std.proofs.Common.{◌≡◌, ◌+◌, ◌*◌, ◌/◌, ◌%◌, ◌<◌, ap, refl, arith}
+use Rattle.std.specs.Prelude.{◌&&◌}
+use Rattle.std.specs.FinMap.{empty}
+use Rattle.oe_keys.specs.Key.{customer_cmp}
+use Rattle.oe_model.specs.Keys.{district_of_customer}
+use Rattle.oe_model.specs.Population.{counts_to, customer_of}
+use Rattle.oe_population.specs.Group.{is_any_district, district_count, customers_in}
+use Rattle.oe_population.proofs.FillFacts.{fill_start, fill_step, fill_free, fills_by, free_empty}
+use Rattle.oe_population.proofs.KeyTests.{same_ordinal, all_districts}
+use Rattle.oe_keys.specs.declared.keys.DistrictKey.{DistrictKey}
+use Rattle.oe_population.proofs.fills.customers.Goals as goal
+
+pub loop-ordinal-init : goal.loop-ordinal-init
+loop-ordinal-init c = rw c.new-table.ensures.rows (fill_start (λ k. customer_of k.customer) (λ k b. (b && is_any_district (district_of_customer k)) && counts_to c.args.scale.now.customers k.customer) (λ k. refl) (λ k. district_count (district_of_customer k)) empty)
+
+pub fill_customers-requires : goal.fill_customers-requires
+fill_customers-requires c =
+    let g : DistrictKey = record { warehouse = c.loop-ordinal.ordinal / 10 + 1; district = c.loop-ordinal.ordinal % 10 + 1 } in
+    let small : c.loop-ordinal.ordinal < 10 * c.args.scale.now.warehouses = omega arith in
+    rw c.district_at.ensures (fill_free (λ k. customer_of k.customer) (λ k b. (b && is_any_district (district_of_customer k)) && counts_to c.args.scale.now.customers k.customer) (λ k. refl) (λ k. district_count (district_of_customer k)) c.loop-ordinal.ordinal _ _ (customers_in g c.args.scale.now) (λ k. ap (λ b. b && counts_to c.args.scale.now.customers k.customer) (same_ordinal c.loop-ordinal.ordinal (district_of_customer k))) c.loop-ordinal.invariant _ small (free_empty customer_cmp _))
+
+pub loop-ordinal-preserved : goal.loop-ordinal-preserved
+loop-ordinal-preserved c =
+    let g : DistrictKey = record { warehouse = c.loop-ordinal.ordinal / 10 + 1; district = c.loop-ordinal.ordinal % 10 + 1 } in
+    fill_step (λ k. customer_of k.customer) (λ k b. (b && is_any_district (district_of_customer k)) && counts_to c.args.scale.now.customers k.customer) (λ k. refl) (λ k. district_count (district_of_customer k)) c.loop-ordinal.ordinal _ _ (customers_in g c.args.scale.now) (λ k. ap (λ b. b && counts_to c.args.scale.now.customers k.customer) (same_ordinal c.loop-ordinal.ordinal (district_of_customer k))) c.loop-ordinal.invariant _ (rw c.district_at.ensures at c.in_ok-fill_customers.ensures)
+
+pub returns : goal.returns
+returns c =
+    let all : c.loop-ordinal.ordinal ≡ 10 * c.args.scale.now.warehouses = omega arith in
+    fills_by (λ k. customer_of k.customer) (λ k. (counts_to (10 * c.args.scale.now.warehouses) (district_count (district_of_customer k)) && is_any_district (district_of_customer k)) && counts_to c.args.scale.now.customers k.customer) _ _ _ (λ k. ap (λ b. b && counts_to c.args.scale.now.customers k.customer) (all_districts c.args.scale.now.warehouses (district_of_customer k))) (rw all at c.loop-ordinal.invariant)

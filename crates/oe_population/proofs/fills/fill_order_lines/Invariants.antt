@@ -1,0 +1,11 @@
+use Rattle.std.specs.Prelude.{◌&&◌}
+use Rattle.oe_keys.specs.Key.{order_line_cmp}
+use Rattle.oe_table.specs.Table.{rows_of}
+use Rattle.oe_model.specs.Keys.{order_of_line}
+use Rattle.oe_model.specs.Population.{counts_to, line_of}
+use Rattle.oe_population.specs.Fill.{Fills}
+use Rattle.oe_population.specs.Group.{is_order}
+use Rattle.oe_population.proofs.fills.fill_order_lines.Given as goal
+
+abbrev pub invariant-loop-before : goal.invariant-loop-before
+invariant-loop-before l = Fills (λ k. is_order l.fn.order (order_of_line k) && counts_to l.before (k.number)) (line_of l.scale) (rows_of order_line_cmp l.fn.table) (rows_of order_line_cmp l.table)
