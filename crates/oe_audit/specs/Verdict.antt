@@ -1,8 +1,8 @@
 -- A condition and a verdict of the steps, as the model's.
-use Rattle.oe_steps.specs.declared.audits.Condition.{Condition}
-use Rattle.oe_steps.specs.declared.audits.Condition.TheVariants as condition
-use Rattle.oe_steps.specs.declared.audits.Verdict.{Verdict}
-use Rattle.oe_steps.specs.declared.audits.Verdict.TheVariants as told
+use Rattle.oe_requests.specs.declared.audits.Condition.{Condition}
+use Rattle.oe_requests.specs.declared.audits.Condition.TheVariants as condition
+use Rattle.oe_requests.specs.declared.audits.Verdict.{Verdict}
+use Rattle.oe_requests.specs.declared.audits.Verdict.TheVariants as told
 use Rattle.oe_model.specs.Audits as model
 use Rattle.std.specs.Prelude.{◌≡◌}
 use Rattle.oe_model.specs.Rows.{Rows}

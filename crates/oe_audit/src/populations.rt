@@ -10,7 +10,7 @@ ghost use Rattle.oe_audit.specs.Tests.{stocks_each_item};
 
 use crate::conditions::condition;
 use oe_keys::{StockKey, WarehouseKey};
-use oe_steps::{Condition, Verdict};
+use oe_requests::{Condition, Verdict};
 use oe_store::Tables;
 
 /// Whether a condition holds.

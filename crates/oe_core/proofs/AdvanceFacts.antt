@@ -22,8 +22,8 @@ use Rattle.oe_requests.specs.declared.replies.PaymentReply.{PaymentReply}
 use Rattle.oe_keys.specs.declared.locks.Name.{Name}
 use Rattle.oe_requests.specs.declared.refusals.Refusal.{Refusal}
 use Rattle.oe_requests.specs.declared.refusals.Refusal.TheVariants.{BadLine, NoSuchRow, RowExists, Overflow, Reference, KeyColumn, Busy, UndoFull, NoMemory, NotOpen, AlreadyOpen, InvalidItem, NoCustomer, TooOld, Future, NotQuiet, NotPinned}
-use Rattle.oe_steps.specs.declared.steps.Step.TheVariants as step
-use Rattle.oe_steps.specs.declared.answers.Answer.TheVariants as answer
+use Rattle.oe_requests.specs.declared.steps.Step.TheVariants as step
+use Rattle.oe_requests.specs.declared.answers.Answer.TheVariants as answer
 use Rattle.oe_model.specs.Changes.{Change}
 use Rattle.oe_model.specs.Meets.{Accepts}
 use Rattle.oe_model.specs.Positions as model

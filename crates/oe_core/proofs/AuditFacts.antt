@@ -2,8 +2,8 @@
 use Rattle.std.proofs.Common.{◌≡◌, ℕ, ◌<◌, ◌≤◌, sym, ap, ◌∙◌, subst, refl}
 use Rattle.oe_requests.specs.declared.refusals.Refusal.{Refusal}
 use Rattle.oe_requests.specs.declared.refusals.Refusal.TheVariants.{TooOld, Future}
-use Rattle.oe_steps.specs.declared.audits.Condition.{Condition}
-use Rattle.oe_steps.specs.declared.steps.Step.TheVariants as step
+use Rattle.oe_requests.specs.declared.audits.Condition.{Condition}
+use Rattle.oe_requests.specs.declared.steps.Step.TheVariants as step
 use Rattle.oe_theory.specs.World.{newest, tables, total}
 use Rattle.oe_theory.specs.Next.{Next, Audit, Audited}
 use Rattle.oe_theory.specs.Next as theory

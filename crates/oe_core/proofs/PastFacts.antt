@@ -4,7 +4,7 @@ use Rattle.std.specs.Prelude.{Option, None, Some, is_some}
 use mathlib.Core.Path.{fun_ext}
 use Rattle.oe_requests.specs.declared.refusals.Refusal.{Refusal}
 use Rattle.oe_requests.specs.declared.refusals.Refusal.TheVariants.{TooOld, Future, NotQuiet}
-use Rattle.oe_steps.specs.declared.steps.Step.TheVariants as step
+use Rattle.oe_requests.specs.declared.steps.Step.TheVariants as step
 use Rattle.oe_theory.specs.Next.{Purge, Rewind, Purged, Rewound}
 use Rattle.oe_theory.specs.Next as theory
 use Rattle.oe_theory.specs.Undo.{unwind, Finds, GoesBack, commit_records}

@@ -15,7 +15,7 @@ use Rattle.oe_requests.specs.declared.replies.QueryReply.{QueryReply}
 use Rattle.oe_requests.specs.declared.replies.QueryReply.TheVariants as told
 use Rattle.oe_requests.specs.declared.refusals.Refusal.{Refusal}
 use Rattle.oe_requests.specs.declared.refusals.Refusal.TheVariants as refusal
-use Rattle.oe_steps.specs.declared.steps.Step.TheVariants as step
+use Rattle.oe_requests.specs.declared.steps.Step.TheVariants as step
 use Rattle.oe_model.specs.Rows.{Rows, row_at}
 use Rattle.oe_model.specs.Requests.{warehouse_no, first_absent, query_rejection}
 use Rattle.oe_model.specs.Keys.{customer_in}

@@ -6,8 +6,8 @@ use Rattle.oe_theory.specs.Next.{Next, Runs, Begun, begins, goes_on, commits, sa
 use Rattle.oe_theory.specs.Theorems.{IsReached}
 use Rattle.oe_theory.proofs.Theorems.{run_is_reached, history_is_serial, rollback_leaves_no_trace, rewind_restores, purge_leaves_later}
 use Rattle.oe_theory.proofs.StepTheorems.{endings_are_whole}
-use Rattle.oe_steps.specs.declared.steps.Step.{Step}
-use Rattle.oe_steps.specs.declared.answers.Answer.{Answer}
+use Rattle.oe_requests.specs.declared.steps.Step.{Step}
+use Rattle.oe_requests.specs.declared.answers.Answer.{Answer}
 use Rattle.oe_model.specs.System.{system}
 use Rattle.oe_model.proofs.SystemLaws.{laws}
 use Rattle.oe_model.proofs.ConsistencyFacts.{consistent}

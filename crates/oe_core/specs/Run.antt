@@ -7,8 +7,8 @@ use Rattle.oe_theory.specs.Erase.{is_rolled_back, without}
 use Rattle.oe_theory.specs.Theorems.{IsReached}
 use Rattle.oe_theory.specs.StepTheorems.{IsEnding}
 use Rattle.oe_requests.specs.declared.requests.Request.{Request}
-use Rattle.oe_steps.specs.declared.steps.Step.{Step}
-use Rattle.oe_steps.specs.declared.answers.Answer.{Answer}
+use Rattle.oe_requests.specs.declared.steps.Step.{Step}
+use Rattle.oe_requests.specs.declared.answers.Answer.{Answer}
 use Rattle.oe_model.specs.Headline.{Conditions, Is_consistent}
 use Rattle.oe_model.specs.System.{system}
 use Rattle.oe_core.specs.Steps.{step_in, answer_in}

@@ -6,7 +6,7 @@ ghost use Rattle.oe_core.specs.Core.{world_of};
 ghost use Rattle.oe_core.specs.Run.{Served, Ran};
 
 use crate::cores::Core;
-use oe_steps::{Answer, Step};
+use oe_requests::{Answer, Step};
 use oe_table::tables::NoMemory;
 
 /// Carries out the steps one after another, and gives their answers.

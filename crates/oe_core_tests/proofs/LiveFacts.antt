@@ -9,7 +9,7 @@ use Rattle.oe_model.specs.Rows.{Rows}
 use Rattle.oe_model.specs.Conditions.{IsPopulation}
 use Rattle.oe_model.specs.System.{system}
 use Rattle.oe_model.proofs.SystemLaws.{laws, population_is_good}
-use Rattle.oe_steps.specs.declared.steps.Step.{Step}
+use Rattle.oe_requests.specs.declared.steps.Step.{Step}
 use Rattle.oe_core.specs.Core.{CoreState, world_of}
 use Rattle.oe_core.specs.Steps.{IsStep}
 use Rattle.oe_script.specs.Session.{state_of, IsLive}

@@ -4,7 +4,7 @@ use crate::populations::{amend, district_key, history_key, order_key, populated}
 use oe_audit::{condition, is_population};
 use oe_change::Change;
 use oe_keys::Key;
-use oe_steps::{Condition, Verdict};
+use oe_requests::{Condition, Verdict};
 use oe_store::Tables;
 use oe_values::{Number, YearToDate};
 use std::alloc::Global;

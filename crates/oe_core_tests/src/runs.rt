@@ -5,8 +5,7 @@ ghost use Rattle.oe_core.specs.Steps.{IsStep};
 use crate::populations::populated;
 use crate::sessions::core_on;
 use oe_core::{Core, run};
-use oe_requests::Refusal;
-use oe_steps::{Answer, Step};
+use oe_requests::{Answer, Refusal, Step};
 use oe_values::Terminal;
 
 // Whether the only answer is that nothing is open.

@@ -5,12 +5,12 @@ use Rattle.oe_requests.specs.declared.refusals.Refusal.{Refusal}
 use Rattle.oe_requests.specs.declared.refusals.Refusal.TheVariants as refusal
 use Rattle.oe_model.specs.Audits as model
 use Rattle.oe_model.specs.System.{system}
-use Rattle.oe_steps.specs.declared.answers.Answer.{Answer}
-use Rattle.oe_steps.specs.declared.answers.Answer.TheVariants as answer
-use Rattle.oe_steps.specs.declared.audits.Verdict.{Verdict}
-use Rattle.oe_steps.specs.declared.audits.Verdict.TheVariants as verdict
-use Rattle.oe_steps.specs.declared.steps.Step.{Step}
-use Rattle.oe_steps.specs.declared.steps.Step.TheVariants as step
+use Rattle.oe_requests.specs.declared.answers.Answer.{Answer}
+use Rattle.oe_requests.specs.declared.answers.Answer.TheVariants as answer
+use Rattle.oe_requests.specs.declared.audits.Verdict.{Verdict}
+use Rattle.oe_requests.specs.declared.audits.Verdict.TheVariants as verdict
+use Rattle.oe_requests.specs.declared.steps.Step.{Step}
+use Rattle.oe_requests.specs.declared.steps.Step.TheVariants as step
 use Rattle.oe_audit.specs.Verdict.{verdict_of}
 use Rattle.oe_core.specs.Steps.{answer_in, refusal_in, other_refusal}
 

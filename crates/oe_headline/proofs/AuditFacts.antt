@@ -6,13 +6,13 @@ use Rattle.oe_theory.specs.Next.{Next, audits, not_open, too_old, future}
 use Rattle.oe_theory.specs.Theorems.{IsReached}
 use Rattle.oe_theory.proofs.Sets.{some_inj, some_none}
 use Rattle.oe_requests.specs.declared.refusals.Refusal.TheVariants as refusal
-use Rattle.oe_steps.specs.declared.answers.Answer.{Answer}
-use Rattle.oe_steps.specs.declared.answers.Answer.TheVariants as answer
-use Rattle.oe_steps.specs.declared.audits.Condition.{Condition}
-use Rattle.oe_steps.specs.declared.audits.Condition.TheVariants as condition
-use Rattle.oe_steps.specs.declared.audits.Verdict.{Verdict}
-use Rattle.oe_steps.specs.declared.audits.Verdict.TheVariants as verdict
-use Rattle.oe_steps.specs.declared.steps.Step.TheVariants as step
+use Rattle.oe_requests.specs.declared.answers.Answer.{Answer}
+use Rattle.oe_requests.specs.declared.answers.Answer.TheVariants as answer
+use Rattle.oe_requests.specs.declared.audits.Condition.{Condition}
+use Rattle.oe_requests.specs.declared.audits.Condition.TheVariants as condition
+use Rattle.oe_requests.specs.declared.audits.Verdict.{Verdict}
+use Rattle.oe_requests.specs.declared.audits.Verdict.TheVariants as verdict
+use Rattle.oe_requests.specs.declared.steps.Step.TheVariants as step
 use Rattle.oe_model.specs.Audits as model
 use Rattle.oe_model.specs.Headline.{Conditions}
 use Rattle.oe_model.specs.Rows.{Rows}

@@ -12,9 +12,9 @@ use Rattle.oe_model.specs.Population.{IsScale, IsPopulated}
 use Rattle.oe_model.specs.System.{system}
 use Rattle.oe_model.proofs.PopulationFacts.{population_is_one}
 use Rattle.oe_model.proofs.SystemLaws.{laws, population_is_good}
-use Rattle.oe_steps.specs.declared.answers.Answer.{Answer}
-use Rattle.oe_steps.specs.declared.answers.Answer.TheVariants as answer
-use Rattle.oe_steps.specs.declared.steps.Step.{Step}
+use Rattle.oe_requests.specs.declared.answers.Answer.{Answer}
+use Rattle.oe_requests.specs.declared.answers.Answer.TheVariants as answer
+use Rattle.oe_requests.specs.declared.steps.Step.{Step}
 use Rattle.oe_lines.specs.Grammar.{Says}
 use Rattle.oe_lines.specs.declared.commands.Command.TheVariants as command
 use Rattle.oe_core.specs.Steps.{step_in, answer_in}

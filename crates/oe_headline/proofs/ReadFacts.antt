@@ -12,9 +12,9 @@ use Rattle.oe_requests.specs.declared.requests.Query.{Query}
 use Rattle.oe_model.specs.Queries.{answer_of}
 use Rattle.oe_model.specs.Requests.{query_rejection}
 use Rattle.oe_model.specs.System.{system}
-use Rattle.oe_steps.specs.declared.answers.Answer.{Answer}
-use Rattle.oe_steps.specs.declared.answers.Answer.TheVariants as answer
-use Rattle.oe_steps.specs.declared.steps.Step.TheVariants as step
+use Rattle.oe_requests.specs.declared.answers.Answer.{Answer}
+use Rattle.oe_requests.specs.declared.answers.Answer.TheVariants as answer
+use Rattle.oe_requests.specs.declared.steps.Step.TheVariants as step
 use Rattle.oe_texts.specs.Answer.{answer_line}
 use Rattle.oe_lines.specs.declared.commands.Command.{Command}
 use Rattle.oe_lines.specs.declared.commands.Command.TheVariants as command

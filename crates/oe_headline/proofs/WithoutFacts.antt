@@ -16,10 +16,10 @@ use Rattle.oe_theory.proofs.Theorems.{reached_sound}
 use Rattle.oe_requests.specs.declared.requests.Request.{Request}
 use Rattle.oe_model.specs.System.{system}
 use Rattle.oe_model.proofs.SystemLaws.{laws}
-use Rattle.oe_steps.specs.declared.answers.Answer.{Answer}
-use Rattle.oe_steps.specs.declared.answers.Answer.TheVariants as answer
-use Rattle.oe_steps.specs.declared.steps.Step.{Step}
-use Rattle.oe_steps.specs.declared.steps.Step.TheVariants as step
+use Rattle.oe_requests.specs.declared.answers.Answer.{Answer}
+use Rattle.oe_requests.specs.declared.answers.Answer.TheVariants as answer
+use Rattle.oe_requests.specs.declared.steps.Step.{Step}
+use Rattle.oe_requests.specs.declared.steps.Step.TheVariants as step
 use Rattle.oe_lines.specs.Grammar.{Says}
 use Rattle.oe_lines.specs.declared.commands.Command.{Command}
 use Rattle.oe_lines.specs.declared.commands.Command.TheVariants as command

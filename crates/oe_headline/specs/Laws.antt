@@ -10,11 +10,11 @@ use Rattle.oe_requests.specs.declared.refusals.Refusal.TheVariants as refusal
 use Rattle.oe_requests.specs.declared.replies.QueryReply.{QueryReply}
 use Rattle.oe_requests.specs.declared.requests.Query.{Query}
 use Rattle.oe_requests.specs.declared.requests.Request.{Request}
-use Rattle.oe_steps.specs.declared.answers.Answer.TheVariants as answer
-use Rattle.oe_steps.specs.declared.audits.Condition.{Condition}
-use Rattle.oe_steps.specs.declared.audits.Verdict.{Verdict}
-use Rattle.oe_steps.specs.declared.audits.Verdict.TheVariants as verdict
-use Rattle.oe_steps.specs.declared.steps.Step.TheVariants as step
+use Rattle.oe_requests.specs.declared.answers.Answer.TheVariants as answer
+use Rattle.oe_requests.specs.declared.audits.Condition.{Condition}
+use Rattle.oe_requests.specs.declared.audits.Verdict.{Verdict}
+use Rattle.oe_requests.specs.declared.audits.Verdict.TheVariants as verdict
+use Rattle.oe_requests.specs.declared.steps.Step.TheVariants as step
 use Rattle.oe_model.specs.Headline.{Is_consistent}
 use Rattle.oe_model.specs.Population.{IsPopulated}
 use Rattle.oe_model.specs.Rows.{Rows}

@@ -3,8 +3,8 @@ use Rattle.std.specs.Prelude.{◌≡◌, ℕ, zero, suc, Bool, true, false, cond
 use Rattle.std.specs.List.{join_with_byte}
 use Rattle.oe_theory.specs.Erase.{is_of, is_rollback, is_commit}
 use Rattle.oe_model.specs.System.{system}
-use Rattle.oe_steps.specs.declared.answers.Answer.TheVariants as answer
-use Rattle.oe_steps.specs.declared.steps.Step.TheVariants as step
+use Rattle.oe_requests.specs.declared.answers.Answer.TheVariants as answer
+use Rattle.oe_requests.specs.declared.steps.Step.TheVariants as step
 use Rattle.oe_lines.specs.Grammar.{words_of}
 use Rattle.oe_lines.specs.declared.commands.Command.TheVariants as command
 use Rattle.oe_core.specs.Steps.{step_in, answer_in}

@@ -16,7 +16,7 @@ use Rattle.oe_requests.specs.declared.requests.StatusQuery.{StatusQuery}
 use Rattle.oe_requests.specs.declared.requests.LevelQuery.{LevelQuery}
 use Rattle.oe_requests.specs.declared.requests.Query.{Query}
 use Rattle.oe_requests.specs.declared.requests.Query.TheVariants as query
-use Rattle.oe_steps.specs.declared.audits.Condition.TheVariants as condition
+use Rattle.oe_requests.specs.declared.audits.Condition.TheVariants as condition
 use Rattle.oe_lines.specs.declared.commands.Command.{Command}
 use Rattle.oe_lines.specs.declared.commands.Command.TheVariants as command
 use Rattle.oe_lines.specs.declared.commands.MomentChoice.{MomentChoice}

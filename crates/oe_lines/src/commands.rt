@@ -1,9 +1,8 @@
 //! What a line of a script asks for.
 
 use oe_keys::Table;
-use oe_requests::{Query, Request};
+use oe_requests::{Condition, Query, Request};
 use oe_rows::Scale;
-use oe_steps::Condition;
 use oe_values::{Moment, Number, Terminal};
 
 /// How many extents the undo ring has.

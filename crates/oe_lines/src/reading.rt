@@ -15,11 +15,10 @@ use crate::words::{
 };
 use oe_keys::{DistrictKey, Table};
 use oe_requests::{
-    CustomerChoice, DeliveryRequest, LevelQuery, NewOrderRequest, PaymentRequest, Query, Request,
-    RequestLine, RequestLines, StatusQuery,
+    Condition, CustomerChoice, DeliveryRequest, LevelQuery, NewOrderRequest, PaymentRequest, Query,
+    Request, RequestLine, RequestLines, StatusQuery,
 };
 use oe_rows::Scale;
-use oe_steps::Condition;
 use oe_values::fronts::{after, decimal};
 use oe_values::{Lines, Moment, Terminal};
 

@@ -1,8 +1,7 @@
 //! The lines of refusals that no script gets, with each kind of key, and the texts that refusals have outside of scripts.
 use crate::made::district_key;
 use oe_keys::{HistoryKey, Key, Name, StockKey};
-use oe_requests::{Column, Refusal};
-use oe_steps::Answer;
+use oe_requests::{Answer, Column, Refusal};
 use oe_texts::{Pending, answer};
 use oe_values::{Moment, Number};
 use std::alloc::Global;

@@ -3,9 +3,9 @@ use Rattle.std.specs.Prelude.{◌≡◌, ℕ, ◌++◌, List, Option, Some, Resu
 use Rattle.oe_theory.specs.World.{World}
 use Rattle.oe_theory.specs.Next.{Next}
 use Rattle.oe_requests.specs.declared.replies.Reply.{Reply}
-use Rattle.oe_steps.specs.declared.steps.Step.{Step}
-use Rattle.oe_steps.specs.declared.answers.Answer.{Answer}
-use Rattle.oe_steps.specs.declared.answers.Answer.TheVariants as answer
+use Rattle.oe_requests.specs.declared.steps.Step.{Step}
+use Rattle.oe_requests.specs.declared.answers.Answer.{Answer}
+use Rattle.oe_requests.specs.declared.answers.Answer.TheVariants as answer
 use Rattle.oe_texts.specs.Answer.{answer_line}
 use Rattle.oe_model.specs.System.{system}
 use Rattle.oe_core.specs.Steps.{step_in, answer_in}

@@ -9,11 +9,11 @@ use Rattle.oe_rows.specs.declared.scales.Scale.{Scale}
 use Rattle.oe_model.specs.Rows.{Rows}
 use Rattle.oe_model.specs.Population.{IsPopulated}
 use Rattle.oe_model.specs.System.{system}
-use Rattle.oe_steps.specs.declared.answers.Answer.{Answer}
-use Rattle.oe_steps.specs.declared.answers.Answer.TheVariants as answer
-use Rattle.oe_steps.specs.declared.audits.Condition.{Condition}
-use Rattle.oe_steps.specs.declared.steps.Step.{Step}
-use Rattle.oe_steps.specs.declared.steps.Step.TheVariants as step
+use Rattle.oe_requests.specs.declared.answers.Answer.{Answer}
+use Rattle.oe_requests.specs.declared.answers.Answer.TheVariants as answer
+use Rattle.oe_requests.specs.declared.audits.Condition.{Condition}
+use Rattle.oe_requests.specs.declared.steps.Step.{Step}
+use Rattle.oe_requests.specs.declared.steps.Step.TheVariants as step
 use Rattle.oe_texts.specs.Answer.{answer_line, audit_line}
 use Rattle.oe_lines.specs.declared.commands.Command.{Command}
 use Rattle.oe_lines.specs.declared.commands.Command.TheVariants as command

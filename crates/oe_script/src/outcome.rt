@@ -9,7 +9,7 @@ ghost use Rattle.oe_model.specs.System.{system};
 ghost use Rattle.oe_lines.specs.Grammar.{Says, HasForm};
 ghost use Rattle.oe_lines.specs.declared.commands.Command.TheVariants as asks;
 ghost use Rattle.oe_requests.specs.declared.replies.Reply.{Reply};
-ghost use Rattle.oe_steps.specs.declared.answers.Answer.{Answer};
+ghost use Rattle.oe_requests.specs.declared.answers.Answer.{Answer};
 ghost use Rattle.oe_texts.specs.Answer.{answer_line};
 ghost use Rattle.oe_core.specs.Core.{world_of, last_reply};
 ghost use Rattle.oe_core.specs.Steps.{step_in, answer_in, HasProgram, IsStep};
@@ -23,9 +23,8 @@ use crate::ports::{Failed, Outlet};
 use oe_core::{Advanced, Core};
 use oe_lines::{Command, ExtentCount, MomentChoice, command, payment_to_begin, terminal_to_run};
 use oe_population::{NoMemory, populate};
-use oe_requests::{Query, Refusal, Request};
+use oe_requests::{Answer, Condition, Query, Refusal, Request, Step};
 use oe_rows::Scale;
-use oe_steps::{Answer, Condition, Step};
 use oe_texts::{
     LONGEST, Pending, SIZE, answer, audited, begun, committed, committed_payment, more, opened,
     refused,

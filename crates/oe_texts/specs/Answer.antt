@@ -1,12 +1,12 @@
 -- The texts of answers, each of which is one line.
 use Rattle.std.specs.Prelude.{ℕ, List, ◌++◌, decimal, codes}
 use Rattle.std.specs.List.{join_with_byte}
-use Rattle.oe_steps.specs.Condition.{condition_number}
-use Rattle.oe_steps.specs.declared.answers.Answer.{Answer}
-use Rattle.oe_steps.specs.declared.answers.Answer.TheVariants as answer
-use Rattle.oe_steps.specs.declared.audits.Condition.{Condition}
-use Rattle.oe_steps.specs.declared.audits.Verdict.{Verdict}
-use Rattle.oe_steps.specs.declared.audits.Verdict.TheVariants as verdict
+use Rattle.oe_requests.specs.Condition.{condition_number}
+use Rattle.oe_requests.specs.declared.answers.Answer.{Answer}
+use Rattle.oe_requests.specs.declared.answers.Answer.TheVariants as answer
+use Rattle.oe_requests.specs.declared.audits.Condition.{Condition}
+use Rattle.oe_requests.specs.declared.audits.Verdict.{Verdict}
+use Rattle.oe_requests.specs.declared.audits.Verdict.TheVariants as verdict
 use Rattle.oe_texts.specs.Key.{key_texts}
 use Rattle.oe_texts.specs.Refusal.{error_text}
 use Rattle.oe_texts.specs.Reply.{reply_text, query_text}

@@ -2,7 +2,7 @@
 ghost use Rattle.std.specs.Prelude.{◌≡◌, ◌≤◌, ◌+◌, ◌++◌, codes, decimal};
 ghost use Rattle.arrayvec.specs.ArrayVec.{array_vec_len};
 ghost use Rattle.oe_requests.specs.declared.replies.Reply.{Reply};
-ghost use Rattle.oe_steps.specs.declared.answers.Answer.{Answer};
+ghost use Rattle.oe_requests.specs.declared.answers.Answer.{Answer};
 ghost use Rattle.oe_texts.specs.Answer.{verdict_text, answer_text, answer_line, audit_line};
 
 use crate::columns::{number, small_then};
@@ -10,8 +10,7 @@ use crate::keys::columns;
 use crate::pending::{LONGEST, Pending, SIZE, text};
 use crate::refusals::error;
 use crate::replies::{payment, query, reply};
-use oe_requests::{PaymentReply, Refusal, Reply};
-use oe_steps::{Answer, Condition, Verdict};
+use oe_requests::{Answer, Condition, PaymentReply, Refusal, Reply, Verdict};
 use oe_values::Moment;
 
 /// `holds`, or `fails at <key columns>`.

@@ -1,6 +1,6 @@
 use Rattle.std.proofs.Common.{suc}
-use Rattle.oe_steps.specs.declared.answers.Answer.TheVariants as answer
-use Rattle.oe_steps.specs.declared.steps.Step.TheVariants as step
+use Rattle.oe_requests.specs.declared.answers.Answer.TheVariants as answer
+use Rattle.oe_requests.specs.declared.steps.Step.TheVariants as step
 use Rattle.oe_core.specs.Steps.{answer_in}
 use Rattle.oe_core.specs.Core.{world_of, last_reply}
 use Rattle.oe_script.proofs.WorldFacts.{falls, live_step}

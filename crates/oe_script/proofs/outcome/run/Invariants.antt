@@ -1,7 +1,7 @@
 use Rattle.std.proofs.Common.{ℕ, Some}
 use Rattle.oe_theory.specs.World.{World}
 use Rattle.oe_model.specs.System.{system}
-use Rattle.oe_steps.specs.declared.answers.Answer.{Answer}
+use Rattle.oe_requests.specs.declared.answers.Answer.{Answer}
 use Rattle.oe_core.specs.Core.{world_of}
 use Rattle.oe_script.specs.Script.{RunsIn}
 use Rattle.oe_script.specs.Session.{IsLive}

@@ -1,7 +1,7 @@
 use Rattle.std.proofs.Common.{◌≡◌, Option, Some, ◌++◌, sym, ◌∙◌, subst}
 use Rattle.oe_requests.specs.declared.replies.Reply.{Reply}
 use Rattle.oe_requests.specs.declared.replies.Reply.TheVariants as reply
-use Rattle.oe_steps.specs.declared.answers.Answer.TheVariants as answer
+use Rattle.oe_requests.specs.declared.answers.Answer.TheVariants as answer
 use Rattle.oe_texts.specs.Answer.{answer_line}
 use Rattle.oe_core.proofs.AdvanceFacts.{is_paid}
 use Rattle.oe_script.proofs.outcome.tell_commit.Goals as goal

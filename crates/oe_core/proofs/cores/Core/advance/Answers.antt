@@ -4,7 +4,7 @@ use Rattle.oe_theory.specs.Next.{Advance, More, Committed}
 use Rattle.oe_engine.specs.View.{view_of}
 use Rattle.oe_engine.specs.View as engine
 use Rattle.oe_engine.specs.Calls.{committed}
-use Rattle.oe_steps.specs.declared.steps.Step.TheVariants as step
+use Rattle.oe_requests.specs.declared.steps.Step.TheVariants as step
 use Rattle.oe_core.specs.Core.{Moves, reply_of}
 use Rattle.oe_core.specs.Steps.{refusal_in}
 use Rattle.oe_core.specs.declared.slots.Work.{Work}

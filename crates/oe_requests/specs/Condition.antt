@@ -1,7 +1,7 @@
 -- The numbers of the consistency conditions (clauses 3.3.2.1 to 3.3.2.4).
 use Rattle.std.specs.Prelude.{ℕ}
-use Rattle.oe_steps.specs.declared.audits.Condition.{Condition}
-use Rattle.oe_steps.specs.declared.audits.Condition.TheVariants as condition
+use Rattle.oe_requests.specs.declared.audits.Condition.{Condition}
+use Rattle.oe_requests.specs.declared.audits.Condition.TheVariants as condition
 
 abbrev pub condition_number : Condition → ℕ
 condition_number condition.First = 1

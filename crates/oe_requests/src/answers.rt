@@ -2,7 +2,8 @@
 ghost use Rattle.std.specs.Prelude.{◌≡◌};
 
 use crate::audits::Verdict;
-use oe_requests::{QueryReply, Refusal, Reply};
+use crate::refusals::Refusal;
+use crate::replies::{QueryReply, Reply};
 use oe_values::Moment;
 
 /// What a step is answered.

@@ -1,6 +1,6 @@
 //! Audits of the consistency conditions: which one is asked for, and what is found. Both are plain values, and nothing can fail.
 ghost use Rattle.std.specs.Prelude.{◌≡◌};
-ghost use Rattle.oe_steps.specs.Condition.{condition_number};
+ghost use Rattle.oe_requests.specs.Condition.{condition_number};
 
 use oe_keys::Key;
 

@@ -2,7 +2,7 @@
 ghost use Rattle.std.specs.Prelude.{◌≡◌};
 
 use crate::audits::Condition;
-use oe_requests::{Query, Request};
+use crate::requests::{Query, Request};
 use oe_values::{Moment, Terminal};
 
 /// One step of the server. The moments of reads, audits, purges and rewinds are numbers of commits.
