@@ -21,7 +21,7 @@ use Rattle.oe_requests.specs.declared.replies.Reply.TheVariants as reply
 use Rattle.oe_requests.specs.declared.replies.PaymentReply.{PaymentReply}
 use Rattle.oe_keys.specs.declared.locks.Name.{Name}
 use Rattle.oe_requests.specs.declared.refusals.Refusal.{Refusal}
-use Rattle.oe_requests.specs.declared.refusals.Refusal.TheVariants.{BadLine, NoSuchRow, RowExists, Overflow, Reference, KeyColumn, Busy, UndoFull, NoMemory, NotOpen, AlreadyOpen, InvalidItem, NoCustomer, TooOld, Future, NotQuiet, NotPinned}
+use Rattle.oe_requests.specs.declared.refusals.Refusal.TheVariants.{NoSuchRow, RowExists, Overflow, Reference, KeyColumn, Busy, UndoFull, NoMemory, NotOpen, AlreadyOpen, InvalidItem, NoCustomer, TooOld, Future, NotQuiet, NotPinned}
 use Rattle.oe_requests.specs.declared.steps.Step.TheVariants as step
 use Rattle.oe_requests.specs.declared.answers.Answer.TheVariants as answer
 use Rattle.oe_model.specs.Changes.{Change}
@@ -277,7 +277,6 @@ told_last {s} {t} {m} {y} {s'} k e = (y, e, carries k)
 -- the refusals after which it stays open
 kept_lead : (s : CoreState) (t : ℕ) (y : Handle) (w : Work) → HasOpen s t y w → (x : Refusal) → keeps_open x ≡ true
     → IsRefused s.engine y w.request (position_of w.request w.program) x → Leads system (store_of s) (Advance t) (refusal_in (step.Advance t) x) (store_of s)
-kept_lead s t y w o (BadLine n) kp h = let no : ⊥ = cc in absurd no
 kept_lead s t y w o (NoSuchRow k) kp h = let no : ⊥ = cc in absurd no
 kept_lead s t y w o (RowExists k) kp h = let no : ⊥ = cc in absurd no
 kept_lead s t y w o (Overflow c) kp h = let no : ⊥ = cc in absurd no
@@ -314,7 +313,6 @@ kept_lead s t y w o (NotPinned n) kp h = let no : ⊥ = cc in absurd no
 -- those after which it is gone
 ended_lead : (s : CoreState) (t : ℕ) (y : Handle) (w : Work) → HasOpen s t y w → (x : Refusal) → keeps_open x ≡ false
     → IsRefused s.engine y w.request (position_of w.request w.program) x → Leads system (store_of s) (Advance t) (refusal_in (step.Advance t) x) (dropped system t (store_of s))
-ended_lead s t y w o (BadLine n) kp h = leads_end s t y w o (BadLine n) h.1
 ended_lead s t y w o (NoSuchRow k) kp h = leads_end s t y w o (NoSuchRow k) h.1
 ended_lead s t y w o (RowExists k) kp h = leads_end s t y w o (RowExists k) h.1
 ended_lead s t y w o (Overflow c) kp h = leads_end s t y w o (Overflow c) h.1

@@ -5,7 +5,7 @@ use Rattle.oe_theory.specs.Next.{Begin, Answer, Rejected, Already_open, No_memor
 use Rattle.oe_requests.specs.declared.requests.Request.{Request}
 use Rattle.oe_requests.specs.declared.refusals.Column.TheVariants as column
 use Rattle.oe_requests.specs.declared.refusals.Refusal.{Refusal}
-use Rattle.oe_requests.specs.declared.refusals.Refusal.TheVariants.{BadLine, NoSuchRow, RowExists, Overflow, Reference, KeyColumn, Busy, UndoFull, NoMemory, NotOpen, AlreadyOpen, InvalidItem, NoCustomer, TooOld, Future, NotQuiet, NotPinned}
+use Rattle.oe_requests.specs.declared.refusals.Refusal.TheVariants.{NoSuchRow, RowExists, Overflow, Reference, KeyColumn, Busy, UndoFull, NoMemory, NotOpen, AlreadyOpen, InvalidItem, NoCustomer, TooOld, Future, NotQuiet, NotPinned}
 use Rattle.oe_keys.specs.declared.keys.Key.TheVariants as key
 use Rattle.oe_requests.specs.declared.steps.Step.TheVariants as step
 use Rattle.oe_model.specs.Rows.{Rows, row_at}
@@ -53,7 +53,6 @@ outnumbered s o t q e k h =
 
 pub not_begun : (s : CoreState) → IsOrderly s → (t : ℕ) → 1 ≤ t → t < 65 → (q : Request) → HasProgram q → rejection q (view_of s.engine).rows ≡ None → (e : Refusal)
     → CantBegin (view_of s.engine) t e → Moves s (Begin t q) (refusal_in (step.Begin t q) e) s
-not_begun s o t l b q g kn (BadLine n) h = outnumbered s o t q (BadLine n) kn h
 not_begun s o t l b q g kn (NoSuchRow k) h = outnumbered s o t q (NoSuchRow k) kn h
 not_begun s o t l b q g kn (RowExists k) h = outnumbered s o t q (RowExists k) kn h
 not_begun s o t l b q g kn (Overflow c) h = outnumbered s o t q (Overflow c) kn h

@@ -7,7 +7,7 @@ use Rattle.oe_keys.specs.declared.locks.Name.{Name}
 use Rattle.oe_keys.specs.declared.locks.Mode.{Mode}
 use Rattle.oe_keys.specs.declared.locks.Mode.TheVariants.{Shared, Exclusive}
 use Rattle.oe_requests.specs.declared.refusals.Refusal.{Refusal}
-use Rattle.oe_requests.specs.declared.refusals.Refusal.TheVariants.{BadLine, NoSuchRow, RowExists, Overflow, Reference, KeyColumn, Busy, UndoFull, NoMemory, NotOpen, AlreadyOpen, InvalidItem, NoCustomer, TooOld, Future, NotQuiet, NotPinned}
+use Rattle.oe_requests.specs.declared.refusals.Refusal.TheVariants.{NoSuchRow, RowExists, Overflow, Reference, KeyColumn, Busy, UndoFull, NoMemory, NotOpen, AlreadyOpen, InvalidItem, NoCustomer, TooOld, Future, NotQuiet, NotPinned}
 use Rattle.oe_theory.specs.Machine as theory
 use Rattle.oe_theory.specs.Machine.{Plain, Take}
 use Rattle.oe_theory.specs.World as world
@@ -154,7 +154,6 @@ module _ (ts : tables.Places) (u : undo.SegmentLog) (ls : Holdings) where
   unfolding view_from
   lock_cause t n m (Busy name w) k h = (h.0, subst (λ z. IsInTheWay (view_from ts u ls) t z (mode_of m) w) (sym h.0) (way_is t n m w k h.1))
   lock_cause t n m NoMemory k h = (free_is t n m h.0, ap (option_map mode_of) h.1)
-  lock_cause t n m (BadLine x) k h = absurd h
   lock_cause t n m (NoSuchRow x) k h = absurd h
   lock_cause t n m (RowExists x) k h = absurd h
   lock_cause t n m (Overflow x) k h = absurd h
@@ -202,7 +201,6 @@ module _ (ts : tables.Places) (u : undo.SegmentLog) (ls : Holdings) where
 pub pair_by_lock : (v : View) (t : ℕ) (n : Name) (m : theory.Mode) (c : Change) (e : Refusal) → LockRefused v t n m e → PairRefused v t n m c e
 pair_by_lock v t n m c (Busy name u) h = h
 pair_by_lock v t n m c NoMemory h = h.0
-pair_by_lock v t n m c (BadLine x) h = absurd h
 pair_by_lock v t n m c (NoSuchRow x) h = absurd h
 pair_by_lock v t n m c (RowExists x) h = absurd h
 pair_by_lock v t n m c (Overflow x) h = absurd h
@@ -221,7 +219,6 @@ pair_by_lock v t n m c (NotPinned x) h = absurd h
 pub pair_by_change : (v : View) (t : ℕ) (n : Name) (m : theory.Mode) (c : Change) (e : Refusal) → IsFree v t (Take n m) → ChangeRefused c v.rows e → PairRefused v t n m c e
 pair_by_change v t n m c (Busy name u) f h = absurd h
 pair_by_change v t n m c NoMemory f h = f
-pair_by_change v t n m c (BadLine x) f h = (f, h)
 pair_by_change v t n m c (NoSuchRow x) f h = (f, h)
 pair_by_change v t n m c (RowExists x) f h = (f, h)
 pair_by_change v t n m c (Overflow x) f h = (f, h)
@@ -241,7 +238,6 @@ module _ (s : EngineState) (x : Handle) (o : IsOpen s x) where
   pub stage_by_lock : (n : Name) (m : theory.Mode) (e : Refusal) → LockRefused (view_of s) x.terminal n m e → StageRefused s x (Take n m) None e
   stage_by_lock n m (Busy name u) h = (o, (m, ap (λ z. Take z m) (sym h.0), h.1))
   stage_by_lock n m NoMemory h = (o, h.0, inl h.1)
-  stage_by_lock n m (BadLine y) h = absurd h
   stage_by_lock n m (NoSuchRow y) h = absurd h
   stage_by_lock n m (RowExists y) h = absurd h
   stage_by_lock n m (Overflow y) h = absurd h
@@ -261,7 +257,6 @@ module _ (s : EngineState) (x : Handle) (o : IsOpen s x) where
   stage_by_change c (Busy name u) h = absurd h
   stage_by_change c NotOpen h = absurd h
   stage_by_change c NoMemory h = (o, tt, inr refl)
-  stage_by_change c (BadLine y) h = (o, tt, h)
   stage_by_change c (NoSuchRow y) h = (o, tt, h)
   stage_by_change c (RowExists y) h = (o, tt, h)
   stage_by_change c (Overflow y) h = (o, tt, h)
@@ -280,7 +275,6 @@ module _ (s : EngineState) (x : Handle) (o : IsOpen s x) where
   stage_by_pair n m c (Busy name u) h = (o, (m, ap (λ z. Take z m) (sym h.0), h.1))
   stage_by_pair n m c NotOpen h = absurd h.1
   stage_by_pair n m c NoMemory h = (o, h, inr refl)
-  stage_by_pair n m c (BadLine y) h = (o, h.0, h.1)
   stage_by_pair n m c (NoSuchRow y) h = (o, h.0, h.1)
   stage_by_pair n m c (RowExists y) h = (o, h.0, h.1)
   stage_by_pair n m c (Overflow y) h = (o, h.0, h.1)
@@ -300,7 +294,6 @@ pub refused_so : (c : Change) (s : tables.Places) (e : Refusal) → Refuses c s 
 refused_so c s NoMemory h = tt
 refused_so c s (Busy name u) h = h
 refused_so c s NotOpen h = h
-refused_so c s (BadLine y) h = h
 refused_so c s (NoSuchRow y) h = h
 refused_so c s (RowExists y) h = h
 refused_so c s (Overflow y) h = h

@@ -11,7 +11,7 @@ use Rattle.oe_theory.specs.Next.{held_after, record_on, IsNew, GivesWay}
 use Rattle.oe_keys.specs.declared.locks.Name.{Name}
 use Rattle.oe_requests.specs.declared.requests.Request.{Request}
 use Rattle.oe_requests.specs.declared.refusals.Refusal.{Refusal}
-use Rattle.oe_requests.specs.declared.refusals.Refusal.TheVariants.{BadLine, NoSuchRow, RowExists, Overflow, Reference, KeyColumn, Busy, UndoFull, NoMemory, NotOpen, AlreadyOpen, InvalidItem, NoCustomer, TooOld, Future, NotQuiet, NotPinned}
+use Rattle.oe_requests.specs.declared.refusals.Refusal.TheVariants.{NoSuchRow, RowExists, Overflow, Reference, KeyColumn, Busy, UndoFull, NoMemory, NotOpen, AlreadyOpen, InvalidItem, NoCustomer, TooOld, Future, NotQuiet, NotPinned}
 use Rattle.oe_model.specs.Changes.{Change, changed}
 use Rattle.oe_model.specs.Locks.{is_name}
 use Rattle.oe_model.proofs.SystemLaws as model
@@ -65,7 +65,6 @@ with_change s x q p p' c does NoMemory room (o, f, n) = (o, f, by (wants s x c (
         → IsNew system ((view_of s).held x.terminal) (ask_here s x q p) ⊎ WantsMemory s x q p
     by (inl h) = inl h
     by (inr h) = inr (c, p', does, h)
-with_change s x q p p' c does (BadLine n) room (o, f, why) = (o, inr (inr (f, c, p', does, why)))
 with_change s x q p p' c does (NoSuchRow k) room (o, f, why) = (o, inr (inr (f, c, p', does, why)))
 with_change s x q p p' c does (RowExists k) room (o, f, why) = (o, inr (inr (f, c, p', does, why)))
 with_change s x q p p' c does (Overflow k) room (o, f, why) = (o, inr (inr (f, c, p', does, why)))
@@ -143,7 +142,6 @@ module _ (s : EngineState) (x : Handle) (k : ℕ) (g : Guard Name) (safe : IsSaf
   refused_held c NotOpen h = h
   refused_held c (Busy n u) (o, (m, e, way)) = absurd (none_before (view_of s) x.terminal k g (owns o) safe n m u e way)
   refused_held c NoMemory (o, f, why) = (o, tt, inr refl)
-  refused_held c (BadLine n) (o, f, why) = (o, tt, why)
   refused_held c (NoSuchRow y) (o, f, why) = (o, tt, why)
   refused_held c (RowExists y) (o, f, why) = (o, tt, why)
   refused_held c (Overflow y) (o, f, why) = (o, tt, why)

@@ -65,7 +65,6 @@ refusal_there i refusal.AlreadyOpen = refl
 refusal_there i (refusal.TooOld m) = refl
 refusal_there i (refusal.Future m) = refl
 refusal_there i (refusal.NotQuiet n) = refl
-refusal_there i (refusal.BadLine n) = other_there i (refusal.BadLine n)
 refusal_there i (refusal.NoSuchRow k) = other_there i (refusal.NoSuchRow k)
 refusal_there i (refusal.RowExists k) = other_there i (refusal.RowExists k)
 refusal_there i (refusal.Overflow c) = other_there i (refusal.Overflow c)

@@ -1,7 +1,6 @@
 -- Keys and their order: by the columns from the left (clause 1.3.1).
-use Rattle.std.specs.Prelude.{ℕ, List, [], ◌∷◌, map, codes, decimal}
+use Rattle.std.specs.Prelude.{ℕ, List, [], ◌∷◌, codes}
 use Rattle.std.specs.Int.{IsInRange}
-use Rattle.std.specs.List.{join_with_byte}
 use Rattle.std.specs.declared.cmp.Ordering.{Ordering}
 use Rattle.std.specs.Ordering.{nat_cmp, ordering_then}
 use Rattle.oe_keys.specs.declared.keys.WarehouseKey.{WarehouseKey}
@@ -101,7 +100,3 @@ key_columns (key.Order k) = k.warehouse ∷ k.district ∷ k.order ∷ []
 key_columns (key.OrderLine k) = k.warehouse ∷ k.district ∷ k.order ∷ k.number ∷ []
 key_columns (key.Item k) = k.item ∷ []
 key_columns (key.Stock k) = k.warehouse ∷ k.item ∷ []
-
--- the table's name and the columns of the key, parted by blanks
-abbrev pub key_text : Key → List ℕ
-key_text k = join_with_byte 32 (table_name (table_of k) ∷ map decimal (key_columns k))

@@ -5,12 +5,10 @@
 ghost use Rattle.std.specs.Prelude.{◌≡◌};
 ghost use Rattle.oe_keys.specs.Key.{table_of, table_name, IsDistrictKey, IsCustomerKey};
 
-use crate::texts::write_key;
 use oe_values::numbers::{
     CustomerNumber, DistrictNumber, HistoryOrdinal, HistoryTerminal, ItemNumber, LineNumber,
     OrderNumber, TransactionNumber, WarehouseNumber,
 };
-use std::fmt;
 
 /// The key of a WAREHOUSE row: W_ID.
 #[derive(Clone, Copy, PartialEq, Eq, PartialOrd, Ord, Hash)]
@@ -321,44 +319,6 @@ impl Table {
             Table::OrderLine => "orderline",
             Table::Item => "item",
             Table::Stock => "stock",
-        }
-    }
-}
-
-impl fmt::Display for Key {
-    ghost use Rattle.std.specs.Prelude.{Some};
-    ghost use Rattle.oe_keys.specs.Key.{key_text};
-
-    ghost output = { λ k. Some (key_text k) };
-
-    fn fmt<W: fmt::Write>(&self, f: &mut fmt::Formatter<W>) -> fmt::Result {
-        let table = self.table().name();
-        match *self {
-            Key::Warehouse(k) => write_key(f, table, &[k.warehouse.get()]),
-            Key::District(k) => write_key(f, table, &[k.warehouse.get(), k.district.get()]),
-            Key::Customer(k) => {
-                let columns = [k.warehouse.get(), k.district.get(), k.customer.get()];
-                write_key(f, table, &columns)
-            }
-            Key::History(k) => {
-                let columns = [k.terminal.get(), k.number.get(), k.ordinal.get()];
-                write_key(f, table, &columns)
-            }
-            Key::NewOrder(k) => {
-                let columns = [k.warehouse.get(), k.district.get(), k.order.get()];
-                write_key(f, table, &columns)
-            }
-            Key::Order(k) => {
-                let columns = [k.warehouse.get(), k.district.get(), k.order.get()];
-                write_key(f, table, &columns)
-            }
-            Key::OrderLine(k) => {
-                let (warehouse, district) = (k.warehouse.get(), k.district.get());
-                let columns = [warehouse, district, k.order.get(), k.number.get()];
-                write_key(f, table, &columns)
-            }
-            Key::Item(k) => write_key(f, table, &[k.item.get()]),
-            Key::Stock(k) => write_key(f, table, &[k.warehouse.get(), k.item.get()]),
         }
     }
 }

@@ -5,7 +5,6 @@
 pub mod keys;
 pub mod locks;
 pub mod table_keys;
-mod texts;
 
 pub use keys::{
     CustomerKey, DistrictKey, HistoryKey, ItemKey, Key, NewOrderKey, OrderKey, OrderLineKey,

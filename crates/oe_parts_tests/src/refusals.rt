@@ -1,10 +1,9 @@
-//! The lines of refusals that no script gets, with each kind of key, and the texts that refusals have outside of scripts.
+//! The lines of refusals that no script gets, with each kind of key.
 use crate::made::district_key;
 use oe_keys::{HistoryKey, Key, Name, StockKey};
-use oe_requests::{Answer, Column, Refusal};
+use oe_requests::{Answer, Refusal};
 use oe_texts::{Pending, answer};
-use oe_values::{Moment, Number};
-use std::alloc::Global;
+use oe_values::Number;
 
 /// The refusal's line.
 fn line(refusal: &Refusal) -> Pending {
@@ -13,32 +12,10 @@ fn line(refusal: &Refusal) -> Pending {
     out
 }
 
-/// Whether its line ends with its text.
-fn ends_with_text(alloc: Global, refusal: &Refusal) -> bool {
-    let Ok(told) = refusal.to_string(alloc) else {
-        return false;
-    };
-    let out = line(refusal);
-    let Some(whole) = out.as_slice().strip_suffix(b"\n") else {
-        return false;
-    };
-    whole.ends_with(told.as_bytes())
-}
-
-/// The place of the first refusal whose line is another, or does not end with its text; none where there is none.
-fn first_other(alloc: Global, cases: &[(Refusal, &str)]) -> Option<usize> {
+/// The place of the first refusal whose line is another; none where there is none.
+fn first_other(cases: &[(Refusal, &str)]) -> Option<usize> {
     for (place, (refusal, want)) in cases.iter().enumerate() {
-        if line(refusal).as_slice() != want.as_bytes() || !ends_with_text(alloc, refusal) {
-            return Some(place);
-        }
-    }
-    None
-}
-
-/// The same of the texts alone.
-fn first_other_text(alloc: Global, refusals: &[Refusal]) -> Option<usize> {
-    for (place, refusal) in refusals.iter().enumerate() {
-        if !ends_with_text(alloc, refusal) {
+        if line(refusal).as_slice() != want.as_bytes() {
             return Some(place);
         }
     }
@@ -121,41 +98,9 @@ fn refusals_that_no_script_gets(rt: HostRuntime) {
     let Some(cases) = of_keys() else {
         panic!(rt; "a number out of its range");
     };
-    assert!(rt; first_other(rt.alloc(), &cases).is_none());
+    assert!(rt; first_other(&cases).is_none());
     let Some(cases) = others() else {
         panic!(rt; "a number out of its range");
     };
-    assert!(rt; first_other(rt.alloc(), &cases).is_none());
-}
-
-/// Those of scripts that tell something.
-fn with_values() -> Option<[Refusal; 6]> {
-    let district = district_key(16, 3)?;
-    let moment = Moment::new(41)?;
-    let last = Number::new(64)?;
-    Some([
-        Refusal::NoSuchRow(Key::Warehouse(district.warehouse_key())),
-        Refusal::Overflow(Column::PaymentCount),
-        Refusal::Busy(Name::Stock(stock_key()?), last),
-        Refusal::TooOld(moment),
-        Refusal::Future(moment),
-        Refusal::NotQuiet(last),
-    ])
-}
-
-#[test]
-fn texts_end_lines(rt: HostRuntime) {
-    let plain = [
-        Refusal::UndoFull,
-        Refusal::NoMemory,
-        Refusal::NotOpen,
-        Refusal::AlreadyOpen,
-        Refusal::InvalidItem,
-        Refusal::NoCustomer,
-    ];
-    assert!(rt; first_other_text(rt.alloc(), &plain).is_none());
-    let Some(cases) = with_values() else {
-        panic!(rt; "a number out of its range");
-    };
-    assert!(rt; first_other_text(rt.alloc(), &cases).is_none());
+    assert!(rt; first_other(&cases).is_none());
 }

@@ -6,7 +6,6 @@ use Rattle.oe_requests.specs.declared.refusals.Refusal.{Refusal}
 use Rattle.oe_requests.specs.declared.refusals.Refusal.TheVariants as refusal
 
 abbrev pub refusal_number : Refusal → ℕ
-refusal_number (refusal.BadLine line) = 1
 refusal_number (refusal.NoSuchRow key) = 2
 refusal_number (refusal.RowExists key) = 3
 refusal_number (refusal.Overflow c) = 4

@@ -1,5 +1,5 @@
 -- What a script is answered.
-use Rattle.std.specs.Prelude.{◌≡◌, ◌≢◌, ℕ, zero, suc, ◌+◌, ◌≤◌, ◌<◌, ◌⊎◌, Bool, true, false, All, List, [], ◌∷◌, ◌++◌, length, Option, Some, None, codes}
+use Rattle.std.specs.Prelude.{◌≡◌, ◌≢◌, ℕ, zero, suc, ◌+◌, ◌≤◌, ◌<◌, ◌⊎◌, Bool, true, false, All, List, [], ◌∷◌, ◌++◌, length, Option, Some, None, codes, decimal}
 use Rattle.std.specs.List.{flat_map}
 use Rattle.oe_theory.specs.World.{World, newest, tables}
 use Rattle.oe_theory.specs.Next.{Next}
@@ -93,7 +93,7 @@ pub record Asks (s : State) (line : List ℕ) (c : Command) : Type 0 where
 
 -- the refusal of the n-th line, counted from 1
 abbrev pub bad_line : ℕ → List ℕ
-bad_line n = answer_line (answer.Refused (refusal.BadLine n))
+bad_line n = codes "error 1 BadLine " ++ decimal n ++ codes "\n"
 
 -- the n-th line is answered: as its command is, or as no command
 abbrev pub LineAnswer : State → ℕ → List ℕ → List ℕ → State → Type 0

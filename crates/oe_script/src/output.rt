@@ -67,9 +67,7 @@ pub fn bad(out: &mut Pending, number: u128)
     requires { array_vec_len out.old + LONGEST ≤ SIZE }
     ensures { out.new.items ≡ out.old.items ++ bad_line number }
 {
-    text(out, b"error ");
-    decimal(out, 1);
-    text(out, b" BadLine ");
+    text(out, b"error 1 BadLine ");
     decimal(out, number);
     text(out, b"\n");
 }

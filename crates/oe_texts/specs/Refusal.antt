@@ -3,12 +3,10 @@ use Rattle.std.specs.Prelude.{ℕ, List, ◌++◌, decimal, codes}
 use Rattle.oe_requests.specs.Refusal.{refusal_number, column_name}
 use Rattle.oe_requests.specs.declared.refusals.Refusal.{Refusal}
 use Rattle.oe_requests.specs.declared.refusals.Refusal.TheVariants as refusal
-use Rattle.oe_keys.specs.Key.{key_text}
-use Rattle.oe_keys.specs.Lock.{name_text}
+use Rattle.oe_texts.specs.Key.{key_text, name_text}
 
 -- a refusal's name, and what it tells
 abbrev pub refusal_text : Refusal → List ℕ
-refusal_text (refusal.BadLine line) = codes "BadLine " ++ decimal line
 refusal_text (refusal.NoSuchRow key) = codes "NoSuchRow " ++ key_text key
 refusal_text (refusal.RowExists key) = codes "RowExists " ++ key_text key
 refusal_text (refusal.Overflow column) = codes "Overflow " ++ column_name column

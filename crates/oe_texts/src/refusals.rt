@@ -15,10 +15,6 @@ fn told(out: &mut Pending, refusal: &Refusal)
     ensures len { array_vec_len out.new ≤ array_vec_len out.old + 70 }
 {
     match refusal {
-        Refusal::BadLine(line) => {
-            text(out, b"BadLine ");
-            number(out, *line);
-        }
         Refusal::NoSuchRow(key) => {
             text(out, b"NoSuchRow ");
             row(out, key);
