@@ -2,3 +2,4 @@
 pub mod UndoFacts
 pub mod CauseFacts
 mod PlaceFacts
+mod Inverses

@@ -6,8 +6,8 @@ use Rattle.oe_requests.specs.declared.refusals.Refusal.TheVariants.{Reference, N
 use Rattle.oe_model.specs.Rows.{Rows, row_at}
 use Rattle.oe_model.specs.Changes.{Change, key_of, changed, Record, record_of}
 use Rattle.oe_model.specs.Meets.{Accepts, Cause, is_insert, referred}
-use Rattle.oe_records.specs.declared.befores.Before.{Before}
-use Rattle.oe_records.specs.Befores.{record_of_before}
+use Rattle.oe_layout.specs.declared.records.OwnRecord.{OwnRecord}
+use Rattle.oe_layout.specs.Records.{record_of_own}
 use Rattle.oe_store.specs.Places.{Places, rows, HasPlace, AddsPlace}
 
 -- the tables accept the change, and it is made; `b` is its undo record
@@ -19,8 +19,8 @@ pub record Applies (c : Change) (old new : Places) (b : Record) : Type 0 where
   pub places : AddsPlace old new (key_of c)
 
 -- so it is, with a record as it is kept
-abbrev pub HasApplied : Change → Places → Places → Before → Type 0
-HasApplied c old new b = Applies c old new (record_of_before b)
+abbrev pub HasApplied : Change → Places → Places → OwnRecord → Type 0
+HasApplied c old new b = Applies c old new (record_of_own b)
 
 -- why a change is refused: the cause is there, or, for an insert that the tables accept, its key has no place and takes memory
 abbrev pub Refuses : Change → Places → Refusal → Type 0

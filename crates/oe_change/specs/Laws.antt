@@ -1,4 +1,4 @@
--- The laws of changes and their undo.
+-- The laws of changes, of undo records, and of their undo.
 use Rattle.std.specs.Prelude.{◌≡◌, false, Option, cond}
 use Rattle.oe_keys.specs.declared.keys.Key.{Key}
 use Rattle.oe_rows.specs.declared.rows.Row.{Row}
@@ -6,6 +6,10 @@ use Rattle.oe_model.specs.Rows.{Rows, is_key, row_at}
 use Rattle.oe_model.specs.Changes.{Change, key_of, row_of, changed, Record, record_of, put_back}
 use Rattle.oe_model.specs.Meets.{Meets}
 use Rattle.oe_store.specs.Places.{Places, rows, HasPlace}
+use Rattle.oe_layout.specs.declared.records.OwnRecord.{OwnRecord}
+use Rattle.oe_layout.specs.Records.{record_of_own}
+use Rattle.oe_change.specs.declared.changes.Change as own
+use Rattle.oe_change.specs.Changes.{change_of}
 use Rattle.oe_change.specs.Applies.{Applies}
 use Rattle.oe_change.specs.PutBack.{CanPutBack}
 
@@ -29,3 +33,11 @@ pub record What_was_applied_can_be_undone : Type 0 where
   pub later : (c : Change) (before : Option Row) (s : Places)
       → row_at (rows s) (key_of c) ≡ row_of c → HasPlace s (key_of c)
       → Meets (put_back (record_of c before) (rows s)) → CanPutBack s (record_of c before)
+
+-- two changes that stand for one change of the model are equal
+abbrev pub Changes_are_told_apart : Type 0
+Changes_are_told_apart = (c d : own.Change) → change_of c ≡ change_of d → c ≡ d
+
+-- and so are two undo records that stand for one of the model
+abbrev pub Records_are_told_apart : Type 0
+Records_are_told_apart = (b d : OwnRecord) → record_of_own b ≡ record_of_own d → b ≡ d

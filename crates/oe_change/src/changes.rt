@@ -1,48 +1,73 @@
-//! A change of one row.
-ghost use Rattle.std.specs.Prelude.{◌≡◌, IfOk, IfErr, OnErr};
-ghost use Rattle.oe_model.specs.Meets.{Accepts};
-ghost use Rattle.oe_records.specs.Changes.{change_of};
-ghost use Rattle.oe_store.specs.Places.{rows};
-ghost use Rattle.oe_change.specs.Applies.{HasApplied, Refuses, IsFirst};
+//! Changes.
+ghost use Rattle.std.specs.Prelude.{◌≡◌};
+ghost use Rattle.oe_model.specs.Changes.{key_of};
 
-use crate::inserts::{insert_history, insert_new_order, insert_order, insert_order_line};
-use crate::updates::{
-    delete_new_order, update_customer, update_district, update_order, update_order_line,
-    update_stock, update_warehouse,
+use oe_keys::keys::{
+    CustomerKey, DistrictKey, HistoryKey, Key, NewOrderKey, OrderKey, OrderLineKey, StockKey,
+    WarehouseKey,
 };
-use oe_records::{Before, Change};
-use oe_requests::Refusal;
-use oe_store::Tables;
+use oe_rows::customers::Customer;
+use oe_rows::districts::District;
+use oe_rows::histories::History;
+use oe_rows::items::Stock;
+use oe_rows::orders::{Order, OrderLine};
+use oe_rows::warehouses::Warehouse;
 
-/// Makes a change of one row and answers its undo record, or says why not.
-///
-/// `NoSuchRow`: the key of an update or a delete is absent. `RowExists`: the key of an insert is there. `Reference`: what
-/// the new row refers to is absent (clauses 1.3 and 1.4). `KeyColumn`: an update changes C_LAST, C_FIRST or O_C_ID.
-/// `NoMemory`: the tables accept the insert, but its key takes a new place, and its memory was refused. A column can't
-/// leave its range, since rows are in their ranges by type.
-pub fn apply(tables: &mut Tables, change: Change) -> Result<Before, Refusal>
-    ensures applied { IfOk result (HasApplied (change_of change) tables.old tables.new) }
+/// A change of one row, of those that the standard's transactions make (clauses 2.4.2, 2.5.2 and 2.7.4): the row that is
+/// inserted or takes another's place, under its key, or the key whose row is deleted.
+#[derive(Drop)]
+pub enum Change {
+    InsertHistory(HistoryKey, History),
+    InsertNewOrder(NewOrderKey),
+    InsertOrder(OrderKey, Order),
+    InsertOrderLine(OrderLineKey, OrderLine),
+    UpdateWarehouse(WarehouseKey, Warehouse),
+    UpdateDistrict(DistrictKey, District),
+    UpdateCustomer(CustomerKey, Customer),
+    UpdateOrder(OrderKey, Order),
+    UpdateOrderLine(OrderLineKey, OrderLine),
+    UpdateStock(StockKey, Stock),
+    DeleteNewOrder(NewOrderKey),
+}
 
-    // A refusal has its cause, and the tables are as before.
-    ensures refused { IfErr result (λ e. Refuses (change_of change) tables.old e) }
-    ensures first { IfErr result (λ e. IsFirst (change_of change) (rows tables.old) e) }
-    ensures unchanged { OnErr result (tables.new ≡ tables.old) }
+impl Change {
+    ghost use Rattle.oe_change.specs.Changes.{change_of};
 
-    // Where the tables accept the change, want of memory is the only refusal.
-    ensures only_memory { Accepts (change_of change) (rows tables.old)
-        → IfErr result (λ e. e ≡ Refusal.NoMemory) }
-{
-    match change {
-        Change::InsertHistory(key, row) => insert_history(tables, &key, row),
-        Change::InsertNewOrder(key) => insert_new_order(tables, &key),
-        Change::InsertOrder(key, row) => insert_order(tables, &key, row),
-        Change::InsertOrderLine(key, row) => insert_order_line(tables, &key, row),
-        Change::UpdateWarehouse(key, row) => update_warehouse(tables, &key, row),
-        Change::UpdateDistrict(key, row) => update_district(tables, &key, row),
-        Change::UpdateCustomer(key, row) => update_customer(tables, &key, row),
-        Change::UpdateOrder(key, row) => update_order(tables, &key, row),
-        Change::UpdateOrderLine(key, row) => update_order_line(tables, &key, row),
-        Change::UpdateStock(key, row) => update_stock(tables, &key, row),
-        Change::DeleteNewOrder(key) => delete_new_order(tables, &key),
+    /// The key of the row that it changes.
+    pub fn key(&self) -> Key
+        ensures { result ≡ key_of (change_of self.now) }
+    {
+        match self {
+            Change::InsertHistory(key, _) => Key::History(*key),
+            Change::InsertNewOrder(key) => Key::NewOrder(*key),
+            Change::InsertOrder(key, _) => Key::Order(*key),
+            Change::InsertOrderLine(key, _) => Key::OrderLine(*key),
+            Change::UpdateWarehouse(key, _) => Key::Warehouse(*key),
+            Change::UpdateDistrict(key, _) => Key::District(*key),
+            Change::UpdateCustomer(key, _) => Key::Customer(*key),
+            Change::UpdateOrder(key, _) => Key::Order(*key),
+            Change::UpdateOrderLine(key, _) => Key::OrderLine(*key),
+            Change::UpdateStock(key, _) => Key::Stock(*key),
+            Change::DeleteNewOrder(key) => Key::NewOrder(*key),
+        }
+    }
+
+    /// A copy, which takes no memory.
+    pub fn copied(&self) -> Self
+        ensures { result ≡ self.now }
+    {
+        match self {
+            Change::InsertHistory(key, row) => Change::InsertHistory(*key, row.copied()),
+            Change::InsertNewOrder(key) => Change::InsertNewOrder(*key),
+            Change::InsertOrder(key, row) => Change::InsertOrder(*key, row.copied()),
+            Change::InsertOrderLine(key, row) => Change::InsertOrderLine(*key, row.copied()),
+            Change::UpdateWarehouse(key, row) => Change::UpdateWarehouse(*key, row.copied()),
+            Change::UpdateDistrict(key, row) => Change::UpdateDistrict(*key, row.copied()),
+            Change::UpdateCustomer(key, row) => Change::UpdateCustomer(*key, row.copied()),
+            Change::UpdateOrder(key, row) => Change::UpdateOrder(*key, row.copied()),
+            Change::UpdateOrderLine(key, row) => Change::UpdateOrderLine(*key, row.copied()),
+            Change::UpdateStock(key, row) => Change::UpdateStock(*key, row.copied()),
+            Change::DeleteNewOrder(key) => Change::DeleteNewOrder(*key),
+        }
     }
 }

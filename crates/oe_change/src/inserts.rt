@@ -6,7 +6,7 @@ ghost use Rattle.oe_change.specs.Applies.{HasApplied, Refuses, IsFirst};
 
 use crate::accepts::{accept_history, accept_new_order, accept_order, accept_order_line};
 use oe_keys::{HistoryKey, NewOrderKey, OrderKey, OrderLineKey};
-use oe_records::Before;
+use oe_layout::OwnRecord;
 use oe_requests::Refusal;
 use oe_rows::{History, NewOrder, Order, OrderLine};
 use oe_store::Tables;
@@ -20,7 +20,7 @@ pub fn insert_history(
     tables: &mut Tables,
     key: &HistoryKey,
     row: History,
-) -> Result<Before, Refusal>
+) -> Result<OwnRecord, Refusal>
     ensures applied { IfOk result (HasApplied (InsertHistory key.now row) tables.old tables.new) }
     ensures refused { IfErr result (λ e. Refuses (InsertHistory key.now row) tables.old e) }
     ensures first { IfErr result (λ e. IsFirst (InsertHistory key.now row) (rows tables.old) e) }
@@ -30,7 +30,7 @@ pub fn insert_history(
         return Err(refusal);
     }
     match tables.insert_history(*key, row) {
-        Ok(()) => Ok(Before::InsertedHistory(*key)),
+        Ok(()) => Ok(OwnRecord::InsertedHistory(*key)),
         Err(_) => Err(Refusal::NoMemory),
     }
 }
@@ -40,7 +40,7 @@ pub fn insert_history(
 /// `RowExists`: the key is there. `Reference`: its order is absent (clause 1.4). `NoMemory`: the tables accept the row, but its key takes
 /// a new place, and its memory was refused. Nothing has changed then.
 #[inline(always)]
-pub fn insert_new_order(tables: &mut Tables, key: &NewOrderKey) -> Result<Before, Refusal>
+pub fn insert_new_order(tables: &mut Tables, key: &NewOrderKey) -> Result<OwnRecord, Refusal>
     ensures applied { IfOk result (
         HasApplied (InsertNewOrder key.now (record {})) tables.old tables.new) }
     ensures refused { IfErr result (Refuses (InsertNewOrder key.now (record {})) tables.old) }
@@ -51,7 +51,7 @@ pub fn insert_new_order(tables: &mut Tables, key: &NewOrderKey) -> Result<Before
         return Err(refusal);
     }
     match tables.insert_new_order(*key, NewOrder) {
-        Ok(()) => Ok(Before::InsertedNewOrder(*key)),
+        Ok(()) => Ok(OwnRecord::InsertedNewOrder(*key)),
         Err(_) => Err(Refusal::NoMemory),
     }
 }
@@ -61,7 +61,7 @@ pub fn insert_new_order(tables: &mut Tables, key: &NewOrderKey) -> Result<Before
 /// `RowExists`: the key is there. `Reference`: its customer is absent (clause 1.4). `NoMemory`: the tables accept the row, but its key
 /// takes a new place, and its memory was refused. Nothing has changed then.
 #[inline(always)]
-pub fn insert_order(tables: &mut Tables, key: &OrderKey, row: Order) -> Result<Before, Refusal>
+pub fn insert_order(tables: &mut Tables, key: &OrderKey, row: Order) -> Result<OwnRecord, Refusal>
     ensures applied { IfOk result (HasApplied (InsertOrder key.now row) tables.old tables.new) }
     ensures refused { IfErr result (λ e. Refuses (InsertOrder key.now row) tables.old e) }
     ensures first { IfErr result (λ e. IsFirst (InsertOrder key.now row) (rows tables.old) e) }
@@ -71,7 +71,7 @@ pub fn insert_order(tables: &mut Tables, key: &OrderKey, row: Order) -> Result<B
         return Err(refusal);
     }
     match tables.insert_order(*key, row) {
-        Ok(()) => Ok(Before::InsertedOrder(*key)),
+        Ok(()) => Ok(OwnRecord::InsertedOrder(*key)),
         Err(_) => Err(Refusal::NoMemory),
     }
 }
@@ -85,7 +85,7 @@ pub fn insert_order_line(
     tables: &mut Tables,
     key: &OrderLineKey,
     row: OrderLine,
-) -> Result<Before, Refusal>
+) -> Result<OwnRecord, Refusal>
     ensures applied { IfOk result (HasApplied (InsertOrderLine key.now row) tables.old tables.new) }
     ensures refused { IfErr result (λ e. Refuses (InsertOrderLine key.now row) tables.old e) }
     ensures first { IfErr result (λ e. IsFirst (InsertOrderLine key.now row) (rows tables.old) e) }
@@ -95,7 +95,7 @@ pub fn insert_order_line(
         return Err(refusal);
     }
     match tables.insert_order_line(*key, row) {
-        Ok(()) => Ok(Before::InsertedOrderLine(*key)),
+        Ok(()) => Ok(OwnRecord::InsertedOrderLine(*key)),
         Err(_) => Err(Refusal::NoMemory),
     }
 }

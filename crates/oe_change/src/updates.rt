@@ -9,7 +9,7 @@ use crate::accepts::supply_key;
 use oe_keys::{
     CustomerKey, DistrictKey, Key, NewOrderKey, OrderKey, OrderLineKey, StockKey, WarehouseKey,
 };
-use oe_records::{Before, Boxed};
+use oe_layout::OwnRecord;
 use oe_requests::Refusal;
 use oe_rows::{Customer, District, Order, OrderLine, Stock, Warehouse};
 use oe_store::Tables;
@@ -19,7 +19,7 @@ pub(crate) fn update_warehouse(
     tables: &mut Tables,
     key: &WarehouseKey,
     row: Warehouse,
-) -> Result<Before, Refusal>
+) -> Result<OwnRecord, Refusal>
     ensures applied { IfOk result (HasApplied (UpdateWarehouse key.now row) tables.old tables.new) }
     ensures refused { IfErr result (λ e. Refuses (UpdateWarehouse key.now row) tables.old e) }
     ensures first { IfErr result (λ e. IsFirst (UpdateWarehouse key.now row) (rows tables.old) e) }
@@ -29,7 +29,7 @@ pub(crate) fn update_warehouse(
         return Err(Refusal::NoSuchRow(Key::Warehouse(*key)));
     }
     let before = tables.update_warehouse(*key, row);
-    Ok(Before::UpdatedWarehouse(*key, before))
+    Ok(OwnRecord::UpdatedWarehouse(*key, before))
 }
 
 /// Puts another DISTRICT row in the place of a key's.
@@ -37,7 +37,7 @@ pub(crate) fn update_district(
     tables: &mut Tables,
     key: &DistrictKey,
     row: District,
-) -> Result<Before, Refusal>
+) -> Result<OwnRecord, Refusal>
     ensures applied { IfOk result (HasApplied (UpdateDistrict key.now row) tables.old tables.new) }
     ensures refused { IfErr result (λ e. Refuses (UpdateDistrict key.now row) tables.old e) }
     ensures first { IfErr result (λ e. IsFirst (UpdateDistrict key.now row) (rows tables.old) e) }
@@ -47,7 +47,7 @@ pub(crate) fn update_district(
         return Err(Refusal::NoSuchRow(Key::District(*key)));
     }
     let before = tables.update_district(*key, row);
-    Ok(Before::UpdatedDistrict(*key, before))
+    Ok(OwnRecord::UpdatedDistrict(*key, before))
 }
 
 /// Puts another CUSTOMER row with the same C_LAST and C_FIRST in the place of a key's.
@@ -55,8 +55,8 @@ pub(crate) fn update_district(
 pub(crate) fn update_customer(
     tables: &mut Tables,
     key: &CustomerKey,
-    row: Boxed<Customer>,
-) -> Result<Before, Refusal>
+    row: Customer,
+) -> Result<OwnRecord, Refusal>
     ensures applied { IfOk result (HasApplied (UpdateCustomer key.now row) tables.old tables.new) }
     ensures refused { IfErr result (λ e. Refuses (UpdateCustomer key.now row) tables.old e) }
     ensures first { IfErr result (λ e. IsFirst (UpdateCustomer key.now row) (rows tables.old) e) }
@@ -65,16 +65,14 @@ pub(crate) fn update_customer(
     let Some(old) = tables.customer(*key) else {
         return Err(Refusal::NoSuchRow(Key::Customer(*key)));
     };
-    let after = row.row();
-    if after.name.last != old.name.last {
+    if row.name.last != old.name.last {
         return Err(Refusal::KeyColumn);
     }
-    if after.name.first != old.name.first {
+    if row.name.first != old.name.first {
         return Err(Refusal::KeyColumn);
     }
-    let after = after.copied();
-    let before = tables.update_customer(*key, after);
-    Ok(Before::UpdatedCustomer(*key, row.with(before)))
+    let before = tables.update_customer(*key, row);
+    Ok(OwnRecord::UpdatedCustomer(*key, before))
 }
 
 /// Puts another ORDER row with the same O_C_ID in the place of a key's.
@@ -82,7 +80,7 @@ pub(crate) fn update_order(
     tables: &mut Tables,
     key: &OrderKey,
     row: Order,
-) -> Result<Before, Refusal>
+) -> Result<OwnRecord, Refusal>
     ensures applied { IfOk result (HasApplied (UpdateOrder key.now row) tables.old tables.new) }
     ensures refused { IfErr result (λ e. Refuses (UpdateOrder key.now row) tables.old e) }
     ensures first { IfErr result (λ e. IsFirst (UpdateOrder key.now row) (rows tables.old) e) }
@@ -95,7 +93,7 @@ pub(crate) fn update_order(
         return Err(Refusal::KeyColumn);
     }
     let before = tables.update_order(*key, row);
-    Ok(Before::UpdatedOrder(*key, before))
+    Ok(OwnRecord::UpdatedOrder(*key, before))
 }
 
 /// Puts another ORDER-LINE row, whose stock is there, in the place of a key's.
@@ -103,7 +101,7 @@ pub(crate) fn update_order_line(
     tables: &mut Tables,
     key: &OrderLineKey,
     row: OrderLine,
-) -> Result<Before, Refusal>
+) -> Result<OwnRecord, Refusal>
     ensures applied { IfOk result (HasApplied (UpdateOrderLine key.now row) tables.old tables.new) }
     ensures refused { IfErr result (λ e. Refuses (UpdateOrderLine key.now row) tables.old e) }
     ensures first { IfErr result (λ e. IsFirst (UpdateOrderLine key.now row) (rows tables.old) e) }
@@ -117,7 +115,7 @@ pub(crate) fn update_order_line(
         return Err(Refusal::Reference(Key::Stock(*supply)));
     }
     let before = tables.update_order_line(*key, row);
-    Ok(Before::UpdatedOrderLine(*key, before))
+    Ok(OwnRecord::UpdatedOrderLine(*key, before))
 }
 
 /// Puts another STOCK row in the place of a key's.
@@ -125,8 +123,8 @@ pub(crate) fn update_order_line(
 pub(crate) fn update_stock(
     tables: &mut Tables,
     key: &StockKey,
-    row: Boxed<Stock>,
-) -> Result<Before, Refusal>
+    row: Stock,
+) -> Result<OwnRecord, Refusal>
     ensures applied { IfOk result (HasApplied (UpdateStock key.now row) tables.old tables.new) }
     ensures refused { IfErr result (λ e. Refuses (UpdateStock key.now row) tables.old e) }
     ensures first { IfErr result (λ e. IsFirst (UpdateStock key.now row) (rows tables.old) e) }
@@ -135,17 +133,15 @@ pub(crate) fn update_stock(
     if tables.stock(*key).is_none() {
         return Err(Refusal::NoSuchRow(Key::Stock(*key)));
     }
-    let after = row.row();
-    let after = after.copied();
-    let before = tables.update_stock(*key, after);
-    Ok(Before::UpdatedStock(*key, row.with(before)))
+    let before = tables.update_stock(*key, row);
+    Ok(OwnRecord::UpdatedStock(*key, before))
 }
 
 /// Takes a NEW-ORDER row away and answers its undo record. Its key keeps its place, and it takes no memory.
 ///
 /// `NoSuchRow`: the row is absent. Nothing has changed then.
 #[inline(always)]
-pub fn delete_new_order(tables: &mut Tables, key: &NewOrderKey) -> Result<Before, Refusal>
+pub fn delete_new_order(tables: &mut Tables, key: &NewOrderKey) -> Result<OwnRecord, Refusal>
     ensures applied { IfOk result (HasApplied (DeleteNewOrder key.now) tables.old tables.new) }
     ensures refused { IfErr result (λ e. Refuses (DeleteNewOrder key.now) tables.old e) }
     ensures first { IfErr result (λ e. IsFirst (DeleteNewOrder key.now) (rows tables.old) e) }
@@ -155,5 +151,5 @@ pub fn delete_new_order(tables: &mut Tables, key: &NewOrderKey) -> Result<Before
         return Err(Refusal::NoSuchRow(Key::NewOrder(*key)));
     }
     let _row = tables.delete_new_order(*key);
-    Ok(Before::DeletedNewOrder(*key))
+    Ok(OwnRecord::DeletedNewOrder(*key))
 }

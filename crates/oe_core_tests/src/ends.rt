@@ -4,8 +4,8 @@ ghost use Rattle.oe_script.specs.Session.{state_of, IsLive};
 
 use crate::populations::{amend, district_key, populated, stock_key};
 use crate::sessions::{core_on, is_answered, session_on};
+use oe_change::Change;
 use oe_keys::{OrderKey, StockKey};
-use oe_records::{Boxed, Change};
 use oe_requests::Column;
 use oe_rows::Stock;
 use oe_script::session::Session;
@@ -15,35 +15,32 @@ use std::alloc::Global;
 use std::process::Abort;
 
 // Changes a stock to that row.
-fn restock(alloc: Global, tables: &mut Tables, key: StockKey, row: Stock) -> Option<()> {
-    amend(
-        tables,
-        Change::UpdateStock(key, Boxed::new(alloc, row).ok()?),
-    )
+fn restock(tables: &mut Tables, key: StockKey, row: Stock) -> Option<()> {
+    amend(tables, Change::UpdateStock(key, row))
 }
 
 // S_YTD of item 3 in warehouse 2 has room for one.
-fn end_stock_ytd(alloc: Global, tables: &mut Tables) -> Option<()> {
+fn end_stock_ytd(tables: &mut Tables) -> Option<()> {
     let key = stock_key(2, 3)?;
     let mut row = tables.stock(key)?.copied();
     row.ytd = StockYtd::new(99_999_998)?;
-    restock(alloc, tables, key, row)
+    restock(tables, key, row)
 }
 
 // S_ORDER_CNT of item 4 in warehouse 2 has room for one.
-fn end_order_count(alloc: Global, tables: &mut Tables) -> Option<()> {
+fn end_order_count(tables: &mut Tables) -> Option<()> {
     let key = stock_key(2, 4)?;
     let mut row = tables.stock(key)?.copied();
     row.order_count = Count::new(9_998)?;
-    restock(alloc, tables, key, row)
+    restock(tables, key, row)
 }
 
 // S_REMOTE_CNT of item 5 in warehouse 1 has room for one.
-fn end_remote_count(alloc: Global, tables: &mut Tables) -> Option<()> {
+fn end_remote_count(tables: &mut Tables) -> Option<()> {
     let key = stock_key(1, 5)?;
     let mut row = tables.stock(key)?.copied();
     row.remote_count = Count::new(9_998)?;
-    restock(alloc, tables, key, row)
+    restock(tables, key, row)
 }
 
 // A second order like that one, with its lines.
@@ -81,22 +78,19 @@ fn number_orders(tables: &mut Tables, number: u32) -> Option<()> {
 }
 
 // C_PAYMENT_CNT of customer 2 in district 1 of warehouse 1 has room for one.
-fn end_payment_count(alloc: Global, tables: &mut Tables) -> Option<()> {
+fn end_payment_count(tables: &mut Tables) -> Option<()> {
     let key = district_key(1, 1)?.customer(Number::new(2)?);
     let mut row = tables.customer(key)?.copied();
     row.account.payment_count = Count::new(9_998)?;
-    amend(
-        tables,
-        Change::UpdateCustomer(key, Boxed::new(alloc, row).ok()?),
-    )
+    amend(tables, Change::UpdateCustomer(key, row))
 }
 
-fn end(alloc: Global, tables: &mut Tables, column: Column) -> Option<()> {
+fn end(tables: &mut Tables, column: Column) -> Option<()> {
     match column {
-        Column::StockYtd => end_stock_ytd(alloc, tables),
-        Column::OrderCount => end_order_count(alloc, tables),
-        Column::RemoteCount => end_remote_count(alloc, tables),
-        _ => end_payment_count(alloc, tables),
+        Column::StockYtd => end_stock_ytd(tables),
+        Column::OrderCount => end_order_count(tables),
+        Column::RemoteCount => end_remote_count(tables),
+        _ => end_payment_count(tables),
     }
 }
 
@@ -105,7 +99,7 @@ fn ended(rt: &impl Abort, alloc: Global, column: Column) -> Tables {
     let Some(mut tables) = populated(alloc, 10, 20) else {
         panic!(rt; "no population")
     };
-    let is_made = end(alloc, &mut tables, column).is_some();
+    let is_made = end(&mut tables, column).is_some();
     assert!(rt; is_made);
     tables
 }

@@ -22,7 +22,7 @@ use Rattle.oe_requests.specs.declared.replies.Reply.TheVariants as reply
 use Rattle.oe_requests.specs.declared.replies.DistrictDelivery.TheVariants.{Skipped}
 use Rattle.oe_requests.specs.declared.refusals.Column.{Column}
 use Rattle.oe_requests.specs.declared.refusals.Refusal.TheVariants.{NoSuchRow}
-use Rattle.oe_records.specs.declared.writes.Write.TheVariants as write
+use Rattle.oe_change.specs.declared.writes.Write.TheVariants as write
 use Rattle.oe_formulas.specs.Checks.{checked}
 use Rattle.oe_model.specs.Rows.{Rows}
 use Rattle.oe_model.specs.Keys.{customer_in, order_in, new_order_in, line_in}

@@ -8,11 +8,11 @@ ghost use Rattle.oe_delivery.specs.Stages.{Advances, HoldsTaken, Steps};
 use crate::looks::remainder_of;
 use crate::programs::Program;
 use crate::remainders::Remainder;
+use oe_change::Write;
 use oe_engine::stages::{failed, hold, put, put_held};
 use oe_engine::{Engine, Lock, Progress, Tx};
 use oe_formulas::deliveries::account_after_delivery;
 use oe_keys::{Key, Mode, Name};
-use oe_records::Write;
 use oe_requests::{DeliveryRequest, Refusal};
 use oe_values::{LineNumber, OrderNumber};
 

@@ -7,8 +7,8 @@ use Rattle.oe_model.specs.Changes.{Change}
 use Rattle.oe_model.specs.Lengths.{record_length}
 use Rattle.oe_model.specs.Meets.{Accepts}
 use Rattle.oe_model.specs.System.{system}
-use Rattle.oe_records.specs.declared.writes.Write.{Write}
-use Rattle.oe_records.specs.Writes.{written}
+use Rattle.oe_change.specs.declared.writes.Write.{Write}
+use Rattle.oe_change.specs.Writes.{written}
 use Rattle.oe_store.specs.Places.{rows}
 use Rattle.oe_store.specs.Places as tables
 use Rattle.oe_log.specs.Log.{IsFull}

@@ -17,9 +17,9 @@ use Rattle.oe_model.specs.Changes.{Change, key_of, Record, UpdatedWarehouse, Upd
 use Rattle.oe_model.specs.Lengths.{record_length}
 use Rattle.oe_model.specs.Locks.{governs}
 use Rattle.oe_model.specs.System.{system}
-use Rattle.oe_records.specs.declared.writes.Write.{Write}
-use Rattle.oe_records.specs.declared.writes.Write.TheVariants.{WarehouseYtd, DistrictYtd, NextOrder, CustomerAccount, BadCredit, StockCounters, Carrier, DeliveryDate, InsertHistory, InsertNewOrder, InsertOrder, InsertOrderLine, DeleteNewOrder}
-use Rattle.oe_records.specs.Writes.{key_written, written}
+use Rattle.oe_change.specs.declared.writes.Write.{Write}
+use Rattle.oe_change.specs.declared.writes.Write.TheVariants.{WarehouseYtd, DistrictYtd, NextOrder, CustomerAccount, BadCredit, StockCounters, Carrier, DeliveryDate, InsertHistory, InsertNewOrder, InsertOrder, InsertOrderLine, DeleteNewOrder}
+use Rattle.oe_change.specs.Writes.{key_written, written}
 use Rattle.oe_store.specs.Places.{Places, rows}
 use Rattle.oe_change.specs.Applies.{Refuses, IsFirst}
 use Rattle.oe_log.specs.Log.{IsFull}

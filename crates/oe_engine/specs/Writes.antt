@@ -11,9 +11,9 @@ use Rattle.oe_requests.specs.declared.refusals.Refusal.TheVariants.{Busy, NotOpe
 use Rattle.oe_model.specs.Keys.{order_of_new_order}
 use Rattle.oe_model.specs.Changes.{Change}
 use Rattle.oe_model.specs.Locks.{governs}
-use Rattle.oe_records.specs.declared.writes.Write.{Write}
-use Rattle.oe_records.specs.declared.writes.Write.TheVariants.{InsertNewOrder}
-use Rattle.oe_records.specs.Writes.{key_written, written}
+use Rattle.oe_change.specs.declared.writes.Write.{Write}
+use Rattle.oe_change.specs.declared.writes.Write.TheVariants.{InsertNewOrder}
+use Rattle.oe_change.specs.Writes.{key_written, written}
 use Rattle.oe_store.specs.Places as tables
 use Rattle.oe_engine.specs.View.{EngineState, View, view_of, Handle, IsOpen}
 use Rattle.oe_engine.specs.Covered.{Owns}

@@ -11,9 +11,9 @@ ghost use Rattle.oe_engine.specs.Calls.{ask_of, IsFree, IsBelow, MayRead, locked
 
 use crate::engine::{Engine, Tx};
 use crate::programs::Lock;
+use oe_change::Write;
 use oe_keys::{Key, Mode, Name};
 use oe_locks::Locks;
-use oe_records::Write;
 use oe_requests::Refusal;
 use oe_rows::Row;
 use oe_store::Tables;

@@ -3,7 +3,7 @@ ghost use Rattle.std.specs.Prelude.{◌≡◌, true, suc, Some, None, OnErr};
 ghost use Rattle.oe_theory.specs.Machine.{Plain, Take};
 ghost use Rattle.oe_model.specs.Changes as model;
 ghost use Rattle.oe_model.specs.Locks.{mode_of, governs};
-ghost use Rattle.oe_records.specs.Writes.{key_written};
+ghost use Rattle.oe_change.specs.Writes.{key_written};
 ghost use Rattle.oe_engine.specs.View.{view_of, IsOpen};
 ghost use Rattle.oe_engine.specs.Covered.{IsOwn, Owns};
 ghost use Rattle.oe_engine.specs.Writes.{ask_of_write, change_written, WriteHoldsOrder};
@@ -11,7 +11,7 @@ ghost use Rattle.oe_engine.specs.Stages.{is_failure, IsFailure, Does};
 
 use crate::engine::{Engine, Tx};
 use crate::programs::Lock;
-use oe_records::Write;
+use oe_change::Write;
 use oe_requests::Refusal;
 
 /// The refusal of a stage that asks for a lock and then fails: who is in the way of the lock, or what it fails with.

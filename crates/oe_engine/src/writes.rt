@@ -6,7 +6,7 @@ ghost use Rattle.oe_theory.specs.Next.{IsNew, held_after};
 ghost use Rattle.oe_model.specs.Locks.{mode_of, governs};
 ghost use Rattle.oe_model.specs.Meets.{Accepts};
 ghost use Rattle.oe_model.specs.System.{system};
-ghost use Rattle.oe_records.specs.Writes.{key_written};
+ghost use Rattle.oe_change.specs.Writes.{key_written};
 ghost use Rattle.oe_engine.specs.View.{view_of, IsOpen};
 ghost use Rattle.oe_engine.specs.Covered.{IsOwn};
 ghost use Rattle.oe_engine.specs.Calls.{IsFree, IsFullFor, locked, made, ChangeRefused, PairRefused, stage_done, StageRefused};
@@ -15,7 +15,7 @@ ghost use Rattle.oe_engine.specs.Writes.{ask_of_write, change_written, WriteHold
 use crate::access::lock_of_write;
 use crate::engine::{Engine, Tx};
 use crate::programs::Lock;
-use oe_records::Write;
+use oe_change::Write;
 use oe_requests::Refusal;
 use oe_segments::Segment;
 use oe_values::Terminal;

@@ -9,9 +9,9 @@ use Rattle.oe_model.specs.Rows.{Rows, as_warehouse, as_district, as_customer, as
 use Rattle.oe_model.specs.Changes.{Change, Record, UpdatedWarehouse, UpdatedDistrict, UpdatedCustomer, UpdatedOrder, UpdatedOrderLine, UpdatedStock, InsertedHistory, InsertedNewOrder, InsertedOrder, InsertedOrderLine, DeletedNewOrder}
 use Rattle.oe_model.specs.Changes as model
 use Rattle.oe_model.specs.Meets.{Accepts}
-use Rattle.oe_records.specs.declared.writes.Write.{Write}
-use Rattle.oe_records.specs.declared.writes.Write.TheVariants.{WarehouseYtd, DistrictYtd, NextOrder, CustomerAccount, BadCredit, StockCounters, Carrier, DeliveryDate, InsertHistory, InsertNewOrder, InsertOrder, InsertOrderLine, DeleteNewOrder}
-use Rattle.oe_records.specs.Writes.{written}
+use Rattle.oe_change.specs.declared.writes.Write.{Write}
+use Rattle.oe_change.specs.declared.writes.Write.TheVariants.{WarehouseYtd, DistrictYtd, NextOrder, CustomerAccount, BadCredit, StockCounters, Carrier, DeliveryDate, InsertHistory, InsertNewOrder, InsertOrder, InsertOrderLine, DeleteNewOrder}
+use Rattle.oe_change.specs.Writes.{written}
 use Rattle.oe_journal.specs.Records.{record_in, record_of_write}
 
 -- of an update: the row that is looked up is the one before

@@ -3,8 +3,8 @@ use Rattle.std.specs.Prelude.{Option, None, Some, option_map}
 use Rattle.std.specs.FinMap.{get}
 use Rattle.oe_model.specs.Rows.{Rows, row_at}
 use Rattle.oe_model.specs.Changes.{Change, key_of, Record, record_of, InsertedHistory, InsertedNewOrder, InsertedOrder, InsertedOrderLine, UpdatedWarehouse, UpdatedDistrict, UpdatedCustomer, UpdatedOrder, UpdatedOrderLine, UpdatedStock, DeletedNewOrder}
-use Rattle.oe_records.specs.declared.writes.Write.{Write}
-use Rattle.oe_records.specs.declared.writes.Write.TheVariants.{WarehouseYtd, DistrictYtd, NextOrder, CustomerAccount, BadCredit, StockCounters, Carrier, DeliveryDate, InsertHistory, InsertNewOrder, InsertOrder, InsertOrderLine, DeleteNewOrder}
+use Rattle.oe_change.specs.declared.writes.Write.{Write}
+use Rattle.oe_change.specs.declared.writes.Write.TheVariants.{WarehouseYtd, DistrictYtd, NextOrder, CustomerAccount, BadCredit, StockCounters, Carrier, DeliveryDate, InsertHistory, InsertNewOrder, InsertOrder, InsertOrderLine, DeleteNewOrder}
 
 -- the record of a change of these rows: with the row before it
 abbrev pub record_in : Change → Rows → Record

@@ -6,8 +6,8 @@ use Rattle.oe_requests.specs.declared.refusals.Refusal.TheVariants.{NoSuchRow, U
 use Rattle.oe_model.specs.Rows.{Rows}
 use Rattle.oe_model.specs.Changes.{Change, Record, record_key}
 use Rattle.oe_model.specs.Lengths.{record_length}
-use Rattle.oe_records.specs.declared.writes.Write.{Write}
-use Rattle.oe_records.specs.Writes.{key_written, written}
+use Rattle.oe_change.specs.declared.writes.Write.{Write}
+use Rattle.oe_change.specs.Writes.{key_written, written}
 use Rattle.oe_layout.specs.declared.links.Previous.{Previous}
 use Rattle.oe_store.specs.Places.{Places, rows}
 use Rattle.oe_change.specs.Applies.{Applies, Refuses, IsFirst}

@@ -3,13 +3,13 @@ ghost use Rattle.std.specs.Prelude.{◌≡◌, Some, None, option_map, IfOk, IfE
 ghost use Rattle.std.specs.FinMap.{get};
 ghost use Rattle.oe_model.specs.Changes.{UpdatedWarehouse, UpdatedDistrict, UpdatedCustomer, UpdatedOrder, UpdatedOrderLine, UpdatedStock};
 ghost use Rattle.oe_layout.specs.Records.{record_of_lent};
-ghost use Rattle.oe_records.specs.Writes.{key_written, written};
+ghost use Rattle.oe_change.specs.Writes.{key_written, written};
 ghost use Rattle.oe_store.specs.Places.{rows};
 ghost use Rattle.oe_journal.specs.Records.{record_of_write};
 
+use oe_change::Write;
 use oe_keys::{CustomerKey, DistrictKey, OrderKey, OrderLineKey, StockKey, WarehouseKey};
 use oe_layout::LentRecord;
-use oe_records::Write;
 use oe_requests::Refusal;
 use oe_store::Tables;
 

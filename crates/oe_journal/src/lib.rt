@@ -8,13 +8,11 @@ mod lending;
 pub mod purges;
 pub mod rewinds;
 mod settings;
-pub mod undoing;
 mod unplaced;
 pub mod unwinding;
 pub mod writes;
 
 pub use purges::purge;
 pub use rewinds::rewind;
-pub use undoing::undo;
 pub use unwinding::take_back;
 pub use writes::write;

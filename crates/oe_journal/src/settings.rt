@@ -1,13 +1,13 @@
 //! Rows changed in their place, without a record.
 ghost use Rattle.std.specs.Prelude.{◌≡◌, IsSome, IfErr, OnOk, OnErr};
-ghost use Rattle.oe_records.specs.Writes.{written};
+ghost use Rattle.oe_change.specs.Writes.{written};
 ghost use Rattle.oe_store.specs.Places.{rows};
 ghost use Rattle.oe_journal.specs.Writes.{IsMade, RefusesWrite};
 
 use crate::inserts::{
     delete_new_order, insert_history, insert_new_order, insert_order, insert_order_line,
 };
-use oe_records::Write;
+use oe_change::Write;
 use oe_requests::Refusal;
 use oe_store::Tables;
 

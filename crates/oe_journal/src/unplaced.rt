@@ -2,13 +2,12 @@
 //! would say.
 ghost use Rattle.std.specs.Prelude.{IsSome};
 ghost use Rattle.oe_model.specs.Changes.{key_of, InsertHistory, InsertNewOrder, InsertOrder, InsertOrderLine};
-ghost use Rattle.oe_records.specs.Writes.{key_written, written};
+ghost use Rattle.oe_change.specs.Writes.{key_written, written};
 ghost use Rattle.oe_store.specs.Places.{rows, HasPlace};
 ghost use Rattle.oe_journal.specs.Writes.{IsRefused, RefusesWrite};
 
-use oe_change::{accept_history, accept_new_order, accept_order, accept_order_line};
+use oe_change::{Write, accept_history, accept_new_order, accept_order, accept_order_line};
 use oe_keys::{HistoryKey, NewOrderKey, OrderKey, OrderLineKey};
-use oe_records::Write;
 use oe_requests::Refusal;
 use oe_rows::{History, Order, OrderLine};
 use oe_store::Tables;

@@ -7,7 +7,6 @@ ghost use Rattle.oe_links.specs.Links as links;
 ghost use Rattle.oe_journal.specs.GoesBack.{CanUnwind, HavePlaces};
 ghost use Rattle.oe_journal.specs.Unwinds.{TakesBack};
 
-use crate::undoing;
 use oe_segments::Segment;
 use oe_store::Tables;
 use oe_undo::Undo;
@@ -30,6 +29,6 @@ pub fn take_back(tables: &mut Tables, undo: &mut Undo, segment: Segment, count: 
         let Some(newest) = undo.take_newest(segment) else {
             unreachable!()
         };
-        undoing::undo(tables, newest);
+        oe_change::undo(tables, newest);
     }
 }

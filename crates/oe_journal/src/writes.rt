@@ -1,6 +1,6 @@
 //! What a transaction writes to one row, with its record.
 ghost use Rattle.std.specs.Prelude.{◌≡◌, IsSome, IfErr, OnOk, OnErr};
-ghost use Rattle.oe_records.specs.Writes.{key_written, written};
+ghost use Rattle.oe_change.specs.Writes.{key_written, written};
 ghost use Rattle.oe_store.specs.Places.{rows};
 ghost use Rattle.oe_segments.specs.Segments.{active_at};
 ghost use Rattle.oe_chains.specs.Chains.{IsAlone};
@@ -10,8 +10,8 @@ ghost use Rattle.oe_journal.specs.Writes.{HasRoomFor, HasWritten, HasRecorded, C
 use crate::lending::lend;
 use crate::settings::set;
 use crate::unplaced::unplaced;
+use oe_change::Write;
 use oe_layout::{LinkedRecord, Previous};
-use oe_records::Write;
 use oe_requests::Refusal;
 use oe_segments::Segment;
 use oe_store::Tables;

@@ -20,7 +20,7 @@ use Rattle.oe_requests.specs.declared.requests.NewOrderRequest.{NewOrderRequest}
 use Rattle.oe_requests.specs.declared.replies.LineReply.{LineReply}
 use Rattle.oe_requests.specs.declared.refusals.Column.{Column}
 use Rattle.oe_requests.specs.declared.refusals.Refusal.TheVariants.{NoSuchRow, InvalidItem, Overflow}
-use Rattle.oe_records.specs.declared.writes.Write.TheVariants as write
+use Rattle.oe_change.specs.declared.writes.Write.TheVariants as write
 use Rattle.oe_formulas.specs.Checks.{checked, row_with}
 use Rattle.oe_model.specs.Rows.{Rows}
 use Rattle.oe_model.specs.Changes.{UpdateDistrict, UpdateStock}

@@ -7,9 +7,9 @@ use Rattle.oe_requests.specs.declared.requests.NewOrderRequest.{NewOrderRequest}
 use Rattle.oe_requests.specs.declared.replies.LineReply.{LineReply}
 use Rattle.oe_requests.specs.declared.refusals.Refusal.{Refusal}
 use Rattle.oe_requests.specs.declared.refusals.Refusal.TheVariants.{NoCustomer, InvalidItem}
-use Rattle.oe_records.specs.declared.writes.Write.{Write}
-use Rattle.oe_records.specs.declared.writes.Write.TheVariants.{NextOrder, StockCounters}
-use Rattle.oe_records.specs.Writes.{written}
+use Rattle.oe_change.specs.declared.writes.Write.{Write}
+use Rattle.oe_change.specs.declared.writes.Write.TheVariants.{NextOrder, StockCounters}
+use Rattle.oe_change.specs.Writes.{written}
 use Rattle.oe_formulas.specs.declared.orders.Seen as formulas
 use Rattle.oe_formulas.specs.Orders.{seen_by}
 use Rattle.oe_model.specs.Keys.{customer_in}

@@ -13,11 +13,11 @@ ghost use Rattle.oe_neworder.specs.Program.{line_position};
 ghost use Rattle.oe_neworder.specs.Stages.{Advances, HoldsTaken, Fills};
 
 use crate::looks::{Supply, supply_of};
+use oe_change::Write;
 use oe_engine::stages::{failed, put, put_held};
 use oe_engine::{Engine, Lock, Progress, Tx};
 use oe_formulas::orders::Seen;
 use oe_keys::{Mode, Name};
-use oe_records::Write;
 use oe_requests::{LineReplies, LineReply, NewOrderReply, NewOrderRequest, Refusal, RequestLine};
 use oe_rows::OrderLine;
 use oe_values::{LineNumber, OrderNumber};

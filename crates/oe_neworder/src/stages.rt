@@ -10,11 +10,11 @@ ghost use Rattle.oe_neworder.specs.Stages.{Steps};
 use crate::fillings::Filling;
 use crate::looks::{next_number, seen, warehouse_tax};
 use crate::programs::Program;
+use oe_change::Write;
 use oe_engine::stages::{failed, hold, put};
 use oe_engine::{Engine, Lock, Tx};
 use oe_formulas::orders::{Seen, order_row};
 use oe_keys::{Mode, Name};
-use oe_records::Write;
 use oe_requests::{LineReplies, NewOrderRequest, Refusal};
 use oe_values::{OrderNumber, Rate};
 

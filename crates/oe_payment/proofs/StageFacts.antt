@@ -25,7 +25,7 @@ use Rattle.oe_model.specs.Choice.{chosen}
 use Rattle.oe_model.specs.Effects.{Doing, given, within}
 use Rattle.oe_model.specs.Positions.{PaymentWarehouse, PaymentDistrict, PaymentCustomer, PaymentHistory, PaymentEnd, InPayment}
 use Rattle.oe_model.specs.Payment.{paid_warehouse, paid_warehouse_out, paid_district, paid_district_out, paid_customer, paid_customer_out, history_data, history_row, history_key, paid_reply}
-use Rattle.oe_records.specs.declared.writes.Write.TheVariants as write
+use Rattle.oe_change.specs.declared.writes.Write.TheVariants as write
 use Rattle.oe_formulas.specs.Checks.{checked, paid_with}
 use Rattle.oe_engine.specs.View.{EngineState, view_of, Handle}
 use Rattle.oe_engine.specs.Programs.{ask_here, act_here}

@@ -9,7 +9,7 @@ use Rattle.oe_requests.specs.declared.requests.PaymentRequest.{PaymentRequest}
 use Rattle.oe_requests.specs.declared.requests.Request.TheVariants as request
 use Rattle.oe_model.specs.Meets.{Accepts}
 use Rattle.oe_model.specs.Positions.{PaymentPosition, PaymentWarehouse, PaymentDistrict, PaymentCustomer, PaymentHistory, PaymentEnd, InPayment}
-use Rattle.oe_records.specs.declared.writes.Write.{Write}
+use Rattle.oe_change.specs.declared.writes.Write.{Write}
 use Rattle.oe_engine.specs.View.{EngineState, view_of, Handle, IsOpen}
 use Rattle.oe_engine.specs.Calls.{IsFree, IsFullFor, stage_done, StageRefused}
 use Rattle.oe_engine.specs.Writes.{ask_of_write}

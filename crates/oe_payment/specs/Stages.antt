@@ -7,7 +7,7 @@ use Rattle.oe_requests.specs.declared.refusals.Refusal.{Refusal}
 use Rattle.oe_requests.specs.declared.refusals.Refusal.TheVariants.{NoSuchRow, NoCustomer, Overflow}
 use Rattle.oe_model.specs.Changes.{Change}
 use Rattle.oe_model.specs.Positions.{PaymentPosition, InPayment}
-use Rattle.oe_records.specs.declared.writes.Write.{Write}
+use Rattle.oe_change.specs.declared.writes.Write.{Write}
 use Rattle.oe_engine.specs.View.{EngineState, view_of, Handle}
 use Rattle.oe_engine.specs.Writes.{ask_of_write, change_written}
 use Rattle.oe_engine.specs.Programs.{ask_here, act_here, GoesOn, IsRefused}

@@ -6,7 +6,7 @@ ghost use Rattle.oe_model.specs.Changes.{Change};
 ghost use Rattle.oe_model.specs.Locks.{governs};
 ghost use Rattle.oe_model.specs.Payment.{history_data, paid_reply};
 ghost use Rattle.oe_model.specs.Positions.{PaymentPosition, PaymentWarehouse, PaymentDistrict, PaymentCustomer, PaymentHistory, PaymentEnd, InPayment};
-ghost use Rattle.oe_records.specs.Writes.{key_written};
+ghost use Rattle.oe_change.specs.Writes.{key_written};
 ghost use Rattle.oe_engine.specs.View.{view_of, IsOpen};
 ghost use Rattle.oe_engine.specs.Covered.{IsOwn};
 ghost use Rattle.oe_engine.specs.Writes.{WriteHoldsOrder};
@@ -16,13 +16,13 @@ ghost use Rattle.oe_payment.specs.Stages.{is_failure, IsRefusedHere, Does, stage
 
 use crate::choices::number_meant;
 use crate::positions::{Position, Stage};
+use oe_change::Write;
 use oe_engine::{Engine, Lock, Progress, Tx};
 use oe_formulas::payments::{
     account_after, bad_credit_entry, district_ytd_after, history_data, history_key, history_row,
     warehouse_ytd_after,
 };
 use oe_keys::{Key, Mode, Name};
-use oe_records::Write;
 use oe_requests::{PaymentReply, PaymentRequest, Refusal};
 use oe_rows::{Account, Credit, Customer};
 use oe_values::{CustomerNumber, Text};

@@ -1,8 +1,6 @@
-use Rattle.std.proofs.Common.{rules, ap, ◌∙◌}
+use Rattle.std.proofs.Common.{rules, ap}
 use Rattle.std.specs.Prelude.{is_some}
 use Rattle.oe_keys.proofs.KeyFacts.{customer_total, exact_customer}
-use Rattle.oe_model.specs.Changes.{changed, UpdateCustomer}
-use Rattle.oe_store.specs.Places.{rows}
 use Rattle.oe_store.proofs.PlaceFacts.{place_of_row}
 use Rattle.oe_change.proofs.PlaceFacts.{adds_own}
 use Rattle.oe_change.proofs.updates.update_customer.Goals as goal
@@ -10,7 +8,7 @@ use Rattle.oe_change.proofs.updates.update_customer.Goals as goal
 pub returns-clause-applied : goal.returns-clause-applied
 returns-clause-applied c = record {
   accepted = search rules;
-  changes = c.update_customer-before.ensures.rows ∙ ap (λ x. changed (UpdateCustomer c.args.key.now x) (rows c.args.tables.now)) (c.copied-after.ensures ∙ c.row-after.ensures);
+  changes = c.update_customer-before.ensures.rows;
   before = search rules;
   places = adds_own _ _ _ c.update_customer-before.ensures.places (place_of_row customer_total exact_customer _ c.args.key.now (ap is_some c.update_customer-before.ensures.before));
 }

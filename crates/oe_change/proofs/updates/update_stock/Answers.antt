@@ -1,8 +1,6 @@
-use Rattle.std.proofs.Common.{rules, ap, ◌∙◌}
+use Rattle.std.proofs.Common.{rules, ap}
 use Rattle.std.specs.Prelude.{is_some}
 use Rattle.oe_keys.proofs.KeyFacts.{stock_total, exact_stock}
-use Rattle.oe_model.specs.Changes.{changed, UpdateStock}
-use Rattle.oe_store.specs.Places.{rows}
 use Rattle.oe_store.proofs.PlaceFacts.{place_of_row}
 use Rattle.oe_change.proofs.PlaceFacts.{adds_own}
 use Rattle.oe_change.proofs.updates.update_stock.Goals as goal
@@ -10,7 +8,7 @@ use Rattle.oe_change.proofs.updates.update_stock.Goals as goal
 pub returns-clause-applied : goal.returns-clause-applied
 returns-clause-applied c = record {
   accepted = search rules;
-  changes = c.update_stock-before.ensures.rows ∙ ap (λ x. changed (UpdateStock c.args.key.now x) (rows c.args.tables.now)) (c.copied-after.ensures ∙ c.row-after.ensures);
+  changes = c.update_stock-before.ensures.rows;
   before = search rules;
   places = adds_own _ _ _ c.update_stock-before.ensures.places (place_of_row stock_total exact_stock _ c.args.key.now (ap is_some c.update_stock-before.ensures.before));
 }

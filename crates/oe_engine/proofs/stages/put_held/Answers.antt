@@ -1,6 +1,6 @@
 use Rattle.std.proofs.Common.{suc, subst}
 use Rattle.oe_model.specs.Locks.{governs}
-use Rattle.oe_records.specs.Writes.{key_written}
+use Rattle.oe_change.specs.Writes.{key_written}
 use Rattle.oe_engine.specs.View.{view_of}
 use Rattle.oe_engine.specs.Writes.{WantsRow}
 use Rattle.oe_engine.proofs.StageFacts.{owned_own, does_held}

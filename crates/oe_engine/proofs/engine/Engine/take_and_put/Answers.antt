@@ -1,7 +1,7 @@
 use Rattle.std.proofs.Common.{◌≡◌, ◌⊎◌, suc, sym, ap, ◌∙◌, subst, Some}
 use Rattle.std.specs.Prelude.{option_map}
 use Rattle.oe_model.specs.Locks.{mode_of}
-use Rattle.oe_records.specs.Writes.{written}
+use Rattle.oe_change.specs.Writes.{written}
 use Rattle.oe_store.specs.Places.{rows}
 use Rattle.oe_engine.specs.View.{View, view_of, view_from}
 use Rattle.oe_engine.specs.Calls.{IsBelow, IsFullFor, locked, put_mode}

@@ -7,8 +7,8 @@ use Rattle.oe_rows.specs.Credit.{with_entry}
 use Rattle.oe_rows.specs.Item.{with_counters}
 use Rattle.oe_model.specs.Rows.{Rows}
 use Rattle.oe_model.specs.Changes as model
-use Rattle.oe_records.specs.declared.writes.Write.{Write}
-use Rattle.oe_records.specs.declared.writes.Write.TheVariants.{WarehouseYtd, DistrictYtd, NextOrder, CustomerAccount, BadCredit, StockCounters, Carrier, DeliveryDate, InsertHistory, InsertNewOrder, InsertOrder, InsertOrderLine, DeleteNewOrder}
+use Rattle.oe_change.specs.declared.writes.Write.{Write}
+use Rattle.oe_change.specs.declared.writes.Write.TheVariants.{WarehouseYtd, DistrictYtd, NextOrder, CustomerAccount, BadCredit, StockCounters, Carrier, DeliveryDate, InsertHistory, InsertNewOrder, InsertOrder, InsertOrderLine, DeleteNewOrder}
 
 -- the key of the row that it changes
 abbrev pub key_written : Write → Key

@@ -42,7 +42,7 @@ pub enum Write {
 }
 
 impl Write {
-    ghost use Rattle.oe_records.specs.Writes.{key_written};
+    ghost use Rattle.oe_change.specs.Writes.{key_written};
 
     /// The key of the row that it changes.
     pub fn key(&self) -> Key

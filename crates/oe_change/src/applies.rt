@@ -1,0 +1,49 @@
+//! A change of one row.
+ghost use Rattle.std.specs.Prelude.{◌≡◌, IfOk, IfErr, OnErr};
+ghost use Rattle.oe_model.specs.Meets.{Accepts};
+ghost use Rattle.oe_change.specs.Changes.{change_of};
+ghost use Rattle.oe_store.specs.Places.{rows};
+ghost use Rattle.oe_change.specs.Applies.{HasApplied, Refuses, IsFirst};
+
+use crate::changes::Change;
+use crate::inserts::{insert_history, insert_new_order, insert_order, insert_order_line};
+use crate::updates::{
+    delete_new_order, update_customer, update_district, update_order, update_order_line,
+    update_stock, update_warehouse,
+};
+use oe_layout::OwnRecord;
+use oe_requests::Refusal;
+use oe_store::Tables;
+
+/// Makes a change of one row and answers its undo record, or says why not.
+///
+/// `NoSuchRow`: the key of an update or a delete is absent. `RowExists`: the key of an insert is there. `Reference`: what
+/// the new row refers to is absent (clauses 1.3 and 1.4). `KeyColumn`: an update changes C_LAST, C_FIRST or O_C_ID.
+/// `NoMemory`: the tables accept the insert, but its key takes a new place, and its memory was refused. A column can't
+/// leave its range, since rows are in their ranges by type.
+pub fn apply(tables: &mut Tables, change: Change) -> Result<OwnRecord, Refusal>
+    ensures applied { IfOk result (HasApplied (change_of change) tables.old tables.new) }
+
+    // A refusal has its cause, and the tables are as before.
+    ensures refused { IfErr result (λ e. Refuses (change_of change) tables.old e) }
+    ensures first { IfErr result (λ e. IsFirst (change_of change) (rows tables.old) e) }
+    ensures unchanged { OnErr result (tables.new ≡ tables.old) }
+
+    // Where the tables accept the change, want of memory is the only refusal.
+    ensures only_memory { Accepts (change_of change) (rows tables.old)
+        → IfErr result (λ e. e ≡ Refusal.NoMemory) }
+{
+    match change {
+        Change::InsertHistory(key, row) => insert_history(tables, &key, row),
+        Change::InsertNewOrder(key) => insert_new_order(tables, &key),
+        Change::InsertOrder(key, row) => insert_order(tables, &key, row),
+        Change::InsertOrderLine(key, row) => insert_order_line(tables, &key, row),
+        Change::UpdateWarehouse(key, row) => update_warehouse(tables, &key, row),
+        Change::UpdateDistrict(key, row) => update_district(tables, &key, row),
+        Change::UpdateCustomer(key, row) => update_customer(tables, &key, row),
+        Change::UpdateOrder(key, row) => update_order(tables, &key, row),
+        Change::UpdateOrderLine(key, row) => update_order_line(tables, &key, row),
+        Change::UpdateStock(key, row) => update_stock(tables, &key, row),
+        Change::DeleteNewOrder(key) => delete_new_order(tables, &key),
+    }
+}

@@ -1,5 +1,0 @@
-use Rattle.oe_records.proofs.Inverses.{changes_are_told_apart}
-use Rattle.oe_records.proofs.laws.changes_are_told_apart.Goals as goal
-
-pub returns : goal.returns
-returns c = changes_are_told_apart
