@@ -1,3 +1,12 @@
+pub mod WriteFacts
 pub mod PackedFacts
 pub mod PoolFacts
-pub mod SegmentFacts
+pub mod ExtentFacts
+pub mod HeldFacts
+pub mod FillFacts
+pub mod ChangeFacts
+pub mod SlotFacts
+pub mod CommitFacts
+pub mod AddressFacts
+pub mod FreshFacts
+pub mod StringFacts

@@ -1,4 +1,8 @@
 -- What the clauses of this crate cite.
+pub mod Spelling
+pub mod Laws
 pub mod Strings
-pub mod Segments
+pub mod Extents
 pub mod Free
+pub mod Ring
+pub mod Kept

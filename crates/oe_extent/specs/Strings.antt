@@ -36,16 +36,18 @@ pub record IsPacked (count fill : ℕ) (bytes : List ℕ) : Type 0 where
   pub size : length bytes ≡ 4096
   pub strings : AreStrings count (take fill bytes)
 
--- a string of these begins there, behind older ones of so many bytes
-pub record HasStringAt (ss : List (List ℕ)) (offset : ℕ) : Type 0 where
+-- the string is one of these and begins there, behind older ones of so many bytes
+pub record BeginsAt (ss : List (List ℕ)) (offset : ℕ) (s : List ℕ) : Type 0 where
   pub newer : List (List ℕ)
-  pub string : List ℕ
   pub older : List (List ℕ)
-  pub parts : ss ≡ newer ++ string ∷ older
+  pub parts : ss ≡ newer ++ s ∷ older
   pub behind : length (joined older) ≡ offset
 
+-- one of these strings begins there
+pub record HasOffset (ss : List (List ℕ)) (offset : ℕ) : Type 0 where
+  pub string : List ℕ
+  pub begins : BeginsAt ss offset string
+
 -- the bytes are the string of these that begins there
-abbrev pub IsStringAt : List (List ℕ) → ℕ → List ℕ → Type 0
-IsStringAt ss offset bytes =
-    (newer older : List (List ℕ)) (s : List ℕ)
-    → ss ≡ newer ++ s ∷ older → length (joined older) ≡ offset → bytes ≡ s
+abbrev pub IsStringFrom : List (List ℕ) → ℕ → List ℕ → Type 0
+IsStringFrom ss offset bytes = (s : List ℕ) → BeginsAt ss offset s → bytes ≡ s

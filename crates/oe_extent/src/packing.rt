@@ -1,10 +1,10 @@
 //! The bytes of an extent, as strings.
 ghost use Rattle.std.specs.Prelude.{◌≡◌, ◌<◌, ◌≤◌, ◌+◌, [], ◌∷◌, length, drop};
-ghost use Rattle.oe_extent.specs.Strings.{last_length, joined, IsFramed, HasStringAt, IsStringAt};
+ghost use Rattle.oe_extent.specs.Strings.{last_length, joined, IsFramed, HasOffset, IsStringFrom};
 
+use crate::spellings::Written;
 use crate::walks::ExtentStrings;
 use byteorder::{BigEndian, ByteOrder};
-use oe_bytes::Written;
 use std::marker::Model;
 
 /// How many bytes an extent has.
@@ -19,7 +19,7 @@ const TOUCHED_LINES: usize = 12;
 /// Byte strings packed from byte 0 of an extent on, which clauses see as their list, the newest first. Each string is framed: its
 /// length stands in its first two bytes and in its last two. No call takes memory.
 #[derive(Drop)]
-pub struct PackedStrings {
+pub(crate) struct PackedStrings {
     bytes: [u8; SIZE],
     // How many bytes from the front on the strings fill, and how many strings these are.
     fill: usize,
@@ -56,7 +56,7 @@ fn zeros() -> [u8; SIZE]
 
 impl PackedStrings {
     /// No strings.
-    pub fn new() -> Self
+    pub(crate) fn new() -> Self
         ensures { result ≡ [] }
     {
         PackedStrings {
@@ -81,7 +81,7 @@ impl PackedStrings {
 
     /// How many bytes are left behind the strings: 0 to 4,096.
     #[inline(always)]
-    pub fn rest(&self) -> usize
+    pub(crate) fn rest(&self) -> usize
         ensures { result + length (joined self.now) ≡ 4096 }
     {
         SIZE - self.fill
@@ -89,7 +89,7 @@ impl PackedStrings {
 
     /// The offset at which the next string begins: 0 to 4,096.
     #[inline(always)]
-    pub fn end(&self) -> usize
+    pub(crate) fn end(&self) -> usize
         ensures value { result ≡ length (joined self.now) }
         ensures most { result ≤ 4096 }
     {
@@ -98,7 +98,7 @@ impl PackedStrings {
 
     /// How many strings there are.
     #[inline(always)]
-    pub fn len(&self) -> usize
+    pub(crate) fn len(&self) -> usize
         ensures { result ≡ length self.now }
     {
         self.count
@@ -106,7 +106,7 @@ impl PackedStrings {
 
     /// Appends a string, which is written where it is to stand.
     #[inline(always)]
-    pub fn push<S: Written>(&mut self, string: &S)
+    pub(crate) fn push<S: Written>(&mut self, string: &S)
         requires framed { IsFramed (S.spelling string.now) }
         requires room { length (joined self.old) + length (S.spelling string.now) ≤ 4096 }
         ensures { self.new ≡ S.spelling string.now ∷ self.old }
@@ -117,7 +117,7 @@ impl PackedStrings {
 
     /// The newest string, where it stands.
     #[inline]
-    pub fn newest(&self) -> &[u8]
+    pub(crate) fn newest(&self) -> &[u8]
         requires { 0 < length self.now }
         ensures { self.now ≡ result.now ∷ drop 1 self.now }
     {
@@ -126,7 +126,7 @@ impl PackedStrings {
     }
 
     /// Its strings, the newest first, where they stand.
-    pub fn strings(&self) -> ExtentStrings<'_>
+    pub(crate) fn strings(&self) -> ExtentStrings<'_>
         ensures { result ≡ self.now }
     {
         ExtentStrings {
@@ -137,7 +137,7 @@ impl PackedStrings {
 
     /// Takes the newest string off.
     #[inline]
-    pub fn pop(&mut self)
+    pub(crate) fn pop(&mut self)
         requires { 0 < length self.old }
         ensures { self.new ≡ drop 1 self.old }
     {
@@ -146,7 +146,7 @@ impl PackedStrings {
     }
 
     /// Gives up all strings.
-    pub fn clear(&mut self)
+    pub(crate) fn clear(&mut self)
         ensures { self.new ≡ [] }
     {
         self.fill = 0;
@@ -155,9 +155,9 @@ impl PackedStrings {
 
     /// The string that begins at that offset, where it stands.
     #[inline]
-    pub fn at(&self, offset: usize) -> &[u8]
-        requires { HasStringAt self.now offset }
-        ensures { IsStringAt self.now offset result.now }
+    pub(crate) fn at(&self, offset: usize) -> &[u8]
+        requires { HasOffset self.now offset }
+        ensures { IsStringFrom self.now offset result.now }
     {
         let size = BigEndian::read_u16(&self.bytes[offset..]) as usize;
         &self.bytes[offset..offset + size]

@@ -1,4 +1,4 @@
-//! The extents that no segment has.
+//! The extents that no list has.
 //!
 //! All extents are made with the pool. A free one lies at its number, and one that was taken leaves `None` there; by the invariant
 //! they are counted, so that a pool without a free one is seen at once. Only `new` takes memory, and may be refused it; that no
@@ -6,15 +6,15 @@
 ghost use Rattle.std.specs.Prelude.{◌≡◌, ◌<◌, ◌≤◌, ℕ, true, length, map, is_some, replicate, set, IfOk, IfSome, IfNone};
 ghost use Rattle.std.specs.List.{AllByRecursion};
 ghost use Rattle.oe_extent.specs.Free.{AllTaken, IsFirstFree, IsNextFree, taken_at, given_at, all_given};
-ghost use Rattle.oe_extent.specs.Segments.{number_of, numbers_of, IsFreshAt};
+ghost use Rattle.oe_extent.specs.Extents.{number_of, numbers_of, IsEmptyExtent};
 
-use crate::segments::{Extent, Segment};
+use crate::extents::{Extent, ExtentList};
 use std::alloc::{AllocError, Global};
 use std::marker::Model;
 
 /// The extents that are free, by number, and where the search for the next one begins.
 #[derive(Drop)]
-pub struct Pool {
+pub(crate) struct Pool {
     extents: Vec<Option<Box<Extent>>>,
     free_count: usize,
     cursor: usize,
@@ -63,7 +63,7 @@ fn next_free(extents: &[Option<Box<Extent>>], cursor: usize) -> Option<usize>
 
 impl Pool {
     /// So many extents, all free, numbered from 0; an error where memory is refused.
-    pub fn new(alloc: Global, count: usize) -> Result<Pool, AllocError>
+    pub(crate) fn new(alloc: Global, count: usize) -> Result<Pool, AllocError>
         ensures free { IfOk result (λ p. p.is_free ≡ replicate count true) }
         ensures cursor { IfOk result (λ p. p.cursor ≡ 0) }
     {
@@ -81,7 +81,7 @@ impl Pool {
 
     /// How many extents it was made with, whether they are free or taken.
     #[tactic(auto, using(crate::proofs::PoolFacts::as_many))]
-    pub fn len(&self) -> usize
+    pub(crate) fn len(&self) -> usize
         ensures { result ≡ length self.now.is_free }
     {
         self.extents.len()
@@ -90,9 +90,9 @@ impl Pool {
     /// Takes the next free extent from the cursor on, and behind the last from 0 on, and answers it with its number. `None` where
     /// none is free.
     #[inline(never)]
-    pub fn take(&mut self) -> Option<(usize, Box<Extent>)>
+    pub(crate) fn take(&mut self) -> Option<(usize, Box<Extent>)>
         ensures next { IfSome result (λ e. IsNextFree self.old.is_free self.old.cursor e.0) }
-        ensures fresh { IfSome result (λ e. IsFreshAt e.0 e.1.value) }
+        ensures fresh { IfSome result (λ e. IsEmptyExtent e.0 e.1.value) }
         ensures taken { IfSome result (λ e. self.new ≡ taken_at self.old e.0) }
         ensures none { IfNone result (AllTaken self.old.is_free 0 (length self.old.is_free)) }
         ensures same { IfNone result (self.new ≡ self.old) }
@@ -105,12 +105,12 @@ impl Pool {
         let Some(extent) = taken else { unreachable!() };
         self.free_count -= 1;
         self.cursor = found + 1;
-        self.touched = extent.touch();
+        self.touched = extent.strings.touch();
         Some((found, extent.cleared(found)))
     }
 
     /// Gives an extent back.
-    pub fn give(&mut self, extent: Box<Extent>)
+    pub(crate) fn give(&mut self, extent: Box<Extent>)
         requires { number_of extent.value < length self.old.is_free }
         ensures { self.new ≡ given_at self.old (number_of extent.value) }
     {
@@ -121,13 +121,13 @@ impl Pool {
         }
     }
 
-    /// Gives all extents of a segment back.
-    pub fn give_all(&mut self, segment: Segment)
-        requires { AllByRecursion (λ e. e < length self.old.is_free) (numbers_of segment) }
-        ensures { self.new ≡ all_given self.old (numbers_of segment) }
+    /// Gives all extents of a list back.
+    pub(crate) fn give_all(&mut self, list: ExtentList)
+        requires { AllByRecursion (λ e. e < length self.old.is_free) (numbers_of list) }
+        ensures { self.new ≡ all_given self.old (numbers_of list) }
     {
-        let mut segment = segment;
-        while let Some(extent) = segment.take_newest() {
+        let mut list = list;
+        while let Some(extent) = list.take_newest() {
             self.give(extent);
         }
     }

@@ -1,19 +1,19 @@
 //! Walks over strings, the newest first, where they lie.
 //!
 //! A walk over one extent keeps the front of its bytes that older strings fill, and how many these are; by its invariant they are
-//! framed, so that the last two bytes tell where the newest begins. A walk over a segment has the walk over one extent, and the
-//! extents before that. No call takes memory, and nothing can fail.
+//! framed, so that the last two bytes tell where the newest begins. A walk over a list of extents has the walk over one extent, and
+//! the extents before that. No call takes memory, and nothing can fail.
 ghost use Rattle.std.specs.Prelude.{◌≡◌, []};
 ghost use Rattle.std.specs.Iterator.{YieldsFirstRef, item_count};
-ghost use Rattle.oe_extent.specs.Segments.{all_strings};
+ghost use Rattle.oe_extent.specs.Extents.{all_strings};
 
+use crate::extents::{Extent, ExtentList};
 use crate::packing::last_size;
-use crate::segments::{Extent, Segment};
 use std::marker::Model;
 
 /// The strings of one extent that are left, the newest first.
 #[derive(Drop)]
-pub struct ExtentStrings<'a> {
+pub(crate) struct ExtentStrings<'a> {
     pub(crate) bytes: &'a [u8],
     pub(crate) count: usize,
 }
@@ -55,7 +55,7 @@ impl<'a> ExtentStrings<'a> {
     }
 }
 
-/// The strings of a segment that are left, the newest first, over all its extents.
+/// The strings of a list of extents that are left, the newest first.
 #[derive(Drop)]
 pub struct Strings<'a> {
     newest: ExtentStrings<'a>,
@@ -64,7 +64,7 @@ pub struct Strings<'a> {
 
 impl<'a> Model for Strings<'a> {
     ghost use Rattle.std.specs.Prelude.{ℕ, List, ◌++◌};
-    ghost use Rattle.oe_extent.specs.Segments.{contents_of, all_strings};
+    ghost use Rattle.oe_extent.specs.Extents.{contents_of, all_strings};
 
     ghost Value = { List (List ℕ) };
 
@@ -92,9 +92,9 @@ impl<'a> Iterator for Strings<'a> {
     }
 }
 
-impl Segment {
+impl ExtentList {
     /// All its strings, the newest first, where they stand.
-    pub fn strings(&self) -> Strings<'_>
+    pub(crate) fn strings(&self) -> Strings<'_>
         ensures { result ≡ all_strings self.now }
     {
         Strings {

@@ -6,7 +6,7 @@ use Rattle.std.proofs.lemmas.Bool.Decides.{nat_tests}
 use Rattle.std.proofs.lemmas.List.{drop_at, take-append-drop, length-append, get_or-drop}
 use Rattle.byteorder.specs.Endian.{big_bytes, big_number}
 use Rattle.byteorder.specs.Numbers.{big_from-lt, big_number-reads_back, length-bytes_high_first}
-use Rattle.oe_bytes.specs.Spelling.{number, number_at}
+use Rattle.oe_extent.specs.Spelling.{number, number_at}
 use Rattle.oe_image.specs.Fronts.{IsBytes, IsExact, ◌>>=◌, kept, seen, pair_at, is_from, ranged_at}
 use Rattle.oe_image.proofs.NumberFacts.{number_back}
 

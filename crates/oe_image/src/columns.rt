@@ -1,12 +1,12 @@
 //! What has an image: columns, and columns one after another. A column writes its image at its offset, so that no buffer lies
 //! between.
 ghost use Rattle.std.specs.Prelude.{◌≡◌, ◌≤◌, ◌+◌, ◌++◌, ℕ, List, length};
-ghost use Rattle.oe_bytes.specs.Spelling.{Writes, number};
+ghost use Rattle.oe_extent.specs.Spelling.{Writes, number};
 ghost use Rattle.oe_image.specs.Columns.{text, optional, flag, credit};
 
-use oe_bytes::bounded::write_bounded_run;
-use oe_bytes::numbers::write_number;
-use oe_bytes::runs::write_run;
+use oe_extent::bounded::write_bounded_run;
+use oe_extent::numbers::write_number;
+use oe_extent::runs::write_run;
 use oe_rows::customers::Credit;
 use oe_values::texts::Text;
 

@@ -5,8 +5,8 @@ ghost use Rattle.std.specs.Option.{option_map};
 ghost use Rattle.oe_image.specs.Fronts.{ranged_at};
 ghost use Rattle.oe_image.specs.ColumnFronts.{stamp_at, balance_at, checked, text_at, carrier_at, delivery_at, flag_at, credit_at};
 
-use oe_bytes::numbers::read_number;
-use oe_bytes::runs::read_run;
+use oe_extent::numbers::read_number;
+use oe_extent::runs::read_run;
 use oe_rows::customers::Credit;
 use oe_values::numbers::{Amount, Balance, Carrier, Number};
 use oe_values::stamps::Stamp;

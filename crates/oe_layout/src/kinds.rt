@@ -3,7 +3,7 @@ ghost use Rattle.std.specs.Prelude.{◌≡◌};
 ghost use Rattle.std.specs.Option.{option_map};
 ghost use Rattle.oe_layout.specs.Kinds.{kind_numbers, kind_image, inserted_in, updated_in, kind_of_numbers, kind_at};
 
-use oe_bytes::numbers::read_number;
+use oe_extent::numbers::read_number;
 use oe_image::Imaged;
 
 /// What was done to a row of which table, of the changes that the standard's transactions make (clauses 2.4.2, 2.5.2 and 2.7.4).

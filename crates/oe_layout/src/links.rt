@@ -3,7 +3,7 @@ ghost use Rattle.std.specs.Prelude.{◌≡◌, ◌≤◌};
 ghost use Rattle.std.specs.Option.{option_map};
 ghost use Rattle.oe_layout.specs.Links.{link_numbers, previous_image, at_address, nothing_at, previous_of, previous_at};
 
-use oe_bytes::numbers::read_number;
+use oe_extent::numbers::read_number;
 use oe_image::Imaged;
 use oe_values::numbers::{Moment, Number};
 

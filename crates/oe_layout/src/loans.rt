@@ -1,6 +1,6 @@
 //! Undo records whose rows are lent from where they lie, to be written.
 ghost use Rattle.std.specs.Prelude.{◌≡◌, ◌≤◌, ◌+◌, length};
-ghost use Rattle.oe_bytes.specs.Spelling.{Writes};
+ghost use Rattle.oe_extent.specs.Spelling.{Writes};
 ghost use Rattle.oe_extent.specs.Strings.{IsFramed};
 ghost use Rattle.oe_layout.specs.Kinds.{kind_of};
 ghost use Rattle.oe_model.specs.Changes.{record_key};
@@ -9,7 +9,7 @@ ghost use Rattle.oe_layout.specs.Records.{contents, record_image, record_of_lent
 
 use crate::kinds::RecordKind;
 use crate::links::Previous;
-use oe_bytes::Written;
+use oe_extent::Written;
 use oe_image::Imaged;
 use oe_keys::{
     CustomerKey, DistrictKey, HistoryKey, Key, NewOrderKey, OrderKey, OrderLineKey, StockKey,

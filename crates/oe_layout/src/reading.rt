@@ -7,7 +7,7 @@ ghost use Rattle.oe_layout.specs.declared.kinds.RecordKind.TheVariants as kind;
 use crate::kinds::{RecordKind, read_kind};
 use crate::links::{Previous, read_previous};
 use crate::records::OwnRecord;
-use oe_bytes::numbers::read_number;
+use oe_extent::numbers::read_number;
 use oe_image::customers::read_customer;
 use oe_image::items::read_stock;
 use oe_image::keys::{

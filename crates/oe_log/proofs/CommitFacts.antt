@@ -2,7 +2,7 @@
 use Rattle.std.proofs.Common.{◌≡◌, ℕ, zero, suc, ◌+◌, ◌-◌, ◌<◌, ◌≤◌, List, [], ◌∷◌, ◌++◌, length, map, drop, take, get_or, set, refl, sym, ap, ◌∙◌, subst, arith}
 use Rattle.std.specs.List.{AllByRecursion}
 use Rattle.std.proofs.lemmas.List.{length-map, length-set, map-set}
-use Rattle.oe_ring.specs.Segments as ring
+use Rattle.oe_extent.specs.Ring as ring
 use Rattle.oe_log.specs.Log as log
 use Rattle.oe_log.specs.Kept.{records_in, AreRecords, stored, IsLog}
 use Rattle.oe_log.proofs.RecordFacts.{at_slot, are_at, are_set, none_in}
@@ -44,8 +44,8 @@ shorter zero xs = omega arith
 shorter (suc n) [] = omega arith
 shorter (suc n) (x ∷ xs) = omega (arith, shorter n xs)
 
-module _ (r : ring.Segments) (lens cls : List ℕ) (capacity opens newest : ℕ) (k : IsLog r lens cls capacity opens newest) where
-  pub sealed : (t n room' opens' newest' : ℕ) (r' : ring.Segments) (lens' cls' : List ℕ) (capacity' : ℕ) → t < 65 → n ≡ get_or lens t n → 0 < opens
+module _ (r : ring.RingStrings) (lens cls : List ℕ) (capacity opens newest : ℕ) (k : IsLog r lens cls capacity opens newest) where
+  pub sealed : (t n room' opens' newest' : ℕ) (r' : ring.RingStrings) (lens' cls' : List ℕ) (capacity' : ℕ) → t < 65 → n ≡ get_or lens t n → 0 < opens
       → r' ≡ record (ring.sealed_at r t) { room = room' } → room' + 1 ≡ r.room → lens' ≡ set lens t 0 → cls' ≡ n ∷ cls → capacity' ≡ capacity
       → opens' ≡ opens - 1 → newest' ≡ suc newest
       → Stands r' lens' cls' capacity' opens' newest' (log.sealed (stored r opens newest) t)
@@ -73,7 +73,7 @@ module _ (r : ring.Segments) (lens cls : List ℕ) (capacity opens newest : ℕ)
         };
       }
 
-  pub without_oldest : (room' : ℕ) (r' : ring.Segments) (cls' : List ℕ) (capacity' : ℕ) → r' ≡ ring.without_oldest r room'
+  pub without_oldest : (room' : ℕ) (r' : ring.RingStrings) (cls' : List ℕ) (capacity' : ℕ) → r' ≡ ring.without_oldest r room'
       → ring.capacity_of r' ≡ ring.capacity_of r → cls' ≡ take (length cls - 1) cls → capacity' ≡ capacity
       → Stands r' lens cls' capacity' opens newest (log.without_oldest (stored r opens newest))
   without_oldest room' r' cls' capacity' er eroom ec ecap =
@@ -84,7 +84,7 @@ module _ (r : ring.Segments) (lens cls : List ℕ) (capacity opens newest : ℕ)
       ∙ sym (take_map (λ (ss : List (ring.Addressed)). length ss) (length r.committed - 1) r.committed))
       ∙ length-map (take (length r.committed - 1) r.committed) (λ (ss : List (ring.Addressed)). length ss) in
       let room : length (take (length r.committed - 1) r.committed) + room' ≡ length r.committed + r.room =
-      subst (λ (v : ring.Segments). ring.capacity_of v ≡ ring.capacity_of r) er eroom in
+      subst (λ (v : ring.RingStrings). ring.capacity_of v ≡ ring.capacity_of r) er eroom in
       rw (er, ecap)
       record {
         kept = record {
@@ -120,14 +120,14 @@ module _ (r : ring.Segments) (lens cls : List ℕ) (capacity opens newest : ℕ)
   pub kept_count : length cls ≡ length (map records_in r.committed)
   kept_count = omega (arith, length-map r.committed records_in, ap length k.committed_lens_are, length-map r.committed (λ (ss : List (ring.Addressed)). length ss))
 
-  pub reopened : (t n room' opens' newest' : ℕ) (r' : ring.Segments) (lens' cls' : List ℕ) (capacity' : ℕ) → cls ≡ n ∷ cls'
+  pub reopened : (t n room' opens' newest' : ℕ) (r' : ring.RingStrings) (lens' cls' : List ℕ) (capacity' : ℕ) → cls ≡ n ∷ cls'
       → r' ≡ record (ring.reopened_at r t) { room = room' } → ring.capacity_of r' ≡ ring.capacity_of r → lens' ≡ set lens t n → capacity' ≡ capacity
       → opens' ≡ suc opens → newest' ≡ newest - 1
       → Stands r' lens' cls' capacity' opens' newest' (log.reopened (stored r opens newest) t)
   reopened t n room' opens' newest' r' lens' cls' capacity' ec er eroom ed ecap eo en =
       let f = first_is r.committed n cls' (sym ec ∙ k.committed_lens_are) in
       let room : length (drop 1 r.committed) + room' ≡ length r.committed + r.room =
-      subst (λ (v : ring.Segments). ring.capacity_of v ≡ ring.capacity_of r) er eroom in
+      subst (λ (v : ring.RingStrings). ring.capacity_of v ≡ ring.capacity_of r) er eroom in
       let ss = get_or r.committed 0 [] in
       rw (er, ecap)
       record {

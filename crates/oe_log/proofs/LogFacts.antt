@@ -2,8 +2,8 @@
 use Rattle.std.proofs.Common.{◌≡◌, ℕ, zero, suc, ◌+◌, ◌-◌, ◌<◌, ◌≤◌, List, [], ◌∷◌, length, map, drop, take, get_or, set, replicate, None, refl, sym, ap, ◌∙◌, subst, arith}
 use Rattle.std.specs.List.{AllByRecursion}
 use Rattle.std.proofs.lemmas.List.{length-map, length-set, map-set, get_or-map, get_or-set_same, length-replicate, length-drop}
-use Rattle.oe_extent.specs.declared.segments.Address.{Address}
-use Rattle.oe_ring.specs.Segments as ring
+use Rattle.oe_extent.specs.declared.extents.Address.{Address}
+use Rattle.oe_extent.specs.Ring as ring
 use Rattle.oe_log.specs.Log as log
 use Rattle.oe_log.specs.Log.{no_lens, no_lists}
 use Rattle.oe_log.specs.Kept.{record_address, records_in, AreRecords, stored, IsLog}
@@ -15,7 +15,7 @@ use Rattle.oe_log.proofs.RecordFacts.{length_is, older_is, older_are, at_slot, a
 use Rattle.oe_log.proofs.RoomFacts.{few}
 
 -- the log keeps its promise, and is seen so
-pub record Stands (r : ring.Segments) (lens cls : List ℕ) (capacity opens newest : ℕ) (v : log.RingLog) : Type 0 where
+pub record Stands (r : ring.RingStrings) (lens cls : List ℕ) (capacity opens newest : ℕ) (v : log.RingLog) : Type 0 where
   pub kept : IsLog r lens cls capacity opens newest
   pub view : stored r opens newest ≡ v
 
@@ -36,8 +36,8 @@ none_are : (n : ℕ) → AllByRecursion AreRecords (replicate n [])
 none_are zero = tt
 none_are (suc n) = (tt, none_are n)
 
-new_at : (slots extents room capacity : ℕ) (r : ring.Segments) (lens cls : List ℕ) → slots ≡ 65 → extents ≤ 4096
-    → r ≡ record (ring.no_segments extents slots) { room = room } → lens ≡ replicate slots 0 → cls ≡ []
+new_at : (slots extents room capacity : ℕ) (r : ring.RingStrings) (lens cls : List ℕ) → slots ≡ 65 → extents ≤ 4096
+    → r ≡ record (ring.no_strings extents slots) { room = room } → lens ≡ replicate slots 0 → cls ≡ []
     → IsLog r lens cls capacity 0 0 × (stored r 0 0 ≡ record { extents = extents; opens = 0; active = replicate slots []; committed = []; newest = 0 })
 new_at slots extents room capacity r lens cls e most er el ec =
     rw (er, el, ec) (
@@ -55,8 +55,8 @@ new_at slots extents room capacity r lens cls e most er el ec =
       ap (λ (l : List (List (log.Logged))). record { extents = extents; opens = 0; active = l; committed = []; newest = 0 }) (map_none slots),
     )
 
-pub new_is : (extents room capacity : ℕ) (r : ring.Segments) (lens cls : List ℕ) → extents ≤ 4096
-    → r ≡ record (ring.no_segments extents 65) { room = room } → lens ≡ no_lens → cls ≡ [] → Stands r lens cls capacity 0 0 (log.no_records extents)
+pub new_is : (extents room capacity : ℕ) (r : ring.RingStrings) (lens cls : List ℕ) → extents ≤ 4096
+    → r ≡ record (ring.no_strings extents 65) { room = room } → lens ≡ no_lens → cls ≡ [] → Stands r lens cls capacity 0 0 (log.no_records extents)
 unfolding no_lens no_lists
 new_is extents room capacity r lens cls most er el ec =
     let n = new_at 65 extents room capacity r lens cls refl most er el ec in
@@ -76,7 +76,7 @@ set_none (x ∷ xs) (suc t) e = ap (λ (ys : List (List (log.Logged))). x ∷ ys
 pub none_there : (rs : List (log.Logged)) → length rs ≡ 0 → None ≡ log.newest_of rs
 none_there rs e = sym (ap log.newest_of (none_of rs e))
 
-module _ (r : ring.Segments) (lens cls : List ℕ) (capacity opens newest : ℕ) (k : IsLog r lens cls capacity opens newest) where
+module _ (r : ring.RingStrings) (lens cls : List ℕ) (capacity opens newest : ℕ) (k : IsLog r lens cls capacity opens newest) where
   pub len_at : (t n : ℕ) → t < 65 → n ≡ get_or lens t n → n ≡ length (get_or r.active t [])
   len_at t n lt e =
       let within : t < length r.active = omega (arith, lt, k.slots) in
@@ -92,7 +92,7 @@ module _ (r : ring.Segments) (lens cls : List ℕ) (capacity opens newest : ℕ)
       omega (arith, lt, e, k.slots)
 
   -- other records of a slot
-  pub changed : (t n : ℕ) (r' : ring.Segments) (lens' : List ℕ) (ss : List (ring.Addressed)) (rs : List (log.Logged)) → AreRecords ss
+  pub changed : (t n : ℕ) (r' : ring.RingStrings) (lens' : List ℕ) (ss : List (ring.Addressed)) (rs : List (log.Logged)) → AreRecords ss
       → r' ≡ record r { active = set r.active t ss } → lens' ≡ set lens t n → n ≡ length ss → records_in ss ≡ rs
       → Stands r' lens' cls capacity opens newest (log.with_records (stored r opens newest) t rs)
   changed t n r' lens' ss rs are er el en es =
@@ -113,7 +113,7 @@ module _ (r : ring.Segments) (lens cls : List ℕ) (capacity opens newest : ℕ)
         view = ap (λ (l : List (List (log.Logged))). record (stored r opens newest) { active = l }) (map-set records_in r.active t ss ∙ ap (set (map records_in r.active) t) es);
       }
 
-  pub popped : (t n : ℕ) (r' : ring.Segments) → t < 65 → n ≡ get_or lens t n → r' ≡ ring.popped_at r t
+  pub popped : (t n : ℕ) (r' : ring.RingStrings) → t < 65 → n ≡ get_or lens t n → r' ≡ ring.popped_at r t
       → Stands r' (set lens t (n - 1)) cls capacity opens newest (log.popped (stored r opens newest) t)
   popped t n r' lt e er =
       let ss = get_or r.active t [] in
@@ -128,7 +128,7 @@ module _ (r : ring.Segments) (lens cls : List ℕ) (capacity opens newest : ℕ)
       sym (ap (λ (l : List (List (log.Logged))). record (stored r opens newest) { active = l })
       (ap (λ (l : List (log.Logged)). set (map records_in r.active) t (drop 1 l)) none ∙ set_none (map records_in r.active) t none))
 
-  pub pushed : (t n : ℕ) (r' : ring.Segments) (a : Address) (p : Previous) (l : LentRecord) → t < 65 → n ≡ get_or lens t n
+  pub pushed : (t n : ℕ) (r' : ring.RingStrings) (a : Address) (p : Previous) (l : LentRecord) → t < 65 → n ≡ get_or lens t n
       → IsPrevious p → IsInRanges (record_of_lent l) → r' ≡ ring.pushed_at r t a (record_image p (record_of_lent l))
       → Stands r' (set lens t (n + 1)) cls capacity opens newest (log.pushed (stored r opens newest) t (log.logged (record_address a) p (record_of_lent l)))
   pushed t n r' a p l lt e hp hb er =
@@ -142,16 +142,16 @@ module _ (r : ring.Segments) (lens cls : List ℕ) (capacity opens newest : ℕ)
       ∙ ap (λ (rs : List (log.Logged)). log.logged (record_address a) p (record_of_lent l) ∷ rs) (sym (at_slot r.active t)))
 
   -- which are not more than fit a word
-  pub pushed_few : (t n : ℕ) (r' : ring.Segments) (a : Address) (p : Previous) (l : LentRecord) → t < 65 → n ≡ get_or lens t n
+  pub pushed_few : (t n : ℕ) (r' : ring.RingStrings) (a : Address) (p : Previous) (l : LentRecord) → t < 65 → n ≡ get_or lens t n
       → IsPrevious p → IsInRanges (record_of_lent l) → r' ≡ ring.pushed_at r t a (record_image p (record_of_lent l)) → ring.used_of r' ≤ r'.extents
       → n + 1 ≤ 16_777_216
   pushed_few t n r' a p l lt e hp hb er used =
       let ss = get_or r.active t [] in
       let s : ring.Addressed = record { address = a; bytes = record_image p (record_of_lent l) } in
       let there : get_or r'.active t [] ≡ s ∷ ss =
-      ap (λ (v : ring.Segments). get_or v.active t []) er ∙ get_or-set_same r.active t (s ∷ ss) [] (omega (arith, lt, k.slots)) in
+      ap (λ (v : ring.RingStrings). get_or v.active t []) er ∙ get_or-set_same r.active t (s ∷ ss) [] (omega (arith, lt, k.slots)) in
       let are : AreRecords (get_or r'.active t []) = subst AreRecords (sym there) (written_is p l hp hb, are_at r.active t k.active_are) in
-      let most : r'.extents ≤ 4096 = subst (λ (v : ring.Segments). v.extents ≤ 4096) (sym er) k.extents in
+      let most : r'.extents ≤ 4096 = subst (λ (v : ring.RingStrings). v.extents ≤ 4096) (sym er) k.extents in
       omega (arith, few r' t are used most, ap length there, len_at t n lt e)
 
   pub fresh : (a : Address) → ring.IsFresh r a → log.IsFresh (stored r opens newest) (record_address a)

@@ -1,7 +1,7 @@
 -- The string of the ring at a record's address is that record.
 use Rattle.std.proofs.Common.{◌≡◌, ℕ, inl, inr, List, [], ◌∷◌, map, get_or, sym, ap, ◌∙◌, subst}
 use Rattle.std.specs.List.{AllByRecursion}
-use Rattle.oe_ring.specs.Segments as ring
+use Rattle.oe_extent.specs.Ring as ring
 use Rattle.oe_model.specs.Changes.{Record}
 use Rattle.oe_layout.specs.declared.links.RecordAddress.{RecordAddress}
 use Rattle.oe_layout.specs.declared.links.Previous.{Previous}

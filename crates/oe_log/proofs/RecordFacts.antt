@@ -1,8 +1,8 @@
 -- Strings of the ring that are records.
 use Rattle.std.proofs.Common.{◌≡◌, ℕ, zero, suc, ◌<◌, List, [], ◌∷◌, length, map, drop, get_or, set, Option, Some, option_map, refl, sym, ap, ◌∙◌, subst, arith}
 use Rattle.std.specs.List.{AllByRecursion}
-use Rattle.oe_extent.specs.declared.segments.Address.{Address}
-use Rattle.oe_ring.specs.Segments as ring
+use Rattle.oe_extent.specs.declared.extents.Address.{Address}
+use Rattle.oe_extent.specs.Ring as ring
 use Rattle.oe_model.specs.Changes.{Record}
 use Rattle.oe_layout.specs.declared.links.RecordAddress.{RecordAddress}
 use Rattle.oe_layout.specs.declared.links.Previous.{Previous}

@@ -5,8 +5,8 @@ use Rattle.std.specs.List.{AllByRecursion, sum_by}
 use Rattle.std.proofs.lemmas.Bool.{leb-true, cases_lt}
 use Rattle.std.proofs.lemmas.List.{length-map}
 use Rattle.std.proofs.lemmas.List.Sums.{sum_by-cons}
-use Rattle.oe_ring.proofs.PackingFacts.{not_le}
-use Rattle.oe_ring.specs.Segments as ring
+use Rattle.oe_extent.proofs.FillFacts.{not_le}
+use Rattle.oe_extent.specs.Ring as ring
 use Rattle.oe_log.specs.Log as log
 use Rattle.oe_log.specs.Kept.{records_in, AreRecords, stored, IsLog}
 use Rattle.oe_log.proofs.RecordFacts.{some_bytes, lengths_are, at_slot, are_at}
@@ -32,7 +32,7 @@ one_of_sum (x ∷ xs) zero = omega (arith, sum_by-cons (λ ss. (ring.filled (rin
 one_of_sum (x ∷ xs) (suc t) = omega (arith, one_of_sum xs t, sum_by-cons (λ ss. (ring.filled (ring.lengths_of ss)).0) x xs)
 
 -- a slot has no more records than bytes
-pub few : (r : ring.Segments) (t : ℕ) → AreRecords (get_or r.active t []) → ring.used_of r ≤ r.extents → r.extents ≤ 4096
+pub few : (r : ring.RingStrings) (t : ℕ) → AreRecords (get_or r.active t []) → ring.used_of r ≤ r.extents → r.extents ≤ 4096
     → length (get_or r.active t []) ≤ 16_777_216
 few r t h used most = omega (arith, counted (get_or r.active t []) h, one_of_sum r.active t, used, most)
 
@@ -51,7 +51,7 @@ same_used (x ∷ xs) h =
       sum_by-cons (λ ss. (ring.filled (ring.lengths_of ss)).0) x xs,
     )
 
-module _ (r : ring.Segments) (opens newest t n : ℕ) (active : AllByRecursion AreRecords r.active) (committed : AllByRecursion AreRecords r.committed) where
+module _ (r : ring.RingStrings) (opens newest t n : ℕ) (active : AllByRecursion AreRecords r.active) (committed : AllByRecursion AreRecords r.committed) where
   same_rest : (ring.filled (log.lengths (log.records_at (stored r opens newest) t))).1 ≡ (ring.filled (ring.lengths_of (get_or r.active t []))).1
   same_rest =
       ap (λ (ls : List ℕ). (ring.filled ls).1)

@@ -2,7 +2,7 @@
 use Rattle.std.proofs.Common.{◌≡◌, ℕ, List, [], ◌∷◌, map, get_or, refl, sym, ap, ◌∙◌}
 use Rattle.std.specs.List.{AllByRecursion}
 use Rattle.oe_model.specs.Changes.{Record}
-use Rattle.oe_ring.specs.Segments as ring
+use Rattle.oe_extent.specs.Ring as ring
 use Rattle.oe_layout.specs.Records.{record_of_own}
 use Rattle.oe_layout.specs.Stored.{told, IsStoredRecord}
 use Rattle.oe_layout.proofs.StoredFacts.{told_is}

@@ -2,8 +2,8 @@
 use Rattle.std.specs.Prelude.{◌≡◌, ◌≤◌, ◌+◌, ℕ, suc, List, [], ◌∷◌, length, map, Option, None, Some}
 use Rattle.std.specs.List.{AllByRecursion}
 use Rattle.oe_values.specs.declared.numbers.TheConstants.{TERMINALS}
-use Rattle.oe_extent.specs.declared.segments.Address.{Address}
-use Rattle.oe_ring.specs.Segments.{Addressed, Segments}
+use Rattle.oe_extent.specs.declared.extents.Address.{Address}
+use Rattle.oe_extent.specs.Ring.{Addressed, RingStrings}
 use Rattle.oe_layout.specs.declared.links.RecordAddress.{RecordAddress}
 use Rattle.oe_layout.specs.declared.links.Previous.{Previous}
 use Rattle.oe_layout.specs.declared.records.OwnRecord.{OwnRecord}
@@ -30,7 +30,7 @@ records_in (s ∷ ss) = before_others s.address (record_at s.bytes) (records_in 
 abbrev pub AreRecords : List Addressed → Type 0
 AreRecords ss = AllByRecursion (λ s. IsStoredRecord s.bytes) ss
 
-abbrev pub stored : Segments → ℕ → ℕ → RingLog
+abbrev pub stored : RingStrings → ℕ → ℕ → RingLog
 stored r opens newest =
     record {
       extents = r.extents;
@@ -40,7 +40,7 @@ stored r opens newest =
       newest = newest;
     }
 
-pub record IsLog (r : Segments) (lens committed_lens : List ℕ) (capacity opens newest : ℕ) : Type 0 where
+pub record IsLog (r : RingStrings) (lens committed_lens : List ℕ) (capacity opens newest : ℕ) : Type 0 where
   pub slots : length r.active ≡ suc TERMINALS
   pub extents : r.extents ≤ 4096
   pub lens_are : lens ≡ map (λ ss. length ss) r.active

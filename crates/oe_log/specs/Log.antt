@@ -3,7 +3,7 @@ use Rattle.std.specs.Prelude.{◌≡◌, ◌≢◌, ◌<◌, ◌≤◌, ◌+◌,
 use Rattle.std.specs.List.{AllByRecursion, sum_by}
 use Rattle.oe_values.specs.declared.numbers.TheConstants.{TERMINALS}
 use Rattle.oe_model.specs.Changes.{Record}
-use Rattle.oe_ring.specs.Segments.{filled}
+use Rattle.oe_extent.specs.Ring.{filled}
 use Rattle.oe_model.specs.Lengths.{record_length}
 use Rattle.oe_layout.specs.declared.links.RecordAddress.{RecordAddress}
 use Rattle.oe_layout.specs.declared.links.Previous.{Previous}

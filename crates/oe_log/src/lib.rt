@@ -9,5 +9,5 @@ pub mod reads;
 pub mod walks;
 
 pub use log::{ExtentCount, Log};
-pub use oe_ring::Full;
+pub use oe_extent::Full;
 pub use walks::Records;

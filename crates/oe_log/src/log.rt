@@ -5,9 +5,8 @@ ghost use Rattle.oe_model.specs.Lengths.{record_length};
 ghost use Rattle.oe_layout.specs.Records.{record_of_own, record_of_lent};
 ghost use Rattle.oe_log.specs.Log.{no_lens, no_records, records_at, newest_of, logged, opened, closed, pushed, popped, IsFull, IsFresh};
 
-use oe_extent::Address;
+use oe_extent::{Address, Full, Ring};
 use oe_layout::{LinkedRecord, OwnRecord, Previous, RecordAddress, read_record};
-use oe_ring::{Full, Ring};
 use oe_table::tables::NoMemory;
 use oe_values::numbers::{Moment, Number, TERMINALS, Terminal};
 use std::alloc::Global;

@@ -6,8 +6,8 @@ ghost use Rattle.std.specs.Iterator.{YieldsFirst, item_count};
 ghost use Rattle.oe_log.specs.Log.{records_at, befores};
 
 use crate::log::Log;
+use oe_extent::Strings;
 use oe_layout::StoredRecord;
-use oe_ring::Strings;
 use oe_values::numbers::Terminal;
 use std::marker::Model;
 

@@ -3,7 +3,7 @@
 ghost use Rattle.std.specs.Prelude.{◌≡◌, length};
 
 use crate::made::{address, order, order_key, queue_entry, stock, warehouse};
-use oe_bytes::Written;
+use oe_extent::Written;
 use oe_layout::{LentRecord, LinkedRecord, OwnRecord, Previous, read_record};
 use oe_values::numbers::Moment;
 

@@ -8,7 +8,7 @@ use Rattle.oe_model.specs.Lengths.{record_length}
 use Rattle.oe_model.specs.System.{machine, InExtents, length_in, terminal_limit}
 use Rattle.oe_theory.specs.Next as theory
 use Rattle.oe_theory.specs.Undo.{lengths_of, used_open, used_commits}
-use Rattle.oe_ring.specs.Segments as ring
+use Rattle.oe_extent.specs.Ring as ring
 use Rattle.oe_log.specs.Log.{Logged, lengths, IsFull, records_at}
 use Rattle.oe_segments.specs.Segments.{SegmentLog, TerminalState, Committed, idle, records_in, records_of, log_of}
 use Rattle.oe_segments.specs.Stands.{model_records, undo_in}

@@ -1,7 +1,7 @@
 -- It is free again.
 use Rattle.std.proofs.Common.{◌<◌, true, false, Bool, List, length, is_some, sym, ap, ◌∙◌, subst, arith}
 use Rattle.oe_extent.specs.Free.{FreeExtents}
-use Rattle.oe_extent.specs.Segments.{number_of}
+use Rattle.oe_extent.specs.Extents.{number_of}
 use Rattle.oe_extent.proofs.PoolFacts.{IsPool-given, free_given}
 use Rattle.oe_extent.proofs.pools.Pool.give.Goals as goal
 

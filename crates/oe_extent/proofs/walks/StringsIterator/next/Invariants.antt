@@ -1,6 +1,6 @@
 -- What is left of the walk is what was left, and older extents are fewer and fewer.
 use Rattle.std.proofs.Common.{◌≡◌, ◌++◌, length}
-use Rattle.oe_extent.specs.Segments.{all_strings, contents_of}
+use Rattle.oe_extent.specs.Extents.{all_strings, contents_of}
 use Rattle.oe_extent.proofs.walks.StringsIterator.next.Given as goal
 
 abbrev pub invariant-loop-string : goal.invariant-loop-string

@@ -1,5 +1,5 @@
 -- The mark, and then the value.
-use Rattle.oe_bytes.proofs.WriteFacts.{Writes-then}
+use Rattle.oe_extent.proofs.WriteFacts.{Writes-then}
 use Rattle.oe_image.proofs.columns.OptionImaged.write.Goals as goal
 
 pub returns-in-Some : goal.returns-in-Some

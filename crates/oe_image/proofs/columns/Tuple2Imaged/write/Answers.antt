@@ -1,5 +1,5 @@
 -- One image behind the other.
-use Rattle.oe_bytes.proofs.WriteFacts.{Writes-then}
+use Rattle.oe_extent.proofs.WriteFacts.{Writes-then}
 use Rattle.oe_image.proofs.columns.Tuple2Imaged.write.Goals as goal
 
 pub returns : goal.returns

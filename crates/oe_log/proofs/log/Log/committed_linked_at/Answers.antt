@@ -1,7 +1,7 @@
 -- The string at a record's address is that record.
 use Rattle.std.proofs.Common.{[], get_or, sym, subst}
-use Rattle.oe_extent.specs.declared.segments.Address.{Address}
-use Rattle.oe_ring.specs.Segments as ring
+use Rattle.oe_extent.specs.declared.extents.Address.{Address}
+use Rattle.oe_extent.specs.Ring as ring
 use Rattle.oe_log.specs.Log.{RingLog, HasAddress, IsAmong, logged}
 use Rattle.oe_log.proofs.ReadFacts.{has_string, is_stored, linked_there}
 use Rattle.oe_log.proofs.log.Log.committed_linked_at.Goals as goal

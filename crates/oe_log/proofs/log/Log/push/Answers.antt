@@ -1,6 +1,6 @@
 -- A record more, or no room for it.
 use Rattle.std.proofs.Common.{◌≡◌, ℕ, length, refl, sym, ◌∙◌, subst, arith, deque_capacity}
-use Rattle.oe_ring.specs.Segments as ring
+use Rattle.oe_extent.specs.Ring as ring
 use Rattle.oe_model.specs.Lengths.{record_length}
 use Rattle.oe_layout.specs.Records.{record_image, record_of_lent}
 use Rattle.oe_log.proofs.RoomFacts.{full_here, full_there}
