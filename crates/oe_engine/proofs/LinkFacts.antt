@@ -2,8 +2,8 @@
 use Rattle.std.proofs.Common.{◌≡◌, sym, subst}
 use Rattle.oe_keys.specs.declared.keys.Key.{Key}
 use Rattle.oe_store.specs.Places.{Places, SamePlaces}
-use Rattle.oe_links.specs.Links.{LinkMaps, HasPlace}
-use Rattle.oe_links.specs.Links as links
+use Rattle.oe_undo.specs.Links.{LinkMaps, HasPlace}
+use Rattle.oe_undo.specs.Links as links
 use Rattle.oe_journal.specs.GivesUp.{GivesUpThose}
 use Rattle.oe_journal.specs.Linked.{AreLinked}
 

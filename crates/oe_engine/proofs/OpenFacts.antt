@@ -5,8 +5,8 @@ use Rattle.oe_keys.specs.declared.keys.Key.{Key}
 use Rattle.oe_keys.specs.declared.keys.Key.TheVariants as key
 use Rattle.oe_keys.specs.declared.keys.Table.{Table}
 use Rattle.oe_keys.specs.declared.keys.Table.TheVariants as table
-use Rattle.oe_links.specs.Links.{LinkMaps, HasPlace, KeepsPlaces, comes_with}
-use Rattle.oe_links.proofs.LinkFacts.{comes_placed}
+use Rattle.oe_undo.specs.Links.{LinkMaps, HasPlace, KeepsPlaces, comes_with}
+use Rattle.oe_undo.proofs.LinkFacts.{comes_placed}
 use Rattle.oe_undo.specs.Undo.{UndoState}
 use Rattle.oe_store.specs.Places.{Places}
 use Rattle.std.specs.List.{AllByRecursion}

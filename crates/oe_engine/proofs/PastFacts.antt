@@ -27,7 +27,7 @@ use Rattle.oe_journal.proofs.BackFacts.{more_places}
 use Rattle.oe_journal.proofs.LeftFacts.{none_in_open, none_in_commits}
 use Rattle.oe_journal.proofs.PurgeFacts.{all_more_places}
 use Rattle.oe_journal.proofs.RewindFacts.{none_open, quiet_still, rewinds}
-use Rattle.oe_links.specs.Links as links
+use Rattle.oe_undo.specs.Links as links
 use Rattle.oe_undo.specs.Undo.{UndoState}
 use Rattle.oe_locks.specs.Held.{Holdings}
 use Rattle.oe_engine.specs.View.{View, view_from}

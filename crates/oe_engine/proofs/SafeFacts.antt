@@ -27,7 +27,7 @@ use Rattle.oe_model.proofs.SystemLaws as model
 use Rattle.oe_store.specs.Places as tables
 use Rattle.oe_segments.specs.Segments as undo
 use Rattle.oe_segments.specs.Stands.{model_records}
-use Rattle.oe_chains.specs.Chains.{HaveNone, IsAlone}
+use Rattle.oe_undo.specs.Chains.{HaveNone, IsAlone}
 use Rattle.oe_locks.specs.Held as locks
 use Rattle.oe_locks.specs.Held.{Holdings}
 use Rattle.oe_engine.specs.View.{View, view_from, opened_view}

@@ -5,7 +5,7 @@ use Rattle.oe_store.specs.Places.{Places}
 use Rattle.std.specs.List.{AllByRecursion}
 use Rattle.oe_store.specs.KeyWalk.{placed_keys}
 use Rattle.std.specs.Prelude.{⊤, Option, None, Some}
-use Rattle.oe_links.specs.Links.{LinkMaps, HasPlace, KeepsPlaces}
+use Rattle.oe_undo.specs.Links.{LinkMaps, HasPlace, KeepsPlaces}
 
 -- each key that has a place in the table has one for its link
 abbrev pub IsLinked : Places → LinkMaps → Table → Type 0

@@ -12,7 +12,7 @@ use Rattle.oe_store.specs.Places as tables
 use Rattle.oe_segments.specs.Segments.{active_at}
 use Rattle.oe_segments.specs.Segments as undo
 use Rattle.oe_segments.specs.Stands.{undo_of, seals_of, counts_of}
-use Rattle.oe_links.specs.Links.{LinkMaps}
+use Rattle.oe_undo.specs.Links.{LinkMaps}
 use Rattle.oe_locks.specs.Held.{Holdings, held}
 
 -- the rows as they are, open work included; the undo records of open transactions and of commits; the commits, newest first; the

@@ -3,17 +3,16 @@
 ghost use Rattle.std.specs.Prelude.{◌≡◌, IfOk, OnOk};
 ghost use Rattle.oe_segments.specs.Segments.{no_segments};
 ghost use Rattle.oe_journal.specs.Linked.{AreLinked};
-ghost use Rattle.oe_links.specs.Links.{KeepsPlaces};
+ghost use Rattle.oe_undo.specs.Links.{KeepsPlaces};
 ghost use Rattle.oe_locks.specs.Held.{IsIdle};
 ghost use Rattle.oe_engine.specs.Opened.{IsLinked, HasWaiting, IsCovered};
 
 use oe_keys::{Key, Table};
-use oe_links::comes_with;
 use oe_locks::Locks;
 use oe_segments::ExtentCount;
 use oe_store::Tables;
 use oe_table::tables::NoMemory;
-use oe_undo::Undo;
+use oe_undo::{Undo, comes_with};
 use std::alloc::Global;
 
 // The tables that are changed: all but ITEM.

@@ -11,17 +11,17 @@ use Rattle.oe_model.specs.System.{system, terminal_limit}
 use Rattle.oe_model.proofs.RowFacts.{key_refl}
 use Rattle.oe_log.specs.Log.{Logged}
 use Rattle.oe_segments.specs.Segments.{SegmentLog, idle, records_in, records_at, total_count}
-use Rattle.oe_chains.specs.declared.links.Link.{Link}
-use Rattle.oe_chains.specs.declared.links.Holder.TheVariants.{Open}
-use Rattle.oe_chains.specs.Held.{Held, held_by, held_open, held_commits, held, of_key, horizon}
-use Rattle.oe_chains.specs.Chains.{IsChain, AreChained}
-use Rattle.oe_chains.specs.Laws.{IsWhole}
-use Rattle.oe_chains.proofs.WalkFacts.{of_key-append}
-use Rattle.oe_links.specs.declared.links.OwnedLink.{OwnedLink}
-use Rattle.oe_links.specs.Links.{place_of, link_in, HasPlace, SamePlaces}
+use Rattle.oe_undo.specs.declared.holders.Link.{Link}
+use Rattle.oe_undo.specs.declared.holders.Holder.TheVariants.{Open}
+use Rattle.oe_undo.specs.Held.{Held, held_by, held_open, held_commits, held, of_key, horizon}
+use Rattle.oe_undo.specs.Chains.{IsChain, AreChained}
+use Rattle.oe_undo.specs.Laws.{IsWhole}
+use Rattle.oe_undo.proofs.ChainWalkFacts.{of_key-append}
+use Rattle.oe_undo.specs.declared.links.OwnedLink.{OwnedLink}
+use Rattle.oe_undo.specs.Links.{place_of, link_in, HasPlace, SamePlaces}
 use Rattle.oe_undo.specs.Owners.{followed}
 use Rattle.oe_undo.specs.Undo.{UndoState, seen, GivesBack}
-use Rattle.oe_links.proofs.LeadFacts.{set_leads}
+use Rattle.oe_undo.proofs.LeadFacts.{set_leads}
 use Rattle.oe_journal.proofs.LinkFacts.{no_links_set}
 
 -- a list that begins with nothing

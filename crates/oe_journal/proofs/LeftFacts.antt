@@ -12,10 +12,10 @@ use Rattle.oe_model.proofs.RowFacts.{key_refl}
 use Rattle.oe_log.specs.Log.{Logged}
 use Rattle.oe_segments.specs.Segments.{SegmentLog, Committed, idle, records_in, records_at, total_count}
 use Rattle.oe_segments.specs.Stands.{model_records, undo_of}
-use Rattle.oe_chains.specs.declared.links.Holder.{Holder}
-use Rattle.oe_chains.specs.declared.links.Holder.TheVariants.{Open, At}
-use Rattle.oe_chains.specs.Held.{Held, held_by, held_open, held_commits, of_key}
-use Rattle.oe_chains.proofs.WalkFacts.{of_key-append}
+use Rattle.oe_undo.specs.declared.holders.Holder.{Holder}
+use Rattle.oe_undo.specs.declared.holders.Holder.TheVariants.{Open, At}
+use Rattle.oe_undo.specs.Held.{Held, held_by, held_open, held_commits, of_key}
+use Rattle.oe_undo.proofs.ChainWalkFacts.{of_key-append}
 use Rattle.oe_journal.specs.GivesUp.{HasNoRecord}
 use Rattle.oe_journal.proofs.ChainedFacts.{none_first, none_after, none_open}
 

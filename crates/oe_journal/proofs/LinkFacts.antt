@@ -5,9 +5,9 @@ use Rattle.oe_model.specs.Rows.{is_key}
 use Rattle.oe_model.proofs.RowFacts.{key_true}
 use Rattle.oe_store.specs.Places.{AddsPlace}
 use Rattle.oe_store.specs.Places as tables
-use Rattle.oe_links.specs.declared.links.OwnedLink.{OwnedLink}
-use Rattle.oe_links.specs.Links.{LinkMaps, place_of, links_of, HasPlace, SetsLink, SamePlaces, LeadsTo}
-use Rattle.oe_links.proofs.LeadFacts.{set_leads}
+use Rattle.oe_undo.specs.declared.links.OwnedLink.{OwnedLink}
+use Rattle.oe_undo.specs.Links.{LinkMaps, place_of, links_of, HasPlace, SetsLink, SamePlaces, LeadsTo}
+use Rattle.oe_undo.proofs.LeadFacts.{set_leads}
 use Rattle.oe_undo.specs.Owners.{followed}
 use Rattle.oe_undo.specs.Undo.{UndoState, seen}
 use Rattle.oe_journal.specs.Linked.{MayChange, AreLinked, SameLinks}

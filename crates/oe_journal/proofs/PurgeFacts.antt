@@ -17,10 +17,10 @@ use Rattle.oe_segments.specs.Segments.{SegmentLog, Committed, committed_records,
 use Rattle.oe_segments.specs.Stands.{model_records, undo_of, DeletesNothing}
 use Rattle.oe_segments.proofs.LawFacts as stands
 use Rattle.oe_segments.proofs.StandsFacts.{totals}
-use Rattle.oe_chains.specs.declared.links.Link.{Link}
-use Rattle.oe_chains.specs.Held.{horizon}
-use Rattle.oe_chains.specs.Chains.{IsEnd, AreChained}
-use Rattle.oe_chains.specs.Laws.{IsWhole, Calls_keep_chains, Ends_without_records}
+use Rattle.oe_undo.specs.declared.holders.Link.{Link}
+use Rattle.oe_undo.specs.Held.{horizon}
+use Rattle.oe_undo.specs.Chains.{IsEnd, AreChained}
+use Rattle.oe_undo.specs.Laws.{IsWhole, Calls_keep_chains, Ends_without_records}
 use Rattle.oe_journal.specs.GoesBack.{AllHavePlaces}
 use Rattle.oe_journal.specs.GivesUp.{IsDelete, HasDelete, IsDeleted, IsDeletedIn, HasNoRecord, GivesUpThose, GivesUpDeleted}
 use Rattle.oe_segments.specs.Moments.{store_with, newest}

@@ -4,7 +4,7 @@ use Rattle.oe_keys.specs.declared.keys.Key.{Key}
 use Rattle.oe_keys.specs.declared.keys.Key.TheVariants as key
 use Rattle.oe_store.specs.Places.{Places}
 use Rattle.oe_store.specs.Places as tables
-use Rattle.oe_links.specs.Links.{LinkMaps, HasPlace}
+use Rattle.oe_undo.specs.Links.{LinkMaps, HasPlace}
 use Rattle.oe_undo.specs.Undo.{UndoState, seen}
 
 -- rows of this key's table are changed; those of ITEM never are

@@ -15,8 +15,8 @@ use Rattle.oe_log.specs.Log.{IsFull}
 use Rattle.oe_segments.specs.Segments.{SegmentLog, active_at, log_of}
 use Rattle.oe_segments.specs.Stands.{undo_of}
 use Rattle.oe_segments.specs.Laws.{StandsWith}
-use Rattle.oe_chains.specs.declared.links.Holder.TheVariants.{Open}
-use Rattle.oe_chains.specs.Chains.{link_from}
+use Rattle.oe_undo.specs.declared.holders.Holder.TheVariants.{Open}
+use Rattle.oe_undo.specs.Chains.{link_from}
 use Rattle.oe_undo.specs.Undo.{UndoState, seen, HasPushed}
 use Rattle.oe_journal.specs.Records.{record_in, record_of_write}
 

@@ -7,18 +7,17 @@ ghost use Rattle.oe_store.specs.Places.{rows};
 ghost use Rattle.oe_segments.specs.Segments.{with_newest, committed_records};
 ghost use Rattle.oe_segments.specs.Stands.{undo_of, model_records};
 ghost use Rattle.oe_segments.specs.Moments.{store_with, newest, IsKeptMoment, IsUnkept};
-ghost use Rattle.oe_chains.specs.Chains.{IsForgotten, IsEnd};
+ghost use Rattle.oe_undo.specs.Chains.{IsForgotten, IsEnd};
 ghost use Rattle.oe_undo.specs.Undo.{seen};
 ghost use Rattle.oe_journal.specs.GivesUp.{IsDeleted, GivesUpThose, GivesUpDeleted};
 
-use oe_chains::Holder;
-use oe_chains::laws::{calls_keep_chains, ends_without_records};
 use oe_keys::{Key, NewOrderKey};
 use oe_layout::StoredRecord;
 use oe_log::Records;
 use oe_requests::Refusal;
 use oe_store::Tables;
-use oe_undo::Undo;
+use oe_undo::laws::{calls_keep_chains, ends_without_records};
+use oe_undo::{Holder, Undo};
 use oe_values::Moment;
 
 /// Gives up the segments of the commits up to a moment, which becomes the horizon, and the places of the NEW-ORDER keys that these

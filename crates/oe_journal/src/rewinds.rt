@@ -7,7 +7,7 @@ ghost use Rattle.oe_store.specs.Places.{rows, SamePlaces};
 ghost use Rattle.oe_segments.specs.Segments.{active_at, open_total};
 ghost use Rattle.oe_segments.specs.Moments.{store_with, newest, IsKeptMoment};
 ghost use Rattle.oe_segments.specs.Stands.{undo_of};
-ghost use Rattle.oe_links.specs.Links as links;
+ghost use Rattle.oe_undo.specs.Links as links;
 ghost use Rattle.oe_journal.specs.GoesBack.{CanUnwindAll, AllHavePlaces};
 ghost use Rattle.oe_journal.specs.Rewinds.{without_newest, CantRewind};
 

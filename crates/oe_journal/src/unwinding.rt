@@ -3,7 +3,7 @@ ghost use Rattle.std.specs.Prelude.{◌≡◌, ◌≤◌, length, take, drop, Is
 ghost use Rattle.oe_store.specs.Places.{rows};
 ghost use Rattle.oe_segments.specs.Segments.{active_at, records_at, with_records};
 ghost use Rattle.oe_segments.specs.Stands.{undo_of};
-ghost use Rattle.oe_links.specs.Links as links;
+ghost use Rattle.oe_undo.specs.Links as links;
 ghost use Rattle.oe_journal.specs.GoesBack.{CanUnwind, HavePlaces};
 ghost use Rattle.oe_journal.specs.Unwinds.{TakesBack};
 

@@ -3,7 +3,7 @@ ghost use Rattle.std.specs.Prelude.{◌≡◌, IsSome, IfErr, OnOk, OnErr};
 ghost use Rattle.oe_change.specs.Writes.{key_written, written};
 ghost use Rattle.oe_store.specs.Places.{rows};
 ghost use Rattle.oe_segments.specs.Segments.{active_at};
-ghost use Rattle.oe_chains.specs.Chains.{IsAlone};
+ghost use Rattle.oe_undo.specs.Chains.{IsAlone};
 ghost use Rattle.oe_journal.specs.Linked.{AreLinked, SameLinks};
 ghost use Rattle.oe_journal.specs.Writes.{HasRoomFor, HasWritten, HasRecorded, CantWrite};
 

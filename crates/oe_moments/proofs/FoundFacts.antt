@@ -16,8 +16,8 @@ use Rattle.oe_model.proofs.SystemLaws.{laws}
 use Rattle.oe_segments.specs.Stands.{undo_of, seals_of, seal_of}
 use Rattle.oe_segments.specs.Segments.{SegmentLog, total_count}
 use Rattle.oe_segments.proofs.StandsFacts.{totals}
-use Rattle.oe_chains.specs.Held.{horizon}
-use Rattle.oe_chains.specs.Oldest.{oldest_in, oldest_open, oldest_of_commits, oldest_after}
+use Rattle.oe_undo.specs.Held.{horizon}
+use Rattle.oe_undo.specs.Oldest.{oldest_in, oldest_open, oldest_of_commits, oldest_after}
 use Rattle.oe_segments.specs.Moments.{newest, IsKeptMoment}
 use Rattle.oe_moments.specs.Versions.{without_slots}
 use Rattle.oe_moments.specs.Found.{row_found, HasRow}

@@ -1,7 +1,7 @@
 //! The record that has a row of a moment: the oldest of its key that is put back on the way there. It is looked for along the key's own
 //! records, from the newest on: no row is read, and nothing takes memory.
 ghost use Rattle.std.specs.Prelude.{◌≡◌, IfOk, IfErr, OnOk, OnErr};
-ghost use Rattle.oe_chains.specs.Held.{held, of_key, count_later};
+ghost use Rattle.oe_undo.specs.Held.{held, of_key, count_later};
 ghost use Rattle.oe_undo.specs.Ticks.{ticked};
 ghost use Rattle.oe_segments.specs.Moments.{IsKeptMoment, IsUnkept};
 ghost use Rattle.oe_moments.specs.Found.{HasRow};

@@ -6,7 +6,7 @@ ghost use Rattle.oe_model.specs.Rows.{row_at, as_new_order, as_order, as_order_l
 ghost use Rattle.oe_model.specs.Changes.{row_before};
 ghost use Rattle.oe_layout.specs.Records.{record_of_own};
 ghost use Rattle.oe_store.specs.Places.{rows};
-ghost use Rattle.oe_chains.specs.Held.{held, of_key, count_later};
+ghost use Rattle.oe_undo.specs.Held.{held, of_key, count_later};
 ghost use Rattle.oe_undo.specs.Ticks.{ticked};
 ghost use Rattle.oe_segments.specs.Moments.{IsKeptMoment, IsUnkept};
 ghost use Rattle.oe_moments.specs.Versions.{version};

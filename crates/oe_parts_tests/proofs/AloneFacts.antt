@@ -6,7 +6,7 @@ use Rattle.std.proofs.lemmas.List.Sums.{sum_by-cons}
 use Rattle.oe_keys.specs.declared.keys.Key.{Key}
 use Rattle.oe_segments.specs.Segments.{SegmentLog, Open, TerminalState, idle, active_at, records_in, open_total}
 use Rattle.oe_segments.specs.Stands.{model_records}
-use Rattle.oe_chains.specs.Chains.{HaveNone, IsAlone}
+use Rattle.oe_undo.specs.Chains.{HaveNone, IsAlone}
 
 -- how many it adds to the count of those that are open
 abbrev one : Option Open → ℕ

@@ -1,11 +1,10 @@
 //! Where an order's link leads, call by call.
 use crate::made::{address, order, order_key};
 use crate::opened::{begin, commit, push_order, undo};
-use oe_chains::{Holder, Link};
 use oe_keys::{Key, OrderKey};
 use oe_layout::Previous;
 use oe_segments::Segment;
-use oe_undo::Undo;
+use oe_undo::{Holder, Link, Undo};
 use oe_values::{Moment, Terminal};
 
 fn own(extent: u32, offset: u32) -> Option<Previous> {

@@ -2,7 +2,7 @@
 ghost use Rattle.std.specs.Prelude.{IfSome, IsSome};
 ghost use Rattle.oe_keys.specs.declared.keys.Key.{Key};
 ghost use Rattle.oe_segments.specs.Segments.{active_at};
-ghost use Rattle.oe_chains.specs.Chains.{IsAlone};
+ghost use Rattle.oe_undo.specs.Chains.{IsAlone};
 
 use oe_keys::{DistrictKey, OrderKey};
 use oe_layout::{LentRecord, LinkedRecord, Previous};

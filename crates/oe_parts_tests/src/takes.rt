@@ -2,8 +2,8 @@
 use crate::made::{address, order_key};
 use crate::opened::undo;
 use oe_keys::{Key, StockKey};
-use oe_links::{Links, OwnedLink};
 use oe_segments::SegmentOwner;
+use oe_undo::{Links, OwnedLink};
 use oe_values::{Number, Terminal, TransactionNumber};
 
 /// Stock (3, 41).

@@ -20,19 +20,19 @@ use Rattle.oe_log.specs.Log.{Logged, logged, newest_of}
 use Rattle.oe_segments.specs.Segments.{SegmentLog, Open as OpenSegment, TerminalState, Committed as CommitSegment, idle, idle_terminals, active_at, records_at, count_at, total_count, commits_of, no_segments, with_active, with_records, opened, dropped, pushed, popped, sealed, with_newest, reopened, owner_of}
 use Rattle.oe_segments.specs.declared.heads.SegmentOwner.{SegmentOwner}
 use Rattle.oe_segments.proofs.LawFacts.{idle_at}
-use Rattle.oe_chains.specs.declared.links.Link.{Link}
-use Rattle.oe_chains.specs.declared.links.Holder.{Holder}
-use Rattle.oe_chains.specs.declared.links.Holder.TheVariants.{Open, At}
-use Rattle.oe_chains.specs.Held.{Held, held_by, held_open, held_commits, held, of_key, horizon}
-use Rattle.oe_chains.specs.Chains.{link_to, link_from, previous_of, IsEnd, IsChain, IsAlone, AreChained, linked}
-use Rattle.oe_chains.specs.Laws.{IsWhole}
-use Rattle.oe_chains.proofs.ChainFacts.{own, chain_open, chain-open, seen_again}
-use Rattle.oe_chains.proofs.LinkFacts.{sees_alone}
-use Rattle.oe_chains.proofs.CallFacts as calls
-use Rattle.oe_links.specs.declared.links.OwnedLink.{OwnedLink}
-use Rattle.oe_links.specs.Links.{LinkMaps, place_of, links_of, link_in, no_links, HasPlace, SetsLink, GivesPlaces, LeadsTo}
-use Rattle.oe_links.proofs.LinkFacts.{no_link}
-use Rattle.oe_links.proofs.LeadFacts.{set_leads, given_links}
+use Rattle.oe_undo.specs.declared.holders.Link.{Link}
+use Rattle.oe_undo.specs.declared.holders.Holder.{Holder}
+use Rattle.oe_undo.specs.declared.holders.Holder.TheVariants.{Open, At}
+use Rattle.oe_undo.specs.Held.{Held, held_by, held_open, held_commits, held, of_key, horizon}
+use Rattle.oe_undo.specs.Chains.{link_to, link_from, previous_of, IsEnd, IsChain, IsAlone, AreChained, linked}
+use Rattle.oe_undo.specs.Laws.{IsWhole}
+use Rattle.oe_undo.proofs.ChainFacts.{own, chain_open, chain-open, seen_again}
+use Rattle.oe_undo.proofs.ChainedLinkFacts.{sees_alone}
+use Rattle.oe_undo.proofs.CallFacts as calls
+use Rattle.oe_undo.specs.declared.links.OwnedLink.{OwnedLink}
+use Rattle.oe_undo.specs.Links.{LinkMaps, place_of, links_of, link_in, no_links, HasPlace, SetsLink, GivesPlaces, LeadsTo}
+use Rattle.oe_undo.proofs.LinkFacts.{no_link}
+use Rattle.oe_undo.proofs.LeadFacts.{set_leads, given_links}
 use Rattle.oe_undo.specs.Owners.{MomentList, no_moments, moments_at, moments_of, holder_of, followed, next_owner, IsOwner, AreOwned, AreIdle, AreMoments, IsLinked, IsMadeBy, IsMade}
 use Rattle.oe_undo.specs.Undo.{UndoState, unended, GivesBack}
 use Rattle.oe_segments.proofs.StateFacts.{some_of, known, pushed_popped}

@@ -1,4 +1,13 @@
 -- For the crates above: what calls make of the links.
-pub mod ChainedFacts
+mod CallFacts
+mod ChainFacts
+mod ChainedFacts
+mod ChainedLinkFacts
+pub mod ChainWalkFacts
+pub mod LeadFacts
+pub mod LinkFacts
+mod NumberFacts
 pub mod OwnerFacts
+mod PlaceFacts
+mod SpreadFacts
 mod WalkFacts

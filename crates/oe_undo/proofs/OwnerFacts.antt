@@ -11,14 +11,15 @@ use Rattle.oe_requests.specs.declared.requests.Request.{Request}
 use Rattle.oe_requests.specs.declared.replies.Reply.{Reply}
 use Rattle.oe_segments.specs.declared.heads.SegmentOwner.{SegmentOwner}
 use Rattle.oe_segments.specs.Segments.{SegmentLog, Open as OpenSegment, TerminalState, Committed as CommitSegment, idle, active_at, count_at, total_count, commits_of, with_active, sealed, with_newest, reopened}
-use Rattle.oe_chains.specs.declared.links.Link.{Link}
-use Rattle.oe_chains.specs.declared.links.Holder.{Holder}
-use Rattle.oe_chains.specs.declared.links.Holder.TheVariants.{Open, At}
-use Rattle.oe_chains.specs.Held.{held, of_key, horizon, is_later}
-use Rattle.oe_chains.specs.Chains.{IsForgotten, IsEnd, IsChain, AreChained, holder_sealed, holder_reopened, with_holder}
-use Rattle.oe_chains.specs.Laws.{IsWhole}
-use Rattle.oe_chains.proofs.CallFacts as calls
-use Rattle.oe_links.specs.declared.links.OwnedLink.{OwnedLink}
+use Rattle.oe_segments.proofs.StateFacts.{known}
+use Rattle.oe_undo.specs.declared.holders.Link.{Link}
+use Rattle.oe_undo.specs.declared.holders.Holder.{Holder}
+use Rattle.oe_undo.specs.declared.holders.Holder.TheVariants.{Open, At}
+use Rattle.oe_undo.specs.Held.{held, of_key, horizon, is_later}
+use Rattle.oe_undo.specs.Chains.{IsForgotten, IsEnd, IsChain, AreChained, holder_sealed, holder_reopened, with_holder}
+use Rattle.oe_undo.specs.Laws.{IsWhole}
+use Rattle.oe_undo.proofs.CallFacts as calls
+use Rattle.oe_undo.specs.declared.links.OwnedLink.{OwnedLink}
 use Rattle.oe_undo.specs.Owners.{moments_of, holder_of, followed, IsOwner, AreOwned}
 use Rattle.oe_undo.specs.Undo.{unended}
 
@@ -248,7 +249,7 @@ module _ (u : SegmentLog) (t : ℕ) (o : OpenSegment) (q : Request) (y : Reply) 
   next = suc (total_count u)
 
   within : t < length u.terminals
-  within = calls.known u t o is
+  within = known u t o is
 
   pub sealed_total : total_count after ≡ next
   sealed_total = calls.total_more u t q y within

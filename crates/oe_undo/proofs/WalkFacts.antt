@@ -6,10 +6,10 @@ use Rattle.oe_layout.specs.declared.links.RecordAddress.{RecordAddress}
 use Rattle.oe_layout.specs.declared.links.Previous.{Previous}
 use Rattle.oe_log.specs.Log.{Logged, logged, IsAmong, HasAddress, IsRecordAt}
 use Rattle.oe_segments.specs.Segments.{SegmentLog}
-use Rattle.oe_chains.specs.declared.links.Link.{Link}
-use Rattle.oe_chains.specs.Held.{is_later}
-use Rattle.oe_chains.specs.Chains.{link_from}
-use Rattle.oe_chains.specs.Walks.{records_by, leads_later, Walks, Ends, Reads}
+use Rattle.oe_undo.specs.declared.holders.Link.{Link}
+use Rattle.oe_undo.specs.Held.{is_later}
+use Rattle.oe_undo.specs.Chains.{link_from}
+use Rattle.oe_undo.specs.Walks.{records_by, leads_later, Walks, Ends, Reads}
 use Rattle.oe_undo.specs.Ticks.{ticked}
 
 -- ---- records at an address

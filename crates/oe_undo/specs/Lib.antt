@@ -1,4 +1,19 @@
 -- What the clauses of this crate cite.
+pub mod Chains
+pub mod Held
+pub mod Laws
+pub mod Links
+pub mod LinksLend
+pub mod NumberLaws
+pub mod Numbers
+pub mod Oldest
 pub mod Owners
-pub mod Undo
+pub mod Places
+pub mod PlacesLends
+pub mod Shelf
+pub mod ShelfLends
+pub mod Tables
+pub mod TablesLend
 pub mod Ticks
+pub mod Undo
+pub mod Walks

@@ -6,11 +6,11 @@ use Rattle.oe_values.specs.declared.numbers.TheConstants.{TERMINALS}
 use Rattle.oe_keys.specs.declared.keys.Key.{Key}
 use Rattle.oe_segments.specs.declared.heads.SegmentOwner.{SegmentOwner}
 use Rattle.oe_segments.specs.Segments.{SegmentLog, Committed as CommitSegment, count_at, active_at, total_count}
-use Rattle.oe_chains.specs.declared.links.Link.{Link}
-use Rattle.oe_chains.specs.declared.links.Holder.{Holder}
-use Rattle.oe_chains.specs.declared.links.Holder.TheVariants.{Open, At}
-use Rattle.oe_chains.specs.Chains.{AreChained}
-use Rattle.oe_links.specs.declared.links.OwnedLink.{OwnedLink}
+use Rattle.oe_undo.specs.declared.holders.Link.{Link}
+use Rattle.oe_undo.specs.declared.holders.Holder.{Holder}
+use Rattle.oe_undo.specs.declared.holders.Holder.TheVariants.{Open, At}
+use Rattle.oe_undo.specs.Chains.{AreChained}
+use Rattle.oe_undo.specs.declared.links.OwnedLink.{OwnedLink}
 
 -- the moments of a terminal's commits among these, the newest of which made moment m, and each older one the moment before
 abbrev pub moments_of : ℕ → ℕ → List CommitSegment → List ℕ

@@ -7,12 +7,12 @@ use Rattle.oe_layout.specs.declared.links.RecordAddress.{RecordAddress}
 use Rattle.oe_layout.specs.declared.links.Previous.{Previous}
 use Rattle.oe_log.specs.Log.{Logged, logged, IsFull, IsFresh}
 use Rattle.oe_segments.specs.Segments.{SegmentLog, pushed, log_of}
-use Rattle.oe_chains.specs.declared.links.Link.{Link}
-use Rattle.oe_chains.specs.declared.links.Holder.TheVariants.{Open}
-use Rattle.oe_chains.specs.Held.{horizon, is_later}
-use Rattle.oe_chains.specs.Chains.{link_from}
-use Rattle.oe_links.specs.declared.links.OwnedLink.{OwnedLink}
-use Rattle.oe_links.specs.Links.{LinkMaps, place_of, links_of, SetsLink, LeadsTo}
+use Rattle.oe_undo.specs.declared.holders.Link.{Link}
+use Rattle.oe_undo.specs.declared.holders.Holder.TheVariants.{Open}
+use Rattle.oe_undo.specs.Held.{horizon, is_later}
+use Rattle.oe_undo.specs.Chains.{link_from}
+use Rattle.oe_undo.specs.declared.links.OwnedLink.{OwnedLink}
+use Rattle.oe_undo.specs.Links.{LinkMaps, place_of, links_of, SetsLink, LeadsTo}
 use Rattle.oe_undo.specs.Owners.{followed, next_owner}
 use Rattle.oe_undo.specs.declared.pushes.CantPush.{CantPush}
 use Rattle.oe_undo.specs.declared.pushes.CantPush.TheVariants as cant_push

@@ -8,15 +8,15 @@ ghost use Rattle.oe_layout.specs.Records.{record_of_lent, record_of_own};
 ghost use Rattle.oe_layout.specs.declared.links.Previous.TheVariants.{Nothing};
 ghost use Rattle.oe_log.specs.Log.{newest_of, IsFull};
 ghost use Rattle.oe_segments.specs.Segments.{active_at, records_at, popped, log_of};
-ghost use Rattle.oe_chains.specs.Chains.{link_from, previous_of, IsAlone};
-ghost use Rattle.oe_links.specs.Links.{place_of};
-ghost use Rattle.oe_chains.specs.declared.links.Holder.TheVariants.{Open};
+ghost use Rattle.oe_undo.specs.Chains.{link_from, previous_of, IsAlone};
+ghost use Rattle.oe_undo.specs.Links.{place_of};
+ghost use Rattle.oe_undo.specs.declared.holders.Holder.TheVariants.{Open};
 ghost use Rattle.oe_undo.specs.Undo.{seen, HasPushed, IsUnpushed, GivesBack};
 
+use crate::holders::{Link, previous_of};
+use crate::links::OwnedLink;
 use crate::undo::{Undo, followed_in};
-use oe_chains::{Link, previous_of};
 use oe_layout::{LinkedRecord, OwnRecord, Previous};
-use oe_links::OwnedLink;
 use oe_segments::Segment;
 
 /// Why a record was not pushed.

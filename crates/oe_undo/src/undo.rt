@@ -1,19 +1,19 @@
 //! The undo log beside the links.
 ghost use Rattle.std.specs.Prelude.{◌≡◌, ◌<◌, [], None, IsSome, IfSome, IfOk, OnOk, OnErr};
 ghost use Rattle.oe_segments.specs.Segments.{count_at, active_at, records_at, no_segments, opened, dropped};
-ghost use Rattle.oe_chains.specs.declared.links.Holder.TheVariants.{Open};
-ghost use Rattle.oe_chains.specs.Held.{horizon};
-ghost use Rattle.oe_chains.specs.Chains.{link_from, AreChained};
-ghost use Rattle.oe_chains.specs.Laws.{IsWhole};
-ghost use Rattle.oe_links.specs.Links.{place_of, HasPlace, no_links, GivesPlaces};
+ghost use Rattle.oe_undo.specs.declared.holders.Holder.TheVariants.{Open};
+ghost use Rattle.oe_undo.specs.Held.{horizon};
+ghost use Rattle.oe_undo.specs.Chains.{link_from, AreChained};
+ghost use Rattle.oe_undo.specs.Laws.{IsWhole};
+ghost use Rattle.oe_undo.specs.Links.{place_of, HasPlace, no_links, GivesPlaces};
 ghost use Rattle.oe_undo.specs.Owners.{followed, holder_of, AreMoments, IsMade, IsOwner};
 ghost use Rattle.oe_undo.specs.Undo.{seen, unended};
 
+use crate::holders::{Holder, Link};
+use crate::links::{Links, OwnedLink};
 use crate::moments::{TerminalMoments, idle_moments};
-use oe_chains::{Holder, Link};
 use oe_keys::Key;
 use oe_layout::Previous;
-use oe_links::{Links, OwnedLink};
 use oe_segments::{ExtentCount, Segment, SegmentOwner, Segments};
 use oe_table::tables::NoMemory;
 use oe_values::Terminal;
@@ -38,7 +38,7 @@ impl Model for Undo {
     ghost use Rattle.std.specs.FinMap.{code as map_code};
     ghost use Rattle.oe_undo.specs.Undo.{UndoState};
     ghost use Rattle.oe_undo.specs.Owners.{IsLinked};
-    ghost use Rattle.oe_links.specs.Links.{links_of};
+    ghost use Rattle.oe_undo.specs.Links.{links_of};
 
     ghost Value = { UndoState };
 
@@ -96,7 +96,10 @@ impl Undo {
         ensures links { IfOk result (λ u. u.links ≡ no_links) }
     {
         let segments = Segments::new(alloc, extents)?;
-        let moments = idle_moments(alloc)?;
+        let Ok(moments) = idle_moments(alloc) else {
+            drop(segments);
+            return Err(NoMemory);
+        };
         Ok(Undo {
             segments,
             links: Links::new(alloc),

@@ -3,14 +3,13 @@
 ghost use Rattle.std.specs.Prelude.{◌≡◌, ◌-◌, ◌≤◌, ◌<◌, ℕ};
 ghost use Rattle.oe_log.specs.Log.{HasAddress, IsRecordAt};
 ghost use Rattle.oe_segments.specs.Segments.{total_count};
-ghost use Rattle.oe_chains.specs.Held.{held, of_key, horizon, is_later, count_later};
-ghost use Rattle.oe_chains.specs.Oldest.{oldest_after};
-ghost use Rattle.oe_chains.specs.Walks.{records_by};
+ghost use Rattle.oe_undo.specs.Held.{held, of_key, horizon, is_later, count_later};
+ghost use Rattle.oe_undo.specs.Oldest.{oldest_after};
+ghost use Rattle.oe_undo.specs.Walks.{records_by};
 ghost use Rattle.oe_undo.specs.Ticks.{ticked};
 
+use crate::holders::{Holder, Link};
 use crate::undo::Undo;
-use oe_chains::laws::chains_are_walked;
-use oe_chains::{Holder, Link};
 use oe_keys::Key;
 use oe_layout::{Previous, StoredRecord};
 use oe_values::Moment;
@@ -102,7 +101,6 @@ impl Undo {
         ensures ticks { ticks.new
             ≡ ticked ticks.old (count_later moment (of_key key.now (held self.now.log))) }
     {
-        chains_are_walked();
         self.is_chained();
         let _known = ticks.records;
         let mut link = self.link(key);

@@ -2,7 +2,7 @@
 use Rattle.std.proofs.Common.{[], get_or, subst}
 use Rattle.oe_segments.specs.Segments.{SegmentLog, committed_records}
 use Rattle.oe_segments.specs.Stands.{model_records, DeletesNothing}
-use Rattle.oe_chains.specs.Chains.{IsEnd}
+use Rattle.oe_undo.specs.Chains.{IsEnd}
 use Rattle.oe_undo.specs.Undo.{seen}
 use Rattle.oe_journal.proofs.PurgeFacts.{nothing_given_up}
 use Rattle.oe_journal.proofs.purges.give_up_deleted.Goals as goal

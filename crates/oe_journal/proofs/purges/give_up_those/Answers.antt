@@ -1,5 +1,5 @@
 use Rattle.std.proofs.Common.{subst}
-use Rattle.oe_chains.specs.Chains.{IsEnd}
+use Rattle.oe_undo.specs.Chains.{IsEnd}
 use Rattle.oe_undo.specs.Undo.{seen}
 use Rattle.oe_journal.proofs.PurgeFacts.{LooksAt, one_looked_at, all_looked_at}
 use Rattle.oe_journal.proofs.purges.give_up_those.Goals as goal

@@ -1,4 +1,4 @@
-use Rattle.oe_chains.specs.Chains.{IsEnd}
+use Rattle.oe_undo.specs.Chains.{IsEnd}
 use Rattle.oe_undo.specs.Undo.{seen}
 use Rattle.oe_journal.proofs.PurgeFacts.{LooksAt}
 use Rattle.oe_journal.proofs.purges.give_up_those.Given as goal

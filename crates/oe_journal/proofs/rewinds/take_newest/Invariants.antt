@@ -1,5 +1,5 @@
 use Rattle.std.proofs.Common.{◌-◌}
-use Rattle.oe_links.specs.Links.{SamePlaces}
+use Rattle.oe_undo.specs.Links.{SamePlaces}
 use Rattle.oe_journal.proofs.UndoneFacts.{Undoes}
 use Rattle.oe_journal.proofs.rewinds.take_newest.Given as goal
 

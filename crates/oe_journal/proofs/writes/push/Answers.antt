@@ -2,7 +2,7 @@
 use Rattle.std.proofs.Common.{◌≡◌, subst, None}
 use Rattle.oe_keys.specs.declared.keys.Key.{Key}
 use Rattle.oe_change.specs.Writes.{key_written}
-use Rattle.oe_links.specs.Links.{place_of}
+use Rattle.oe_undo.specs.Links.{place_of}
 use Rattle.oe_model.specs.Lengths.{record_length}
 use Rattle.oe_layout.specs.Records.{record_of_lent}
 use Rattle.oe_store.specs.Places.{rows}

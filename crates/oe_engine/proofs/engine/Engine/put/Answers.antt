@@ -3,7 +3,7 @@ use Rattle.std.specs.Prelude.{OnOk, IfErr, IsSome}
 use Rattle.oe_store.specs.Places.{rows}
 use Rattle.oe_segments.specs.Segments.{active_at}
 use Rattle.oe_change.specs.Writes.{key_written}
-use Rattle.oe_chains.specs.Chains.{IsAlone}
+use Rattle.oe_undo.specs.Chains.{IsAlone}
 use Rattle.oe_journal.specs.Writes.{HasRecorded, HasRoomFor, CantWrite}
 use Rattle.oe_engine.specs.View.{view_of, view_from}
 use Rattle.oe_engine.proofs.PartFacts.{if_err, on_ok}

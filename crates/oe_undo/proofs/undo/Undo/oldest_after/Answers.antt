@@ -1,6 +1,7 @@
 use Rattle.std.proofs.Common.{◌≡◌, ◌-◌, ◌+◌, refl, sym, ◌∙◌, arith}
 use Rattle.oe_segments.specs.Segments.{total_count}
 use Rattle.oe_undo.specs.Undo.{seen}
+use Rattle.oe_undo.proofs.ChainedLinkFacts.{chains_are_walked}
 use Rattle.oe_undo.proofs.WalkFacts.{goes_first, stands_there, goes_on, leaves_fewer}
 use Rattle.oe_undo.proofs.undo.Undo.oldest_after.Goals as goal
 
@@ -9,7 +10,7 @@ loop-link-init c =
     let u = c.args.self.now.log in
     let at : total_count u - c.args.moment + c.args.moment ≡ total_count u = omega (arith, c.requires.made) in
     let link : c.link-link.result ≡ seen c.args.self.now c.args.key.now = c.link-link.ensures in
-    let walks = c.chains_are_walked.ensures u (seen c.args.self.now) c.args.key.now c.args.moment (total_count u - c.args.moment) c.is_chained.ensures.whole
+    let walks = chains_are_walked u (seen c.args.self.now) c.args.key.now c.args.moment (total_count u - c.args.moment) c.is_chained.ensures.whole
     c.is_chained.ensures.chained c.requires.kept at in
     goes_first _ _ _ _ _ _ _ (rw link walks) refl (omega (arith, c.ticks.invariant))
 

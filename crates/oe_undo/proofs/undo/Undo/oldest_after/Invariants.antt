@@ -1,7 +1,7 @@
 use Rattle.std.proofs.Common.{◌-◌}
 use Rattle.oe_segments.specs.Segments.{total_count}
-use Rattle.oe_chains.specs.Held.{held, of_key, count_later}
-use Rattle.oe_chains.specs.Oldest.{oldest_after}
+use Rattle.oe_undo.specs.Held.{held, of_key, count_later}
+use Rattle.oe_undo.specs.Oldest.{oldest_after}
 use Rattle.oe_undo.proofs.WalkFacts.{Goes, reads_left}
 use Rattle.oe_undo.proofs.undo.Undo.oldest_after.Given as goal
 

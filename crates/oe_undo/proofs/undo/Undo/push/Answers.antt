@@ -6,11 +6,11 @@ use Rattle.oe_layout.specs.Records.{record_of_lent}
 use Rattle.oe_log.specs.Log.{logged}
 use Rattle.oe_segments.specs.declared.heads.SegmentOwner.{SegmentOwner}
 use Rattle.oe_segments.specs.Segments.{SegmentLog, pushed}
-use Rattle.oe_chains.specs.Chains.{IsAlone}
-use Rattle.oe_links.specs.declared.links.OwnedLink.{OwnedLink}
-use Rattle.oe_links.specs.Links.{LinkMaps, links_of, HasPlace, SetsLink, LeadsTo}
-use Rattle.oe_links.proofs.LinkFacts.{on_row, sets_with, with_same}
-use Rattle.oe_links.proofs.LeadFacts.{set_leads}
+use Rattle.oe_undo.specs.Chains.{IsAlone}
+use Rattle.oe_undo.specs.declared.links.OwnedLink.{OwnedLink}
+use Rattle.oe_undo.specs.Links.{LinkMaps, links_of, HasPlace, SetsLink, LeadsTo}
+use Rattle.oe_undo.proofs.LinkFacts.{on_row, sets_with, with_same}
+use Rattle.oe_undo.proofs.LeadFacts.{set_leads}
 use Rattle.oe_undo.specs.Owners.{next_owner, IsLinked}
 use Rattle.oe_undo.proofs.ChainedFacts.{push_linked, push_leads}
 use Rattle.oe_undo.proofs.undo.Undo.push.Goals as goal

@@ -7,10 +7,10 @@ use Rattle.oe_log.specs.Log.{logged}
 use Rattle.oe_layout.specs.declared.links.Previous.TheVariants.{Nothing}
 use Rattle.oe_segments.specs.declared.heads.SegmentOwner.{SegmentOwner}
 use Rattle.oe_segments.specs.Segments.{SegmentLog, pushed}
-use Rattle.oe_chains.specs.Chains.{link_from}
-use Rattle.oe_chains.specs.declared.links.Holder.TheVariants.{Open}
-use Rattle.oe_links.specs.Links.{LinkMaps, place_of, links_of, link_in, LeadsTo}
-use Rattle.oe_links.proofs.LeadFacts.{insert_leads}
+use Rattle.oe_undo.specs.Chains.{link_from}
+use Rattle.oe_undo.specs.declared.holders.Holder.TheVariants.{Open}
+use Rattle.oe_undo.specs.Links.{LinkMaps, place_of, links_of, link_in, LeadsTo}
+use Rattle.oe_undo.proofs.LeadFacts.{insert_leads}
 use Rattle.oe_undo.specs.Owners.{followed, next_owner, IsLinked}
 use Rattle.oe_undo.proofs.ChainedFacts.{push_linked, push_undone}
 use Rattle.oe_undo.proofs.undo.Undo.push_new.Goals as goal

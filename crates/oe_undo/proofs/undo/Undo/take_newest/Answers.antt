@@ -1,6 +1,6 @@
 -- The newest record goes, and its key's link leads to the one before.
 use Rattle.oe_layout.specs.Records.{record_of_own}
-use Rattle.oe_links.specs.declared.links.OwnedLink.{OwnedLink}
+use Rattle.oe_undo.specs.declared.links.OwnedLink.{OwnedLink}
 use Rattle.oe_undo.specs.Owners.{IsOwner}
 use Rattle.oe_undo.proofs.ChainedFacts.{newest_made, newest_placed, pop_linked, given_back, of_some}
 use Rattle.oe_undo.proofs.undo.Undo.take_newest.Goals as goal

@@ -1,4 +1,0 @@
-pub mod WalkFacts
-pub mod ChainFacts
-pub mod CallFacts
-pub mod LinkFacts

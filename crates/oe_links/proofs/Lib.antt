@@ -1,3 +1,0 @@
-pub mod LeadFacts
-pub mod LinkFacts
-pub mod NumberFacts

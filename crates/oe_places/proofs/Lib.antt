@@ -1,2 +1,0 @@
-pub mod PlaceFacts
-pub mod SpreadFacts

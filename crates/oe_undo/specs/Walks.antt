@@ -1,0 +1,29 @@
+-- A walk from a key's link on: each record is read at its address in the segment of its holder, and tells the next link.
+use Rattle.std.specs.Prelude.{◌≡◌, ◌-◌, ℕ, suc, Bool, true, false, List, [], get_or, Option, None, Some}
+use Rattle.oe_model.specs.Changes.{Record}
+use Rattle.oe_layout.specs.declared.links.RecordAddress.{RecordAddress}
+use Rattle.oe_layout.specs.declared.links.Previous.{Previous}
+use Rattle.oe_log.specs.Log.{Logged, logged, IsAmong}
+use Rattle.oe_segments.specs.Segments.{SegmentLog, records_at, committed_records, total_count}
+use Rattle.oe_undo.specs.declared.holders.Link.{Link}
+use Rattle.oe_undo.specs.declared.holders.Holder.{Holder}
+use Rattle.oe_undo.specs.declared.holders.Holder.TheVariants.{Open, At}
+use Rattle.oe_undo.specs.Held.{is_later}
+use Rattle.oe_undo.specs.Chains.{link_from}
+
+-- the records of a holder's segment
+abbrev pub records_by : SegmentLog → Holder → List Logged
+records_by u (Open t) = records_at u t
+records_by u (At m) = get_or (committed_records u) (total_count u - m) []
+
+-- the link leads to a record that is later than the moment
+abbrev pub leads_later : ℕ → Option Link → Bool
+leads_later m None = false
+leads_later m (Some l) = is_later m l.holder
+
+-- from this link on, where the oldest record so far is `newer`, so many records are read, and the last of them is `oldest`
+pub data Walks (u : SegmentLog) (m : ℕ) : Option Link → Option Record → ℕ → Option Record → Type 0 where
+  Ends : (l : Option Link) (newer : Option Record) → leads_later m l ≡ false → Walks u m l newer 0 newer
+  Reads : (a : RecordAddress) (h : Holder) (p : Previous) (b : Record) (newer : Option Record) (n : ℕ) (oldest : Option Record)
+      → is_later m h ≡ true → IsAmong (logged a p b) (records_by u h) → Walks u m (link_from h p) (Some b) n oldest
+      → Walks u m (Some (record { address = a; holder = h })) newer (suc n) oldest

@@ -1,0 +1,65 @@
+//! Links as they are followed: where a key's newest record lies, and whose it is by now. What is kept of each is an `OwnedLink`.
+//! Nothing here takes memory or can fail.
+ghost use Rattle.std.specs.Prelude.{◌≡◌};
+ghost use Rattle.oe_undo.specs.Chains.{link_from, previous_by, previous_of};
+
+use oe_layout::{Previous, RecordAddress};
+use oe_values::{Moment, Terminal};
+
+/// Whose a record is.
+#[derive(Clone, Copy, PartialEq, Eq)]
+pub enum Holder {
+    /// That terminal's open transaction's.
+    Open(Terminal),
+    /// Of the commit that made that moment.
+    At(Moment),
+}
+
+/// Where a key's newest record lies, and whose it is.
+#[derive(Clone, Copy, PartialEq, Eq)]
+pub struct Link {
+    pub address: RecordAddress,
+    pub holder: Holder,
+}
+
+impl Holder {
+    /// The link that a previous one is in a record of this holder.
+    pub(crate) fn link_from(self, previous: Previous) -> Option<Link>
+        ensures { result ≡ link_from self previous }
+    {
+        match previous {
+            Previous::Nothing => None,
+            Previous::Own(address) => Some(Link {
+                address,
+                holder: self,
+            }),
+            Previous::Committed(address, moment) => Some(Link {
+                address,
+                holder: Holder::At(moment),
+            }),
+        }
+    }
+}
+
+impl Link {
+    /// What a record has as previous that is pushed where its key has this link.
+    fn previous(&self) -> Previous
+        ensures { result ≡ previous_by self.now.holder self.now.address }
+    {
+        let address = self.address;
+        match &self.holder {
+            Holder::Open(_) => Previous::Own(address),
+            Holder::At(moment) => Previous::Committed(address, *moment),
+        }
+    }
+}
+
+/// The same, where the key has a link or none.
+pub(crate) fn previous_of(link: Option<Link>) -> Previous
+    ensures { result ≡ previous_of link }
+{
+    match link {
+        None => Previous::Nothing,
+        Some(link) => link.previous(),
+    }
+}
