@@ -12,9 +12,9 @@ use Rattle.oe_model.specs.Audits.{Condition, Verdict, verdict}
 use Rattle.oe_model.specs.System.{system, terminal_limit}
 use Rattle.oe_store.specs.Places.{rows}
 use Rattle.oe_store.specs.Places as tables
-use Rattle.oe_segments.specs.Stands.{undo_of, model_records}
-use Rattle.oe_segments.specs.Segments.{Open, TerminalState, SegmentLog, idle, open_total, records_in}
-use Rattle.oe_segments.specs.Moments.{newest}
+use Rattle.oe_log.specs.Stands.{undo_of, model_records}
+use Rattle.oe_log.specs.Log.{Open, TerminalState, SegmentLog, idle, open_total, records_in}
+use Rattle.oe_log.specs.Moments.{newest}
 use Rattle.oe_moments.specs.Versions.{version}
 
 none_open : (v : Option Open) (n : ℕ) → cond (is_some v) 1 0 + n ≡ 0 → (v ≡ None) × (n ≡ 0)

@@ -17,10 +17,10 @@ use Rattle.oe_model.proofs.SystemLaws.{laws}
 use Rattle.oe_audit.specs.Verdict.{condition_of}
 use Rattle.oe_store.specs.Places.{rows}
 use Rattle.oe_store.specs.Places as stands
-use Rattle.oe_segments.specs.Stands.{undo_of, seals_of, counts_of}
-use Rattle.oe_segments.specs.Segments as undo
+use Rattle.oe_log.specs.Stands.{undo_of, seals_of, counts_of}
+use Rattle.oe_log.specs.Log as undo
 use Rattle.oe_engine.specs.View.{view_from, view_of}
-use Rattle.oe_segments.specs.Moments.{store_with, IsKeptMoment, IsUnkept}
+use Rattle.oe_log.specs.Moments.{store_with, IsKeptMoment, IsUnkept}
 use Rattle.oe_moments.specs.Versions.{version, Stand}
 use Rattle.oe_core.specs.Core.{CoreState, store_of, world_of, IsOrderly}
 use Rattle.oe_core.specs.Steps.{refusal_in}

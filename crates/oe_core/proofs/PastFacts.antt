@@ -19,7 +19,7 @@ use Rattle.oe_model.proofs.ChangeFacts.{accepted_meets}
 use Rattle.oe_model.proofs.SystemLaws.{laws}
 use Rattle.oe_change.specs.PutBack.{Stands}
 use Rattle.oe_journal.specs.GoesBack.{CanUnwind, CanUnwindAll}
-use Rattle.oe_segments.specs.Moments.{IsBetween, IsOutside}
+use Rattle.oe_log.specs.Moments.{IsBetween, IsOutside}
 use Rattle.oe_engine.specs.View.{View, view_of, Handle}
 use Rattle.oe_engine.specs.View as engine
 use Rattle.oe_engine.specs.Calls.{newest, horizon, IsQuiet, CantRewind, purged_to, rewound_to}

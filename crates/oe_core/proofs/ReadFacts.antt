@@ -24,9 +24,9 @@ use Rattle.oe_model.specs.Queries.{found, last_order, status_of, recent_lines, i
 use Rattle.oe_model.specs.System.{system}
 use Rattle.oe_store.specs.Places.{rows}
 use Rattle.oe_store.specs.Places as tables
-use Rattle.oe_segments.specs.Segments as undo
+use Rattle.oe_log.specs.Log as undo
 use Rattle.oe_engine.specs.View.{view_of, view_from}
-use Rattle.oe_segments.specs.Moments.{store_with, IsKeptMoment, IsUnkept, horizon, newest}
+use Rattle.oe_log.specs.Moments.{store_with, IsKeptMoment, IsUnkept, horizon, newest}
 use Rattle.oe_moments.specs.Versions.{Stand}
 use Rattle.oe_moments.specs.Versions as versions
 use Rattle.oe_queries.specs.Reply.{IsReply, HasNoReply, IsRefused}

@@ -10,11 +10,11 @@ use Rattle.oe_theory.specs.Undo.{unwind, put_records}
 use Rattle.oe_model.specs.System.{system}
 use Rattle.oe_store.specs.Places.{rows, HasPlace}
 use Rattle.oe_store.specs.Places as tables
-use Rattle.oe_log.specs.Log.{Logged}
-use Rattle.oe_segments.specs.Segments.{SegmentLog, active_at, records_at, count_at, dropped}
-use Rattle.oe_segments.specs.Stands.{model_records, undo_of}
-use Rattle.oe_segments.proofs.LawFacts as stands
-use Rattle.oe_segments.proofs.StateFacts.{seen_same}
+use Rattle.oe_log.specs.Records.{Logged}
+use Rattle.oe_log.specs.Log.{SegmentLog, active_at, records_at, count_at, dropped}
+use Rattle.oe_log.specs.Stands.{model_records, undo_of}
+use Rattle.oe_log.proofs.LawFacts as stands
+use Rattle.oe_log.proofs.StateFacts.{seen_same}
 use Rattle.oe_locks.specs.Held.{Holdings, OthersKeep, HoldsNothing}
 use Rattle.oe_engine.specs.View.{view_from}
 use Rattle.oe_journal.specs.GoesBack.{HavePlaces, AllHavePlaces}

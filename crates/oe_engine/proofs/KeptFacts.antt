@@ -8,11 +8,11 @@ use Rattle.oe_requests.specs.declared.replies.Reply.{Reply}
 use Rattle.oe_theory.specs.World as world
 use Rattle.oe_model.specs.Changes.{Record}
 use Rattle.oe_store.specs.Places as tables
-use Rattle.oe_segments.specs.Segments.{SegmentLog, TerminalState, idle, active_at, count_at, no_segments, idle_terminals, opened, sealed}
-use Rattle.oe_segments.specs.Stands.{undo_of}
-use Rattle.oe_segments.proofs.LawFacts as stands
-use Rattle.oe_segments.proofs.LawFacts.{idle_at}
-use Rattle.oe_segments.proofs.StateFacts.{seen_same, some_of}
+use Rattle.oe_log.specs.Log.{SegmentLog, TerminalState, idle, active_at, count_at, no_segments, idle_terminals, opened, sealed}
+use Rattle.oe_log.specs.Stands.{undo_of}
+use Rattle.oe_log.proofs.LawFacts as stands
+use Rattle.oe_log.proofs.LawFacts.{idle_at}
+use Rattle.oe_log.proofs.StateFacts.{seen_same, some_of}
 use Rattle.oe_locks.specs.Held.{Holdings, OthersKeep, HoldsNothing, IsIdle}
 use Rattle.oe_journal.specs.GoesBack.{HavePlaces, AllHavePlaces}
 use Rattle.oe_engine.specs.Kept.{IsKept}

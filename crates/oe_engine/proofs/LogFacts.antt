@@ -10,10 +10,10 @@ use Rattle.oe_theory.specs.World as world
 use Rattle.oe_model.specs.Locks.{mode_of}
 use Rattle.oe_store.specs.Places.{rows}
 use Rattle.oe_store.specs.Places as tables
-use Rattle.oe_segments.specs.Segments.{SegmentLog, TerminalState, Open, idle, active_at, count_at, no_segments, idle_terminals, with_state, opened, sealed}
-use Rattle.oe_segments.proofs.LawFacts as stands
-use Rattle.oe_segments.proofs.LawFacts.{idle_at}
-use Rattle.oe_segments.proofs.StateFacts.{some_of}
+use Rattle.oe_log.specs.Log.{SegmentLog, TerminalState, Open, idle, active_at, count_at, no_segments, idle_terminals, with_state, opened, sealed}
+use Rattle.oe_log.proofs.LawFacts as stands
+use Rattle.oe_log.proofs.LawFacts.{idle_at}
+use Rattle.oe_log.proofs.StateFacts.{some_of}
 use Rattle.oe_locks.specs.Held.{Holdings, OthersKeep, HoldsNothing, IsIdle}
 use Rattle.oe_engine.specs.View.{view_from, opened_view}
 use Rattle.oe_engine.specs.Calls.{begun, committed}

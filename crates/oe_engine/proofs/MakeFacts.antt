@@ -10,8 +10,8 @@ use Rattle.oe_model.specs.System.{system}
 use Rattle.oe_model.proofs.RowFacts.{record_key_of}
 use Rattle.oe_store.specs.Places.{HasPlace, rows}
 use Rattle.oe_store.specs.Places as tables
-use Rattle.oe_segments.specs.Segments.{active_at}
-use Rattle.oe_segments.specs.Stands.{undo_of}
+use Rattle.oe_log.specs.Log.{active_at}
+use Rattle.oe_log.specs.Stands.{undo_of}
 use Rattle.oe_undo.specs.Undo.{UndoState}
 use Rattle.oe_journal.specs.Writes.{IsRecorded}
 use Rattle.oe_journal.specs.GoesBack.{HavePlaces, AllHavePlaces}

@@ -22,8 +22,8 @@ use Rattle.oe_store.specs.Places as tables
 use Rattle.oe_change.specs.Applies.{Refuses}
 use Rattle.oe_locks.specs.Held as locks
 use Rattle.oe_locks.specs.Held.{Holdings, held}
-use Rattle.oe_segments.specs.Segments as undo
-use Rattle.oe_segments.specs.Segments.{active_at}
+use Rattle.oe_log.specs.Log as undo
+use Rattle.oe_log.specs.Log.{active_at}
 use Rattle.oe_engine.specs.View.{View, view_from, view_of, EngineState, Handle, IsOpen}
 use Rattle.oe_engine.specs.Kept.{IsKept}
 use Rattle.oe_engine.specs.Calls.{IsFree, IsInTheWay, IsBelow, locked, made, put_mode, LockRefused, ChangeRefused, PairRefused, StageRefused, stage_done}

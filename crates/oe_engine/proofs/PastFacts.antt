@@ -13,16 +13,16 @@ use Rattle.oe_model.specs.Meets.{Meets}
 use Rattle.oe_model.specs.System.{system, terminal_limit}
 use Rattle.oe_store.specs.Places.{rows, SamePlaces}
 use Rattle.oe_store.specs.Places as tables
-use Rattle.oe_segments.specs.Segments.{SegmentLog, Committed, active_at, open_total, with_newest, records_in}
+use Rattle.oe_log.specs.Log.{SegmentLog, Committed, active_at, open_total, with_newest, records_in}
 use Rattle.oe_journal.specs.Rewinds.{uncounted, without_newest}
 use Rattle.oe_journal.specs.Rewinds as journal
-use Rattle.oe_segments.specs.Stands.{model_records, undo_of}
-use Rattle.oe_segments.proofs.LawFacts as stands
-use Rattle.oe_segments.proofs.StandsFacts.{slots_counted}
+use Rattle.oe_log.specs.Stands.{model_records, undo_of}
+use Rattle.oe_log.proofs.LawFacts as stands
+use Rattle.oe_log.proofs.StandsFacts.{slots_counted}
 use Rattle.oe_journal.specs.GivesUp.{IsDeletedIn, HasNoRecord, GivesUpThose, GivesUpDeleted}
 use Rattle.oe_journal.specs.GoesBack.{HavePlaces, AllHavePlaces}
-use Rattle.oe_segments.specs.Moments.{store_with}
-use Rattle.oe_segments.specs.Moments as past
+use Rattle.oe_log.specs.Moments.{store_with}
+use Rattle.oe_log.specs.Moments as past
 use Rattle.oe_journal.proofs.BackFacts.{more_places}
 use Rattle.oe_journal.proofs.LeftFacts.{none_in_open, none_in_commits}
 use Rattle.oe_journal.proofs.PurgeFacts.{all_more_places}

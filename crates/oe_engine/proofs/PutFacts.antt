@@ -12,7 +12,6 @@ use Rattle.oe_change.specs.Writes.{written}
 use Rattle.oe_store.specs.Places.{rows}
 use Rattle.oe_store.specs.Places as tables
 use Rattle.oe_log.specs.Log.{IsFull}
-use Rattle.oe_segments.specs.Segments.{log_of}
 use Rattle.oe_undo.specs.Undo.{UndoState}
 use Rattle.oe_journal.specs.Linked.{AreLinked}
 use Rattle.oe_journal.specs.Writes.{IsRecorded, HasRecorded, HasRoomFor}
@@ -84,8 +83,8 @@ module _ (ts ts' : tables.Places) (u x : UndoState) (ls : Holdings) (t : ℕ) wh
     put_accepted r c found h = made_accepted r c (put_recorded r c found h)
 
     pub put_fits : {T E : Type 0} (r : Result T E) (c : Change) → written w (rows ts) ≡ Some c → OnOk r (HasRecorded w ts ts' u x t) → OnOk r (HasRoomFor w (rows ts) u.log t)
-        → OnOk r (IsFull (log_of u.log) t (record_length (record_on system c (rows ts))) → ⊥)
+        → OnOk r (IsFull u.log t (record_length (record_on system c (rows ts))) → ⊥)
     put_fits (Ok v) c found h room =
         let accepted = (of_change (λ d. IsRecorded d ts ts' u x t) _ c found h).applies.accepted in
-        subst (λ o. IsSomeAnd o (λ b. IsFull (log_of u.log) t (record_length b) → ⊥)) (write_records w c (rows ts) found accepted) room
+        subst (λ o. IsSomeAnd o (λ b. IsFull u.log t (record_length b) → ⊥)) (write_records w c (rows ts) found accepted) room
     put_fits (Err e) c found h room = tt

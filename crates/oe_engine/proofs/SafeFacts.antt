@@ -25,8 +25,8 @@ use Rattle.oe_model.proofs.RowFacts.{record_key_of}
 use Rattle.oe_model.proofs.PresenceFacts.{missing}
 use Rattle.oe_model.proofs.SystemLaws as model
 use Rattle.oe_store.specs.Places as tables
-use Rattle.oe_segments.specs.Segments as undo
-use Rattle.oe_segments.specs.Stands.{model_records}
+use Rattle.oe_log.specs.Log as undo
+use Rattle.oe_log.specs.Stands.{model_records}
 use Rattle.oe_undo.specs.Chains.{HaveNone, IsAlone}
 use Rattle.oe_locks.specs.Held as locks
 use Rattle.oe_locks.specs.Held.{Holdings}

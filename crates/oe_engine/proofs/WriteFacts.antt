@@ -22,8 +22,7 @@ use Rattle.oe_change.specs.declared.writes.Write.TheVariants.{WarehouseYtd, Dist
 use Rattle.oe_change.specs.Writes.{key_written, written}
 use Rattle.oe_store.specs.Places.{Places, rows}
 use Rattle.oe_change.specs.Applies.{Refuses, IsFirst}
-use Rattle.oe_log.specs.Log.{IsFull}
-use Rattle.oe_segments.specs.Segments.{SegmentLog, log_of}
+use Rattle.oe_log.specs.Log.{IsFull, SegmentLog}
 use Rattle.oe_journal.specs.Records.{record_of_write}
 use Rattle.oe_journal.specs.Writes.{CantWrite, Absent, Full, Refused}
 use Rattle.oe_journal.proofs.RecordFacts.{recorded}
@@ -149,12 +148,12 @@ no_longer (DeleteNewOrder k) r c b = of_these (IsNoLonger r) _ c _ b (deleted_as
     deleted_as_long (Some x) = no_less _
 
 -- the record has no room
-full_as : (u : SegmentLog) (t m n : ℕ) → m ≤ n → IsFull (log_of u) t m → IsFull (log_of u) t n
+full_as : (u : SegmentLog) (t m n : ℕ) → m ≤ n → IsFull u t m → IsFull u t n
 full_as u t m n h f = (omega (arith, h, f.0), f.1)
 
 module _ (w : Write) (s : Places) (u : SegmentLog) (t : ℕ) where
-  full_write : (c : Change) → written w (rows s) ≡ Some c → (o : Option Record) → record_of_write w (rows s) ≡ o → IsSomeAnd o (λ b. IsFull (log_of u) t (record_length b))
-      → IsFull (log_of u) t (record_length (record_on system c (rows s)))
+  full_write : (c : Change) → written w (rows s) ≡ Some c → (o : Option Record) → record_of_write w (rows s) ≡ o → IsSomeAnd o (λ b. IsFull u t (record_length b))
+      → IsFull u t (record_length (record_on system c (rows s)))
   full_write c found None e h = absurd h
   full_write c found (Some b) e h = full_as u t (record_length b) (record_length (record_on system c (rows s))) (no_longer w (rows s) c b found e) h
 
@@ -164,7 +163,7 @@ module _ (w : Write) (s : Places) (u : SegmentLog) (t : ℕ) where
   refused_written c _ found (Full h) = tt
   refused_written c e found (Refused _ room h) = refused_so c s e (of_change (λ d. Refuses d s e × IsFirst d (rows s) e) _ c found h).0
 
-  pub refused_full : (c : Change) (e : Refusal) → written w (rows s) ≡ Some c → CantWrite w s u t e → e ≡ UndoFull → IsFull (log_of u) t (record_length (record_on system c (rows s)))
+  pub refused_full : (c : Change) (e : Refusal) → written w (rows s) ≡ Some c → CantWrite w s u t e → e ≡ UndoFull → IsFull u t (record_length (record_on system c (rows s)))
   refused_full c _ found (Absent a) same = let no : ◌≡◌ {A = Option Change} None (Some c) = sym a ∙ found in cc
   refused_full c _ found (Full h) same = full_write c found _ refl h
   refused_full c e found (Refused _ room h) same =

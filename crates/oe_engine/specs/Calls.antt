@@ -19,7 +19,7 @@ use Rattle.oe_model.specs.Requests.{number_rejection}
 use Rattle.oe_model.specs.System.{system, terminal_limit}
 use Rattle.oe_store.specs.Places as tables
 use Rattle.oe_change.specs.Applies.{Refuses}
-use Rattle.oe_segments.specs.Moments.{IsBetween, IsOutside}
+use Rattle.oe_log.specs.Moments.{IsBetween, IsOutside}
 use Rattle.oe_engine.specs.View.{EngineState, View, view_of, Handle, IsOpen}
 use Rattle.oe_engine.specs.declared.programs.Lock.{Lock}
 

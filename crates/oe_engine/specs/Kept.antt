@@ -2,9 +2,9 @@
 use Rattle.std.specs.Prelude.{◌≡◌, ℕ, suc, ◌<◌, true, false, length, is_some}
 use Rattle.oe_values.specs.declared.numbers.TheConstants.{TERMINALS}
 use Rattle.oe_store.specs.Places as tables
-use Rattle.oe_segments.specs.Segments.{active_at, count_at}
-use Rattle.oe_segments.specs.Segments as undo
-use Rattle.oe_segments.specs.Stands.{undo_of}
+use Rattle.oe_log.specs.Log.{active_at, count_at}
+use Rattle.oe_log.specs.Log as undo
+use Rattle.oe_log.specs.Stands.{undo_of}
 use Rattle.oe_locks.specs.Held.{Holdings, HoldsNothing}
 use Rattle.oe_undo.specs.Undo.{UndoState}
 use Rattle.oe_journal.specs.GoesBack.{HavePlaces, AllHavePlaces}

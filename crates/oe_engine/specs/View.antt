@@ -9,9 +9,9 @@ use Rattle.oe_model.specs.Locks.{mode_of}
 use Rattle.oe_model.specs.System.{system}
 use Rattle.oe_store.specs.Places.{rows}
 use Rattle.oe_store.specs.Places as tables
-use Rattle.oe_segments.specs.Segments.{active_at}
-use Rattle.oe_segments.specs.Segments as undo
-use Rattle.oe_segments.specs.Stands.{undo_of, seals_of, counts_of}
+use Rattle.oe_log.specs.Log.{active_at}
+use Rattle.oe_log.specs.Log as undo
+use Rattle.oe_log.specs.Stands.{undo_of, seals_of, counts_of}
 use Rattle.oe_undo.specs.Links.{LinkMaps}
 use Rattle.oe_locks.specs.Held.{Holdings, held}
 

@@ -18,7 +18,7 @@ use crate::programs::Lock;
 use oe_keys::{Mode, Name};
 use oe_locks::Locks;
 use oe_requests::{Column, Refusal, Reply, Request};
-use oe_segments::{ExtentCount, Segment};
+use oe_log::{ExtentCount, Segment};
 use oe_store::Tables;
 use oe_table::tables::NoMemory;
 use oe_undo::Undo;

@@ -12,5 +12,5 @@ pub mod writes;
 
 pub use access::Parts;
 pub use engine::{Engine, Mark, Tx};
-pub use oe_segments::ExtentCount;
+pub use oe_log::ExtentCount;
 pub use programs::{Lock, Progress};

@@ -1,7 +1,7 @@
 //! The undo log of an engine that is opened. Each key that has a place in a table that is changed has one for its link, so that no
 //! later change of its row takes memory for that.
 ghost use Rattle.std.specs.Prelude.{◌≡◌, IfOk, OnOk};
-ghost use Rattle.oe_segments.specs.Segments.{no_segments};
+ghost use Rattle.oe_log.specs.Log.{no_segments};
 ghost use Rattle.oe_journal.specs.Linked.{AreLinked};
 ghost use Rattle.oe_undo.specs.Links.{KeepsPlaces};
 ghost use Rattle.oe_locks.specs.Held.{IsIdle};
@@ -9,7 +9,7 @@ ghost use Rattle.oe_engine.specs.Opened.{IsLinked, HasWaiting, IsCovered};
 
 use oe_keys::{Key, Table};
 use oe_locks::Locks;
-use oe_segments::ExtentCount;
+use oe_log::ExtentCount;
 use oe_store::Tables;
 use oe_table::tables::NoMemory;
 use oe_undo::{Undo, comes_with};

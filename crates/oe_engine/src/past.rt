@@ -1,6 +1,6 @@
 //! Commits that are forgotten or undone.
 ghost use Rattle.std.specs.Prelude.{◌≡◌, IfErr, OnOk, OnErr};
-ghost use Rattle.oe_segments.specs.Moments.{IsOutside};
+ghost use Rattle.oe_log.specs.Moments.{IsOutside};
 ghost use Rattle.oe_journal.specs.GivesUp.{GivesUpDeleted};
 ghost use Rattle.oe_journal.specs.GoesBack.{CanUnwindAll};
 ghost use Rattle.oe_engine.specs.View.{view_of};

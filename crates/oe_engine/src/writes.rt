@@ -17,7 +17,7 @@ use crate::engine::{Engine, Tx};
 use crate::programs::Lock;
 use oe_change::Write;
 use oe_requests::Refusal;
-use oe_segments::Segment;
+use oe_log::Segment;
 use oe_values::Terminal;
 
 impl Engine {

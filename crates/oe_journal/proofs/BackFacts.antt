@@ -11,12 +11,12 @@ use Rattle.oe_model.specs.System.{system}
 use Rattle.oe_store.specs.Places.{rows, HasPlace, SamePlaces}
 use Rattle.oe_store.specs.Places as tables
 use Rattle.oe_change.specs.PutBack.{CanPutBack}
-use Rattle.oe_log.specs.Log.{Logged, newest_of}
-use Rattle.oe_segments.specs.Segments.{SegmentLog, Open, active_at, records_at, with_records, popped}
-use Rattle.oe_segments.specs.Stands.{model_records, undo_of, seals_of, counts_of}
+use Rattle.oe_log.specs.Records.{Logged, newest_of}
+use Rattle.oe_log.specs.Log.{SegmentLog, Open, active_at, records_at, with_records, popped}
+use Rattle.oe_log.specs.Stands.{model_records, undo_of, seals_of, counts_of}
 use Rattle.oe_journal.specs.GoesBack.{CanUnwind, HavePlaces}
 use Rattle.oe_journal.specs.Unwinds.{TakesBack}
-use Rattle.oe_segments.proofs.StateFacts.{some_of, records_open, records_size, records_are, own_records, one_popped, records_stand}
+use Rattle.oe_log.proofs.StateFacts.{some_of, records_open, records_size, records_are, own_records, one_popped, records_stand}
 
 -- keys that had places have them in tables in which none was lost
 pub more_places : (ts ts' : tables.Places) → ((k : Key) → HasPlace ts k → HasPlace ts' k) → (bs : List Record) → HavePlaces ts bs → HavePlaces ts' bs

@@ -9,8 +9,8 @@ use Rattle.oe_model.specs.Rows.{is_key}
 use Rattle.oe_model.specs.Changes.{record_key}
 use Rattle.oe_model.specs.System.{system, terminal_limit}
 use Rattle.oe_model.proofs.RowFacts.{key_refl}
-use Rattle.oe_log.specs.Log.{Logged}
-use Rattle.oe_segments.specs.Segments.{SegmentLog, idle, records_in, records_at, total_count}
+use Rattle.oe_log.specs.Records.{Logged}
+use Rattle.oe_log.specs.Log.{SegmentLog, idle, records_in, records_at, total_count}
 use Rattle.oe_undo.specs.declared.holders.Link.{Link}
 use Rattle.oe_undo.specs.declared.holders.Holder.TheVariants.{Open}
 use Rattle.oe_undo.specs.Held.{Held, held_by, held_open, held_commits, held, of_key, horizon}

@@ -9,9 +9,9 @@ use Rattle.oe_model.specs.Rows.{is_key}
 use Rattle.oe_model.specs.Changes.{record_key}
 use Rattle.oe_model.specs.System.{system, terminal_limit}
 use Rattle.oe_model.proofs.RowFacts.{key_refl}
-use Rattle.oe_log.specs.Log.{Logged}
-use Rattle.oe_segments.specs.Segments.{SegmentLog, Committed, idle, records_in, records_at, total_count}
-use Rattle.oe_segments.specs.Stands.{model_records, undo_of}
+use Rattle.oe_log.specs.Records.{Logged}
+use Rattle.oe_log.specs.Log.{SegmentLog, Committed, idle, records_in, records_at, total_count}
+use Rattle.oe_log.specs.Stands.{model_records, undo_of}
 use Rattle.oe_undo.specs.declared.holders.Holder.{Holder}
 use Rattle.oe_undo.specs.declared.holders.Holder.TheVariants.{Open, At}
 use Rattle.oe_undo.specs.Held.{Held, held_by, held_open, held_commits, of_key}

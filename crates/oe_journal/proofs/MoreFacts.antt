@@ -9,10 +9,10 @@ use Rattle.oe_model.specs.Changes.{Change, Record, record_key, key_of}
 use Rattle.oe_model.proofs.RowFacts.{record_key_of}
 use Rattle.oe_store.specs.Places.{Places, rows}
 use Rattle.oe_change.specs.Applies.{Applies}
-use Rattle.oe_log.specs.Log.{Logged, logged}
-use Rattle.oe_segments.specs.Segments.{SegmentLog, Open as OpenSegment, active_at, records_at, popped}
-use Rattle.oe_segments.specs.Stands.{model_records}
-use Rattle.oe_segments.specs.Laws.{StandsWith}
+use Rattle.oe_log.specs.Records.{Logged, logged}
+use Rattle.oe_log.specs.Log.{SegmentLog, Open as OpenSegment, active_at, records_at, popped}
+use Rattle.oe_log.specs.Stands.{model_records}
+use Rattle.oe_log.specs.Laws.{StandsWith}
 use Rattle.oe_undo.specs.Held.{horizon}
 use Rattle.oe_undo.specs.Laws.{IsWhole}
 use Rattle.oe_undo.specs.Links.{HasPlace, links_of}
@@ -20,7 +20,7 @@ use Rattle.oe_undo.specs.Undo.{UndoState, seen, unended, IsGivenBack, GivesBack}
 use Rattle.oe_journal.specs.Linked.{AreLinked, SameLinks}
 use Rattle.oe_journal.specs.Records.{record_in}
 use Rattle.oe_journal.specs.Writes.{HasMore, IsRecorded}
-use Rattle.oe_segments.proofs.StateFacts.{some_of, records_open, records_size, records_are, records_stand, pushed_popped}
+use Rattle.oe_log.proofs.StateFacts.{some_of, records_open, records_size, records_are, records_stand, pushed_popped}
 use Rattle.oe_undo.proofs.OwnerFacts.{followed_unended}
 use Rattle.oe_undo.proofs.LeadFacts.{set_leads}
 use Rattle.oe_journal.proofs.LinkFacts.{given_back, still_linked, one_more_linked}

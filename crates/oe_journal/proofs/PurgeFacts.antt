@@ -13,17 +13,17 @@ use Rattle.oe_model.specs.System.{system, terminal_limit}
 use Rattle.oe_store.specs.Places.{rows, HasPlace, GivesUp}
 use Rattle.oe_store.specs.Places as tables
 use Rattle.oe_layout.specs.Stored.{deleted_new_order}
-use Rattle.oe_segments.specs.Segments.{SegmentLog, Committed, committed_records, records_of, total_count, with_newest}
-use Rattle.oe_segments.specs.Stands.{model_records, undo_of, DeletesNothing}
-use Rattle.oe_segments.proofs.LawFacts as stands
-use Rattle.oe_segments.proofs.StandsFacts.{totals}
+use Rattle.oe_log.specs.Log.{SegmentLog, Committed, committed_records, records_of, total_count, with_newest}
+use Rattle.oe_log.specs.Stands.{model_records, undo_of, DeletesNothing}
+use Rattle.oe_log.proofs.LawFacts as stands
+use Rattle.oe_log.proofs.StandsFacts.{totals}
 use Rattle.oe_undo.specs.declared.holders.Link.{Link}
 use Rattle.oe_undo.specs.Held.{horizon}
 use Rattle.oe_undo.specs.Chains.{IsEnd, AreChained}
 use Rattle.oe_undo.specs.Laws.{IsWhole, Calls_keep_chains, Ends_without_records}
 use Rattle.oe_journal.specs.GoesBack.{AllHavePlaces}
 use Rattle.oe_journal.specs.GivesUp.{IsDelete, HasDelete, IsDeleted, IsDeletedIn, HasNoRecord, GivesUpThose, GivesUpDeleted}
-use Rattle.oe_segments.specs.Moments.{store_with, newest}
+use Rattle.oe_log.specs.Moments.{store_with, newest}
 use Rattle.oe_journal.proofs.BackFacts.{more_places}
 
 -- Keys that had places have them in tables in which none was lost

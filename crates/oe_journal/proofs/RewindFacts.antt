@@ -10,10 +10,10 @@ use Rattle.oe_theory.proofs.Sets.{some_inj}
 use Rattle.oe_theory.specs.Store.{Seal, counts_before, commit_count}
 use Rattle.oe_model.specs.Changes.{Record}
 use Rattle.oe_model.specs.System.{system}
-use Rattle.oe_segments.specs.Segments.{SegmentLog, Open, TerminalState, Committed, idle, records_in, active_at, records_at, count_at, open_total, with_records, dropped, reopened}
-use Rattle.oe_segments.specs.Stands.{model_records, undo_of, seal_of, seals_of, counts_of}
+use Rattle.oe_log.specs.Log.{SegmentLog, Open, TerminalState, Committed, idle, records_in, active_at, records_at, count_at, open_total, with_records, dropped, reopened}
+use Rattle.oe_log.specs.Stands.{model_records, undo_of, seal_of, seals_of, counts_of}
 use Rattle.oe_journal.specs.Rewinds.{uncounted, without_newest, StandsRewound}
-use Rattle.oe_segments.proofs.StateFacts.{set_twice, seen_same, records_are}
+use Rattle.oe_log.proofs.StateFacts.{set_twice, seen_same, records_are}
 
 abbrev see_records : TerminalState → List Record
 see_records s = model_records (records_in s.active)

@@ -8,11 +8,11 @@ use Rattle.oe_model.specs.Changes.{Record}
 use Rattle.oe_model.specs.System.{system}
 use Rattle.oe_store.specs.Places.{rows, HasPlace, SamePlaces}
 use Rattle.oe_store.specs.Places as tables
-use Rattle.oe_log.specs.Log.{Logged}
-use Rattle.oe_segments.specs.Segments.{SegmentLog, Committed, active_at, records_at, reopened}
-use Rattle.oe_segments.specs.Stands.{model_records, undo_of}
+use Rattle.oe_log.specs.Records.{Logged}
+use Rattle.oe_log.specs.Log.{SegmentLog, Committed, active_at, records_at, reopened}
+use Rattle.oe_log.specs.Stands.{model_records, undo_of}
 use Rattle.oe_journal.specs.GoesBack.{CanUnwind, CanUnwindAll, HavePlaces, AllHavePlaces}
-use Rattle.oe_segments.specs.Moments.{store_with, newest}
+use Rattle.oe_log.specs.Moments.{store_with, newest}
 use Rattle.oe_journal.specs.Rewinds.{uncounted, without_newest}
 use Rattle.oe_journal.proofs.BackFacts.{more_places, same_places, then_places}
 use Rattle.oe_journal.proofs.RewindFacts.{rewinds, quiet_still, left_over, IsNewest, newest_records}

@@ -12,13 +12,13 @@ use Rattle.oe_change.specs.declared.writes.Write.TheVariants.{WarehouseYtd, Dist
 use Rattle.oe_change.specs.Writes.{key_written, written}
 use Rattle.oe_store.specs.Places.{Places, rows}
 use Rattle.oe_change.specs.Applies.{Applies}
-use Rattle.oe_segments.specs.Segments.{SegmentLog, active_at}
+use Rattle.oe_log.specs.Log.{SegmentLog, active_at}
 use Rattle.oe_undo.specs.Undo.{UndoState}
 use Rattle.oe_journal.specs.Linked.{MayChange, AreLinked}
 use Rattle.oe_journal.specs.Records.{record_in, record_of_write}
 use Rattle.oe_journal.specs.Writes.{IsMade, HasMore, HasWritten, IsRecorded, HasRecorded, CantWrite, Absent}
 use Rattle.oe_journal.proofs.RecordFacts.{write_records, recorded}
-use Rattle.oe_segments.proofs.StateFacts.{some_of}
+use Rattle.oe_log.proofs.StateFacts.{some_of}
 use Rattle.oe_journal.proofs.MoreFacts.{of_some, there_is, mapped_key, own_key, more_stands, recorded_linked}
 
 -- ---- the record's key is the one that is written

@@ -7,7 +7,7 @@ use Rattle.oe_rows.specs.declared.orders.NewOrder.{NewOrder}
 use Rattle.oe_model.specs.Rows.{row_at}
 use Rattle.oe_model.specs.Changes.{Record, DeletedNewOrder}
 use Rattle.oe_store.specs.Places.{Places, rows, HasPlace}
-use Rattle.oe_segments.specs.Segments.{SegmentLog}
+use Rattle.oe_log.specs.Log.{SegmentLog}
 use Rattle.oe_undo.specs.Held.{held, of_key}
 
 -- the record is of a delete of this NEW-ORDER row

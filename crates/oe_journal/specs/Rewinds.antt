@@ -4,9 +4,9 @@ use Rattle.oe_requests.specs.declared.refusals.Refusal.{Refusal}
 use Rattle.oe_requests.specs.declared.refusals.Refusal.TheVariants.{NotQuiet}
 use Rattle.oe_theory.specs.Store.{counts_before}
 use Rattle.oe_model.specs.System.{system}
-use Rattle.oe_segments.specs.Segments.{SegmentLog, Committed, count_at, active_at, open_total}
-use Rattle.oe_segments.specs.Moments.{IsUnkept}
-use Rattle.oe_segments.specs.Stands.{undo_of, seals_of, counts_of}
+use Rattle.oe_log.specs.Log.{SegmentLog, Committed, count_at, active_at, open_total}
+use Rattle.oe_log.specs.Moments.{IsUnkept}
+use Rattle.oe_log.specs.Stands.{undo_of, seals_of, counts_of}
 
 -- the first of these commits gone, which its terminal no longer counts
 abbrev pub uncounted : SegmentLog → List Committed → SegmentLog

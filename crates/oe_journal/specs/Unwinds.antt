@@ -4,8 +4,8 @@ use Rattle.oe_theory.specs.Undo.{unwind, put_records}
 use Rattle.oe_model.specs.System.{system}
 use Rattle.oe_store.specs.Places.{rows, SamePlaces}
 use Rattle.oe_store.specs.Places as tables
-use Rattle.oe_segments.specs.Segments.{SegmentLog, active_at}
-use Rattle.oe_segments.specs.Stands.{undo_of, seals_of, counts_of}
+use Rattle.oe_log.specs.Log.{SegmentLog, active_at}
+use Rattle.oe_log.specs.Stands.{undo_of, seals_of, counts_of}
 use Rattle.oe_journal.specs.GoesBack.{HavePlaces}
 
 -- a log with other records of one terminal's open segment, and tables with the same places

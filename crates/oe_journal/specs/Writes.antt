@@ -11,10 +11,9 @@ use Rattle.oe_change.specs.Writes.{key_written, written}
 use Rattle.oe_layout.specs.declared.links.Previous.{Previous}
 use Rattle.oe_store.specs.Places.{Places, rows}
 use Rattle.oe_change.specs.Applies.{Applies, Refuses, IsFirst}
-use Rattle.oe_log.specs.Log.{IsFull}
-use Rattle.oe_segments.specs.Segments.{SegmentLog, active_at, log_of}
-use Rattle.oe_segments.specs.Stands.{undo_of}
-use Rattle.oe_segments.specs.Laws.{StandsWith}
+use Rattle.oe_log.specs.Log.{IsFull, SegmentLog, active_at}
+use Rattle.oe_log.specs.Stands.{undo_of}
+use Rattle.oe_log.specs.Laws.{StandsWith}
 use Rattle.oe_undo.specs.declared.holders.Holder.TheVariants.{Open}
 use Rattle.oe_undo.specs.Chains.{link_from}
 use Rattle.oe_undo.specs.Undo.{UndoState, seen, HasPushed}
@@ -62,11 +61,11 @@ HasRecorded w old new u u' t = IsSomeAnd (written w (rows old)) (λ c. IsRecorde
 
 -- the write's record fits the rest of the terminal's newest extent, or an extent is free
 abbrev pub HasRoomFor : Write → Rows → SegmentLog → ℕ → Type 0
-HasRoomFor w r u t = IsSomeAnd (record_of_write w r) (λ b. IsFull (log_of u) t (record_length b) → ⊥)
+HasRoomFor w r u t = IsSomeAnd (record_of_write w r) (λ b. IsFull u t (record_length b) → ⊥)
 
 -- it fits neither there nor in a free extent
 abbrev pub IsFullForWrite : Write → Rows → SegmentLog → ℕ → Type 0
-IsFullForWrite w r u t = IsSomeAnd (record_of_write w r) (λ b. IsFull (log_of u) t (record_length b))
+IsFullForWrite w r u t = IsSomeAnd (record_of_write w r) (λ b. IsFull u t (record_length b))
 
 -- why a write is refused, by its first cause
 pub data CantWrite (w : Write) (s : Places) (u : SegmentLog) (t : ℕ) : Refusal → Type 0 where

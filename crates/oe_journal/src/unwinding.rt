@@ -1,13 +1,13 @@
 //! Putting the newest records of an open segment back.
 ghost use Rattle.std.specs.Prelude.{◌≡◌, ◌≤◌, length, take, drop, IsSome};
 ghost use Rattle.oe_store.specs.Places.{rows};
-ghost use Rattle.oe_segments.specs.Segments.{active_at, records_at, with_records};
-ghost use Rattle.oe_segments.specs.Stands.{undo_of};
+ghost use Rattle.oe_log.specs.Log.{active_at, records_at, with_records};
+ghost use Rattle.oe_log.specs.Stands.{undo_of};
 ghost use Rattle.oe_undo.specs.Links as links;
 ghost use Rattle.oe_journal.specs.GoesBack.{CanUnwind, HavePlaces};
 ghost use Rattle.oe_journal.specs.Unwinds.{TakesBack};
 
-use oe_segments::Segment;
+use oe_log::Segment;
 use oe_store::Tables;
 use oe_undo::Undo;
 

@@ -2,7 +2,7 @@
 ghost use Rattle.std.specs.Prelude.{◌≡◌, IsSome, IfErr, OnOk, OnErr};
 ghost use Rattle.oe_change.specs.Writes.{key_written, written};
 ghost use Rattle.oe_store.specs.Places.{rows};
-ghost use Rattle.oe_segments.specs.Segments.{active_at};
+ghost use Rattle.oe_log.specs.Log.{active_at};
 ghost use Rattle.oe_undo.specs.Chains.{IsAlone};
 ghost use Rattle.oe_journal.specs.Linked.{AreLinked, SameLinks};
 ghost use Rattle.oe_journal.specs.Writes.{HasRoomFor, HasWritten, HasRecorded, CantWrite};
@@ -13,7 +13,7 @@ use crate::unplaced::unplaced;
 use oe_change::Write;
 use oe_layout::{LinkedRecord, Previous};
 use oe_requests::Refusal;
-use oe_segments::Segment;
+use oe_log::Segment;
 use oe_store::Tables;
 use oe_undo::{CantPush, Undo};
 

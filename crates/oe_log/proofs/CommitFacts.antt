@@ -1,10 +1,12 @@
 -- Commits that are made, given up or opened again.
-use Rattle.std.proofs.Common.{◌≡◌, ℕ, zero, suc, ◌+◌, ◌-◌, ◌<◌, ◌≤◌, List, [], ◌∷◌, ◌++◌, length, map, drop, take, get_or, set, refl, sym, ap, ◌∙◌, subst, arith}
+use Rattle.std.proofs.Common.{◌≡◌, ℕ, zero, suc, ◌+◌, ◌-◌, ◌<◌, ◌≤◌, List, [], ◌∷◌, length, map, drop, take, get_or, set, refl, sym, ap, ◌∙◌, subst, arith}
 use Rattle.std.specs.List.{AllByRecursion}
 use Rattle.std.proofs.lemmas.List.{length-map, length-set, map-set}
 use Rattle.oe_extent.specs.Ring as ring
-use Rattle.oe_log.specs.Log as log
-use Rattle.oe_log.specs.Kept.{records_in, AreRecords, stored, IsLog}
+use Rattle.oe_log.specs.RingLog as log
+use Rattle.oe_log.specs.Records as records
+use Rattle.oe_log.specs.Strings.{records_in, AreRecords}
+use Rattle.oe_log.specs.RingLog.{stored, IsLog}
 use Rattle.oe_log.proofs.RecordFacts.{at_slot, are_at, are_set, none_in}
 use Rattle.oe_log.proofs.LogFacts.{Stands, len_at}
 
@@ -100,7 +102,7 @@ module _ (r : ring.RingStrings) (lens cls : List ℕ) (capacity opens newest : �
           lens_room = omega (arith, k.lens_room, kept, fewer, size);
           moments = omega (arith, k.moments, fewer);
         };
-        view = ap (λ (l : List (List (log.Logged))). record (stored r opens newest) { committed = l })
+        view = ap (λ (l : List (List (records.Logged))). record (stored r opens newest) { committed = l })
             (take_map records_in (length r.committed - 1) r.committed
             ∙ ap (λ (n : ℕ). take (n - 1) (map records_in r.committed)) (sym (length-map r.committed records_in)));
       }

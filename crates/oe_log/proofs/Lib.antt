@@ -4,3 +4,11 @@ pub mod LogFacts
 pub mod CommitFacts
 pub mod ReadFacts
 pub mod WalkFacts
+pub mod HeadFacts
+pub mod ZipFacts
+pub mod CallFacts
+pub mod FullFacts
+pub mod StandsFacts
+pub mod StateFacts
+pub mod LawFacts
+pub mod UsedFacts

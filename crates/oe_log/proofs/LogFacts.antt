@@ -1,12 +1,14 @@
 -- What the calls make of a log.
-use Rattle.std.proofs.Common.{◌≡◌, ℕ, zero, suc, ◌+◌, ◌-◌, ◌<◌, ◌≤◌, List, [], ◌∷◌, length, map, drop, take, get_or, set, replicate, None, refl, sym, ap, ◌∙◌, subst, arith}
+use Rattle.std.proofs.Common.{◌≡◌, ℕ, zero, suc, ◌+◌, ◌-◌, ◌<◌, ◌≤◌, List, [], ◌∷◌, length, map, drop, get_or, set, replicate, None, refl, sym, ap, ◌∙◌, subst, arith}
 use Rattle.std.specs.List.{AllByRecursion}
 use Rattle.std.proofs.lemmas.List.{length-map, length-set, map-set, get_or-map, get_or-set_same, length-replicate, length-drop}
 use Rattle.oe_extent.specs.declared.extents.Address.{Address}
 use Rattle.oe_extent.specs.Ring as ring
-use Rattle.oe_log.specs.Log as log
-use Rattle.oe_log.specs.Log.{no_lens, no_lists}
-use Rattle.oe_log.specs.Kept.{record_address, records_in, AreRecords, stored, IsLog}
+use Rattle.oe_log.specs.RingLog as log
+use Rattle.oe_log.specs.Records as records
+use Rattle.oe_log.specs.RingLog.{no_lens, no_lists}
+use Rattle.oe_log.specs.Strings.{record_address, records_in, AreRecords}
+use Rattle.oe_log.specs.RingLog.{stored, IsLog}
 use Rattle.oe_layout.specs.declared.links.Previous.{Previous}
 use Rattle.oe_layout.specs.declared.loans.LentRecord.{LentRecord}
 use Rattle.oe_layout.specs.Links.{IsPrevious}
@@ -26,7 +28,7 @@ lens_of xs = map (λ (ss : List (ring.Addressed)). length ss) xs
 
 map_none : (n : ℕ) → map records_in (replicate n []) ≡ replicate n []
 map_none zero = refl
-map_none (suc n) = ap (λ (l : List (List (log.Logged))). [] ∷ l) (map_none n)
+map_none (suc n) = ap (λ (l : List (List (records.Logged))). [] ∷ l) (map_none n)
 
 no_lengths : (n : ℕ) → map (λ (ss : List (ring.Addressed)). length ss) (replicate n []) ≡ replicate n 0
 no_lengths zero = refl
@@ -52,7 +54,7 @@ new_at slots extents room capacity r lens cls e most er el ec =
         lens_room = omega arith;
         moments = omega arith;
       },
-      ap (λ (l : List (List (log.Logged))). record { extents = extents; opens = 0; active = l; committed = []; newest = 0 }) (map_none slots),
+      ap (λ (l : List (List (records.Logged))). record { extents = extents; opens = 0; active = l; committed = []; newest = 0 }) (map_none slots),
     )
 
 pub new_is : (extents room capacity : ℕ) (r : ring.RingStrings) (lens cls : List ℕ) → extents ≤ 4096
@@ -64,17 +66,17 @@ new_is extents room capacity r lens cls most er el ec =
 
 -- ---- one slot
 
-none_of : (rs : List (log.Logged)) → length rs ≡ 0 → rs ≡ []
+none_of : (rs : List (records.Logged)) → length rs ≡ 0 → rs ≡ []
 none_of [] e = refl
 none_of (r ∷ rs) e = absurd (omega (arith, e))
 
-set_none : (xs : List (List (log.Logged))) (t : ℕ) → get_or xs t [] ≡ [] → set xs t [] ≡ xs
+set_none : (xs : List (List (records.Logged))) (t : ℕ) → get_or xs t [] ≡ [] → set xs t [] ≡ xs
 set_none [] t e = refl
-set_none (x ∷ xs) zero e = ap (λ (y : List (log.Logged)). y ∷ xs) (sym e)
-set_none (x ∷ xs) (suc t) e = ap (λ (ys : List (List (log.Logged))). x ∷ ys) (set_none xs t e)
+set_none (x ∷ xs) zero e = ap (λ (y : List (records.Logged)). y ∷ xs) (sym e)
+set_none (x ∷ xs) (suc t) e = ap (λ (ys : List (List (records.Logged))). x ∷ ys) (set_none xs t e)
 
-pub none_there : (rs : List (log.Logged)) → length rs ≡ 0 → None ≡ log.newest_of rs
-none_there rs e = sym (ap log.newest_of (none_of rs e))
+pub none_there : (rs : List (records.Logged)) → length rs ≡ 0 → None ≡ records.newest_of rs
+none_there rs e = sym (ap records.newest_of (none_of rs e))
 
 module _ (r : ring.RingStrings) (lens cls : List ℕ) (capacity opens newest : ℕ) (k : IsLog r lens cls capacity opens newest) where
   pub len_at : (t n : ℕ) → t < 65 → n ≡ get_or lens t n → n ≡ length (get_or r.active t [])
@@ -92,7 +94,7 @@ module _ (r : ring.RingStrings) (lens cls : List ℕ) (capacity opens newest : �
       omega (arith, lt, e, k.slots)
 
   -- other records of a slot
-  pub changed : (t n : ℕ) (r' : ring.RingStrings) (lens' : List ℕ) (ss : List (ring.Addressed)) (rs : List (log.Logged)) → AreRecords ss
+  pub changed : (t n : ℕ) (r' : ring.RingStrings) (lens' : List ℕ) (ss : List (ring.Addressed)) (rs : List (records.Logged)) → AreRecords ss
       → r' ≡ record r { active = set r.active t ss } → lens' ≡ set lens t n → n ≡ length ss → records_in ss ≡ rs
       → Stands r' lens' cls capacity opens newest (log.with_records (stored r opens newest) t rs)
   changed t n r' lens' ss rs are er el en es =
@@ -110,7 +112,7 @@ module _ (r : ring.RingStrings) (lens cls : List ℕ) (capacity opens newest : �
           lens_room = k.lens_room;
           moments = k.moments;
         };
-        view = ap (λ (l : List (List (log.Logged))). record (stored r opens newest) { active = l }) (map-set records_in r.active t ss ∙ ap (set (map records_in r.active) t) es);
+        view = ap (λ (l : List (List (records.Logged))). record (stored r opens newest) { active = l }) (map-set records_in r.active t ss ∙ ap (set (map records_in r.active) t) es);
       }
 
   pub popped : (t n : ℕ) (r' : ring.RingStrings) → t < 65 → n ≡ get_or lens t n → r' ≡ ring.popped_at r t
@@ -125,21 +127,21 @@ module _ (r : ring.RingStrings) (lens cls : List ℕ) (capacity opens newest : �
   pub not_popped : (t n : ℕ) → t < 65 → n ≡ get_or lens t n → n ≡ 0 → stored r opens newest ≡ log.popped (stored r opens newest) t
   not_popped t n lt e z =
       let none : log.records_at (stored r opens newest) t ≡ [] = none_of _ (sym (len_is t n lt e) ∙ z) in
-      sym (ap (λ (l : List (List (log.Logged))). record (stored r opens newest) { active = l })
-      (ap (λ (l : List (log.Logged)). set (map records_in r.active) t (drop 1 l)) none ∙ set_none (map records_in r.active) t none))
+      sym (ap (λ (l : List (List (records.Logged))). record (stored r opens newest) { active = l })
+      (ap (λ (l : List (records.Logged)). set (map records_in r.active) t (drop 1 l)) none ∙ set_none (map records_in r.active) t none))
 
   pub pushed : (t n : ℕ) (r' : ring.RingStrings) (a : Address) (p : Previous) (l : LentRecord) → t < 65 → n ≡ get_or lens t n
       → IsPrevious p → IsInRanges (record_of_lent l) → r' ≡ ring.pushed_at r t a (record_image p (record_of_lent l))
-      → Stands r' (set lens t (n + 1)) cls capacity opens newest (log.pushed (stored r opens newest) t (log.logged (record_address a) p (record_of_lent l)))
+      → Stands r' (set lens t (n + 1)) cls capacity opens newest (log.pushed (stored r opens newest) t (records.logged (record_address a) p (record_of_lent l)))
   pushed t n r' a p l lt e hp hb er =
       let ss = get_or r.active t [] in
       let are = are_at r.active t k.active_are in
       let s : ring.Addressed = record { address = a; bytes = record_image p (record_of_lent l) } in
       let size : n + 1 ≡ length (s ∷ ss) = omega (arith, len_at t n lt e) in
       changed t (n + 1) r' (set lens t (n + 1)) (s ∷ ss)
-      (log.logged (record_address a) p (record_of_lent l) ∷ log.records_at (stored r opens newest) t) (written_is p l hp hb, are) er refl size
+      (records.logged (record_address a) p (record_of_lent l) ∷ log.records_at (stored r opens newest) t) (written_is p l hp hb, are) er refl size
       (seen_lent a p l ss hp hb
-      ∙ ap (λ (rs : List (log.Logged)). log.logged (record_address a) p (record_of_lent l) ∷ rs) (sym (at_slot r.active t)))
+      ∙ ap (λ (rs : List (records.Logged)). records.logged (record_address a) p (record_of_lent l) ∷ rs) (sym (at_slot r.active t)))
 
   -- which are not more than fit a word
   pub pushed_few : (t n : ℕ) (r' : ring.RingStrings) (a : Address) (p : Previous) (l : LentRecord) → t < 65 → n ≡ get_or lens t n

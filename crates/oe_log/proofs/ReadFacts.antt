@@ -6,8 +6,8 @@ use Rattle.oe_model.specs.Changes.{Record}
 use Rattle.oe_layout.specs.declared.links.RecordAddress.{RecordAddress}
 use Rattle.oe_layout.specs.declared.links.Previous.{Previous}
 use Rattle.oe_layout.specs.Records.{record_of_own}
-use Rattle.oe_log.specs.Log.{Logged, logged, IsAmong, HasAddress}
-use Rattle.oe_log.specs.Kept.{records_in, AreRecords}
+use Rattle.oe_log.specs.Records.{Logged, logged, IsAmong, HasAddress}
+use Rattle.oe_log.specs.Strings.{records_in, AreRecords}
 use Rattle.oe_layout.specs.Stored.{IsStoredRecord, IsToldLinked}
 use Rattle.oe_log.proofs.RecordFacts.{seen, at_slot, are_at, ring_address, record_of}
 

@@ -17,8 +17,8 @@ use Rattle.oe_layout.specs.RecordFronts.{record_at, ReadsRecord}
 use Rattle.oe_layout.specs.Stored.{IsStoredRecord}
 use Rattle.oe_layout.proofs.LengthFacts.{record_long}
 use Rattle.oe_layout.proofs.RecordFacts.{record_finds}
-use Rattle.oe_log.specs.Log.{Logged, newest_of, lengths, StandElsewhere}
-use Rattle.oe_log.specs.Kept.{record_address, before_others, records_in, AreRecords}
+use Rattle.oe_log.specs.Records.{Logged, newest_of, lengths, StandElsewhere}
+use Rattle.oe_log.specs.Strings.{record_address, before_others, records_in, AreRecords}
 
 -- what is read for what was lent
 abbrev Owned : LentRecord → Type 0

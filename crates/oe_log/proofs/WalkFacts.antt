@@ -6,8 +6,8 @@ use Rattle.oe_extent.specs.Ring as ring
 use Rattle.oe_layout.specs.Records.{record_of_own}
 use Rattle.oe_layout.specs.Stored.{told, IsStoredRecord}
 use Rattle.oe_layout.proofs.StoredFacts.{told_is}
-use Rattle.oe_log.specs.Log.{befores}
-use Rattle.oe_log.specs.Kept.{records_in, AreRecords}
+use Rattle.oe_log.specs.Records.{befores}
+use Rattle.oe_log.specs.Strings.{records_in, AreRecords}
 use Rattle.oe_log.proofs.RecordFacts.{seen, at_slot, are_at}
 
 pub all_stored : (ss : List (ring.Addressed)) → AreRecords ss → AllByRecursion IsStoredRecord (ring.strings_of ss)

@@ -1,52 +1,110 @@
--- How records lie in the ring as bytes: what an undo log keeps of itself.
-use Rattle.std.specs.Prelude.{◌≡◌, ◌≤◌, ◌+◌, ℕ, suc, List, [], ◌∷◌, length, map, Option, None, Some}
-use Rattle.std.specs.List.{AllByRecursion}
+-- How segments are kept: their transactions here, and their records in the log below.
+use Rattle.std.specs.Prelude.{◌≡◌, ℕ, suc, ◌+◌, ◌<◌, ◌≤◌, ◌==◌, cond, Bool, false, List, [], ◌∷◌, length, take, replicate, slice_get, get_or, option_map, None, Some, is_some}
+use Rattle.std.specs.List.{All, sum_by, count_by}
 use Rattle.oe_values.specs.declared.numbers.TheConstants.{TERMINALS}
-use Rattle.oe_extent.specs.declared.extents.Address.{Address}
-use Rattle.oe_extent.specs.Ring.{Addressed, RingStrings}
-use Rattle.oe_layout.specs.declared.links.RecordAddress.{RecordAddress}
-use Rattle.oe_layout.specs.declared.links.Previous.{Previous}
-use Rattle.oe_layout.specs.declared.records.OwnRecord.{OwnRecord}
-use Rattle.oe_layout.specs.Records.{record_of_own}
-use Rattle.oe_layout.specs.RecordFronts.{record_at}
-use Rattle.oe_layout.specs.Stored.{IsStoredRecord}
-use Rattle.oe_log.specs.Log.{Logged, RingLog}
+use Rattle.oe_requests.specs.declared.requests.Request.{Request}
+use Rattle.oe_requests.specs.declared.replies.Reply.{Reply}
+use Rattle.oe_log.specs.Records.{Logged}
+use Rattle.oe_log.specs.RingLog.{RingLog}
+use Rattle.oe_log.specs.declared.heads.SegmentOwner.{SegmentOwner}
+use Rattle.oe_log.specs.declared.heads.TerminalHead.{TerminalHead}
+use Rattle.oe_log.specs.Log.{Open, TerminalState, Committed, SegmentLog}
+use Rattle.oe_log.specs.Stands.{model_records, DeletesNothing}
 
-abbrev pub record_address : Address → RecordAddress
-record_address a = record { extent = a.extent; offset = a.offset }
+-- a commit without its records
+pub record Head : Type 0 where
+  pub terminal : ℕ
+  pub number : ℕ
+  pub deletes : Bool
+  pub request : Request
+  pub reply : Reply
 
--- a record that was read at that address, before others
-abbrev pub before_others : Address → Option (Previous × OwnRecord) → List Logged → List Logged
-before_others a None rs = rs
-before_others a (Some x) rs =
-    record { address = record_address a; previous = x.0; before = record_of_own x.1 } ∷ rs
+-- ---- what is seen: each with its records
 
--- the records that strings of the ring are
-abbrev pub records_in : List Addressed → List Logged
-records_in [] = []
-records_in (s ∷ ss) = before_others s.address (record_at s.bytes) (records_in ss)
+abbrev pub open_with : List Logged → SegmentOwner → Open
+open_with rs n = record { terminal = n.terminal; number = n.number; records = rs }
 
--- each string is a record's
-abbrev pub AreRecords : List Addressed → Type 0
-AreRecords ss = AllByRecursion (λ s. IsStoredRecord s.bytes) ss
+abbrev pub state_with : TerminalHead → List Logged → TerminalState
+state_with h rs = record { count = h.count; active = option_map (open_with rs) h.active }
 
-abbrev pub stored : RingStrings → ℕ → ℕ → RingLog
-stored r opens newest =
+abbrev pub states : List TerminalHead → List (List Logged) → List TerminalState
+states [] rss = []
+states (h ∷ hs) [] = []
+states (h ∷ hs) (rs ∷ rss) = state_with h rs ∷ states hs rss
+
+abbrev pub commit_with : Head → List Logged → Committed
+commit_with c rs = record { terminal = c.terminal; number = c.number; request = c.request; reply = c.reply; records = rs }
+
+abbrev pub commits : List Head → List (List Logged) → List Committed
+commits [] rss = []
+commits (c ∷ cs) [] = []
+commits (c ∷ cs) (rs ∷ rss) = commit_with c rs ∷ commits cs rss
+
+abbrev pub stored : List TerminalHead → List Head → RingLog → SegmentLog
+stored hs cs l =
     record {
-      extents = r.extents;
-      opens = opens;
-      active = map records_in r.active;
-      committed = map records_in r.committed;
-      newest = newest;
+      terminals = states hs l.active;
+      committed = commits cs l.committed;
+      extents = l.extents;
     }
 
-pub record IsLog (r : RingStrings) (lens committed_lens : List ℕ) (capacity opens newest : ℕ) : Type 0 where
-  pub slots : length r.active ≡ suc TERMINALS
-  pub extents : r.extents ≤ 4096
-  pub lens_are : lens ≡ map (λ ss. length ss) r.active
-  pub committed_lens_are : committed_lens ≡ map (λ ss. length ss) r.committed
-  pub active_are : AllByRecursion AreRecords r.active
-  pub committed_are : AllByRecursion AreRecords r.committed
-  pub room : opens ≤ r.room
-  pub lens_room : opens + length committed_lens ≤ capacity
-  pub moments : length r.committed ≤ newest
+-- ---- what is promised
+
+abbrev pub idle_head : TerminalHead
+idle_head = record { count = 0; active = None; deletes = false }
+
+-- nobody and the terminals; shut, so that no proof counts them
+unfoldable pub idle_heads : List TerminalHead
+idle_heads = replicate (suc TERMINALS) idle_head
+
+abbrev pub head_at : List TerminalHead → ℕ → TerminalHead
+head_at hs t = get_or hs t idle_head
+
+-- the open transaction of a terminal with this many commits
+pub record IsOf (t count : ℕ) (n : SegmentOwner) : Type 0 where
+  pub terminal : n.terminal ≡ t
+  pub number : n.number ≡ suc count
+  pub below : count < 4_294_967_295
+
+-- a commit that its terminal has counted
+pub record IsCounted (hs : List TerminalHead) (c : Head) : Type 0 where
+  pub first : 1 ≤ c.number
+  pub number : c.number ≤ (head_at hs c.terminal).count
+
+-- how many of these commits are a terminal's
+abbrev pub heads_of : ℕ → List Head → ℕ
+heads_of t [] = 0
+heads_of t (c ∷ cs) = cond (t == c.terminal) (suc (heads_of t cs)) (heads_of t cs)
+
+-- the number of each commit, newest first, is its terminal's count less the terminal's newer commits
+abbrev pub AreNumbered : (ℕ → ℕ) → List Head → Type 0
+AreNumbered counts cs = (later : ℕ) (c : Head) → slice_get cs later ≡ Some c → c.number + heads_of c.terminal (take later cs) ≡ counts c.terminal
+
+-- of the transactions alone
+pub record AreHeads (hs : List TerminalHead) (cs : List Head) (capacity newest opens : ℕ) : Type 0 where
+  pub size : length hs ≡ suc TERMINALS
+  pub nobody : (head_at hs 0).active ≡ None
+  pub counts : All (λ h. h.count < 4_294_967_296) hs
+  pub active : (t : ℕ) (n : SegmentOwner) → (head_at hs t).active ≡ Some n → IsOf t (head_at hs t).count n
+  pub commits : All (IsCounted hs) cs
+  pub numbers : AreNumbered (λ t. (head_at hs t).count) cs
+  pub moments : newest ≡ sum_by (λ h. h.count) hs
+  pub kept : length cs ≤ newest
+  pub opens_are : opens ≡ count_by (λ h. is_some h.active) hs
+  pub spare : length cs + opens ≤ capacity
+
+-- a commit that does not say that it deletes has no record of a deleted row
+abbrev pub CommitsTell : List Head → List (List Logged) → Type 0
+CommitsTell cs rss =
+    (later : ℕ) (c : Head) → slice_get cs later ≡ Some c → c.deletes ≡ false → DeletesNothing (model_records (get_or rss later []))
+
+-- of them and of the log with their records
+pub record IsKept (hs : List TerminalHead) (cs : List Head) (capacity : ℕ) (l : RingLog) : Type 0 where
+  pub heads : AreHeads hs cs capacity l.newest l.opens
+  pub slots : length l.active ≡ suc TERMINALS
+  pub one_by_one : length l.committed ≡ length cs
+  -- a terminal without an open segment has no records
+  pub empty : (t : ℕ) → (head_at hs t).active ≡ None → get_or l.active t [] ≡ []
+  -- what does not say that it deletes has no record of a deleted row
+  pub open_deletes : (t : ℕ) → (head_at hs t).deletes ≡ false → DeletesNothing (model_records (get_or l.active t []))
+  pub commit_deletes : CommitsTell cs l.committed

@@ -1,3 +1,9 @@
 -- What the clauses of this crate cite.
+pub mod Records
 pub mod Log
+pub mod Strings
+pub mod RingLog
 pub mod Kept
+pub mod Stands
+pub mod Laws
+pub mod Moments

@@ -1,145 +1,163 @@
--- The undo log as plain data, and what its calls do to it.
-use Rattle.std.specs.Prelude.{◌≡◌, ◌≢◌, ◌<◌, ◌≤◌, ◌+◌, ◌-◌, ◌⊎◌, ℕ, suc, List, [], ◌∷◌, length, map, take, drop, get_or, set, replicate, Option, None, Some}
-use Rattle.std.specs.List.{AllByRecursion, sum_by}
+-- Transactions' segments as plain data, and what their calls do to them.
+use Rattle.std.specs.Prelude.{◌<◌, ◌≤◌, ℕ, suc, ◌+◌, ◌-◌, ◌==◌, cond, List, [], ◌∷◌, map, get_or, set, take, drop, replicate, option_map, Option, None, Some, is_some}
+use Rattle.std.specs.List.{sum_by, count_by}
 use Rattle.oe_values.specs.declared.numbers.TheConstants.{TERMINALS}
-use Rattle.oe_model.specs.Changes.{Record}
+use Rattle.oe_requests.specs.declared.requests.Request.{Request}
+use Rattle.oe_requests.specs.declared.replies.Reply.{Reply}
 use Rattle.oe_extent.specs.Ring.{filled}
-use Rattle.oe_model.specs.Lengths.{record_length}
 use Rattle.oe_layout.specs.declared.links.RecordAddress.{RecordAddress}
-use Rattle.oe_layout.specs.declared.links.Previous.{Previous}
+use Rattle.oe_log.specs.Records.{Logged, lengths, StandElsewhere}
+use Rattle.oe_log.specs.declared.heads.SegmentOwner.{SegmentOwner}
 
--- an undo record with its address, and what leads to the previous record of its row
-pub record Logged : Type 0 where
-  pub address : RecordAddress
-  pub previous : Previous
-  pub before : Record
+-- the open segment of a terminal's transaction with this number: its records are newest first
+pub record Open : Type 0 where
+  pub terminal : ℕ
+  pub number : ℕ
+  pub records : List Logged
 
-abbrev pub logged : RecordAddress → Previous → Record → Logged
-logged a p b = record { address = a; previous = p; before = b }
+-- a terminal's commits so far, and its open segment, if it has one
+pub record TerminalState : Type 0 where
+  pub count : ℕ
+  pub active : Option Open
+
+-- the segment of a transaction that has committed: its records are newest first
+pub record Committed : Type 0 where
+  pub terminal : ℕ
+  pub number : ℕ
+  pub request : Request
+  pub reply : Reply
+  pub records : List Logged
 
 -- all that is stored
-pub record RingLog : Type 0 where
+pub record SegmentLog : Type 0 where
+  -- by the terminals' numbers, from 0, which is nobody's, to 64
+  pub terminals : List TerminalState
+  -- the newest first
+  pub committed : List Committed
   pub extents : ℕ
-  -- how many segments are open
-  pub opens : ℕ
-  -- each terminal's records, the newest first, by the terminals' numbers, from 0, which is nobody's, to 64
-  pub active : List (List Logged)
-  -- those of commits, the newest commit first
-  pub committed : List (List Logged)
-  -- the moment of the newest commit
-  pub newest : ℕ
 
--- a terminal's records
-abbrev pub records_at : RingLog → ℕ → List Logged
-records_at v t = get_or v.active t []
+-- a terminal that has neither committed nor a segment open
+abbrev pub idle : TerminalState
+idle = record { count = 0; active = None }
 
--- the records themselves
-abbrev pub befores : List Logged → List Record
-befores rs = map (λ r. r.before) rs
+abbrev pub state_at : SegmentLog → ℕ → TerminalState
+state_at v t = get_or v.terminals t idle
 
--- the newest of these records, if there is one
-abbrev pub newest_of : List Logged → Option (Previous × Record)
-newest_of [] = None
-newest_of (r ∷ rs) = Some (r.previous, r.before)
+-- a terminal's commits so far
+abbrev pub count_at : SegmentLog → ℕ → ℕ
+count_at v t = (state_at v t).count
 
--- for each slot none; shut, so that no proof counts them
-unfoldable pub no_lists : List (List Logged)
-no_lists = replicate (suc TERMINALS) []
+-- its open segment
+abbrev pub active_at : SegmentLog → ℕ → Option Open
+active_at v t = (state_at v t).active
 
-unfoldable pub no_lens : List ℕ
-no_lens = replicate (suc TERMINALS) 0
+abbrev pub records_in : Option Open → List Logged
+records_in None = []
+records_in (Some o) = o.records
+
+-- the records of its open segment, newest first
+abbrev pub records_at : SegmentLog → ℕ → List Logged
+records_at v t = records_in (active_at v t)
+
+abbrev pub records_of : Committed → List Logged
+records_of c = c.records
+
+-- the records of each commit, the newest commit first
+abbrev pub committed_records : SegmentLog → List (List Logged)
+committed_records v = map records_of v.committed
+
+-- whose a commit was
+abbrev pub owner_of : Committed → SegmentOwner
+owner_of c = record { terminal = c.terminal; number = c.number }
+
+-- all commits so far
+abbrev pub total_count : SegmentLog → ℕ
+total_count v = sum_by (λ s. s.count) v.terminals
+
+-- how many terminals have a segment open
+abbrev pub open_total : SegmentLog → ℕ
+open_total v = count_by (λ s. is_some s.active) v.terminals
+
+-- how many of these commits are a terminal's
+abbrev pub commits_of : ℕ → List Committed → ℕ
+commits_of t [] = 0
+commits_of t (c ∷ cs) = cond (t == c.terminal) (suc (commits_of t cs)) (commits_of t cs)
+
+-- nobody and the terminals, all idle; shut, so that no proof counts them
+unfoldable pub idle_terminals : List TerminalState
+idle_terminals = replicate (suc TERMINALS) idle
 
 -- nothing recorded, nothing committed
-abbrev pub no_records : ℕ → RingLog
-no_records e =
-    record { extents = e; opens = 0; active = no_lists; committed = []; newest = 0 }
+abbrev pub no_segments : ℕ → SegmentLog
+no_segments e = record { terminals = idle_terminals; committed = []; extents = e }
 
--- another segment open
-abbrev pub opened : RingLog → RingLog
-opened v = record v { opens = suc v.opens }
+-- a terminal's state replaced
+abbrev pub with_state : SegmentLog → ℕ → TerminalState → SegmentLog
+with_state v t s = record v { terminals = set v.terminals t s }
 
--- one open segment less
-abbrev pub closed : RingLog → RingLog
-closed v = record v { opens = v.opens - 1 }
+-- its open segment replaced
+abbrev pub with_active : SegmentLog → ℕ → Option Open → SegmentLog
+with_active v t a = with_state v t (record { count = count_at v t; active = a })
 
--- a terminal has these records
-abbrev pub with_records : RingLog → ℕ → List Logged → RingLog
-with_records v t rs = record v { active = set v.active t rs }
+-- the records of its open segment replaced, where it has one
+abbrev pub with_records : SegmentLog → ℕ → List Logged → SegmentLog
+with_records v t rs = with_active v t (option_map {T = Open} (λ o. record o { records = rs }) (active_at v t))
 
--- a terminal has a record more
-abbrev pub pushed : RingLog → ℕ → Logged → RingLog
+-- an empty segment opened, of the terminal's next number
+abbrev pub opened : SegmentLog → ℕ → SegmentLog
+opened v t = with_active v t (Some (record { terminal = t; number = suc (count_at v t); records = [] }))
+
+-- one record more
+abbrev pub pushed : SegmentLog → ℕ → Logged → SegmentLog
 pushed v t r = with_records v t (r ∷ records_at v t)
 
--- a terminal is without its newest record
-abbrev pub popped : RingLog → ℕ → RingLog
+-- the newest record taken off
+abbrev pub popped : SegmentLog → ℕ → SegmentLog
 popped v t = with_records v t (drop 1 (records_at v t))
 
--- a terminal's records are those of the newest commit
-abbrev pub sealed : RingLog → ℕ → RingLog
-sealed v t =
+-- the open segment made that of the newest commit
+abbrev pub sealed : SegmentLog → ℕ → Request → Reply → SegmentLog
+sealed v t q y =
     record {
+      terminals = set v.terminals t (record { count = suc (count_at v t); active = None });
+      committed = record { terminal = t; number = suc (count_at v t); request = q; reply = y; records = records_at v t } ∷ v.committed;
       extents = v.extents;
-      opens = v.opens - 1;
-      active = set v.active t [];
-      committed = records_at v t ∷ v.committed;
-      newest = suc v.newest;
     }
 
--- a terminal has the records of the newest commit, which is gone, and its moment with it
-abbrev pub reopened : RingLog → ℕ → RingLog
-reopened v t =
-    record {
-      extents = v.extents;
-      opens = suc v.opens;
-      active = set v.active t (get_or v.committed 0 []);
-      committed = drop 1 v.committed;
-      newest = v.newest - 1;
-    }
+-- the open segment gone
+abbrev pub dropped : SegmentLog → ℕ → SegmentLog
+dropped v t = with_active v t None
 
--- the oldest commit's records are gone, where there is one
-abbrev pub without_oldest : RingLog → RingLog
-without_oldest v = record v { committed = take (length v.committed - 1) v.committed }
+-- the newest n commits alone
+abbrev pub with_newest : ℕ → SegmentLog → SegmentLog
+with_newest n v = record v { committed = take n v.committed }
+
+-- the first of these commits is its terminal's open segment again, and is no longer counted
+abbrev pub reopened : SegmentLog → List Committed → SegmentLog
+reopened v [] = v
+reopened v (c ∷ cs) =
+    record {
+      terminals = set v.terminals c.terminal (record {
+        count = count_at v c.terminal - 1;
+        active = Some (record { terminal = c.terminal; number = c.number; records = c.records });
+      });
+      committed = cs;
+      extents = v.extents;
+    }
 
 -- ---- when a record has no room
 
-abbrev pub lengths : List Logged → List ℕ
-lengths rs = map (λ r. record_length r.before) rs
-
 -- how many extents all records fill, those of each segment in order
-abbrev pub used_of : RingLog → ℕ
+abbrev pub used_of : SegmentLog → ℕ
 used_of v =
-    sum_by (λ rs. (filled (lengths rs)).0) v.active
-    + sum_by (λ rs. (filled (lengths rs)).0) v.committed
+    sum_by (λ s. (filled (lengths (records_in s.active))).0) v.terminals
+    + sum_by (λ c. (filled (lengths c.records)).0) v.committed
 
 -- a record of that length fits neither the rest of the terminal's last extent nor a free one
-abbrev pub IsFull : RingLog → ℕ → ℕ → Type 0
+abbrev pub IsFull : SegmentLog → ℕ → ℕ → Type 0
 IsFull v t n = ((filled (lengths (records_at v t))).1 < n) × (v.extents ≤ used_of v)
 
--- ---- addresses
-
--- none of these records is at that address
-abbrev pub StandElsewhere : RecordAddress → List Logged → Type 0
-StandElsewhere a rs = AllByRecursion (λ r. r.address ≢ a) rs
-
 -- no record of a terminal or of a commit is at that address
-pub record IsFresh (v : RingLog) (a : RecordAddress) : Type 0 where
+pub record IsFresh (v : SegmentLog) (a : RecordAddress) : Type 0 where
   pub active : (t : ℕ) → StandElsewhere a (records_at v t)
-  pub committed : (commit : ℕ) → StandElsewhere a (get_or v.committed commit [])
-
--- ---- records by their addresses
-
--- this record is one of those
-abbrev pub IsAmong : Logged → List Logged → Type 0
-IsAmong r [] = ⊥
-IsAmong r (x ∷ xs) = (x ≡ r) ⊎ IsAmong r xs
-
--- one of these records is at that address
-pub record HasAddress (rs : List Logged) (a : RecordAddress) : Type 0 where
-  pub previous : Previous
-  pub before : Record
-  pub there : IsAmong (logged a previous before) rs
-
--- what is told is the record at that address
-abbrev pub IsRecordAt : List Logged → RecordAddress → Previous × Record → Type 0
-IsRecordAt rs a told =
-    (p : Previous) (b : Record) → IsAmong (logged a p b) rs → told ≡ (p, b)
+  pub committed : (later : ℕ) → StandElsewhere a (get_or (committed_records v) later [])

@@ -1,73 +1,93 @@
-//! Commits: how an open segment becomes that of one, and how their segments are given up.
-ghost use Rattle.std.specs.Prelude.{◌≡◌, ◌<◌, ◌+◌, [], length};
-ghost use Rattle.oe_log.specs.Log.{records_at, sealed, reopened, without_oldest};
+//! Commits: how an open segment becomes that of one, and how their segments are given up, or opened again.
+ghost use Rattle.std.specs.Prelude.{◌≡◌, ◌+◌, ◌-◌, ℕ, length, slice_get, option_map, None, IsSome};
+ghost use Rattle.oe_log.specs.Log.{active_at, total_count, owner_of, sealed, with_newest, reopened};
+ghost use Rattle.oe_log.specs.Moments.{newest, horizon};
 
-use crate::log::Log;
-use oe_values::numbers::{Moment, TERMINALS, Terminal};
+use crate::heads::{CommitHead, SegmentOwner};
+use crate::log::{Log, Segment};
+use oe_requests::replies::Reply;
+use oe_requests::requests::Request;
+use oe_values::numbers::Moment;
+use std::snapshot::Snapshot;
 
 impl Log {
-    /// Makes a terminal's segment that of the newest commit, and answers the commit's moment. It takes no memory.
-    pub fn seal(&mut self, terminal: Terminal) -> Moment
-        requires open { 0 < self.old.opens }
-        requires moment { self.old.newest < 999_999_999_999 }
-        ensures sealed { self.new ≡ sealed self.old terminal }
-        ensures moment { result ≡ self.old.newest + 1 }
-    {
-        let slot = terminal.get() as usize;
-        let moment = Moment::new(self.newest.get() + 1).unwrap();
-        self.ring.seal(slot);
-        let len = std::mem::replace(&mut self.lens[slot], 0);
-        self.committed_lens.push_front_reserved(len);
-        self.open_count -= 1;
-        self.newest = moment;
-        moment
-    }
-
-    /// Gives up the records of the oldest commit, where there is one, for a purge. Their extents are free again.
-    pub fn drop_oldest(&mut self)
-        ensures { self.new ≡ without_oldest self.old }
-    {
-        self.ring.drop_oldest();
-        let _len = self.committed_lens.pop_back();
-    }
-
-    /// Makes the newest commit's segment a terminal's open one again, for a rewind, which takes its records back one by one. The
-    /// moment before is the newest. It takes no memory.
-    pub fn reopen_newest(&mut self, terminal: Terminal)
-        requires few { self.old.opens < TERMINALS }
-        requires some { 0 < length self.old.committed }
-        requires empty { records_at self.old terminal ≡ [] }
-        ensures { self.new ≡ reopened self.old terminal }
-    {
-        let slot = terminal.get() as usize;
-        self.ring.reopen_newest(slot);
-        let newest = self.committed_lens.pop_front();
-        let Some(len) = newest else { unreachable!() };
-        self.lens[slot] = len;
-        self.open_count += 1;
-        let moment = Moment::new(self.newest.get() - 1).unwrap();
-        self.newest = moment;
-    }
-
-    /// The moment of the newest commit.
+    /// The newest moment: the number of all commits so far.
     pub fn newest(&self) -> Moment
-        ensures { result ≡ self.now.newest }
+        ensures value { result ≡ total_count self.now }
+        ensures moment { result ≡ newest self.now }
     {
-        self.newest
+        self.log.newest()
     }
 
-    /// The oldest moment whose later commits are all kept.
+    /// The oldest moment that can be read: as many commits ago as segments of commits are kept.
     pub fn horizon(&self) -> Moment
-        ensures { result + length self.now.committed ≡ self.now.newest }
+        ensures value { result + length self.now.committed ≡ total_count self.now }
+        ensures moment { result ≡ horizon self.now }
     {
-        let kept = self.committed_lens.len() as u64;
-        Moment::new(self.newest.get() - kept).unwrap()
+        self.log.horizon()
     }
 
-    /// How many segments are open.
-    pub fn open_count(&self) -> usize
-        ensures { result ≡ self.now.opens }
+    /// Makes an open segment that of the newest commit, and answers the commit's moment. It takes no memory, and keeps no byte of
+    /// request and reply.
+    pub fn seal(
+        &mut self,
+        segment: Segment,
+        request: Snapshot<Request>,
+        reply: Snapshot<Reply>,
+    ) -> Moment
+        requires { IsSome (active_at self.old segment) }
+        ensures sealed { self.new ≡ sealed self.old segment request.value reply.value }
+        ensures moment { result ≡ total_count self.old + 1 }
     {
-        self.open_count
+        let terminal = segment.terminal();
+        let state = &mut self.terminals[terminal.get() as usize];
+        let Some(owner) = state.active.take() else {
+            unreachable!()
+        };
+        state.count += 1;
+        let deletes = state.deletes;
+        self.commits.push_front_reserved(CommitHead {
+            owner,
+            deletes,
+            request,
+            reply,
+        });
+        self.log.seal(terminal)
+    }
+
+    /// Gives up the segment of the oldest commit that is kept, and answers whose it was; none exactly where none is. Its terminal
+    /// counts it still. It takes no memory.
+    pub fn drop_oldest(&mut self) -> Option<SegmentOwner>
+        ensures oldest { result
+            ≡ option_map owner_of
+            (slice_get self.old.committed (length self.old.committed - 1)) }
+        ensures dropped { self.new ≡ with_newest (length self.old.committed - 1) self.old }
+    {
+        self.log.drop_oldest();
+        match self.commits.pop_back() {
+            Some(head) => Some(head.owner()),
+            None => None,
+        }
+    }
+
+    /// Opens the segment of the newest commit again, where no segment is open, and answers it; none exactly where no commit is kept.
+    /// Its terminal no longer counts it, and the moment before it is the newest. It takes no memory.
+    pub fn reopen_newest(&mut self) -> Option<Segment>
+        requires { (t : ℕ) → active_at self.old t ≡ None }
+        ensures segment { result
+            ≡ option_map (λ c. c.terminal) (slice_get self.old.committed 0) }
+        ensures reopened { self.new ≡ reopened self.old self.old.committed }
+    {
+        let Some(head) = self.commits.pop_front() else {
+            return None;
+        };
+        let owner = head.owner();
+        let terminal = owner.terminal;
+        let state = &mut self.terminals[terminal.get() as usize];
+        state.count -= 1;
+        state.active = Some(owner);
+        state.deletes = head.may_delete();
+        self.log.reopen_newest(terminal);
+        Some(Segment::of(terminal))
     }
 }

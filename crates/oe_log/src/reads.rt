@@ -1,25 +1,94 @@
-//! Records read by their addresses.
-ghost use Rattle.std.specs.Prelude.{◌≡◌, ◌<◌, [], length, get_or};
-ghost use Rattle.oe_log.specs.Log.{records_at, HasAddress, IsRecordAt};
+//! What is known of terminals, and of records, by their addresses or one after another.
+ghost use Rattle.std.specs.Prelude.{◌≡◌, ◌<◌, ◌≤◌, ◌+◌, ◌↔◌, ℕ, suc, false, [], length, get_or, take, slice_get, option_map, Option, is_some, IsTrue, IsSome, IfSome};
+ghost use Rattle.oe_log.specs.Records.{HasAddress, IsRecordAt};
+ghost use Rattle.oe_model.specs.System.{system, terminal_limit};
+ghost use Rattle.oe_theory.specs.Store.{Slot, count_slots};
+ghost use Rattle.oe_log.specs.Log.{count_at, active_at, records_at, open_total, commits_of, committed_records, owner_of};
+ghost use Rattle.oe_log.specs.Stands.{model_records, DeletesNothing};
 
+use crate::heads::SegmentOwner;
 use crate::log::Log;
-use oe_extent::Address;
-use oe_layout::{Previous, RecordAddress, StoredRecord, linked_record};
-use oe_values::numbers::Terminal;
-
-/// A record's address as one of the ring.
-fn ring_address(address: RecordAddress) -> Address
-    ensures { result ≡ record { extent = address.extent; offset = address.offset } }
-{
-    Address {
-        extent: address.extent.get() as usize,
-        offset: address.offset.get() as usize,
-    }
-}
+use crate::walks::Records;
+use oe_layout::{Previous, RecordAddress, StoredRecord};
+use oe_values::numbers::{TERMINALS, Terminal, TransactionNumber};
 
 impl Log {
-    /// The record at that address of a terminal's segment, where it lies, with what leads to the previous one of its row. No row is
-    /// read, and no memory is taken.
+    /// How many extents there are.
+    pub fn extents(&self) -> usize
+        ensures { result ≡ self.now.extents }
+    {
+        self.log.extents()
+    }
+
+    /// The log has a state of each terminal, and one of nobody. It does nothing: it is for proofs above, which see no invariant.
+    pub fn terminals_are(&self)
+        ensures { length self.now.terminals ≡ suc TERMINALS }
+    {
+        let _known = &self.log;
+    }
+
+    /// How many transactions of a terminal have committed and were not rewound.
+    pub fn count(&self, terminal: Terminal) -> u32
+        ensures { result ≡ count_at self.now terminal }
+    {
+        self.terminals[terminal.get() as usize].count
+    }
+
+    /// The number of the transaction that a terminal has open or begins next.
+    pub fn number(&self, terminal: Terminal) -> TransactionNumber
+        requires { count_at self.now terminal < 4_294_967_295 }
+        ensures { result ≡ count_at self.now terminal + 1 }
+    {
+        TransactionNumber::new(self.count(terminal) + 1).unwrap()
+    }
+
+    /// Whether a terminal has a segment open.
+    pub fn is_open(&self, terminal: Terminal) -> bool
+        ensures { IsTrue result ↔ IsSome (active_at self.now terminal) }
+    {
+        self.terminals[terminal.get() as usize].active.is_some()
+    }
+
+    /// How many terminals have a segment open.
+    pub fn open_count(&self) -> u32
+        ensures value { result ≡ open_total self.now }
+        ensures slots { (slots : ℕ → Option (Slot system))
+            → ((t : ℕ) → is_some (slots t) ≡ is_some (active_at self.now t))
+            → result ≡ count_slots system slots terminal_limit }
+        ensures most { result ≤ TERMINALS }
+    {
+        self.log.open_count() as u32
+    }
+
+    /// Whose a commit was, by the number of later ones; none exactly where so many are not kept. Its number is its terminal's count
+    /// less the terminal's later commits, and 1 at least.
+    pub fn committed(&self, later: usize) -> Option<SegmentOwner>
+        ensures commit { result ≡ option_map owner_of (slice_get self.now.committed later) }
+        ensures number { IfSome result
+            (λ n. n.number + commits_of n.terminal (take later self.now.committed)
+            ≡ count_at self.now n.terminal) }
+        ensures first { IfSome result (λ n. 1 ≤ n.number) }
+    {
+        match self.commits.get(later) {
+            Some(head) => Some(head.owner()),
+            None => None,
+        }
+    }
+
+    /// Whether a commit may have deleted a NEW-ORDER row, by the number of later ones. One that has recorded no delete has not, so
+    /// that its records need not be looked at.
+    pub fn may_delete(&self, later: usize) -> bool
+        ensures { result ≡ false
+            → DeletesNothing (model_records (get_or (committed_records self.now) later [])) }
+    {
+        match self.commits.get(later) {
+            Some(head) => head.may_delete(),
+            None => false,
+        }
+    }
+
+    /// The record at that address of a terminal's open segment, where it lies, with what leads to the previous one of its row. No row
+    /// is read, and no memory is taken.
     pub fn linked_at(
         &self,
         terminal: Terminal,
@@ -28,23 +97,30 @@ impl Log {
         requires { HasAddress (records_at self.now terminal) address }
         ensures { IsRecordAt (records_at self.now terminal) address (result.0, result.1) }
     {
-        let slot = terminal.get() as usize;
-        let place = ring_address(address);
-        linked_record(self.ring.at(slot, place))
+        self.log.linked_at(terminal, address)
     }
 
-    /// The record at that address of a commit's segment, where it lies, with what leads to the previous one of its row. The newest
-    /// commit has number 0, and each older one the next number. No row is read, and no memory is taken.
+    /// The record at that address of a commit's segment, where it lies, with what leads to the previous one of its row. The commit is
+    /// given by the number of later ones. No row is read, and no memory is taken.
     pub fn committed_linked_at(
         &self,
-        commit: usize,
+        later: usize,
         address: RecordAddress,
     ) -> (Previous, StoredRecord<'_>)
-        requires commit { commit < length self.now.committed }
-        requires some { HasAddress (get_or self.now.committed commit []) address }
-        ensures { IsRecordAt (get_or self.now.committed commit []) address (result.0, result.1) }
+        requires commit { later < length self.now.committed }
+        requires some { HasAddress (get_or (committed_records self.now) later []) address }
+        ensures { IsRecordAt (get_or (committed_records self.now) later []) address
+            (result.0, result.1) }
     {
-        let place = ring_address(address);
-        linked_record(self.ring.committed_at(commit, place))
+        self.log.committed_linked_at(later, address)
+    }
+
+    /// The records of a commit's segment, the newest first, where they lie. The commit is given by the number of later ones. It takes
+    /// no memory.
+    pub fn committed_records(&self, later: usize) -> Records<'_>
+        requires { later < length self.now.committed }
+        ensures { result ≡ model_records (get_or (committed_records self.now) later []) }
+    {
+        self.log.committed_records(later)
     }
 }

@@ -3,11 +3,12 @@
 //! A walk goes over strings of the ring; by its invariant each is a record's. No call takes memory, and nothing can fail.
 ghost use Rattle.std.specs.Prelude.{◌≡◌, ◌<◌, [], length, get_or};
 ghost use Rattle.std.specs.Iterator.{YieldsFirst, item_count};
-ghost use Rattle.oe_log.specs.Log.{records_at, befores};
+ghost use Rattle.oe_log.specs.Records.{befores};
+ghost use Rattle.oe_log.specs.RingLog.{records_at};
 
-use crate::log::Log;
-use oe_extent::Strings;
+use crate::record_log::RecordLog;
 use oe_layout::StoredRecord;
+use oe_extent::Strings;
 use oe_values::numbers::Terminal;
 use std::marker::Model;
 
@@ -45,7 +46,7 @@ impl<'a> Iterator for Records<'a> {
     }
 }
 
-impl Log {
+impl RecordLog {
     /// The records of a terminal's segment, the newest first, where they lie. It takes no memory.
     pub fn records(&self, terminal: Terminal) -> Records<'_>
         ensures { result ≡ befores (records_at self.now terminal) }

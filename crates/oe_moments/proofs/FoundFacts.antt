@@ -13,12 +13,12 @@ use Rattle.oe_model.specs.Rows.{is_key, row_at}
 use Rattle.oe_model.specs.Changes.{Record, record_key, row_before}
 use Rattle.oe_model.specs.System.{system, terminal_limit}
 use Rattle.oe_model.proofs.SystemLaws.{laws}
-use Rattle.oe_segments.specs.Stands.{undo_of, seals_of, seal_of}
-use Rattle.oe_segments.specs.Segments.{SegmentLog, total_count}
-use Rattle.oe_segments.proofs.StandsFacts.{totals}
+use Rattle.oe_log.specs.Stands.{undo_of, seals_of, seal_of}
+use Rattle.oe_log.specs.Log.{SegmentLog, total_count}
+use Rattle.oe_log.proofs.StandsFacts.{totals}
 use Rattle.oe_undo.specs.Held.{horizon}
 use Rattle.oe_undo.specs.Oldest.{oldest_in, oldest_open, oldest_of_commits, oldest_after}
-use Rattle.oe_segments.specs.Moments.{newest, IsKeptMoment}
+use Rattle.oe_log.specs.Moments.{newest, IsKeptMoment}
 use Rattle.oe_moments.specs.Versions.{without_slots}
 use Rattle.oe_moments.specs.Found.{row_found, HasRow}
 

@@ -22,8 +22,8 @@ use Rattle.oe_model.proofs.ListFacts.{not_above}
 use Rattle.oe_model.proofs.PresenceFacts.{some-map}
 use Rattle.oe_store.specs.Places.{rows}
 use Rattle.oe_store.specs.Places as tables
-use Rattle.oe_segments.specs.Segments.{SegmentLog}
-use Rattle.oe_segments.specs.Moments.{store_with}
+use Rattle.oe_log.specs.Log.{SegmentLog}
+use Rattle.oe_log.specs.Moments.{store_with}
 use Rattle.oe_moments.specs.Versions.{version, Stand}
 use Rattle.oe_moments.proofs.LastingFacts.{order_is, rows_last}
 use Rattle.oe_moments.proofs.ChosenFacts.{rows_at, rows_some, rows_none, all_is}

@@ -16,7 +16,7 @@ use Rattle.oe_model.specs.Rows.{row_at, as_warehouse, as_district, as_customer, 
 use Rattle.oe_model.specs.Changes.{Record}
 use Rattle.oe_store.specs.Places.{rows}
 use Rattle.oe_store.specs.Places as tables
-use Rattle.oe_segments.specs.Segments.{SegmentLog}
+use Rattle.oe_log.specs.Log.{SegmentLog}
 use Rattle.oe_moments.specs.Versions.{version}
 use Rattle.oe_moments.specs.Found.{row_found, HasRow}
 

@@ -6,7 +6,7 @@ use Rattle.oe_theory.specs.Store.{version_of}
 use Rattle.oe_model.specs.Rows.{Rows, row_at}
 use Rattle.oe_model.specs.Changes.{Record, row_before}
 use Rattle.oe_model.specs.System.{system}
-use Rattle.oe_segments.specs.Segments.{SegmentLog}
+use Rattle.oe_log.specs.Log.{SegmentLog}
 use Rattle.oe_moments.specs.Versions.{without_slots}
 
 -- the row that a record has, or the one that stands where there is no record

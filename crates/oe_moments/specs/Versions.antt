@@ -6,8 +6,8 @@ use Rattle.oe_model.specs.Rows.{Rows}
 use Rattle.oe_model.specs.System.{system}
 use Rattle.oe_store.specs.Places.{rows}
 use Rattle.oe_store.specs.Places as tables
-use Rattle.oe_segments.specs.Segments.{SegmentLog}
-use Rattle.oe_segments.specs.Moments.{store_with}
+use Rattle.oe_log.specs.Log.{SegmentLog}
+use Rattle.oe_log.specs.Moments.{store_with}
 
 -- rows as they stand and a log, without the slots of open transactions, at which no version looks
 abbrev pub without_slots : Rows → SegmentLog → Store system

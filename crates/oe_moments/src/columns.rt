@@ -4,7 +4,7 @@ ghost use Rattle.std.specs.FinMap.{get};
 ghost use Rattle.oe_keys.specs.declared.keys.Key.TheVariants as keys;
 ghost use Rattle.oe_model.specs.Rows.{row_at, as_warehouse, as_district, as_customer, as_stock};
 ghost use Rattle.oe_store.specs.Places.{rows};
-ghost use Rattle.oe_segments.specs.Moments.{IsKeptMoment, IsUnkept};
+ghost use Rattle.oe_log.specs.Moments.{IsKeptMoment, IsUnkept};
 ghost use Rattle.oe_moments.specs.Versions.{version};
 ghost use Rattle.oe_moments.specs.Found.{row_found};
 

@@ -4,7 +4,7 @@ ghost use Rattle.std.specs.Ordering.{eq_by_cmp};
 ghost use Rattle.oe_keys.specs.Key.{customer_cmp};
 ghost use Rattle.oe_model.specs.Keys.{customer_of_order};
 ghost use Rattle.oe_model.specs.Queries.{last_order};
-ghost use Rattle.oe_segments.specs.Moments.{IsKeptMoment, IsUnkept};
+ghost use Rattle.oe_log.specs.Moments.{IsKeptMoment, IsUnkept};
 ghost use Rattle.oe_moments.specs.Versions.{version, Stand};
 
 use crate::rows::order_at;

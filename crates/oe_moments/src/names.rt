@@ -1,7 +1,7 @@
 //! The customer that a last name meant at a moment.
 ghost use Rattle.std.specs.Prelude.{◌≡◌, IfOk, IfErr, OnOk};
 ghost use Rattle.oe_model.specs.Choice.{namesakes, middle};
-ghost use Rattle.oe_segments.specs.Moments.{IsKeptMoment, IsUnkept};
+ghost use Rattle.oe_log.specs.Moments.{IsKeptMoment, IsUnkept};
 ghost use Rattle.oe_moments.specs.Versions.{version, Stand};
 
 use oe_keys::DistrictKey;

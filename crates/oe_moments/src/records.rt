@@ -3,7 +3,7 @@
 ghost use Rattle.std.specs.Prelude.{◌≡◌, IfOk, IfErr, OnOk, OnErr};
 ghost use Rattle.oe_undo.specs.Held.{held, of_key, count_later};
 ghost use Rattle.oe_undo.specs.Ticks.{ticked};
-ghost use Rattle.oe_segments.specs.Moments.{IsKeptMoment, IsUnkept};
+ghost use Rattle.oe_log.specs.Moments.{IsKeptMoment, IsUnkept};
 ghost use Rattle.oe_moments.specs.Found.{HasRow};
 
 use oe_keys::Key;

@@ -8,7 +8,7 @@ ghost use Rattle.oe_layout.specs.Records.{record_of_own};
 ghost use Rattle.oe_store.specs.Places.{rows};
 ghost use Rattle.oe_undo.specs.Held.{held, of_key, count_later};
 ghost use Rattle.oe_undo.specs.Ticks.{ticked};
-ghost use Rattle.oe_segments.specs.Moments.{IsKeptMoment, IsUnkept};
+ghost use Rattle.oe_log.specs.Moments.{IsKeptMoment, IsUnkept};
 ghost use Rattle.oe_moments.specs.Versions.{version};
 ghost use Rattle.oe_moments.specs.Found.{row_found};
 

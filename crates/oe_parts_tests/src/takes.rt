@@ -2,7 +2,7 @@
 use crate::made::{address, order_key};
 use crate::opened::undo;
 use oe_keys::{Key, StockKey};
-use oe_segments::SegmentOwner;
+use oe_log::SegmentOwner;
 use oe_undo::{Links, OwnedLink};
 use oe_values::{Number, Terminal, TransactionNumber};
 

@@ -25,8 +25,8 @@ use Rattle.oe_model.specs.Rules.{AreLow}
 use Rattle.oe_model.proofs.PresenceFacts.{mapped_absent}
 use Rattle.oe_store.specs.Places.{rows}
 use Rattle.oe_store.specs.Places as tables
-use Rattle.oe_segments.specs.Segments.{SegmentLog}
-use Rattle.oe_segments.specs.Moments.{IsKeptMoment, IsUnkept}
+use Rattle.oe_log.specs.Log.{SegmentLog}
+use Rattle.oe_log.specs.Moments.{IsKeptMoment, IsUnkept}
 use Rattle.oe_moments.specs.Versions.{version}
 use Rattle.oe_queries.specs.Reply.{IsReply, HasNoReply, IsRefused}
 use Rattle.oe_queries.proofs.LevelFacts.{level_told}

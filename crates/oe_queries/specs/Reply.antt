@@ -8,8 +8,8 @@ use Rattle.oe_model.specs.Requests.{query_rejection}
 use Rattle.oe_model.specs.Queries.{answer_of}
 use Rattle.oe_store.specs.Places.{rows}
 use Rattle.oe_store.specs.Places as tables
-use Rattle.oe_segments.specs.Segments.{SegmentLog}
-use Rattle.oe_segments.specs.Moments.{IsKeptMoment, IsUnkept}
+use Rattle.oe_log.specs.Log.{SegmentLog}
+use Rattle.oe_log.specs.Moments.{IsKeptMoment, IsUnkept}
 use Rattle.oe_moments.specs.Versions.{version}
 
 -- the reply, where its warehouse is there: the answer of the version of that moment, which can be read

@@ -6,7 +6,7 @@ ghost use Rattle.oe_requests.specs.declared.replies.QueryReply.TheVariants as to
 ghost use Rattle.oe_model.specs.Keys.{order_in};
 ghost use Rattle.oe_model.specs.Queries.{stock_level};
 ghost use Rattle.oe_model.specs.Rules.{AreLow};
-ghost use Rattle.oe_segments.specs.Moments.{IsKeptMoment, IsUnkept};
+ghost use Rattle.oe_log.specs.Moments.{IsKeptMoment, IsUnkept};
 ghost use Rattle.oe_moments.specs.Versions.{version, Stand};
 ghost use Rattle.oe_queries.specs.Reply.{IsReply, HasNoReply, IsRefused};
 ghost use Rattle.oe_queries.specs.Level.{is_short, listed, items_of};

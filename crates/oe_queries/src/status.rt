@@ -5,7 +5,7 @@ ghost use Rattle.oe_requests.specs.declared.requests.Query.TheVariants.{Status};
 ghost use Rattle.oe_requests.specs.declared.replies.QueryReply.TheVariants as told;
 ghost use Rattle.oe_model.specs.Choice.{chosen};
 ghost use Rattle.oe_model.specs.Queries.{status_of, last_order, order_status};
-ghost use Rattle.oe_segments.specs.Moments.{IsKeptMoment, IsUnkept};
+ghost use Rattle.oe_log.specs.Moments.{IsKeptMoment, IsUnkept};
 ghost use Rattle.oe_moments.specs.Versions.{version, Stand};
 ghost use Rattle.oe_queries.specs.Reply.{IsReply, HasNoReply, IsRefused};
 

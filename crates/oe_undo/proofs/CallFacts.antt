@@ -12,10 +12,10 @@ use Rattle.oe_model.specs.System.{terminal_limit, system}
 use Rattle.oe_theory.specs.Store.{all_below}
 use Rattle.oe_requests.specs.declared.requests.Request.{Request}
 use Rattle.oe_requests.specs.declared.replies.Reply.{Reply}
-use Rattle.oe_log.specs.Log.{Logged}
-use Rattle.oe_segments.specs.Segments.{SegmentLog, TerminalState, Open as OpenSegment, Committed as CommitSegment, idle, idle_terminals, records_in, active_at, records_at, count_at, total_count, no_segments, opened, pushed, popped, sealed, dropped, with_newest, reopened}
-use Rattle.oe_segments.proofs.StateFacts.{known}
-use Rattle.oe_segments.proofs.LawFacts.{idle_at}
+use Rattle.oe_log.specs.Records.{Logged}
+use Rattle.oe_log.specs.Log.{SegmentLog, TerminalState, Open as OpenSegment, Committed as CommitSegment, idle, idle_terminals, records_in, active_at, records_at, count_at, total_count, no_segments, opened, pushed, popped, sealed, dropped, with_newest, reopened}
+use Rattle.oe_log.proofs.StateFacts.{known}
+use Rattle.oe_log.proofs.LawFacts.{idle_at}
 use Rattle.oe_undo.specs.declared.holders.Link.{Link}
 use Rattle.oe_undo.specs.declared.holders.Holder.{Holder}
 use Rattle.oe_undo.specs.declared.holders.Holder.TheVariants.{Open, At}

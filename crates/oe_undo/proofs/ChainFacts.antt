@@ -12,8 +12,8 @@ use Rattle.oe_theory.specs.Store.{all_below}
 use Rattle.oe_layout.specs.declared.links.RecordAddress.{RecordAddress}
 use Rattle.oe_layout.specs.declared.links.Previous.{Previous}
 use Rattle.oe_layout.specs.declared.links.Previous.TheVariants.{Nothing, Own, Committed}
-use Rattle.oe_log.specs.Log.{Logged}
-use Rattle.oe_segments.specs.Segments.{Committed as CommitSegment}
+use Rattle.oe_log.specs.Records.{Logged}
+use Rattle.oe_log.specs.Log.{Committed as CommitSegment}
 use Rattle.oe_undo.specs.declared.holders.Link.{Link}
 use Rattle.oe_undo.specs.declared.holders.Holder.{Holder}
 use Rattle.oe_undo.specs.declared.holders.Holder.TheVariants.{Open, At}

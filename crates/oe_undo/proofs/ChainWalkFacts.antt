@@ -8,9 +8,9 @@ use Rattle.oe_model.specs.Rows.{is_key}
 use Rattle.oe_model.specs.Changes.{Record, record_key}
 use Rattle.oe_model.specs.System.{terminal_limit, system}
 use Rattle.oe_theory.specs.Store.{all_below}
-use Rattle.oe_log.specs.Log.{Logged}
-use Rattle.oe_segments.specs.Segments.{SegmentLog, Committed as CommitSegment, records_at, total_count}
-use Rattle.oe_segments.specs.Stands.{model_records}
+use Rattle.oe_log.specs.Records.{Logged}
+use Rattle.oe_log.specs.Log.{SegmentLog, Committed as CommitSegment, records_at, total_count}
+use Rattle.oe_log.specs.Stands.{model_records}
 use Rattle.oe_undo.specs.declared.holders.Holder.{Holder}
 use Rattle.oe_undo.specs.declared.holders.Holder.TheVariants.{Open, At}
 use Rattle.oe_undo.specs.Held.{Held, held_by, held_open, held_commits, held, of_key, is_later, count_later}

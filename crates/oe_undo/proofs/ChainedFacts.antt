@@ -16,10 +16,10 @@ use Rattle.oe_theory.specs.Store.{all_below}
 use Rattle.oe_layout.specs.declared.links.RecordAddress.{RecordAddress}
 use Rattle.oe_layout.specs.declared.links.Previous.{Previous}
 use Rattle.oe_layout.specs.declared.links.Previous.TheVariants.{Own, Committed}
-use Rattle.oe_log.specs.Log.{Logged, logged, newest_of}
-use Rattle.oe_segments.specs.Segments.{SegmentLog, Open as OpenSegment, TerminalState, Committed as CommitSegment, idle, idle_terminals, active_at, records_at, count_at, total_count, commits_of, no_segments, with_active, with_records, opened, dropped, pushed, popped, sealed, with_newest, reopened, owner_of}
-use Rattle.oe_segments.specs.declared.heads.SegmentOwner.{SegmentOwner}
-use Rattle.oe_segments.proofs.LawFacts.{idle_at}
+use Rattle.oe_log.specs.Records.{Logged, logged, newest_of}
+use Rattle.oe_log.specs.Log.{SegmentLog, Open as OpenSegment, TerminalState, Committed as CommitSegment, idle, idle_terminals, active_at, records_at, count_at, total_count, commits_of, no_segments, with_active, with_records, opened, dropped, pushed, popped, sealed, with_newest, reopened, owner_of}
+use Rattle.oe_log.specs.declared.heads.SegmentOwner.{SegmentOwner}
+use Rattle.oe_log.proofs.LawFacts.{idle_at}
 use Rattle.oe_undo.specs.declared.holders.Link.{Link}
 use Rattle.oe_undo.specs.declared.holders.Holder.{Holder}
 use Rattle.oe_undo.specs.declared.holders.Holder.TheVariants.{Open, At}
@@ -35,7 +35,7 @@ use Rattle.oe_undo.proofs.LinkFacts.{no_link}
 use Rattle.oe_undo.proofs.LeadFacts.{set_leads, given_links}
 use Rattle.oe_undo.specs.Owners.{MomentList, no_moments, moments_at, moments_of, holder_of, followed, next_owner, IsOwner, AreOwned, AreIdle, AreMoments, IsLinked, IsMadeBy, IsMade}
 use Rattle.oe_undo.specs.Undo.{UndoState, unended, GivesBack}
-use Rattle.oe_segments.proofs.StateFacts.{some_of, known, pushed_popped}
+use Rattle.oe_log.proofs.StateFacts.{some_of, known, pushed_popped}
 use Rattle.oe_undo.proofs.OwnerFacts as owner
 
 -- ---- what the log keeps of itself

@@ -8,9 +8,9 @@ use Rattle.oe_model.specs.Changes.{Record, record_key}
 use Rattle.oe_model.specs.System.{terminal_limit, system}
 use Rattle.oe_model.proofs.RowFacts.{key_true}
 use Rattle.oe_theory.specs.Store.{all_below}
-use Rattle.oe_log.specs.Log.{Logged, IsAmong}
-use Rattle.oe_segments.specs.Segments.{SegmentLog, Committed as CommitSegment, records_at, records_of, committed_records, total_count}
-use Rattle.oe_segments.specs.Stands.{model_records}
+use Rattle.oe_log.specs.Records.{Logged, IsAmong}
+use Rattle.oe_log.specs.Log.{SegmentLog, Committed as CommitSegment, records_at, records_of, committed_records, total_count}
+use Rattle.oe_log.specs.Stands.{model_records}
 use Rattle.oe_undo.specs.declared.holders.Link.{Link}
 use Rattle.oe_undo.specs.declared.holders.Holder.{Holder}
 use Rattle.oe_undo.specs.declared.holders.Holder.TheVariants.{Open, At}

@@ -9,9 +9,9 @@ use Rattle.oe_keys.specs.declared.keys.Key.{Key}
 use Rattle.oe_layout.specs.declared.links.RecordAddress.{RecordAddress}
 use Rattle.oe_requests.specs.declared.requests.Request.{Request}
 use Rattle.oe_requests.specs.declared.replies.Reply.{Reply}
-use Rattle.oe_segments.specs.declared.heads.SegmentOwner.{SegmentOwner}
-use Rattle.oe_segments.specs.Segments.{SegmentLog, Open as OpenSegment, TerminalState, Committed as CommitSegment, idle, active_at, count_at, total_count, commits_of, with_active, sealed, with_newest, reopened}
-use Rattle.oe_segments.proofs.StateFacts.{known}
+use Rattle.oe_log.specs.declared.heads.SegmentOwner.{SegmentOwner}
+use Rattle.oe_log.specs.Log.{SegmentLog, Open as OpenSegment, TerminalState, Committed as CommitSegment, idle, active_at, count_at, total_count, commits_of, with_active, sealed, with_newest, reopened}
+use Rattle.oe_log.proofs.StateFacts.{known}
 use Rattle.oe_undo.specs.declared.holders.Link.{Link}
 use Rattle.oe_undo.specs.declared.holders.Holder.{Holder}
 use Rattle.oe_undo.specs.declared.holders.Holder.TheVariants.{Open, At}

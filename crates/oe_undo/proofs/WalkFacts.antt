@@ -4,8 +4,8 @@ use Rattle.std.proofs.lemmas.Bool.{both_ways, and_parts, and_from, or_cases, or_
 use Rattle.oe_model.specs.Changes.{Record}
 use Rattle.oe_layout.specs.declared.links.RecordAddress.{RecordAddress}
 use Rattle.oe_layout.specs.declared.links.Previous.{Previous}
-use Rattle.oe_log.specs.Log.{Logged, logged, IsAmong, HasAddress, IsRecordAt}
-use Rattle.oe_segments.specs.Segments.{SegmentLog}
+use Rattle.oe_log.specs.Records.{Logged, logged, IsAmong, HasAddress, IsRecordAt}
+use Rattle.oe_log.specs.Log.{SegmentLog}
 use Rattle.oe_undo.specs.declared.holders.Link.{Link}
 use Rattle.oe_undo.specs.Held.{is_later}
 use Rattle.oe_undo.specs.Chains.{link_from}

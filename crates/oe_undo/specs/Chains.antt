@@ -6,8 +6,8 @@ use Rattle.oe_model.specs.Changes.{Record, record_key}
 use Rattle.oe_layout.specs.declared.links.RecordAddress.{RecordAddress}
 use Rattle.oe_layout.specs.declared.links.Previous.{Previous}
 use Rattle.oe_layout.specs.declared.links.Previous.TheVariants.{Nothing, Own, Committed}
-use Rattle.oe_segments.specs.Segments.{SegmentLog, records_at}
-use Rattle.oe_segments.specs.Stands.{model_records}
+use Rattle.oe_log.specs.Log.{SegmentLog, records_at}
+use Rattle.oe_log.specs.Stands.{model_records}
 use Rattle.oe_undo.specs.declared.holders.Link.{Link}
 use Rattle.oe_undo.specs.declared.holders.Holder.{Holder}
 use Rattle.oe_undo.specs.declared.holders.Holder.TheVariants.{Open, At}

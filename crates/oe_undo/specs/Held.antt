@@ -5,8 +5,8 @@ use Rattle.oe_model.specs.Rows.{is_key}
 use Rattle.oe_model.specs.Changes.{record_key}
 use Rattle.oe_model.specs.System.{terminal_limit, system}
 use Rattle.oe_theory.specs.Store.{all_below}
-use Rattle.oe_log.specs.Log.{Logged}
-use Rattle.oe_segments.specs.Segments.{SegmentLog, Committed as CommitSegment, records_at, total_count}
+use Rattle.oe_log.specs.Records.{Logged}
+use Rattle.oe_log.specs.Log.{SegmentLog, Committed as CommitSegment, records_at, total_count}
 use Rattle.oe_undo.specs.declared.holders.Holder.{Holder}
 use Rattle.oe_undo.specs.declared.holders.Holder.TheVariants.{Open, At}
 

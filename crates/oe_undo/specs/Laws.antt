@@ -5,8 +5,8 @@ use Rattle.oe_model.specs.Changes.{record_key}
 use Rattle.oe_model.specs.System.{terminal_limit}
 use Rattle.oe_requests.specs.declared.requests.Request.{Request}
 use Rattle.oe_requests.specs.declared.replies.Reply.{Reply}
-use Rattle.oe_log.specs.Log.{Logged}
-use Rattle.oe_segments.specs.Segments.{SegmentLog, Open as OpenSegment, Committed as CommitSegment, count_at, active_at, records_at, total_count, no_segments, opened, pushed, popped, sealed, dropped, with_newest, reopened}
+use Rattle.oe_log.specs.Records.{Logged}
+use Rattle.oe_log.specs.Log.{SegmentLog, Open as OpenSegment, Committed as CommitSegment, count_at, active_at, records_at, total_count, no_segments, opened, pushed, popped, sealed, dropped, with_newest, reopened}
 use Rattle.oe_undo.specs.declared.holders.Link.{Link}
 use Rattle.oe_undo.specs.declared.holders.Holder.TheVariants.{Open}
 use Rattle.oe_undo.specs.Held.{held, of_key, horizon}

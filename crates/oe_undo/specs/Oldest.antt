@@ -5,8 +5,8 @@ use Rattle.oe_keys.specs.declared.keys.Key.{Key}
 use Rattle.oe_model.specs.Rows.{is_key}
 use Rattle.oe_model.specs.Changes.{Record, record_key}
 use Rattle.oe_model.specs.System.{system, terminal_limit}
-use Rattle.oe_segments.specs.Stands.{undo_of}
-use Rattle.oe_segments.specs.Segments.{SegmentLog}
+use Rattle.oe_log.specs.Stands.{undo_of}
+use Rattle.oe_log.specs.Log.{SegmentLog}
 
 -- among a transaction's records, the newest first; where none is of the key, that of newer transactions
 abbrev pub oldest_in : Key → List Record → Option Record → Option Record

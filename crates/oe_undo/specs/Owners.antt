@@ -4,8 +4,8 @@ use Rattle.std.specs.Prelude.{◌≡◌, ⊤, ℕ, suc, ◌≤◌, ◌<◌, ◌-
 use Rattle.std.specs.List.{All}
 use Rattle.oe_values.specs.declared.numbers.TheConstants.{TERMINALS}
 use Rattle.oe_keys.specs.declared.keys.Key.{Key}
-use Rattle.oe_segments.specs.declared.heads.SegmentOwner.{SegmentOwner}
-use Rattle.oe_segments.specs.Segments.{SegmentLog, Committed as CommitSegment, count_at, active_at, total_count}
+use Rattle.oe_log.specs.declared.heads.SegmentOwner.{SegmentOwner}
+use Rattle.oe_log.specs.Log.{SegmentLog, Committed as CommitSegment, count_at, active_at, total_count}
 use Rattle.oe_undo.specs.declared.holders.Link.{Link}
 use Rattle.oe_undo.specs.declared.holders.Holder.{Holder}
 use Rattle.oe_undo.specs.declared.holders.Holder.TheVariants.{Open, At}

@@ -5,8 +5,8 @@ use Rattle.oe_model.specs.Changes.{Record, record_key}
 use Rattle.oe_model.specs.Lengths.{record_length}
 use Rattle.oe_layout.specs.declared.links.RecordAddress.{RecordAddress}
 use Rattle.oe_layout.specs.declared.links.Previous.{Previous}
-use Rattle.oe_log.specs.Log.{Logged, logged, IsFull, IsFresh}
-use Rattle.oe_segments.specs.Segments.{SegmentLog, pushed, log_of}
+use Rattle.oe_log.specs.Records.{Logged, logged}
+use Rattle.oe_log.specs.Log.{IsFull, IsFresh, SegmentLog, pushed}
 use Rattle.oe_undo.specs.declared.holders.Link.{Link}
 use Rattle.oe_undo.specs.declared.holders.Holder.TheVariants.{Open}
 use Rattle.oe_undo.specs.Held.{horizon, is_later}
@@ -29,16 +29,16 @@ seen s k = followed s.log (links_of s.links k)
 -- a terminal's open segment has this record more, at an address where no other is, and the record's key has a link to it
 pub record HasPushed (old new : UndoState) (t : ℕ) (p : Previous) (b : Record) : Type 0 where
   pub address : RecordAddress
-  pub fresh : IsFresh (log_of old.log) address
+  pub fresh : IsFresh old.log address
   pub log : new.log ≡ pushed old.log t (logged address p b)
   pub link : LeadsTo old.links new.links (record_key b) (Some (record { address = address; owner = next_owner old.log t }))
 
 -- why a record is not pushed: it fits neither the rest of the terminal's newest extent nor a free one; or it does, and memory was
 -- refused for the place of its key's link
 abbrev pub IsUnpushed : UndoState → ℕ → Record → CantPush → Type 0
-IsUnpushed s t b cant_push.Full = IsFull (log_of s.log) t (record_length b)
+IsUnpushed s t b cant_push.Full = IsFull s.log t (record_length b)
 IsUnpushed s t b cant_push.NoMemory =
-    (IsFull (log_of s.log) t (record_length b) → ⊥) × (place_of s.links (record_key b) ≡ None)
+    (IsFull s.log t (record_length b) → ⊥) × (place_of s.links (record_key b) ≡ None)
 
 -- the link, or none where its commit was given up at the horizon
 abbrev pub unended : ℕ → Option Link → Option Link

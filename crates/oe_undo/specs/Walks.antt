@@ -3,8 +3,8 @@ use Rattle.std.specs.Prelude.{◌≡◌, ◌-◌, ℕ, suc, Bool, true, false, L
 use Rattle.oe_model.specs.Changes.{Record}
 use Rattle.oe_layout.specs.declared.links.RecordAddress.{RecordAddress}
 use Rattle.oe_layout.specs.declared.links.Previous.{Previous}
-use Rattle.oe_log.specs.Log.{Logged, logged, IsAmong}
-use Rattle.oe_segments.specs.Segments.{SegmentLog, records_at, committed_records, total_count}
+use Rattle.oe_log.specs.Records.{Logged, logged, IsAmong}
+use Rattle.oe_log.specs.Log.{SegmentLog, records_at, committed_records, total_count}
 use Rattle.oe_undo.specs.declared.holders.Link.{Link}
 use Rattle.oe_undo.specs.declared.holders.Holder.{Holder}
 use Rattle.oe_undo.specs.declared.holders.Holder.TheVariants.{Open, At}

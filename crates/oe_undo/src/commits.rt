@@ -1,11 +1,11 @@
 //! Commits: their moments told, their segments given up, or opened again. No link changes.
 ghost use Rattle.std.specs.Prelude.{◌≡◌, ◌+◌, ◌-◌, ℕ, length, slice_get, option_map, None, IsSome};
-ghost use Rattle.oe_segments.specs.Segments.{active_at, total_count, owner_of, sealed, with_newest, reopened};
+ghost use Rattle.oe_log.specs.Log.{active_at, total_count, owner_of, sealed, with_newest, reopened};
 
 use crate::undo::Undo;
 use oe_requests::replies::Reply;
 use oe_requests::requests::Request;
-use oe_segments::{Segment, SegmentOwner};
+use oe_log::{Segment, SegmentOwner};
 use oe_values::Moment;
 use std::snapshot::Snapshot;
 

@@ -16,7 +16,7 @@ use crate::places::Places;
 use crate::tables::{insert, link_in, place_in, reach, set};
 use oe_keys::{HistoryKey, Key};
 use oe_layout::RecordAddress;
-use oe_segments::SegmentOwner;
+use oe_log::SegmentOwner;
 use oe_table::shelves::Shelves;
 use oe_table::tables::NoMemory;
 use std::alloc::Global;

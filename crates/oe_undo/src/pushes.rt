@@ -6,8 +6,8 @@ ghost use Rattle.oe_model.specs.Changes.{record_key};
 ghost use Rattle.oe_model.specs.Lengths.{record_length};
 ghost use Rattle.oe_layout.specs.Records.{record_of_lent, record_of_own};
 ghost use Rattle.oe_layout.specs.declared.links.Previous.TheVariants.{Nothing};
-ghost use Rattle.oe_log.specs.Log.{newest_of, IsFull};
-ghost use Rattle.oe_segments.specs.Segments.{active_at, records_at, popped, log_of};
+ghost use Rattle.oe_log.specs.Records.{newest_of};
+ghost use Rattle.oe_log.specs.Log.{IsFull, active_at, records_at, popped};
 ghost use Rattle.oe_undo.specs.Chains.{link_from, previous_of, IsAlone};
 ghost use Rattle.oe_undo.specs.Links.{place_of};
 ghost use Rattle.oe_undo.specs.declared.holders.Holder.TheVariants.{Open};
@@ -17,7 +17,7 @@ use crate::holders::{Link, previous_of};
 use crate::links::OwnedLink;
 use crate::undo::{Undo, followed_in};
 use oe_layout::{LinkedRecord, OwnRecord, Previous};
-use oe_segments::Segment;
+use oe_log::Segment;
 
 /// Why a record was not pushed.
 #[derive(Clone, Copy)]
@@ -65,7 +65,7 @@ impl Undo {
             (HasPushed self.old self.new segment lent.new.previous
             (record_of_lent lent.old.record)) }
         ensures room { OnOk result
-            (IsFull (log_of self.old.log) segment
+            (IsFull self.old.log segment
             (record_length (record_of_lent lent.old.record)) → ⊥) }
         ensures cause { IfErr result
             (IsUnpushed self.old segment (record_of_lent lent.old.record)) }
@@ -97,7 +97,7 @@ impl Undo {
         ensures pushed { OnOk result
             (HasPushed self.old self.new segment Nothing (record_of_lent lent.old.record)) }
         ensures room { OnOk result
-            (IsFull (log_of self.old.log) segment
+            (IsFull self.old.log segment
             (record_length (record_of_lent lent.old.record)) → ⊥) }
         ensures cause { IfErr result
             (IsUnpushed self.old segment (record_of_lent lent.old.record)) }

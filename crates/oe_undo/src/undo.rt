@@ -1,6 +1,6 @@
 //! The undo log beside the links.
 ghost use Rattle.std.specs.Prelude.{◌≡◌, ◌<◌, [], None, IsSome, IfSome, IfOk, OnOk, OnErr};
-ghost use Rattle.oe_segments.specs.Segments.{count_at, active_at, records_at, no_segments, opened, dropped};
+ghost use Rattle.oe_log.specs.Log.{count_at, active_at, records_at, no_segments, opened, dropped};
 ghost use Rattle.oe_undo.specs.declared.holders.Holder.TheVariants.{Open};
 ghost use Rattle.oe_undo.specs.Held.{horizon};
 ghost use Rattle.oe_undo.specs.Chains.{link_from, AreChained};
@@ -14,7 +14,7 @@ use crate::links::{Links, OwnedLink};
 use crate::moments::{TerminalMoments, idle_moments};
 use oe_keys::Key;
 use oe_layout::Previous;
-use oe_segments::{ExtentCount, Segment, SegmentOwner, Segments};
+use oe_log::{ExtentCount, Log, Segment, SegmentOwner};
 use oe_table::tables::NoMemory;
 use oe_values::Terminal;
 use std::alloc::Global;
@@ -27,7 +27,7 @@ use std::marker::Model;
 /// for a segment's later commit by `open_segment`, and that for a key's link by `add_place`, or by `push` where the key has no place.
 #[derive(Drop)]
 pub struct Undo {
-    pub(crate) segments: Segments,
+    pub(crate) segments: Log,
     pub(crate) links: Links,
     // By the terminals' numbers; 0 is nobody's.
     pub(crate) moments: Vec<TerminalMoments>,
@@ -52,7 +52,7 @@ impl Model for Undo {
 /// What became of a transaction that has committed or is open; none where its commit was given up.
 #[inline(always)]
 fn holder_in(
-    segments: &Segments,
+    segments: &Log,
     moments: &[TerminalMoments],
     owner: &SegmentOwner,
 ) -> Option<Holder>
@@ -74,7 +74,7 @@ fn holder_in(
 /// A key's link, if it has one, with what became of its transaction by now.
 #[inline(always)]
 pub(crate) fn followed_in(
-    segments: &Segments,
+    segments: &Log,
     moments: &[TerminalMoments],
     link: Option<OwnedLink>,
 ) -> Option<Link>
@@ -95,7 +95,7 @@ impl Undo {
         ensures log { IfOk result (λ u. u.log ≡ no_segments extents) }
         ensures links { IfOk result (λ u. u.links ≡ no_links) }
     {
-        let segments = Segments::new(alloc, extents)?;
+        let segments = Log::new(alloc, extents)?;
         let Ok(moments) = idle_moments(alloc) else {
             drop(segments);
             return Err(NoMemory);
@@ -109,7 +109,7 @@ impl Undo {
 
     /// The segments alone.
     #[inline(always)]
-    pub fn segments(&self) -> &Segments
+    pub fn segments(&self) -> &Log
         ensures { result.now ≡ self.now.log }
     {
         &self.segments

@@ -1,8 +1,8 @@
 //! Walks along a key's records, the newest first. A record is read at its address in its holder's segment, and tells where the next
 //! one lies. No row is read, and nothing takes memory.
 ghost use Rattle.std.specs.Prelude.{◌≡◌, ◌-◌, ◌≤◌, ◌<◌, ℕ};
-ghost use Rattle.oe_log.specs.Log.{HasAddress, IsRecordAt};
-ghost use Rattle.oe_segments.specs.Segments.{total_count};
+ghost use Rattle.oe_log.specs.Records.{HasAddress, IsRecordAt};
+ghost use Rattle.oe_log.specs.Log.{total_count};
 ghost use Rattle.oe_undo.specs.Held.{held, of_key, horizon, is_later, count_later};
 ghost use Rattle.oe_undo.specs.Oldest.{oldest_after};
 ghost use Rattle.oe_undo.specs.Walks.{records_by};

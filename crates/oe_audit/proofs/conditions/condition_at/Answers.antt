@@ -1,6 +1,6 @@
 use Rattle.std.proofs.Common.{◌≡◌, ◌-◌, subst}
-use Rattle.oe_segments.specs.Segments.{SegmentLog}
-use Rattle.oe_segments.specs.Moments.{newest}
+use Rattle.oe_log.specs.Log.{SegmentLog}
+use Rattle.oe_log.specs.Moments.{newest}
 use Rattle.oe_audit.specs.Verdict.{condition_of, verdict_of}
 use Rattle.oe_audit.proofs.QuietFacts.{audited_now}
 use Rattle.oe_audit.proofs.conditions.condition_at.Goals as goal

@@ -1,6 +1,6 @@
 use Rattle.std.proofs.Common.{◌≡◌, ◌-◌, ◌+◌, ◌∙◌, refl, sym, ap, subst, arith, length, drop}
-use Rattle.oe_segments.specs.Segments.{SegmentLog, with_newest}
-use Rattle.oe_segments.specs.Stands.{undo_of}
+use Rattle.oe_log.specs.Log.{SegmentLog, with_newest}
+use Rattle.oe_log.specs.Stands.{undo_of}
 use Rattle.oe_undo.specs.Chains.{IsEnd}
 use Rattle.oe_undo.specs.Undo.{seen}
 use Rattle.oe_journal.specs.GivesUp.{GivesUpDeleted}

@@ -1,7 +1,7 @@
 -- Nothing is given up for a commit that deleted nothing.
 use Rattle.std.proofs.Common.{[], get_or, subst}
-use Rattle.oe_segments.specs.Segments.{SegmentLog, committed_records}
-use Rattle.oe_segments.specs.Stands.{model_records, DeletesNothing}
+use Rattle.oe_log.specs.Log.{SegmentLog, committed_records}
+use Rattle.oe_log.specs.Stands.{model_records, DeletesNothing}
 use Rattle.oe_undo.specs.Chains.{IsEnd}
 use Rattle.oe_undo.specs.Undo.{seen}
 use Rattle.oe_journal.proofs.PurgeFacts.{nothing_given_up}

@@ -1,8 +1,8 @@
 use Rattle.std.proofs.Common.{◌≡◌, ◌-◌, ◌∙◌, ap, subst, arith, length, drop}
-use Rattle.oe_segments.specs.Stands.{undo_of}
-use Rattle.oe_segments.specs.Segments.{SegmentLog, with_newest}
+use Rattle.oe_log.specs.Stands.{undo_of}
+use Rattle.oe_log.specs.Log.{SegmentLog, with_newest}
 use Rattle.oe_journal.specs.GivesUp.{GivesUpDeleted}
-use Rattle.oe_segments.specs.Moments.{store_with, newest}
+use Rattle.oe_log.specs.Moments.{store_with, newest}
 use Rattle.oe_journal.proofs.PurgeFacts.{purged_is}
 use Rattle.oe_journal.proofs.purges.purge.Goals.{After-forget_oldest}
 use Rattle.oe_journal.proofs.purges.purge.Goals as goal

@@ -2,8 +2,8 @@ use Rattle.std.proofs.Common.{◌≡◌, ◌-◌, ◌∙◌, ap, take}
 use Rattle.oe_theory.specs.Undo.{unwind_commits}
 use Rattle.oe_model.specs.System.{system}
 use Rattle.oe_store.specs.Places.{rows}
-use Rattle.oe_segments.specs.Stands.{undo_of}
-use Rattle.oe_segments.specs.Moments.{store_with, newest}
+use Rattle.oe_log.specs.Stands.{undo_of}
+use Rattle.oe_log.specs.Moments.{store_with, newest}
 use Rattle.oe_journal.specs.Rewinds.{without_newest}
 use Rattle.oe_journal.proofs.UndoneFacts.{rewound_is}
 use Rattle.oe_journal.proofs.rewinds.rewind.Goals as goal

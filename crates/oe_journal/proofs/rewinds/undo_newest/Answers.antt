@@ -3,8 +3,8 @@ use Rattle.std.proofs.Common.{◌≡◌, ℕ, ◌<◌, length, ◌∙◌, sym, a
 use Rattle.oe_theory.specs.Undo.{unwind}
 use Rattle.oe_model.specs.System.{system}
 use Rattle.oe_store.specs.Places.{rows}
-use Rattle.oe_segments.specs.Segments.{SegmentLog, active_at, records_at, with_records}
-use Rattle.oe_segments.specs.Stands.{undo_of}
+use Rattle.oe_log.specs.Log.{SegmentLog, active_at, records_at, with_records}
+use Rattle.oe_log.specs.Stands.{undo_of}
 use Rattle.oe_journal.specs.GoesBack.{CanUnwind}
 use Rattle.oe_journal.proofs.LinkFacts.{then_links, no_links_set}
 use Rattle.oe_journal.proofs.RewindFacts.{IsNewest, newest_found, newest_open, newest_gone, none_recorded}

@@ -1,8 +1,8 @@
 -- One record after another.
 use Rattle.std.proofs.Common.{◌≡◌, suc, ◌+◌, ◌-◌, ◌∙◌, sym, subst, arith}
 use Rattle.oe_layout.specs.Records.{record_of_own}
-use Rattle.oe_segments.specs.Segments.{active_at, records_at}
-use Rattle.oe_segments.proofs.StateFacts.{some_of}
+use Rattle.oe_log.specs.Log.{active_at, records_at}
+use Rattle.oe_log.proofs.StateFacts.{some_of}
 use Rattle.oe_journal.proofs.LinkFacts.{then_links}
 use Rattle.oe_journal.proofs.ChainedFacts.{same_given_back}
 use Rattle.oe_journal.proofs.BackFacts.{GoesBack, begins, still_open, can_go, goes_on, ends}

@@ -1,5 +1,5 @@
 use Rattle.std.proofs.Common.{◌-◌}
-use Rattle.oe_segments.specs.Segments.{records_at}
+use Rattle.oe_log.specs.Log.{records_at}
 use Rattle.oe_undo.specs.Links.{SamePlaces}
 use Rattle.oe_journal.proofs.BackFacts.{GoesBack}
 use Rattle.oe_journal.proofs.unwinding.take_back.Given as goal

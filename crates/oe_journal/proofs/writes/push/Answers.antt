@@ -7,7 +7,6 @@ use Rattle.oe_model.specs.Lengths.{record_length}
 use Rattle.oe_layout.specs.Records.{record_of_lent}
 use Rattle.oe_store.specs.Places.{rows}
 use Rattle.oe_log.specs.Log.{IsFull}
-use Rattle.oe_segments.specs.Segments.{log_of}
 use Rattle.oe_undo.specs.Undo.{IsUnpushed}
 use Rattle.oe_journal.specs.Records.{record_of_write}
 use Rattle.oe_journal.specs.Writes.{Full, Refused}
@@ -22,7 +21,7 @@ returns-in-Err-clause-cause c =
 
 pub returns-in-Err-Full-clause-cause : goal.returns-in-Err-Full-clause-cause
 returns-in-Err-Full-clause-cause c =
-    Full (of_some (λ b. IsFull (log_of c.args.undo.now.log) c.args.segment (record_length b)) (record_of_write c.args.write.now (rows c.args.tables.now))
+    Full (of_some (λ b. IsFull c.args.undo.now.log c.args.segment (record_length b)) (record_of_write c.args.write.now (rows c.args.tables.now))
     (record_of_lent c.in-Ok.before) c.in-Ok.ensures.lent
     (subst (IsUnpushed c.args.undo.now c.args.segment (record_of_lent c.in-Ok.before)) c.in-Err-Full.field-0-is c.in-Err-Full.ensures.cause))
 
@@ -30,7 +29,7 @@ pub returns-in-Err-NoMemory-clause-cause : goal.returns-in-Err-NoMemory-clause-c
 returns-in-Err-NoMemory-clause-cause c =
     let cause = subst (IsUnpushed c.args.undo.now c.args.segment (record_of_lent c.in-Ok.before)) c.in-Err-NoMemory.field-0-is c.in-Err-NoMemory.ensures.cause in
     Refused c.unplaced.result
-    (of_some (λ b. IsFull (log_of c.args.undo.now.log) c.args.segment (record_length b) → ⊥) (record_of_write c.args.write.now (rows c.args.tables.now))
+    (of_some (λ b. IsFull c.args.undo.now.log c.args.segment (record_length b) → ⊥) (record_of_write c.args.write.now (rows c.args.tables.now))
     (record_of_lent c.in-Ok.before) c.in-Ok.ensures.lent cause.0) c.unplaced.ensures
 
 pub unplaced-requires-clause-unplaced : goal.unplaced-requires-clause-unplaced

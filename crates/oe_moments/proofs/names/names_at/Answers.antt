@@ -1,7 +1,7 @@
 use Rattle.std.proofs.Common.{sym, ap, ◌∙◌}
 use Rattle.oe_model.specs.Choice.{middle}
 use Rattle.oe_store.specs.Places.{rows}
-use Rattle.oe_segments.specs.Moments.{store_with}
+use Rattle.oe_log.specs.Moments.{store_with}
 use Rattle.oe_moments.proofs.LastingFacts.{names_last}
 use Rattle.oe_moments.proofs.names.names_at.Goals as goal
 

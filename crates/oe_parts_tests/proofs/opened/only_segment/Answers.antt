@@ -1,6 +1,6 @@
 use Rattle.std.proofs.Common.{rules, ◌≡◌, ℕ, sym, subst}
 use Rattle.std.specs.Prelude.{IsSome}
-use Rattle.oe_segments.specs.Segments.{SegmentLog, active_at, open_total}
+use Rattle.oe_log.specs.Log.{SegmentLog, active_at, open_total}
 use Rattle.oe_undo.specs.Chains.{IsAlone}
 use Rattle.oe_parts_tests.proofs.AloneFacts.{only_one_is_alone}
 use Rattle.oe_parts_tests.proofs.opened.only_segment.Goals as goal

@@ -1,8 +1,8 @@
 use Rattle.std.specs.Prelude.{IsSome}
 use Rattle.std.proofs.Common.{◌≡◌, ◌<◌, ℕ, suc, Bool, true, false, is_some, ap, subst, sym, ◌∙◌, length, None, arith, rules}
 use Rattle.std.proofs.lemmas.Bool.{cond-true, le-leb}
-use Rattle.oe_segments.specs.Segments.{SegmentLog, active_at, count_at, records_in}
-use Rattle.oe_segments.specs.Stands.{model_records}
+use Rattle.oe_log.specs.Log.{SegmentLog, active_at, count_at, records_in}
+use Rattle.oe_log.specs.Stands.{model_records}
 use Rattle.oe_model.specs.Requests.{number_rejection}
 use Rattle.oe_engine.specs.View.{view_of, view_from}
 use Rattle.oe_engine.specs.Kept.{IsKept}

@@ -1,7 +1,7 @@
 use Rattle.std.proofs.Common.{sym, subst}
 use Rattle.std.specs.Prelude.{OnOk, IfErr, IsSome}
 use Rattle.oe_store.specs.Places.{rows}
-use Rattle.oe_segments.specs.Segments.{active_at}
+use Rattle.oe_log.specs.Log.{active_at}
 use Rattle.oe_change.specs.Writes.{key_written}
 use Rattle.oe_undo.specs.Chains.{IsAlone}
 use Rattle.oe_journal.specs.Writes.{HasRecorded, HasRoomFor, CantWrite}

@@ -1,7 +1,7 @@
 use Rattle.std.proofs.Common.{◌≡◌, true, is_some, sym, ◌∙◌, subst}
 use Rattle.std.specs.Prelude.{option_map}
 use Rattle.std.proofs.lemmas.Bool.{true≢false}
-use Rattle.oe_segments.specs.Segments.{active_at}
+use Rattle.oe_log.specs.Log.{active_at}
 use Rattle.oe_model.specs.Locks.{mode_of}
 use Rattle.oe_locks.specs.Held.{IsBelow}
 use Rattle.oe_engine.specs.View.{view_of, view_from}

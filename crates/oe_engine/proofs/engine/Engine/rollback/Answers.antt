@@ -1,6 +1,6 @@
 use Rattle.std.proofs.Common.{◌≡◌, ◌<◌, [], sym, ap, ◌∙◌, subst, length, arith}
 use Rattle.std.specs.Prelude.{IsSome}
-use Rattle.oe_segments.specs.Segments.{active_at, records_at}
+use Rattle.oe_log.specs.Log.{active_at, records_at}
 use Rattle.oe_locks.specs.Held.{HoldsNothing, OthersKeep}
 use Rattle.oe_engine.specs.View.{view_of, view_from, IsOpen}
 use Rattle.oe_engine.specs.Kept.{IsKept}

@@ -1,7 +1,7 @@
 use Rattle.std.proofs.Common.{◌≡◌, ◌≤◌, ◌-◌, sym, ap, ◌∙◌, subst, length}
 use Rattle.std.specs.Prelude.{IsSome}
-use Rattle.oe_segments.specs.Segments.{active_at}
-use Rattle.oe_segments.specs.Stands.{undo_of}
+use Rattle.oe_log.specs.Log.{active_at}
+use Rattle.oe_log.specs.Stands.{undo_of}
 use Rattle.oe_engine.specs.View.{view_of, view_from}
 use Rattle.oe_engine.specs.Calls.{back_at}
 use Rattle.oe_engine.specs.Covered.{IsSafe}

@@ -1,7 +1,7 @@
 use Rattle.std.proofs.Common.{◌≡◌, true, is_some, ap}
 use Rattle.std.specs.Prelude.{option_map}
 use Rattle.oe_model.specs.Locks.{mode_of}
-use Rattle.oe_segments.specs.Segments.{active_at}
+use Rattle.oe_log.specs.Log.{active_at}
 use Rattle.oe_engine.specs.View.{view_of, view_from}
 use Rattle.oe_engine.proofs.KeptFacts.{asked_kept}
 use Rattle.oe_engine.proofs.SafeFacts.{asked_safe}

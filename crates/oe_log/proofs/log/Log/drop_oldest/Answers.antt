@@ -1,22 +1,29 @@
--- The oldest commit's records are gone.
-use Rattle.std.proofs.Common.{ℕ, ◌-◌, take, ap, ◌∙◌, deque_capacity}
-use Rattle.oe_log.proofs.CommitFacts.{without_oldest}
+-- The oldest commit is no longer kept.
+use Rattle.std.proofs.Common.{◌≡◌, ◌-◌, Some, length, take, refl, ap, sym, ◌∙◌, deque_capacity}
+use Rattle.std.specs.Prelude.{option_map}
+use Rattle.oe_log.proofs.HeadFacts.{last_found}
+use Rattle.oe_log.proofs.ZipFacts.{head_owner}
+use Rattle.oe_log.proofs.CallFacts.{oldest_found, cut}
+use Rattle.oe_log.proofs.log.Log.drop_oldest.Goals.{in-Some, in-None}
 use Rattle.oe_log.proofs.log.Log.drop_oldest.Goals as goal
+
+pub returns-clause-oldest : goal.returns-clause-oldest
+returns-clause-oldest c =
+    let found = last_found c.self.inside.commits.items _ c.pop_back.result c.self.inside.commits.ok.0 c.pop_back.ensures.variant.0 c.pop_back.ensures.value in
+    let told : c.match-pop_back.result ≡ option_map head_owner c.pop_back.result =
+    elim c.match-pop_back.branch [
+      | in-Some w ↦ w.result-is ∙ ap Some w.owner.ensures ∙ ap (option_map head_owner) (sym w.in-Some.is)
+      | in-None w ↦ w.result-is ∙ ap (option_map head_owner) (sym w.in-None.is)
+    ] in
+    rw (← c.self.view_is) (told ∙ oldest_found c.self.inside.terminals.items c.self.inside.commits.items (deque_capacity c.self.inside.commits) c.self.inside.log c.self.invariant c.pop_back.result found)
 
 pub invariant_of-self : goal.invariant_of-self
 invariant_of-self c =
-    let now = without_oldest c.self.inside.ring c.self.inside.lens.items c.self.inside.committed_lens.items (deque_capacity c.self.inside.committed_lens) c.self.inside.open_count c.self.inside.newest c.self.invariant
-    c.drop_oldest.new.self.room c.drop_oldest.new.self c.pop_back-len.new.self.items (deque_capacity c.pop_back-len.new.self)
-    c.drop_oldest.ensures.left c.drop_oldest.ensures.room
-    (c.pop_back-len.ensures.rest ∙ ap (λ (n : ℕ). take (n - 1) c.self.inside.committed_lens.items) c.self.inside.committed_lens.ok.0)
-    c.pop_back-len.ensures.capacity in
-    now.kept
+    (cut c.self.inside.terminals.items c.self.inside.commits.items (deque_capacity c.self.inside.commits) c.self.inside.log c.self.invariant (length c.self.inside.commits.items) (deque_capacity c.pop_back.new.self) c.pop_back.new.self.items c.drop_oldest.new.self
+    refl (c.pop_back.ensures.rest ∙ ap (λ n. take (n - 1) c.self.inside.commits.items) c.self.inside.commits.ok.0) c.pop_back.ensures.capacity c.drop_oldest.ensures).kept
 
-pub returns : goal.returns
-returns c =
-    let now = without_oldest c.self.inside.ring c.self.inside.lens.items c.self.inside.committed_lens.items (deque_capacity c.self.inside.committed_lens) c.self.inside.open_count c.self.inside.newest c.self.invariant
-    c.drop_oldest.new.self.room c.drop_oldest.new.self c.pop_back-len.new.self.items (deque_capacity c.pop_back-len.new.self)
-    c.drop_oldest.ensures.left c.drop_oldest.ensures.room
-    (c.pop_back-len.ensures.rest ∙ ap (λ (n : ℕ). take (n - 1) c.self.inside.committed_lens.items) c.self.inside.committed_lens.ok.0)
-    c.pop_back-len.ensures.capacity in
-    rw (← c.self.view_is) now.view
+pub returns-clause-dropped : goal.returns-clause-dropped
+returns-clause-dropped c =
+    rw (← c.self.view_is)
+    ((cut c.self.inside.terminals.items c.self.inside.commits.items (deque_capacity c.self.inside.commits) c.self.inside.log c.self.invariant (length c.self.inside.commits.items) (deque_capacity c.pop_back.new.self) c.pop_back.new.self.items c.drop_oldest.new.self
+    refl (c.pop_back.ensures.rest ∙ ap (λ n. take (n - 1) c.self.inside.commits.items) c.self.inside.commits.ok.0) c.pop_back.ensures.capacity c.drop_oldest.ensures).view)

@@ -1,55 +1,48 @@
 -- A record more, or no room for it.
-use Rattle.std.proofs.Common.{◌≡◌, ℕ, length, refl, sym, ◌∙◌, subst, arith, deque_capacity}
-use Rattle.oe_extent.specs.Ring as ring
+use Rattle.std.proofs.Common.{arith, deque_capacity}
+use Rattle.oe_log.proofs.CallFacts.{kept_pushed, seen_pushed, seen_refused}
+use Rattle.oe_log.proofs.FullFacts.{full_here, full_there, fresh_if}
 use Rattle.oe_model.specs.Lengths.{record_length}
-use Rattle.oe_layout.specs.Records.{record_image, record_of_lent}
-use Rattle.oe_log.proofs.RoomFacts.{full_here, full_there}
-use Rattle.oe_log.proofs.LogFacts.{pushed, pushed_few, fresh}
+use Rattle.oe_layout.specs.Records.{record_of_lent}
 use Rattle.oe_log.proofs.log.Log.push.Goals as goal
 
-pub returns-in_default-clause-full : goal.returns-in_default-clause-full
-returns-in_default-clause-full c =
-    let bytes = record_image c.args.lent.now.previous (record_of_lent c.args.lent.now.record) in
-    let same : length bytes ≡ record_length (record_of_lent c.args.lent.now.record) = sym c.length-length.ensures.image ∙ c.length-length.ensures.sum in
-    let full = subst (ring.IsFull c.self.inside.ring c.get-slot.result) same (c.in_default.ensures.full.0 refl) in
-    rw (← c.self.view_is, ← c.get-slot.ensures.value) (
-      λ e. full_here c.self.inside.ring c.self.inside.open_count c.self.inside.newest c.get-slot.result (record_length (record_of_lent c.args.lent.now.record))
-          c.self.invariant.active_are c.self.invariant.committed_are full,
-      λ f. refl,
-    )
-
-pub overflow_add-index_mut : goal.overflow_add-index_mut
-overflow_add-index_mut c =
-    let few = pushed_few c.self.inside.ring c.self.inside.lens.items c.self.inside.committed_lens.items (deque_capacity c.self.inside.committed_lens) c.self.inside.open_count c.self.inside.newest c.self.invariant
-    c.get-slot.result c.index_mut.result.now c.push-pushed.new.self c.in-Ok.address c.args.lent.now.previous c.args.lent.now.record (omega (arith, c.get-slot.ensures.high)) c.index_mut.ensures.value c.ranges-2.ensures.link c.ranges-2.ensures.record c.in-Ok.ensures.pushed
-    (omega (arith, c.extents-extents.ensures.used, c.extents-extents.ensures.value)) in
-    omega (arith, few)
-
-pub invariant_of-self-2 : goal.invariant_of-self-2
-invariant_of-self-2 c =
-    let now = pushed c.self.inside.ring c.self.inside.lens.items c.self.inside.committed_lens.items (deque_capacity c.self.inside.committed_lens) c.self.inside.open_count c.self.inside.newest c.self.invariant
-    c.get-slot.result c.index_mut.result.now c.push-pushed.new.self c.in-Ok.address c.args.lent.now.previous c.args.lent.now.record (omega (arith, c.get-slot.ensures.high)) c.index_mut.ensures.value c.ranges-2.ensures.link c.ranges-2.ensures.record c.in-Ok.ensures.pushed in
-    now.kept
+pub invariant_of-self : goal.invariant_of-self
+invariant_of-self c =
+    let some = rw (← c.self.view_is, ← c.terminal-terminal.ensures) at c.requires in
+    kept_pushed c.self.inside.terminals.items c.self.inside.commits.items (deque_capacity c.self.inside.commits) c.self.inside.log c.self.invariant
+    c.push.result c.get.result c.terminal-terminal.result c.index_mut-state.result.now c.may_delete-state.result c.args.lent.now.previous
+    (record_of_lent c.args.lent.now.record) c.push.new.self c.get.ensures.value c.get.ensures.low (omega (arith, c.get.ensures.high)) c.index_mut-state.ensures.value some
+    c.may_delete-state.ensures.before c.may_delete-state.ensures.record c.push.ensures.pushed c.push.ensures.same
 
 pub returns-clause-pushed : goal.returns-clause-pushed
 returns-clause-pushed c =
-    let now = pushed c.self.inside.ring c.self.inside.lens.items c.self.inside.committed_lens.items (deque_capacity c.self.inside.committed_lens) c.self.inside.open_count c.self.inside.newest c.self.invariant
-    c.get-slot.result c.index_mut.result.now c.push-pushed.new.self c.in-Ok.address c.args.lent.now.previous c.args.lent.now.record (omega (arith, c.get-slot.ensures.high)) c.index_mut.ensures.value c.ranges-2.ensures.link c.ranges-2.ensures.record c.in-Ok.ensures.pushed in
-    rw (← c.self.view_is, ← c.get-slot.ensures.value, c.record_address.ensures) now.view
+    let some = rw (← c.self.view_is, ← c.terminal-terminal.ensures) at c.requires in
+    rw (← c.self.view_is, ← c.terminal-terminal.ensures)
+    (seen_pushed c.self.inside.terminals.items c.self.inside.commits.items (deque_capacity c.self.inside.commits) c.self.inside.log c.self.invariant
+    c.push.result c.get.result c.terminal-terminal.result c.index_mut-state.result.now c.may_delete-state.result c.args.lent.now.previous
+    (record_of_lent c.args.lent.now.record) c.push.new.self c.get.ensures.value c.get.ensures.low (omega (arith, c.get.ensures.high)) c.index_mut-state.ensures.value some
+    c.may_delete-state.ensures.before c.may_delete-state.ensures.record c.push.ensures.pushed)
+
+pub returns-clause-same : goal.returns-clause-same
+returns-clause-same c =
+    let some = rw (← c.self.view_is, ← c.terminal-terminal.ensures) at c.requires in
+    rw (← c.self.view_is)
+    (seen_refused c.self.inside.terminals.items c.self.inside.commits.items (deque_capacity c.self.inside.commits) c.self.inside.log c.self.invariant
+    c.push.result c.get.result c.terminal-terminal.result c.index_mut-state.result.now c.may_delete-state.result
+    c.push.new.self c.get.ensures.value c.get.ensures.low (omega (arith, c.get.ensures.high)) c.index_mut-state.ensures.value some
+    c.may_delete-state.ensures.before c.push.ensures.same)
 
 pub returns-clause-full : goal.returns-clause-full
 returns-clause-full c =
-    let bytes = record_image c.args.lent.now.previous (record_of_lent c.args.lent.now.record) in
-    let same : length bytes ≡ record_length (record_of_lent c.args.lent.now.record) = sym c.length-length.ensures.image ∙ c.length-length.ensures.sum in
-    rw (← c.self.view_is, ← c.get-slot.ensures.value) (
-      λ e. absurd cc,
-      λ f. c.in-Ok.ensures.full.1
-          (subst (ring.IsFull c.self.inside.ring c.get-slot.result) (sym same)
-          (full_there c.self.inside.ring c.self.inside.open_count c.self.inside.newest c.get-slot.result (record_length (record_of_lent c.args.lent.now.record))
-          c.self.invariant.active_are c.self.invariant.committed_are f)),
+    rw (← c.self.view_is, ← c.terminal-terminal.ensures) (
+      λ e. full_here c.self.inside.terminals.items c.self.inside.commits.items (deque_capacity c.self.inside.commits) c.self.inside.log c.self.invariant
+          c.terminal-terminal.result (record_length (record_of_lent c.args.lent.now.record)) (c.push.ensures.full.0 e),
+      λ f. c.push.ensures.full.1
+          (full_there c.self.inside.terminals.items c.self.inside.commits.items (deque_capacity c.self.inside.commits) c.self.inside.log c.self.invariant
+          c.terminal-terminal.result (record_length (record_of_lent c.args.lent.now.record)) f),
     )
 
 pub returns-clause-fresh : goal.returns-clause-fresh
 returns-clause-fresh c =
-    rw (← c.self.view_is, c.record_address.ensures)
-    (fresh c.self.inside.ring c.self.inside.lens.items c.self.inside.committed_lens.items (deque_capacity c.self.inside.committed_lens) c.self.inside.open_count c.self.inside.newest c.self.invariant c.in-Ok.address c.in-Ok.ensures.fresh)
+    rw (← c.self.view_is)
+    (fresh_if c.self.inside.terminals.items c.self.inside.commits.items (deque_capacity c.self.inside.commits) c.self.inside.log c.self.invariant c.push.result c.push.ensures.fresh)

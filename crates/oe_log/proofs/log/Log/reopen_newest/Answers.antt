@@ -1,31 +1,37 @@
--- The newest commit's records are a terminal's again.
-use Rattle.std.proofs.Common.{◌≡◌, ℕ, ◌+◌, ◌-◌, [], map, get_or, set, refl, sym, subst, arith, rules, deque_capacity}
-use Rattle.oe_log.specs.Log.{RingLog}
-use Rattle.oe_log.specs.Kept.{records_in}
-use Rattle.oe_log.proofs.CommitFacts.{empty_slot, reopened}
+-- The newest commit is open again.
+use Rattle.std.proofs.Common.{refl, sym, ap, ◌∙◌, arith, deque_capacity}
+use Rattle.oe_log.specs.Log as seen
+use Rattle.oe_log.specs.Log.{SegmentLog}
+use Rattle.oe_log.proofs.CallFacts.{reopened, few_opens, nothing_there, none_open}
 use Rattle.oe_log.proofs.log.Log.reopen_newest.Goals as goal
+
+pub reopen_newest-requires-clause-few : goal.reopen_newest-requires-clause-few
+reopen_newest-requires-clause-few c =
+    let none = rw (← c.self.view_is) at c.requires in
+    few_opens c.self.inside.terminals.items c.self.inside.commits.items (deque_capacity c.self.inside.commits) c.self.inside.log c.self.invariant c.get.result c.get.result refl c.get.ensures.low (omega (arith, c.get.ensures.high)) (none c.get.result)
 
 pub reopen_newest-requires-clause-empty : goal.reopen_newest-requires-clause-empty
 reopen_newest-requires-clause-empty c =
-    let seen = subst (λ (v : RingLog). get_or v.active c.args.terminal [] ≡ []) (sym c.self.view_is) c.requires.empty in
-    let there = subst (λ (t : ℕ). get_or (map records_in c.self.inside.ring.active) t [] ≡ []) (sym c.get-slot.ensures.value) seen in
-    empty_slot c.self.inside.ring c.self.inside.lens.items c.self.inside.committed_lens.items (deque_capacity c.self.inside.committed_lens) c.self.inside.open_count c.self.inside.newest c.self.invariant
-    c.get-slot.result there
+    let none = rw (← c.self.view_is) at c.requires in
+    nothing_there c.self.inside.terminals.items c.self.inside.commits.items (deque_capacity c.self.inside.commits) c.self.inside.log c.self.invariant c.get.result c.owner-owner.result.terminal c.get.ensures.value (none c.get.result)
 
-pub invariant_of-self : goal.invariant_of-self
-invariant_of-self c =
-    let moment : c.unwrap-moment.result ≡ c.self.inside.newest - 1 = search rules in
-    let now = reopened c.self.inside.ring c.self.inside.lens.items c.self.inside.committed_lens.items (deque_capacity c.self.inside.committed_lens) c.self.inside.open_count c.self.inside.newest c.self.invariant
-    c.get-slot.result c.in-Some.len c.reopen_newest.new.self.room (c.self.inside.open_count + 1) c.unwrap-moment.result c.reopen_newest.new.self
-    (set c.self.inside.lens.items c.get-slot.result c.in-Some.len) c.pop_front-newest.new.self.items (deque_capacity c.pop_front-newest.new.self)
-    c.in-Some.ensures.items c.reopen_newest.ensures.reopened c.reopen_newest.ensures.room refl c.pop_front-newest.ensures.capacity (omega arith) moment in
-    now.kept
+pub invariant_of-self-2 : goal.invariant_of-self-2
+invariant_of-self-2 c =
+    let none = rw (← c.self.view_is) at c.requires in
+    let closed = none_open c.self.inside.terminals.items c.self.inside.commits.items (deque_capacity c.self.inside.commits) c.self.inside.log c.self.invariant c.get.result (none c.get.result) in
+    (reopened c.self.inside.terminals.items _ c.self.inside.commits.items c.pop_front.new.self.items c.in-Some.head (deque_capacity c.self.inside.commits) (deque_capacity c.pop_front.new.self)
+    c.self.inside.log.extents c.self.inside.log.opens c.self.inside.log.newest c.self.inside.log.active c.self.inside.log.committed
+    c.get.result c.owner-owner.result.terminal c.index_mut-state.result.now c.may_delete-state.result c.owner-owner.result c.reopen_newest.new.self c.self.invariant
+    c.in-Some.ensures.items c.pop_front.ensures.capacity c.get.ensures.value c.get.ensures.low (omega (arith, c.get.ensures.high))
+    (ap (λ z. z.terminal) (sym c.owner-owner.ensures)) c.index_mut-state.ensures.value closed c.owner-owner.ensures c.may_delete-state.ensures refl c.reopen_newest.ensures).kept
 
-pub returns : goal.returns
-returns c =
-    let moment : c.unwrap-moment.result ≡ c.self.inside.newest - 1 = search rules in
-    let now = reopened c.self.inside.ring c.self.inside.lens.items c.self.inside.committed_lens.items (deque_capacity c.self.inside.committed_lens) c.self.inside.open_count c.self.inside.newest c.self.invariant
-    c.get-slot.result c.in-Some.len c.reopen_newest.new.self.room (c.self.inside.open_count + 1) c.unwrap-moment.result c.reopen_newest.new.self
-    (set c.self.inside.lens.items c.get-slot.result c.in-Some.len) c.pop_front-newest.new.self.items (deque_capacity c.pop_front-newest.new.self)
-    c.in-Some.ensures.items c.reopen_newest.ensures.reopened c.reopen_newest.ensures.room refl c.pop_front-newest.ensures.capacity (omega arith) moment in
-    rw (← c.self.view_is, ← c.get-slot.ensures.value) now.view
+pub returns-clause-reopened : goal.returns-clause-reopened
+returns-clause-reopened c =
+    let none = rw (← c.self.view_is) at c.requires in
+    let closed = none_open c.self.inside.terminals.items c.self.inside.commits.items (deque_capacity c.self.inside.commits) c.self.inside.log c.self.invariant c.get.result (none c.get.result) in
+    (reopened c.self.inside.terminals.items _ c.self.inside.commits.items c.pop_front.new.self.items c.in-Some.head (deque_capacity c.self.inside.commits) (deque_capacity c.pop_front.new.self)
+    c.self.inside.log.extents c.self.inside.log.opens c.self.inside.log.newest c.self.inside.log.active c.self.inside.log.committed
+    c.get.result c.owner-owner.result.terminal c.index_mut-state.result.now c.may_delete-state.result c.owner-owner.result c.reopen_newest.new.self c.self.invariant
+    c.in-Some.ensures.items c.pop_front.ensures.capacity c.get.ensures.value c.get.ensures.low (omega (arith, c.get.ensures.high))
+    (ap (λ z. z.terminal) (sym c.owner-owner.ensures)) c.index_mut-state.ensures.value closed c.owner-owner.ensures c.may_delete-state.ensures refl c.reopen_newest.ensures).view
+    ∙ ap (λ (v : SegmentLog). seen.reopened v v.committed) c.self.view_is

@@ -1,5 +1,5 @@
 use Rattle.std.proofs.Common.{◌≡◌, ◌-◌, ◌+◌, refl, sym, ◌∙◌, arith}
-use Rattle.oe_segments.specs.Segments.{total_count}
+use Rattle.oe_log.specs.Log.{total_count}
 use Rattle.oe_undo.specs.Undo.{seen}
 use Rattle.oe_undo.proofs.ChainedLinkFacts.{chains_are_walked}
 use Rattle.oe_undo.proofs.WalkFacts.{goes_first, stands_there, goes_on, leaves_fewer}

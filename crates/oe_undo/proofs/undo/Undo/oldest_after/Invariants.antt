@@ -1,5 +1,5 @@
 use Rattle.std.proofs.Common.{◌-◌}
-use Rattle.oe_segments.specs.Segments.{total_count}
+use Rattle.oe_log.specs.Log.{total_count}
 use Rattle.oe_undo.specs.Held.{held, of_key, count_later}
 use Rattle.oe_undo.specs.Oldest.{oldest_after}
 use Rattle.oe_undo.proofs.WalkFacts.{Goes, reads_left}

@@ -1,6 +1,6 @@
 -- The commit of the moment is that of its terminal's number.
 use Rattle.std.proofs.Common.{◌≡◌, ◌-◌, ◌∙◌}
-use Rattle.oe_segments.specs.Segments.{total_count}
+use Rattle.oe_log.specs.Log.{total_count}
 use Rattle.oe_undo.proofs.ChainedFacts.{committed_given}
 use Rattle.oe_undo.proofs.undo.Undo.owned.Goals as goal
 

@@ -3,9 +3,9 @@ use Rattle.std.proofs.Common.{◌≡◌, sym, ap, subst, ◌∙◌, Option, Some
 use Rattle.oe_keys.specs.declared.keys.Key.{Key}
 use Rattle.oe_model.specs.Changes.{record_key}
 use Rattle.oe_layout.specs.Records.{record_of_lent}
-use Rattle.oe_log.specs.Log.{logged}
-use Rattle.oe_segments.specs.declared.heads.SegmentOwner.{SegmentOwner}
-use Rattle.oe_segments.specs.Segments.{SegmentLog, pushed}
+use Rattle.oe_log.specs.Records.{logged}
+use Rattle.oe_log.specs.declared.heads.SegmentOwner.{SegmentOwner}
+use Rattle.oe_log.specs.Log.{SegmentLog, pushed}
 use Rattle.oe_undo.specs.Chains.{IsAlone}
 use Rattle.oe_undo.specs.declared.links.OwnedLink.{OwnedLink}
 use Rattle.oe_undo.specs.Links.{LinkMaps, links_of, HasPlace, SetsLink, LeadsTo}

@@ -3,10 +3,10 @@ use Rattle.std.proofs.Common.{◌≡◌, sym, ap, subst, ◌∙◌, Some, None}
 use Rattle.oe_keys.specs.declared.keys.Key.{Key}
 use Rattle.oe_model.specs.Changes.{record_key}
 use Rattle.oe_layout.specs.Records.{record_of_lent}
-use Rattle.oe_log.specs.Log.{logged}
+use Rattle.oe_log.specs.Records.{logged}
 use Rattle.oe_layout.specs.declared.links.Previous.TheVariants.{Nothing}
-use Rattle.oe_segments.specs.declared.heads.SegmentOwner.{SegmentOwner}
-use Rattle.oe_segments.specs.Segments.{SegmentLog, pushed}
+use Rattle.oe_log.specs.declared.heads.SegmentOwner.{SegmentOwner}
+use Rattle.oe_log.specs.Log.{SegmentLog, pushed}
 use Rattle.oe_undo.specs.Chains.{link_from}
 use Rattle.oe_undo.specs.declared.holders.Holder.TheVariants.{Open}
 use Rattle.oe_undo.specs.Links.{LinkMaps, place_of, links_of, link_in, LeadsTo}

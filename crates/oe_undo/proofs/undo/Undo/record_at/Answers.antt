@@ -1,5 +1,5 @@
 use Rattle.std.proofs.Common.{◌≡◌, ◌-◌, ◌∙◌}
-use Rattle.oe_segments.specs.Segments.{total_count}
+use Rattle.oe_log.specs.Log.{total_count}
 use Rattle.oe_undo.proofs.undo.Undo.record_at.Goals as goal
 
 pub returns-in-Open : goal.returns-in-Open

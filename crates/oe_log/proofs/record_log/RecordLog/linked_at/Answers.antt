@@ -1,0 +1,29 @@
+-- The string at a record's address is that record.
+use Rattle.std.proofs.Common.{ℕ, [], map, get_or, sym, subst}
+use Rattle.oe_extent.specs.declared.extents.Address.{Address}
+use Rattle.oe_extent.specs.Ring as ring
+use Rattle.oe_log.specs.Records.{HasAddress, IsAmong, logged}
+use Rattle.oe_log.specs.RingLog.{RingLog}
+use Rattle.oe_log.specs.Strings.{records_in}
+use Rattle.oe_log.proofs.ReadFacts.{has_string, is_stored, linked_there}
+use Rattle.oe_log.proofs.record_log.RecordLog.linked_at.Goals as goal
+
+pub at-requires-clause-some : goal.at-requires-clause-some
+at-requires-clause-some c =
+    let seen = subst (λ (v : RingLog). HasAddress (get_or v.active c.args.terminal []) c.args.address) (sym c.self.view_is) c.requires in
+    let has = subst (λ (t : ℕ). HasAddress (get_or (map records_in c.self.inside.ring.active) t []) c.args.address) (sym c.get-slot.ensures.value) seen in
+    rw c.ring_address-place.ensures (has_string c.args.address c.self.inside.ring.active c.get-slot.result c.self.invariant.active_are has)
+
+pub linked_record-requires : goal.linked_record-requires
+linked_record-requires c =
+    let seen = subst (λ (v : RingLog). HasAddress (get_or v.active c.args.terminal []) c.args.address) (sym c.self.view_is) c.requires in
+    let has = subst (λ (t : ℕ). HasAddress (get_or (map records_in c.self.inside.ring.active) t []) c.args.address) (sym c.get-slot.ensures.value) seen in
+    let stands = subst (λ (a : Address). ring.IsStringAt (get_or c.self.inside.ring.active c.get-slot.result []) a c.at.result.now) c.ring_address-place.ensures c.at.ensures in
+    is_stored c.args.address c.self.inside.ring.active c.get-slot.result c.at.result.now c.self.invariant.active_are has stands
+
+pub returns : goal.returns
+returns c p b k =
+    let seen = subst (λ (v : RingLog). IsAmong (logged c.args.address p b) (get_or v.active c.args.terminal [])) (sym c.self.view_is) k in
+    let there = subst (λ (t : ℕ). IsAmong (logged c.args.address p b) (get_or (map records_in c.self.inside.ring.active) t [])) (sym c.get-slot.ensures.value) seen in
+    let stands = subst (λ (a : Address). ring.IsStringAt (get_or c.self.inside.ring.active c.get-slot.result []) a c.at.result.now) c.ring_address-place.ensures c.at.ensures in
+    linked_there c.args.address p b c.self.inside.ring.active c.get-slot.result c.at.result.now (c.linked_record.result.0, c.linked_record.result.1) c.self.invariant.active_are there stands c.linked_record.ensures

@@ -1,0 +1,52 @@
+-- Undo records with their addresses, and how they are found by them.
+use Rattle.std.specs.Prelude.{◌≡◌, ◌≢◌, ◌⊎◌, ℕ, List, [], ◌∷◌, map, Option, None, Some}
+use Rattle.std.specs.List.{AllByRecursion}
+use Rattle.oe_model.specs.Changes.{Record}
+use Rattle.oe_model.specs.Lengths.{record_length}
+use Rattle.oe_layout.specs.declared.links.RecordAddress.{RecordAddress}
+use Rattle.oe_layout.specs.declared.links.Previous.{Previous}
+
+-- an undo record with its address, and what leads to the previous record of its row
+pub record Logged : Type 0 where
+  pub address : RecordAddress
+  pub previous : Previous
+  pub before : Record
+
+abbrev pub logged : RecordAddress → Previous → Record → Logged
+logged a p b = record { address = a; previous = p; before = b }
+
+-- the records themselves
+abbrev pub befores : List Logged → List Record
+befores rs = map (λ r. r.before) rs
+
+-- the newest of these records, if there is one
+abbrev pub newest_of : List Logged → Option (Previous × Record)
+newest_of [] = None
+newest_of (r ∷ rs) = Some (r.previous, r.before)
+
+abbrev pub lengths : List Logged → List ℕ
+lengths rs = map (λ r. record_length r.before) rs
+
+-- ---- addresses
+
+-- none of these records is at that address
+abbrev pub StandElsewhere : RecordAddress → List Logged → Type 0
+StandElsewhere a rs = AllByRecursion (λ r. r.address ≢ a) rs
+
+-- ---- records by their addresses
+
+-- this record is one of those
+abbrev pub IsAmong : Logged → List Logged → Type 0
+IsAmong r [] = ⊥
+IsAmong r (x ∷ xs) = (x ≡ r) ⊎ IsAmong r xs
+
+-- one of these records is at that address
+pub record HasAddress (rs : List Logged) (a : RecordAddress) : Type 0 where
+  pub previous : Previous
+  pub before : Record
+  pub there : IsAmong (logged a previous before) rs
+
+-- what is told is the record at that address
+abbrev pub IsRecordAt : List Logged → RecordAddress → Previous × Record → Type 0
+IsRecordAt rs a told =
+    (p : Previous) (b : Record) → IsAmong (logged a p b) rs → told ≡ (p, b)

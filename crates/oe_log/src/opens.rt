@@ -1,0 +1,118 @@
+//! Open segments.
+ghost use Rattle.std.specs.Prelude.{◌≡◌, ◌<◌, ◌↔◌, suc, false, [], length, option_map, None, IsSome, IsErr, IfOk, OnOk, OnErr};
+ghost use Rattle.oe_model.specs.Lengths.{record_length};
+ghost use Rattle.oe_layout.specs.Records.{record_of_own, record_of_lent};
+ghost use Rattle.oe_layout.specs.Stored.{deleted_new_order};
+ghost use Rattle.oe_log.specs.Records.{logged, newest_of};
+ghost use Rattle.oe_log.specs.Log.{count_at, active_at, records_at, opened, pushed, popped, dropped, IsFull, IsFresh};
+
+use crate::heads::SegmentOwner;
+use crate::log::{Log, Segment};
+use oe_layout::{LentRecord, LinkedRecord, OwnRecord, Previous, RecordAddress};
+use oe_extent::Full;
+use oe_table::tables::NoMemory;
+use oe_values::numbers::{Terminal, TransactionNumber};
+
+/// Whether records may be of deleted rows after one more, by whether they may before.
+fn may_delete(before: bool, record: &LentRecord<'_>) -> bool
+    ensures before { result ≡ false → before ≡ false }
+    ensures record { result ≡ false → deleted_new_order (record_of_lent record.now) ≡ None }
+{
+    match record {
+        LentRecord::DeletedNewOrder(_) => true,
+        _ => before,
+    }
+}
+
+impl Log {
+    /// Opens a segment without records for a terminal that has none open and fewer than 4,294,967,295 commits, and takes all memory
+    /// that its commit will need; `NoMemory` where that was refused.
+    pub fn open_segment(&mut self, terminal: Terminal) -> Result<Segment, NoMemory>
+        requires closed { active_at self.old terminal ≡ None }
+        requires counted { count_at self.old terminal < 4_294_967_295 }
+        ensures opened { OnOk result (self.new ≡ opened self.old terminal) }
+        ensures segment { IfOk result (λ s. s ≡ terminal) }
+        ensures err { OnErr result (self.new ≡ self.old) }
+    {
+        let slot = terminal.get() as usize;
+        let needed = self.log.open_count() + 1;
+        if self.commits.reserve(needed).is_err() {
+            return Err(NoMemory);
+        }
+        if self.log.open_segment().is_err() {
+            return Err(NoMemory);
+        }
+        let state = &mut self.terminals[slot];
+        let number = TransactionNumber::new(state.count + 1).unwrap();
+        state.active = Some(SegmentOwner { terminal, number });
+        state.deletes = false;
+        Ok(Segment::of(terminal))
+    }
+
+    /// Gives up an open segment whose records were all taken off.
+    pub fn drop_segment(&mut self, segment: Segment)
+        requires open { IsSome (active_at self.old segment) }
+        requires empty { records_at self.old segment ≡ [] }
+        ensures { self.new ≡ dropped self.old segment }
+    {
+        let state = &mut self.terminals[segment.terminal().get() as usize];
+        state.active = None;
+        self.log.close_segment();
+    }
+
+    /// Appends a record to an open segment, and answers its address, where no other record is. The row before an update is written
+    /// from where it lies. `Full` exactly where the record fits neither the rest of the segment's newest extent nor a free one. It
+    /// takes no memory.
+    pub fn push(&mut self, segment: Segment, lent: &LinkedRecord<'_>) -> Result<RecordAddress, Full>
+        requires { IsSome (active_at self.old segment) }
+        ensures pushed { IfOk result (λ a. self.new
+            ≡ pushed self.old segment (logged a lent.now.previous
+            (record_of_lent lent.now.record))) }
+        ensures same { OnErr result (self.new ≡ self.old) }
+        ensures full { IsErr result ↔ IsFull self.old segment
+            (record_length (record_of_lent lent.now.record)) }
+        ensures fresh { IfOk result (IsFresh self.old) }
+    {
+        let terminal = segment.terminal();
+        let state = &mut self.terminals[terminal.get() as usize];
+        state.deletes = may_delete(state.deletes, &lent.record);
+        self.log.push(terminal, lent)
+    }
+
+    /// Whose an open segment is: its terminal's next transaction.
+    pub fn owner(&self, segment: Segment) -> SegmentOwner
+        requires { IsSome (active_at self.now segment) }
+        ensures { result
+            ≡ record { terminal = segment; number = suc (count_at self.now segment) } }
+    {
+        match self.terminals[segment.terminal().get() as usize].active {
+            Some(owner) => owner,
+            None => unreachable!(),
+        }
+    }
+
+    /// A mark in an open segment: the number of its records.
+    pub fn mark(&self, segment: Segment) -> usize
+        requires { IsSome (active_at self.now segment) }
+        ensures { result ≡ length (records_at self.now segment) }
+    {
+        self.log.len(segment.terminal())
+    }
+
+    /// The newest record of an open segment, with what leads to the previous one of its row; none exactly where it has none.
+    pub fn newest_record(&self, segment: Segment) -> Option<(Previous, OwnRecord)>
+        requires { IsSome (active_at self.now segment) }
+        ensures { option_map (λ x. (x.0, record_of_own x.1)) result
+            ≡ newest_of (records_at self.now segment) }
+    {
+        self.log.newest_record(segment.terminal())
+    }
+
+    /// Takes the newest record of an open segment off, where it has one.
+    pub fn pop(&mut self, segment: Segment)
+        requires { IsSome (active_at self.old segment) }
+        ensures { self.new ≡ popped self.old segment }
+    {
+        self.log.pop(segment.terminal());
+    }
+}

@@ -1,8 +1,0 @@
--- As many states as terminals, and one of nobody.
-use Rattle.std.proofs.Common.{deque_capacity}
-use Rattle.oe_segments.proofs.CallFacts.{seen_size}
-use Rattle.oe_segments.proofs.segments.Segments.terminals_are.Goals as goal
-
-pub returns : goal.returns
-returns c =
-    rw (← c.self.view_is) (seen_size c.self.inside.terminals.items c.self.inside.commits.items (deque_capacity c.self.inside.commits) c.self.inside.log c.self.invariant)
