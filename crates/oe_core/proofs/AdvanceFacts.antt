@@ -17,8 +17,6 @@ use Rattle.oe_theory.proofs.Theorems.{reached_sound, changes_are_accepted, abort
 use Rattle.oe_requests.specs.declared.requests.Request.{Request}
 use Rattle.oe_requests.specs.declared.requests.Request.TheVariants as request
 use Rattle.oe_requests.specs.declared.replies.Reply.{Reply}
-use Rattle.oe_requests.specs.declared.replies.Reply.TheVariants as reply
-use Rattle.oe_requests.specs.declared.replies.PaymentReply.{PaymentReply}
 use Rattle.oe_keys.specs.declared.locks.Name.{Name}
 use Rattle.oe_requests.specs.declared.refusals.Refusal.{Refusal}
 use Rattle.oe_requests.specs.declared.refusals.Refusal.TheVariants.{NoSuchRow, RowExists, Overflow, Reference, KeyColumn, Busy, UndoFull, NoMemory, NotOpen, AlreadyOpen, InvalidItem, NoCustomer, TooOld, Future, NotQuiet, NotPinned}
@@ -36,16 +34,16 @@ use Rattle.oe_engine.specs.View as engine
 use Rattle.oe_engine.specs.Calls.{IsFree, IsInTheWay, IsFullFor, IsFullForAny, stage_done, committed, rolled_back}
 use Rattle.oe_engine.specs.Programs.{reply_at, tx_of, ask_here, act_here, IsFreeHere, GoesOn, IsReady, Ends, WantsMemory, IsRefused}
 use Rattle.oe_engine.proofs.ReplyFacts.{ready_at}
-use Rattle.oe_core.specs.Core.{CoreState, IsOf, position_of, reply_of, of_payment, HoldsTaken, in_slot, reply_left, last_reply, work_at, slot_of, open_at, store_with, store_of, world_of, IsOrderly, Moves, keeps_open}
+use Rattle.oe_core.specs.Core.{CoreState, in_slot, reply_left, last_reply, work_at, slot_of, open_at, store_with, store_of, world_of, IsOrderly, Moves, keeps_open}
 use Rattle.oe_core.specs.Steps.{refusal_in, Carries}
-use Rattle.oe_core.specs.declared.slots.Work.{Work}
-use Rattle.oe_core.specs.declared.programs.Program.{Program}
+use Rattle.oe_core.specs.Works.{WorkState, HoldsTaken}
+use Rattle.oe_model.specs.Positions.{Position}
 use Rattle.oe_core.proofs.WantFacts.{allocates}
 use Rattle.oe_core.proofs.SlotFacts.{get_slot, get_set_same}
-use Rattle.oe_core.proofs.MoveFacts.{within, works_within, standing, carries, the_steps, has_work, HasOpen, slot_here, own_work, worked, emptied, open_still, work_still, dropped_here}
+use Rattle.oe_core.proofs.MoveFacts.{within, works_within, standing, carries, the_steps, has_work, HasOpen, slot_here, own_work, worked, emptied, open_still, tx_still, dropped_here}
 
 -- a record that has room has it in the theory's words
-has_room : (v : View) (f : ℕ → Option Work) (t : ℕ) (c : Option Change) → (IsFullForAny v t c → ⊥) → HasRoomIn system (store_with v f) t c
+has_room : (v : View) (f : ℕ → Option WorkState) (t : ℕ) (c : Option Change) → (IsFullForAny v t c → ⊥) → HasRoomIn system (store_with v f) t c
 has_room v f t None room = tt
 has_room v f t (Some c) room =
     elim (cases_lt (filled system (lengths_of system (v.undo.active t))).1 (system.size_of (record_on system c v.rows))) [
@@ -57,11 +55,11 @@ has_room v f t (Some c) room =
     ]
 
 -- what stands in the way of another lock
-slot_held : (v : View) (u : ℕ) (x : Option Work) (p : Slot system) → open_at v u x ≡ Some p → p.held ≡ v.held u
+slot_held : (v : View) (u : ℕ) (x : Option WorkState) (p : Slot system) → open_at v u x ≡ Some p → p.held ≡ v.held u
 slot_held v u None p e = let no : ⊥ = cc in absurd no
 slot_held v u (Some w) p e = let it : slot_of v u w ≡ p = cc in sym (ap (λ (z : Slot system). z.held) it)
 
-granted : (v : View) (f : ℕ → Option Work) (t : ℕ) (a : Ask Name Refusal) → IsFree v t a → IsGrantedIn system (λ u. open_at v u (f u)) t a
+granted : (v : View) (f : ℕ → Option WorkState) (t : ℕ) (a : Ask Name Refusal) → IsFree v t a → IsGrantedIn system (λ u. open_at v u (f u)) t a
 granted v f t (Stop e) h = h
 granted v f t Plain h = h
 granted v f t (Take n m) h = λ u p ne e. ap (λ z. go_together m (z n)) (slot_held v u (f u) p e) ∙ h u ne
@@ -80,7 +78,7 @@ in_the_way s o t n m u h =
     }
 
 -- an open transaction: what its row asks for, what it does, and whether its lock is free
-module _ (s : CoreState) (t : ℕ) (x : Handle) (w : Work) (h : HasOpen s t x w) where
+module _ (s : CoreState) (t : ℕ) (x : Handle) (w : WorkState) (h : HasOpen s t x w) where
   abbrev pub here : Slot system
   here = slot_of (view_of s.engine) t w
 
@@ -90,35 +88,35 @@ module _ (s : CoreState) (t : ℕ) (x : Handle) (w : Work) (h : HasOpen s t x w)
       let own = own_work h in
       λ i. record { terminal = own.terminal i; number = suc ((view_of s.engine).counts (own.terminal i)); request = w.request }
 
-  pub asked_here : ask_here s.engine x w.request (position_of w.request w.program) ≡ ask (tx_in system t here) (position_of w.request w.program) (view_of s.engine).rows
-  asked_here = ap (λ z. ask z (position_of w.request w.program) (view_of s.engine).rows) same_tx
+  pub asked_here : ask_here s.engine x w.request w.position ≡ ask (tx_in system t here) w.position (view_of s.engine).rows
+  asked_here = ap (λ z. ask z w.position (view_of s.engine).rows) same_tx
 
-  pub acted_here : act_here s.engine x w.request (position_of w.request w.program) ≡ act (tx_in system t here) (position_of w.request w.program) (view_of s.engine).rows
-  acted_here = ap (λ z. act z (position_of w.request w.program) (view_of s.engine).rows) same_tx
+  pub acted_here : act_here s.engine x w.request w.position ≡ act (tx_in system t here) w.position (view_of s.engine).rows
+  acted_here = ap (λ z. act z w.position (view_of s.engine).rows) same_tx
 
-  pub free_here : IsFreeHere s.engine x w.request (position_of w.request w.program)
-      → IsFree (view_of s.engine) t (ask (tx_in system t here) (position_of w.request w.program) (view_of s.engine).rows)
+  pub free_here : IsFreeHere s.engine x w.request w.position
+      → IsFree (view_of s.engine) t (ask (tx_in system t here) w.position (view_of s.engine).rows)
   free_here f =
-      subst (λ (k : ℕ). IsFree (view_of s.engine) k (ask (tx_in system t here) (position_of w.request w.program) (view_of s.engine).rows)) (own_work h).terminal
+      subst (λ (k : ℕ). IsFree (view_of s.engine) k (ask (tx_in system t here) w.position (view_of s.engine).rows)) (own_work h).terminal
       (subst (λ (a : Ask Name Refusal). IsFree (view_of s.engine) x.terminal a) asked_here f)
 
-  pub granted_in : IsFreeHere s.engine x w.request (position_of w.request w.program)
-      → IsGrantedIn system (store_of s).slots t (ask (tx_in system t here) (position_of w.request w.program) (view_of s.engine).rows)
+  pub granted_in : IsFreeHere s.engine x w.request w.position
+      → IsGrantedIn system (store_of s).slots t (ask (tx_in system t here) w.position (view_of s.engine).rows)
   granted_in f = granted (view_of s.engine) (work_at s) t _ (free_here f)
 
   -- a row that ends its transaction
-  leads_stop : (e : Refusal) → ask (tx_in system t here) (position_of w.request w.program) (view_of s.engine).rows ≡ Stop e
+  leads_stop : (e : Refusal) → ask (tx_in system t here) w.position (view_of s.engine).rows ≡ Stop e
       → Leads system (store_of s) (Advance t) (Aborted e) (dropped system t (store_of s))
   leads_stop e q = the_steps.stops (store_of s) t here e (standing s h.orderly) (slot_here h) q
 
-  leads_fail : (e : Refusal) → IsFreeHere s.engine x w.request (position_of w.request w.program)
-      → act (tx_in system t here) (position_of w.request w.program) (view_of s.engine).rows ≡ Fail e
+  leads_fail : (e : Refusal) → IsFreeHere s.engine x w.request w.position
+      → act (tx_in system t here) w.position (view_of s.engine).rows ≡ Fail e
       → Leads system (store_of s) (Advance t) (Aborted e) (dropped system t (store_of s))
   leads_fail e f q = the_steps.fails (store_of s) t here e (standing s h.orderly) (slot_here h) (granted_in f) q
 
   -- the tables accept each change of a row
-  accepted : (c : Change) (p : model.Position) → IsFreeHere s.engine x w.request (position_of w.request w.program)
-      → act (tx_in system t here) (position_of w.request w.program) (view_of s.engine).rows ≡ Go (Some c) p → Accepts c (view_of s.engine).rows
+  accepted : (c : Change) (p : model.Position) → IsFreeHere s.engine x w.request w.position
+      → act (tx_in system t here) w.position (view_of s.engine).rows ≡ Go (Some c) p → Accepts c (view_of s.engine).rows
   accepted c p f q =
       subst (Accepts c) (tables_here system laws (store_of s) (standing s h.orderly))
       (changes_are_accepted system laws (theory.world_of system (store_of s)) t (opened_by system ((store_of s).undo.active t) (store_of s).tables here) c p (standing s h.orderly).reached
@@ -126,20 +124,20 @@ module _ (s : CoreState) (t : ℕ) (x : Handle) (w : Work) (h : HasOpen s t x w)
       (granted_here system laws (store_of s) (standing s h.orderly) t here (granted_in f))
       (acts_here system laws (store_of s) (standing s h.orderly) t here ∙ q))
 
-  pub leads_end : (e : Refusal) → Ends s.engine x w.request (position_of w.request w.program) e
+  pub leads_end : (e : Refusal) → Ends s.engine x w.request w.position e
       → Leads system (store_of s) (Advance t) (Aborted e) (dropped system t (store_of s))
   leads_end e (inl q) = leads_stop e (sym asked_here ∙ q)
   leads_end e (inr (inl d)) = leads_fail e d.0 (sym acted_here ∙ d.1)
   leads_end e (inr (inr d)) = absurd (not_both d.1 (view_of s.engine).rows e (accepted d.1 d.2 d.0 (sym acted_here ∙ d.3)) d.4)
 
   -- and the refusals that may end it
-  pub may_end : (e : Refusal) → Ends s.engine x w.request (position_of w.request w.program) e → (q : Request) × MayRefuse q e
+  pub may_end : (e : Refusal) → Ends s.engine x w.request w.position e → (q : Request) × MayRefuse q e
   may_end e d =
       let it = abort_is_its_own system laws (theory.world_of system (store_of s)) _ t e (standing s h.orderly).reached (leads_end e d).next in
       (it.was.request, it.cause)
 
 -- the names that are taken on the way to its row are held
-pub holds_taken : {s : CoreState} {t : ℕ} {x : Handle} {w : Work} → HasOpen s t x w → HoldsTaken s.engine x w.request w.program
+pub holds_taken : {s : CoreState} {t : ℕ} {x : Handle} {w : WorkState} → HasOpen s t x w → HoldsTaken s.engine x w.request w.position
 holds_taken {s} {t} {x} {w} h n m g =
     let p : Slot system = here s t x w h in
     let o : Open system = opened_by system ((store_of s).undo.active t) (store_of s).tables p in
@@ -147,7 +145,7 @@ holds_taken {s} {t} {x} {w} h n m g =
     let course = (reached_sound system laws w' (standing s h.orderly).reached).each t o (is_open_in system laws (store_of s) t p (slot_here h)) in
     subst (λ (k : ℕ). held_of system ((view_of s.engine).held k) n m) (sym (own_work h).terminal)
     (taken_held system laws ((view_of s.engine).held t) (tx_in system t p) (latest system w') o.now course.now n m
-    (subst (λ (z : Tx Request). Holds system (taken z (position_of w.request w.program)) n m) (same_tx s t x w h) g))
+    (subst (λ (z : Tx Request). Holds system (taken z w.position) n m) (same_tx s t x w h) g))
 
 -- what no program ends with
 
@@ -186,53 +184,54 @@ lacks s t p Plain g n y = (g, n, y)
 lacks s t p (Take k m) g n y = (g, n, y)
 
 -- the row went on
-pub went_on_here : {s : CoreState} {t : ℕ} {x : Handle} {w : Work} → HasOpen s t x w → (p : Program) (e' : engine.EngineState) (ws : List (Option Work))
-    → GoesOn s.engine x w.request (position_of w.request w.program) e' (position_of w.request p) → IsOf w.request p
-    → ws ≡ slice_set s.works t (Some (record w { program = p }))
+pub went_on_here : {s : CoreState} {t : ℕ} {x : Handle} {w : WorkState} → HasOpen s t x w → (w' : WorkState) (e' : engine.EngineState) (ws : List (Option WorkState))
+    → GoesOn s.engine x w.request w.position e' w'.position → w' ≡ record w { position = w'.position }
+    → ws ≡ slice_set s.works t (Some w')
     → Moves s (Advance t) More (record { engine = e'; txs = s.txs; works = ws })
-went_on_here {s} {t} {x} {w} h p e' ws g r q =
+went_on_here {s} {t} {x} {w} h w' e' ws g same q =
     let v = view_of s.engine in
     let own = own_work h in
-    let a = ask (tx_in system t (slot_of v t w)) (position_of w.request w.program) v.rows in
+    let p = w'.position in
+    let a = ask (tx_in system t (slot_of v t w)) w.position v.rows in
     let now : view_of e' ≡ stage_done t a g.change v =
     g.done
     ∙ (ap (λ (z : Ask Name Refusal). stage_done x.terminal z g.change v) (asked_here s t x w h)
     ∙ ap (λ (z : ℕ). stage_done z a g.change v) own.terminal) in
-    worked h (Advance t) More (record w { program = p }) (Some (slot_after system (slot_of v t w) (length (v.undo.active t)) a (position_of w.request p))) e' (stage_done t a g.change v)
-    (the_steps.goes_on (store_of s) t (slot_of v t w) g.change (position_of w.request p) (standing s h.orderly) (slot_here h) (granted_in s t x w h g.free)
+    worked h (Advance t) More (record w { position = p }) (Some (slot_after system (slot_of v t w) (length (v.undo.active t)) a p)) e' (stage_done t a g.change v)
+    (the_steps.goes_on (store_of s) t (slot_of v t w) g.change p (standing s h.orderly) (slot_here h) (granted_in s t x w h g.free)
     (sym (acted_here s t x w h) ∙ g.does) (has_room v (work_at s) t g.change (subst (λ (z : ℕ). IsFullForAny v z g.change → ⊥) own.terminal g.room)))
     now g.name (record { counts = λ u n. refl; held = λ u n. set_other t _ v.held u n; is_open = λ u n. refl })
     (λ i. Some (record {
       number = suc (v.counts t);
       request = w.request;
-      position = position_of w.request p;
-      mark_position = position_of w.request w.mark.program;
-      mark_count = w.mark.records;
+      position = p;
+      mark_position = w.mark;
+      mark_count = w.mark_records;
       held = set_same t (held_after system a (v.held t)) v.held t refl i;
     }))
-    (work_still s.engine e' t x w p w.mark own (ap (λ (z : View). z.is_open) now) g.name r own.mark)
-    ws q
+    (tx_still s.engine e' t x own (ap (λ (z : View). z.is_open) now) g.name)
+    ws (q ∙ ap (λ (z : WorkState). slice_set s.works t (Some z)) same)
 
 -- what is taken out of a slot is the transaction that stood there
-pub taken_is : {s : CoreState} {t : ℕ} {x : Handle} {w : Work} → HasOpen s t x w → (out : Handle) → slice_get s.txs t ≡ Some (Some out) → out ≡ x
+pub taken_is : {s : CoreState} {t : ℕ} {x : Handle} {w : WorkState} → HasOpen s t x w → (out : Handle) → slice_get s.txs t ≡ Some (Some out) → out ≡ x
 taken_is {s} {t} {x} h out e =
     let it : Some out ≡ Some x = sym (get_slot s.txs t (Some out) None e) ∙ h.tx in
     cc
 
 -- it is open still, where the engine stands for the same
-pub taken_is_open : {s : CoreState} {t : ℕ} {x : Handle} {w : Work} → HasOpen s t x w → (out : Handle) → slice_get s.txs t ≡ Some (Some out) → (e' : engine.EngineState)
+pub taken_is_open : {s : CoreState} {t : ℕ} {x : Handle} {w : WorkState} → HasOpen s t x w → (out : Handle) → slice_get s.txs t ≡ Some (Some out) → (e' : engine.EngineState)
     → view_of e' ≡ view_of s.engine → e'.name ≡ s.engine.name → IsOpen e' out
 taken_is_open {s} {t} {x} h out e e' b name =
     subst (λ (z : Handle). IsOpen e' z) (sym (taken_is h out e)) (open_still s.engine e' x (ap (λ (z : View). z.is_open) b) name (own_work h).is_open)
 
 -- a program that is ready has its reply
-pub has_reply : {s : CoreState} {t : ℕ} {x : Handle} {w : Work} → HasOpen s t x w → (p : Program) → position_of w.request p ≡ position_of w.request w.program
-    → (y : Reply) → IsReady s.engine x w.request (position_of w.request w.program) y → reply_of w.request p ≡ Some y
-has_reply {s} {t} {x} {w} h p same y g = ap reply_at same ∙ ready_at (tx_of s.engine x w.request) (position_of w.request w.program) (view_of s.engine).rows y g.does
+pub has_reply : {s : CoreState} {t : ℕ} {x : Handle} {w : WorkState} → HasOpen s t x w → (w' : WorkState) → w'.position ≡ w.position
+    → (y : Reply) → IsReady s.engine x w.request w.position y → reply_at w'.position ≡ Some y
+has_reply {s} {t} {x} {w} h w' same y g = ap reply_at same ∙ ready_at (tx_of s.engine x w.request) w.position (view_of s.engine).rows y g.does
 
 -- it was ready, and its transaction committed
-pub committed_here : {s : CoreState} {t : ℕ} {x : Handle} {w : Work} → HasOpen s t x w → (out : Handle) → out ≡ x → (y : Reply) (n : ℕ) (e₀ e' : engine.EngineState) (xs : List (Option Handle)) (ws : List (Option Work)) (z : Option Work)
-    → IsReady s.engine x w.request (position_of w.request w.program) y → e₀ ≡ s.engine → n ≡ suc (total terminal_limit (view_of e₀).counts)
+pub committed_here : {s : CoreState} {t : ℕ} {x : Handle} {w : WorkState} → HasOpen s t x w → (out : Handle) → out ≡ x → (y : Reply) (n : ℕ) (e₀ e' : engine.EngineState) (xs : List (Option Handle)) (ws : List (Option WorkState)) (z : Option WorkState)
+    → IsReady s.engine x w.request w.position y → e₀ ≡ s.engine → n ≡ suc (total terminal_limit (view_of e₀).counts)
     → view_of e' ≡ committed out.terminal w.request y (view_of e₀) → e'.name ≡ e₀.name → xs ≡ slice_set s.txs t None → ws ≡ slice_set s.works t z
     → Moves s (Advance t) (Committed n y) (record { engine = e'; txs = xs; works = ws })
 committed_here {s} {t} {x} {w} h out own y n e₀ e' xs ws z g same c b name p q =
@@ -250,33 +249,24 @@ committed_here {s} {t} {x} {w} h out own y n e₀ e' xs ws z g same c b name p q
     xs ws z p q)
 
 -- what it carried out lies in its slot, with the reply
-pub left_here : {s : CoreState} {t : ℕ} {x : Handle} {w : Work} → HasOpen s t x w → (z : Work) (y : Reply) (e' : engine.EngineState) (xs : List (Option Handle)) (ws : List (Option Work))
-    → xs ≡ slice_set s.txs t None → ws ≡ slice_set s.works t (Some z) → reply_of z.request z.program ≡ Some y → last_reply (record { engine = e'; txs = xs; works = ws }) t ≡ Some y
+pub left_here : {s : CoreState} {t : ℕ} {x : Handle} {w : WorkState} → HasOpen s t x w → (z : WorkState) (y : Reply) (e' : engine.EngineState) (xs : List (Option Handle)) (ws : List (Option WorkState))
+    → xs ≡ slice_set s.txs t None → ws ≡ slice_set s.works t (Some z) → reply_at z.position ≡ Some y → last_reply (record { engine = e'; txs = xs; works = ws }) t ≡ Some y
 left_here {s} {t} h z y e' xs ws p q is =
     let tx : in_slot xs t ≡ None = get_slot xs t None None (ap (λ (k : List (Option Handle)). slice_get k t) p ∙ get_set_same s.txs t None (within s h.orderly t h.low)) in
-    let work : in_slot ws t ≡ Some z = get_slot ws t (Some z) None (ap (λ (k : List (Option Work)). slice_get k t) q ∙ get_set_same s.works t (Some z) (works_within s h.orderly t h.low)) in
+    let work : in_slot ws t ≡ Some z = get_slot ws t (Some z) None (ap (λ (k : List (Option WorkState)). slice_get k t) q ∙ get_set_same s.works t (Some z) (works_within s h.orderly t h.low)) in
     (λ i. reply_left (tx i) (work i)) ∙ is
 
 -- what is told of a slot, by what lies in it
-pub told_of : (s : CoreState) (t : ℕ) {x : Option Handle} {w : Option Work} → in_slot s.txs t ≡ x → in_slot s.works t ≡ w → last_reply s t ≡ reply_left x w
+pub told_of : (s : CoreState) (t : ℕ) {x : Option Handle} {w : Option WorkState} → in_slot s.txs t ≡ x → in_slot s.works t ≡ w → last_reply s t ≡ reply_left x w
 told_of s t p q = λ i. reply_left (p i) (q i)
-
--- a payment's reply that is told is the reply
-pub is_paid : (o : Option Reply) (y : PaymentReply) → ◌≡◌ {A = Option Reply} (Some (reply.Payment y)) (of_payment o) → o ≡ Some (reply.Payment y)
-is_paid None y e = let no : ⊥ = cc in absurd no
-is_paid (Some (reply.Payment z)) y e = sym e
-is_paid (Some (reply.NewOrder z)) y e = let no : ⊥ = cc in absurd no
-is_paid (Some (reply.Delivery z)) y e = let no : ⊥ = cc in absurd no
-is_paid (Some (reply.Deliveries z)) y e = let no : ⊥ = cc in absurd no
-is_paid (Some (reply.Rename z)) y e = let no : ⊥ = cc in absurd no
 
 pub told_last : {s : CoreState} {t m : ℕ} {y : Reply} {s' : CoreState} → Moves s (Advance t) (Committed m y) s' → last_reply s' t ≡ Some y
     → (z : Reply) × (last_reply s' t ≡ Some z) × Carries (world_of s) (step.Advance t) (answer.Committed m z) (world_of s')
 told_last {s} {t} {m} {y} {s'} k e = (y, e, carries k)
 
 -- the refusals after which it stays open
-kept_lead : (s : CoreState) (t : ℕ) (y : Handle) (w : Work) → HasOpen s t y w → (x : Refusal) → keeps_open x ≡ true
-    → IsRefused s.engine y w.request (position_of w.request w.program) x → Leads system (store_of s) (Advance t) (refusal_in (step.Advance t) x) (store_of s)
+kept_lead : (s : CoreState) (t : ℕ) (y : Handle) (w : WorkState) → HasOpen s t y w → (x : Refusal) → keeps_open x ≡ true
+    → IsRefused s.engine y w.request w.position x → Leads system (store_of s) (Advance t) (refusal_in (step.Advance t) x) (store_of s)
 kept_lead s t y w o (NoSuchRow k) kp h = let no : ⊥ = cc in absurd no
 kept_lead s t y w o (RowExists k) kp h = let no : ⊥ = cc in absurd no
 kept_lead s t y w o (Overflow c) kp h = let no : ⊥ = cc in absurd no
@@ -291,16 +281,16 @@ kept_lead s t y w o UndoFull kp h =
 kept_lead s t y w o NoMemory kp h =
     the_steps.lacks_memory (store_of s) t (here s t y w o) (standing s o.orderly) (slot_here o)
     (lacks (store_of s) t (here s t y w o) _ (granted_in s t y w o h.1) (new h.2)
-    (subst (GivesWay system (yields (position_of w.request w.program))) (acted_here s t y w o) h.3))
+    (subst (GivesWay system (yields w.position)) (acted_here s t y w o) h.3))
   where
     own : (view_of s.engine).held y.terminal ≡ (view_of s.engine).held t
     own = ap (view_of s.engine).held (own_work o).terminal
 
-    new : IsNew system ((view_of s.engine).held y.terminal) (ask_here s.engine y w.request (position_of w.request w.program))
-        ⊎ WantsMemory s.engine y w.request (position_of w.request w.program)
-        → IsNew system ((view_of s.engine).held t) (ask (tx_in system t (here s t y w o)) (position_of w.request w.program) (view_of s.engine).rows) ⊎ (may_allocate (position_of w.request w.program) ≡ true)
-    new (inl a) = inl (subst (λ z. IsNew system z (ask (tx_in system t (here s t y w o)) (position_of w.request w.program) (view_of s.engine).rows)) own (subst (IsNew system ((view_of s.engine).held y.terminal)) (asked_here s t y w o) a))
-    new (inr a) = inr (allocates (tx_of s.engine y w.request) (position_of w.request w.program) (view_of s.engine).rows a.0 a.1 a.2 a.3.0)
+    new : IsNew system ((view_of s.engine).held y.terminal) (ask_here s.engine y w.request w.position)
+        ⊎ WantsMemory s.engine y w.request w.position
+        → IsNew system ((view_of s.engine).held t) (ask (tx_in system t (here s t y w o)) w.position (view_of s.engine).rows) ⊎ (may_allocate w.position ≡ true)
+    new (inl a) = inl (subst (λ z. IsNew system z (ask (tx_in system t (here s t y w o)) w.position (view_of s.engine).rows)) own (subst (IsNew system ((view_of s.engine).held y.terminal)) (asked_here s t y w o) a))
+    new (inr a) = inr (allocates (tx_of s.engine y w.request) w.position (view_of s.engine).rows a.0 a.1 a.2 a.3.0)
 kept_lead s t y w o NotOpen kp h = let no : ⊥ = cc in absurd no
 kept_lead s t y w o AlreadyOpen kp h = let no : ⊥ = cc in absurd no
 kept_lead s t y w o InvalidItem kp h = let no : ⊥ = cc in absurd no
@@ -311,8 +301,8 @@ kept_lead s t y w o (NotQuiet n) kp h = let no : ⊥ = cc in absurd no
 kept_lead s t y w o (NotPinned n) kp h = let no : ⊥ = cc in absurd no
 
 -- those after which it is gone
-ended_lead : (s : CoreState) (t : ℕ) (y : Handle) (w : Work) → HasOpen s t y w → (x : Refusal) → keeps_open x ≡ false
-    → IsRefused s.engine y w.request (position_of w.request w.program) x → Leads system (store_of s) (Advance t) (refusal_in (step.Advance t) x) (dropped system t (store_of s))
+ended_lead : (s : CoreState) (t : ℕ) (y : Handle) (w : WorkState) → HasOpen s t y w → (x : Refusal) → keeps_open x ≡ false
+    → IsRefused s.engine y w.request w.position x → Leads system (store_of s) (Advance t) (refusal_in (step.Advance t) x) (dropped system t (store_of s))
 ended_lead s t y w o (NoSuchRow k) kp h = leads_end s t y w o (NoSuchRow k) h.1
 ended_lead s t y w o (RowExists k) kp h = leads_end s t y w o (RowExists k) h.1
 ended_lead s t y w o (Overflow c) kp h = leads_end s t y w o (Overflow c) h.1
@@ -331,25 +321,25 @@ ended_lead s t y w o (NotQuiet n) kp h = let it = may_end s t y w o (NotQuiet n)
 ended_lead s t y w o (NotPinned n) kp h = leads_end s t y w o (NotPinned n) h.1
 
 -- it was refused, and stays open where it stands
-pub kept_here : {s : CoreState} {t : ℕ} {y : Handle} {w : Work} → HasOpen s t y w → (p : Program) (e' : engine.EngineState) (ws : List (Option Work)) (x : Refusal)
-    → keeps_open x ≡ true → IsRefused s.engine y w.request (position_of w.request w.program) x
-    → view_of e' ≡ view_of s.engine → e'.name ≡ s.engine.name → IsOf w.request p → position_of w.request p ≡ position_of w.request w.program
-    → ws ≡ slice_set s.works t (Some (record w { program = p }))
+pub kept_here : {s : CoreState} {t : ℕ} {y : Handle} {w : WorkState} → HasOpen s t y w → (w' : WorkState) (e' : engine.EngineState) (ws : List (Option WorkState)) (x : Refusal)
+    → keeps_open x ≡ true → IsRefused s.engine y w.request w.position x
+    → view_of e' ≡ view_of s.engine → e'.name ≡ s.engine.name → w' ≡ record w { position = w'.position } → w'.position ≡ w.position
+    → ws ≡ slice_set s.works t (Some w')
     → Moves s (Advance t) (refusal_in (step.Advance t) x) (record { engine = e'; txs = s.txs; works = ws })
-kept_here {s} {t} {y} {w} h p e' ws x kept why b name r same q =
+kept_here {s} {t} {y} {w} h w' e' ws x kept why b name same there q =
     let v = view_of s.engine in
     let own = own_work h in
-    worked h (Advance t) (refusal_in (step.Advance t) x) (record w { program = p }) (Some (slot_of v t w)) e' v
+    worked h (Advance t) (refusal_in (step.Advance t) x) w (Some (slot_of v t w)) e' v
     (subst (λ (f : ℕ → Option (Slot system)). Leads system (store_of s) (Advance t) (refusal_in (step.Advance t) x) (record { tables = v.rows; undo = v.undo; slots = f; seals = v.seals; counts = v.counts; extents = v.extents }))
     (sym (set_idle t (Some (slot_of v t w)) (store_of s).slots (slot_here h))) (kept_lead s t y w h x kept why))
     b name (record { counts = λ u n. refl; held = λ u n. refl; is_open = λ u n. refl })
-    (λ i. Some (record { number = suc (v.counts t); request = w.request; position = same i; mark_position = position_of w.request w.mark.program; mark_count = w.mark.records; held = v.held t }))
-    (work_still s.engine e' t y w p w.mark own (ap (λ (z : View). z.is_open) b) name r own.mark)
-    ws q
+    refl
+    (tx_still s.engine e' t y own (ap (λ (z : View). z.is_open) b) name)
+    ws (q ∙ ap (λ (z : WorkState). slice_set s.works t (Some z)) (same ∙ ap (λ (z : Position). record w { position = z }) there))
 
 -- it was refused, and rolled back
-pub given_up_here : {s : CoreState} {t : ℕ} {y : Handle} {w : Work} → HasOpen s t y w → (out : Handle) → out ≡ y → (e' e'' : engine.EngineState) (xs : List (Option Handle)) (ws : List (Option Work)) (z : Option Work) (x : Refusal)
-    → keeps_open x ≡ false → IsRefused s.engine y w.request (position_of w.request w.program) x
+pub given_up_here : {s : CoreState} {t : ℕ} {y : Handle} {w : WorkState} → HasOpen s t y w → (out : Handle) → out ≡ y → (e' e'' : engine.EngineState) (xs : List (Option Handle)) (ws : List (Option WorkState)) (z : Option WorkState) (x : Refusal)
+    → keeps_open x ≡ false → IsRefused s.engine y w.request w.position x
     → view_of e' ≡ view_of s.engine → e'.name ≡ s.engine.name → view_of e'' ≡ rolled_back out.terminal (view_of e') → e''.name ≡ e'.name
     → xs ≡ slice_set s.txs t None → ws ≡ slice_set s.works t z
     → Moves s (Advance t) (refusal_in (step.Advance t) x) (record { engine = e''; txs = xs; works = ws })

@@ -15,8 +15,8 @@ use Rattle.oe_model.proofs.SystemLaws.{laws}
 use Rattle.oe_engine.specs.View.{View, view_of, Handle}
 use Rattle.oe_engine.specs.View as engine
 use Rattle.oe_engine.specs.Calls.{rolled_back}
-use Rattle.oe_core.specs.Core.{CoreState, in_slot, work_of, work_at, store_with, store_of, world_of, IsWork, Works, IsOrderly, IsEndable, IsEnded}
-use Rattle.oe_core.specs.declared.slots.Work.{Work}
+use Rattle.oe_core.specs.Core.{CoreState, in_slot, work_of, work_at, store_with, store_of, world_of, IsTx, Works, IsOrderly, IsEndable, IsEnded}
+use Rattle.oe_core.specs.Works.{WorkState}
 use Rattle.oe_core.proofs.MoveFacts.{standing, same_parts, slots_set, work_set, works_set}
 
 -- the newest version is still this one
@@ -55,11 +55,11 @@ at_last [] x = refl
 at_last (y ∷ ys) x = at_last ys x
 
 -- a transaction and its work
-its_work : (e : engine.EngineState) (t : ℕ) (x : Handle) (y : Option Work) → Works e t (Some x) y → (w : Work) × IsWork e t x w
+its_work : (e : engine.EngineState) (t : ℕ) (x : Handle) (y : Option WorkState) → Works e t (Some x) y → (w : WorkState) × IsTx e t x
 its_work e t x None h = absurd h
 its_work e t x (Some w) h = (w, h)
 
-last_endable : (e : engine.EngineState) (ws : List (Option Work)) (ys : List (Option Handle)) (x : Option Handle) (r : Rows) → IsClosing (record { engine = e; txs = ys ++ x ∷ []; works = ws }) r → IsEndable e x
+last_endable : (e : engine.EngineState) (ws : List (Option WorkState)) (ys : List (Option Handle)) (x : Option Handle) (r : Rows) → IsClosing (record { engine = e; txs = ys ++ x ∷ []; works = ws }) r → IsEndable e x
 last_endable e ws ys None r h = tt
 last_endable e ws ys (Some x) r h =
     let own = its_work e (length ys) x (in_slot ws (length ys))
@@ -67,10 +67,10 @@ last_endable e ws ys (Some x) r h =
     own.1.is_open
 
 -- what was in the last slot can be ended
-pub endable : {e : engine.EngineState} {xs : List (Option Handle)} {ws : List (Option Work)} {r : Rows} → IsClosing (record { engine = e; txs = xs; works = ws }) r → (ys : List (Option Handle)) (x : Option Handle) → xs ≡ ys ++ x ∷ [] → IsEndable e x
+pub endable : {e : engine.EngineState} {xs : List (Option Handle)} {ws : List (Option WorkState)} {r : Rows} → IsClosing (record { engine = e; txs = xs; works = ws }) r → (ys : List (Option Handle)) (x : Option Handle) → xs ≡ ys ++ x ∷ [] → IsEndable e x
 endable {e} {xs} {ws} {r} h ys x q = last_endable e ws ys x r (subst (λ (z : List (Option Handle)). IsClosing (record { engine = e; txs = z; works = ws }) r) q h)
 
-last_popped : (e e' : engine.EngineState) (ws : List (Option Work)) (ys : List (Option Handle)) (x : Option Handle) (r : Rows) → IsEnded e x e' → IsClosing (record { engine = e; txs = ys ++ x ∷ []; works = ws }) r
+last_popped : (e e' : engine.EngineState) (ws : List (Option WorkState)) (ys : List (Option Handle)) (x : Option Handle) (r : Rows) → IsEnded e x e' → IsClosing (record { engine = e; txs = ys ++ x ∷ []; works = ws }) r
     → IsClosing (record { engine = e'; txs = ys; works = ws }) r
 last_popped e e' ws ys None r h k =
     let same : in_slot (ys ++ None ∷ []) ≡ in_slot ys =
@@ -105,15 +105,15 @@ last_popped e e' ws ys (Some x) r h k =
     }
 
 -- and once it was ended the newest version is still the same
-pub popped : {e : engine.EngineState} {xs : List (Option Handle)} {ws : List (Option Work)} {r : Rows} → IsClosing (record { engine = e; txs = xs; works = ws }) r → (e' : engine.EngineState) (ys : List (Option Handle)) (x : Option Handle) → xs ≡ ys ++ x ∷ [] → IsEnded e x e'
+pub popped : {e : engine.EngineState} {xs : List (Option Handle)} {ws : List (Option WorkState)} {r : Rows} → IsClosing (record { engine = e; txs = xs; works = ws }) r → (e' : engine.EngineState) (ys : List (Option Handle)) (x : Option Handle) → xs ≡ ys ++ x ∷ [] → IsEnded e x e'
     → IsClosing (record { engine = e'; txs = ys; works = ws }) r
 popped {e} {xs} {ws} {r} h e' ys x q n = last_popped e e' ws ys x r n (subst (λ (z : List (Option Handle)). IsClosing (record { engine = e; txs = z; works = ws }) r) q h)
 
 -- where no slot is left none is open, and the tables are that version
-pub none_open : {e : engine.EngineState} {xs : List (Option Handle)} {ws : List (Option Work)} {r : Rows} → IsClosing (record { engine = e; txs = xs; works = ws }) r → xs ≡ [] → (t : ℕ) → (view_of e).is_open t ≡ false
+pub none_open : {e : engine.EngineState} {xs : List (Option Handle)} {ws : List (Option WorkState)} {r : Rows} → IsClosing (record { engine = e; txs = xs; works = ws }) r → xs ≡ [] → (t : ℕ) → (view_of e).is_open t ≡ false
 none_open {e} {xs} {ws} {r} h q = (subst (λ (z : List (Option Handle)). IsClosing (record { engine = e; txs = z; works = ws }) r) q h).works
 
-pub closed_rows : {e : engine.EngineState} {xs : List (Option Handle)} {ws : List (Option Work)} {r : Rows} → IsClosing (record { engine = e; txs = xs; works = ws }) r → xs ≡ [] → (view_of e).rows ≡ r
+pub closed_rows : {e : engine.EngineState} {xs : List (Option Handle)} {ws : List (Option WorkState)} {r : Rows} → IsClosing (record { engine = e; txs = xs; works = ws }) r → xs ≡ [] → (view_of e).rows ≡ r
 closed_rows {e} {xs} {ws} {r} h q =
     let k = subst (λ (z : List (Option Handle)). IsClosing (record { engine = e; txs = z; works = ws }) r) q h in
     (store_is_orderly system laws (store_of (record { engine = e; txs = []; works = ws })) k.stands).quiet_tables (λ t. refl) ∙ k.newest

@@ -24,23 +24,23 @@ use Rattle.oe_engine.specs.View.{View, view_of, Handle}
 use Rattle.oe_engine.specs.View as engine
 use Rattle.oe_engine.specs.Calls.{newest, horizon, IsQuiet, CantRewind, purged_to, rewound_to}
 use Rattle.oe_engine.proofs.CoveredFacts.{stands_left}
-use Rattle.oe_core.specs.Core.{CoreState, in_slot, work_of, work_at, open_at, store_with, store_of, position_of, Works, IsOrderly, Moves}
+use Rattle.oe_core.specs.Core.{CoreState, in_slot, work_of, work_at, open_at, store_with, store_of, Works, IsOrderly, Moves}
 use Rattle.oe_core.specs.Steps.{refusal_in}
-use Rattle.oe_core.specs.declared.slots.Work.{Work}
-use Rattle.oe_core.proofs.MoveFacts.{standing, closed, stays, the_steps, same_parts, no_tx, is_shut, open_still}
+use Rattle.oe_core.specs.Works.{WorkState}
+use Rattle.oe_core.proofs.MoveFacts.{standing, closed, stays, the_steps, same_parts, no_tx, is_shut, tx_still}
 
 -- a slot stands for the same where its terminal's count and its names are the same
-same_slot : (v v' : View) (u : ℕ) (w : Option Work) → v'.counts u ≡ v.counts u → v'.held u ≡ v.held u → open_at v' u w ≡ open_at v u w
+same_slot : (v v' : View) (u : ℕ) (w : Option WorkState) → v'.counts u ≡ v.counts u → v'.held u ≡ v.held u → open_at v' u w ≡ open_at v u w
 same_slot v v' u None a b = refl
 same_slot v v' u (Some w) a b =
-    λ i. Some (record { number = suc (a i); request = w.request; position = position_of w.request w.program; mark_position = position_of w.request w.mark.program; mark_count = w.mark.records; held = b i })
+    λ i. Some (record { number = suc (a i); request = w.request; position = w.position; mark_position = w.mark; mark_count = w.mark_records; held = b i })
 
 -- where the same transactions are open, their work is what it was
-works_still : (e e' : engine.EngineState) → (view_of e').is_open ≡ (view_of e).is_open → e'.name ≡ e.name → (u : ℕ) (y : Option Handle) (z : Option Work) → Works e u y z → Works e' u y z
+works_still : (e e' : engine.EngineState) → (view_of e').is_open ≡ (view_of e).is_open → e'.name ≡ e.name → (u : ℕ) (y : Option Handle) (z : Option WorkState) → Works e u y z → Works e' u y z
 works_still e e' b name u None z h = ap (λ (f : ℕ → Bool). f u) b ∙ h
 works_still e e' b name u (Some y) None h = absurd h
 works_still e e' b name u (Some y) (Some z) h =
-    record { is_open = open_still e e' y b name h.is_open; terminal = h.terminal; program = h.program; mark = h.mark }
+    tx_still e e' u y h b name
 
 -- a step that was refused has left the engine as it was
 pub unchanged : {s : CoreState} {i : theory.Step system} {a : theory.Answer system} → (e' : engine.EngineState) → e' ≡ s.engine → Moves s i a s → Moves s i a (record { engine = e'; txs = s.txs; works = s.works })
@@ -88,7 +88,7 @@ rewound_here s o e' m quiet kept now name =
     (λ u. works_still s.engine e' (ap (λ (z : View). z.is_open) now) name u (in_slot s.txs u) (in_slot s.works u) (o.works u))
 
 -- a slot is taken exactly where its terminal has a transaction open
-taken_is : (e : engine.EngineState) (v : View) (t : ℕ) (x : Option Handle) (y : Option Work) → view_of e ≡ v → Works e t x y → is_some (open_at v t (work_of x y)) ≡ v.is_open t
+taken_is : (e : engine.EngineState) (v : View) (t : ℕ) (x : Option Handle) (y : Option WorkState) → view_of e ≡ v → Works e t x y → is_some (open_at v t (work_of x y)) ≡ v.is_open t
 taken_is e v t None y is h = sym h ∙ ap (λ (z : View). z.is_open t) is
 taken_is e v t (Some x) None is h = absurd h
 taken_is e v t (Some x) (Some w) is h = sym (ap (view_of e).is_open (sym h.terminal) ∙ h.is_open.terminal) ∙ ap (λ (z : View). z.is_open t) is

@@ -6,120 +6,67 @@ use Rattle.oe_theory.specs.Store.{Slot, Store}
 use Rattle.oe_theory.specs.Store as theory
 use Rattle.oe_theory.specs.StoreTheorems.{IsStanding}
 use Rattle.oe_values.specs.declared.numbers.TheConstants.{TERMINALS}
-use Rattle.oe_requests.specs.declared.requests.Request.{Request}
-use Rattle.oe_requests.specs.declared.requests.Request.TheVariants as request
 use Rattle.oe_requests.specs.declared.refusals.Refusal.{Refusal}
 use Rattle.oe_requests.specs.declared.refusals.Refusal.TheVariants as refusal
 use Rattle.oe_requests.specs.declared.replies.Reply.{Reply}
-use Rattle.oe_requests.specs.declared.replies.Reply.TheVariants as reply
-use Rattle.oe_model.specs.Positions.{Position, InPayment, InNewOrder, InDelivery, NoProgram}
-use Rattle.oe_model.specs.System.{system, taken, start_of}
+use Rattle.oe_model.specs.System.{system}
 use Rattle.oe_engine.specs.View.{View, view_of, Handle, IsOpen}
 use Rattle.oe_engine.specs.View as engine
 use Rattle.oe_engine.specs.Calls.{rolled_back}
-use Rattle.oe_engine.specs.Programs.{tx_of, reply_at}
-use Rattle.oe_delivery.specs.Program as delivery
-use Rattle.oe_neworder.specs.Program as neworder
-use Rattle.oe_engine.specs.Stages.{HoldsAll}
-use Rattle.oe_core.specs.declared.programs.Program.{Program}
-use Rattle.oe_core.specs.declared.programs.Program.TheVariants as program
-use Rattle.oe_core.specs.declared.slots.Work.{Work}
+use Rattle.oe_engine.specs.Programs.{reply_at}
+use Rattle.oe_core.specs.Works.{WorkState, of_payment}
 
 -- the engine, the open transactions in the slots of their terminals, and what lies there for them to carry out
 pub record CoreState : Type 0 where
   pub engine : engine.EngineState
   pub txs : List (Option Handle)
-  pub works : List (Option Work)
-
--- the program is one of this request
-abbrev pub IsOf : Request → Program → Type 0
-IsOf (request.Payment q) (program.Payment p) = Unit {0}
-IsOf (request.Payment q) _ = ⊥
-IsOf (request.NewOrder q) (program.NewOrder p) = Unit {0}
-IsOf (request.NewOrder q) _ = ⊥
-IsOf (request.Delivery q) (program.Delivery p) = Unit {0}
-IsOf (request.Delivery q) _ = ⊥
-IsOf (request.Deliveries q) _ = ⊥
-IsOf (request.Rename q) _ = ⊥
-
--- the row that it comes to next
-abbrev pub position_of : Request → Program → Position
-position_of (request.Payment q) (program.Payment p) = InPayment q p
-position_of (request.Payment q) _ = NoProgram
-position_of (request.NewOrder q) (program.NewOrder p) = InNewOrder q (neworder.position_of q p)
-position_of (request.NewOrder q) _ = NoProgram
-position_of (request.Delivery q) (program.Delivery p) = InDelivery q (delivery.position_of p)
-position_of (request.Delivery q) _ = NoProgram
-position_of (request.Deliveries q) _ = NoProgram
-position_of (request.Rename q) _ = NoProgram
-
--- its reply, at its end
-abbrev pub reply_of : Request → Program → Option Reply
-reply_of q p = reply_at (position_of q p)
-
--- work for a request whose transaction has just begun: the program and the mark stand at its first row
-pub record IsBegun (q : Request) (w : Work) : Type 0 where
-  pub request : w.request ≡ q
-  pub program : IsOf q w.program
-  pub slot : position_of q w.program ≡ start_of q
-  pub mark_program : IsOf q w.mark.program
-  pub mark_position : position_of q w.mark.program ≡ start_of q
-  pub mark_records : w.mark.records ≡ 0
-
--- the names that are taken on the way to that row are held
-abbrev pub HoldsTaken : engine.EngineState → Handle → Request → Program → Type 0
-HoldsTaken s x q p = HoldsAll (view_of s) x.terminal (taken (tx_of s x q) (position_of q p))
+  pub works : List (Option WorkState)
 
 -- what stands in a terminal's slot
 abbrev pub in_slot : {X : Type 0} → List (Option X) → ℕ → Option X
 in_slot xs t = get_or xs t None
 
 -- what an open transaction carries out; without one, what lies there is nobody's
-abbrev pub work_of : Option Handle → Option Work → Option Work
+abbrev pub work_of : Option Handle → Option WorkState → Option WorkState
 work_of None w = None
 work_of (Some x) w = w
 
-abbrev pub work_at : CoreState → ℕ → Option Work
+abbrev pub work_at : CoreState → ℕ → Option WorkState
 work_at s t = work_of (in_slot s.txs t) (in_slot s.works t)
 
 -- what was carried out in a slot has its reply where it has come to its end, and is no longer open
-abbrev pub reply_left : Option Handle → Option Work → Option Reply
+abbrev pub reply_left : Option Handle → Option WorkState → Option Reply
 reply_left (Some x) w = None
 reply_left None None = None
-reply_left None (Some w) = reply_of w.request w.program
+reply_left None (Some w) = reply_at w.position
 
 -- the reply of a terminal's last transaction, if it committed
 abbrev pub last_reply : CoreState → ℕ → Option Reply
 last_reply s t = reply_left (in_slot s.txs t) (in_slot s.works t)
-
--- a reply, where it is a payment's
-abbrev pub of_payment : Option Reply → Option Reply
-of_payment (Some (reply.Payment y)) = Some (reply.Payment y)
-of_payment _ = None
 
 -- the reply of a terminal's last transaction, if that was a payment and committed
 abbrev pub last_payment : CoreState → ℕ → Option Reply
 last_payment s t = of_payment (last_reply s t)
 
 -- an open transaction of terminal t, as the theory stores it
-abbrev pub slot_of : View → ℕ → Work → Slot system
+abbrev pub slot_of : View → ℕ → WorkState → Slot system
 slot_of v t w =
     record {
       number = suc (v.counts t);
       request = w.request;
-      position = position_of w.request w.program;
-      mark_position = position_of w.request w.mark.program;
-      mark_count = w.mark.records;
+      position = w.position;
+      mark_position = w.mark;
+      mark_count = w.mark_records;
       held = v.held t;
     }
 
 -- if there is one
-abbrev pub open_at : View → ℕ → Option Work → Option (Slot system)
+abbrev pub open_at : View → ℕ → Option WorkState → Option (Slot system)
 open_at v t None = None
 open_at v t (Some w) = Some (slot_of v t w)
 
 -- all that is stored, in the words of the theory of transactions
-abbrev pub store_with : View → (ℕ → Option Work) → Store system
+abbrev pub store_with : View → (ℕ → Option WorkState) → Store system
 store_with v f = record { tables = v.rows; undo = v.undo; slots = λ t. open_at v t (f t); seals = v.seals; counts = v.counts; extents = v.extents }
 
 abbrev pub store_of : CoreState → Store system
@@ -133,18 +80,16 @@ world_of s = theory.world_of system (store_of s)
 unfoldable pub IsSound : CoreState → Type 0
 IsSound s = IsStanding system (store_of s)
 
--- the transaction is open in the engine, and its programs are those of its request
-pub record IsWork (e : engine.EngineState) (t : ℕ) (x : Handle) (w : Work) : Type 0 where
+-- the transaction is open in the engine, and the terminal's
+pub record IsTx (e : engine.EngineState) (t : ℕ) (x : Handle) : Type 0 where
   pub is_open : IsOpen e x
   pub terminal : x.terminal ≡ t
-  pub program : IsOf w.request w.program
-  pub mark : IsOf w.request w.mark.program
 
 -- a slot has a transaction, and work for it, exactly where its terminal has one open
-abbrev pub Works : engine.EngineState → ℕ → Option Handle → Option Work → Type 0
+abbrev pub Works : engine.EngineState → ℕ → Option Handle → Option WorkState → Type 0
 Works e t None w = (view_of e).is_open t ≡ false
 Works e t (Some x) None = ⊥
-Works e t (Some x) (Some w) = IsWork e t x w
+Works e t (Some x) (Some w) = IsTx e t x
 
 pub record IsOrderly (s : CoreState) : Type 0 where
   pub tx_slots : length s.txs ≡ suc TERMINALS

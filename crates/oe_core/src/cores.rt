@@ -10,13 +10,14 @@ ghost use Rattle.oe_model.specs.System.{system, terminal_limit};
 ghost use Rattle.oe_store.specs.Places.{rows};
 ghost use Rattle.oe_engine.specs.View.{view_of, IsOpen};
 ghost use Rattle.oe_engine.specs.Calls.{committed, rolled_back};
+ghost use Rattle.oe_engine.specs.Programs.{reply_at};
 ghost use Rattle.oe_core.specs.Steps.{step_in, answer_in, Carries, begin_answer, Advances, IsStep, HasProgram};
-ghost use Rattle.oe_core.specs.Core.{world_of, reply_of, last_reply, last_payment, keeps_open, IsEndable, IsEnded};
+ghost use Rattle.oe_core.specs.Core.{world_of, last_reply, last_payment, keeps_open, IsEndable, IsEnded};
 
 use crate::advances::Advanced;
-use crate::programs::Program;
 use crate::rejections::rejection;
-use crate::slots::{Work, begin_work, empty_places, open_tx, put_tx, slot, take_tx};
+use crate::slots::{begin_work, empty_places, open_tx, put_tx, slot, take_tx};
+use crate::works::Work;
 use oe_engine::{Engine, ExtentCount, Progress, Tx};
 use oe_requests::{Answer, Condition, PaymentReply, Query, Refusal, Reply, Request, Step};
 use oe_store::Tables;
@@ -24,7 +25,6 @@ use oe_table::tables::NoMemory;
 use oe_values::{Moment, Terminal};
 use std::alloc::Global;
 use std::marker::Model;
-use std::snapshot::Snapshot;
 
 /// A core. It can't be dropped: `close` ends it.
 pub struct Core {
@@ -92,7 +92,7 @@ impl Core {
             return None;
         }
         match &self.works[slot(terminal)] {
-            Some(work) => work.program.reply(&work.request),
+            Some(work) => work.reply(),
             None => None,
         }
     }
@@ -108,7 +108,7 @@ impl Core {
             return None;
         }
         match &self.works[slot(terminal)] {
-            Some(work) => work.program.payment_reply(&work.request),
+            Some(work) => work.payment_reply(),
             None => None,
         }
     }
@@ -258,7 +258,7 @@ impl Core {
         let Some(work) = &mut self.works[slot(terminal)] else {
             unreachable!()
         };
-        work.mark.set(&work.program, self.engine.savepoint(tx));
+        work.save(self.engine.savepoint(tx));
         Answer::Saved
     }
 
@@ -273,8 +273,8 @@ impl Core {
         let Some(work) = &mut self.works[slot(terminal)] else {
             unreachable!()
         };
-        self.engine.rollback_to(tx, work.mark.records);
-        work.program.go_to(&work.mark.program);
+        self.engine.rollback_to(tx, work.mark_records());
+        work.back();
         Answer::Back
     }
 
@@ -306,11 +306,11 @@ impl Core {
         let Some(work) = &mut self.works[slot(terminal)] else {
             unreachable!()
         };
-        match work.program.next(&work.request, &mut self.engine, tx) {
+        match work.next(&mut self.engine, tx) {
             Progress::More => Advanced::More,
             Progress::Ready => {
                 let open = open_tx(&mut self.txs, terminal);
-                Advanced::Committed(commit(&mut self.engine, open, &work.request, &work.program))
+                Advanced::Committed(commit(&mut self.engine, open, work))
             }
             Progress::Refused(refusal) => {
                 if keeps_open(&refusal) {
@@ -361,53 +361,20 @@ fn keeps_open(refusal: &Refusal) -> bool
     )
 }
 
-/// Commits a transaction of the engine whose program is at its end, and answers the moment that it made. The log keeps no byte of
-/// request and reply, so that of a payment none is copied here.
+/// Commits a transaction of the engine whose program is at its end, and answers the moment that it made.
 #[inline]
-fn commit(engine: &mut Engine, tx: Tx, request: &Request, program: &Program) -> Moment
+fn commit(engine: &mut Engine, tx: Tx, work: &Work) -> Moment
     requires open { IsOpen engine.old tx }
-    requires ready { IsSome (reply_of request.now program.now) }
+    requires ready { IsSome (reply_at work.now.position) }
     ensures moment { result ≡ suc (total terminal_limit (view_of engine.old).counts) }
-    ensures committed { IfSome (reply_of request.now program.now)
-        (λ y. view_of engine.new ≡ committed tx.terminal request.now y (view_of engine.old)) }
+    ensures committed { IfSome (reply_at work.now.position) (λ y. view_of engine.new
+        ≡ committed tx.terminal work.now.request y (view_of engine.old)) }
     ensures name { engine.new.name ≡ engine.old.name }
 {
-    match program.payment_reply(request) {
-        Some(reply) => commit_payment(engine, tx, request, reply),
-        None => commit_other(engine, tx, request, program),
-    }
-}
-
-/// The same with the reply of a payment, which lies where its program does.
-#[inline]
-fn commit_payment(engine: &mut Engine, tx: Tx, request: &Request, payment: &PaymentReply) -> Moment
-    requires { IsOpen engine.old tx }
-    ensures moment { result ≡ suc (total terminal_limit (view_of engine.old).counts) }
-    ensures committed { view_of engine.new
-        ≡ committed tx.terminal request.now (Reply.Payment payment.now) (view_of engine.old) }
-    ensures name { engine.new.name ≡ engine.old.name }
-{
-    let reply = Reply::Payment(payment.copied());
-    match engine.commit(tx, Snapshot::of(request), Snapshot::of(&reply)) {
-        Ok(moment) => moment,
-        Err(_) => unreachable!(),
-    }
-}
-
-/// The same of any program. It has room for a whole reply, which a payment's commit does without.
-#[inline(never)]
-fn commit_other(engine: &mut Engine, tx: Tx, request: &Request, program: &Program) -> Moment
-    requires open { IsOpen engine.old tx }
-    requires ready { IsSome (reply_of request.now program.now) }
-    ensures moment { result ≡ suc (total terminal_limit (view_of engine.old).counts) }
-    ensures committed { IfSome (reply_of request.now program.now)
-        (λ y. view_of engine.new ≡ committed tx.terminal request.now y (view_of engine.old)) }
-    ensures name { engine.new.name ≡ engine.old.name }
-{
-    let Some(told) = program.reply(request) else {
+    let Some((request, reply)) = work.ended() else {
         unreachable!()
     };
-    match engine.commit(tx, Snapshot::of(request), Snapshot::of(&told)) {
+    match engine.commit(tx, request, reply) {
         Ok(moment) => moment,
         Err(_) => unreachable!(),
     }

@@ -3,10 +3,10 @@
 
 pub mod advances;
 pub mod cores;
-mod programs;
 mod rejections;
 pub mod runs;
 mod slots;
+mod works;
 
 pub use advances::Advanced;
 pub use cores::Core;

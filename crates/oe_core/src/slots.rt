@@ -1,66 +1,14 @@
-//! The slots of terminals: their open transactions, and what these carry out.
+//! The slots of terminals, one for each number from 0, which is nobody's, to 64: their open transactions, and what these carry out.
 ghost use Rattle.std.specs.Prelude.{◌≡◌, ◌<◌, ◌≤◌, suc, Some, None, IsSome, IfOk, slice_get, slice_set, vec_len, replicate};
-ghost use Rattle.oe_model.specs.System.{start_of};
 ghost use Rattle.oe_core.specs.Steps.{HasProgram};
-ghost use Rattle.oe_core.specs.Core.{IsOf, position_of, in_slot, IsBegun};
-ghost use Rattle.oe_core.specs.declared.slots.Work.{Work};
+ghost use Rattle.oe_core.specs.Core.{in_slot};
+ghost use Rattle.oe_core.specs.Works.{begun};
 
-use crate::programs::Program;
+use crate::works::Work;
 use oe_engine::Tx;
 use oe_requests::Request;
 use oe_values::{TERMINALS, Terminal};
 use std::alloc::{AllocError, Global};
-
-/// What an open transaction carries out: its request, where its program stands, and its mark.
-#[derive(Drop)]
-pub struct Work {
-    pub request: Request,
-    pub program: Program,
-    pub mark: Mark,
-}
-
-impl Work {
-    /// Becomes what a transaction of this request carries out that has just begun. The whole is long, so each part is written where
-    /// it lies.
-    #[inline]
-    fn start(&mut self, request: &Request)
-        requires { HasProgram request.now }
-        ensures { IsBegun request.now self.new }
-    {
-        put_request(&mut self.request, request);
-        self.program.start(request);
-        self.mark.start(request);
-    }
-}
-
-/// Where a transaction stood: its program, and how many records it had made.
-#[derive(Drop)]
-pub struct Mark {
-    pub program: Program,
-    pub records: oe_engine::Mark,
-}
-
-impl Mark {
-    /// Moves to where a program stands.
-    pub fn set(&mut self, program: &Program, records: oe_engine::Mark)
-        ensures { self.new ≡ record { program = program.now; records = records } }
-    {
-        self.program.go_to(program);
-        self.records = records;
-    }
-
-    /// Moves to the beginning of a transaction of this request.
-    #[inline]
-    pub fn start(&mut self, request: &Request)
-        requires { HasProgram request.now }
-        ensures of { IsOf request.now self.new.program }
-        ensures position { position_of request.now self.new.program ≡ start_of request.now }
-        ensures records { self.new.records ≡ 0 }
-    {
-        self.program.start(request);
-        self.records = oe_engine::Mark::start();
-    }
-}
 
 /// The slot of a terminal.
 #[inline]
@@ -128,48 +76,11 @@ pub fn put_tx(txs: &mut Vec<Option<Tx>>, terminal: Terminal, tx: Tx)
     let None = old else { unreachable!() };
 }
 
-/// What a transaction of this request carries out that has just begun.
-fn begun_work(request: &Request) -> Work
-    requires { HasProgram request.now }
-    ensures { IsBegun request.now result }
-{
-    Work {
-        request: request.copied(),
-        program: Program::new(request),
-        mark: Mark {
-            program: Program::new(request),
-            records: oe_engine::Mark::start(),
-        },
-    }
-}
-
-// Another request in the place of one.
-#[inline]
-fn put_request(slot: &mut Request, request: &Request)
-    ensures { slot.new ≡ request.now }
-{
-    match slot {
-        Request::Payment(old) => match request {
-            Request::Payment(payment) => *old = payment.copied(),
-            _ => put_other(slot, request),
-        },
-        _ => put_other(slot, request),
-    }
-}
-
-// The same where a payment does not follow a payment. It has room for a whole request, which a payment's does without.
-#[inline(never)]
-fn put_other(slot: &mut Request, request: &Request)
-    ensures { slot.new ≡ request.now }
-{
-    *slot = request.copied();
-}
-
 // In a slot: over what an earlier transaction left there, if there was one.
 #[inline]
 fn begin_slot(slot: &mut Option<Work>, request: &Request)
     requires { HasProgram request.now }
-    ensures { (w : Work) × IsBegun request.now w × (slot.new ≡ Some w) }
+    ensures { slot.new ≡ Some (begun request.now) }
 {
     match slot {
         Some(work) => work.start(request),
@@ -181,9 +92,9 @@ fn begin_slot(slot: &mut Option<Work>, request: &Request)
 #[inline(never)]
 fn begin_first(slot: &mut Option<Work>, request: &Request)
     requires { HasProgram request.now }
-    ensures { (w : Work) × IsBegun request.now w × (slot.new ≡ Some w) }
+    ensures { slot.new ≡ Some (begun request.now) }
 {
-    *slot = Some(begun_work(request));
+    *slot = Some(Work::new(request));
 }
 
 /// Puts into a terminal's slot what a transaction of this request carries out that has just begun. Over what an earlier one left
@@ -192,8 +103,8 @@ fn begin_first(slot: &mut Option<Work>, request: &Request)
 pub fn begin_work(works: &mut Vec<Option<Work>>, terminal: Terminal, request: &Request)
     requires at { terminal < vec_len works.old }
     requires program { HasProgram request.now }
-    ensures after { (w : Work) × IsBegun request.now w
-        × (works.new.items ≡ slice_set works.old.items terminal (Some w)) }
+    ensures after { works.new.items
+        ≡ slice_set works.old.items terminal (Some (begun request.now)) }
 {
     begin_slot(&mut works[slot(terminal)], request);
 }

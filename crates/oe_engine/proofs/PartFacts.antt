@@ -29,18 +29,6 @@ use Rattle.oe_engine.specs.Kept.{IsKept}
 use Rattle.oe_engine.specs.Calls.{IsFree, IsInTheWay, IsBelow, locked, made, put_mode, LockRefused, ChangeRefused, PairRefused, StageRefused, stage_done}
 use Rattle.oe_engine.proofs.LockFacts.{held_of, same_together, taken_is, put_is, set_own, set_at, set_twice, put_taken}
 
--- a stage that neither locks nor changes leaves all as it was
-pub nothing_done : (t : ℕ) (v : View) → stage_done t Plain None v ≡ v
-nothing_done t v = λ i. record {
-  rows = v.rows;
-  undo = record { active = set_own t v.undo.active i; history = v.undo.history };
-  seals = v.seals;
-  counts = v.counts;
-  held = set_own t v.held i;
-  is_open = v.is_open;
-  extents = v.extents;
-}
-
 pub change_done : (t : ℕ) (c : Change) (v : View) → stage_done t Plain (Some c) v ≡ made t c v
 change_done t c v = λ i. record {
   rows = changed c v.rows;
@@ -48,17 +36,6 @@ change_done t c v = λ i. record {
   seals = v.seals;
   counts = v.counts;
   held = set_own t v.held i;
-  is_open = v.is_open;
-  extents = v.extents;
-}
-
-pub lock_done : (t : ℕ) (n : Name) (m : theory.Mode) (v : View) → stage_done t (Take n m) None v ≡ locked t n m v
-lock_done t n m v = λ i. record {
-  rows = v.rows;
-  undo = record { active = set_own t v.undo.active i; history = v.undo.history };
-  seals = v.seals;
-  counts = v.counts;
-  held = world.set t (held_after system (Take n m) (v.held t)) v.held;
   is_open = v.is_open;
   extents = v.extents;
 }
@@ -196,98 +173,6 @@ module _ (ts : tables.Places) (u : undo.SegmentLog) (ls : Holdings) where
   unfolding view_from
   put_nothing t n m (inl e) never = sym (subst (λ z. put_mode t n z (view_from ts u ls) ≡ view_from ts u ls) (sym e) (put_same t n (view_from ts u ls)))
   put_nothing t n m (inr h) never = absurd (never (below_so m (held ls t n) h))
-
--- Why stages are refused
-pub pair_by_lock : (v : View) (t : ℕ) (n : Name) (m : theory.Mode) (c : Change) (e : Refusal) → LockRefused v t n m e → PairRefused v t n m c e
-pair_by_lock v t n m c (Busy name u) h = h
-pair_by_lock v t n m c NoMemory h = h.0
-pair_by_lock v t n m c (NoSuchRow x) h = absurd h
-pair_by_lock v t n m c (RowExists x) h = absurd h
-pair_by_lock v t n m c (Overflow x) h = absurd h
-pair_by_lock v t n m c (Reference x) h = absurd h
-pair_by_lock v t n m c KeyColumn h = absurd h
-pair_by_lock v t n m c UndoFull h = absurd h
-pair_by_lock v t n m c NotOpen h = absurd h
-pair_by_lock v t n m c AlreadyOpen h = absurd h
-pair_by_lock v t n m c InvalidItem h = absurd h
-pair_by_lock v t n m c NoCustomer h = absurd h
-pair_by_lock v t n m c (TooOld x) h = absurd h
-pair_by_lock v t n m c (Future x) h = absurd h
-pair_by_lock v t n m c (NotQuiet x) h = absurd h
-pair_by_lock v t n m c (NotPinned x) h = absurd h
-
-pub pair_by_change : (v : View) (t : ℕ) (n : Name) (m : theory.Mode) (c : Change) (e : Refusal) → IsFree v t (Take n m) → ChangeRefused c v.rows e → PairRefused v t n m c e
-pair_by_change v t n m c (Busy name u) f h = absurd h
-pair_by_change v t n m c NoMemory f h = f
-pair_by_change v t n m c (NoSuchRow x) f h = (f, h)
-pair_by_change v t n m c (RowExists x) f h = (f, h)
-pair_by_change v t n m c (Overflow x) f h = (f, h)
-pair_by_change v t n m c (Reference x) f h = (f, h)
-pair_by_change v t n m c KeyColumn f h = (f, h)
-pair_by_change v t n m c UndoFull f h = f
-pair_by_change v t n m c NotOpen f h = (f, h)
-pair_by_change v t n m c AlreadyOpen f h = (f, h)
-pair_by_change v t n m c InvalidItem f h = (f, h)
-pair_by_change v t n m c NoCustomer f h = (f, h)
-pair_by_change v t n m c (TooOld x) f h = (f, h)
-pair_by_change v t n m c (Future x) f h = (f, h)
-pair_by_change v t n m c (NotQuiet x) f h = (f, h)
-pair_by_change v t n m c (NotPinned x) f h = (f, h)
-
-module _ (s : EngineState) (x : Handle) (o : IsOpen s x) where
-  pub stage_by_lock : (n : Name) (m : theory.Mode) (e : Refusal) → LockRefused (view_of s) x.terminal n m e → StageRefused s x (Take n m) None e
-  stage_by_lock n m (Busy name u) h = (o, (m, ap (λ z. Take z m) (sym h.0), h.1))
-  stage_by_lock n m NoMemory h = (o, h.0, inl h.1)
-  stage_by_lock n m (NoSuchRow y) h = absurd h
-  stage_by_lock n m (RowExists y) h = absurd h
-  stage_by_lock n m (Overflow y) h = absurd h
-  stage_by_lock n m (Reference y) h = absurd h
-  stage_by_lock n m KeyColumn h = absurd h
-  stage_by_lock n m UndoFull h = absurd h
-  stage_by_lock n m NotOpen h = absurd h
-  stage_by_lock n m AlreadyOpen h = absurd h
-  stage_by_lock n m InvalidItem h = absurd h
-  stage_by_lock n m NoCustomer h = absurd h
-  stage_by_lock n m (TooOld y) h = absurd h
-  stage_by_lock n m (Future y) h = absurd h
-  stage_by_lock n m (NotQuiet y) h = absurd h
-  stage_by_lock n m (NotPinned y) h = absurd h
-
-  pub stage_by_change : (c : Change) (e : Refusal) → ChangeRefused c (view_of s).rows e → StageRefused s x Plain (Some c) e
-  stage_by_change c (Busy name u) h = absurd h
-  stage_by_change c NotOpen h = absurd h
-  stage_by_change c NoMemory h = (o, tt, inr refl)
-  stage_by_change c (NoSuchRow y) h = (o, tt, h)
-  stage_by_change c (RowExists y) h = (o, tt, h)
-  stage_by_change c (Overflow y) h = (o, tt, h)
-  stage_by_change c (Reference y) h = (o, tt, h)
-  stage_by_change c KeyColumn h = (o, tt, h)
-  stage_by_change c UndoFull h = (o, tt, refl)
-  stage_by_change c AlreadyOpen h = (o, tt, h)
-  stage_by_change c InvalidItem h = (o, tt, h)
-  stage_by_change c NoCustomer h = (o, tt, h)
-  stage_by_change c (TooOld y) h = (o, tt, h)
-  stage_by_change c (Future y) h = (o, tt, h)
-  stage_by_change c (NotQuiet y) h = (o, tt, h)
-  stage_by_change c (NotPinned y) h = (o, tt, h)
-
-  pub stage_by_pair : (n : Name) (m : theory.Mode) (c : Change) (e : Refusal) → PairRefused (view_of s) x.terminal n m c e → StageRefused s x (Take n m) (Some c) e
-  stage_by_pair n m c (Busy name u) h = (o, (m, ap (λ z. Take z m) (sym h.0), h.1))
-  stage_by_pair n m c NotOpen h = absurd h.1
-  stage_by_pair n m c NoMemory h = (o, h, inr refl)
-  stage_by_pair n m c (NoSuchRow y) h = (o, h.0, h.1)
-  stage_by_pair n m c (RowExists y) h = (o, h.0, h.1)
-  stage_by_pair n m c (Overflow y) h = (o, h.0, h.1)
-  stage_by_pair n m c (Reference y) h = (o, h.0, h.1)
-  stage_by_pair n m c KeyColumn h = (o, h.0, h.1)
-  stage_by_pair n m c UndoFull h = (o, h, refl)
-  stage_by_pair n m c AlreadyOpen h = (o, h.0, h.1)
-  stage_by_pair n m c InvalidItem h = (o, h.0, h.1)
-  stage_by_pair n m c NoCustomer h = (o, h.0, h.1)
-  stage_by_pair n m c (TooOld y) h = (o, h.0, h.1)
-  stage_by_pair n m c (Future y) h = (o, h.0, h.1)
-  stage_by_pair n m c (NotQuiet y) h = (o, h.0, h.1)
-  stage_by_pair n m c (NotPinned y) h = (o, h.0, h.1)
 
 -- a refusal of the tables is one of a change
 pub refused_so : (c : Change) (s : tables.Places) (e : Refusal) → Refuses c s e → ChangeRefused c (rows s) e

@@ -17,8 +17,8 @@ use crate::opening::beside;
 use crate::programs::Lock;
 use oe_keys::{Mode, Name};
 use oe_locks::Locks;
-use oe_requests::{Column, Refusal, Reply, Request};
 use oe_log::{ExtentCount, Segment};
+use oe_requests::{Column, Refusal, Reply, Request};
 use oe_store::Tables;
 use oe_table::tables::NoMemory;
 use oe_undo::Undo;
@@ -72,13 +72,13 @@ impl Model for Tx {
     ghost view = { λ x. record { engine = x.engine; terminal = x.terminal } };
 }
 
-/// A mark in a transaction: how many records it had made.
+/// A savepoint in a transaction: how many records it had made.
 #[derive(Clone, Copy, PartialEq, Eq)]
-pub struct Mark {
+pub struct Savepoint {
     records: usize,
 }
 
-impl Model for Mark {
+impl Model for Savepoint {
     ghost Value = { ℕ };
 
     ghost view = { λ m. m.records };
@@ -86,12 +86,12 @@ impl Model for Mark {
     ghost inverse = { λ n. record { records = n } };
 }
 
-impl Mark {
+impl Savepoint {
     /// The beginning of a transaction.
     pub fn start() -> Self
         ensures { result ≡ 0 }
     {
-        Mark { records: 0 }
+        Savepoint { records: 0 }
     }
 }
 
@@ -308,31 +308,31 @@ impl Engine {
         }
     }
 
-    /// A mark where the transaction stands; the beginning for one that is not open in this engine.
+    /// The savepoint where the transaction stands; the beginning for one that is not open in this engine.
     #[tactic(auto, unfolding(crate::specs::View::view_of, crate::specs::View::view_from))]
-    pub fn savepoint(&self, tx: &Tx) -> Mark
+    pub fn savepoint(&self, tx: &Tx) -> Savepoint
         ensures open { IsOpen self.now tx.now
             → result ≡ length ((view_of self.now).undo.active tx.now.terminal) }
         ensures foreign { (IsOpen self.now tx.now → ⊥) → result ≡ 0 }
     {
         if !self.is_open(tx) {
-            return Mark::start();
+            return Savepoint::start();
         }
-        Mark {
+        Savepoint {
             records: self.undo.segments().mark(Segment::of(tx.terminal)),
         }
     }
 
-    /// Takes a transaction back to a mark of its own: what it has changed since then is forgotten, its locks are kept. It takes
+    /// Takes a transaction back to a savepoint of its own: what it has changed since then is forgotten, its locks are kept. It takes
     /// no memory and can't fail.
-    pub fn rollback_to(&mut self, tx: &Tx, mark: Mark)
+    pub fn rollback_to(&mut self, tx: &Tx, savepoint: Savepoint)
         requires open { IsOpen self.old tx.now }
-        requires mark { mark ≤ length ((view_of self.old).undo.active tx.now.terminal) }
-        ensures back { view_of self.new ≡ back_at tx.now.terminal mark (view_of self.old) }
+        requires savepoint { savepoint ≤ length ((view_of self.old).undo.active tx.now.terminal) }
+        ensures back { view_of self.new ≡ back_at tx.now.terminal savepoint (view_of self.old) }
         ensures name { self.new.name ≡ self.old.name }
     {
         let segment = Segment::of(tx.terminal);
-        let count = self.undo.segments().mark(segment) - mark.records;
+        let count = self.undo.segments().mark(segment) - savepoint.records;
         oe_journal::take_back(&mut self.tables, &mut self.undo, segment, count);
     }
 

@@ -11,6 +11,6 @@ pub mod stages;
 pub mod writes;
 
 pub use access::Parts;
-pub use engine::{Engine, Mark, Tx};
+pub use engine::{Engine, Savepoint, Tx};
 pub use oe_log::ExtentCount;
 pub use programs::{Lock, Progress};

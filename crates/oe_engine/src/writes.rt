@@ -16,8 +16,8 @@ use crate::access::lock_of_write;
 use crate::engine::{Engine, Tx};
 use crate::programs::Lock;
 use oe_change::Write;
-use oe_requests::Refusal;
 use oe_log::Segment;
+use oe_requests::Refusal;
 use oe_values::Terminal;
 
 impl Engine {

@@ -12,8 +12,8 @@ use crate::settings::set;
 use crate::unplaced::unplaced;
 use oe_change::Write;
 use oe_layout::{LinkedRecord, Previous};
-use oe_requests::Refusal;
 use oe_log::Segment;
+use oe_requests::Refusal;
 use oe_store::Tables;
 use oe_undo::{CantPush, Undo};
 

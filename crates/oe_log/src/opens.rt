@@ -8,8 +8,8 @@ ghost use Rattle.oe_log.specs.Log.{count_at, active_at, records_at, opened, push
 
 use crate::heads::SegmentOwner;
 use crate::log::{Log, Segment};
-use oe_layout::{LentRecord, LinkedRecord, OwnRecord, Previous, RecordAddress};
 use oe_extent::Full;
+use oe_layout::{LentRecord, LinkedRecord, OwnRecord, Previous, RecordAddress};
 use oe_table::tables::NoMemory;
 use oe_values::numbers::{Terminal, TransactionNumber};
 

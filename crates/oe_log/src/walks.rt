@@ -7,8 +7,8 @@ ghost use Rattle.oe_log.specs.Records.{befores};
 ghost use Rattle.oe_log.specs.RingLog.{records_at};
 
 use crate::record_log::RecordLog;
-use oe_layout::StoredRecord;
 use oe_extent::Strings;
+use oe_layout::StoredRecord;
 use oe_values::numbers::Terminal;
 use std::marker::Model;
 

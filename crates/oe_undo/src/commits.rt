@@ -3,9 +3,9 @@ ghost use Rattle.std.specs.Prelude.{◌≡◌, ◌+◌, ◌-◌, ℕ, length, sl
 ghost use Rattle.oe_log.specs.Log.{active_at, total_count, owner_of, sealed, with_newest, reopened};
 
 use crate::undo::Undo;
+use oe_log::{Segment, SegmentOwner};
 use oe_requests::replies::Reply;
 use oe_requests::requests::Request;
-use oe_log::{Segment, SegmentOwner};
 use oe_values::Moment;
 use std::snapshot::Snapshot;
 

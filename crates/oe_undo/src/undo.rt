@@ -51,11 +51,7 @@ impl Model for Undo {
 
 /// What became of a transaction that has committed or is open; none where its commit was given up.
 #[inline(always)]
-fn holder_in(
-    segments: &Log,
-    moments: &[TerminalMoments],
-    owner: &SegmentOwner,
-) -> Option<Holder>
+fn holder_in(segments: &Log, moments: &[TerminalMoments], owner: &SegmentOwner) -> Option<Holder>
     requires { AreMoments segments.now moments.now }
     ensures { result ≡ holder_of segments.now owner.now }
 {

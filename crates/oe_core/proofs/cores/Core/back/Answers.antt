@@ -19,15 +19,15 @@ is_there c =
 pub rollback_to-requires-clause-open : goal.rollback_to-requires-clause-open
 rollback_to-requires-clause-open c = (own_work (is_there (goal.at.rollback_to-requires-clause-open c).In-Some-index_mut)).is_open
 
-pub rollback_to-requires-clause-mark : goal.rollback_to-requires-clause-mark
-rollback_to-requires-clause-mark c = mark_within (is_there (goal.at.rollback_to-requires-clause-mark c).In-Some-index_mut)
+pub rollback_to-requires-clause-savepoint : goal.rollback_to-requires-clause-savepoint
+rollback_to-requires-clause-savepoint c = mark_within (is_there (goal.at.rollback_to-requires-clause-savepoint c).In-Some-index_mut)
 
 -- the transaction is back at its mark
 gone_back : (c : After-self-2-1) → Moves (record { engine = c.self.inside.engine; txs = c.self.inside.txs.items; works = c.self.inside.works.items }) (Back c.args.terminal) Gone_back
-    (record { engine = c.rollback_to.new.self; txs = c.self.inside.txs.items; works = slice_set c.self.inside.works.items c.slot-2.result (Some (record c.in-Some-index_mut.work { program = c.go_to.new.self })) })
+    (record { engine = c.rollback_to.new.self; txs = c.self.inside.txs.items; works = slice_set c.self.inside.works.items c.slot-2.result (Some c.back.new.self) })
 gone_back c =
-    gone_back_here (is_there (goal.at.returns c).In-Some-index_mut) c.go_to.new.self c.rollback_to.new.self _ c.go_to.ensures c.rollback_to.ensures.back c.rollback_to.ensures.name
-    (ap (λ (k : ℕ). slice_set c.self.inside.works.items k (Some (record c.in-Some-index_mut.work { program = c.go_to.new.self }))) c.slot-2.ensures.value)
+    gone_back_here (is_there (goal.at.returns c).In-Some-index_mut) c.back.new.self c.rollback_to.new.self _ c.back.ensures c.rollback_to.ensures.back c.rollback_to.ensures.name
+    (ap (λ (k : ℕ). slice_set c.self.inside.works.items k (Some c.back.new.self)) c.slot-2.ensures.value)
 
 pub invariant_of-self : goal.invariant_of-self
 invariant_of-self c = (gone_back c).orderly

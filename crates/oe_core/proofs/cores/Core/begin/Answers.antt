@@ -20,12 +20,11 @@ put_tx-requires-clause-free c = slice_of c.self.inside.txs.items c.args.terminal
 begun : (c : After-begin_work) → Moves (record { engine = c.self.inside.engine; txs = c.self.inside.txs.items; works = c.self.inside.works.items }) (Begin c.args.terminal c.args.request.now) Begun
     (record { engine = c.begin.new.self; txs = c.put_tx.new.txs.items; works = c.begin_work.new.works.items })
 begun c =
-    let work = c.begin_work.ensures.after in
-    begun_here _ c.self.invariant c.args.terminal c.put_tx.ensures.low c.put_tx.ensures.high c.args.request.now c.requires c.in-Ok.tx work.0 c.begin.new.self _ _
+    begun_here _ c.self.invariant c.args.terminal c.put_tx.ensures.low c.put_tx.ensures.high c.args.request.now c.requires c.in-Ok.tx c.begin.new.self _ _
     (ap (rejection c.args.request.now) (sym c.tables.ensures) ∙ sym c.in_default.ensures) c.in-Ok.ensures.counted
     c.in-Ok.ensures.closed c.begin.ensures.idle c.in-Ok.ensures.begun c.begin.ensures.name
-    c.in-Ok.ensures.handle work.1
-    c.put_tx.ensures.after work.2
+    c.in-Ok.ensures.handle
+    c.put_tx.ensures.after c.begin_work.ensures
 
 pub invariant_of-self : goal.invariant_of-self
 invariant_of-self c = (begun c).orderly

@@ -1,5 +1,5 @@
 use Rattle.std.proofs.Common.{refl, sym, ap, ◌∙◌}
-use Rattle.oe_core.specs.Core.{of_payment}
+use Rattle.oe_core.specs.Works.{of_payment}
 use Rattle.oe_core.proofs.MoveFacts.{lent_tx, lent_work}
 use Rattle.oe_core.proofs.AdvanceFacts.{told_of}
 use Rattle.oe_core.proofs.cores.Core.last_payment.Goals as goal

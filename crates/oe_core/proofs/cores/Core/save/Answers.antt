@@ -18,10 +18,10 @@ is_there c =
 
 -- the mark has moved
 marked : (c : After-self-2-1) → Moves (record { engine = c.self.inside.engine; txs = c.self.inside.txs.items; works = c.self.inside.works.items }) (Save c.args.terminal) Saved
-    (record { engine = c.self.inside.engine; txs = c.self.inside.txs.items; works = slice_set c.self.inside.works.items c.slot-2.result (Some (record c.in-Some-index_mut.work { mark = c.set.new.self })) })
+    (record { engine = c.self.inside.engine; txs = c.self.inside.txs.items; works = slice_set c.self.inside.works.items c.slot-2.result (Some c.save.new.self) })
 marked c =
-    saved (is_there (goal.at.returns c).In-Some-index_mut) c.set.new.self c.savepoint.result _ c.set.ensures c.savepoint.ensures.open
-    (ap (λ (k : ℕ). slice_set c.self.inside.works.items k (Some (record c.in-Some-index_mut.work { mark = c.set.new.self }))) c.slot-2.ensures.value)
+    saved (is_there (goal.at.returns c).In-Some-index_mut) c.save.new.self c.savepoint.result _ c.save.ensures c.savepoint.ensures.open
+    (ap (λ (k : ℕ). slice_set c.self.inside.works.items k (Some c.save.new.self)) c.slot-2.ensures.value)
 
 pub invariant_of-self : goal.invariant_of-self
 invariant_of-self c = (marked c).orderly

@@ -1,0 +1,53 @@
+-- What an open transaction carries out, in the words of the model.
+use Rattle.std.specs.Prelude.{ℕ, Option, None, Some}
+use Rattle.oe_requests.specs.declared.requests.Request.{Request}
+use Rattle.oe_requests.specs.declared.requests.Request.TheVariants as request
+use Rattle.oe_requests.specs.declared.replies.Reply.{Reply}
+use Rattle.oe_requests.specs.declared.replies.Reply.TheVariants as reply
+use Rattle.oe_model.specs.Positions.{Position, InPayment, InNewOrder, InDelivery}
+use Rattle.oe_model.specs.System.{taken, start_of}
+use Rattle.oe_engine.specs.View.{EngineState, view_of, Handle}
+use Rattle.oe_engine.specs.Programs.{tx_of}
+use Rattle.oe_engine.specs.Stages.{HoldsAll}
+use Rattle.oe_delivery.specs.Program as delivery
+use Rattle.oe_neworder.specs.Program as neworder
+use Rattle.oe_core.specs.declared.works.Task.{Task}
+use Rattle.oe_core.specs.declared.works.Task.TheVariants as task
+
+-- a request, the row that its program comes to next, and the mark: another position, with the number of records there
+pub record WorkState : Type 0 where
+  pub request : Request
+  pub position : Position
+  pub mark : Position
+  pub mark_records : ℕ
+
+abbrev pub state_of : Task → ℕ → WorkState
+state_of (task.Payment q p m) n =
+    record { request = request.Payment q; position = InPayment q p; mark = InPayment q m; mark_records = n }
+state_of (task.NewOrder q p m) n =
+    record {
+      request = request.NewOrder q;
+      position = InNewOrder q (neworder.position_of q p);
+      mark = InNewOrder q (neworder.position_of q m);
+      mark_records = n;
+    }
+state_of (task.Delivery q p m) n =
+    record {
+      request = request.Delivery q;
+      position = InDelivery q (delivery.position_of p);
+      mark = InDelivery q (delivery.position_of m);
+      mark_records = n;
+    }
+
+-- work for a request whose transaction has just begun: the program and the mark stand at its first row
+abbrev pub begun : Request → WorkState
+begun q = record { request = q; position = start_of q; mark = start_of q; mark_records = 0 }
+
+-- the names that are taken on the way to that row are held
+abbrev pub HoldsTaken : EngineState → Handle → Request → Position → Type 0
+HoldsTaken s x q p = HoldsAll (view_of s) x.terminal (taken (tx_of s x q) p)
+
+-- a reply, where it is a payment's
+abbrev pub of_payment : Option Reply → Option Reply
+of_payment (Some (reply.Payment y)) = Some (reply.Payment y)
+of_payment _ = None

@@ -1,0 +1,274 @@
+//! What an open transaction carries out: its request, where its program stands, and its mark.
+//!
+//! Program and mark are of the request's kind by type, so that each position is one of the request's own program. What an earlier
+//! transaction left is written over where it lies. Nothing takes memory, and nothing can fail.
+ghost use Rattle.std.specs.Prelude.{◌≡◌, option_map, IfSome, OnNone, None};
+ghost use Rattle.std.specs.Option.{option_copied};
+ghost use Rattle.oe_requests.specs.declared.replies.Reply.{Reply};
+ghost use Rattle.oe_engine.specs.View.{IsOpen};
+ghost use Rattle.oe_engine.specs.Programs.{Progresses, reply_at};
+ghost use Rattle.oe_core.specs.Steps.{HasProgram};
+ghost use Rattle.oe_core.specs.Works.{begun, state_of, of_payment, HoldsTaken};
+
+use oe_engine::{Engine, Progress, Savepoint, Tx};
+use oe_requests::{DeliveryRequest, NewOrderRequest, PaymentReply, PaymentRequest, Reply, Request};
+use std::marker::Model;
+use std::snapshot::Snapshot;
+
+/// A request with its program and its mark, which is where the program stood.
+#[derive(Drop)]
+pub(crate) enum Task {
+    Payment {
+        request: PaymentRequest,
+        program: oe_payment::Program,
+        mark: oe_payment::Program,
+    },
+    NewOrder {
+        request: NewOrderRequest,
+        program: oe_neworder::Program,
+        mark: oe_neworder::Program,
+    },
+    Delivery {
+        request: DeliveryRequest,
+        program: oe_delivery::Program,
+        mark: oe_delivery::Program,
+    },
+}
+
+/// What an open transaction carries out. Clauses see it as its request, the positions of its program and of its mark, and the number
+/// of records that it had made at the mark.
+#[derive(Drop)]
+pub struct Work {
+    task: Task,
+    mark_records: Savepoint,
+}
+
+impl Model for Work {
+    ghost use Rattle.oe_core.specs.Works.{WorkState, state_of};
+
+    ghost Value = { WorkState };
+
+    ghost view = { λ w. state_of w.task w.mark_records };
+}
+
+impl Task {
+    /// The task of a request whose transaction has just begun.
+    fn new(request: &Request) -> Self
+        requires { HasProgram request.now }
+        ensures { state_of result 0 ≡ begun request.now }
+    {
+        match request {
+            Request::Payment(payment) => Task::Payment {
+                request: payment.copied(),
+                program: oe_payment::Program::new(),
+                mark: oe_payment::Program::new(),
+            },
+            Request::NewOrder(order) => Task::NewOrder {
+                request: order.copied(),
+                program: oe_neworder::Program::new(),
+                mark: oe_neworder::Program::new(),
+            },
+            Request::Delivery(delivery) => Task::Delivery {
+                request: delivery.copied(),
+                program: oe_delivery::Program::new(),
+                mark: oe_delivery::Program::new(),
+            },
+            _ => unreachable!(),
+        }
+    }
+}
+
+impl Work {
+    /// What a transaction of this request carries out that has just begun.
+    pub fn new(request: &Request) -> Self
+        requires { HasProgram request.now }
+        ensures { result ≡ begun request.now }
+    {
+        Work {
+            task: Task::new(request),
+            mark_records: Savepoint::start(),
+        }
+    }
+
+    /// Becomes what a transaction of this request carries out that has just begun.
+    #[inline]
+    pub fn start(&mut self, request: &Request)
+        requires { HasProgram request.now }
+        ensures { self.new ≡ begun request.now }
+    {
+        match &mut self.task {
+            Task::Payment {
+                request: paid,
+                program,
+                mark,
+            } => match request {
+                Request::Payment(payment) => {
+                    *paid = payment.copied();
+                    program.restart();
+                    mark.restart();
+                    self.mark_records = Savepoint::start();
+                }
+                _ => self.start_other(request),
+            },
+            _ => self.start_other(request),
+        }
+    }
+
+    // The same where a payment does not follow a payment. It has room for the whole, which a payment's start does without.
+    #[inline(never)]
+    fn start_other(&mut self, request: &Request)
+        requires { HasProgram request.now }
+        ensures { self.new ≡ begun request.now }
+    {
+        *self = Work::new(request);
+    }
+
+    /// How many records the transaction had made at the mark.
+    pub fn mark_records(&self) -> Savepoint
+        ensures { result ≡ self.now.mark_records }
+    {
+        self.mark_records
+    }
+
+    /// Moves the mark to where the program stands, with that number of records.
+    pub fn save(&mut self, records: Savepoint)
+        ensures { self.new
+            ≡ record self.old { mark = self.old.position; mark_records = records } }
+    {
+        self.mark_records = records;
+        match &mut self.task {
+            Task::Payment { program, mark, .. } => *mark = program.copied(),
+            Task::NewOrder { program, mark, .. } => *mark = program.copied(),
+            Task::Delivery { program, mark, .. } => *mark = program.copied(),
+        }
+    }
+
+    /// Takes the program back to the mark.
+    pub fn back(&mut self)
+        ensures { self.new ≡ record self.old { position = self.old.mark } }
+    {
+        match &mut self.task {
+            Task::Payment { program, mark, .. } => *program = mark.copied(),
+            Task::NewOrder { program, mark, .. } => *program = mark.copied(),
+            Task::Delivery { program, mark, .. } => *program = mark.copied(),
+        }
+    }
+
+    /// The reply of a payment whose program is at its end; none otherwise.
+    #[inline]
+    pub fn payment_reply(&self) -> Option<&PaymentReply>
+        ensures { option_map Reply.Payment (option_copied result)
+            ≡ of_payment (reply_at self.now.position) }
+    {
+        match &self.task {
+            Task::Payment { program, .. } => program.reply(),
+            _ => None,
+        }
+    }
+
+    /// The reply, once the program is at its end; none before that.
+    pub fn reply(&self) -> Option<Reply>
+        ensures { result ≡ reply_at self.now.position }
+    {
+        match &self.task {
+            Task::Payment { program, .. } => match program.reply() {
+                Some(reply) => Some(Reply::Payment(reply.copied())),
+                None => None,
+            },
+            Task::NewOrder {
+                request,
+                program,
+                ..
+            } => match program.reply(request) {
+                Some(reply) => Some(Reply::NewOrder(reply)),
+                None => None,
+            },
+            Task::Delivery { program, .. } => match program.reply() {
+                Some(reply) => Some(Reply::Delivery(reply)),
+                None => None,
+            },
+        }
+    }
+
+    /// What a commit keeps, once the program is at its end: request and reply, of which there is no byte; none before that.
+    #[inline]
+    pub fn ended(&self) -> Option<(Snapshot<Request>, Snapshot<Reply>)>
+        ensures request { IfSome result (λ s. s.0.value ≡ self.now.request) }
+        ensures reply { option_map (λ s. s.1.value) result ≡ reply_at self.now.position }
+    {
+        match &self.task {
+            Task::Payment {
+                request,
+                program,
+                ..
+            } => {
+                let reply = Reply::Payment(program.reply()?.copied());
+                let request = Request::Payment(request.copied());
+                Some((Snapshot::of(&request), Snapshot::of(&reply)))
+            }
+            _ => self.ended_other(),
+        }
+    }
+
+    // The same of any task. It has room for a whole reply, which a payment's end does without.
+    #[inline(never)]
+    fn ended_other(&self) -> Option<(Snapshot<Request>, Snapshot<Reply>)>
+        ensures request { IfSome result (λ s. s.0.value ≡ self.now.request) }
+        ensures reply { option_map (λ s. s.1.value) result ≡ reply_at self.now.position }
+    {
+        let reply = self.reply()?;
+        let request = match &self.task {
+            Task::Payment { request, .. } => Request::Payment(request.copied()),
+            Task::NewOrder { request, .. } => Request::NewOrder(request.copied()),
+            Task::Delivery { request, .. } => Request::Delivery(request.copied()),
+        };
+        Some((Snapshot::of(&request), Snapshot::of(&reply)))
+    }
+
+    /// Carries out one stage of the program: its lock and its change. `Refused` leaves all as it was.
+    #[inline(always)]
+    pub fn next(&mut self, engine: &mut Engine, tx: &Tx) -> Progress
+        requires held { IsOpen engine.old tx.now
+            → HoldsTaken engine.old tx.now self.old.request self.old.position }
+        ensures progresses { Progresses self.old.request tx.now engine.old self.old.position
+            result engine.new self.new.position }
+        ensures same { self.new ≡ record self.old { position = self.new.position } }
+    {
+        match &mut self.task {
+            Task::Payment {
+                request: payment,
+                program,
+                ..
+            } => program.next(payment, engine, tx),
+            _ => self.next_other(engine, tx),
+        }
+    }
+
+    // The same of any program. It has room for what orders and deliveries write, which a payment's stage does without.
+    #[inline(never)]
+    fn next_other(&mut self, engine: &mut Engine, tx: &Tx) -> Progress
+        requires held { IsOpen engine.old tx.now
+            → HoldsTaken engine.old tx.now self.old.request self.old.position }
+        ensures progresses { Progresses self.old.request tx.now engine.old self.old.position
+            result engine.new self.new.position }
+        ensures same { self.new ≡ record self.old { position = self.new.position } }
+    {
+        match &mut self.task {
+            Task::Payment {
+                request: paid,
+                program,
+                ..
+            } => program.next(paid, engine, tx),
+            Task::NewOrder {
+                request: order,
+                program,
+                ..
+            } => program.next(order, engine, tx),
+            Task::Delivery {
+                request: delivery,
+                program,
+                ..
+            } => program.next(delivery, engine, tx),
+        }
+    }
+}
