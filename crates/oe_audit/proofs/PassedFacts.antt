@@ -13,8 +13,8 @@ use Rattle.oe_store.specs.Places.{rows}
 use Rattle.oe_store.specs.Places as tables
 use Rattle.oe_log.specs.Log.{SegmentLog}
 use Rattle.oe_log.specs.Moments.{store_with}
-use Rattle.oe_moments.specs.Versions.{version, Stand}
-use Rattle.oe_moments.proofs.LastingFacts.{rows_last, versions_meet}
+use Rattle.oe_versions.specs.Versions.{version, Stand}
+use Rattle.oe_versions.proofs.LastingFacts.{rows_last, versions_meet}
 use Rattle.oe_audit.specs.AsOf.{ArePassed}
 
 pub passed_now : (r : Rows) → Meets r → ArePassed r r

@@ -15,7 +15,7 @@ use Rattle.oe_store.specs.Places as tables
 use Rattle.oe_log.specs.Stands.{undo_of, model_records}
 use Rattle.oe_log.specs.Log.{Open, TerminalState, SegmentLog, idle, open_total, records_in}
 use Rattle.oe_log.specs.Moments.{newest}
-use Rattle.oe_moments.specs.Versions.{version}
+use Rattle.oe_versions.specs.Versions.{version}
 
 none_open : (v : Option Open) (n : ℕ) → cond (is_some v) 1 0 + n ≡ 0 → (v ≡ None) × (n ≡ 0)
 none_open None n e = (refl, omega (arith, e))

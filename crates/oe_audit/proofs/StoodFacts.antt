@@ -19,8 +19,8 @@ use Rattle.oe_model.specs.Rows.{Rows}
 use Rattle.oe_model.specs.Conditions.{ytd_of, lines_asked, lines_there}
 use Rattle.oe_store.specs.Places.{rows, entries_of}
 use Rattle.oe_store.specs.Places as tables
-use Rattle.oe_moments.specs.Versions.{version}
-use Rattle.oe_moments.proofs.ChosenFacts.{rows_at, kept_is, kept_among, all_is}
+use Rattle.oe_versions.specs.Versions.{version}
+use Rattle.oe_versions.proofs.ChosenFacts.{rows_at, kept_is, kept_among, all_is}
 use Rattle.oe_audit.specs.AsOf.{rows_then, stood, ArePassed}
 use Rattle.oe_audit.specs.declared.as_of.AsOf.{AsOf}
 use Rattle.oe_audit.specs.declared.as_of.AsOf.TheVariants as when

@@ -16,7 +16,7 @@ use Rattle.oe_model.specs.Audits.{Condition, Second, Third, Fourth}
 use Rattle.oe_store.specs.Places.{rows}
 use Rattle.oe_store.specs.Places as tables
 use Rattle.oe_log.specs.Moments.{IsUnkept}
-use Rattle.oe_moments.specs.Versions.{version}
+use Rattle.oe_versions.specs.Versions.{version}
 use Rattle.oe_audit.specs.Tests.{is_numbered, are_counted, lines_agree}
 use Rattle.oe_audit.specs.declared.as_of.AsOf.{AsOf}
 use Rattle.oe_audit.specs.declared.as_of.AsOf.TheVariants as when

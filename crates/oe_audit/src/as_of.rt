@@ -8,14 +8,14 @@ ghost use Rattle.std.specs.FinMap.{get};
 ghost use Rattle.oe_audit.specs.AsOf.{rows_then, row_then, has_row_then, IsUnread};
 
 use oe_keys::{DistrictKey, NewOrderKey, OrderKey, OrderLineKey, WarehouseKey};
-use oe_moments::{
-    district_ytd_at, has_new_order_at, next_order_at, order_at, order_line_at, warehouse_ytd_at,
-};
 use oe_requests::Refusal;
 use oe_rows::{District, Order, Warehouse};
 use oe_store::Tables;
 use oe_undo::Undo;
 use oe_values::{Moment, OrderNumber, YearToDate};
+use oe_versions::{
+    district_ytd_at, has_new_order_at, next_order_at, order_at, order_line_at, warehouse_ytd_at,
+};
 
 /// When the rows are looked at.
 #[derive(Drop)]

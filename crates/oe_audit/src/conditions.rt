@@ -4,7 +4,7 @@ ghost use Rattle.oe_model.specs.Audits.{First};
 ghost use Rattle.oe_store.specs.Places.{rows};
 ghost use Rattle.oe_log.specs.Log.{open_total};
 ghost use Rattle.oe_log.specs.Moments.{IsKeptMoment, IsUnkept};
-ghost use Rattle.oe_moments.specs.Versions.{version, Stand};
+ghost use Rattle.oe_versions.specs.Versions.{version, Stand};
 ghost use Rattle.oe_audit.specs.AsOf.{rows_then, model_condition, passes, ArePassed, IsUnread};
 ghost use Rattle.oe_audit.specs.Verdict.{IsVerdict, IsAudited};
 

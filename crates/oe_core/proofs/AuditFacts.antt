@@ -21,7 +21,7 @@ use Rattle.oe_log.specs.Stands.{undo_of, seals_of, counts_of}
 use Rattle.oe_log.specs.Log as undo
 use Rattle.oe_engine.specs.View.{view_from, view_of}
 use Rattle.oe_log.specs.Moments.{store_with, IsKeptMoment, IsUnkept}
-use Rattle.oe_moments.specs.Versions.{version, Stand}
+use Rattle.oe_versions.specs.Versions.{version, Stand}
 use Rattle.oe_core.specs.Core.{CoreState, store_of, world_of, IsOrderly}
 use Rattle.oe_core.specs.Steps.{refusal_in}
 use Rattle.oe_core.proofs.MoveFacts.{standing, the_steps}

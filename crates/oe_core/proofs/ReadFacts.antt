@@ -27,9 +27,9 @@ use Rattle.oe_store.specs.Places as tables
 use Rattle.oe_log.specs.Log as undo
 use Rattle.oe_engine.specs.View.{view_of, view_from}
 use Rattle.oe_log.specs.Moments.{store_with, IsKeptMoment, IsUnkept, horizon, newest}
-use Rattle.oe_moments.specs.Versions.{Stand}
-use Rattle.oe_moments.specs.Versions as versions
-use Rattle.oe_queries.specs.Reply.{IsReply, HasNoReply, IsRefused}
+use Rattle.oe_versions.specs.Versions.{Stand}
+use Rattle.oe_versions.specs.Versions as versions
+use Rattle.oe_enquiry.specs.Reply.{IsReply, HasNoReply, IsRefused}
 use Rattle.oe_core.specs.Core.{CoreState, store_of, IsOrderly, Moves}
 use Rattle.oe_core.specs.Steps.{refusal_in}
 use Rattle.oe_core.proofs.MoveFacts.{standing, stays, the_steps}

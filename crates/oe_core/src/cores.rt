@@ -192,7 +192,7 @@ impl Core {
         ensures { Carries (world_of self.now) (Step.Read moment query.now) result
             (world_of self.now) }
     {
-        match oe_queries::answer(self.engine.tables(), self.engine.undo(), query, moment) {
+        match oe_enquiry::answer(self.engine.tables(), self.engine.undo(), query, moment) {
             Ok(reply) => Answer::Replied(reply),
             Err(cause) => Answer::Refused(cause),
         }

@@ -10,7 +10,7 @@ use oe_values::CustomerNumber;
 
 /// C_ID of the customer that is meant: the one that is given, whether or not there is such a row, or that of the customer in the
 /// middle of those of the last name; none where nobody in the district has that name.
-pub fn number_meant(
+pub fn selected_customer(
     district: &DistrictKey,
     choice: &CustomerChoice,
     tables: &Tables,

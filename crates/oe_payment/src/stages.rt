@@ -14,7 +14,7 @@ ghost use Rattle.oe_engine.specs.Programs.{ask_here, act_here, Progresses};
 ghost use Rattle.oe_payment.specs.Program.{position_in};
 ghost use Rattle.oe_payment.specs.Stages.{is_failure, IsRefusedHere, Does, stage_after, IsStage};
 
-use crate::choices::number_meant;
+use crate::choices::selected_customer;
 use crate::positions::{Position, Stage};
 use oe_change::Write;
 use oe_engine::{Engine, Lock, Progress, Tx};
@@ -160,7 +160,7 @@ fn pay_customer(
 {
     let stored = engine.tables();
     let district_key = &request.customer_district;
-    let Some(number) = number_meant(district_key, &request.customer, stored) else {
+    let Some(number) = selected_customer(district_key, &request.customer, stored) else {
         return Progress::Refused(Refusal::NoCustomer);
     };
     let key = &district_key.customer(number);

@@ -12,7 +12,7 @@ use crate::formulas::{
     line_count, line_row, order_row, stock_row, warehouse_row,
 };
 use crate::numbers::number;
-use oe_finders::{Customers, Orders};
+use oe_index::{Customers, Orders};
 use oe_keys::{
     CustomerKey, DistrictKey, HistoryKey, ItemKey, NewOrderKey, OrderKey, OrderLineKey, StockKey,
     WarehouseKey,

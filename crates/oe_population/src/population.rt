@@ -12,7 +12,7 @@ ghost use Rattle.oe_population.specs.Group.{no_columns};
 ghost use Rattle.oe_store.specs.Places.{rows};
 
 use crate::fills;
-use oe_finders::{Customers, Orders};
+use oe_index::{Customers, Orders};
 use oe_keys::{
     DistrictKey, HistoryKey, ItemKey, NewOrderKey, OrderLineKey, StockKey, WarehouseKey,
 };

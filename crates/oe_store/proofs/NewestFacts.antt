@@ -19,7 +19,7 @@ use Rattle.oe_model.specs.Keys.{district_of_customer, district_of_order, custome
 use Rattle.oe_model.specs.Queries.{orders_of, last_order}
 use Rattle.oe_model.proofs.MapFacts.{is_same, is_self}
 use Rattle.oe_model.proofs.EntryFacts.{EachOf, each_of}
-use Rattle.oe_finders.specs.Own.{own_of}
+use Rattle.oe_index.specs.Own.{own_of}
 use Rattle.oe_store.specs.Places.{entries_of}
 use Rattle.oe_store.specs.Newest.{newest_from}
 use Rattle.oe_store.proofs.GroupFacts.{kept_alike}

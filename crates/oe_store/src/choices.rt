@@ -8,11 +8,11 @@ ghost use Rattle.oe_model.specs.Keys.{district_of_customer, customer_of_order};
 ghost use Rattle.oe_model.specs.Choice.{namesakes, comes_before, middle};
 ghost use Rattle.oe_model.specs.Delivery.{oldest};
 ghost use Rattle.oe_model.specs.Queries.{orders_of, last_order};
-ghost use Rattle.oe_finders.specs.Own.{named_of, own_of};
+ghost use Rattle.oe_index.specs.Own.{named_of, own_of};
 ghost use Rattle.oe_store.specs.Places.{rows};
 
 use crate::tables::Tables;
-use oe_finders::Found;
+use oe_index::Found;
 use oe_keys::{CustomerKey, DistrictKey, OrderKey};
 use oe_rows::{Customer, CustomerName, Order};
 use oe_values::{CustomerNumber, OrderNumber, Text};

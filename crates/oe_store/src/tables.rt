@@ -6,7 +6,7 @@ ghost use Rattle.oe_store.specs.Numbered.{AreNumbered};
 ghost use Rattle.oe_store.specs.Places.{rows, HasPlace, IsSound};
 ghost use Rattle.oe_model.specs.Meets.{Meets};
 
-use oe_finders::{Customers, Orders};
+use oe_index::{Customers, Orders};
 use oe_keys::{
     CustomerKey, DistrictKey, HistoryKey, ItemKey, NewOrderKey, OrderKey, OrderLineKey, StockKey,
     WarehouseKey,

@@ -1,0 +1,109 @@
+-- What was found makes an answer, and what was not found a refusal.
+use Rattle.std.proofs.Common.{◌≡◌, ℕ, Option, None, Some, List, length, inl, inr, refl, sym, ap, subst, ◌∙◌, ◌∷◌, []}
+use Rattle.std.specs.Prelude.{ℤ, option_map}
+use Rattle.std.specs.FinMap.{get}
+use Rattle.oe_theory.specs.Machine.{Outcome, Here, Missing}
+use Rattle.oe_keys.specs.declared.keys.CustomerKey.{CustomerKey}
+use Rattle.oe_keys.specs.declared.keys.Key.TheVariants as key
+use Rattle.oe_rows.specs.declared.customers.Customer.{Customer}
+use Rattle.oe_rows.specs.declared.districts.District.{District}
+use Rattle.oe_requests.specs.declared.requests.StatusQuery.{StatusQuery}
+use Rattle.oe_requests.specs.declared.requests.LevelQuery.{LevelQuery}
+use Rattle.oe_requests.specs.declared.requests.Query.{Query}
+use Rattle.oe_requests.specs.declared.requests.Query.TheVariants.{Status, Level}
+use Rattle.oe_requests.specs.declared.replies.OrderStatus.{OrderStatus}
+use Rattle.oe_requests.specs.declared.replies.QueryReply.{QueryReply}
+use Rattle.oe_requests.specs.declared.replies.QueryReply.TheVariants as told
+use Rattle.oe_requests.specs.declared.refusals.Refusal.{Refusal}
+use Rattle.oe_requests.specs.declared.refusals.Refusal.TheVariants.{NoSuchRow, NoCustomer}
+use Rattle.oe_model.specs.Keys.{customer_in}
+use Rattle.oe_model.specs.Rows.{Rows}
+use Rattle.oe_model.specs.Requests.{first_absent}
+use Rattle.oe_model.specs.Choice.{chosen}
+use Rattle.oe_model.specs.Queries.{found, status_of, last_order, order_status, stock_level, answer_of}
+use Rattle.oe_model.specs.Rules.{AreLow}
+use Rattle.oe_model.proofs.PresenceFacts.{mapped_absent}
+use Rattle.oe_store.specs.Places.{rows}
+use Rattle.oe_store.specs.Places as tables
+use Rattle.oe_log.specs.Log.{SegmentLog}
+use Rattle.oe_log.specs.Moments.{IsKeptMoment, IsUnkept}
+use Rattle.oe_versions.specs.Versions.{version}
+use Rattle.oe_enquiry.specs.Reply.{IsReply, HasNoReply, IsRefused}
+use Rattle.oe_enquiry.proofs.LevelFacts.{level_told}
+
+-- go on where there is a value
+on_some : {A : Type 0} (e : Refusal) (o : Option A) (x : A) (f : A → Outcome QueryReply Refusal) → Some x ≡ o → found e o f ≡ f x
+on_some e o x f h = ap (λ v. found e v f) (sym h)
+
+on_none : {A : Type 0} (e : Refusal) (o : Option A) (f : A → Outcome QueryReply Refusal) → None ≡ o → found e o f ≡ Missing e
+on_none e o f h = ap (λ v. found e v f) (sym h)
+
+-- the row whose column is told
+row_of : {A B : Type 0} (f : A → B) (o : Option A) (y : B) → Some y ≡ option_map f o → (x : A) × (Some x ≡ o) × (f x ≡ y)
+row_of f None y e = let no : ⊥ = cc in absurd no
+row_of f (Some x) y e = (x, refl, (let z : f x ≡ y = cc in z))
+
+no_row_of : {A B : Type 0} (f : A → B) (o : Option A) → None ≡ option_map f o → None ≡ o
+no_row_of f o e = sym (mapped_absent f o (sym e))
+
+module _ (q : StatusQuery) (r : Rows) where
+  pub status_told : (c : ℕ) (k : CustomerKey) (b : ℤ) (o : Option OrderStatus) → Some c ≡ chosen q.district q.customer r.customers → k ≡ customer_in q.district c
+      → Some b ≡ option_map (λ (x : Customer). x.account.balance) (get r.customers k) → o ≡ status_of r.order_lines (last_order k r.orders)
+      → order_status q r ≡ Here (told.Status (record { customer = c; balance = b; order = o }))
+  status_told c k b o at is there last =
+      let x = row_of (λ (x : Customer). x.account.balance) (get r.customers k) b there in
+      on_some NoCustomer (chosen q.district q.customer r.customers) c _ at
+      ∙ on_some NoCustomer (get r.customers (customer_in q.district c)) x.0 _ (x.1 ∙ ap (get r.customers) is)
+      ∙ (λ i. let y : Outcome QueryReply Refusal = Here (told.Status (record { customer = c; balance = x.2 i; order = sym (last ∙ ap (λ z. status_of r.order_lines (last_order z r.orders)) is) i })) in y)
+
+  nobody : None ≡ chosen q.district q.customer r.customers → answer_of (Status q) r ≡ Missing NoCustomer
+  nobody h = on_none NoCustomer (chosen q.district q.customer r.customers) _ h
+
+  no_row : (c : ℕ) (k : CustomerKey) → Some c ≡ chosen q.district q.customer r.customers → k ≡ customer_in q.district c
+      → None ≡ option_map (λ (x : Customer). x.account.balance) (get r.customers k)
+      → answer_of (Status q) r ≡ Missing NoCustomer
+  no_row c k at is none =
+      on_some NoCustomer (chosen q.district q.customer r.customers) c _ at
+      ∙ on_none NoCustomer (get r.customers (customer_in q.district c)) _ (no_row_of (λ (x : Customer). x.account.balance) (get r.customers k) none ∙ ap (get r.customers) is)
+
+module _ (ts : tables.Places) (u : SegmentLog) (m : ℕ) where
+  pub outside_untold : (q : Query) (e : Refusal) → IsUnkept u m e → HasNoReply q ts u m e
+  outside_untold q e h = inl h
+
+  pub nobody_untold : (q : StatusQuery) → IsKeptMoment u m → None ≡ chosen q.district q.customer (version ts u m).customers → HasNoReply (Status q) ts u m NoCustomer
+  nobody_untold q i h = inr (i, nobody q (version ts u m) h)
+
+  pub no_row_untold : (q : StatusQuery) (c : ℕ) (k : CustomerKey) → IsKeptMoment u m → Some c ≡ chosen q.district q.customer (version ts u m).customers → k ≡ customer_in q.district c
+      → None ≡ option_map (λ (x : Customer). x.account.balance) (get (version ts u m).customers k) → HasNoReply (Status q) ts u m NoCustomer
+  no_row_untold q c k i at is h = inr (i, no_row q (version ts u m) c k at is h)
+
+  pub no_district_untold : (q : LevelQuery) → IsKeptMoment u m → None ≡ option_map (λ (x : District). x.next_order) (get (version ts u m).districts q.district)
+      → HasNoReply (Level q) ts u m (NoSuchRow (key.District q.district))
+  no_district_untold q i h =
+      inr (i, on_none (NoSuchRow (key.District q.district)) (get (version ts u m).districts q.district) _ (no_row_of (λ (x : District). x.next_order) (get (version ts u m).districts q.district) h))
+
+  pub is_status : (q : StatusQuery) (f : QueryReply) → None ≡ first_absent (q.district.warehouse ∷ []) (rows ts) → IsKeptMoment u m → order_status q (version ts u m) ≡ Here f
+      → IsReply (Status q) ts u m f
+  is_status q f w i h = record { warehouse = sym w; readable = i; answer = h }
+
+  pub is_level : (q : LevelQuery) (f : QueryReply) → None ≡ first_absent (q.district.warehouse ∷ []) (rows ts) → IsKeptMoment u m → stock_level q (version ts u m) ≡ Here f
+      → IsReply (Level q) ts u m f
+  is_level q f w i h = record { warehouse = sym w; readable = i; answer = h }
+
+  pub status_absent : (q : StatusQuery) (e : Refusal) → Some e ≡ first_absent (q.district.warehouse ∷ []) (rows ts) → IsRefused (Status q) ts u m e
+  status_absent q e h = inl (sym h)
+
+  pub level_absent : (q : LevelQuery) (e : Refusal) → Some e ≡ first_absent (q.district.warehouse ∷ []) (rows ts) → IsRefused (Level q) ts u m e
+  level_absent q e h = inl (sym h)
+
+  pub status_refused : (q : StatusQuery) (e : Refusal) → None ≡ first_absent (q.district.warehouse ∷ []) (rows ts) → HasNoReply (Status q) ts u m e → IsRefused (Status q) ts u m e
+  status_refused q e w h = inr (sym w, h)
+
+  pub level_refused : (q : LevelQuery) (e : Refusal) → None ≡ first_absent (q.district.warehouse ∷ []) (rows ts) → HasNoReply (Level q) ts u m e → IsRefused (Level q) ts u m e
+  level_refused q e w h = inr (sym w, h)
+
+pub level_counted : (q : LevelQuery) (r : Rows) (next : ℕ) (items : List ℕ) (n : ℕ) → Some next ≡ option_map (λ (x : District). x.next_order) (get r.districts q.district)
+    → AreLow q r next items → n ≡ length items → stock_level q r ≡ Here (told.Level n)
+level_counted q r next items n at low is =
+    let x = row_of (λ (x : District). x.next_order) (get r.districts q.district) next at in
+    level_told q r x.0 items x.1 (subst (λ z. AreLow q r z items) (sym x.2) low) ∙ ap (λ (z : ℕ). let y : Outcome QueryReply Refusal = Here (told.Level z) in y) (sym is)

@@ -1,0 +1,28 @@
+-- What a query of a moment is answered, and why it is refused.
+use Rattle.std.specs.Prelude.{◌≡◌, ◌⊎◌, ℕ, None, Some}
+use Rattle.oe_theory.specs.Machine.{Here, Missing}
+use Rattle.oe_requests.specs.declared.requests.Query.{Query}
+use Rattle.oe_requests.specs.declared.replies.QueryReply.{QueryReply}
+use Rattle.oe_requests.specs.declared.refusals.Refusal.{Refusal}
+use Rattle.oe_model.specs.Requests.{query_rejection}
+use Rattle.oe_model.specs.Queries.{answer_of}
+use Rattle.oe_store.specs.Places.{rows}
+use Rattle.oe_store.specs.Places as tables
+use Rattle.oe_log.specs.Log.{SegmentLog}
+use Rattle.oe_log.specs.Moments.{IsKeptMoment, IsUnkept}
+use Rattle.oe_versions.specs.Versions.{version}
+
+-- the reply, where its warehouse is there: the answer of the version of that moment, which can be read
+pub record IsReply (q : Query) (ts : tables.Places) (u : SegmentLog) (m : ℕ) (f : QueryReply) : Type 0 where
+  pub warehouse : query_rejection q (rows ts) ≡ None
+  pub readable : IsKeptMoment u m
+  pub answer : answer_of q (version ts u m) ≡ Here f
+
+-- there is no reply of a moment that can't be read, nor of what is not there at one that can
+abbrev pub HasNoReply : Query → tables.Places → SegmentLog → ℕ → Refusal → Type 0
+HasNoReply q ts u m e = IsUnkept u m e ⊎ (IsKeptMoment u m × (answer_of q (version ts u m) ≡ Missing e))
+
+-- a query is refused for an absent warehouse before it is for the moment, and for the moment before it is for what is not there
+abbrev pub IsRefused : Query → tables.Places → SegmentLog → ℕ → Refusal → Type 0
+IsRefused q ts u m e =
+    (query_rejection q (rows ts) ≡ Some e) ⊎ ((query_rejection q (rows ts) ≡ None) × HasNoReply q ts u m e)

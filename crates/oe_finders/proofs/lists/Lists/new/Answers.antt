@@ -1,5 +1,0 @@
-use Rattle.oe_finders.proofs.ListFacts.{lists-none}
-use Rattle.oe_finders.proofs.lists.Lists.new.Goals as goal
-
-pub invariant_of-result : goal.invariant_of-result
-invariant_of-result g c = lists-none g.K.Ord.cmp c.new.result.items c.new.ensures.items

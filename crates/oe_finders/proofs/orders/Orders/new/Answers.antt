@@ -1,9 +1,0 @@
-use Rattle.std.proofs.Common.{true}
-use Rattle.oe_keys.specs.Key.{order_cmp}
-use Rattle.oe_table.specs.Table.{rows_of}
-use Rattle.oe_finders.specs.Numbers.{list_of_owner}
-use Rattle.oe_finders.proofs.FoundFacts.{listed-none}
-use Rattle.oe_finders.proofs.orders.Orders.new.Goals as goal
-
-pub invariant_of-result : goal.invariant_of-result
-invariant_of-result c = listed-none list_of_owner true c.new-2.result (rows_of order_cmp c.new.result) c.new.ensures.rows

@@ -1,0 +1,69 @@
+//! Keys that are listed under numbers, each list in the keys' order.
+//!
+//! By the invariant the keys of each list ascend. A key is listed once under a number, and stays. Only `add` takes memory, for a key
+//! that is not listed; where that is refused each key is listed as before.
+ghost use Rattle.std.specs.Prelude.{◌≡◌, ◌<◌, [], OnOk, slice_index_or};
+ghost use Rattle.oe_table.specs.Shelf.{IsAscending};
+ghost use Rattle.oe_index.specs.Listed.{IsListed, ListsMore};
+
+use oe_table::keys::ShelvedKey;
+use oe_table::shelf::{Shelf, Slot};
+use oe_table::shelves::reach;
+use oe_table::tables::NoMemory;
+use std::alloc::Global;
+use std::marker::Model;
+
+/// Keys under numbers. A few words are kept for each number up to the last that has a list.
+#[derive(Drop)]
+pub(crate) struct Lists<K: ShelvedKey> {
+    lists: Vec<Shelf<K, ()>>,
+    alloc: Global,
+}
+
+impl<K: ShelvedKey> Model for Lists<K> {
+    ghost use Rattle.std.specs.Prelude.{List, Option};
+    ghost use Rattle.oe_index.specs.Listed.{AreLists};
+
+    ghost Value = { List (List (K × Option (Unit {0}))) };
+
+    ghost view = { λ l. l.lists.items };
+
+    ghost invariant = { λ l. AreLists K.cmp l.lists.items };
+}
+
+impl<K: ShelvedKey> Lists<K> {
+    /// No lists, which take no memory.
+    pub(crate) fn new(alloc: Global) -> Self
+        ensures { result ≡ [] }
+    {
+        Lists {
+            lists: Vec::new(alloc),
+            alloc,
+        }
+    }
+
+    /// The keys under a number, in their order.
+    pub(crate) fn under(&self, number: usize) -> &[Slot<K, ()>]
+        ensures listed { result.now ≡ slice_index_or self.now number [] }
+        ensures ordered { IsAscending K.cmp result.now }
+    {
+        match self.lists.get(number) {
+            Some(list) => list.slots(),
+            None => &[],
+        }
+    }
+
+    /// Lists a key under a number.
+    pub(crate) fn add(&mut self, number: usize, key: K) -> Result<(), NoMemory>
+    where
+        K: Drop,
+        requires { number < 1_000_000 }
+        ensures kept { ListsMore K.cmp self.old self.new }
+        ensures listed { OnOk result (IsListed K.cmp self.new number key) }
+    {
+        if let Err(refusal) = reach(&mut self.lists, self.alloc, number) {
+            return Err(refusal);
+        }
+        self.lists[number].put(key, ())
+    }
+}

@@ -1,0 +1,201 @@
+//! The orders, which are found by customer too.
+//!
+//! Beside the rows each order's key is listed under a number of its customer, so that a walk over a customer's orders meets few
+//! others. By the invariant each row's key is in the list of its customer, unless the lists were given up: that is done where a row
+//! takes the place of another customer's, or a blanked place is filled for a customer under whom there is no memory to list it.
+//! Walks then go over all rows that they are given. A key that was blanked stays listed. Only `put_new` takes memory, for a key without
+//! a place; where that is refused the table is as before.
+ghost use Rattle.std.specs.Prelude.{◌≡◌, true, Some, None, OnOk, OnErr, IsSome, []};
+ghost use Rattle.std.specs.Option.{option_copied};
+ghost use Rattle.std.specs.FinMap.{entries};
+ghost use Rattle.std.specs.FinMap as map;
+ghost use Rattle.std.specs.BTreeMap.Range.{IsLeBy, entries_between};
+ghost use Rattle.std.specs.declared.ops.Bound.TheVariants.{Included};
+ghost use Rattle.oe_keys.specs.Key.{order_cmp};
+ghost use Rattle.oe_rows.specs.declared.orders.Order.{Order};
+ghost use Rattle.oe_model.specs.Keys.{customer_of_order};
+ghost use Rattle.oe_model.specs.Queries.{orders_of};
+ghost use Rattle.oe_table.specs.Table.{place, rows_of, SetsPlace, RewritesRow};
+ghost use Rattle.oe_index.specs.Listed.{IsListed, ListsMore};
+ghost use Rattle.oe_index.specs.Numbers.{list_of_owner};
+ghost use Rattle.oe_index.specs.Own.{own_of, is_owner};
+
+use crate::flags::are_both;
+use crate::lists::Lists;
+use crate::numbers::owner_number;
+use crate::walks::Found;
+use oe_keys::{CustomerKey, OrderKey};
+use oe_rows::Order;
+use oe_table::shelf_walks::{Candidates, Rows};
+use oe_table::shelves::Shelves;
+use oe_table::tables::NoMemory;
+use oe_values::{Carrier, CustomerNumber};
+use std::alloc::Global;
+use std::marker::Model;
+
+/// The ORDER rows by their keys, seen as a table of shelves: as the list of its places.
+#[derive(Drop)]
+pub struct Orders {
+    rows: Shelves<OrderKey, Order>,
+    lists: Lists<OrderKey>,
+    is_listed: bool,
+}
+
+impl Model for Orders {
+    ghost use Rattle.std.specs.Prelude.{List, Option};
+    ghost use Rattle.oe_keys.specs.Key.{order_cmp};
+    ghost use Rattle.oe_keys.specs.declared.keys.OrderKey.{OrderKey};
+    ghost use Rattle.oe_rows.specs.declared.orders.Order.{Order};
+    ghost use Rattle.oe_table.specs.Table.{rows_of};
+    ghost use Rattle.oe_index.specs.Listed.{AreListed};
+    ghost use Rattle.oe_index.specs.Numbers.{list_of_owner};
+
+    ghost Value = { List (OrderKey × Option Order) };
+
+    ghost view = { λ t. t.rows };
+
+    ghost invariant = { λ t.
+        AreListed order_cmp list_of_owner t.is_listed t.lists (rows_of order_cmp t.rows) };
+}
+
+// Lists an order under its customer, and answers whether there was memory for it.
+fn list(lists: &mut Lists<OrderKey>, key: &OrderKey, row: &Order) -> bool
+    ensures kept { ListsMore order_cmp lists.old lists.new }
+    ensures listed { result ≡ true
+        → IsListed order_cmp lists.new (list_of_owner key.now row.now) key.now }
+{
+    let owner = key.district_key().customer(row.customer);
+    lists.add(owner_number(&owner), *key).is_ok()
+}
+
+impl Orders {
+    /// A table without a place, which takes no memory.
+    pub fn new(alloc: Global) -> Self
+        ensures places { result ≡ [] }
+        ensures rows { rows_of order_cmp result ≡ map.empty }
+    {
+        Orders {
+            rows: Shelves::new(alloc),
+            lists: Lists::new(alloc),
+            is_listed: true,
+        }
+    }
+
+    /// The row at a key; a blanked key and one without a place have none.
+    pub fn get(&self, key: &OrderKey) -> Option<&Order>
+        ensures { option_copied result ≡ map.get (rows_of order_cmp self.now) key.now }
+    {
+        self.rows.get(key)
+    }
+
+    /// Puts a row at a key that has none. `NoMemory` comes only for a key without a place, where there was none for the place or for
+    /// the customer's list; the table is then as before.
+    pub fn put_new(&mut self, key: OrderKey, row: Order) -> Result<(), NoMemory>
+        requires { map.get (rows_of order_cmp self.old) key ≡ None }
+        ensures ok { OnOk result (SetsPlace order_cmp self.old self.new key (Some row)) }
+        ensures rows { OnOk result
+            (rows_of order_cmp self.new ≡ map.insert (rows_of order_cmp self.old) key row) }
+        ensures err { OnErr result (self.new ≡ self.old) }
+        ensures no_place { OnErr result (place order_cmp self.old key ≡ None) }
+    {
+        let was_listed = list(&mut self.lists, &key, &row);
+        if !was_listed && !self.rows.is_blanked(&key) {
+            return Err(NoMemory);
+        }
+        self.is_listed = are_both(self.is_listed, was_listed);
+        let _carrier = row.carrier;
+        self.rows.put_new(key, row)
+    }
+
+    /// Puts another row in the place of the one at a key that has a row, and answers that one. Where it is another customer's, all
+    /// lists are given up.
+    pub fn swap(&mut self, key: &OrderKey, row: Order) -> Order
+        requires { IsSome (map.get (rows_of order_cmp self.old) key.now) }
+        ensures before { map.get (rows_of order_cmp self.old) key.now ≡ Some result }
+        ensures places { SetsPlace order_cmp self.old self.new key.now (Some row) }
+        ensures rows { rows_of order_cmp self.new
+            ≡ map.insert (rows_of order_cmp self.old) key.now row }
+    {
+        let stays = self.has_owner(key, row.customer);
+        self.is_listed = are_both(self.is_listed, stays);
+        let _carrier = row.carrier;
+        self.rows.swap(key, row)
+    }
+
+    // Whether the order of a key is the customer's of that number.
+    fn has_owner(&self, key: &OrderKey, customer: CustomerNumber) -> bool
+        ensures { result ≡ is_owner customer (map.get (rows_of order_cmp self.now) key.now) }
+    {
+        match self.get(key) {
+            Some(row) => row.customer == customer,
+            None => false,
+        }
+    }
+
+    /// Sets the carrier of the row at a key that has a row.
+    pub fn set_carrier(&mut self, key: &OrderKey, carrier: Carrier)
+        requires { IsSome (map.get (rows_of order_cmp self.old) key.now) }
+        ensures { (o : Order) → map.get (rows_of order_cmp self.old) key.now ≡ Some o
+            → RewritesRow order_cmp self.old self.new key.now
+            (record o { carrier = Some carrier }) }
+    {
+        let order = self.rows.row_mut(key).unwrap();
+        order.carrier = Some(carrier);
+    }
+
+    /// Takes the row at a key that has one. The key keeps its place, blanked, and stays listed.
+    pub fn blank(&mut self, key: &OrderKey) -> Order
+        requires { IsSome (map.get (rows_of order_cmp self.old) key.now) }
+        ensures before { map.get (rows_of order_cmp self.old) key.now ≡ Some result }
+        ensures places { SetsPlace order_cmp self.old self.new key.now None }
+        ensures rows { rows_of order_cmp self.new
+            ≡ map.remove (rows_of order_cmp self.old) key.now }
+    {
+        self.rows.blank(key)
+    }
+
+    /// The rows with their keys, in the keys' order.
+    pub fn iter(&self) -> Rows<'_, OrderKey, Order>
+        ensures { result ≡ entries (rows_of order_cmp self.now) }
+    {
+        self.rows.iter()
+    }
+
+    /// The keys that have a place, in their order, each with its row or, where it was blanked, `None`.
+    pub fn places(&self) -> Candidates<'_, OrderKey, Order>
+        ensures { result ≡ self.now }
+    {
+        self.rows.places()
+    }
+
+    /// The rows whose keys lie from `from` up to `to`, both included, in the keys' order.
+    pub fn range_inclusive(&self, from: OrderKey, to: OrderKey) -> Rows<'_, OrderKey, Order>
+        requires { IsLeBy order_cmp from to }
+        ensures { result
+            ≡ entries_between order_cmp (Included from) (Included to)
+            (entries (rows_of order_cmp self.now)) }
+    {
+        self.rows.range_inclusive(from, to)
+    }
+
+    /// A walk that meets a customer's orders in their keys' order, and others. Where the lists were given up it is the other walk,
+    /// which has to meet them too.
+    pub fn of_customer<'a>(
+        &'a self,
+        customer: &CustomerKey,
+        others: Rows<'a, OrderKey, Order>,
+    ) -> Found<'a, OrderKey, Order>
+        requires { own_of customer.now others
+            ≡ orders_of customer.now (rows_of order_cmp self.now) }
+        ensures { own_of customer.entry.now result
+            ≡ orders_of customer.entry.now (rows_of order_cmp self.entry.now) }
+    {
+        let number = owner_number(customer);
+        Found {
+            rows: &self.rows,
+            listed: self.lists.under(number).iter(),
+            others,
+            is_listed: self.is_listed,
+        }
+    }
+}

@@ -1,5 +1,0 @@
-use Rattle.oe_moments.proofs.LastingFacts.{rows_last}
-use Rattle.oe_moments.proofs.laws.rows_last.Goals as goal
-
-pub returns : goal.returns
-returns c = rows_last
