@@ -3,14 +3,14 @@ use Rattle.std.proofs.Common.{◌≡◌, ℕ, zero, suc, ◌+◌, ◌-◌, ◌<�
 use Rattle.std.specs.List.{AllByRecursion}
 use Rattle.std.proofs.lemmas.List.{length-map, length-set, map-set}
 use Rattle.oe_extent.specs.Ring as ring
-use Rattle.oe_log.specs.RingLog as log
-use Rattle.oe_log.specs.Records as records
-use Rattle.oe_log.specs.Strings.{records_in, AreRecords}
-use Rattle.oe_log.specs.RingLog.{stored, IsLog}
+use Rattle.oe_log.specs.Records.{Logged}
+use Rattle.oe_log.proofs.Lists as log
+use Rattle.oe_log.specs.Strings.{records_in, AreRecords, HoldsRecords}
+use Rattle.oe_log.proofs.Lists.{lists_of}
 use Rattle.oe_log.proofs.RecordFacts.{at_slot, are_at, are_set, none_in}
 use Rattle.oe_log.proofs.LogFacts.{Stands, len_at}
 
-take_map : {X Y : Type 0} (f : X → Y) (n : ℕ) (xs : List X) → map f (take n xs) ≡ take n (map f xs)
+pub take_map : {X Y : Type 0} (f : X → Y) (n : ℕ) (xs : List X) → map f (take n xs) ≡ take n (map f xs)
 take_map f zero xs = refl
 take_map f (suc n) [] = refl
 take_map {Y = Y} f (suc n) (x ∷ xs) = ap (λ (l : List Y). f x ∷ l) (take_map f n xs)
@@ -46,14 +46,14 @@ shorter zero xs = omega arith
 shorter (suc n) [] = omega arith
 shorter (suc n) (x ∷ xs) = omega (arith, shorter n xs)
 
-module _ (r : ring.RingStrings) (lens cls : List ℕ) (capacity opens newest : ℕ) (k : IsLog r lens cls capacity opens newest) where
-  pub sealed : (t n room' opens' newest' : ℕ) (r' : ring.RingStrings) (lens' cls' : List ℕ) (capacity' : ℕ) → t < 65 → n ≡ get_or lens t n → 0 < opens
-      → r' ≡ record (ring.sealed_at r t) { room = room' } → room' + 1 ≡ r.room → lens' ≡ set lens t 0 → cls' ≡ n ∷ cls → capacity' ≡ capacity
+module _ {r : ring.RingStrings} {lens cls : List ℕ} {opens : ℕ} (newest : ℕ) (k : HoldsRecords r lens cls opens) where
+  pub sealed : (t n room' opens' newest' : ℕ) (r' : ring.RingStrings) (lens' cls' : List ℕ) → t < 65 → n ≡ get_or lens t n → 0 < opens
+      → r' ≡ record (ring.sealed_at r t) { room = room' } → room' + 1 ≡ r.room → lens' ≡ set lens t 0 → cls' ≡ n ∷ cls
       → opens' ≡ opens - 1 → newest' ≡ suc newest
-      → Stands r' lens' cls' capacity' opens' newest' (log.sealed (stored r opens newest) t)
-  sealed t n room' opens' newest' r' lens' cls' capacity' lt el some er room ed ec ecap eo en =
-      let len = len_at r lens cls capacity opens newest k t n lt el in
-      rw (er, ecap)
+      → Stands r' lens' cls' opens' newest' (log.sealed (lists_of r opens newest) t)
+  sealed t n room' opens' newest' r' lens' cls' lt el some er room ed ec eo en =
+      let len = len_at newest k t n lt el in
+      rw er
       record {
         kept = record {
           slots = length-set r.active t [] ∙ k.slots;
@@ -63,8 +63,6 @@ module _ (r : ring.RingStrings) (lens cls : List ℕ) (capacity opens newest : �
           active_are = are_set r.active t [] k.active_are tt;
           committed_are = (are_at r.active t k.active_are, k.committed_are);
           room = omega (arith, k.room, room, eo, some);
-          lens_room = omega (arith, k.lens_room, ap length ec, eo, some);
-          moments = omega (arith, k.moments, en);
         };
         view = λ i. record {
           extents = r.extents;
@@ -75,10 +73,10 @@ module _ (r : ring.RingStrings) (lens cls : List ℕ) (capacity opens newest : �
         };
       }
 
-  pub without_oldest : (room' : ℕ) (r' : ring.RingStrings) (cls' : List ℕ) (capacity' : ℕ) → r' ≡ ring.without_oldest r room'
-      → ring.capacity_of r' ≡ ring.capacity_of r → cls' ≡ take (length cls - 1) cls → capacity' ≡ capacity
-      → Stands r' lens cls' capacity' opens newest (log.without_oldest (stored r opens newest))
-  without_oldest room' r' cls' capacity' er eroom ec ecap =
+  pub without_oldest : (room' : ℕ) (r' : ring.RingStrings) (cls' : List ℕ) → r' ≡ ring.without_oldest r room'
+      → ring.capacity_of r' ≡ ring.capacity_of r → cls' ≡ take (length cls - 1) cls
+      → Stands r' lens cls' opens newest (log.without_oldest (lists_of r opens newest))
+  without_oldest room' r' cls' er eroom ec =
       let size : length cls ≡ length r.committed = ap length k.committed_lens_are ∙ length-map r.committed (λ (ss : List (ring.Addressed)). length ss) in
       let fewer = shorter (length r.committed - 1) r.committed in
       let kept : length cls' ≡ length (take (length r.committed - 1) r.committed) =
@@ -87,7 +85,7 @@ module _ (r : ring.RingStrings) (lens cls : List ℕ) (capacity opens newest : �
       ∙ length-map (take (length r.committed - 1) r.committed) (λ (ss : List (ring.Addressed)). length ss) in
       let room : length (take (length r.committed - 1) r.committed) + room' ≡ length r.committed + r.room =
       subst (λ (v : ring.RingStrings). ring.capacity_of v ≡ ring.capacity_of r) er eroom in
-      rw (er, ecap)
+      rw er
       record {
         kept = record {
           slots = k.slots;
@@ -99,39 +97,25 @@ module _ (r : ring.RingStrings) (lens cls : List ℕ) (capacity opens newest : �
           active_are = k.active_are;
           committed_are = are_taken (length r.committed - 1) r.committed k.committed_are;
           room = omega (arith, k.room, room, fewer);
-          lens_room = omega (arith, k.lens_room, kept, fewer, size);
-          moments = omega (arith, k.moments, fewer);
         };
-        view = ap (λ (l : List (List (records.Logged))). record (stored r opens newest) { committed = l })
+        view = ap (λ (l : List (List Logged)). record (lists_of r opens newest) { committed = l })
             (take_map records_in (length r.committed - 1) r.committed
             ∙ ap (λ (n : ℕ). take (n - 1) (map records_in r.committed)) (sym (length-map r.committed records_in)));
       }
 
-  pub empty_slot : (t : ℕ) → log.records_at (stored r opens newest) t ≡ [] → get_or r.active t [] ≡ []
+  pub empty_slot : (t : ℕ) → log.records_at (lists_of r opens newest) t ≡ [] → get_or r.active t [] ≡ []
   empty_slot t e = none_in (get_or r.active t []) (are_at r.active t k.active_are) (sym (at_slot r.active t) ∙ e)
 
-  pub some_there : 0 < length (map records_in r.committed) → 0 < length r.committed
-  some_there h = omega (arith, h, length-map r.committed records_in)
-
-  pub some_len : 0 < length (map records_in r.committed) → 0 < length cls
-  some_len h = omega (arith, h, length-map r.committed records_in, ap length k.committed_lens_are, length-map r.committed (λ (ss : List (ring.Addressed)). length ss))
-
-  pub some_moment : 0 < length (map records_in r.committed) → 0 < newest
-  some_moment h = omega (arith, h, length-map r.committed records_in, k.moments)
-
-  pub kept_count : length cls ≡ length (map records_in r.committed)
-  kept_count = omega (arith, length-map r.committed records_in, ap length k.committed_lens_are, length-map r.committed (λ (ss : List (ring.Addressed)). length ss))
-
-  pub reopened : (t n room' opens' newest' : ℕ) (r' : ring.RingStrings) (lens' cls' : List ℕ) (capacity' : ℕ) → cls ≡ n ∷ cls'
-      → r' ≡ record (ring.reopened_at r t) { room = room' } → ring.capacity_of r' ≡ ring.capacity_of r → lens' ≡ set lens t n → capacity' ≡ capacity
+  pub reopened : (t n room' opens' newest' : ℕ) (r' : ring.RingStrings) (lens' cls' : List ℕ) → cls ≡ n ∷ cls'
+      → r' ≡ record (ring.reopened_at r t) { room = room' } → ring.capacity_of r' ≡ ring.capacity_of r → lens' ≡ set lens t n
       → opens' ≡ suc opens → newest' ≡ newest - 1
-      → Stands r' lens' cls' capacity' opens' newest' (log.reopened (stored r opens newest) t)
-  reopened t n room' opens' newest' r' lens' cls' capacity' ec er eroom ed ecap eo en =
+      → Stands r' lens' cls' opens' newest' (log.reopened (lists_of r opens newest) t)
+  reopened t n room' opens' newest' r' lens' cls' ec er eroom ed eo en =
       let f = first_is r.committed n cls' (sym ec ∙ k.committed_lens_are) in
       let room : length (drop 1 r.committed) + room' ≡ length r.committed + r.room =
       subst (λ (v : ring.RingStrings). ring.capacity_of v ≡ ring.capacity_of r) er eroom in
       let ss = get_or r.committed 0 [] in
-      rw (er, ecap)
+      rw er
       record {
         kept = record {
           slots = length-set r.active t ss ∙ k.slots;
@@ -142,8 +126,6 @@ module _ (r : ring.RingStrings) (lens cls : List ℕ) (capacity opens newest : �
           active_are = are_set r.active t ss k.active_are (are_at r.committed 0 k.committed_are);
           committed_are = are_dropped r.committed k.committed_are;
           room = omega (arith, k.room, room, eo, f.several);
-          lens_room = omega (arith, k.lens_room, ap length ec, eo);
-          moments = omega (arith, k.moments, en, f.several);
         };
         view = λ i. record {
           extents = r.extents;

@@ -129,7 +129,7 @@ none_above hs = count_by-le-length (λ (z : TerminalHead). is_some z.active) hs
 all_but_two : (hs : List TerminalHead) (t : ℕ) → t < length hs → 1 ≤ t → one (get_or hs 0 idle_head).active ≡ 0 → one (get_or hs t idle_head).active ≡ 0
     → sum_by (λ (z : TerminalHead). one z.active) hs + 2 ≤ length hs
 all_but_two hs t within low nobody closed =
-    let taken : TerminalHead = record { count = 0; active = Some (record { terminal = 0; number = 0 }); deletes = false } in
+    let taken : TerminalHead = record { count = 0; active = Some (record { terminal = 0; number = 0 }); deletes = false; len = 0 } in
     let not_0 : 0 ≢ t = omega arith in
     let first = sum_by-set (λ (z : TerminalHead). one z.active) hs 0 taken idle_head (omega arith) in
     let second = sum_by-set (λ (z : TerminalHead). one z.active) (set hs 0 taken) t taken idle_head (omega (arith, length-set hs 0 taken)) in
@@ -149,7 +149,7 @@ few_open hs cs k n o t K low high closed =
 pub at_most_64 : (hs : List TerminalHead) (cs : List Head) (k n o : ℕ) → AreHeads hs cs k n o → o ≤ 64
 at_most_64 hs cs k n o K =
     let size : length hs ≡ 65 = K.size in
-    let taken : TerminalHead = record { count = 0; active = Some (record { terminal = 0; number = 0 }); deletes = false } in
+    let taken : TerminalHead = record { count = 0; active = Some (record { terminal = 0; number = 0 }); deletes = false; len = 0 } in
     let first = sum_by-set (λ (z : TerminalHead). one z.active) hs 0 taken idle_head (omega arith) in
     let nobody : one (get_or hs 0 idle_head).active ≡ 0 = ap one K.nobody in
     let most = none_above (set hs 0 taken) in
@@ -160,15 +160,15 @@ at_most_64 hs cs k n o K =
 -- ---- what the calls make of them
 
 -- a segment is opened, of the terminal's next number
-pub opened : (hs : List TerminalHead) (cs : List Head) (k n o k' o' t : ℕ) (x : TerminalHead) (m : Bool) (b : SegmentOwner)
+pub opened : (hs : List TerminalHead) (cs : List Head) (k n o k' o' t : ℕ) (x : TerminalHead) (m : Bool) (j : ℕ) (b : SegmentOwner)
     → AreHeads hs cs k n o → 1 ≤ t → t ≤ 64 → x ≡ head_at hs t → (head_at hs t).active ≡ None → (head_at hs t).count < 4_294_967_295
     → b.terminal ≡ t → b.number ≡ suc x.count → o' ≡ suc o → length cs + o' ≤ k'
-    → AreHeads (set hs t (record { count = x.count; active = Some b; deletes = m })) cs k' n o'
-opened hs cs k n o k' o' t x m b K low high is closed below terminal number more spare =
+    → AreHeads (set hs t (record { count = x.count; active = Some b; deletes = m; len = j })) cs k' n o'
+opened hs cs k n o k' o' t x m j b K low high is closed below terminal number more spare =
     let size : length hs ≡ 65 = K.size in
     let within : t < length hs = omega arith in
     let count_is : x.count ≡ (head_at hs t).count = ap (λ z. z.count) is in
-    let h : TerminalHead = record { count = x.count; active = Some b; deletes = m } in
+    let h : TerminalHead = record { count = x.count; active = Some b; deletes = m; len = j } in
     let one_is : one x.active ≡ 0 = ap (λ z. one z.active) is ∙ ap one closed in
     let of : IsOf t x.count b = record { terminal = terminal; number = number; below = omega arith } in
     replaced hs cs cs k n o k' n o' t x h K low high is (omega arith)
@@ -183,42 +183,42 @@ is_of hs cs k n o t x a K is active =
     subst (λ z. IsOf t z.count a) (sym is) (K.active t a (ap (λ z. z.active) (sym is) ∙ active))
 
 -- it is said of a terminal's segment whether it deletes
-pub told : (hs : List TerminalHead) (cs : List Head) (k n o t : ℕ) (x : TerminalHead) (m : Bool)
-    → AreHeads hs cs k n o → 1 ≤ t → t ≤ 64 → x ≡ head_at hs t → AreHeads (set hs t (record { count = x.count; active = x.active; deletes = m })) cs k n o
-told hs cs k n o t x m K low high is =
+pub told : (hs : List TerminalHead) (cs : List Head) (k n o t : ℕ) (x : TerminalHead) (m : Bool) (j : ℕ)
+    → AreHeads hs cs k n o → 1 ≤ t → t ≤ 64 → x ≡ head_at hs t → AreHeads (set hs t (record { count = x.count; active = x.active; deletes = m; len = j })) cs k n o
+told hs cs k n o t x m j K low high is =
     let size : length hs ≡ 65 = K.size in
     let within : t < length hs = omega arith in
-    let h : TerminalHead = record { count = x.count; active = x.active; deletes = m } in
+    let h : TerminalHead = record { count = x.count; active = x.active; deletes = m; len = j } in
     let small : x.count < 4_294_967_296 = subst (λ z. z.count < 4_294_967_296) (sym is) (K.counts t idle_head within) in
     replaced hs cs cs k n o k n o t x h K low high is small (λ a e. is_of hs cs k n o t x a K is e)
     (counted_still hs cs t x h within is (omega arith) K.commits) (numbered_still hs cs t x h within is refl K.numbers)
     refl K.kept refl K.spare
 
 -- its open segment is gone
-pub closed : (hs : List TerminalHead) (cs : List Head) (k n o t : ℕ) (x : TerminalHead) (m : Bool)
+pub closed : (hs : List TerminalHead) (cs : List Head) (k n o t : ℕ) (x : TerminalHead) (m : Bool) (j : ℕ)
     → AreHeads hs cs k n o → 1 ≤ t → t ≤ 64 → x ≡ head_at hs t → IsSome (head_at hs t).active
-    → AreHeads (set hs t (record { count = x.count; active = None; deletes = m })) cs k n (o - 1)
-closed hs cs k n o t x m K low high is active =
+    → AreHeads (set hs t (record { count = x.count; active = None; deletes = m; len = j })) cs k n (o - 1)
+closed hs cs k n o t x m j K low high is active =
     let size : length hs ≡ 65 = K.size in
     let within : t < length hs = omega arith in
     let one_is : one x.active ≡ 1 = ap (λ z. one z.active) is ∙ one_of_some (head_at hs t).active active in
     let some : 1 ≤ o = some_open hs cs k n o t K high active in
     let counts : x.count < 4_294_967_296 = subst (λ z. z.count < 4_294_967_296) (sym is) (K.counts t idle_head within) in
     let spare = K.spare in
-    replaced hs cs cs k n o k n (o - 1) t x (record { count = x.count; active = None; deletes = m }) K low high is counts
-    (λ c e. cc) (counted_still hs cs t x (record { count = x.count; active = None; deletes = m }) within is (omega arith) K.commits)
-    (numbered_still hs cs t x (record { count = x.count; active = None; deletes = m }) within is refl K.numbers)
+    replaced hs cs cs k n o k n (o - 1) t x (record { count = x.count; active = None; deletes = m; len = j }) K low high is counts
+    (λ c e. cc) (counted_still hs cs t x (record { count = x.count; active = None; deletes = m; len = j }) within is (omega arith) K.commits)
+    (numbered_still hs cs t x (record { count = x.count; active = None; deletes = m; len = j }) within is refl K.numbers)
     refl K.kept (omega arith) (omega arith)
 
 -- an open segment is made that of a commit
-pub sealed : (hs : List TerminalHead) (cs : List Head) (k n o k' n' t : ℕ) (x : TerminalHead) (m : Bool) (a : SegmentOwner) (d : Head)
+pub sealed : (hs : List TerminalHead) (cs : List Head) (k n o k' n' t : ℕ) (x : TerminalHead) (m : Bool) (j : ℕ) (a : SegmentOwner) (d : Head)
     → AreHeads hs cs k n o → 1 ≤ t → t ≤ 64 → x ≡ head_at hs t → x.active ≡ Some a
     → d.terminal ≡ a.terminal → d.number ≡ a.number → k' ≡ k → n' ≡ suc n
-    → AreHeads (set hs t (record { count = suc x.count; active = None; deletes = m })) (d ∷ cs) k' n' (o - 1)
-sealed hs cs k n o k' n' t x m a d K low high is active whose which capacity moment =
+    → AreHeads (set hs t (record { count = suc x.count; active = None; deletes = m; len = j })) (d ∷ cs) k' n' (o - 1)
+sealed hs cs k n o k' n' t x m j a d K low high is active whose which capacity moment =
     let size : length hs ≡ 65 = K.size in
     let within : t < length hs = omega arith in
-    let h : TerminalHead = record { count = suc x.count; active = None; deletes = m } in
+    let h : TerminalHead = record { count = suc x.count; active = None; deletes = m; len = j } in
     let of : IsOf t x.count a = is_of hs cs k n o t x a K is active in
     let one_is : one x.active ≡ 1 = ap one active in
     let some : IsSome (head_at hs t).active = subst (λ z. IsSome z.active) is (subst IsSome (sym active) (search rules)) in
@@ -304,14 +304,14 @@ counted_by_number hs us cs old numbers i d within =
     record { first = h.first; number = omega arith }
 
 -- the newest commit is its terminal's open segment again, and not counted
-pub reopened : (hs : List TerminalHead) (cs : List Head) (k n o k' n' o' t : ℕ) (x : TerminalHead) (m : Bool) (b : SegmentOwner) (d : Head)
+pub reopened : (hs : List TerminalHead) (cs : List Head) (k n o k' n' o' t : ℕ) (x : TerminalHead) (m : Bool) (j : ℕ) (b : SegmentOwner) (d : Head)
     → AreHeads hs (d ∷ cs) k n o → 1 ≤ t → t ≤ 64 → d.terminal ≡ t → x ≡ head_at hs t → (head_at hs t).active ≡ None
     → b.terminal ≡ d.terminal → b.number ≡ d.number → k' ≡ k → n' ≡ n - 1 → o' ≡ suc o
-    → AreHeads (set hs t (record { count = x.count - 1; active = Some b; deletes = m })) cs k' n' o'
-reopened hs cs k n o k' n' o' t x m b d K low high terminal is closed whose which capacity moment more =
+    → AreHeads (set hs t (record { count = x.count - 1; active = Some b; deletes = m; len = j })) cs k' n' o'
+reopened hs cs k n o k' n' o' t x m j b d K low high terminal is closed whose which capacity moment more =
     let size : length hs ≡ 65 = K.size in
     let within : t < length hs = omega arith in
-    let h : TerminalHead = record { count = x.count - 1; active = Some b; deletes = m } in
+    let h : TerminalHead = record { count = x.count - 1; active = Some b; deletes = m; len = j } in
     let count_is : x.count ≡ (head_at hs t).count = ap (λ z. z.count) is in
     let none : one x.active ≡ 0 = ap (λ z. one z.active) is ∙ ap one closed in
     let first = (K.commits 0 d (omega arith)).first in

@@ -1,3 +1,4 @@
+pub mod Lists
 pub mod RecordFacts
 pub mod RoomFacts
 pub mod LogFacts
@@ -6,9 +7,10 @@ pub mod ReadFacts
 pub mod WalkFacts
 pub mod HeadFacts
 pub mod ZipFacts
+pub mod StateFacts
 pub mod CallFacts
+pub mod KeptFacts
 pub mod FullFacts
 pub mod StandsFacts
-pub mod StateFacts
 pub mod LawFacts
 pub mod UsedFacts

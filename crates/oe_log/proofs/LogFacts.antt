@@ -1,25 +1,24 @@
 -- What the calls make of a log.
 use Rattle.std.proofs.Common.{◌≡◌, ℕ, zero, suc, ◌+◌, ◌-◌, ◌<◌, ◌≤◌, List, [], ◌∷◌, length, map, drop, get_or, set, replicate, None, refl, sym, ap, ◌∙◌, subst, arith}
 use Rattle.std.specs.List.{AllByRecursion}
-use Rattle.std.proofs.lemmas.List.{length-map, length-set, map-set, get_or-map, get_or-set_same, length-replicate, length-drop}
+use Rattle.std.proofs.lemmas.List.{length-set, map-set, get_or-map, get_or-set_same, length-replicate, length-drop}
 use Rattle.oe_extent.specs.declared.extents.Address.{Address}
 use Rattle.oe_extent.specs.Ring as ring
-use Rattle.oe_log.specs.RingLog as log
-use Rattle.oe_log.specs.Records as records
-use Rattle.oe_log.specs.RingLog.{no_lens, no_lists}
-use Rattle.oe_log.specs.Strings.{record_address, records_in, AreRecords}
-use Rattle.oe_log.specs.RingLog.{stored, IsLog}
+use Rattle.oe_log.specs.Records.{Logged, logged, newest_of}
+use Rattle.oe_log.proofs.Lists as log
+use Rattle.oe_log.specs.Strings.{record_address, records_in, AreRecords, HoldsRecords}
+use Rattle.oe_log.proofs.Lists.{lists_of}
 use Rattle.oe_layout.specs.declared.links.Previous.{Previous}
 use Rattle.oe_layout.specs.declared.loans.LentRecord.{LentRecord}
 use Rattle.oe_layout.specs.Links.{IsPrevious}
 use Rattle.oe_layout.specs.Records.{record_image, record_of_lent, IsInRanges}
-use Rattle.oe_log.proofs.RecordFacts.{length_is, older_is, older_are, at_slot, are_at, are_set, all_elsewhere, written_is, seen_lent}
+use Rattle.oe_log.proofs.RecordFacts.{length_is, older_is, older_are, at_slot, are_at, are_set, written_is, seen_lent}
 use Rattle.oe_log.proofs.RoomFacts.{few}
 
 -- the log keeps its promise, and is seen so
-pub record Stands (r : ring.RingStrings) (lens cls : List ℕ) (capacity opens newest : ℕ) (v : log.RingLog) : Type 0 where
-  pub kept : IsLog r lens cls capacity opens newest
-  pub view : stored r opens newest ≡ v
+pub record Stands (r : ring.RingStrings) (lens cls : List ℕ) (opens newest : ℕ) (v : log.RecordLists) : Type 0 where
+  pub kept : HoldsRecords r lens cls opens
+  pub view : lists_of r opens newest ≡ v
 
 abbrev lens_of : List (List (ring.Addressed)) → List ℕ
 lens_of xs = map (λ (ss : List (ring.Addressed)). length ss) xs
@@ -28,7 +27,7 @@ lens_of xs = map (λ (ss : List (ring.Addressed)). length ss) xs
 
 map_none : (n : ℕ) → map records_in (replicate n []) ≡ replicate n []
 map_none zero = refl
-map_none (suc n) = ap (λ (l : List (List (records.Logged))). [] ∷ l) (map_none n)
+map_none (suc n) = ap (λ (l : List (List Logged)). [] ∷ l) (map_none n)
 
 no_lengths : (n : ℕ) → map (λ (ss : List (ring.Addressed)). length ss) (replicate n []) ≡ replicate n 0
 no_lengths zero = refl
@@ -38,12 +37,12 @@ none_are : (n : ℕ) → AllByRecursion AreRecords (replicate n [])
 none_are zero = tt
 none_are (suc n) = (tt, none_are n)
 
-new_at : (slots extents room capacity : ℕ) (r : ring.RingStrings) (lens cls : List ℕ) → slots ≡ 65 → extents ≤ 4096
-    → r ≡ record (ring.no_strings extents slots) { room = room } → lens ≡ replicate slots 0 → cls ≡ []
-    → IsLog r lens cls capacity 0 0 × (stored r 0 0 ≡ record { extents = extents; opens = 0; active = replicate slots []; committed = []; newest = 0 })
-new_at slots extents room capacity r lens cls e most er el ec =
-    rw (er, el, ec) (
-      record {
+pub new_at : (slots extents room : ℕ) (r : ring.RingStrings) → slots ≡ 65 → extents ≤ 4096
+    → r ≡ record (ring.no_strings extents slots) { room = room } → Stands r (replicate slots 0) [] 0 0 (record { extents = extents; opens = 0; active = replicate slots []; committed = []; newest = 0 })
+new_at slots extents room r e most er =
+    rw er
+    record {
+      kept = record {
         slots = length-replicate slots [] ∙ e;
         extents = most;
         lens_are = sym (no_lengths slots);
@@ -51,52 +50,33 @@ new_at slots extents room capacity r lens cls e most er el ec =
         active_are = none_are slots;
         committed_are = tt;
         room = omega arith;
-        lens_room = omega arith;
-        moments = omega arith;
-      },
-      ap (λ (l : List (List (records.Logged))). record { extents = extents; opens = 0; active = l; committed = []; newest = 0 }) (map_none slots),
-    )
-
-pub new_is : (extents room capacity : ℕ) (r : ring.RingStrings) (lens cls : List ℕ) → extents ≤ 4096
-    → r ≡ record (ring.no_strings extents 65) { room = room } → lens ≡ no_lens → cls ≡ [] → Stands r lens cls capacity 0 0 (log.no_records extents)
-unfolding no_lens no_lists
-new_is extents room capacity r lens cls most er el ec =
-    let n = new_at 65 extents room capacity r lens cls refl most er el ec in
-    record { kept = n.0; view = n.1 }
+      };
+      view = ap (λ (l : List (List Logged)). record { extents = extents; opens = 0; active = l; committed = []; newest = 0 }) (map_none slots);
+    }
 
 -- ---- one slot
 
-none_of : (rs : List (records.Logged)) → length rs ≡ 0 → rs ≡ []
+pub none_of : (rs : List Logged) → length rs ≡ 0 → rs ≡ []
 none_of [] e = refl
 none_of (r ∷ rs) e = absurd (omega (arith, e))
 
-set_none : (xs : List (List (records.Logged))) (t : ℕ) → get_or xs t [] ≡ [] → set xs t [] ≡ xs
-set_none [] t e = refl
-set_none (x ∷ xs) zero e = ap (λ (y : List (records.Logged)). y ∷ xs) (sym e)
-set_none (x ∷ xs) (suc t) e = ap (λ (ys : List (List (records.Logged))). x ∷ ys) (set_none xs t e)
+pub none_there : (rs : List Logged) → length rs ≡ 0 → None ≡ newest_of rs
+none_there rs e = sym (ap newest_of (none_of rs e))
 
-pub none_there : (rs : List (records.Logged)) → length rs ≡ 0 → None ≡ records.newest_of rs
-none_there rs e = sym (ap records.newest_of (none_of rs e))
-
-module _ (r : ring.RingStrings) (lens cls : List ℕ) (capacity opens newest : ℕ) (k : IsLog r lens cls capacity opens newest) where
+module _ {r : ring.RingStrings} {lens cls : List ℕ} {opens : ℕ} (newest : ℕ) (k : HoldsRecords r lens cls opens) where
   pub len_at : (t n : ℕ) → t < 65 → n ≡ get_or lens t n → n ≡ length (get_or r.active t [])
   len_at t n lt e =
       let within : t < length r.active = omega (arith, lt, k.slots) in
       e ∙ ap (λ (l : List ℕ). get_or l t n) k.lens_are ∙ get_or-map (λ (ss : List (ring.Addressed)). length ss) r.active t [] n within
 
-  pub len_is : (t n : ℕ) → t < 65 → n ≡ get_or lens t n → n ≡ length (log.records_at (stored r opens newest) t)
+  pub len_is : (t n : ℕ) → t < 65 → n ≡ get_or lens t n → n ≡ length (log.records_at (lists_of r opens newest) t)
   len_is t n lt e =
       len_at t n lt e ∙ sym (length_is (get_or r.active t []) (are_at r.active t k.active_are)) ∙ ap length (sym (at_slot r.active t))
 
-  pub within_lens : (t : ℕ) → t < 65 → t < length lens
-  within_lens t lt =
-      let e : length lens ≡ length r.active = ap length k.lens_are ∙ length-map r.active (λ (ss : List (ring.Addressed)). length ss) in
-      omega (arith, lt, e, k.slots)
-
   -- other records of a slot
-  pub changed : (t n : ℕ) (r' : ring.RingStrings) (lens' : List ℕ) (ss : List (ring.Addressed)) (rs : List (records.Logged)) → AreRecords ss
+  pub changed : (t n : ℕ) (r' : ring.RingStrings) (lens' : List ℕ) (ss : List (ring.Addressed)) (rs : List Logged) → AreRecords ss
       → r' ≡ record r { active = set r.active t ss } → lens' ≡ set lens t n → n ≡ length ss → records_in ss ≡ rs
-      → Stands r' lens' cls capacity opens newest (log.with_records (stored r opens newest) t rs)
+      → Stands r' lens' cls opens newest (log.with_records (lists_of r opens newest) t rs)
   changed t n r' lens' ss rs are er el en es =
       rw er
       record {
@@ -109,39 +89,31 @@ module _ (r : ring.RingStrings) (lens cls : List ℕ) (capacity opens newest : �
           active_are = are_set r.active t ss k.active_are are;
           committed_are = k.committed_are;
           room = k.room;
-          lens_room = k.lens_room;
-          moments = k.moments;
         };
-        view = ap (λ (l : List (List (records.Logged))). record (stored r opens newest) { active = l }) (map-set records_in r.active t ss ∙ ap (set (map records_in r.active) t) es);
+        view = ap (λ (l : List (List Logged)). record (lists_of r opens newest) { active = l }) (map-set records_in r.active t ss ∙ ap (set (map records_in r.active) t) es);
       }
 
   pub popped : (t n : ℕ) (r' : ring.RingStrings) → t < 65 → n ≡ get_or lens t n → r' ≡ ring.popped_at r t
-      → Stands r' (set lens t (n - 1)) cls capacity opens newest (log.popped (stored r opens newest) t)
+      → Stands r' (set lens t (n - 1)) cls opens newest (log.popped (lists_of r opens newest) t)
   popped t n r' lt e er =
       let ss = get_or r.active t [] in
       let are = are_at r.active t k.active_are in
       let size : n - 1 ≡ length (drop 1 ss) = omega (arith, len_at t n lt e, length-drop 1 ss) in
-      changed t (n - 1) r' (set lens t (n - 1)) (drop 1 ss) (drop 1 (log.records_at (stored r opens newest) t)) (older_are ss are) er refl size
+      changed t (n - 1) r' (set lens t (n - 1)) (drop 1 ss) (drop 1 (log.records_at (lists_of r opens newest) t)) (older_are ss are) er refl size
       (older_is ss are ∙ ap (drop 1) (sym (at_slot r.active t)))
-
-  pub not_popped : (t n : ℕ) → t < 65 → n ≡ get_or lens t n → n ≡ 0 → stored r opens newest ≡ log.popped (stored r opens newest) t
-  not_popped t n lt e z =
-      let none : log.records_at (stored r opens newest) t ≡ [] = none_of _ (sym (len_is t n lt e) ∙ z) in
-      sym (ap (λ (l : List (List (records.Logged))). record (stored r opens newest) { active = l })
-      (ap (λ (l : List (records.Logged)). set (map records_in r.active) t (drop 1 l)) none ∙ set_none (map records_in r.active) t none))
 
   pub pushed : (t n : ℕ) (r' : ring.RingStrings) (a : Address) (p : Previous) (l : LentRecord) → t < 65 → n ≡ get_or lens t n
       → IsPrevious p → IsInRanges (record_of_lent l) → r' ≡ ring.pushed_at r t a (record_image p (record_of_lent l))
-      → Stands r' (set lens t (n + 1)) cls capacity opens newest (log.pushed (stored r opens newest) t (records.logged (record_address a) p (record_of_lent l)))
+      → Stands r' (set lens t (n + 1)) cls opens newest (log.pushed (lists_of r opens newest) t (logged (record_address a) p (record_of_lent l)))
   pushed t n r' a p l lt e hp hb er =
       let ss = get_or r.active t [] in
       let are = are_at r.active t k.active_are in
       let s : ring.Addressed = record { address = a; bytes = record_image p (record_of_lent l) } in
       let size : n + 1 ≡ length (s ∷ ss) = omega (arith, len_at t n lt e) in
       changed t (n + 1) r' (set lens t (n + 1)) (s ∷ ss)
-      (records.logged (record_address a) p (record_of_lent l) ∷ log.records_at (stored r opens newest) t) (written_is p l hp hb, are) er refl size
+      (logged (record_address a) p (record_of_lent l) ∷ log.records_at (lists_of r opens newest) t) (written_is p l hp hb, are) er refl size
       (seen_lent a p l ss hp hb
-      ∙ ap (λ (rs : List (records.Logged)). records.logged (record_address a) p (record_of_lent l) ∷ rs) (sym (at_slot r.active t)))
+      ∙ ap (λ (rs : List Logged). logged (record_address a) p (record_of_lent l) ∷ rs) (sym (at_slot r.active t)))
 
   -- which are not more than fit a word
   pub pushed_few : (t n : ℕ) (r' : ring.RingStrings) (a : Address) (p : Previous) (l : LentRecord) → t < 65 → n ≡ get_or lens t n
@@ -155,27 +127,3 @@ module _ (r : ring.RingStrings) (lens cls : List ℕ) (capacity opens newest : �
       let are : AreRecords (get_or r'.active t []) = subst AreRecords (sym there) (written_is p l hp hb, are_at r.active t k.active_are) in
       let most : r'.extents ≤ 4096 = subst (λ (v : ring.RingStrings). v.extents ≤ 4096) (sym er) k.extents in
       omega (arith, few r' t are used most, ap length there, len_at t n lt e)
-
-  pub fresh : (a : Address) → ring.IsFresh r a → log.IsFresh (stored r opens newest) (record_address a)
-  fresh a f = record {
-    active = all_elsewhere a r.active k.active_are f.active;
-    committed = all_elsewhere a r.committed k.committed_are f.committed;
-  }
-
-  -- room for the commits of more open segments
-  pub opened : (room' capacity' more : ℕ) → more ≤ room' → more + length cls ≤ capacity'
-      → Stands (record r { room = room' }) lens cls capacity' more newest (record (stored r opens newest) { opens = more })
-  opened room' capacity' more h g = record {
-    kept = record {
-      slots = k.slots;
-      extents = k.extents;
-      lens_are = k.lens_are;
-      committed_lens_are = k.committed_lens_are;
-      active_are = k.active_are;
-      committed_are = k.committed_are;
-      room = h;
-      lens_room = g;
-      moments = k.moments;
-    };
-    view = refl;
-  }

@@ -1,15 +1,13 @@
 -- How much room records take.
-use Rattle.std.proofs.Common.{◌≡◌, ℕ, zero, suc, ◌+◌, ◌-◌, ◌*◌, ◌<◌, ◌≤◌, Bool, true, false, cond, List, [], ◌∷◌, length, map, get_or, refl, ap, ◌∙◌, arith}
+use Rattle.std.proofs.Common.{◌≡◌, ℕ, zero, suc, ◌+◌, ◌-◌, ◌*◌, ◌<◌, ◌≤◌, Bool, true, false, cond, List, [], ◌∷◌, length, map, get_or, refl, ap, arith}
 use Rattle.std.specs.Prelude.{nat_le}
 use Rattle.std.specs.List.{AllByRecursion, sum_by}
 use Rattle.std.proofs.lemmas.Bool.{leb-true}
 use Rattle.std.proofs.lemmas.List.Sums.{sum_by-cons}
 use Rattle.oe_extent.specs.Ring as ring
-use Rattle.oe_log.specs.RingLog as log
-use Rattle.oe_log.specs.Records as records
+use Rattle.oe_log.specs.Records.{lengths}
 use Rattle.oe_log.specs.Strings.{records_in, AreRecords}
-use Rattle.oe_log.specs.RingLog.{stored, IsLog}
-use Rattle.oe_log.proofs.RecordFacts.{some_bytes, lengths_are, at_slot, are_at}
+use Rattle.oe_log.proofs.RecordFacts.{some_bytes, lengths_are}
 
 -- each string takes a byte at least
 counted_step : (l n : ℕ) (f : ℕ × ℕ) (b : Bool) → nat_le l f.1 ≡ b → 0 < l → n + f.1 ≤ 4096 * f.0
@@ -36,10 +34,9 @@ pub few : (r : ring.RingStrings) (t : ℕ) → AreRecords (get_or r.active t [])
     → length (get_or r.active t []) ≤ 16_777_216
 few r t h used most = omega (arith, counted (get_or r.active t []) h, one_of_sum r.active t, used, most)
 
--- ---- full
-
+-- how many extents records fill, their strings fill
 pub same_used : (xs : List (List (ring.Addressed))) → AllByRecursion AreRecords xs
-    → sum_by (λ rs. (ring.filled (records.lengths rs)).0) (map records_in xs) ≡ sum_by (λ ss. (ring.filled (ring.lengths_of ss)).0) xs
+    → sum_by (λ rs. (ring.filled (lengths rs)).0) (map records_in xs) ≡ sum_by (λ ss. (ring.filled (ring.lengths_of ss)).0) xs
 same_used [] h = refl
 same_used (x ∷ xs) h =
     let first = ap (λ (ls : List ℕ). (ring.filled ls).0) (lengths_are x h.0) in
@@ -47,18 +44,6 @@ same_used (x ∷ xs) h =
       arith,
       first,
       same_used xs h.1,
-      sum_by-cons (λ rs. (ring.filled (records.lengths rs)).0) (records_in x) (map records_in xs),
+      sum_by-cons (λ rs. (ring.filled (lengths rs)).0) (records_in x) (map records_in xs),
       sum_by-cons (λ ss. (ring.filled (ring.lengths_of ss)).0) x xs,
     )
-
-module _ (r : ring.RingStrings) (opens newest t n : ℕ) (active : AllByRecursion AreRecords r.active) (committed : AllByRecursion AreRecords r.committed) where
-  same_rest : (ring.filled (records.lengths (log.records_at (stored r opens newest) t))).1 ≡ (ring.filled (ring.lengths_of (get_or r.active t []))).1
-  same_rest =
-      ap (λ (ls : List ℕ). (ring.filled ls).1)
-      (ap records.lengths (at_slot r.active t) ∙ lengths_are (get_or r.active t []) (are_at r.active t active))
-
-  pub full_here : ring.IsFull r t n → log.IsFull (stored r opens newest) t n
-  full_here f = (omega (arith, f.0, same_rest), omega (arith, f.1, same_used r.active active, same_used r.committed committed))
-
-  pub full_there : log.IsFull (stored r opens newest) t n → ring.IsFull r t n
-  full_there f = (omega (arith, f.0, same_rest), omega (arith, f.1, same_used r.active active, same_used r.committed committed))

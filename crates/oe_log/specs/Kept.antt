@@ -1,11 +1,12 @@
--- How segments are kept: their transactions here, and their records in the log below.
-use Rattle.std.specs.Prelude.{◌≡◌, ℕ, suc, ◌+◌, ◌<◌, ◌≤◌, ◌==◌, cond, Bool, false, List, [], ◌∷◌, length, take, replicate, slice_get, get_or, option_map, None, Some, is_some}
+-- How segments are kept: their transactions as heads, beside their records, which lie in the ring.
+use Rattle.std.specs.Prelude.{◌≡◌, ℕ, suc, ◌+◌, ◌<◌, ◌≤◌, ◌==◌, cond, Bool, false, List, [], ◌∷◌, length, map, take, replicate, slice_get, get_or, option_map, None, Some, is_some}
 use Rattle.std.specs.List.{All, sum_by, count_by}
 use Rattle.oe_values.specs.declared.numbers.TheConstants.{TERMINALS}
+use Rattle.oe_extent.specs.Ring as ring
 use Rattle.oe_requests.specs.declared.requests.Request.{Request}
 use Rattle.oe_requests.specs.declared.replies.Reply.{Reply}
 use Rattle.oe_log.specs.Records.{Logged}
-use Rattle.oe_log.specs.RingLog.{RingLog}
+use Rattle.oe_log.specs.Strings.{records_in, HoldsRecords}
 use Rattle.oe_log.specs.declared.heads.SegmentOwner.{SegmentOwner}
 use Rattle.oe_log.specs.declared.heads.TerminalHead.{TerminalHead}
 use Rattle.oe_log.specs.Log.{Open, TerminalState, Committed, SegmentLog}
@@ -16,6 +17,7 @@ pub record Head : Type 0 where
   pub terminal : ℕ
   pub number : ℕ
   pub deletes : Bool
+  pub len : ℕ
   pub request : Request
   pub reply : Reply
 
@@ -40,18 +42,18 @@ commits [] rss = []
 commits (c ∷ cs) [] = []
 commits (c ∷ cs) (rs ∷ rss) = commit_with c rs ∷ commits cs rss
 
-abbrev pub stored : List TerminalHead → List Head → RingLog → SegmentLog
-stored hs cs l =
+abbrev pub stored : List TerminalHead → List Head → ring.RingStrings → SegmentLog
+stored hs cs r =
     record {
-      terminals = states hs l.active;
-      committed = commits cs l.committed;
-      extents = l.extents;
+      terminals = states hs (map records_in r.active);
+      committed = commits cs (map records_in r.committed);
+      extents = r.extents;
     }
 
 -- ---- what is promised
 
 abbrev pub idle_head : TerminalHead
-idle_head = record { count = 0; active = None; deletes = false }
+idle_head = record { count = 0; active = None; deletes = false; len = 0 }
 
 -- nobody and the terminals; shut, so that no proof counts them
 unfoldable pub idle_heads : List TerminalHead
@@ -98,13 +100,25 @@ abbrev pub CommitsTell : List Head → List (List Logged) → Type 0
 CommitsTell cs rss =
     (later : ℕ) (c : Head) → slice_get cs later ≡ Some c → c.deletes ≡ false → DeletesNothing (model_records (get_or rss later []))
 
--- of them and of the log with their records
-pub record IsKept (hs : List TerminalHead) (cs : List Head) (capacity : ℕ) (l : RingLog) : Type 0 where
-  pub heads : AreHeads hs cs capacity l.newest l.opens
-  pub slots : length l.active ≡ suc TERMINALS
-  pub one_by_one : length l.committed ≡ length cs
+-- of them and of the records of each
+pub record AreBeside (hs : List TerminalHead) (cs : List Head) (active committed : List (List Logged)) : Type 0 where
+  pub slots : length active ≡ suc TERMINALS
+  pub one_by_one : length committed ≡ length cs
   -- a terminal without an open segment has no records
-  pub empty : (t : ℕ) → (head_at hs t).active ≡ None → get_or l.active t [] ≡ []
+  pub empty : (t : ℕ) → (head_at hs t).active ≡ None → get_or active t [] ≡ []
   -- what does not say that it deletes has no record of a deleted row
-  pub open_deletes : (t : ℕ) → (head_at hs t).deletes ≡ false → DeletesNothing (model_records (get_or l.active t []))
-  pub commit_deletes : CommitsTell cs l.committed
+  pub open_deletes : (t : ℕ) → (head_at hs t).deletes ≡ false → DeletesNothing (model_records (get_or active t []))
+  pub commit_deletes : CommitsTell cs committed
+
+-- how many records each has
+abbrev pub lens_of : List TerminalHead → List ℕ
+lens_of hs = map (λ h. h.len) hs
+
+abbrev pub committed_lens_of : List Head → List ℕ
+committed_lens_of cs = map (λ c. c.len) cs
+
+-- of all that is kept
+pub record IsKept (hs : List TerminalHead) (cs : List Head) (capacity : ℕ) (r : ring.RingStrings) (opens newest : ℕ) : Type 0 where
+  pub heads : AreHeads hs cs capacity newest opens
+  pub records : AreBeside hs cs (map records_in r.active) (map records_in r.committed)
+  pub lie : HoldsRecords r (lens_of hs) (committed_lens_of cs) opens

@@ -2,7 +2,6 @@
 pub mod Records
 pub mod Log
 pub mod Strings
-pub mod RingLog
 pub mod Kept
 pub mod Stands
 pub mod Laws

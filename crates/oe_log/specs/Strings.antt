@@ -1,8 +1,9 @@
 -- How records lie in the ring as bytes: what an undo log keeps of itself.
-use Rattle.std.specs.Prelude.{List, [], ◌∷◌, Option, None, Some}
+use Rattle.std.specs.Prelude.{◌≡◌, ◌≤◌, ℕ, suc, List, [], ◌∷◌, length, map, Option, None, Some}
 use Rattle.std.specs.List.{AllByRecursion}
+use Rattle.oe_values.specs.declared.numbers.TheConstants.{TERMINALS}
 use Rattle.oe_extent.specs.declared.extents.Address.{Address}
-use Rattle.oe_extent.specs.Ring.{Addressed}
+use Rattle.oe_extent.specs.Ring.{Addressed, RingStrings}
 use Rattle.oe_layout.specs.declared.links.RecordAddress.{RecordAddress}
 use Rattle.oe_layout.specs.declared.links.Previous.{Previous}
 use Rattle.oe_layout.specs.declared.records.OwnRecord.{OwnRecord}
@@ -28,3 +29,13 @@ records_in (s ∷ ss) = before_others s.address (record_at s.bytes) (records_in 
 -- each string is a record's
 abbrev pub AreRecords : List Addressed → Type 0
 AreRecords ss = AllByRecursion (λ s. IsStoredRecord s.bytes) ss
+
+-- the ring holds so many records of each terminal and of each commit, and has room for the commits of so many open segments
+pub record HoldsRecords (r : RingStrings) (lens committed_lens : List ℕ) (opens : ℕ) : Type 0 where
+  pub slots : length r.active ≡ suc TERMINALS
+  pub extents : r.extents ≤ 4096
+  pub lens_are : lens ≡ map (λ ss. length ss) r.active
+  pub committed_lens_are : committed_lens ≡ map (λ ss. length ss) r.committed
+  pub active_are : AllByRecursion AreRecords r.active
+  pub committed_are : AllByRecursion AreRecords r.committed
+  pub room : opens ≤ r.room

@@ -16,7 +16,7 @@ impl Log {
         ensures value { result ≡ total_count self.now }
         ensures moment { result ≡ newest self.now }
     {
-        self.log.newest()
+        self.newest
     }
 
     /// The oldest moment that can be read: as many commits ago as segments of commits are kept.
@@ -24,7 +24,8 @@ impl Log {
         ensures value { result + length self.now.committed ≡ total_count self.now }
         ensures moment { result ≡ horizon self.now }
     {
-        self.log.horizon()
+        let kept = self.commits.len() as u64;
+        Moment::new(self.newest.get() - kept).unwrap()
     }
 
     /// Makes an open segment that of the newest commit, and answers the commit's moment. It takes no memory, and keeps no byte of
@@ -39,31 +40,37 @@ impl Log {
         ensures sealed { self.new ≡ sealed self.old segment request.value reply.value }
         ensures moment { result ≡ total_count self.old + 1 }
     {
-        let terminal = segment.terminal();
-        let state = &mut self.terminals[terminal.get() as usize];
+        let slot = segment.terminal().get() as usize;
+        let moment = Moment::new(self.newest.get() + 1).unwrap();
+        let state = &mut self.terminals[slot];
         let Some(owner) = state.active.take() else {
             unreachable!()
         };
         state.count += 1;
         let deletes = state.deletes;
+        let len = std::mem::replace(&mut state.len, 0);
         self.commits.push_front_reserved(CommitHead {
             owner,
             deletes,
+            len,
             request,
             reply,
         });
-        self.log.seal(terminal)
+        self.ring.seal(slot);
+        self.open_count -= 1;
+        self.newest = moment;
+        moment
     }
 
     /// Gives up the segment of the oldest commit that is kept, and answers whose it was; none exactly where none is. Its terminal
-    /// counts it still. It takes no memory.
+    /// counts it still. The extents of its records are free again. It takes no memory.
     pub fn drop_oldest(&mut self) -> Option<SegmentOwner>
         ensures oldest { result
             ≡ option_map owner_of
             (slice_get self.old.committed (length self.old.committed - 1)) }
         ensures dropped { self.new ≡ with_newest (length self.old.committed - 1) self.old }
     {
-        self.log.drop_oldest();
+        self.ring.drop_oldest();
         match self.commits.pop_back() {
             Some(head) => Some(head.owner()),
             None => None,
@@ -83,11 +90,15 @@ impl Log {
         };
         let owner = head.owner();
         let terminal = owner.terminal;
-        let state = &mut self.terminals[terminal.get() as usize];
+        let slot = terminal.get() as usize;
+        let state = &mut self.terminals[slot];
         state.count -= 1;
         state.active = Some(owner);
         state.deletes = head.may_delete();
-        self.log.reopen_newest(terminal);
+        state.len = head.len();
+        self.ring.reopen_newest(slot);
+        self.open_count += 1;
+        self.newest = Moment::new(self.newest.get() - 1).unwrap();
         Some(Segment::of(terminal))
     }
 }

@@ -14,13 +14,14 @@ pub struct SegmentOwner {
     pub number: TransactionNumber,
 }
 
-/// A terminal's commits so far, and its open transaction, if it has one.
+/// A terminal's commits so far, its open transaction, if it has one, and how many records that has.
 #[derive(Drop)]
 pub struct TerminalHead {
     pub count: u32,
     pub active: Option<SegmentOwner>,
     // Whether that has recorded a deleted row, be the record taken off since.
     pub(crate) deletes: bool,
+    pub(crate) len: usize,
 }
 
 /// A transaction that has committed. What it was begun with and what it answered are for clauses alone: no byte is kept of either.
@@ -29,6 +30,7 @@ pub struct CommitHead {
     pub(crate) owner: SegmentOwner,
     // As its terminal's head said.
     pub(crate) deletes: bool,
+    pub(crate) len: usize,
     pub(crate) request: Snapshot<Request>,
     pub(crate) reply: Snapshot<Reply>,
 }
@@ -42,6 +44,7 @@ impl Model for CommitHead {
       terminal = c.owner.terminal;
       number = c.owner.number;
       deletes = c.deletes;
+      len = c.len;
       request = c.request.value;
       reply = c.reply.value;
     } };
@@ -60,5 +63,11 @@ impl CommitHead {
         ensures { result ≡ self.now.deletes }
     {
         self.deletes
+    }
+    /// How many records it has.
+    pub(crate) fn len(&self) -> usize
+        ensures { result ≡ self.now.len }
+    {
+        self.len
     }
 }

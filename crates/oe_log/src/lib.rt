@@ -11,9 +11,6 @@ pub mod log;
 pub mod moments;
 pub mod opens;
 pub mod reads;
-mod record_commits;
-mod record_log;
-mod record_reads;
 pub mod walks;
 
 pub use heads::SegmentOwner;

@@ -1,12 +1,17 @@
 //! The undo log: the segments of undo records of one transaction each.
+//!
+//! Records lie in the ring as byte strings, those of each terminal's open transaction in its slot, those of a commit in its place. Heads
+//! stand beside them: whose a segment is, and how many records it has. By the invariant each string is a record's, heads and strings
+//! are as many, and the ring and the list of commits have room for the commit of each open segment. `new` and `open_segment` may be
+//! refused memory, `push` is refused where the ring is full, and no other call is refused.
 ghost use Rattle.std.specs.Prelude.{◌≡◌, ℕ, replicate, IfOk};
 ghost use Rattle.oe_log.specs.Log.{no_segments};
 ghost use Rattle.oe_log.specs.Kept.{idle_heads};
 
 use crate::heads::{CommitHead, TerminalHead};
-use crate::record_log::RecordLog;
+use oe_extent::Ring;
 use oe_table::tables::NoMemory;
-use oe_values::numbers::{Number, TERMINALS, Terminal};
+use oe_values::numbers::{Moment, Number, TERMINALS, Terminal};
 use std::alloc::Global;
 use std::collections::VecDeque;
 use std::marker::Model;
@@ -52,12 +57,14 @@ impl Segment {
 /// is given up, for a purge, or the newest and is opened again, for a rewind.
 #[derive(Drop)]
 pub struct Log {
-    // The records, by terminal and by commit.
-    pub(crate) log: RecordLog,
-    // By the terminals' numbers; 0 is nobody's.
+    // The records. Its slots are the terminals' numbers; 0 is nobody's.
+    pub(crate) ring: Ring,
+    // By the terminals' numbers.
     pub(crate) terminals: Vec<TerminalHead>,
-    // The newest first, each beside its records in the log. It has room for the commit of each open segment.
+    // The newest first, each beside its records in the ring. It has room for the commit of each open segment.
     pub(crate) commits: VecDeque<CommitHead>,
+    pub(crate) open_count: usize,
+    pub(crate) newest: Moment,
 }
 
 impl Model for Log {
@@ -67,9 +74,10 @@ impl Model for Log {
 
     ghost Value = { SegmentLog };
 
-    ghost view = { λ s. stored s.terminals.items s.commits.items s.log };
+    ghost view = { λ s. stored s.terminals.items s.commits.items s.ring };
 
-    ghost invariant = { λ s. IsKept s.terminals.items s.commits.items (deque_capacity s.commits) s.log };
+    ghost invariant = { λ s. IsKept s.terminals.items s.commits.items (deque_capacity s.commits)
+        s.ring s.open_count s.newest };
 }
 
 /// The terminals before anything was committed.
@@ -84,6 +92,7 @@ fn idle_heads(alloc: Global) -> Result<Vec<TerminalHead>, NoMemory>
             count: 0,
             active: None,
             deletes: false,
+            len: 0,
         });
     }
     Ok(terminals)
@@ -94,12 +103,20 @@ impl Log {
     pub fn new(alloc: Global, extents: ExtentCount) -> Result<Log, NoMemory>
         ensures { IfOk result (λ s. s ≡ no_segments extents) }
     {
-        let log = RecordLog::new(alloc, extents)?;
+        let count = extents.get() as usize;
+        let Some(newest) = Moment::new(0) else {
+            unreachable!()
+        };
+        let Ok(ring) = Ring::new(alloc, count, TERMINALS as usize + 1) else {
+            return Err(NoMemory);
+        };
         let terminals = idle_heads(alloc)?;
         Ok(Log {
-            log,
+            ring,
             terminals,
             commits: VecDeque::new(alloc),
+            open_count: 0,
+            newest,
         })
     }
 }

@@ -11,7 +11,7 @@ impl Log {
     pub fn kept(&self) -> usize
         ensures { result ≡ length self.now.committed }
     {
-        (self.newest().get() - self.horizon().get()) as usize
+        self.commits.len()
     }
 
     /// How many commits came after a moment; `TooOld` with the horizon, or `Future` with the newest moment, exactly where it is not

@@ -8,10 +8,22 @@ ghost use Rattle.oe_log.specs.Log.{count_at, active_at, records_at, opened, push
 
 use crate::heads::SegmentOwner;
 use crate::log::{Log, Segment};
-use oe_extent::Full;
-use oe_layout::{LentRecord, LinkedRecord, OwnRecord, Previous, RecordAddress};
+use oe_extent::{Address, Full};
+use oe_layout::{LentRecord, LinkedRecord, OwnRecord, Previous, RecordAddress, read_record};
 use oe_table::tables::NoMemory;
-use oe_values::numbers::{Terminal, TransactionNumber};
+use oe_values::numbers::{Number, Terminal, TransactionNumber};
+
+/// An address of the ring as that of a record.
+fn record_address(address: Address) -> RecordAddress
+    requires extent { address.extent < 4096 }
+    requires offset { address.offset < 4096 }
+    ensures { result ≡ record { extent = address.extent; offset = address.offset } }
+{
+    RecordAddress {
+        extent: Number::new(address.extent as u32).unwrap(),
+        offset: Number::new(address.offset as u32).unwrap(),
+    }
+}
 
 /// Whether records may be of deleted rows after one more, by whether they may before.
 fn may_delete(before: bool, record: &LentRecord<'_>) -> bool
@@ -35,17 +47,18 @@ impl Log {
         ensures err { OnErr result (self.new ≡ self.old) }
     {
         let slot = terminal.get() as usize;
-        let needed = self.log.open_count() + 1;
-        if self.commits.reserve(needed).is_err() {
+        let needed = self.open_count + 1;
+        if self.ring.reserve(needed).is_err() {
             return Err(NoMemory);
         }
-        if self.log.open_segment().is_err() {
+        if self.commits.reserve(needed).is_err() {
             return Err(NoMemory);
         }
         let state = &mut self.terminals[slot];
         let number = TransactionNumber::new(state.count + 1).unwrap();
         state.active = Some(SegmentOwner { terminal, number });
         state.deletes = false;
+        self.open_count = needed;
         Ok(Segment::of(terminal))
     }
 
@@ -57,7 +70,7 @@ impl Log {
     {
         let state = &mut self.terminals[segment.terminal().get() as usize];
         state.active = None;
-        self.log.close_segment();
+        self.open_count -= 1;
     }
 
     /// Appends a record to an open segment, and answers its address, where no other record is. The row before an update is written
@@ -73,10 +86,18 @@ impl Log {
             (record_length (record_of_lent lent.now.record)) }
         ensures fresh { IfOk result (IsFresh self.old) }
     {
-        let terminal = segment.terminal();
-        let state = &mut self.terminals[terminal.get() as usize];
+        let slot = segment.terminal().get() as usize;
+        lent.ranges();
+        let _length = lent.length();
+        let pushed = self.ring.push(slot, lent);
+        let Ok(address) = pushed else {
+            return Err(Full);
+        };
+        let _extents = self.ring.extents();
+        let state = &mut self.terminals[slot];
         state.deletes = may_delete(state.deletes, &lent.record);
-        self.log.push(terminal, lent)
+        state.len += 1;
+        Ok(record_address(address))
     }
 
     /// Whose an open segment is: its terminal's next transaction.
@@ -96,7 +117,7 @@ impl Log {
         requires { IsSome (active_at self.now segment) }
         ensures { result ≡ length (records_at self.now segment) }
     {
-        self.log.len(segment.terminal())
+        self.terminals[segment.terminal().get() as usize].len
     }
 
     /// The newest record of an open segment, with what leads to the previous one of its row; none exactly where it has none.
@@ -105,14 +126,23 @@ impl Log {
         ensures { option_map (λ x. (x.0, record_of_own x.1)) result
             ≡ newest_of (records_at self.now segment) }
     {
-        self.log.newest_record(segment.terminal())
+        let slot = segment.terminal().get() as usize;
+        if self.terminals[slot].len == 0 {
+            return None;
+        }
+        read_record(self.ring.newest(slot))
     }
 
-    /// Takes the newest record of an open segment off, where it has one.
+    /// Takes the newest record of an open segment off, where it has one. An extent without records is free again.
     pub fn pop(&mut self, segment: Segment)
         requires { IsSome (active_at self.old segment) }
         ensures { self.new ≡ popped self.old segment }
     {
-        self.log.pop(segment.terminal());
+        let slot = segment.terminal().get() as usize;
+        let len = self.terminals[slot].len;
+        if len > 0 {
+            self.ring.pop(slot);
+            self.terminals[slot].len = len - 1;
+        }
     }
 }

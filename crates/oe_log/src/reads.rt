@@ -9,22 +9,33 @@ ghost use Rattle.oe_log.specs.Stands.{model_records, DeletesNothing};
 use crate::heads::SegmentOwner;
 use crate::log::Log;
 use crate::walks::Records;
-use oe_layout::{Previous, RecordAddress, StoredRecord};
+use oe_extent::Address;
+use oe_layout::{Previous, RecordAddress, StoredRecord, linked_record};
 use oe_values::numbers::{TERMINALS, Terminal, TransactionNumber};
+
+/// A record's address as one of the ring.
+fn ring_address(address: RecordAddress) -> Address
+    ensures { result ≡ record { extent = address.extent; offset = address.offset } }
+{
+    Address {
+        extent: address.extent.get() as usize,
+        offset: address.offset.get() as usize,
+    }
+}
 
 impl Log {
     /// How many extents there are.
     pub fn extents(&self) -> usize
         ensures { result ≡ self.now.extents }
     {
-        self.log.extents()
+        self.ring.extents()
     }
 
     /// The log has a state of each terminal, and one of nobody. It does nothing: it is for proofs above, which see no invariant.
     pub fn terminals_are(&self)
         ensures { length self.now.terminals ≡ suc TERMINALS }
     {
-        let _known = &self.log;
+        let _known = &self.terminals;
     }
 
     /// How many transactions of a terminal have committed and were not rewound.
@@ -57,7 +68,7 @@ impl Log {
             → result ≡ count_slots system slots terminal_limit }
         ensures most { result ≤ TERMINALS }
     {
-        self.log.open_count() as u32
+        self.open_count as u32
     }
 
     /// Whose a commit was, by the number of later ones; none exactly where so many are not kept. Its number is its terminal's count
@@ -97,7 +108,9 @@ impl Log {
         requires { HasAddress (records_at self.now terminal) address }
         ensures { IsRecordAt (records_at self.now terminal) address (result.0, result.1) }
     {
-        self.log.linked_at(terminal, address)
+        let slot = terminal.get() as usize;
+        let place = ring_address(address);
+        linked_record(self.ring.at(slot, place))
     }
 
     /// The record at that address of a commit's segment, where it lies, with what leads to the previous one of its row. The commit is
@@ -112,7 +125,8 @@ impl Log {
         ensures { IsRecordAt (get_or (committed_records self.now) later []) address
             (result.0, result.1) }
     {
-        self.log.committed_linked_at(later, address)
+        let place = ring_address(address);
+        linked_record(self.ring.committed_at(later, place))
     }
 
     /// The records of a commit's segment, the newest first, where they lie. The commit is given by the number of later ones. It takes
@@ -121,6 +135,7 @@ impl Log {
         requires { later < length self.now.committed }
         ensures { result ≡ model_records (get_or (committed_records self.now) later []) }
     {
-        self.log.committed_records(later)
+        let strings = self.ring.committed_strings(later);
+        Records { strings }
     }
 }

@@ -1,21 +1,16 @@
 //! Walks over the records of a segment, the newest first.
 //!
 //! A walk goes over strings of the ring; by its invariant each is a record's. No call takes memory, and nothing can fail.
-ghost use Rattle.std.specs.Prelude.{◌≡◌, ◌<◌, [], length, get_or};
 ghost use Rattle.std.specs.Iterator.{YieldsFirst, item_count};
-ghost use Rattle.oe_log.specs.Records.{befores};
-ghost use Rattle.oe_log.specs.RingLog.{records_at};
 
-use crate::record_log::RecordLog;
 use oe_extent::Strings;
 use oe_layout::StoredRecord;
-use oe_values::numbers::Terminal;
 use std::marker::Model;
 
 /// The records of a segment that are left, the newest first, where they lie.
 #[derive(Drop)]
 pub struct Records<'a> {
-    strings: Strings<'a>,
+    pub(crate) strings: Strings<'a>,
 }
 
 impl<'a> Model for Records<'a> {
@@ -43,25 +38,5 @@ impl<'a> Iterator for Records<'a> {
             Some(bytes) => Some(StoredRecord::of(bytes)),
             None => None,
         }
-    }
-}
-
-impl RecordLog {
-    /// The records of a terminal's segment, the newest first, where they lie. It takes no memory.
-    pub fn records(&self, terminal: Terminal) -> Records<'_>
-        ensures { result ≡ befores (records_at self.now terminal) }
-    {
-        let strings = self.ring.strings(terminal.get() as usize);
-        Records { strings }
-    }
-
-    /// The records of a commit's segment, the newest first, where they lie. The newest commit has number 0, and each older one the
-    /// next number. It takes no memory.
-    pub fn committed_records(&self, commit: usize) -> Records<'_>
-        requires { commit < length self.now.committed }
-        ensures { result ≡ befores (get_or self.now.committed commit []) }
-    {
-        let strings = self.ring.committed_strings(commit);
-        Records { strings }
     }
 }

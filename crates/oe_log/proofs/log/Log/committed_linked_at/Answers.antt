@@ -1,21 +1,34 @@
--- The record at an address is the log's.
-use Rattle.std.proofs.Common.{◌<◌, [], length, List, get_or, sym, subst, deque_capacity}
-use Rattle.oe_log.proofs.CallFacts.{seen_commits, seen_committed}
-use Rattle.oe_log.specs.Records.{Logged, HasAddress, IsRecordAt}
+-- The string at a record's address is that record.
+use Rattle.std.proofs.Common.{◌<◌, [], length, List, get_or, sym, subst}
+use Rattle.oe_extent.specs.declared.extents.Address.{Address}
+use Rattle.oe_extent.specs.Ring as ring
+use Rattle.oe_log.specs.Records.{Logged, HasAddress, IsAmong, logged}
 use Rattle.oe_log.specs.Log.{SegmentLog, committed_records}
+use Rattle.oe_log.proofs.CallFacts.{inside, seen_committed}
+use Rattle.oe_log.proofs.KeptFacts.{commit_there}
+use Rattle.oe_log.proofs.ReadFacts.{has_string, is_stored, linked_there}
 use Rattle.oe_log.proofs.log.Log.committed_linked_at.Goals as goal
 
-pub committed_linked_at-requires-clause-commit : goal.committed_linked_at-requires-clause-commit
-committed_linked_at-requires-clause-commit c =
-    let seen = subst (λ (v : SegmentLog). c.args.later < length v.committed) (sym c.self.view_is) c.requires.commit in
-    subst (λ n. c.args.later < n) (seen_commits c.self.inside.terminals.items c.self.inside.commits.items (deque_capacity c.self.inside.commits) c.self.inside.log c.self.invariant) seen
+pub committed_at-requires-clause-commit : goal.committed_at-requires-clause-commit
+committed_at-requires-clause-commit c =
+    commit_there c.self.invariant c.args.later (subst (λ (v : SegmentLog). c.args.later < length v.committed) (sym c.self.view_is) c.requires.commit)
 
-pub committed_linked_at-requires-clause-some : goal.committed_linked_at-requires-clause-some
-committed_linked_at-requires-clause-some c =
-    let has = subst (λ (v : SegmentLog). HasAddress (get_or (committed_records v) c.args.later []) c.args.address) (sym c.self.view_is) c.requires.some in
-    subst (λ (rss : List (List Logged)). HasAddress (get_or rss c.args.later []) c.args.address) (seen_committed c.self.inside.terminals.items c.self.inside.commits.items (deque_capacity c.self.inside.commits) c.self.inside.log c.self.invariant) has
+pub committed_at-requires-clause-some : goal.committed_at-requires-clause-some
+committed_at-requires-clause-some c =
+    let seen = subst (λ (v : SegmentLog). HasAddress (get_or (committed_records v) c.args.later []) c.args.address) (sym c.self.view_is) c.requires.some in
+    let has = subst (λ (rss : List (List Logged)). HasAddress (get_or rss c.args.later []) c.args.address) (seen_committed (inside c.self.invariant)) seen in
+    rw c.ring_address-place.ensures (has_string c.args.address c.self.inside.ring.committed c.args.later c.self.invariant.lie.committed_are has)
+
+pub linked_record-requires : goal.linked_record-requires
+linked_record-requires c =
+    let seen = subst (λ (v : SegmentLog). HasAddress (get_or (committed_records v) c.args.later []) c.args.address) (sym c.self.view_is) c.requires.some in
+    let has = subst (λ (rss : List (List Logged)). HasAddress (get_or rss c.args.later []) c.args.address) (seen_committed (inside c.self.invariant)) seen in
+    let stands = subst (λ (a : Address). ring.IsStringAt (get_or c.self.inside.ring.committed c.args.later []) a c.committed_at.result.now) c.ring_address-place.ensures c.committed_at.ensures in
+    is_stored c.args.address c.self.inside.ring.committed c.args.later c.committed_at.result.now c.self.invariant.lie.committed_are has stands
 
 pub returns : goal.returns
-returns c =
-    let told = subst (λ (rss : List (List Logged)). IsRecordAt (get_or rss c.args.later []) c.args.address (c.committed_linked_at.result.0, c.committed_linked_at.result.1)) (sym (seen_committed c.self.inside.terminals.items c.self.inside.commits.items (deque_capacity c.self.inside.commits) c.self.inside.log c.self.invariant)) c.committed_linked_at.ensures in
-    rw (← c.self.view_is) told
+returns c p b k =
+    let seen = subst (λ (v : SegmentLog). IsAmong (logged c.args.address p b) (get_or (committed_records v) c.args.later [])) (sym c.self.view_is) k in
+    let there = subst (λ (rss : List (List Logged)). IsAmong (logged c.args.address p b) (get_or rss c.args.later [])) (seen_committed (inside c.self.invariant)) seen in
+    let stands = subst (λ (a : Address). ring.IsStringAt (get_or c.self.inside.ring.committed c.args.later []) a c.committed_at.result.now) c.ring_address-place.ensures c.committed_at.ensures in
+    linked_there c.args.address p b c.self.inside.ring.committed c.args.later c.committed_at.result.now (c.linked_record.result.0, c.linked_record.result.1) c.self.invariant.lie.committed_are there stands c.linked_record.ensures

@@ -1,17 +1,26 @@
--- The records are the log's.
-use Rattle.std.proofs.Common.{◌<◌, List, [], length, get_or, sym, ap, ◌∙◌, subst, deque_capacity}
+-- The strings of a commit's segment are its records.
+use Rattle.std.proofs.Common.{◌<◌, ℕ, List, [], length, map, get_or, sym, ap, ◌∙◌, subst}
+use Rattle.std.specs.List.{AllByRecursion}
+use Rattle.oe_layout.specs.Stored.{told, IsStoredRecord}
 use Rattle.oe_log.specs.Records.{Logged}
-use Rattle.oe_log.proofs.CallFacts.{seen_commits, seen_committed}
 use Rattle.oe_log.specs.Log.{SegmentLog}
 use Rattle.oe_log.specs.Stands.{model_records}
+use Rattle.oe_log.proofs.CallFacts.{inside, seen_committed}
+use Rattle.oe_log.proofs.KeptFacts.{commit_there}
+use Rattle.oe_log.proofs.WalkFacts.{stored_here, told_here}
 use Rattle.oe_log.proofs.log.Log.committed_records.Goals as goal
 
-pub committed_records-requires : goal.committed_records-requires
-committed_records-requires c =
-    let seen = subst (λ (v : SegmentLog). c.args.later < length v.committed) (sym c.self.view_is) c.requires in
-    subst (λ n. c.args.later < n) (seen_commits c.self.inside.terminals.items c.self.inside.commits.items (deque_capacity c.self.inside.commits) c.self.inside.log c.self.invariant) seen
+pub committed_strings-strings-requires : goal.committed_strings-strings-requires
+committed_strings-strings-requires c =
+    commit_there c.self.invariant c.args.later (subst (λ (v : SegmentLog). c.args.later < length v.committed) (sym c.self.view_is) c.requires)
+
+pub invariant_of-result : goal.invariant_of-result
+invariant_of-result c =
+    subst (λ (l : List (List ℕ)). AllByRecursion IsStoredRecord l) (sym c.committed_strings-strings.ensures)
+    (stored_here c.self.inside.ring.committed c.args.later c.self.invariant.lie.committed_are)
 
 pub returns : goal.returns
 returns c =
     rw (← c.self.view_is)
-    (c.committed_records.ensures ∙ ap (λ (rss : List (List Logged)). model_records (get_or rss c.args.later [])) (sym (seen_committed c.self.inside.terminals.items c.self.inside.commits.items (deque_capacity c.self.inside.commits) c.self.inside.log c.self.invariant)))
+    (ap (λ (l : List (List ℕ)). map told l) c.committed_strings-strings.ensures ∙ told_here c.self.inside.ring.committed c.args.later c.self.invariant.lie.committed_are
+    ∙ ap (λ (rss : List (List Logged)). model_records (get_or rss c.args.later [])) (sym (seen_committed (inside c.self.invariant))))

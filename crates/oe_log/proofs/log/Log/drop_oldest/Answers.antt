@@ -3,7 +3,8 @@ use Rattle.std.proofs.Common.{◌≡◌, ◌-◌, Some, length, take, refl, ap, 
 use Rattle.std.specs.Prelude.{option_map}
 use Rattle.oe_log.proofs.HeadFacts.{last_found}
 use Rattle.oe_log.proofs.ZipFacts.{head_owner}
-use Rattle.oe_log.proofs.CallFacts.{oldest_found, cut}
+use Rattle.oe_log.proofs.CallFacts.{inside, oldest_found}
+use Rattle.oe_log.proofs.KeptFacts.{cut}
 use Rattle.oe_log.proofs.log.Log.drop_oldest.Goals.{in-Some, in-None}
 use Rattle.oe_log.proofs.log.Log.drop_oldest.Goals as goal
 
@@ -15,15 +16,15 @@ returns-clause-oldest c =
       | in-Some w ↦ w.result-is ∙ ap Some w.owner.ensures ∙ ap (option_map head_owner) (sym w.in-Some.is)
       | in-None w ↦ w.result-is ∙ ap (option_map head_owner) (sym w.in-None.is)
     ] in
-    rw (← c.self.view_is) (told ∙ oldest_found c.self.inside.terminals.items c.self.inside.commits.items (deque_capacity c.self.inside.commits) c.self.inside.log c.self.invariant c.pop_back.result found)
+    rw (← c.self.view_is) (told ∙ oldest_found (inside c.self.invariant) c.pop_back.result found)
 
 pub invariant_of-self : goal.invariant_of-self
 invariant_of-self c =
-    (cut c.self.inside.terminals.items c.self.inside.commits.items (deque_capacity c.self.inside.commits) c.self.inside.log c.self.invariant (length c.self.inside.commits.items) (deque_capacity c.pop_back.new.self) c.pop_back.new.self.items c.drop_oldest.new.self
-    refl (c.pop_back.ensures.rest ∙ ap (λ n. take (n - 1) c.self.inside.commits.items) c.self.inside.commits.ok.0) c.pop_back.ensures.capacity c.drop_oldest.ensures).kept
+    (cut c.self.invariant (length c.self.inside.commits.items) c.drop_oldest.new.self.room (deque_capacity c.pop_back.new.self) c.pop_back.new.self.items c.drop_oldest.new.self
+    refl (c.pop_back.ensures.rest ∙ ap (λ n. take (n - 1) c.self.inside.commits.items) c.self.inside.commits.ok.0) c.pop_back.ensures.capacity c.drop_oldest.ensures.left c.drop_oldest.ensures.room).kept
 
 pub returns-clause-dropped : goal.returns-clause-dropped
 returns-clause-dropped c =
     rw (← c.self.view_is)
-    ((cut c.self.inside.terminals.items c.self.inside.commits.items (deque_capacity c.self.inside.commits) c.self.inside.log c.self.invariant (length c.self.inside.commits.items) (deque_capacity c.pop_back.new.self) c.pop_back.new.self.items c.drop_oldest.new.self
-    refl (c.pop_back.ensures.rest ∙ ap (λ n. take (n - 1) c.self.inside.commits.items) c.self.inside.commits.ok.0) c.pop_back.ensures.capacity c.drop_oldest.ensures).view)
+    ((cut c.self.invariant (length c.self.inside.commits.items) c.drop_oldest.new.self.room (deque_capacity c.pop_back.new.self) c.pop_back.new.self.items c.drop_oldest.new.self
+    refl (c.pop_back.ensures.rest ∙ ap (λ n. take (n - 1) c.self.inside.commits.items) c.self.inside.commits.ok.0) c.pop_back.ensures.capacity c.drop_oldest.ensures.left c.drop_oldest.ensures.room).view)

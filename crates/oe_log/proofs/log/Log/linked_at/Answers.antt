@@ -1,16 +1,33 @@
--- The record at an address is the log's.
-use Rattle.std.proofs.Common.{List, sym, subst, deque_capacity}
-use Rattle.oe_log.proofs.CallFacts.{records_are}
-use Rattle.oe_log.specs.Records.{Logged, HasAddress, IsRecordAt}
+-- The string at a record's address is that record.
+use Rattle.std.proofs.Common.{List, [], map, get_or, sym, ap, ◌∙◌, subst}
+use Rattle.oe_extent.specs.declared.extents.Address.{Address}
+use Rattle.oe_extent.specs.Ring as ring
+use Rattle.oe_log.specs.Records.{Logged, HasAddress, IsAmong, logged}
+use Rattle.oe_log.specs.Strings.{records_in}
 use Rattle.oe_log.specs.Log.{SegmentLog, records_at}
+use Rattle.oe_log.proofs.CallFacts.{inside, records_are}
+use Rattle.oe_log.proofs.ReadFacts.{has_string, is_stored, linked_there}
 use Rattle.oe_log.proofs.log.Log.linked_at.Goals as goal
 
-pub linked_at-requires : goal.linked_at-requires
-linked_at-requires c =
-    let has = subst (λ (v : SegmentLog). HasAddress (records_at v c.args.terminal) c.args.address) (sym c.self.view_is) c.requires in
-    subst (λ (rs : List Logged). HasAddress rs c.args.address) (records_are c.self.inside.terminals.items c.self.inside.commits.items (deque_capacity c.self.inside.commits) c.self.inside.log c.self.invariant c.args.terminal) has
+pub at-requires-clause-some : goal.at-requires-clause-some
+at-requires-clause-some c =
+    let seen = subst (λ (v : SegmentLog). HasAddress (records_at v c.args.terminal) c.args.address) (sym c.self.view_is) c.requires in
+    let is = records_are (inside c.self.invariant) c.args.terminal ∙ ap (λ t. get_or (map records_in c.self.inside.ring.active) t []) (sym c.get-slot.ensures.value) in
+    let has = subst (λ (rs : List Logged). HasAddress rs c.args.address) is seen in
+    rw c.ring_address-place.ensures (has_string c.args.address c.self.inside.ring.active c.get-slot.result c.self.invariant.lie.active_are has)
+
+pub linked_record-requires : goal.linked_record-requires
+linked_record-requires c =
+    let seen = subst (λ (v : SegmentLog). HasAddress (records_at v c.args.terminal) c.args.address) (sym c.self.view_is) c.requires in
+    let is = records_are (inside c.self.invariant) c.args.terminal ∙ ap (λ t. get_or (map records_in c.self.inside.ring.active) t []) (sym c.get-slot.ensures.value) in
+    let has = subst (λ (rs : List Logged). HasAddress rs c.args.address) is seen in
+    let stands = subst (λ (a : Address). ring.IsStringAt (get_or c.self.inside.ring.active c.get-slot.result []) a c.at.result.now) c.ring_address-place.ensures c.at.ensures in
+    is_stored c.args.address c.self.inside.ring.active c.get-slot.result c.at.result.now c.self.invariant.lie.active_are has stands
 
 pub returns : goal.returns
-returns c =
-    let told = subst (λ (rs : List Logged). IsRecordAt rs c.args.address (c.linked_at.result.0, c.linked_at.result.1)) (sym (records_are c.self.inside.terminals.items c.self.inside.commits.items (deque_capacity c.self.inside.commits) c.self.inside.log c.self.invariant c.args.terminal)) c.linked_at.ensures in
-    rw (← c.self.view_is) told
+returns c p b k =
+    let seen = subst (λ (v : SegmentLog). IsAmong (logged c.args.address p b) (records_at v c.args.terminal)) (sym c.self.view_is) k in
+    let is = records_are (inside c.self.invariant) c.args.terminal ∙ ap (λ t. get_or (map records_in c.self.inside.ring.active) t []) (sym c.get-slot.ensures.value) in
+    let there = subst (λ (rs : List Logged). IsAmong (logged c.args.address p b) rs) is seen in
+    let stands = subst (λ (a : Address). ring.IsStringAt (get_or c.self.inside.ring.active c.get-slot.result []) a c.at.result.now) c.ring_address-place.ensures c.at.ensures in
+    linked_there c.args.address p b c.self.inside.ring.active c.get-slot.result c.at.result.now (c.linked_record.result.0, c.linked_record.result.1) c.self.invariant.lie.active_are there stands c.linked_record.ensures

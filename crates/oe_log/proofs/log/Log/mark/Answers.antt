@@ -1,9 +1,9 @@
--- The log counts the records.
-use Rattle.std.proofs.Common.{length, sym, ap, ◌∙◌, deque_capacity}
-use Rattle.oe_log.proofs.CallFacts.{records_are}
+-- The head says how many records there are.
+use Rattle.std.proofs.Common.{◌∙◌, arith}
+use Rattle.oe_log.proofs.KeptFacts.{len_is}
 use Rattle.oe_log.proofs.log.Log.mark.Goals as goal
 
 pub returns : goal.returns
 returns c =
-    rw (← c.self.view_is, ← c.terminal.ensures)
-    (c.len.ensures ∙ ap length (sym (records_are c.self.inside.terminals.items c.self.inside.commits.items (deque_capacity c.self.inside.commits) c.self.inside.log c.self.invariant c.terminal.result)))
+    rw (← c.self.view_is)
+    (len_is c.self.invariant c.get.result c.args.segment c.index.result.now (c.get.ensures.value ∙ c.terminal.ensures) (omega (arith, c.get.ensures.high)) c.index.ensures)

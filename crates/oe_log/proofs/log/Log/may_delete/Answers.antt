@@ -1,5 +1,5 @@
 -- What its head says of a commit.
-use Rattle.std.proofs.Common.{refl, sym, ◌∙◌, deque_capacity}
+use Rattle.std.proofs.Common.{refl, sym, ◌∙◌}
 use Rattle.std.proofs.lemmas.Option.{slice_get_read}
 use Rattle.oe_log.proofs.HeadFacts.{none_past}
 use Rattle.oe_log.proofs.CallFacts as calls
@@ -9,11 +9,11 @@ pub returns-in-Some : goal.returns-in-Some
 returns-in-Some c none =
     let found = slice_get_read c.self.inside.commits.items _ c.args.later c.in-Some.head.now c.self.inside.commits.ok.0 (c.in-Some.ensures.variant.0 refl) c.in-Some.ensures.lookup in
     rw (← c.self.view_is)
-    (calls.told_deletes c.self.inside.terminals.items c.self.inside.commits.items (deque_capacity c.self.inside.commits) c.self.inside.log c.self.invariant
+    (calls.told_deletes (calls.inside c.self.invariant)
     c.args.later c.in-Some.head.now found (sym c.may_delete.ensures ∙ none))
 
 pub returns-in-None : goal.returns-in-None
 returns-in-None c none =
     let found = none_past c.self.inside.commits.items _ c.args.later c.self.inside.commits.ok.0 c.in-None.ensures.variant.1 in
     rw (← c.self.view_is)
-    (calls.none_past c.self.inside.terminals.items c.self.inside.commits.items (deque_capacity c.self.inside.commits) c.self.inside.log c.self.invariant c.args.later found)
+    (calls.none_past (calls.inside c.self.invariant) c.args.later found)

@@ -1,14 +1,16 @@
 -- No segment, and all terminals idle.
-use Rattle.std.proofs.Common.{deque_capacity}
-use Rattle.oe_log.proofs.CallFacts.{new_is}
+use Rattle.std.proofs.Common.{arith, deque_capacity}
+use Rattle.oe_log.proofs.KeptFacts.{new_is}
 use Rattle.oe_log.proofs.log.Log.new.Goals as goal
 
 pub invariant_of-result : goal.invariant_of-result
 invariant_of-result c =
-    (new_is c.args.extents (deque_capacity c.new-2.result) c.in_ok-terminals.terminals.items c.new-2.result.items c.in_ok-log.log
-    c.in_ok-terminals.ensures c.new-2.ensures.items c.in_ok-log.ensures).kept
+    let now = new_is c.get-count.result c.in-Ok.ring.room (deque_capacity c.new-3.result) c.in_ok-terminals.terminals.items c.new-3.result.items c.in-Ok.ring
+    (omega (arith, c.get-count.ensures.high)) c.in_ok-terminals.ensures c.new-3.ensures.items c.in-Ok.ensures in
+    rw c.in-Some.ensures.value now.kept
 
 pub returns : goal.returns
 returns c =
-    (new_is c.args.extents (deque_capacity c.new-2.result) c.in_ok-terminals.terminals.items c.new-2.result.items c.in_ok-log.log
-    c.in_ok-terminals.ensures c.new-2.ensures.items c.in_ok-log.ensures).view
+    let now = new_is c.get-count.result c.in-Ok.ring.room (deque_capacity c.new-3.result) c.in_ok-terminals.terminals.items c.new-3.result.items c.in-Ok.ring
+    (omega (arith, c.get-count.ensures.high)) c.in_ok-terminals.ensures c.new-3.ensures.items c.in-Ok.ensures in
+    rw (← c.get-count.ensures.value) now.view

@@ -1,10 +1,31 @@
--- The newest record is the log's.
-use Rattle.std.proofs.Common.{sym, ap, ◌∙◌, deque_capacity}
-use Rattle.oe_log.proofs.CallFacts.{records_are}
+-- The newest string is the newest record's.
+use Rattle.std.proofs.Common.{◌<◌, [], length, get_or, sym, ap, ◌∙◌, arith}
+use Rattle.oe_log.specs.Log as seen
+use Rattle.oe_log.specs.Kept.{stored}
 use Rattle.oe_log.specs.Records.{newest_of}
+use Rattle.oe_log.proofs.RecordFacts.{newest_is, at_slot, are_at}
+use Rattle.oe_log.proofs.CallFacts.{inside, records_are}
+use Rattle.oe_log.proofs.KeptFacts.{len_lies, none_newest}
 use Rattle.oe_log.proofs.log.Log.newest_record.Goals as goal
+
+pub newest-requires-clause-some : goal.newest-requires-clause-some
+newest-requires-clause-some c =
+    let len = len_lies c.self.invariant c.get-slot.result c.index.result.now (omega (arith, c.get-slot.ensures.high)) c.index.ensures in
+    omega (arith, len, c.if-index-eq0.false)
+
+pub returns-then-index-eq0 : goal.returns-then-index-eq0
+returns-then-index-eq0 c =
+    rw (← c.self.view_is)
+    (none_newest c.self.invariant c.get-slot.result c.args.segment c.index.result.now (c.get-slot.ensures.value ∙ c.terminal.ensures) (omega (arith, c.get-slot.ensures.high)) c.index.ensures
+    c.if-index-eq0.true)
 
 pub returns : goal.returns
 returns c =
-    rw (← c.self.view_is, ← c.terminal.ensures)
-    (c.newest_record.ensures ∙ ap newest_of (sym (records_are c.self.inside.terminals.items c.self.inside.commits.items (deque_capacity c.self.inside.commits) c.self.inside.log c.self.invariant c.terminal.result)))
+    let len = len_lies c.self.invariant c.get-slot.result c.index.result.now (omega (arith, c.get-slot.ensures.high)) c.index.ensures in
+    let are = are_at c.self.inside.ring.active c.get-slot.result c.self.invariant.lie.active_are in
+    let some : 0 < length (get_or c.self.inside.ring.active c.get-slot.result []) = omega (arith, len, c.if-index-eq0.false) in
+    rw (← c.self.view_is)
+    (newest_is (get_or c.self.inside.ring.active c.get-slot.result []) c.newest.result.now c.read_record.result are some c.newest.ensures c.read_record.ensures
+    ∙ ap newest_of (sym (at_slot c.self.inside.ring.active c.get-slot.result))
+    ∙ ap newest_of (sym (records_are (inside c.self.invariant) c.get-slot.result))
+    ∙ ap (λ t. newest_of (seen.records_at (stored c.self.inside.terminals.items c.self.inside.commits.items c.self.inside.ring) t)) (c.get-slot.ensures.value ∙ c.terminal.ensures))

@@ -1,51 +1,60 @@
--- A segment is open.
+-- A segment is open, or memory was refused.
 use Rattle.std.proofs.Common.{◌≡◌, ◌+◌, ◌≤◌, length, refl, ap, arith, rules, deque_capacity}
-use Rattle.oe_log.specs.RingLog as log
-use Rattle.oe_log.proofs.CallFacts.{opened, few_opens, below_count}
+use Rattle.oe_log.proofs.CallFacts.{inside, few_opens, below_count}
+use Rattle.oe_log.proofs.KeptFacts.{opened, same}
 use Rattle.oe_log.proofs.log.Log.open_segment.Goals as goal
 
-pub open_segment-requires : goal.open_segment-requires
-open_segment-requires c =
+pub overflow_add-needed : goal.overflow_add-needed
+overflow_add-needed c =
     let closed = rw (← c.self.view_is) at c.requires.closed in
-    few_opens c.self.inside.terminals.items c.self.inside.commits.items (deque_capacity c.self.inside.commits) c.self.inside.log c.self.invariant c.get-slot.result c.args.terminal c.get-slot.ensures.value c.get-slot.ensures.low (omega (arith, c.get-slot.ensures.high)) closed
+    omega (arith, few_opens (inside c.self.invariant) c.get-slot.result c.args.terminal c.get-slot.ensures.value c.get-slot.ensures.low (omega (arith, c.get-slot.ensures.high)) closed)
 
 pub overflow_add-state : goal.overflow_add-state
 overflow_add-state c =
     let counted = rw (← c.self.view_is) at c.requires.counted in
-    let below = below_count c.self.inside.terminals.items c.self.inside.commits.items (deque_capacity c.self.inside.commits) c.self.inside.log c.self.invariant c.get-slot.result c.args.terminal 4_294_967_295 c.index_mut-state.result.now
+    let below = below_count (inside c.self.invariant) c.get-slot.result c.args.terminal 4_294_967_295 c.index_mut-state.result.now
     c.get-slot.ensures.value (omega (arith, c.get-slot.ensures.high)) c.index_mut-state.ensures.value counted in
     search rules
 
 pub unwrap-number-requires : goal.unwrap-number-requires
 unwrap-number-requires c =
     let counted = rw (← c.self.view_is) at c.requires.counted in
-    let below = below_count c.self.inside.terminals.items c.self.inside.commits.items (deque_capacity c.self.inside.commits) c.self.inside.log c.self.invariant c.get-slot.result c.args.terminal 4_294_967_295 c.index_mut-state.result.now
+    let below = below_count (inside c.self.invariant) c.get-slot.result c.args.terminal 4_294_967_295 c.index_mut-state.result.now
     c.get-slot.ensures.value (omega (arith, c.get-slot.ensures.high)) c.index_mut-state.ensures.value counted in
     search rules
+
+pub invariant_of-self : goal.invariant_of-self
+invariant_of-self c =
+    (same c.self.invariant (deque_capacity c.self.inside.commits) c.reserve.new.self.room c.self.inside.commits.items c.reserve.new.self refl c.self.invariant.heads.spare
+    c.reserve.ensures.same (omega (arith, c.self.invariant.lie.room, c.reserve.ensures.more))).kept
+
+pub invariant_of-self-then-is_err-2 : goal.invariant_of-self-then-is_err-2
+invariant_of-self-then-is_err-2 c =
+    (same c.self.invariant (deque_capacity c.reserve-2.new.self) c.reserve.new.self.room c.reserve-2.new.self.items c.reserve.new.self c.reserve-2.ensures.items
+    (omega (arith, ap length c.reserve-2.ensures.items, c.self.invariant.heads.spare, c.reserve-2.ensures.capacity))
+    c.reserve.ensures.same (omega (arith, c.self.invariant.lie.room, c.reserve.ensures.more))).kept
 
 pub invariant_of-self-2 : goal.invariant_of-self-2
 invariant_of-self-2 c =
     let closed = rw (← c.self.view_is) at c.requires.closed in
     let counted = rw (← c.self.view_is) at c.requires.counted in
     let number : c.unwrap-number.result ≡ c.index_mut-state.result.now.count + 1 = search rules in
-    let needed : c.open_count-needed.result + 1 ≡ c.self.inside.log.opens + 1 = ap (λ n. n + 1) c.open_count-needed.ensures in
-    let room : length c.reserve.new.self.items + (c.open_count-needed.result + 1) ≤ deque_capacity c.reserve.new.self = search rules in
-    let opened_log : c.open_segment.new.self ≡ log.opened c.self.inside.log = search rules in
-    (opened c.self.inside.terminals.items c.self.inside.commits.items (deque_capacity c.self.inside.commits) c.self.inside.log c.self.invariant c.get-slot.result c.args.terminal (deque_capacity c.reserve.new.self) (c.open_count-needed.result + 1) c.index_mut-state.result.now
-    (record { terminal = c.args.terminal; number = c.unwrap-number.result }) _ c.reserve.new.self.items c.open_segment.new.self
+    let spare : length c.reserve-2.new.self.items + (c.self.inside.open_count + 1) ≤ deque_capacity c.reserve-2.new.self = search rules in
+    let room : c.self.inside.open_count + 1 ≤ c.reserve.new.self.room = search rules in
+    (opened c.self.invariant c.get-slot.result c.args.terminal (deque_capacity c.reserve-2.new.self) (c.self.inside.open_count + 1) c.reserve.new.self.room c.index_mut-state.result.now
+    (record { terminal = c.args.terminal; number = c.unwrap-number.result }) _ c.reserve-2.new.self.items c.reserve.new.self
     c.get-slot.ensures.value c.get-slot.ensures.low (omega (arith, c.get-slot.ensures.high)) c.index_mut-state.ensures.value closed counted
-    refl number refl c.reserve.ensures.items needed room opened_log).kept
+    refl number refl c.reserve-2.ensures.items refl spare c.reserve.ensures.same room).kept
 
 pub returns-clause-opened : goal.returns-clause-opened
 returns-clause-opened c =
     let closed = rw (← c.self.view_is) at c.requires.closed in
     let counted = rw (← c.self.view_is) at c.requires.counted in
     let number : c.unwrap-number.result ≡ c.index_mut-state.result.now.count + 1 = search rules in
-    let needed : c.open_count-needed.result + 1 ≡ c.self.inside.log.opens + 1 = ap (λ n. n + 1) c.open_count-needed.ensures in
-    let room : length c.reserve.new.self.items + (c.open_count-needed.result + 1) ≤ deque_capacity c.reserve.new.self = search rules in
-    let opened_log : c.open_segment.new.self ≡ log.opened c.self.inside.log = search rules in
+    let spare : length c.reserve-2.new.self.items + (c.self.inside.open_count + 1) ≤ deque_capacity c.reserve-2.new.self = search rules in
+    let room : c.self.inside.open_count + 1 ≤ c.reserve.new.self.room = search rules in
     rw (← c.self.view_is)
-    ((opened c.self.inside.terminals.items c.self.inside.commits.items (deque_capacity c.self.inside.commits) c.self.inside.log c.self.invariant c.get-slot.result c.args.terminal (deque_capacity c.reserve.new.self) (c.open_count-needed.result + 1) c.index_mut-state.result.now
-    (record { terminal = c.args.terminal; number = c.unwrap-number.result }) _ c.reserve.new.self.items c.open_segment.new.self
+    ((opened c.self.invariant c.get-slot.result c.args.terminal (deque_capacity c.reserve-2.new.self) (c.self.inside.open_count + 1) c.reserve.new.self.room c.index_mut-state.result.now
+    (record { terminal = c.args.terminal; number = c.unwrap-number.result }) _ c.reserve-2.new.self.items c.reserve.new.self
     c.get-slot.ensures.value c.get-slot.ensures.low (omega (arith, c.get-slot.ensures.high)) c.index_mut-state.ensures.value closed counted
-    refl number refl c.reserve.ensures.items needed room opened_log).view)
+    refl number refl c.reserve-2.ensures.items refl spare c.reserve.ensures.same room).view)

@@ -1,48 +1,54 @@
 -- A record more, or no room for it.
-use Rattle.std.proofs.Common.{arith, deque_capacity}
-use Rattle.oe_log.proofs.CallFacts.{kept_pushed, seen_pushed, seen_refused}
-use Rattle.oe_log.proofs.FullFacts.{full_here, full_there, fresh_if}
+use Rattle.std.proofs.Common.{◌≡◌, length, refl, sym, ◌∙◌, subst, arith}
+use Rattle.oe_extent.specs.Ring as ring
 use Rattle.oe_model.specs.Lengths.{record_length}
-use Rattle.oe_layout.specs.Records.{record_of_lent}
+use Rattle.oe_layout.specs.Records.{record_image, record_of_lent}
+use Rattle.oe_log.proofs.FullFacts.{full_here, full_there, fresh}
+use Rattle.oe_log.proofs.KeptFacts.{pushed, few}
 use Rattle.oe_log.proofs.log.Log.push.Goals as goal
 
-pub invariant_of-self : goal.invariant_of-self
-invariant_of-self c =
-    let some = rw (← c.self.view_is, ← c.terminal-terminal.ensures) at c.requires in
-    kept_pushed c.self.inside.terminals.items c.self.inside.commits.items (deque_capacity c.self.inside.commits) c.self.inside.log c.self.invariant
-    c.push.result c.get.result c.terminal-terminal.result c.index_mut-state.result.now c.may_delete-state.result c.args.lent.now.previous
-    (record_of_lent c.args.lent.now.record) c.push.new.self c.get.ensures.value c.get.ensures.low (omega (arith, c.get.ensures.high)) c.index_mut-state.ensures.value some
-    c.may_delete-state.ensures.before c.may_delete-state.ensures.record c.push.ensures.pushed c.push.ensures.same
+pub returns-in_default-clause-full : goal.returns-in_default-clause-full
+returns-in_default-clause-full c =
+    let bytes = record_image c.args.lent.now.previous (record_of_lent c.args.lent.now.record) in
+    let same : length bytes ≡ record_length (record_of_lent c.args.lent.now.record) = sym c.length-length.ensures.image ∙ c.length-length.ensures.sum in
+    let full = subst (ring.IsFull c.self.inside.ring c.get-slot.result) same (c.in_default.ensures.full.0 refl) in
+    rw (← c.self.view_is, ← (c.get-slot.ensures.value ∙ c.terminal.ensures)) (
+      λ e. full_here c.self.invariant c.get-slot.result (record_length (record_of_lent c.args.lent.now.record)) full,
+      λ f. refl,
+    )
+
+pub overflow_add-state : goal.overflow_add-state
+overflow_add-state c =
+    let most = few c.self.invariant c.get-slot.result c.index_mut-state.result.now c.in-Ok.address c.args.lent.now.previous c.args.lent.now.record c.push-pushed.new.self
+    (omega (arith, c.get-slot.ensures.high)) c.index_mut-state.ensures.value c.ranges-2.ensures.link c.ranges-2.ensures.record c.in-Ok.ensures.pushed
+    (omega (arith, c.extents-extents.ensures.used, c.extents-extents.ensures.value)) in
+    omega (arith, most)
+
+pub invariant_of-self-2 : goal.invariant_of-self-2
+invariant_of-self-2 c =
+    let some = rw (← c.self.view_is) at c.requires in
+    (pushed c.self.invariant c.get-slot.result c.args.segment c.index_mut-state.result.now c.may_delete-state.result c.in-Ok.address c.args.lent.now.previous c.args.lent.now.record
+    c.push-pushed.new.self (c.get-slot.ensures.value ∙ c.terminal.ensures) c.get-slot.ensures.low (omega (arith, c.get-slot.ensures.high)) c.index_mut-state.ensures.value some
+    c.may_delete-state.ensures.before c.may_delete-state.ensures.record c.ranges-2.ensures.link c.ranges-2.ensures.record c.in-Ok.ensures.pushed).kept
 
 pub returns-clause-pushed : goal.returns-clause-pushed
 returns-clause-pushed c =
-    let some = rw (← c.self.view_is, ← c.terminal-terminal.ensures) at c.requires in
-    rw (← c.self.view_is, ← c.terminal-terminal.ensures)
-    (seen_pushed c.self.inside.terminals.items c.self.inside.commits.items (deque_capacity c.self.inside.commits) c.self.inside.log c.self.invariant
-    c.push.result c.get.result c.terminal-terminal.result c.index_mut-state.result.now c.may_delete-state.result c.args.lent.now.previous
-    (record_of_lent c.args.lent.now.record) c.push.new.self c.get.ensures.value c.get.ensures.low (omega (arith, c.get.ensures.high)) c.index_mut-state.ensures.value some
-    c.may_delete-state.ensures.before c.may_delete-state.ensures.record c.push.ensures.pushed)
-
-pub returns-clause-same : goal.returns-clause-same
-returns-clause-same c =
-    let some = rw (← c.self.view_is, ← c.terminal-terminal.ensures) at c.requires in
-    rw (← c.self.view_is)
-    (seen_refused c.self.inside.terminals.items c.self.inside.commits.items (deque_capacity c.self.inside.commits) c.self.inside.log c.self.invariant
-    c.push.result c.get.result c.terminal-terminal.result c.index_mut-state.result.now c.may_delete-state.result
-    c.push.new.self c.get.ensures.value c.get.ensures.low (omega (arith, c.get.ensures.high)) c.index_mut-state.ensures.value some
-    c.may_delete-state.ensures.before c.push.ensures.same)
+    let some = rw (← c.self.view_is) at c.requires in
+    rw (← c.self.view_is, c.record_address.ensures)
+    ((pushed c.self.invariant c.get-slot.result c.args.segment c.index_mut-state.result.now c.may_delete-state.result c.in-Ok.address c.args.lent.now.previous c.args.lent.now.record
+    c.push-pushed.new.self (c.get-slot.ensures.value ∙ c.terminal.ensures) c.get-slot.ensures.low (omega (arith, c.get-slot.ensures.high)) c.index_mut-state.ensures.value some
+    c.may_delete-state.ensures.before c.may_delete-state.ensures.record c.ranges-2.ensures.link c.ranges-2.ensures.record c.in-Ok.ensures.pushed).view)
 
 pub returns-clause-full : goal.returns-clause-full
 returns-clause-full c =
-    rw (← c.self.view_is, ← c.terminal-terminal.ensures) (
-      λ e. full_here c.self.inside.terminals.items c.self.inside.commits.items (deque_capacity c.self.inside.commits) c.self.inside.log c.self.invariant
-          c.terminal-terminal.result (record_length (record_of_lent c.args.lent.now.record)) (c.push.ensures.full.0 e),
-      λ f. c.push.ensures.full.1
-          (full_there c.self.inside.terminals.items c.self.inside.commits.items (deque_capacity c.self.inside.commits) c.self.inside.log c.self.invariant
-          c.terminal-terminal.result (record_length (record_of_lent c.args.lent.now.record)) f),
+    let bytes = record_image c.args.lent.now.previous (record_of_lent c.args.lent.now.record) in
+    let same : length bytes ≡ record_length (record_of_lent c.args.lent.now.record) = sym c.length-length.ensures.image ∙ c.length-length.ensures.sum in
+    rw (← c.self.view_is, ← (c.get-slot.ensures.value ∙ c.terminal.ensures)) (
+      λ e. absurd cc,
+      λ f. c.in-Ok.ensures.full.1
+          (subst (ring.IsFull c.self.inside.ring c.get-slot.result) (sym same)
+          (full_there c.self.invariant c.get-slot.result (record_length (record_of_lent c.args.lent.now.record)) f)),
     )
 
 pub returns-clause-fresh : goal.returns-clause-fresh
-returns-clause-fresh c =
-    rw (← c.self.view_is)
-    (fresh_if c.self.inside.terminals.items c.self.inside.commits.items (deque_capacity c.self.inside.commits) c.self.inside.log c.self.invariant c.push.result c.push.ensures.fresh)
+returns-clause-fresh c = rw (← c.self.view_is, c.record_address.ensures) (fresh c.self.invariant c.in-Ok.address c.in-Ok.ensures.fresh)

@@ -1,37 +1,46 @@
 -- The newest commit is open again.
-use Rattle.std.proofs.Common.{refl, sym, ap, ◌∙◌, arith, deque_capacity}
+use Rattle.std.proofs.Common.{◌≡◌, ◌-◌, ◌+◌, refl, sym, ap, ◌∙◌, arith, rules, deque_capacity}
 use Rattle.oe_log.specs.Log as seen
 use Rattle.oe_log.specs.Log.{SegmentLog}
-use Rattle.oe_log.proofs.CallFacts.{reopened, few_opens, nothing_there, none_open}
+use Rattle.oe_log.proofs.CallFacts.{inside, few_opens, none_open}
+use Rattle.oe_log.proofs.KeptFacts.{reopened, strings_none, some_strings, some_moment}
 use Rattle.oe_log.proofs.log.Log.reopen_newest.Goals as goal
-
-pub reopen_newest-requires-clause-few : goal.reopen_newest-requires-clause-few
-reopen_newest-requires-clause-few c =
-    let none = rw (← c.self.view_is) at c.requires in
-    few_opens c.self.inside.terminals.items c.self.inside.commits.items (deque_capacity c.self.inside.commits) c.self.inside.log c.self.invariant c.get.result c.get.result refl c.get.ensures.low (omega (arith, c.get.ensures.high)) (none c.get.result)
 
 pub reopen_newest-requires-clause-empty : goal.reopen_newest-requires-clause-empty
 reopen_newest-requires-clause-empty c =
     let none = rw (← c.self.view_is) at c.requires in
-    nothing_there c.self.inside.terminals.items c.self.inside.commits.items (deque_capacity c.self.inside.commits) c.self.inside.log c.self.invariant c.get.result c.owner-owner.result.terminal c.get.ensures.value (none c.get.result)
+    strings_none c.self.invariant c.get-slot.result (none c.get-slot.result)
+
+pub reopen_newest-requires-clause-some : goal.reopen_newest-requires-clause-some
+reopen_newest-requires-clause-some c = some_strings c.self.invariant c.in-Some.head c.pop_front.new.self.items c.in-Some.ensures.items
+
+pub overflow_add-self : goal.overflow_add-self
+overflow_add-self c =
+    let none = rw (← c.self.view_is) at c.requires in
+    omega (arith, few_opens (inside c.self.invariant) c.get-slot.result c.get-slot.result refl c.get-slot.ensures.low (omega (arith, c.get-slot.ensures.high)) (none c.get-slot.result))
+
+pub overflow_sub-get : goal.overflow_sub-get
+overflow_sub-get c = omega (arith, some_moment c.self.invariant c.in-Some.head c.pop_front.new.self.items c.in-Some.ensures.items)
 
 pub invariant_of-self-2 : goal.invariant_of-self-2
 invariant_of-self-2 c =
     let none = rw (← c.self.view_is) at c.requires in
-    let closed = none_open c.self.inside.terminals.items c.self.inside.commits.items (deque_capacity c.self.inside.commits) c.self.inside.log c.self.invariant c.get.result (none c.get.result) in
-    (reopened c.self.inside.terminals.items _ c.self.inside.commits.items c.pop_front.new.self.items c.in-Some.head (deque_capacity c.self.inside.commits) (deque_capacity c.pop_front.new.self)
-    c.self.inside.log.extents c.self.inside.log.opens c.self.inside.log.newest c.self.inside.log.active c.self.inside.log.committed
-    c.get.result c.owner-owner.result.terminal c.index_mut-state.result.now c.may_delete-state.result c.owner-owner.result c.reopen_newest.new.self c.self.invariant
-    c.in-Some.ensures.items c.pop_front.ensures.capacity c.get.ensures.value c.get.ensures.low (omega (arith, c.get.ensures.high))
-    (ap (λ z. z.terminal) (sym c.owner-owner.ensures)) c.index_mut-state.ensures.value closed c.owner-owner.ensures c.may_delete-state.ensures refl c.reopen_newest.ensures).kept
+    let closed = none_open (inside c.self.invariant) c.get-slot.result (none c.get-slot.result) in
+    let moment : c.unwrap-self-inside.result ≡ c.self.inside.newest - 1 = search rules in
+    (reopened c.self.invariant _ c.pop_front.new.self.items c.in-Some.head (deque_capacity c.pop_front.new.self) c.reopen_newest.new.self.room c.unwrap-self-inside.result (c.self.inside.open_count + 1)
+    c.get-slot.result c.owner-owner.result.terminal c.len-state.result c.index_mut-state.result.now c.may_delete-state.result c.owner-owner.result c.reopen_newest.new.self
+    c.in-Some.ensures.items c.pop_front.ensures.capacity c.get-slot.ensures.value c.get-slot.ensures.low (omega (arith, c.get-slot.ensures.high))
+    (ap (λ z. z.terminal) (sym c.owner-owner.ensures)) c.index_mut-state.ensures.value closed c.owner-owner.ensures c.may_delete-state.ensures c.len-state.ensures refl
+    c.reopen_newest.ensures.reopened c.reopen_newest.ensures.room moment refl).kept
 
 pub returns-clause-reopened : goal.returns-clause-reopened
 returns-clause-reopened c =
     let none = rw (← c.self.view_is) at c.requires in
-    let closed = none_open c.self.inside.terminals.items c.self.inside.commits.items (deque_capacity c.self.inside.commits) c.self.inside.log c.self.invariant c.get.result (none c.get.result) in
-    (reopened c.self.inside.terminals.items _ c.self.inside.commits.items c.pop_front.new.self.items c.in-Some.head (deque_capacity c.self.inside.commits) (deque_capacity c.pop_front.new.self)
-    c.self.inside.log.extents c.self.inside.log.opens c.self.inside.log.newest c.self.inside.log.active c.self.inside.log.committed
-    c.get.result c.owner-owner.result.terminal c.index_mut-state.result.now c.may_delete-state.result c.owner-owner.result c.reopen_newest.new.self c.self.invariant
-    c.in-Some.ensures.items c.pop_front.ensures.capacity c.get.ensures.value c.get.ensures.low (omega (arith, c.get.ensures.high))
-    (ap (λ z. z.terminal) (sym c.owner-owner.ensures)) c.index_mut-state.ensures.value closed c.owner-owner.ensures c.may_delete-state.ensures refl c.reopen_newest.ensures).view
+    let closed = none_open (inside c.self.invariant) c.get-slot.result (none c.get-slot.result) in
+    let moment : c.unwrap-self-inside.result ≡ c.self.inside.newest - 1 = search rules in
+    (reopened c.self.invariant _ c.pop_front.new.self.items c.in-Some.head (deque_capacity c.pop_front.new.self) c.reopen_newest.new.self.room c.unwrap-self-inside.result (c.self.inside.open_count + 1)
+    c.get-slot.result c.owner-owner.result.terminal c.len-state.result c.index_mut-state.result.now c.may_delete-state.result c.owner-owner.result c.reopen_newest.new.self
+    c.in-Some.ensures.items c.pop_front.ensures.capacity c.get-slot.ensures.value c.get-slot.ensures.low (omega (arith, c.get-slot.ensures.high))
+    (ap (λ z. z.terminal) (sym c.owner-owner.ensures)) c.index_mut-state.ensures.value closed c.owner-owner.ensures c.may_delete-state.ensures c.len-state.ensures refl
+    c.reopen_newest.ensures.reopened c.reopen_newest.ensures.room moment refl).view
     ∙ ap (λ (v : SegmentLog). seen.reopened v v.committed) c.self.view_is
