@@ -1,9 +1,13 @@
-//! A reader of the system and the standard output, which tell nothing.
+//! A reader of the system and the standard output, for `main` alone.
+//!
+//! This file is trusted. Clauses see no byte of what the system reads and prints, so that nothing says whether these calls hand the
+//! system's bytes on: whoever relies on the program reads them.
 ghost use Rattle.std.specs.Prelude.{None};
 
 use crate::ports::{Failed, Intake, Outlet};
 use std::io::{ErrorKind, Read};
 
+/// A reader of the system.
 #[derive(Drop)]
 pub struct Standard<T>(pub T);
 
@@ -23,6 +27,7 @@ pub struct Printed<'a, P: Print> {
 }
 
 impl<'a, P: Print> Printed<'a, P> {
+    /// The output that is not known to be closed.
     pub fn new(to: &'a P) -> Printed<'a, P> {
         Printed { to, closed: false }
     }

@@ -1,5 +1,7 @@
 #![tactic(auto)]
 //! An order-entry server that answers scripts. Clauses of the standard are those of TPC Benchmark C 5.11.
+//!
+//! This file is trusted: it has no contract, and hands the script's bytes to `run_script`, whose contract tells all that is answered.
 
 use clap::Error;
 use clap::error::ErrorKind;
