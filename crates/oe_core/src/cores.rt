@@ -18,11 +18,10 @@ use crate::advances::Advanced;
 use crate::rejections::rejection;
 use crate::slots::{begin_work, empty_places, open_tx, put_tx, slot, take_tx};
 use crate::works::Work;
-use oe_engine::{Engine, ExtentCount, Progress, Tx};
+use oe_engine::{Engine, Progress, Tx};
 use oe_requests::{Answer, Condition, PaymentReply, Query, Refusal, Reply, Request, Step};
 use oe_store::Tables;
-use oe_table::tables::NoMemory;
-use oe_values::{Moment, Terminal};
+use oe_values::{ExtentCount, Moment, NoMemory, Terminal};
 use std::alloc::Global;
 use std::marker::Model;
 

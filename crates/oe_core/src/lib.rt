@@ -10,5 +10,4 @@ mod works;
 
 pub use advances::Advanced;
 pub use cores::Core;
-pub use oe_engine::ExtentCount;
 pub use runs::run;

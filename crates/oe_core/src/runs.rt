@@ -7,7 +7,7 @@ ghost use Rattle.oe_core.specs.Run.{Served, Ran};
 
 use crate::cores::Core;
 use oe_requests::{Answer, Step};
-use oe_table::tables::NoMemory;
+use oe_values::NoMemory;
 
 /// Carries out the steps one after another, and gives their answers.
 ///

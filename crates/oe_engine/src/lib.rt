@@ -12,5 +12,4 @@ pub mod writes;
 
 pub use access::Parts;
 pub use engine::{Engine, Savepoint, Tx};
-pub use oe_log::ExtentCount;
 pub use programs::{Lock, Progress};

@@ -9,10 +9,9 @@ ghost use Rattle.oe_engine.specs.Opened.{IsLinked, HasWaiting, IsCovered};
 
 use oe_keys::{Key, Table};
 use oe_locks::Locks;
-use oe_log::ExtentCount;
 use oe_store::Tables;
-use oe_table::tables::NoMemory;
 use oe_undo::{Undo, comes_with};
+use oe_values::{ExtentCount, NoMemory};
 use std::alloc::Global;
 
 // The tables that are changed: all but ITEM.

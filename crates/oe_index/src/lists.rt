@@ -6,10 +6,9 @@ ghost use Rattle.std.specs.Prelude.{◌≡◌, ◌<◌, [], OnOk, slice_index_or
 ghost use Rattle.oe_table.specs.Shelf.{IsAscending};
 ghost use Rattle.oe_index.specs.Listed.{IsListed, ListsMore};
 
-use oe_table::keys::ShelvedKey;
 use oe_table::shelf::{Shelf, Slot};
 use oe_table::shelves::reach;
-use oe_table::tables::NoMemory;
+use oe_values::{NoMemory, ShelvedKey};
 use std::alloc::Global;
 use std::marker::Model;
 

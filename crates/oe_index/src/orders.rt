@@ -28,8 +28,7 @@ use oe_keys::{CustomerKey, OrderKey};
 use oe_rows::Order;
 use oe_table::shelf_walks::{Candidates, Rows};
 use oe_table::shelves::Shelves;
-use oe_table::tables::NoMemory;
-use oe_values::{Carrier, CustomerNumber};
+use oe_values::{Carrier, CustomerNumber, NoMemory};
 use std::alloc::Global;
 use std::marker::Model;
 

@@ -7,10 +7,10 @@ ghost use Rattle.std.specs.Slice.Iter.{iter_rest};
 ghost use Rattle.oe_table.specs.Table.{rows_of};
 ghost use Rattle.oe_index.specs.Listed.{found};
 
-use oe_table::keys::ShelvedKey;
 use oe_table::shelf::Slot;
 use oe_table::shelf_walks::Rows;
 use oe_table::shelves::Shelves;
+use oe_values::ShelvedKey;
 use std::marker::Model;
 use std::slice::Iter;
 

@@ -6,8 +6,7 @@ use crate::keys::{
     CustomerKey, DistrictKey, HistoryKey, ItemKey, NewOrderKey, OrderKey, OrderLineKey, StockKey,
     WarehouseKey,
 };
-use oe_table::keys::{ShelvedKey, TableKey};
-use oe_values::{DistrictNumber, WarehouseNumber};
+use oe_values::{DistrictNumber, ShelvedKey, TableKey, WarehouseNumber};
 
 impl TableKey for WarehouseKey {
     ghost use Rattle.oe_keys.specs.ExactKeys.{exact_warehouse};

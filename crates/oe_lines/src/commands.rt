@@ -3,10 +3,7 @@
 use oe_keys::Table;
 use oe_requests::{Condition, Query, Request};
 use oe_rows::Scale;
-use oe_values::{Moment, Number, Terminal};
-
-/// How many extents the undo ring has.
-pub type ExtentCount = Number<2, 4_096>;
+use oe_values::{ExtentCount, Moment, Number, Terminal};
 
 /// The newest moment, or one by its number.
 #[derive(Clone, Copy)]

@@ -14,6 +14,6 @@ pub mod reads;
 pub mod walks;
 
 pub use heads::SegmentOwner;
-pub use log::{ExtentCount, Log, Segment};
+pub use log::{Log, Segment};
 pub use oe_extent::Full;
 pub use walks::Records;

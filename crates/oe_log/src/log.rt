@@ -10,14 +10,11 @@ ghost use Rattle.oe_log.specs.Kept.{idle_heads};
 
 use crate::heads::{CommitHead, TerminalHead};
 use oe_extent::Ring;
-use oe_table::tables::NoMemory;
 use oe_values::numbers::{Moment, Number, TERMINALS, Terminal};
+use oe_values::{ExtentCount, NoMemory};
 use std::alloc::Global;
 use std::collections::VecDeque;
 use std::marker::Model;
-
-/// How many extents of 4,096 bytes a log has.
-pub type ExtentCount = Number<2, 4_096>;
 
 /// A terminal's open segment, which clauses see as the terminal's number.
 #[derive(Clone, Copy)]

@@ -10,7 +10,7 @@ use crate::heads::SegmentOwner;
 use crate::log::{Log, Segment};
 use oe_extent::{Address, Full};
 use oe_layout::{LentRecord, LinkedRecord, OwnRecord, Previous, RecordAddress, read_record};
-use oe_table::tables::NoMemory;
+use oe_values::NoMemory;
 use oe_values::numbers::{Number, Terminal, TransactionNumber};
 
 /// An address of the ring as that of a record.

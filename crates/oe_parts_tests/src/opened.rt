@@ -6,11 +6,11 @@ ghost use Rattle.oe_undo.specs.Chains.{IsAlone};
 
 use oe_keys::{DistrictKey, OrderKey};
 use oe_layout::{LentRecord, LinkedRecord, Previous};
-use oe_log::{ExtentCount, Segment};
+use oe_log::Segment;
 use oe_requests::{DeliveryRequest, DistrictDelivery, Reply, Request};
 use oe_rows::Order;
 use oe_undo::Undo;
-use oe_values::{Moment, Number, Stamp, Terminal};
+use oe_values::{ExtentCount, Moment, Number, Stamp, Terminal};
 use std::alloc::Global;
 use std::snapshot::Snapshot;
 

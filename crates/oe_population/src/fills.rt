@@ -19,8 +19,7 @@ use oe_keys::{
 };
 use oe_rows::{District, History, Item, NewOrder, Order, OrderLine, Scale, Stock, Warehouse};
 use oe_table::shelves::Shelves;
-use oe_table::tables::NoMemory;
-use oe_values::{CustomerNumber, WarehouseNumber};
+use oe_values::{CustomerNumber, NoMemory, WarehouseNumber};
 use std::alloc::Global;
 
 /// The warehouses.

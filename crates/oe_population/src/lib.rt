@@ -7,5 +7,4 @@ mod numbers;
 pub mod population;
 mod texts;
 
-pub use oe_table::tables::NoMemory;
 pub use population::populate;

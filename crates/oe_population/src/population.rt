@@ -19,7 +19,7 @@ use oe_keys::{
 use oe_rows::{District, History, Item, NewOrder, OrderLine, Scale, Stock, Warehouse};
 use oe_store::{NineTables, Tables};
 use oe_table::shelves::Shelves;
-use oe_table::tables::NoMemory;
+use oe_values::NoMemory;
 use std::alloc::Global;
 
 // Warehouses, their districts, and the customers of these.

@@ -21,15 +21,15 @@ use crate::dumps::dump;
 use crate::output::{bad, make_room};
 use crate::ports::{Failed, Outlet};
 use oe_core::{Advanced, Core};
-use oe_lines::{Command, ExtentCount, MomentChoice, command, payment_to_begin, terminal_to_run};
-use oe_population::{NoMemory, populate};
+use oe_lines::{Command, MomentChoice, command, payment_to_begin, terminal_to_run};
+use oe_population::populate;
 use oe_requests::{Answer, Condition, Query, Refusal, Request, Step};
 use oe_rows::Scale;
 use oe_texts::{
     LONGEST, Pending, SIZE, answer, audited, begun, committed, committed_payment, more, opened,
     refused,
 };
-use oe_values::{Moment, Terminal};
+use oe_values::{ExtentCount, Moment, NoMemory, Terminal};
 use std::alloc::Global;
 
 /// Answers a line, which stands without its end and has this number. What waits is written first where the longest line has no room

@@ -7,7 +7,7 @@ ghost use Rattle.oe_store.specs.Places.{rows, HasPlace, AddsPlace};
 use crate::tables::Tables;
 use oe_keys::{HistoryKey, Key, NewOrderKey, OrderKey, OrderLineKey};
 use oe_rows::{History, NewOrder, Order, OrderLine};
-use oe_table::tables::NoMemory;
+use oe_values::NoMemory;
 
 // Only a key without a place takes memory.
 impl Tables {

@@ -14,5 +14,4 @@ pub mod walks;
 
 pub use dumps::{Dump, Entry};
 pub use key_walks::KeyWalk;
-pub use oe_table::tables::NoMemory;
 pub use tables::{NineTables, Tables};

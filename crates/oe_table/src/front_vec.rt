@@ -6,7 +6,7 @@ ghost use Rattle.std.specs.Prelude.{◌≡◌, ◌<◌, ◌≤◌, List, [], ◌
 ghost use Rattle.std.specs.List.{insert, remove};
 ghost use Rattle.std.specs.Borrow.{sem};
 
-use crate::tables::NoMemory;
+use oe_values::NoMemory;
 use std::alloc::Global;
 use std::marker::Model;
 

@@ -2,8 +2,6 @@
 #![tactic(auto)]
 
 mod front_vec;
-pub mod keys;
 pub mod shelf;
 pub mod shelf_walks;
 pub mod shelves;
-pub mod tables;

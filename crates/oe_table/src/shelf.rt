@@ -11,8 +11,7 @@ ghost use Rattle.oe_table.specs.Table.{place, live};
 ghost use Rattle.oe_table.specs.Shelf.{IsAscending, StandsAt, IsFound, put_at, lower, upper, without_blanked};
 
 use crate::front_vec::FrontVec;
-use crate::keys::ShelvedKey;
-use crate::tables::NoMemory;
+use oe_values::{NoMemory, ShelvedKey};
 use std::alloc::Global;
 use std::cmp::Ordering;
 use std::marker::Model;

@@ -16,10 +16,9 @@ ghost use Rattle.std.specs.FinMap as map;
 ghost use Rattle.oe_table.specs.Table.{place, live, rows_of, IsBlanked, SetsPlace, GivesUpPlace};
 ghost use Rattle.oe_table.specs.Shelf.{joined, AreShelves, lower, upper, cut_between};
 
-use crate::keys::ShelvedKey;
 use crate::shelf::{Shelf, Slot};
 use crate::shelf_walks::{Candidates, Rows, Slots};
-use crate::tables::NoMemory;
+use oe_values::{NoMemory, ShelvedKey};
 use std::alloc::Global;
 use std::marker::Model;
 

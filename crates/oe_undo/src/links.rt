@@ -18,7 +18,7 @@ use oe_keys::{HistoryKey, Key};
 use oe_layout::RecordAddress;
 use oe_log::SegmentOwner;
 use oe_table::shelves::Shelves;
-use oe_table::tables::NoMemory;
+use oe_values::NoMemory;
 use std::alloc::Global;
 use std::marker::Model;
 

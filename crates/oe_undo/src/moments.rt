@@ -2,9 +2,8 @@
 ghost use Rattle.std.specs.Prelude.{◌≡◌, ◌+◌, ◌-◌, ◌≤◌, ◌∷◌, [], length, take, drop, slice_get, IfOk, OnOk};
 ghost use Rattle.oe_undo.specs.Owners.{AreIdle};
 
-use oe_table::tables::NoMemory;
-use oe_values::Moment;
 use oe_values::numbers::TERMINALS;
+use oe_values::{Moment, NoMemory};
 use std::alloc::Global;
 use std::collections::VecDeque;
 use std::marker::Model;

@@ -4,7 +4,7 @@ ghost use Rattle.std.specs.Prelude.{◌≡◌, ◌<◌, ℕ, Option, Some};
 use oe_keys::{
     CustomerKey, DistrictKey, ItemKey, NewOrderKey, OrderKey, OrderLineKey, StockKey, WarehouseKey,
 };
-use oe_table::keys::ShelvedKey;
+use oe_values::ShelvedKey;
 
 /// A key that has a number of its own on its shelf.
 pub(crate) trait NumberedKey: ShelvedKey {

@@ -8,7 +8,7 @@ ghost use Rattle.oe_undo.specs.Shelf.{spread, content_in};
 ghost use Rattle.oe_undo.specs.Places.{place_at, ReachesPlace};
 
 use crate::shelf::PlaceShelf;
-use oe_table::tables::NoMemory;
+use oe_values::NoMemory;
 use std::alloc::Global;
 use std::marker::Model;
 

@@ -7,7 +7,7 @@ ghost use Rattle.std.specs.Borrow.{sem};
 ghost use Rattle.std.specs.Option.{option_copied_mut};
 ghost use Rattle.oe_undo.specs.Shelf.{spread, content_in};
 
-use oe_table::tables::NoMemory;
+use oe_values::NoMemory;
 use std::alloc::Global;
 use std::marker::Model;
 

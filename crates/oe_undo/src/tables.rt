@@ -9,7 +9,7 @@ ghost use Rattle.oe_undo.specs.TablesLend.{lends_number};
 use crate::links::OwnedLink;
 use crate::numbers::NumberedKey;
 use crate::places::Places;
-use oe_table::tables::NoMemory;
+use oe_values::NoMemory;
 
 /// The link of a key, if it has one.
 #[inline(always)]

@@ -14,9 +14,8 @@ use crate::links::{Links, OwnedLink};
 use crate::moments::{TerminalMoments, idle_moments};
 use oe_keys::Key;
 use oe_layout::Previous;
-use oe_log::{ExtentCount, Log, Segment, SegmentOwner};
-use oe_table::tables::NoMemory;
-use oe_values::Terminal;
+use oe_log::{Log, Segment, SegmentOwner};
+use oe_values::{ExtentCount, NoMemory, Terminal};
 use std::alloc::Global;
 use std::marker::Model;
 

@@ -1,20 +1,24 @@
-//! Numbers, money, moments, stamps and texts in their ranges, and short lists. Copying any of them takes no memory. Clauses
-//! of the standard are those of TPC Benchmark C 5.11.
+//! Numbers, money, moments, stamps and texts in their ranges, and short lists; what makes a value a key of a table, and the refusal of
+//! memory. Copying any of them takes no memory. Clauses of the standard are those of TPC Benchmark C 5.11.
 #![tactic(auto)]
 
 pub mod fronts;
 pub mod lines;
+pub mod memory;
 pub mod numbers;
 pub mod stamps;
+pub mod table_keys;
 pub mod texts;
 
 pub use lines::Lines;
+pub use memory::NoMemory;
 pub use numbers::{
-    Amount, Balance, Carrier, Cents, Count, CustomerNumber, DistrictNumber, HistoryOrdinal,
-    HistoryTerminal, ImageNumber, ItemNumber, LineAmount, LineCount, LineNumber, LineQuantity,
-    LowStock, Moment, Number, OrderNumber, PaymentAmount, Price, Quantity, Rate, RequestedItem,
-    StockYtd, TERMINALS, Terminal, TerminalCount, Threshold, TransactionNumber, WarehouseNumber,
-    YearToDate,
+    Amount, Balance, Carrier, Cents, Count, CustomerNumber, DistrictNumber, ExtentCount,
+    HistoryOrdinal, HistoryTerminal, ImageNumber, ItemNumber, LineAmount, LineCount, LineNumber,
+    LineQuantity, LowStock, Moment, Number, OrderNumber, PaymentAmount, Price, Quantity, Rate,
+    RequestedItem, StockYtd, TERMINALS, Terminal, TerminalCount, Threshold, TransactionNumber,
+    WarehouseNumber, YearToDate,
 };
 pub use stamps::{SECONDS, Stamp};
+pub use table_keys::{ShelvedKey, TableKey};
 pub use texts::{FirstName, LastName, Text};

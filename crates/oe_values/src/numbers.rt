@@ -102,6 +102,9 @@ pub type TerminalCount = Number<1, TERMINALS>;
 /// The terminal in a history row's key; 0 is the population's.
 pub type HistoryTerminal = Number<0, TERMINALS>;
 
+/// How many extents of 4,096 bytes the undo log has.
+pub type ExtentCount = Number<2, 4_096>;
+
 /// The number of a transaction among its terminal's, from 1 on, in a history row's key. The population's begin at 1 too.
 pub type TransactionNumber = Number<0, 4_294_967_295>;
 
