@@ -3,7 +3,7 @@ use Rattle.std.proofs.Common.{◌≡◌, ◌-◌, ◌+◌, refl, sym, ap, ◌∙
 use Rattle.oe_log.specs.Log as seen
 use Rattle.oe_log.specs.Log.{SegmentLog}
 use Rattle.oe_log.proofs.CallFacts.{inside, few_opens, none_open}
-use Rattle.oe_log.proofs.KeptFacts.{reopened, strings_none, some_strings, some_moment}
+use Rattle.oe_log.proofs.KeptFacts.{reopened, strings_none, some_strings}
 use Rattle.oe_log.proofs.log.Log.reopen_newest.Goals as goal
 
 pub reopen_newest-requires-clause-empty : goal.reopen_newest-requires-clause-empty
@@ -18,9 +18,6 @@ pub overflow_add-self : goal.overflow_add-self
 overflow_add-self c =
     let none = rw (← c.self.view_is) at c.requires in
     omega (arith, few_opens (inside c.self.invariant) c.get-slot.result c.get-slot.result refl c.get-slot.ensures.low (omega (arith, c.get-slot.ensures.high)) (none c.get-slot.result))
-
-pub overflow_sub-get : goal.overflow_sub-get
-overflow_sub-get c = omega (arith, some_moment c.self.invariant c.in-Some.head c.pop_front.new.self.items c.in-Some.ensures.items)
 
 pub invariant_of-self-2 : goal.invariant_of-self-2
 invariant_of-self-2 c =
