@@ -1,20 +1,22 @@
--- What the calls make of segments.
+-- What the calls make of heads and of the records beside them.
 use Rattle.std.proofs.Common.{◌≡◌, ℕ, zero, suc, ◌+◌, ◌-◌, ◌<◌, ◌≤◌, refl, sym, ap, ◌∙◌, subst, inl, inr, arith, rules, List, [], ◌∷◌, length, get_or, set, take, drop, replicate, Bool, false, Option, None, Some, is_some}
 use Rattle.std.specs.Option.{IsSome}
 use Rattle.std.specs.Prelude.{slice_get, option_map}
 use Rattle.std.proofs.lemmas.Bool.{cases_eq, cases_lt}
 use Rattle.std.proofs.lemmas.Option.{slice_get_within, get_or_from_slice_get}
 use Rattle.std.proofs.lemmas.List.Elements.{All-get_or}
-use Rattle.std.proofs.lemmas.List.{length-set, get_or-set_same, get_or-set_other, get_or_read, set-get_or, length-replicate, get_or_past}
+use Rattle.std.proofs.lemmas.List.{length-map, length-set, get_or-set_same, get_or-set_other, get_or_read, set-get_or, length-replicate, get_or_past}
+use Rattle.oe_values.specs.declared.numbers.TheConstants.{TERMINALS}
 use Rattle.oe_extent.specs.Ring as ring
 use Rattle.oe_log.specs.Records.{Logged}
+use Rattle.oe_log.specs.Strings.{records_in}
 use Rattle.oe_log.proofs.Lists as log
 use Rattle.oe_log.proofs.Lists.{RecordLists, no_lists, lists_of}
 use Rattle.oe_log.specs.declared.heads.SegmentOwner.{SegmentOwner}
 use Rattle.oe_log.specs.declared.heads.TerminalHead.{TerminalHead}
 use Rattle.oe_log.specs.Log as seen
 use Rattle.oe_log.specs.Log.{SegmentLog, Open, TerminalState, idle_terminals}
-use Rattle.oe_log.specs.Kept.{Head, idle_head, idle_heads, head_at, open_with, state_with, states, commits, IsCounted, CommitsTell, AreHeads, AreBeside, IsKept}
+use Rattle.oe_log.specs.Kept.{Head, idle_head, idle_heads, head_at, open_with, state_with, states, commits, IsCounted, CommitsTell, AreHeads, IsKept}
 use Rattle.oe_log.specs.Stands.{model_records, DeletesNothing}
 use Rattle.oe_layout.specs.Stored.{deleted_new_order}
 use Rattle.oe_log.proofs.HeadFacts as heads
@@ -25,20 +27,40 @@ use Rattle.oe_log.proofs.ZipFacts.{states-set, states-length, states-at, states-
 abbrev pub seen_as : List TerminalHead → List Head → RecordLists → SegmentLog
 seen_as hs cs l = record { terminals = states hs l.active; committed = commits cs l.committed; extents = l.extents }
 
+-- heads stand beside the records of each
+pub record AreBeside (hs : List TerminalHead) (cs : List Head) (active committed : List (List Logged)) : Type 0 where
+  pub slots : length active ≡ suc TERMINALS
+  pub one_by_one : length committed ≡ length cs
+  -- a terminal without an open segment has no records
+  pub empty : (t : ℕ) → (head_at hs t).active ≡ None → get_or active t [] ≡ []
+  -- what does not say that it deletes has no record of a deleted row
+  pub open_deletes : (t : ℕ) → (head_at hs t).deletes ≡ false → DeletesNothing (model_records (get_or active t []))
+  pub commit_deletes : CommitsTell cs committed
+
 -- the heads keep their promise beside these lists
 pub record Keeps (hs : List TerminalHead) (cs : List Head) (capacity : ℕ) (l : RecordLists) : Type 0 where
   pub heads : AreHeads hs cs capacity l.newest l.opens
   pub records : AreBeside hs cs l.active l.committed
 
--- all that is kept, where the records lie in the ring
-pub inside : {hs : List TerminalHead} {cs : List Head} {capacity : ℕ} {r : ring.RingStrings} {opens newest : ℕ} → IsKept hs cs capacity r opens newest
-    → Keeps hs cs capacity (lists_of r opens newest)
-inside K = record { heads = K.heads; records = K.records }
-
 -- and they are seen so
 pub record Stands (hs : List TerminalHead) (cs : List Head) (capacity : ℕ) (l : RecordLists) (v : SegmentLog) : Type 0 where
   pub kept : Keeps hs cs capacity l
   pub view : seen_as hs cs l ≡ v
+
+-- all that is kept, where the records lie in the ring
+pub inside : {hs : List TerminalHead} {cs : List Head} {capacity : ℕ} {r : ring.RingStrings} {opens newest : ℕ} → IsKept hs cs capacity r opens newest
+    → Keeps hs cs capacity (lists_of r opens newest)
+inside {hs} {cs} {capacity} {r} {opens} {newest} K = record {
+  heads = K.heads;
+  records = record {
+    slots = length-map r.active records_in ∙ K.lie.slots;
+    one_by_one = length-map r.committed records_in ∙ sym (length-map r.committed (λ (ss : List (ring.Addressed)). length ss))
+        ∙ sym (ap length K.lie.committed_lens_are) ∙ length-map cs (λ (c : Head). c.len);
+    empty = K.empty;
+    open_deletes = K.open_deletes;
+    commit_deletes = K.commit_deletes;
+  };
+}
 
 -- a head with another number of records, of which it is said whether any is of a deleted row
 abbrev pub head_told : TerminalHead → Bool → ℕ → TerminalHead
@@ -123,10 +145,6 @@ module _ {hs : List TerminalHead} {cs : List Head} {capacity : ℕ} {l : RecordL
   head_set : (t : ℕ) (h : TerminalHead) → states (set hs t h) l.active ≡ set (states hs l.active) t (state_with h (log.records_at l t))
   head_set t h = ap (λ rss. states (set hs t h) rss) (sym (set-get_or l.active t [])) ∙ states-set hs l.active t h (log.records_at l t)
 
-  -- its records alone
-  records_set : (t : ℕ) (rs : List Logged) → states hs (set l.active t rs) ≡ set (states hs l.active) t (state_with (head_at hs t) rs)
-  records_set t rs = ap (λ ks. states ks (set l.active t rs)) (sym (set-get_or hs t idle_head)) ∙ states-set hs l.active t (head_at hs t) rs
-
   -- of the others what was so is so still
   empty_still : (t : ℕ) (h : TerminalHead) (rs : List Logged) → t ≤ 64 → (h.active ≡ None → rs ≡ [])
       → (u : ℕ) → (head_at (set hs t h) u).active ≡ None → get_or (set l.active t rs) u [] ≡ []
@@ -189,9 +207,6 @@ module _ {hs : List TerminalHead} {cs : List Head} {capacity : ℕ} {l : RecordL
   pub few_opens : (t u : ℕ) → t ≡ u → 1 ≤ t → t ≤ 64 → seen.active_at (seen_as hs cs l) u ≡ None → l.opens < 64
   few_opens t u tu low high none =
       heads.few_open hs cs capacity l.newest l.opens t K.heads low high (none_open t (ap (λ z. seen.active_at (seen_as hs cs l) z) tu ∙ none))
-
-  pub nothing_there : (t u : ℕ) → t ≡ u → seen.active_at (seen_as hs cs l) t ≡ None → log.records_at l u ≡ []
-  nothing_there t u tu none = ap (λ z. log.records_at l z) (sym tu) ∙ K.records.empty t (none_open t none)
 
   pub below_count : (t u n : ℕ) (x : TerminalHead) → t ≡ u → t ≤ 64 → x ≡ get_or hs t x → seen.count_at (seen_as hs cs l) u < n → x.count < n
   below_count t u n x tu high read less =

@@ -35,13 +35,13 @@ module _ {hs : List TerminalHead} {cs : List Head} {capacity : ℕ} {r : ring.Ri
   same_active : sum_by (λ ss. (ring.filled (ring.lengths_of ss)).0) r.active ≡ sum_by (λ s. extents_of (recs s)) (states hs (map records_in r.active))
   same_active =
       sym (same_used r.active K.lie.active_are)
-      ∙ ap (λ rss. sum_by (λ (rs : List Logged). extents_of rs) rss) (sym (states-records hs (map records_in r.active) (as_many (inside K)) K.records.empty))
+      ∙ ap (λ rss. sum_by (λ (rs : List Logged). extents_of rs) rss) (sym (states-records hs (map records_in r.active) (as_many (inside K)) K.empty))
       ∙ sum_seen recs (states hs (map records_in r.active))
 
   same_committed : sum_by (λ ss. (ring.filled (ring.lengths_of ss)).0) r.committed ≡ sum_by (λ c. extents_of (records_of c)) (commits cs (map records_in r.committed))
   same_committed =
       sym (same_used r.committed K.lie.committed_are)
-      ∙ ap (λ rss. sum_by (λ (rs : List Logged). extents_of rs) rss) (sym (commits-records cs (map records_in r.committed) K.records.one_by_one))
+      ∙ ap (λ rss. sum_by (λ (rs : List Logged). extents_of rs) rss) (sym (commits-records cs (map records_in r.committed) (inside K).records.one_by_one))
       ∙ sum_seen records_of (commits cs (map records_in r.committed))
 
   same_rest : (t : ℕ) → (ring.filled (lengths (records_at (stored hs cs r) t))).1 ≡ (ring.filled (ring.lengths_of (get_or r.active t []))).1

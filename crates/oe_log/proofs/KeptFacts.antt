@@ -31,7 +31,16 @@ pub record Stands (hs : List TerminalHead) (cs : List Head) (capacity : ℕ) (r 
 
 both : (hs : List TerminalHead) (cs : List Head) (capacity : ℕ) (r : ring.RingStrings) (opens newest : ℕ) (v : SegmentLog)
     → calls.Stands hs cs capacity (lists_of r opens newest) v → HoldsRecords r (lens_of hs) (committed_lens_of cs) opens → Stands hs cs capacity r opens newest v
-both hs cs capacity r opens newest v s h = record { kept = record { heads = s.kept.heads; records = s.kept.records; lie = h }; view = s.view }
+both hs cs capacity r opens newest v s h = record {
+  kept = record {
+    heads = s.kept.heads;
+    lie = h;
+    empty = s.kept.records.empty;
+    open_deletes = s.kept.records.open_deletes;
+    commit_deletes = s.kept.records.commit_deletes;
+  };
+  view = s.view;
+}
 
 -- how many records a head says
 len_there : (hs : List TerminalHead) (t : ℕ) (x : TerminalHead) → t < length hs → x ≡ get_or hs t x → x.len ≡ get_or (lens_of hs) t x.len
@@ -80,7 +89,7 @@ module _ {hs : List TerminalHead} {cs : List Head} {capacity : ℕ} {r : ring.Ri
 
   -- each commit that is seen has its strings
   pub commit_there : (later : ℕ) → later < length (stored hs cs r).committed → later < length r.committed
-  commit_there later h = omega (arith, h, calls.seen_commits (inside K), K.records.one_by_one, length-map r.committed records_in)
+  commit_there later h = omega (arith, h, calls.seen_commits (inside K), (inside K).records.one_by_one, length-map r.committed records_in)
 
   -- as many moments before the newest as commits are kept
   pub horizon_value : (n m : ℕ) → m ≡ length cs → n ≡ newest - m → n + length (stored hs cs r).committed ≡ seen.total_count (stored hs cs r)
@@ -92,11 +101,11 @@ module _ {hs : List TerminalHead} {cs : List Head} {capacity : ℕ} {r : ring.Ri
 
   -- a terminal without an open segment has no strings
   pub strings_none : (t : ℕ) → seen.active_at (stored hs cs r) t ≡ None → get_or r.active t [] ≡ []
-  strings_none t none = commits.empty_slot newest K.lie t (K.records.empty t (calls.none_open (inside K) t none))
+  strings_none t none = commits.empty_slot newest K.lie t (K.empty t (calls.none_open (inside K) t none))
 
   -- where there is a commit, there are strings of one, and a moment before it
   pub some_strings : (d : Head) (cs' : List Head) → cs ≡ d ∷ cs' → 0 < length r.committed
-  some_strings d cs' e = omega (arith, ap length e, K.records.one_by_one, length-map r.committed records_in)
+  some_strings d cs' e = omega (arith, ap length e, (inside K).records.one_by_one, length-map r.committed records_in)
 
   pub some_moment : (d : Head) (cs' : List Head) → cs ≡ d ∷ cs' → 0 < newest
   some_moment d cs' e = omega (arith, ap length e, K.heads.kept)
@@ -120,8 +129,10 @@ module _ {hs : List TerminalHead} {cs : List Head} {capacity : ℕ} {r : ring.Ri
             opens_are = K.heads.opens_are;
             spare = omega (arith, spare, ap length ec);
           };
-          records = K.records;
           lie = moved r (lens_of hs) (committed_lens_of cs) (lens_of hs) (committed_lens_of cs) opens room' opens K.lie refl refl room;
+          empty = K.empty;
+          open_deletes = K.open_deletes;
+          commit_deletes = K.commit_deletes;
         };
         view = refl;
       }

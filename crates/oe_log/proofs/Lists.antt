@@ -5,6 +5,7 @@ use Rattle.oe_extent.specs.Ring.{RingStrings}
 use Rattle.oe_log.specs.Records.{Logged}
 use Rattle.oe_log.specs.Strings.{records_in}
 
+-- all of them, and the numbers that are kept with them
 pub record RecordLists : Type 0 where
   pub extents : ℕ
   -- how many segments are open

@@ -1,4 +1,4 @@
--- What the calls make of a log.
+-- What the ring's calls make of the records that lie in it.
 use Rattle.std.proofs.Common.{◌≡◌, ℕ, zero, suc, ◌+◌, ◌-◌, ◌<◌, ◌≤◌, List, [], ◌∷◌, length, map, drop, get_or, set, replicate, None, refl, sym, ap, ◌∙◌, subst, arith}
 use Rattle.std.specs.List.{AllByRecursion}
 use Rattle.std.proofs.lemmas.List.{length-set, map-set, get_or-map, get_or-set_same, length-replicate, length-drop}
@@ -15,7 +15,7 @@ use Rattle.oe_layout.specs.Records.{record_image, record_of_lent, IsInRanges}
 use Rattle.oe_log.proofs.RecordFacts.{length_is, older_is, older_are, at_slot, are_at, are_set, written_is, seen_lent}
 use Rattle.oe_log.proofs.RoomFacts.{few}
 
--- the log keeps its promise, and is seen so
+-- the ring holds records, and they are these
 pub record Stands (r : ring.RingStrings) (lens cls : List ℕ) (opens newest : ℕ) (v : log.RecordLists) : Type 0 where
   pub kept : HoldsRecords r lens cls opens
   pub view : lists_of r opens newest ≡ v

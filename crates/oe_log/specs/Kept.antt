@@ -100,16 +100,6 @@ abbrev pub CommitsTell : List Head → List (List Logged) → Type 0
 CommitsTell cs rss =
     (later : ℕ) (c : Head) → slice_get cs later ≡ Some c → c.deletes ≡ false → DeletesNothing (model_records (get_or rss later []))
 
--- of them and of the records of each
-pub record AreBeside (hs : List TerminalHead) (cs : List Head) (active committed : List (List Logged)) : Type 0 where
-  pub slots : length active ≡ suc TERMINALS
-  pub one_by_one : length committed ≡ length cs
-  -- a terminal without an open segment has no records
-  pub empty : (t : ℕ) → (head_at hs t).active ≡ None → get_or active t [] ≡ []
-  -- what does not say that it deletes has no record of a deleted row
-  pub open_deletes : (t : ℕ) → (head_at hs t).deletes ≡ false → DeletesNothing (model_records (get_or active t []))
-  pub commit_deletes : CommitsTell cs committed
-
 -- how many records each has
 abbrev pub lens_of : List TerminalHead → List ℕ
 lens_of hs = map (λ h. h.len) hs
@@ -120,5 +110,9 @@ committed_lens_of cs = map (λ c. c.len) cs
 -- of all that is kept
 pub record IsKept (hs : List TerminalHead) (cs : List Head) (capacity : ℕ) (r : ring.RingStrings) (opens newest : ℕ) : Type 0 where
   pub heads : AreHeads hs cs capacity newest opens
-  pub records : AreBeside hs cs (map records_in r.active) (map records_in r.committed)
   pub lie : HoldsRecords r (lens_of hs) (committed_lens_of cs) opens
+  -- a terminal without an open segment has no records
+  pub empty : (t : ℕ) → (head_at hs t).active ≡ None → get_or (map records_in r.active) t [] ≡ []
+  -- what does not say that it deletes has no record of a deleted row
+  pub open_deletes : (t : ℕ) → (head_at hs t).deletes ≡ false → DeletesNothing (model_records (get_or (map records_in r.active) t []))
+  pub commit_deletes : CommitsTell cs (map records_in r.committed)
