@@ -13,18 +13,9 @@ use crate::engine::{Engine, Tx};
 use crate::programs::Lock;
 use oe_change::Write;
 use oe_keys::{Key, Mode, Name};
-use oe_locks::Locks;
 use oe_requests::Refusal;
 use oe_rows::Row;
 use oe_store::Tables;
-use oe_undo::Undo;
-
-/// What an engine is made of, to be read.
-pub struct Parts<'a> {
-    pub tables: &'a Tables,
-    pub undo: &'a Undo,
-    pub locks: &'a Locks,
-}
 
 // A name alone.
 #[inline(always)]
@@ -137,19 +128,5 @@ impl Engine {
         ensures name { self.new.name ≡ self.old.name }
     {
         self.restore(tx.terminal(), name, mode);
-    }
-
-    /// What the engine is made of.
-    pub fn parts(&self) -> Parts<'_>
-        ensures tables { result.tables.now ≡ self.now.tables }
-        ensures undo { result.undo.now.log ≡ self.now.undo }
-        ensures links { result.undo.now.links ≡ self.now.links }
-        ensures locks { result.locks.now ≡ self.now.locks }
-    {
-        Parts {
-            tables: &self.tables,
-            undo: &self.undo,
-            locks: &self.locks,
-        }
     }
 }

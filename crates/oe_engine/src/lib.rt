@@ -10,6 +10,5 @@ pub mod programs;
 pub mod stages;
 pub mod writes;
 
-pub use access::Parts;
 pub use engine::{Engine, Savepoint, Tx};
 pub use programs::{Lock, Progress};

@@ -50,7 +50,7 @@ pub fn put(engine: &mut Engine, tx: &Tx, write: &Write) -> Result<(), Refusal>
     ensures name { engine.new.name ≡ engine.old.name }
     ensures err { OnErr result (view_of engine.new ≡ view_of engine.old) }
 {
-    engine.write(tx, write)
+    engine.change(tx, write)
 }
 
 /// A stage that asks for no lock, and writes to a row in its place that its transaction alone may change: it holds the row's name
@@ -68,5 +68,5 @@ pub fn put_held(engine: &mut Engine, tx: &Tx, write: &Write) -> Result<(), Refus
     ensures err { OnErr result (view_of engine.new ≡ view_of engine.old) }
 {
     engine.is_safe();
-    engine.write(tx, write)
+    engine.change(tx, write)
 }

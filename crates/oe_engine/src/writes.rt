@@ -114,7 +114,7 @@ impl Engine {
     /// transaction's last extent nor a free one. `NoMemory`: memory was refused for a name that was not held, or for an insert that
     /// the tables accept, at a key without a place. Else the tables don't accept the insert. After an error nothing has changed: a
     /// lock that was gained is given back, and a mode that rose has fallen again.
-    pub fn write(&mut self, tx: &Tx, write: &Write) -> Result<(), Refusal>
+    pub fn change(&mut self, tx: &Tx, write: &Write) -> Result<(), Refusal>
         requires own { IsOpen self.old tx.now
             → IsOwn tx.now.terminal (suc ((view_of self.old).counts tx.now.terminal))
             (governs (key_written write.now)) }

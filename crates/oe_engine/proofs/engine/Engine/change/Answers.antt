@@ -8,7 +8,7 @@ use Rattle.oe_engine.specs.Calls.{made, stage_done}
 use Rattle.oe_engine.specs.Writes.{MayWrite}
 use Rattle.oe_engine.proofs.PartFacts.{on_ok, change_done}
 use Rattle.oe_engine.proofs.WriteFacts.{may_write}
-use Rattle.oe_engine.proofs.engine.Engine.write.Goals as goal
+use Rattle.oe_engine.proofs.engine.Engine.change.Goals as goal
 
 -- with the write's lock a transaction may make it
 pub take_and_put-requires-clause-covered : goal.take_and_put-requires-clause-covered
