@@ -14,7 +14,7 @@ use Rattle.oe_engine.specs.View.{View, view_of, Handle, IsOpen}
 use Rattle.oe_engine.specs.View as engine
 use Rattle.oe_engine.specs.Calls.{rolled_back}
 use Rattle.oe_engine.specs.Programs.{reply_at}
-use Rattle.oe_core.specs.Works.{WorkState, of_payment}
+use Rattle.oe_core.specs.Works.{WorkState}
 
 -- the engine, the open transactions in the slots of their terminals, and what lies there for them to carry out
 pub record CoreState : Type 0 where
@@ -43,10 +43,6 @@ reply_left None (Some w) = reply_at w.position
 -- the reply of a terminal's last transaction, if it committed
 abbrev pub last_reply : CoreState → ℕ → Option Reply
 last_reply s t = reply_left (in_slot s.txs t) (in_slot s.works t)
-
--- the reply of a terminal's last transaction, if that was a payment and committed
-abbrev pub last_payment : CoreState → ℕ → Option Reply
-last_payment s t = of_payment (last_reply s t)
 
 -- an open transaction of terminal t, as the theory stores it
 abbrev pub slot_of : View → ℕ → WorkState → Slot system

@@ -1,9 +1,7 @@
 -- What an open transaction carries out, in the words of the model.
-use Rattle.std.specs.Prelude.{ℕ, Option, None, Some}
+use Rattle.std.specs.Prelude.{ℕ}
 use Rattle.oe_requests.specs.declared.requests.Request.{Request}
 use Rattle.oe_requests.specs.declared.requests.Request.TheVariants as request
-use Rattle.oe_requests.specs.declared.replies.Reply.{Reply}
-use Rattle.oe_requests.specs.declared.replies.Reply.TheVariants as reply
 use Rattle.oe_model.specs.Positions.{Position, InPayment, InNewOrder, InDelivery}
 use Rattle.oe_model.specs.System.{taken, start_of}
 use Rattle.oe_engine.specs.View.{EngineState, view_of, Handle}
@@ -46,8 +44,3 @@ begun q = record { request = q; position = start_of q; mark = start_of q; mark_r
 -- the names that are taken on the way to that row are held
 abbrev pub HoldsTaken : EngineState → Handle → Request → Position → Type 0
 HoldsTaken s x q p = HoldsAll (view_of s) x.terminal (taken (tx_of s x q) p)
-
--- a reply, where it is a payment's
-abbrev pub of_payment : Option Reply → Option Reply
-of_payment (Some (reply.Payment y)) = Some (reply.Payment y)
-of_payment _ = None

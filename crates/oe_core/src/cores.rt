@@ -1,10 +1,9 @@
 //! The core.
 ghost use Rattle.std.specs.Prelude.{◌≡◌, IfOk, IfSome, IsSome, suc, option_map};
-ghost use Rattle.std.specs.Option.{option_copied};
 ghost use Rattle.oe_theory.specs.World.{latest, newest, tables, total};
 ghost use Rattle.oe_theory.specs.Next.{Next};
 ghost use Rattle.oe_theory.specs.Theorems.{opened, IsReached};
-ghost use Rattle.oe_requests.specs.declared.replies.Reply.{Reply};
+ghost use Rattle.oe_requests.specs.Reply.{told_reply};
 ghost use Rattle.oe_model.specs.Conditions.{IsPopulation};
 ghost use Rattle.oe_model.specs.System.{system, terminal_limit};
 ghost use Rattle.oe_store.specs.Places.{rows};
@@ -12,14 +11,14 @@ ghost use Rattle.oe_engine.specs.View.{view_of, IsOpen};
 ghost use Rattle.oe_engine.specs.Calls.{committed, rolled_back};
 ghost use Rattle.oe_engine.specs.Programs.{reply_at};
 ghost use Rattle.oe_core.specs.Steps.{step_in, answer_in, Carries, begin_answer, Advances, IsStep, HasProgram};
-ghost use Rattle.oe_core.specs.Core.{world_of, last_reply, last_payment, keeps_open, IsEndable, IsEnded};
+ghost use Rattle.oe_core.specs.Core.{world_of, last_reply, keeps_open, IsEndable, IsEnded};
 
 use crate::advances::Advanced;
 use crate::rejections::rejection;
 use crate::slots::{begin_work, empty_places, open_tx, put_tx, slot, take_tx};
 use crate::works::Work;
 use oe_engine::{Engine, Progress, Tx};
-use oe_requests::{Answer, Condition, PaymentReply, Query, Refusal, Reply, Request, Step};
+use oe_requests::{Answer, Condition, Query, Refusal, ReplyRef, Request, Step};
 use oe_store::Tables;
 use oe_values::{ExtentCount, Moment, NoMemory, Terminal};
 use std::alloc::Global;
@@ -83,31 +82,16 @@ impl Core {
     }
 
     /// The reply of a terminal's last transaction, where that has committed; none where it is open, was rolled back, or there was
-    /// none. It takes no memory.
-    pub fn last_reply(&self, terminal: Terminal) -> Option<Reply>
-        ensures { result ≡ last_reply self.now terminal }
+    /// none. It is lent where it lies, in the terminal's slot.
+    #[inline]
+    pub fn last_reply(&self, terminal: Terminal) -> Option<ReplyRef<'_>>
+        ensures { option_map told_reply result ≡ last_reply self.now terminal }
     {
         if let Some(_open) = &self.txs[slot(terminal)] {
             return None;
         }
         match &self.works[slot(terminal)] {
             Some(work) => work.reply(),
-            None => None,
-        }
-    }
-
-    /// The reply of a terminal's last transaction, where that was a payment and has committed; none where it was another's, is open,
-    /// was rolled back, or there was none. Nothing is copied.
-    #[inline]
-    pub fn last_payment(&self, terminal: Terminal) -> Option<&PaymentReply>
-        ensures { option_map Reply.Payment (option_copied result)
-            ≡ last_payment self.now terminal }
-    {
-        if let Some(_tx) = &self.txs[slot(terminal)] {
-            return None;
-        }
-        match &self.works[slot(terminal)] {
-            Some(work) => work.payment_reply(),
             None => None,
         }
     }
@@ -216,7 +200,7 @@ impl Core {
         match self.advance(terminal) {
             Advanced::More => Answer::More,
             Advanced::Committed(moment) => match self.last_reply(terminal) {
-                Some(reply) => Answer::Committed(moment, reply),
+                Some(reply) => Answer::Committed(moment, reply.copied()),
                 None => unreachable!(),
             },
             Advanced::Refused(refusal) => Answer::Refused(refusal),

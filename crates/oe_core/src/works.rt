@@ -3,15 +3,14 @@
 //! Program and mark are of the request's kind by type, so that each position is one of the request's own program. What an earlier
 //! transaction left is written over where it lies. Nothing takes memory, and nothing can fail.
 ghost use Rattle.std.specs.Prelude.{◌≡◌, option_map, IfSome, OnNone, None};
-ghost use Rattle.std.specs.Option.{option_copied};
-ghost use Rattle.oe_requests.specs.declared.replies.Reply.{Reply};
+ghost use Rattle.oe_requests.specs.Reply.{told_reply};
 ghost use Rattle.oe_engine.specs.View.{IsOpen};
 ghost use Rattle.oe_engine.specs.Programs.{Progresses, reply_at};
 ghost use Rattle.oe_core.specs.Steps.{HasProgram};
-ghost use Rattle.oe_core.specs.Works.{begun, state_of, of_payment, HoldsTaken};
+ghost use Rattle.oe_core.specs.Works.{begun, state_of, HoldsTaken};
 
 use oe_engine::{Engine, Progress, Savepoint, Tx};
-use oe_requests::{DeliveryRequest, NewOrderRequest, PaymentReply, PaymentRequest, Reply, Request};
+use oe_requests::{DeliveryRequest, NewOrderRequest, PaymentRequest, Reply, ReplyRef, Request};
 use std::marker::Model;
 use std::snapshot::Snapshot;
 
@@ -154,37 +153,23 @@ impl Work {
         }
     }
 
-    /// The reply of a payment whose program is at its end; none otherwise.
+    /// The reply, once the program is at its end; none before that. It is lent where it lies.
     #[inline]
-    pub fn payment_reply(&self) -> Option<&PaymentReply>
-        ensures { option_map Reply.Payment (option_copied result)
-            ≡ of_payment (reply_at self.now.position) }
-    {
-        match &self.task {
-            Task::Payment { program, .. } => program.reply(),
-            _ => None,
-        }
-    }
-
-    /// The reply, once the program is at its end; none before that.
-    pub fn reply(&self) -> Option<Reply>
-        ensures { result ≡ reply_at self.now.position }
+    pub fn reply(&self) -> Option<ReplyRef<'_>>
+        ensures { option_map told_reply result ≡ reply_at self.now.position }
     {
         match &self.task {
             Task::Payment { program, .. } => match program.reply() {
-                Some(reply) => Some(Reply::Payment(reply.copied())),
+                Some(reply) => Some(ReplyRef::Payment(reply)),
                 None => None,
             },
             Task::NewOrder {
                 request,
                 program,
                 ..
-            } => match program.reply(request) {
-                Some(reply) => Some(Reply::NewOrder(reply)),
-                None => None,
-            },
+            } => program.reply(request),
             Task::Delivery { program, .. } => match program.reply() {
-                Some(reply) => Some(Reply::Delivery(reply)),
+                Some(reply) => Some(ReplyRef::Delivery(reply)),
                 None => None,
             },
         }
@@ -216,7 +201,10 @@ impl Work {
         ensures request { IfSome result (λ s. s.0.value ≡ self.now.request) }
         ensures reply { option_map (λ s. s.1.value) result ≡ reply_at self.now.position }
     {
-        let reply = self.reply()?;
+        let Some(lent) = self.reply() else {
+            return None;
+        };
+        let reply = lent.copied();
         let request = match &self.task {
             Task::Payment { request, .. } => Request::Payment(request.copied()),
             Task::NewOrder { request, .. } => Request::NewOrder(request.copied()),

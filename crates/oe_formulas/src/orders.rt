@@ -2,14 +2,14 @@
 ghost use Rattle.std.specs.Prelude.{◌≡◌, ◌==◌, ◌≤◌, ◌+◌, ◌-◌, ◌*◌, cond, nat_le, ◌↔◌, ℕ, length, codes, IsSome, IfSome};
 ghost use Rattle.std.specs.List.{list_all};
 ghost use Rattle.oe_rows.specs.Item.{with_counters};
+ghost use Rattle.oe_requests.specs.declared.replies.Reply.{Reply};
+ghost use Rattle.oe_requests.specs.Reply.{told_reply};
 ghost use Rattle.oe_formulas.specs.Orders.{with_quantity, seen_by};
 ghost use Rattle.oe_formulas.specs.Checks.{checked, row_with, with_next_order};
 ghost use Rattle.oe_model.specs.NewOrder.{supplied, stock_of, stock_out, occurs_in, brand, fill, order_row, with_next, next_out, seen, ordered_reply};
 
 use oe_keys::StockKey;
-use oe_requests::{
-    Brand, Column, LineReplies, LineReply, NewOrderReply, NewOrderRequest, RequestLine,
-};
+use oe_requests::{Brand, Column, LineReplies, LineReply, NewOrderRequest, ReplyRef, RequestLine};
 use oe_rows::{
     Credit, Customer, District, Item, Order, OrderLine, Stock, StockCounters, Warehouse, total,
 };
@@ -246,16 +246,16 @@ impl Seen {
         )
     }
 
-    /// What a new order answers, of the replies to its lines.
-    pub fn reply(&self, lines: &LineReplies) -> NewOrderReply
-        ensures { result ≡ ordered_reply (seen_by self.now) lines.now }
+    /// What a new order answers, of the replies to its lines. C_LAST and the lines are lent where they lie.
+    pub fn reply<'a>(&'a self, lines: &'a LineReplies) -> ReplyRef<'a>
+        ensures { told_reply result ≡ Reply.NewOrder (ordered_reply (seen_by self.now) lines.now) }
     {
-        NewOrderReply {
+        ReplyRef::NewOrder {
             order: self.order,
-            last: self.last.copied(),
+            last: &self.last,
             credit: self.credit,
             total: self.total(lines.as_slice()),
-            lines: lines.copied(),
+            lines,
         }
     }
 }

@@ -3,7 +3,7 @@ ghost use Rattle.std.specs.Prelude.{◌≡◌, ◌+◌, ◌<◌, length, slice_g
 ghost use Rattle.oe_theory.specs.Machine.{Plain};
 ghost use Rattle.oe_theory.specs.Machine as theory;
 ghost use Rattle.oe_keys.specs.declared.locks.Name.TheVariants as name;
-ghost use Rattle.oe_requests.specs.declared.replies.Reply.{Reply};
+ghost use Rattle.oe_requests.specs.Reply.{told_reply};
 ghost use Rattle.oe_model.specs.Keys.{order_in, line_in};
 ghost use Rattle.oe_model.specs.Changes.{InsertOrderLine};
 ghost use Rattle.oe_engine.specs.View.{view_of, IsOpen};
@@ -18,7 +18,7 @@ use oe_engine::stages::{failed, put, put_held};
 use oe_engine::{Engine, Lock, Progress, Tx};
 use oe_formulas::orders::Seen;
 use oe_keys::{Mode, Name};
-use oe_requests::{LineReplies, LineReply, NewOrderReply, NewOrderRequest, Refusal, RequestLine};
+use oe_requests::{LineReplies, LineReply, NewOrderRequest, Refusal, ReplyRef, RequestLine};
 use oe_rows::OrderLine;
 use oe_values::{LineNumber, OrderNumber};
 
@@ -214,9 +214,9 @@ impl Filling {
         }
     }
 
-    /// The reply, once all lines of the request are done; none before that.
-    pub fn reply(&self, request: &NewOrderRequest) -> Option<NewOrderReply>
-        ensures { option_map Reply.NewOrder result
+    /// The reply, once all lines of the request are done; none before that. It is lent where it lies.
+    pub fn reply(&self, request: &NewOrderRequest) -> Option<ReplyRef<'_>>
+        ensures { option_map told_reply result
             ≡ new_order_reply (line_position request.now self.now) }
     {
         match self.next_line(request) {

@@ -1,7 +1,7 @@
 //! The program.
 ghost use Rattle.std.specs.Prelude.{◌≡◌, option_map};
 ghost use Rattle.oe_requests.specs.declared.requests.Request.{Request};
-ghost use Rattle.oe_requests.specs.declared.replies.Reply.{Reply};
+ghost use Rattle.oe_requests.specs.Reply.{told_reply};
 ghost use Rattle.oe_model.specs.Positions.{InNewOrder};
 ghost use Rattle.oe_engine.specs.View.{IsOpen};
 ghost use Rattle.oe_engine.specs.Programs.{Progresses, new_order_reply};
@@ -12,7 +12,7 @@ use crate::fillings::Filling;
 use crate::stages::{insert_new_order, insert_order, read_customer, read_warehouse, take_number};
 use oe_engine::{Engine, Progress, Tx};
 use oe_formulas::orders::Seen;
-use oe_requests::{NewOrderReply, NewOrderRequest, Refusal};
+use oe_requests::{NewOrderRequest, Refusal, ReplyRef};
 use oe_values::{OrderNumber, Rate};
 
 /// Where a New-Order stands: the stage that it comes to next, with what the stages before have read. Its request lies with whoever
@@ -53,9 +53,9 @@ impl Program {
         }
     }
 
-    /// The reply, once all stages of the request are done; none before that.
-    pub fn reply(&self, request: &NewOrderRequest) -> Option<NewOrderReply>
-        ensures { option_map Reply.NewOrder result
+    /// The reply, once all stages of the request are done; none before that. It is lent where it lies.
+    pub fn reply(&self, request: &NewOrderRequest) -> Option<ReplyRef<'_>>
+        ensures { option_map told_reply result
             ≡ new_order_reply (position_of request.now self.now) }
     {
         match self {

@@ -14,7 +14,7 @@ pub use audits::{Condition, Verdict};
 pub use refusals::{Column, Refusal};
 pub use replies::{
     Brand, DeliveredOrder, DistrictDeliveries, DistrictDelivery, LineReplies, LineReply,
-    NewOrderReply, OrderStatus, PaymentReply, QueryReply, RenameReply, Reply, StatusLine,
+    NewOrderReply, OrderStatus, PaymentReply, QueryReply, RenameReply, Reply, ReplyRef, StatusLine,
     StatusLines, StatusReply,
 };
 pub use requests::{

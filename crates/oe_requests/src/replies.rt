@@ -2,6 +2,7 @@
 //!
 //! A reply is a plain value whose parts are in their ranges by type. Nothing can fail, and nothing takes memory.
 ghost use Rattle.std.specs.Prelude.{◌≡◌};
+ghost use Rattle.oe_requests.specs.Reply.{told_reply};
 
 use oe_rows::customers::Credit;
 use oe_values::lines::Lines;
@@ -83,6 +84,21 @@ pub enum Reply {
     Delivery(DistrictDelivery),
     Deliveries(DistrictDeliveries),
     Rename(RenameReply),
+}
+
+/// A reply that a program has come to its end with, lent where its parts lie. So it is told without room for a whole `Reply`, of which
+/// a payment's fills an eighth. Clauses see the reply that it is, by `told_reply`.
+#[derive(Drop)]
+pub enum ReplyRef<'a> {
+    Payment(&'a PaymentReply),
+    NewOrder {
+        order: OrderNumber,
+        last: &'a Text<0, 16>,
+        credit: Credit,
+        total: Cents,
+        lines: &'a LineReplies,
+    },
+    Delivery(DistrictDelivery),
 }
 
 /// A line of a customer's newest order (clause 2.6.3).
@@ -176,6 +192,31 @@ impl Reply {
             Reply::Delivery(delivery) => Reply::Delivery(*delivery),
             Reply::Deliveries(deliveries) => Reply::Deliveries(deliveries.copied()),
             Reply::Rename(reply) => Reply::Rename(reply.copied()),
+        }
+    }
+}
+
+impl<'a> ReplyRef<'a> {
+    /// A copy, which takes no memory.
+    pub fn copied(&self) -> Reply
+        ensures { result ≡ told_reply self.now }
+    {
+        match self {
+            ReplyRef::Payment(reply) => Reply::Payment(reply.copied()),
+            ReplyRef::NewOrder {
+                order,
+                last,
+                credit,
+                total,
+                lines,
+            } => Reply::NewOrder(NewOrderReply {
+                order: *order,
+                last: last.copied(),
+                credit: *credit,
+                total: *total,
+                lines: lines.copied(),
+            }),
+            ReplyRef::Delivery(delivery) => Reply::Delivery(*delivery),
         }
     }
 }

@@ -25,10 +25,7 @@ use oe_lines::{Command, MomentChoice, command, payment_to_begin, terminal_to_run
 use oe_population::populate;
 use oe_requests::{Answer, Condition, Query, Refusal, Request, Step};
 use oe_rows::Scale;
-use oe_texts::{
-    LONGEST, Pending, SIZE, answer, audited, begun, committed, committed_payment, more, opened,
-    refused,
-};
+use oe_texts::{LONGEST, Pending, SIZE, answer, audited, begun, committed, more, opened, refused};
 use oe_values::{ExtentCount, Moment, NoMemory, Terminal};
 use std::alloc::Global;
 
@@ -326,22 +323,8 @@ fn tell_commit(core: &Core, terminal: Terminal, moment: Moment, out: &mut Pendin
     ensures { (y : Reply) → last_reply core.now terminal ≡ Some y
         → out.new.items ≡ out.old.items ++ answer_line (Answer.Committed moment y) }
 {
-    match core.last_payment(terminal) {
-        Some(reply) => committed_payment(out, moment, reply),
-        None => tell_other_commit(core, terminal, moment, out),
-    }
-}
-
-/// The same of any transaction. It has room for a whole reply, which a payment's answer does without.
-#[inline(never)]
-fn tell_other_commit(core: &Core, terminal: Terminal, moment: Moment, out: &mut Pending)
-    requires room { array_vec_len out.old + LONGEST ≤ SIZE }
-    requires reply { IsSome (last_reply core.now terminal) }
-    ensures { (y : Reply) → last_reply core.now terminal ≡ Some y
-        → out.new.items ≡ out.old.items ++ answer_line (Answer.Committed moment y) }
-{
-    match core.last_reply(terminal) {
-        Some(reply) => committed(out, moment, &reply),
+    match &core.last_reply(terminal) {
+        Some(reply) => committed(out, moment, reply),
         None => unreachable!(),
     }
 }

@@ -1,16 +1,16 @@
 //! Answers.
 ghost use Rattle.std.specs.Prelude.{◌≡◌, ◌≤◌, ◌+◌, ◌++◌, codes, decimal};
 ghost use Rattle.arrayvec.specs.ArrayVec.{array_vec_len};
-ghost use Rattle.oe_requests.specs.declared.replies.Reply.{Reply};
 ghost use Rattle.oe_requests.specs.declared.answers.Answer.{Answer};
+ghost use Rattle.oe_requests.specs.Reply.{told_reply};
 ghost use Rattle.oe_texts.specs.Answer.{verdict_text, answer_text, answer_line, audit_line};
 
 use crate::columns::{number, small_then};
 use crate::keys::columns;
 use crate::pending::{LONGEST, Pending, SIZE, text};
 use crate::refusals::error;
-use crate::replies::{payment, query, reply};
-use oe_requests::{Answer, Condition, PaymentReply, Refusal, Reply, Verdict};
+use crate::replies::{lent_reply, query, reply};
+use oe_requests::{Answer, Condition, Refusal, Reply, ReplyRef, Verdict};
 use oe_values::Moment;
 
 /// `holds`, or `fails at <key columns>`.
@@ -106,25 +106,14 @@ pub fn more(out: &mut Pending)
 }
 
 /// Appends the line of a commit with this reply.
-pub fn committed(out: &mut Pending, moment: Moment, given: &Reply)
+pub fn committed(out: &mut Pending, moment: Moment, given: &ReplyRef)
     requires { array_vec_len out.old + LONGEST ≤ SIZE }
     ensures items { out.new.items ≡ out.old.items
-        ++ answer_line (Answer.Committed moment given.now) }
-    ensures len { array_vec_len out.new ≤ array_vec_len out.old + LONGEST }
-{
-    commit(out, moment, given);
-    out.push(b'\n');
-}
-
-/// Appends the line of a payment's commit with this reply.
-pub fn committed_payment(out: &mut Pending, moment: Moment, given: &PaymentReply)
-    requires { array_vec_len out.old + LONGEST ≤ SIZE }
-    ensures items { out.new.items ≡ out.old.items
-        ++ answer_line (Answer.Committed moment (Reply.Payment given.now)) }
+        ++ answer_line (Answer.Committed moment (told_reply given.now)) }
     ensures len { array_vec_len out.new ≤ array_vec_len out.old + LONGEST }
 {
     commit_at(out, moment);
-    payment(out, given);
+    lent_reply(out, given);
     out.push(b'\n');
 }
 

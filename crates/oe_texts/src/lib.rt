@@ -11,7 +11,7 @@ pub mod pending;
 mod refusals;
 mod replies;
 
-pub use answers::{answer, audited, begun, committed, committed_payment, more, opened, refused};
+pub use answers::{answer, audited, begun, committed, more, opened, refused};
 pub use dumps::{
     customer_row, district_row, history_row, item_row, new_order_row, order_line_row, order_row,
     rows, stock_row, warehouse_row,

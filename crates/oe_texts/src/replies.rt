@@ -2,6 +2,7 @@
 ghost use Rattle.std.specs.Prelude.{◌≡◌, ◌≤◌, ◌+◌, ◌*◌, ◌++◌, length, Some};
 ghost use Rattle.std.specs.List.{flat_map};
 ghost use Rattle.arrayvec.specs.ArrayVec.{array_vec_len};
+ghost use Rattle.oe_requests.specs.Reply.{told_reply};
 ghost use Rattle.oe_texts.specs.Reply.{payment_text, brand_text, line_text, new_order_text, delivery_text, district_text, districts_text, rename_text, reply_text, status_line_text, order_text, query_text};
 
 use crate::columns::{
@@ -10,13 +11,15 @@ use crate::columns::{
 };
 use crate::pending::{Pending, SIZE, text};
 use oe_requests::{
-    Brand, DistrictDelivery, LineReply, NewOrderReply, OrderStatus, PaymentReply, QueryReply,
-    RenameReply, Reply, StatusLine, StatusReply,
+    Brand, DistrictDelivery, LineReplies, LineReply, OrderStatus, PaymentReply, QueryReply,
+    RenameReply, Reply, ReplyRef, StatusLine, StatusReply,
 };
+use oe_rows::Credit;
+use oe_values::{Cents, OrderNumber, Text};
 
 /// `payment <C_ID> <C_LAST> <C_CREDIT> <new C_BALANCE>`.
 #[inline(always)]
-pub(crate) fn payment(out: &mut Pending, reply: &PaymentReply)
+fn payment(out: &mut Pending, reply: &PaymentReply)
     requires { array_vec_len out.old + 63 ≤ SIZE }
     ensures items { out.new.items ≡ out.old.items ++ payment_text reply.now }
     ensures len { array_vec_len out.new ≤ array_vec_len out.old + 63 }
@@ -66,17 +69,25 @@ fn lines(out: &mut Pending, replies: &[LineReply])
 }
 
 /// `neworder <O_ID> <C_LAST> <C_CREDIT> <total>`, and each line.
-fn new_order(out: &mut Pending, reply: &NewOrderReply)
+fn new_order(
+    out: &mut Pending,
+    order: OrderNumber,
+    last: &Text<0, 16>,
+    credit: Credit,
+    total: Cents,
+    done: &LineReplies,
+)
     requires { array_vec_len out.old + 618 ≤ SIZE }
-    ensures items { out.new.items ≡ out.old.items ++ new_order_text reply.now }
+    ensures items { out.new.items ≡ out.old.items ++ new_order_text
+        (record { order = order; last = last.now; credit = credit; total = total; lines = done.now }) }
     ensures len { array_vec_len out.new ≤ array_vec_len out.old + 618 }
 {
     text(out, b"neworder ");
-    small_then(out, reply.order.get(), b' ');
-    text_then(out, reply.last.as_str(), b' ');
-    credit_then(out, reply.credit, b' ');
-    money(out, reply.total.cents());
-    lines(out, reply.lines.as_slice());
+    small_then(out, order.get(), b' ');
+    text_then(out, last.as_str(), b' ');
+    credit_then(out, credit, b' ');
+    money(out, total.cents());
+    lines(out, done.as_slice());
 }
 
 /// `delivery <O_ID> <C_ID> <sum>`, or `delivery skipped`.
@@ -148,13 +159,39 @@ pub(crate) fn reply(out: &mut Pending, reply: &Reply)
 {
     match reply {
         Reply::Payment(reply) => payment(out, reply),
-        Reply::NewOrder(reply) => new_order(out, reply),
+        Reply::NewOrder(reply) => new_order(
+            out,
+            reply.order,
+            &reply.last,
+            reply.credit,
+            reply.total,
+            &reply.lines,
+        ),
         Reply::Delivery(reply) => delivery(out, *reply),
         Reply::Deliveries(deliveries) => {
             text(out, b"deliveries");
             districts(out, deliveries.as_slice());
         }
         Reply::Rename(reply) => rename(out, reply),
+    }
+}
+
+/// The same, of one that is lent.
+pub(crate) fn lent_reply(out: &mut Pending, reply: &ReplyRef)
+    requires { array_vec_len out.old + 618 ≤ SIZE }
+    ensures items { out.new.items ≡ out.old.items ++ reply_text (told_reply reply.now) }
+    ensures len { array_vec_len out.new ≤ array_vec_len out.old + 618 }
+{
+    match reply {
+        ReplyRef::Payment(reply) => payment(out, reply),
+        ReplyRef::NewOrder {
+            order,
+            last,
+            credit,
+            total,
+            lines: done,
+        } => new_order(out, *order, last, *credit, *total, done),
+        ReplyRef::Delivery(reply) => delivery(out, *reply),
     }
 }
 

@@ -1,6 +1,5 @@
 use Rattle.std.proofs.Common.{Some, sym, ap, ◌∙◌}
-use Rattle.oe_requests.specs.declared.replies.NewOrderReply.{NewOrderReply}
-use Rattle.oe_requests.specs.declared.replies.Reply.TheVariants as reply
+use Rattle.oe_requests.specs.declared.replies.Reply.{Reply}
 use Rattle.oe_engine.specs.Programs.{new_order_reply}
 use Rattle.oe_neworder.proofs.LineFacts.{reply_before, end_at}
 use Rattle.oe_neworder.proofs.fillings.Filling.reply.Goals as goal
@@ -10,5 +9,5 @@ returns-in-Some c = sym (reply_before c.args.request.now c.args.self.now c.in-So
 
 pub returns-in-None : goal.returns-in-None
 returns-in-None c =
-    ap (λ (y : NewOrderReply). Some (reply.NewOrder y)) c.reply.ensures
+    ap (λ (y : Reply). Some y) c.reply.ensures
     ∙ sym (ap new_order_reply (end_at c.args.request.now c.args.self.now (sym c.in-None.ensures.value)))
