@@ -68,7 +68,7 @@ impl Task {
                 mark: oe_neworder::Program::new(),
             },
             Request::Delivery(delivery) => Task::Delivery {
-                request: delivery.copied(),
+                request: *delivery,
                 program: oe_delivery::Program::new(),
                 mark: oe_delivery::Program::new(),
             },
@@ -208,7 +208,7 @@ impl Work {
         let request = match &self.task {
             Task::Payment { request, .. } => Request::Payment(request.copied()),
             Task::NewOrder { request, .. } => Request::NewOrder(request.copied()),
-            Task::Delivery { request, .. } => Request::Delivery(request.copied()),
+            Task::Delivery { request, .. } => Request::Delivery(*request),
         };
         Some((Snapshot::of(&request), Snapshot::of(&reply)))
     }

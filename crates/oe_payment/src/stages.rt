@@ -59,7 +59,7 @@ fn go(engine: &mut Engine, tx: &Tx, write: &Write, stage: &mut Stage, next: Stag
         → Does q tx.now engine.old p result engine.new p' }
     ensures stage { stage.new ≡ stage_after next result stage.old }
 {
-    match engine.write(tx, write) {
+    match engine.change(tx, write) {
         Ok(()) => {
             *stage = next;
             Progress::More
