@@ -20,7 +20,7 @@ pub(crate) fn undo(alloc: Global, extents: u32) -> Option<Undo> {
 }
 
 /// A delivery in district (4, 7).
-fn request() -> Option<Request> {
+pub(crate) fn request() -> Option<Request> {
     let district = DistrictKey {
         warehouse: Number::new(4)?,
         district: Number::new(7)?,
