@@ -89,26 +89,23 @@ fn verdicts(tables: &Tables) -> [Verdict; 4] {
 }
 
 /// Makes a copy of a change.
-fn make(alloc: Global, tables: &mut Tables, change: Change) -> Option<()> {
-    let copied = change.copied(alloc);
+fn make(tables: &mut Tables, change: Change) -> Option<()> {
+    let copied = change.copied();
     drop(change);
-    match copied {
-        Ok(copied) => amend(tables, copied),
-        Err(_) => None,
-    }
+    amend(tables, copied)
 }
 
 /// Whether tables that were a population are none after the change, and have the verdicts that it deserves.
-fn is_found_in(alloc: Global, tables: &mut Tables, number: u32) -> Option<bool> {
+fn is_found_in(tables: &mut Tables, number: u32) -> Option<bool> {
     let was_population = is_population(tables);
     let change = fault(tables, number)?;
-    make(alloc, tables, change)?;
+    make(tables, change)?;
     Some(was_population && !is_population(tables) && Some(verdicts(tables)) == deserved(number))
 }
 
 fn is_found(alloc: Global, number: u32) -> Option<bool> {
     let mut tables = populated(alloc, 4, 7)?;
-    let found = is_found_in(alloc, &mut tables, number);
+    let found = is_found_in(&mut tables, number);
     drop(tables);
     found
 }
