@@ -20,3 +20,13 @@ version ts v m = version_of system (without_slots (rows ts) v) m
 -- beside some open transactions, rows and a log stand for a world that steps led to
 abbrev pub Stand : tables.Places → SegmentLog → Type 0
 Stand ts v = (slots : ℕ → Option (Slot system)) × IsStanding system (store_with (rows ts) v slots)
+
+-- what a version is made of: the tables as they stand, the log, and a moment that it keeps
+pub record VersionState : Type 0 where
+  pub tables : tables.Places
+  pub log : SegmentLog
+  pub moment : ℕ
+
+-- the tables of its moment
+abbrev pub rows_of : VersionState → Rows
+rows_of s = version s.tables s.log s.moment

@@ -1,23 +1,20 @@
 //! Columns of rows as they stood at a moment. Of a row nothing else is handed out.
-ghost use Rattle.std.specs.Prelude.{◌≡◌, IfOk, IfErr, OnOk, option_map, option_and_then};
+ghost use Rattle.std.specs.Prelude.{◌≡◌, option_map, option_and_then};
 ghost use Rattle.std.specs.FinMap.{get};
 ghost use Rattle.oe_keys.specs.declared.keys.Key.TheVariants as keys;
 ghost use Rattle.oe_model.specs.Rows.{row_at, as_warehouse, as_district, as_customer, as_stock};
 ghost use Rattle.oe_store.specs.Places.{rows};
-ghost use Rattle.oe_log.specs.Moments.{IsKeptMoment, IsUnkept};
-ghost use Rattle.oe_versions.specs.Versions.{version};
+ghost use Rattle.oe_versions.specs.Versions.{rows_of};
 ghost use Rattle.oe_versions.specs.Found.{row_found};
 
-use crate::records::found_at;
+use crate::moments::Version;
 use oe_keys::{CustomerKey, DistrictKey, Key, StockKey, WarehouseKey};
 use oe_layout::{OwnRecord, StoredRecord};
-use oe_requests::Refusal;
 use oe_store::Tables;
-use oe_undo::Undo;
-use oe_values::{Balance, Count, Moment, OrderNumber, YearToDate};
+use oe_values::{Balance, Count, OrderNumber, YearToDate};
 
 /// W_YTD of the row that a record has, or of the one that stands where there is no record.
-fn warehouse_ytd(
+fn ytd_of_warehouse(
     tables: &Tables,
     key: &WarehouseKey,
     found: Option<StoredRecord<'_>>,
@@ -34,27 +31,8 @@ fn warehouse_ytd(
     }
 }
 
-/// W_YTD of a warehouse at a moment, if it was there; refused as `row_at`.
-pub fn warehouse_ytd_at(
-    tables: &Tables,
-    undo: &Undo,
-    key: &WarehouseKey,
-    moment: Moment,
-) -> Result<Option<YearToDate>, Refusal>
-    ensures column { IfOk result (λ y. y
-        ≡ option_map (λ x. x.ytd)
-        (get (version tables.now undo.now.log moment).warehouses key.now)) }
-    ensures readable { OnOk result (IsKeptMoment undo.now.log moment) }
-    ensures refusal { IfErr result (IsUnkept undo.now.log moment) }
-{
-    match found_at(undo, &Key::Warehouse(*key), moment) {
-        Ok(found) => Ok(warehouse_ytd(tables, key, found)),
-        Err(refusal) => Err(refusal),
-    }
-}
-
 /// D_YTD of the row that a record has, or of the one that stands where there is no record.
-fn district_ytd(
+fn ytd_of_district(
     tables: &Tables,
     key: &DistrictKey,
     found: Option<StoredRecord<'_>>,
@@ -71,27 +49,8 @@ fn district_ytd(
     }
 }
 
-/// D_YTD of a district at a moment, if it was there; refused as `row_at`.
-pub fn district_ytd_at(
-    tables: &Tables,
-    undo: &Undo,
-    key: &DistrictKey,
-    moment: Moment,
-) -> Result<Option<YearToDate>, Refusal>
-    ensures column { IfOk result (λ y. y
-        ≡ option_map (λ x. x.ytd)
-        (get (version tables.now undo.now.log moment).districts key.now)) }
-    ensures readable { OnOk result (IsKeptMoment undo.now.log moment) }
-    ensures refusal { IfErr result (IsUnkept undo.now.log moment) }
-{
-    match found_at(undo, &Key::District(*key), moment) {
-        Ok(found) => Ok(district_ytd(tables, key, found)),
-        Err(refusal) => Err(refusal),
-    }
-}
-
 /// D_NEXT_O_ID of the row that a record has, or of the one that stands where there is no record.
-fn next_order(
+fn next_order_of(
     tables: &Tables,
     key: &DistrictKey,
     found: Option<StoredRecord<'_>>,
@@ -108,27 +67,12 @@ fn next_order(
     }
 }
 
-/// D_NEXT_O_ID of a district at a moment, if it was there; refused as `row_at`.
-pub fn next_order_at(
-    tables: &Tables,
-    undo: &Undo,
-    key: &DistrictKey,
-    moment: Moment,
-) -> Result<Option<OrderNumber>, Refusal>
-    ensures column { IfOk result (λ y. y
-        ≡ option_map (λ x. x.next_order)
-        (get (version tables.now undo.now.log moment).districts key.now)) }
-    ensures readable { OnOk result (IsKeptMoment undo.now.log moment) }
-    ensures refusal { IfErr result (IsUnkept undo.now.log moment) }
-{
-    match found_at(undo, &Key::District(*key), moment) {
-        Ok(found) => Ok(next_order(tables, key, found)),
-        Err(refusal) => Err(refusal),
-    }
-}
-
 /// C_BALANCE of the row that a record has, or of the one that stands where there is no record.
-fn balance(tables: &Tables, key: &CustomerKey, found: Option<StoredRecord<'_>>) -> Option<Balance>
+fn balance_of(
+    tables: &Tables,
+    key: &CustomerKey,
+    found: Option<StoredRecord<'_>>,
+) -> Option<Balance>
     ensures { result ≡ option_map (λ x. x.account.balance) (option_and_then as_customer
         (row_found found.entry (row_at (rows tables.now) (keys.Customer key.now)))) }
 {
@@ -141,27 +85,8 @@ fn balance(tables: &Tables, key: &CustomerKey, found: Option<StoredRecord<'_>>) 
     }
 }
 
-/// C_BALANCE of a customer at a moment, if it was there; refused as `row_at`.
-pub fn balance_at(
-    tables: &Tables,
-    undo: &Undo,
-    key: &CustomerKey,
-    moment: Moment,
-) -> Result<Option<Balance>, Refusal>
-    ensures column { IfOk result (λ y. y
-        ≡ option_map (λ x. x.account.balance)
-        (get (version tables.now undo.now.log moment).customers key.now)) }
-    ensures readable { OnOk result (IsKeptMoment undo.now.log moment) }
-    ensures refusal { IfErr result (IsUnkept undo.now.log moment) }
-{
-    match found_at(undo, &Key::Customer(*key), moment) {
-        Ok(found) => Ok(balance(tables, key, found)),
-        Err(refusal) => Err(refusal),
-    }
-}
-
 /// S_QUANTITY of the row that a record has, or of the one that stands where there is no record.
-fn stock_quantity(tables: &Tables, key: &StockKey, found: Option<StoredRecord<'_>>) -> Option<Count>
+fn quantity_of(tables: &Tables, key: &StockKey, found: Option<StoredRecord<'_>>) -> Option<Count>
     ensures { result ≡ option_map (λ x. x.quantity) (option_and_then as_stock
         (row_found found.entry (row_at (rows tables.now) (keys.Stock key.now)))) }
 {
@@ -174,21 +99,44 @@ fn stock_quantity(tables: &Tables, key: &StockKey, found: Option<StoredRecord<'_
     }
 }
 
-/// S_QUANTITY of a stock at a moment, if it was there; refused as `row_at`.
-pub fn stock_quantity_at(
-    tables: &Tables,
-    undo: &Undo,
-    key: &StockKey,
-    moment: Moment,
-) -> Result<Option<Count>, Refusal>
-    ensures column { IfOk result (λ y. y
-        ≡ option_map (λ x. x.quantity)
-        (get (version tables.now undo.now.log moment).stocks key.now)) }
-    ensures readable { OnOk result (IsKeptMoment undo.now.log moment) }
-    ensures refusal { IfErr result (IsUnkept undo.now.log moment) }
-{
-    match found_at(undo, &Key::Stock(*key), moment) {
-        Ok(found) => Ok(stock_quantity(tables, key, found)),
-        Err(refusal) => Err(refusal),
+impl<'a> Version<'a> {
+    /// W_YTD of a warehouse, if it was there.
+    pub fn warehouse_ytd(&self, key: &WarehouseKey) -> Option<YearToDate>
+        ensures { result ≡ option_map (λ x. x.ytd) (get (rows_of self.now).warehouses key.now) }
+    {
+        let found = self.found(&Key::Warehouse(*key));
+        ytd_of_warehouse(self.tables(), key, found)
+    }
+
+    /// D_YTD of a district, if it was there.
+    pub fn district_ytd(&self, key: &DistrictKey) -> Option<YearToDate>
+        ensures { result ≡ option_map (λ x. x.ytd) (get (rows_of self.now).districts key.now) }
+    {
+        let found = self.found(&Key::District(*key));
+        ytd_of_district(self.tables(), key, found)
+    }
+
+    /// D_NEXT_O_ID of a district, if it was there.
+    pub fn next_order(&self, key: &DistrictKey) -> Option<OrderNumber>
+        ensures { result ≡ option_map (λ x. x.next_order) (get (rows_of self.now).districts key.now) }
+    {
+        let found = self.found(&Key::District(*key));
+        next_order_of(self.tables(), key, found)
+    }
+
+    /// C_BALANCE of a customer, if it was there.
+    pub fn balance(&self, key: &CustomerKey) -> Option<Balance>
+        ensures { result ≡ option_map (λ x. x.account.balance) (get (rows_of self.now).customers key.now) }
+    {
+        let found = self.found(&Key::Customer(*key));
+        balance_of(self.tables(), key, found)
+    }
+
+    /// S_QUANTITY of a stock, if it was there.
+    pub fn stock_quantity(&self, key: &StockKey) -> Option<Count>
+        ensures { result ≡ option_map (λ x. x.quantity) (get (rows_of self.now).stocks key.now) }
+    {
+        let found = self.found(&Key::Stock(*key));
+        quantity_of(self.tables(), key, found)
     }
 }

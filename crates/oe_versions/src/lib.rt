@@ -6,14 +6,9 @@ pub mod columns;
 pub mod last;
 pub mod laws;
 pub mod lines;
+pub mod moments;
 pub mod names;
 mod records;
 pub mod rows;
 
-pub use columns::{
-    balance_at, district_ytd_at, next_order_at, stock_quantity_at, warehouse_ytd_at,
-};
-pub use last::last_order_at;
-pub use lines::lines_at;
-pub use names::names_at;
-pub use rows::{has_new_order_at, order_at, order_line_at, row_at, row_counted};
+pub use moments::Version;

@@ -1,5 +1,5 @@
 //! Rows as they stood at a moment.
-ghost use Rattle.std.specs.Prelude.{◌≡◌, IfOk, IfErr, OnOk, OnErr, is_some, option_and_then};
+ghost use Rattle.std.specs.Prelude.{◌≡◌, is_some, option_and_then};
 ghost use Rattle.std.specs.FinMap.{get};
 ghost use Rattle.oe_keys.specs.declared.keys.Key.TheVariants as keys;
 ghost use Rattle.oe_model.specs.Rows.{row_at, as_new_order, as_order, as_order_line};
@@ -8,18 +8,15 @@ ghost use Rattle.oe_layout.specs.Records.{record_of_own};
 ghost use Rattle.oe_store.specs.Places.{rows};
 ghost use Rattle.oe_undo.specs.Held.{held, of_key, count_later};
 ghost use Rattle.oe_undo.specs.Ticks.{ticked};
-ghost use Rattle.oe_log.specs.Moments.{IsKeptMoment, IsUnkept};
-ghost use Rattle.oe_versions.specs.Versions.{version};
+ghost use Rattle.oe_versions.specs.Versions.{rows_of};
 ghost use Rattle.oe_versions.specs.Found.{row_found};
 
-use crate::records::{found_at, found_counted};
+use crate::moments::Version;
 use oe_keys::{Key, NewOrderKey, OrderKey, OrderLineKey};
 use oe_layout::{OwnRecord, StoredRecord};
-use oe_requests::Refusal;
 use oe_rows::{NewOrder, Order, OrderLine, Row};
 use oe_store::Tables;
-use oe_undo::{Ticks, Undo};
-use oe_values::Moment;
+use oe_undo::Ticks;
 
 /// A copy of the row of a key as it stands, if it has one.
 fn row_now(tables: &Tables, key: &Key) -> Option<Row>
@@ -57,76 +54,15 @@ fn row_before(before: OwnRecord) -> Option<Row>
     }
 }
 
-/// `row_at`, and each record that is read ticks: the key's own that are open or of commits after the moment, each once. A refusal reads
-/// none.
-pub fn row_counted(
-    tables: &Tables,
-    undo: &Undo,
-    key: &Key,
-    moment: Moment,
-    ticks: &mut Ticks,
-) -> Result<Option<Row>, Refusal>
-    ensures row { IfOk result (λ x. x ≡ row_at (version tables.now undo.now.log moment) key.now) }
-    ensures readable { OnOk result (IsKeptMoment undo.now.log moment) }
-    ensures refusal { IfErr result (IsUnkept undo.now.log moment) }
-    ensures ticks { OnOk result (ticks.new
-        ≡ ticked ticks.old (count_later moment (of_key key.now (held undo.now.log)))) }
-    ensures unread { OnErr result (ticks.new ≡ ticks.old) }
-{
-    match found_counted(undo, key, moment, ticks) {
-        Ok(Some(before)) => Ok(row_before(before.read())),
-        Ok(None) => Ok(row_now(tables, key)),
-        Err(refusal) => Err(refusal),
-    }
-}
-
-/// A copy of the row that a key had at a moment, if it had one: what the commits up to the moment left, without anybody's open
-/// work.
-///
-/// `TooOld` with the horizon and `Future` with the newest moment, exactly where the moment is not between the two. From the key's
-/// newest record on it goes along the key's own records that are open or of commits after the moment, reads the row of one of them,
-/// and takes no memory. So do the other calls here.
-pub fn row_at(
-    tables: &Tables,
-    undo: &Undo,
-    key: &Key,
-    moment: Moment,
-) -> Result<Option<Row>, Refusal>
-    ensures row { IfOk result (λ x. x ≡ row_at (version tables.now undo.now.log moment) key.now) }
-    ensures readable { OnOk result (IsKeptMoment undo.now.log moment) }
-    ensures refusal { IfErr result (IsUnkept undo.now.log moment) }
-{
-    let mut ticks = Ticks::new();
-    row_counted(tables, undo, key, moment, &mut ticks)
-}
-
 /// Whether the row that a record has, or the one that stands where there is no record, is one of NEW-ORDER: that has no column but its
 /// key's.
-fn has_new_order(tables: &Tables, key: &NewOrderKey, found: Option<StoredRecord<'_>>) -> bool
+fn is_new_order(tables: &Tables, key: &NewOrderKey, found: Option<StoredRecord<'_>>) -> bool
     ensures { result ≡ is_some (option_and_then as_new_order
         (row_found found.entry (row_at (rows tables.now) (keys.NewOrder key.now)))) }
 {
     match found {
         Some(before) => matches!(before.read(), OwnRecord::DeletedNewOrder(_)),
         None => tables.new_order(*key).is_some(),
-    }
-}
-
-/// Whether a key had a NEW-ORDER row at a moment; refused as `row_at`.
-pub fn has_new_order_at(
-    tables: &Tables,
-    undo: &Undo,
-    key: &NewOrderKey,
-    moment: Moment,
-) -> Result<bool, Refusal>
-    ensures row { IfOk result (λ b.
-        b ≡ is_some (get (version tables.now undo.now.log moment).new_orders key.now)) }
-    ensures readable { OnOk result (IsKeptMoment undo.now.log moment) }
-    ensures refusal { IfErr result (IsUnkept undo.now.log moment) }
-{
-    match found_at(undo, &Key::NewOrder(*key), moment) {
-        Ok(found) => Ok(has_new_order(tables, key, found)),
-        Err(refusal) => Err(refusal),
     }
 }
 
@@ -141,24 +77,6 @@ fn order_row(tables: &Tables, key: &OrderKey, found: Option<StoredRecord<'_>>) -
             _ => None,
         },
         None => Some(*tables.order(*key)?),
-    }
-}
-
-/// A copy of the ORDER row that a key had at a moment, if it had one; refused as `row_at`.
-pub fn order_at(
-    tables: &Tables,
-    undo: &Undo,
-    key: &OrderKey,
-    moment: Moment,
-) -> Result<Option<Order>, Refusal>
-    ensures row { IfOk result (λ x.
-        x ≡ get (version tables.now undo.now.log moment).orders key.now) }
-    ensures readable { OnOk result (IsKeptMoment undo.now.log moment) }
-    ensures refusal { IfErr result (IsUnkept undo.now.log moment) }
-{
-    match found_at(undo, &Key::Order(*key), moment) {
-        Ok(found) => Ok(order_row(tables, key, found)),
-        Err(refusal) => Err(refusal),
     }
 }
 
@@ -180,20 +98,48 @@ fn order_line_row(
     }
 }
 
-/// A copy of the ORDER-LINE row that a key had at a moment, if it had one; refused as `row_at`.
-pub fn order_line_at(
-    tables: &Tables,
-    undo: &Undo,
-    key: &OrderLineKey,
-    moment: Moment,
-) -> Result<Option<OrderLine>, Refusal>
-    ensures row { IfOk result (λ x.
-        x ≡ get (version tables.now undo.now.log moment).order_lines key.now) }
-    ensures readable { OnOk result (IsKeptMoment undo.now.log moment) }
-    ensures refusal { IfErr result (IsUnkept undo.now.log moment) }
-{
-    match found_at(undo, &Key::OrderLine(*key), moment) {
-        Ok(found) => Ok(order_line_row(tables, key, found)),
-        Err(refusal) => Err(refusal),
+impl<'a> Version<'a> {
+    /// A copy of the row that a key had, if it had one.
+    pub fn row(&self, key: &Key) -> Option<Row>
+        ensures { result ≡ row_at (rows_of self.now) key.now }
+    {
+        let mut ticks = Ticks::new();
+        self.row_counted(key, &mut ticks)
+    }
+
+    /// `row`, and each record that is read ticks: the key's own that are open or of commits after the moment, each once.
+    pub fn row_counted(&self, key: &Key, ticks: &mut Ticks) -> Option<Row>
+        ensures row { result ≡ row_at (rows_of self.now) key.now }
+        ensures ticks { ticks.new
+            ≡ ticked ticks.old (count_later self.now.moment (of_key key.now (held self.now.log))) }
+    {
+        match self.found_counted(key, ticks) {
+            Some(before) => row_before(before.read()),
+            None => row_now(self.tables(), key),
+        }
+    }
+
+    /// Whether a key had a NEW-ORDER row.
+    pub fn has_new_order(&self, key: &NewOrderKey) -> bool
+        ensures { result ≡ is_some (get (rows_of self.now).new_orders key.now) }
+    {
+        let found = self.found(&Key::NewOrder(*key));
+        is_new_order(self.tables(), key, found)
+    }
+
+    /// A copy of the ORDER row that a key had, if it had one.
+    pub fn order(&self, key: &OrderKey) -> Option<Order>
+        ensures { result ≡ get (rows_of self.now).orders key.now }
+    {
+        let found = self.found(&Key::Order(*key));
+        order_row(self.tables(), key, found)
+    }
+
+    /// A copy of the ORDER-LINE row that a key had, if it had one.
+    pub fn order_line(&self, key: &OrderLineKey) -> Option<OrderLine>
+        ensures { result ≡ get (rows_of self.now).order_lines key.now }
+    {
+        let found = self.found(&Key::OrderLine(*key));
+        order_line_row(self.tables(), key, found)
     }
 }
