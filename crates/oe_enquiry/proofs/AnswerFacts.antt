@@ -1,5 +1,5 @@
 -- What was found makes an answer, and what was not found a refusal.
-use Rattle.std.proofs.Common.{◌≡◌, ℕ, Option, None, Some, List, length, inl, inr, refl, sym, ap, subst, ◌∙◌, ◌∷◌, []}
+use Rattle.std.proofs.Common.{◌≡◌, ℕ, Option, None, Some, List, length, inl, inr, refl, sym, ap, subst, ◌∙◌}
 use Rattle.std.specs.Prelude.{ℤ, option_map}
 use Rattle.std.specs.FinMap.{get}
 use Rattle.oe_theory.specs.Machine.{Outcome, Here, Missing}
@@ -10,7 +10,6 @@ use Rattle.oe_rows.specs.declared.districts.District.{District}
 use Rattle.oe_requests.specs.declared.requests.StatusQuery.{StatusQuery}
 use Rattle.oe_requests.specs.declared.requests.LevelQuery.{LevelQuery}
 use Rattle.oe_requests.specs.declared.requests.Query.{Query}
-use Rattle.oe_requests.specs.declared.requests.Query.TheVariants.{Status, Level}
 use Rattle.oe_requests.specs.declared.replies.OrderStatus.{OrderStatus}
 use Rattle.oe_requests.specs.declared.replies.QueryReply.{QueryReply}
 use Rattle.oe_requests.specs.declared.replies.QueryReply.TheVariants as told
@@ -18,7 +17,7 @@ use Rattle.oe_requests.specs.declared.refusals.Refusal.{Refusal}
 use Rattle.oe_requests.specs.declared.refusals.Refusal.TheVariants.{NoSuchRow, NoCustomer}
 use Rattle.oe_model.specs.Keys.{customer_in}
 use Rattle.oe_model.specs.Rows.{Rows}
-use Rattle.oe_model.specs.Requests.{first_absent}
+use Rattle.oe_model.specs.Requests.{query_rejection}
 use Rattle.oe_model.specs.Choice.{chosen}
 use Rattle.oe_model.specs.Queries.{found, status_of, last_order, order_status, stock_level, answer_of}
 use Rattle.oe_model.specs.Rules.{AreLow}
@@ -27,8 +26,8 @@ use Rattle.oe_store.specs.Places.{rows}
 use Rattle.oe_store.specs.Places as tables
 use Rattle.oe_log.specs.Log.{SegmentLog}
 use Rattle.oe_log.specs.Moments.{IsKeptMoment, IsUnkept}
-use Rattle.oe_versions.specs.Versions.{version}
-use Rattle.oe_enquiry.specs.Reply.{IsReply, HasNoReply, IsRefused}
+use Rattle.oe_versions.specs.Versions.{VersionState, rows_of}
+use Rattle.oe_enquiry.specs.Reply.{IsReply, IsRefused}
 use Rattle.oe_enquiry.proofs.LevelFacts.{level_told}
 
 -- go on where there is a value
@@ -56,51 +55,38 @@ module _ (q : StatusQuery) (r : Rows) where
       ∙ on_some NoCustomer (get r.customers (customer_in q.district c)) x.0 _ (x.1 ∙ ap (get r.customers) is)
       ∙ (λ i. let y : Outcome QueryReply Refusal = Here (told.Status (record { customer = c; balance = x.2 i; order = sym (last ∙ ap (λ z. status_of r.order_lines (last_order z r.orders)) is) i })) in y)
 
-  nobody : None ≡ chosen q.district q.customer r.customers → answer_of (Status q) r ≡ Missing NoCustomer
+  pub nobody : None ≡ chosen q.district q.customer r.customers → order_status q r ≡ Missing NoCustomer
   nobody h = on_none NoCustomer (chosen q.district q.customer r.customers) _ h
 
-  no_row : (c : ℕ) (k : CustomerKey) → Some c ≡ chosen q.district q.customer r.customers → k ≡ customer_in q.district c
+  pub no_row : (c : ℕ) (k : CustomerKey) → Some c ≡ chosen q.district q.customer r.customers → k ≡ customer_in q.district c
       → None ≡ option_map (λ (x : Customer). x.account.balance) (get r.customers k)
-      → answer_of (Status q) r ≡ Missing NoCustomer
+      → order_status q r ≡ Missing NoCustomer
   no_row c k at is none =
       on_some NoCustomer (chosen q.district q.customer r.customers) c _ at
       ∙ on_none NoCustomer (get r.customers (customer_in q.district c)) _ (no_row_of (λ (x : Customer). x.account.balance) (get r.customers k) none ∙ ap (get r.customers) is)
 
-module _ (ts : tables.Places) (u : SegmentLog) (m : ℕ) where
-  pub outside_untold : (q : Query) (e : Refusal) → IsUnkept u m e → HasNoReply q ts u m e
-  outside_untold q e h = inl h
+pub no_district : (q : LevelQuery) (r : Rows) → None ≡ option_map (λ (x : District). x.next_order) (get r.districts q.district)
+    → stock_level q r ≡ Missing (NoSuchRow (key.District q.district))
+no_district q r h =
+    on_none (NoSuchRow (key.District q.district)) (get r.districts q.district) _ (no_row_of (λ (x : District). x.next_order) (get r.districts q.district) h)
 
-  pub nobody_untold : (q : StatusQuery) → IsKeptMoment u m → None ≡ chosen q.district q.customer (version ts u m).customers → HasNoReply (Status q) ts u m NoCustomer
-  nobody_untold q i h = inr (i, nobody q (version ts u m) h)
+-- what is answered of a version is answered of its moment
+module _ (q : Query) (ts : tables.Places) (u : SegmentLog) (m : ℕ) (s : VersionState) where
+  abbrev IsAt : Type 0
+  IsAt = s ≡ record { tables = ts; log = u; moment = m }
 
-  pub no_row_untold : (q : StatusQuery) (c : ℕ) (k : CustomerKey) → IsKeptMoment u m → Some c ≡ chosen q.district q.customer (version ts u m).customers → k ≡ customer_in q.district c
-      → None ≡ option_map (λ (x : Customer). x.account.balance) (get (version ts u m).customers k) → HasNoReply (Status q) ts u m NoCustomer
-  no_row_untold q c k i at is h = inr (i, no_row q (version ts u m) c k at is h)
+  pub is_reply : (f : QueryReply) → None ≡ query_rejection q (rows ts) → IsKeptMoment u m → IsAt → answer_of q (rows_of s) ≡ Here f → IsReply q ts u m f
+  is_reply f w i e h = record { warehouse = sym w; readable = i; answer = sym (ap (λ v. answer_of q (rows_of v)) e) ∙ h }
 
-  pub no_district_untold : (q : LevelQuery) → IsKeptMoment u m → None ≡ option_map (λ (x : District). x.next_order) (get (version ts u m).districts q.district)
-      → HasNoReply (Level q) ts u m (NoSuchRow (key.District q.district))
-  no_district_untold q i h =
-      inr (i, on_none (NoSuchRow (key.District q.district)) (get (version ts u m).districts q.district) _ (no_row_of (λ (x : District). x.next_order) (get (version ts u m).districts q.district) h))
+  pub is_missing : (r : Refusal) → None ≡ query_rejection q (rows ts) → IsKeptMoment u m → IsAt → answer_of q (rows_of s) ≡ Missing r → IsRefused q ts u m r
+  is_missing r w i e h = inr (sym w, inr (i, sym (ap (λ v. answer_of q (rows_of v)) e) ∙ h))
 
-  pub is_status : (q : StatusQuery) (f : QueryReply) → None ≡ first_absent (q.district.warehouse ∷ []) (rows ts) → IsKeptMoment u m → order_status q (version ts u m) ≡ Here f
-      → IsReply (Status q) ts u m f
-  is_status q f w i h = record { warehouse = sym w; readable = i; answer = h }
+module _ (q : Query) (ts : tables.Places) (u : SegmentLog) (m : ℕ) (e : Refusal) where
+  pub is_rejected : Some e ≡ query_rejection q (rows ts) → IsRefused q ts u m e
+  is_rejected h = inl (sym h)
 
-  pub is_level : (q : LevelQuery) (f : QueryReply) → None ≡ first_absent (q.district.warehouse ∷ []) (rows ts) → IsKeptMoment u m → stock_level q (version ts u m) ≡ Here f
-      → IsReply (Level q) ts u m f
-  is_level q f w i h = record { warehouse = sym w; readable = i; answer = h }
-
-  pub status_absent : (q : StatusQuery) (e : Refusal) → Some e ≡ first_absent (q.district.warehouse ∷ []) (rows ts) → IsRefused (Status q) ts u m e
-  status_absent q e h = inl (sym h)
-
-  pub level_absent : (q : LevelQuery) (e : Refusal) → Some e ≡ first_absent (q.district.warehouse ∷ []) (rows ts) → IsRefused (Level q) ts u m e
-  level_absent q e h = inl (sym h)
-
-  pub status_refused : (q : StatusQuery) (e : Refusal) → None ≡ first_absent (q.district.warehouse ∷ []) (rows ts) → HasNoReply (Status q) ts u m e → IsRefused (Status q) ts u m e
-  status_refused q e w h = inr (sym w, h)
-
-  pub level_refused : (q : LevelQuery) (e : Refusal) → None ≡ first_absent (q.district.warehouse ∷ []) (rows ts) → HasNoReply (Level q) ts u m e → IsRefused (Level q) ts u m e
-  level_refused q e w h = inr (sym w, h)
+  pub is_outside : None ≡ query_rejection q (rows ts) → IsUnkept u m e → IsRefused q ts u m e
+  is_outside w h = inr (sym w, inl h)
 
 pub level_counted : (q : LevelQuery) (r : Rows) (next : ℕ) (items : List ℕ) (n : ℕ) → Some next ≡ option_map (λ (x : District). x.next_order) (get r.districts q.district)
     → AreLow q r next items → n ≡ length items → stock_level q r ≡ Here (told.Level n)

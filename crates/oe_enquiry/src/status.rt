@@ -1,137 +1,76 @@
 //! Order-Status (clause 2.6): what is told of a customer's newest order.
-ghost use Rattle.std.specs.Prelude.{◌≡◌, IfOk, IfErr, OnOk};
-ghost use Rattle.oe_theory.specs.Machine.{Here};
-ghost use Rattle.oe_requests.specs.declared.requests.Query.TheVariants.{Status};
+ghost use Rattle.std.specs.Prelude.{◌≡◌, IfOk, IfErr};
+ghost use Rattle.oe_theory.specs.Machine.{Here, Missing};
 ghost use Rattle.oe_requests.specs.declared.replies.QueryReply.TheVariants as told;
 ghost use Rattle.oe_model.specs.Choice.{chosen};
 ghost use Rattle.oe_model.specs.Queries.{status_of, last_order, order_status};
-ghost use Rattle.oe_log.specs.Moments.{IsKeptMoment, IsUnkept};
-ghost use Rattle.oe_versions.specs.Versions.{version, Stand};
-ghost use Rattle.oe_enquiry.specs.Reply.{IsReply, HasNoReply, IsRefused};
+ghost use Rattle.oe_versions.specs.Versions.{rows_of, Stand};
 
-use crate::warehouses::absent;
 use oe_keys::{CustomerKey, DistrictKey};
 use oe_requests::{CustomerChoice, OrderStatus, Refusal, StatusQuery, StatusReply};
-use oe_store::Tables;
-use oe_undo::Undo;
-use oe_values::{CustomerNumber, Moment};
-use oe_versions::{balance_at, last_order_at, lines_at, names_at};
+use oe_values::CustomerNumber;
+use oe_versions::Version;
 
-/// C_ID of the customer that is meant, where there was one at the moment (clause 2.6.2.2).
-fn chosen_at(
-    tables: &Tables,
-    undo: &Undo,
+/// C_ID of the customer that is meant, where there was one (clause 2.6.2.2).
+fn chosen(
+    version: &Version<'_>,
     district: &DistrictKey,
     choice: &CustomerChoice,
-    moment: Moment,
-) -> Result<Option<CustomerNumber>, Refusal>
-    requires { Stand tables.now undo.now.log }
-    ensures chosen { IfOk result (λ c. c
-        ≡ chosen district.now choice.now (version tables.now undo.now.log moment).customers) }
-    ensures readable { OnOk result (IsKeptMoment undo.now.log moment) }
-    ensures refusal { IfErr result (IsUnkept undo.now.log moment) }
+) -> Option<CustomerNumber>
+    requires { Stand version.now.tables version.now.log }
+    ensures { result ≡ chosen district.now choice.now (rows_of version.now).customers }
 {
     match choice {
-        CustomerChoice::Number(number) => {
-            match balance_at(tables, undo, &district.customer(*number), moment) {
-                Ok(Some(_)) => Ok(Some(*number)),
-                Ok(None) => Ok(None),
-                Err(refusal) => Err(refusal),
-            }
-        }
-        CustomerChoice::LastName(last) => {
-            names_at(tables, undo, district, &last.as_text(), moment)
-        }
+        CustomerChoice::Number(number) => match version.balance(&district.customer(*number)) {
+            Some(_) => Some(*number),
+            None => None,
+        },
+        CustomerChoice::LastName(last) => version.customer_named(district, &last.as_text()),
     }
 }
 
-/// What is told of the newest order that a customer had at the moment, if there was any, with its lines by OL_NUMBER.
-fn newest_order_at(
-    tables: &Tables,
-    undo: &Undo,
-    customer: CustomerKey,
-    moment: Moment,
-) -> Result<Option<OrderStatus>, Refusal>
-    requires { Stand tables.now undo.now.log }
-    ensures order { IfOk result (λ o. o
-        ≡ status_of (version tables.now undo.now.log moment).order_lines
-        (last_order customer (version tables.now undo.now.log moment).orders)) }
-    ensures readable { OnOk result (IsKeptMoment undo.now.log moment) }
-    ensures refusal { IfErr result (IsUnkept undo.now.log moment) }
+/// What is told of the newest order that a customer had, if there was any, with its lines by OL_NUMBER.
+fn newest_order(version: &Version<'_>, customer: CustomerKey) -> Option<OrderStatus>
+    requires { Stand version.now.tables version.now.log }
+    ensures { result
+        ≡ status_of (rows_of version.now).order_lines
+        (last_order customer (rows_of version.now).orders) }
 {
-    let (key, order) = match last_order_at(tables, undo, customer, moment) {
-        Ok(Some(last)) => last,
-        Ok(None) => return Ok(None),
-        Err(refusal) => return Err(refusal),
+    let (key, order) = match version.last_order(customer) {
+        Some(last) => last,
+        None => return None,
     };
     let number = key.order;
-    match lines_at(tables, undo, key, moment) {
-        Ok(lines) => Ok(Some(OrderStatus {
-            number,
-            entry: order.entry,
-            carrier: order.carrier,
-            lines,
-        })),
-        Err(refusal) => Err(refusal),
-    }
+    let lines = version.lines(key);
+    Some(OrderStatus {
+        number,
+        entry: order.entry,
+        carrier: order.carrier,
+        lines,
+    })
 }
 
-/// What is told of the customer that is meant, where the warehouse is there.
-#[tactic(auto, using(crate::proofs::AnswerFacts::status_told, crate::proofs::AnswerFacts::outside_untold, crate::proofs::AnswerFacts::nobody_untold, crate::proofs::AnswerFacts::no_row_untold))]
-fn status_at(
-    tables: &Tables,
-    undo: &Undo,
-    query: &StatusQuery,
-    moment: Moment,
-) -> Result<StatusReply, Refusal>
-    requires { Stand tables.now undo.now.log }
-    ensures reply { IfOk result (λ y.
-        order_status query.now (version tables.now undo.now.log moment) ≡ Here (told.Status y)) }
-    ensures readable { OnOk result (IsKeptMoment undo.now.log moment) }
+/// What Order-Status answers of a version: the customer's C_ID and C_BALANCE, and the customer's newest order with its lines (clauses
+/// 2.6.2.2 and 2.6.3). `NoCustomer` where nobody had the number or the last name.
+#[tactic(auto, using(crate::proofs::AnswerFacts::status_told, crate::proofs::AnswerFacts::nobody, crate::proofs::AnswerFacts::no_row))]
+pub fn order_status(version: &Version<'_>, query: &StatusQuery) -> Result<StatusReply, Refusal>
+    requires { Stand version.now.tables version.now.log }
+    ensures reply { IfOk result
+        (λ y. order_status query.now (rows_of version.now) ≡ Here (told.Status y)) }
     ensures refusal { IfErr result
-        (λ e. HasNoReply (Status query.now) tables.now undo.now.log moment e) }
+        (λ e. order_status query.now (rows_of version.now) ≡ Missing e) }
 {
-    let number = match chosen_at(tables, undo, &query.district, &query.customer, moment) {
-        Ok(Some(number)) => number,
-        Ok(None) => return Err(Refusal::NoCustomer),
-        Err(refusal) => return Err(refusal),
+    let Some(number) = chosen(version, &query.district, &query.customer) else {
+        return Err(Refusal::NoCustomer);
     };
     let key = query.district.customer(number);
-    let balance = match balance_at(tables, undo, &key, moment) {
-        Ok(Some(balance)) => balance,
-        Ok(None) => return Err(Refusal::NoCustomer),
-        Err(refusal) => return Err(refusal),
+    let Some(balance) = version.balance(&key) else {
+        return Err(Refusal::NoCustomer);
     };
-    match newest_order_at(tables, undo, key, moment) {
-        Ok(order) => Ok(StatusReply {
-            customer: number,
-            balance,
-            order,
-        }),
-        Err(refusal) => Err(refusal),
-    }
-}
-
-/// What Order-Status answers of a moment: the customer's C_ID and C_BALANCE, and the customer's newest order with its lines, as
-/// all commits up to the moment have left them, without anybody's open work (clauses 2.6.2.2 and 2.6.3).
-///
-/// `NoSuchRow` with the warehouse where that is absent; otherwise `TooOld` with the horizon and `Future` with the newest moment,
-/// exactly where the moment is not between the two; otherwise `NoCustomer` where nobody has the number or the last name.
-#[tactic(auto, using(crate::proofs::AnswerFacts::is_status, crate::proofs::AnswerFacts::status_absent, crate::proofs::AnswerFacts::status_refused))]
-pub fn order_status(
-    tables: &Tables,
-    undo: &Undo,
-    query: &StatusQuery,
-    moment: Moment,
-) -> Result<StatusReply, Refusal>
-    requires { Stand tables.now undo.now.log }
-    ensures reply { IfOk result (λ y.
-        IsReply (Status query.now) tables.now undo.now.log moment (told.Status y)) }
-    ensures refusal { IfErr result (λ e.
-        IsRefused (Status query.now) tables.now undo.now.log moment e) }
-{
-    match absent(tables, query.district.warehouse) {
-        Some(refusal) => Err(refusal),
-        None => status_at(tables, undo, query, moment),
-    }
+    let order = newest_order(version, key);
+    Ok(StatusReply {
+        customer: number,
+        balance,
+        order,
+    })
 }

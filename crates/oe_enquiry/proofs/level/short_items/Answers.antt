@@ -1,4 +1,6 @@
-use Rattle.std.proofs.Common.{arith}
+use Rattle.std.proofs.Common.{arith, subst}
+use Rattle.oe_store.specs.Numbered.{AreNumbered}
+use Rattle.oe_store.specs.Places.{rows}
 use Rattle.oe_enquiry.proofs.LastFacts.{low_items}
 use Rattle.oe_enquiry.proofs.ShortFacts.{starts, in_range, has_room, goes_on}
 use Rattle.oe_enquiry.proofs.level.short_items.Goals as goal
@@ -15,8 +17,9 @@ list_order-requires-clause-room c = has_room _ _ _ _ c.loop-number.number c.loop
 
 pub loop-number-preserved : goal.loop-number-preserved
 loop-number-preserved c =
-    goes_on _ _ _ _ c.loop-number.number c.order_number.result c.loop-number.items _ (omega arith) c.order_number.ensures c.loop-number.invariant c.in-Ok.ensures.items c.list_order.ensures.few
+    goes_on _ _ _ _ c.loop-number.number c.order_number.result c.loop-number.items _ (omega arith) c.order_number.ensures c.loop-number.invariant c.list_order.ensures.items c.list_order.ensures.few
 
-pub returns-clause-items : goal.returns-clause-items
-returns-clause-items c =
-    low_items c.args.tables.now c.args.undo.now.log c.args.moment c.args.query.now c.args.next c.loop-number.number c.loop-number.items c.requires c.numbers_hold.ensures (omega arith) c.loop-number.invariant
+pub returns : goal.returns
+returns c =
+    low_items c.args.version.now.tables c.args.version.now.log c.args.version.now.moment c.args.query.now c.args.next c.loop-number.number c.loop-number.items c.requires
+    (subst (λ ts. AreNumbered (rows ts)) c.tables.ensures c.numbers_hold.ensures) (omega arith) c.loop-number.invariant
