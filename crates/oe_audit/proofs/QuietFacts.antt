@@ -41,12 +41,12 @@ none_taken : {A : Type 0} (xs : List A) → take 0 xs ≡ []
 none_taken [] = refl
 none_taken (x ∷ xs) = refl
 
-pub nothing_since : (ts : tables.Places) (u : SegmentLog) (m n : ℕ) → n ≡ newest u - m → n ≡ 0 → open_total u ≡ 0 → version ts u m ≡ rows ts
-nothing_since ts u m n after none quiet =
-    let last : newest u - m ≡ 0 = sym after ∙ none in
-    ap (λ k. unwind_commits system (take k (undo_of u).history) (unwind_open system (undo_of u).active (all_below system terminal_limit) (rows ts))) last
+pub nothing_since : (ts : tables.Places) (u : SegmentLog) (m : ℕ) → newest u ≡ m → open_total u ≡ 0 → version ts u m ≡ rows ts
+nothing_since ts u m last quiet =
+    let none : newest u - m ≡ 0 = omega (arith, last) in
+    ap (λ k. unwind_commits system (take k (undo_of u).history) (unwind_open system (undo_of u).active (all_below system terminal_limit) (rows ts))) none
     ∙ ap (λ ss. unwind_commits system ss (unwind_open system (undo_of u).active (all_below system terminal_limit) (rows ts))) (none_taken (undo_of u).history)
     ∙ none_put_back (undo_of u).active (λ t. ap (λ o. model_records (records_in o)) (shut u.terminals quiet t)) (all_below system terminal_limit) (rows ts)
 
-pub audited_now : (ts : tables.Places) (u : SegmentLog) (m n : ℕ) (c : Condition) (v : Verdict) → n ≡ newest u - m → n ≡ 0 → open_total u ≡ 0 → v ≡ verdict c (rows ts) → v ≡ verdict c (version ts u m)
-audited_now ts u m n c v after none quiet told = told ∙ ap (verdict c) (sym (nothing_since ts u m n after none quiet))
+pub audited_now : (ts : tables.Places) (u : SegmentLog) (m : ℕ) (c : Condition) (v : Verdict) → newest u ≡ m → open_total u ≡ 0 → v ≡ verdict c (rows ts) → v ≡ verdict c (version ts u m)
+audited_now ts u m c v last quiet told = told ∙ ap (verdict c) (sym (nothing_since ts u m last quiet))

@@ -19,7 +19,7 @@ use Rattle.oe_model.specs.Rows.{Rows}
 use Rattle.oe_model.specs.Conditions.{ytd_of, lines_asked, lines_there}
 use Rattle.oe_store.specs.Places.{rows, entries_of}
 use Rattle.oe_store.specs.Places as tables
-use Rattle.oe_versions.specs.Versions.{version}
+use Rattle.oe_versions.specs.Versions.{rows_of}
 use Rattle.oe_versions.proofs.ChosenFacts.{rows_at, kept_is, kept_among, all_is}
 use Rattle.oe_audit.specs.AsOf.{rows_then, stood, ArePassed}
 use Rattle.oe_audit.specs.declared.as_of.AsOf.{AsOf}
@@ -59,12 +59,12 @@ module _ {K X : Type 0} {R : K → K → Ordering} (total : IsTotalOrder R) (exa
   pub all_stood : (w : AsOf) → ((q : K) → IsSome (get (of (rows_then ts w)) q) → IsSome (get (of (rows ts)) q))
       → entries (of (rows_then ts w)) ≡ stood w (of (rows_then ts w)) (entries (of (rows ts)))
   all_stood when.Now has = sym (stood_now (of (rows ts)) (entries (of (rows ts))))
-  all_stood (when.Moment u m) has = all_is (of (version ts u.now.log m)) total exact (of (rows ts)) has
+  all_stood (when.Moment v) has = all_is (of (rows_of v)) total exact (of (rows ts)) has
 
   pub kept_stood : (w : AsOf) (p : K → Bool) → ((q : K) → IsSome (get (of (rows_then ts w)) q) → IsSome (get (of (rows ts)) q))
       → entries (retain_keys (of (rows_then ts w)) p) ≡ stood w (of (rows_then ts w)) (entries (retain_keys (of (rows ts)) p))
   kept_stood when.Now p has = sym (stood_now (of (rows ts)) (entries (retain_keys (of (rows ts)) p)))
-  kept_stood (when.Moment u m) p has = kept_is (of (version ts u.now.log m)) total exact (of (rows ts)) p has
+  kept_stood (when.Moment v) p has = kept_is (of (rows_of v)) total exact (of (rows ts)) p has
 
 module _ (ts : tables.Places) (w : AsOf) (h : ArePassed (rows_then ts w) (rows ts)) where
   abbrev pub past : Rows

@@ -9,14 +9,12 @@ use Rattle.oe_keys.specs.declared.keys.OrderKey.{OrderKey}
 use Rattle.oe_keys.specs.declared.keys.OrderLineKey.{OrderLineKey}
 use Rattle.oe_keys.specs.declared.keys.NewOrderKey.{NewOrderKey}
 use Rattle.oe_rows.specs.declared.orders.OrderLine.{OrderLine}
-use Rattle.oe_requests.specs.declared.refusals.Refusal.{Refusal}
 use Rattle.oe_model.specs.Keys.{order_of_new_order}
 use Rattle.oe_model.specs.Rows.{Rows}
 use Rattle.oe_model.specs.Audits.{Condition, Second, Third, Fourth}
 use Rattle.oe_store.specs.Places.{rows}
 use Rattle.oe_store.specs.Places as tables
-use Rattle.oe_log.specs.Moments.{IsUnkept}
-use Rattle.oe_versions.specs.Versions.{version}
+use Rattle.oe_versions.specs.Versions.{rows_of}
 use Rattle.oe_audit.specs.Tests.{is_numbered, are_counted, lines_agree}
 use Rattle.oe_audit.specs.declared.as_of.AsOf.{AsOf}
 use Rattle.oe_audit.specs.declared.as_of.AsOf.TheVariants as when
@@ -26,22 +24,17 @@ use Rattle.oe_audit.specs.declared.conditions.DistrictCondition.TheVariants as o
 -- the rows as they stand, or stood at a moment
 abbrev pub rows_then : tables.Places → AsOf → Rows
 rows_then ts when.Now = rows ts
-rows_then ts (when.Moment u m) = version ts u.now.log m
-
--- why they can't be read: never as they stand
-abbrev pub IsUnread : AsOf → Refusal → Type 0
-IsUnread when.Now e = ⊥
-IsUnread (when.Moment u m) e = IsUnkept u.now.log m e
+rows_then ts (when.Moment v) = rows_of v
 
 -- what a key has then, where it has this row now
 abbrev pub row_then : {K X : Type 0} {R : K → K → Ordering} → AsOf → FinMap R X → K → X → Option X
 row_then when.Now m k x = Some x
-row_then (when.Moment u n) m k x = get m k
+row_then (when.Moment v) m k x = get m k
 
 -- whether a key has a row then, where it has one now
 abbrev pub has_row_then : {K X : Type 0} {R : K → K → Ordering} → AsOf → FinMap R X → K → Bool
 has_row_then when.Now m k = true
-has_row_then (when.Moment u n) m k = is_some (get m k)
+has_row_then (when.Moment v) m k = is_some (get m k)
 
 -- what the keys of these rows have then
 abbrev pub stood : {K X : Type 0} {R : K → K → Ordering}

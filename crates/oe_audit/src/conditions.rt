@@ -3,9 +3,9 @@ ghost use Rattle.std.specs.Prelude.{◌≡◌, IsTrue, IfOk, IfErr, OnOk};
 ghost use Rattle.oe_model.specs.Audits.{First};
 ghost use Rattle.oe_store.specs.Places.{rows};
 ghost use Rattle.oe_log.specs.Log.{open_total};
-ghost use Rattle.oe_log.specs.Moments.{IsKeptMoment, IsUnkept};
+ghost use Rattle.oe_log.specs.Moments.{newest, IsKeptMoment, IsUnkept};
 ghost use Rattle.oe_versions.specs.Versions.{version, Stand};
-ghost use Rattle.oe_audit.specs.AsOf.{rows_then, model_condition, passes, ArePassed, IsUnread};
+ghost use Rattle.oe_audit.specs.AsOf.{rows_then, model_condition, passes, ArePassed};
 ghost use Rattle.oe_audit.specs.Verdict.{IsVerdict, IsAudited};
 
 use crate::as_of::AsOf;
@@ -16,6 +16,7 @@ use oe_requests::{Condition, Refusal, Verdict};
 use oe_store::Tables;
 use oe_undo::Undo;
 use oe_values::{Moment, OrderNumber};
+use oe_versions::Version;
 
 /// The conditions that are asked of each district.
 pub(crate) enum DistrictCondition {
@@ -25,24 +26,21 @@ pub(crate) enum DistrictCondition {
 }
 
 /// The verdict of the first condition (clause 3.3.2.1).
-fn first<'a>(tables: &'a Tables, when: &AsOf<'a>) -> Result<Verdict, Refusal>
+fn first<'a>(tables: &'a Tables, when: &AsOf<'a>) -> Verdict
     requires { ArePassed (rows_then tables.now when.now) (rows tables.now) }
-    ensures verdict { IfOk result (IsVerdict First (rows_then tables.now when.now)) }
-    ensures refusal { IfErr result (λ e. IsUnread when.now e) }
+    ensures { IsVerdict First (rows_then tables.now when.now) result }
 {
     for (key, row) in tables.warehouses() {
         match when.warehouse_ytd(tables, key, row) {
-            Ok(Some(ytd)) => {
-                let passed = passes_first(tables, when, key, ytd)?;
-                if !passed {
-                    return Ok(Verdict::Fails(Key::Warehouse(*key)));
+            Some(ytd) => {
+                if !passes_first(tables, when, key, ytd) {
+                    return Verdict::Fails(Key::Warehouse(*key));
                 }
             }
-            Ok(None) => {}
-            Err(refusal) => return Err(refusal),
+            None => {}
         }
     }
-    Ok(Verdict::Holds)
+    Verdict::Holds
 }
 
 /// Whether a district with this D_NEXT_O_ID passes a condition.
@@ -52,11 +50,9 @@ fn passes<'a>(
     when: &AsOf<'a>,
     key: &DistrictKey,
     next_order: OrderNumber,
-) -> Result<bool, Refusal>
+) -> bool
     requires { ArePassed (rows_then tables.now when.now) (rows tables.now) }
-    ensures passed { IfOk result (λ b.
-        b ≡ passes condition.now (rows_then tables.now when.now) key.now next_order) }
-    ensures refusal { IfErr result (λ e. IsUnread when.now e) }
+    ensures { result ≡ passes condition.now (rows_then tables.now when.now) key.now next_order }
 {
     match condition {
         DistrictCondition::Second => passes_second(tables, when, key, next_order),
@@ -66,36 +62,27 @@ fn passes<'a>(
 }
 
 /// The verdict of a condition of districts (clauses 3.3.2.2 to 3.3.2.4).
-fn of_districts<'a>(
-    condition: &DistrictCondition,
-    tables: &'a Tables,
-    when: &AsOf<'a>,
-) -> Result<Verdict, Refusal>
+fn of_districts<'a>(condition: &DistrictCondition, tables: &'a Tables, when: &AsOf<'a>) -> Verdict
     requires { ArePassed (rows_then tables.now when.now) (rows tables.now) }
-    ensures verdict { IfOk result (
-        IsVerdict (model_condition condition.now) (rows_then tables.now when.now)) }
-    ensures refusal { IfErr result (λ e. IsUnread when.now e) }
+    ensures { IsVerdict (model_condition condition.now) (rows_then tables.now when.now) result }
 {
     for (key, row) in tables.districts() {
         match when.next_order(tables, key, row) {
-            Ok(Some(next_order)) => {
-                let passed = passes(condition, tables, when, key, next_order)?;
-                if !passed {
-                    return Ok(Verdict::Fails(Key::District(*key)));
+            Some(next_order) => {
+                if !passes(condition, tables, when, key, next_order) {
+                    return Verdict::Fails(Key::District(*key));
                 }
             }
-            Ok(None) => {}
-            Err(refusal) => return Err(refusal),
+            None => {}
         }
     }
-    Ok(Verdict::Holds)
+    Verdict::Holds
 }
 
 /// The verdict of a condition, found row by row.
-fn found<'a>(number: Condition, tables: &'a Tables, when: &AsOf<'a>) -> Result<Verdict, Refusal>
+fn found<'a>(number: Condition, tables: &'a Tables, when: &AsOf<'a>) -> Verdict
     requires { ArePassed (rows_then tables.now when.now) (rows tables.now) }
-    ensures verdict { IfOk result (IsAudited number (rows_then tables.now when.now)) }
-    ensures refusal { IfErr result (λ e. IsUnread when.now e) }
+    ensures { IsAudited number (rows_then tables.now when.now) result }
 {
     match number {
         Condition::First => first(tables, when),
@@ -113,32 +100,15 @@ pub fn condition(number: Condition, tables: &Tables) -> Verdict
     ensures { IsAudited number (rows tables.now) result }
 {
     tables.schema_holds();
-    match found(number, tables, &AsOf::Now) {
-        Ok(verdict) => verdict,
-        Err(_) => unreachable!(),
-    }
+    found(number, tables, &AsOf::Now)
 }
 
-/// Whether there is nothing to put back: no commit is later, and no transaction is open.
-fn is_settled(undo: &Undo, later: usize) -> bool
-    ensures commits { IsTrue result → later ≡ 0 }
+/// Whether there is nothing to put back: no commit is later than the moment, and no transaction is open.
+fn is_settled(undo: &Undo, moment: Moment) -> bool
+    ensures commits { IsTrue result → newest undo.now.log ≡ moment }
     ensures open { IsTrue result → open_total undo.now.log ≡ 0 }
 {
-    later == 0 && undo.segments().open_count() == 0
-}
-
-/// The verdict of a condition at a moment, found row by row.
-fn found_at<'a>(
-    number: Condition,
-    tables: &'a Tables,
-    undo: &'a Undo,
-    moment: Moment,
-) -> Result<Verdict, Refusal>
-    requires { Stand tables.now undo.now.log }
-    ensures verdict { IfOk result (IsAudited number (version tables.now undo.now.log moment)) }
-    ensures refusal { IfErr result (IsUnkept undo.now.log moment) }
-{
-    found(number, tables, &AsOf::Moment(undo, moment))
+    undo.segments().newest().get() == moment.get() && undo.segments().open_count() == 0
 }
 
 /// The verdict of a consistency condition at a moment, as `condition` would have given it when that moment was the newest, whatever
@@ -158,12 +128,12 @@ pub fn condition_at(
     ensures readable { OnOk result (IsKeptMoment undo.now.log moment) }
     ensures refusal { IfErr result (IsUnkept undo.now.log moment) }
 {
-    match undo.segments().commits_after(moment) {
-        Ok(later) => {
-            if is_settled(undo, later) {
+    match Version::at(tables, undo, moment) {
+        Ok(version) => {
+            if is_settled(undo, moment) {
                 return Ok(condition(number, tables));
             }
-            found_at(number, tables, undo, moment)
+            Ok(found(number, tables, &AsOf::Moment(version)))
         }
         Err(refusal) => Err(refusal),
     }

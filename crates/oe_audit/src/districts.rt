@@ -1,13 +1,12 @@
 //! The second, third and fourth consistency conditions, at a district.
-ghost use Rattle.std.specs.Prelude.{◌≡◌, ◌≤◌, ◌+◌, ◌↔◌, ◌==◌, IsTrue, IfOk, IfErr};
+ghost use Rattle.std.specs.Prelude.{◌≡◌, ◌≤◌, ◌+◌, ◌↔◌, ◌==◌, IsTrue};
 ghost use Rattle.oe_model.specs.Audits.{greatest, some_and, none_or, order_numbers, new_order_numbers};
 ghost use Rattle.oe_store.specs.Places.{rows};
-ghost use Rattle.oe_audit.specs.AsOf.{rows_then, lines_stood, greater_of, ArePassed, IsUnread};
+ghost use Rattle.oe_audit.specs.AsOf.{rows_then, lines_stood, greater_of, ArePassed};
 ghost use Rattle.oe_audit.specs.Tests.{is_numbered, are_counted, follows, lines_agree};
 
 use crate::as_of::AsOf;
 use oe_keys::{DistrictKey, OrderLineKey};
-use oe_requests::Refusal;
 use oe_rows::OrderLine;
 use oe_store::Tables;
 use oe_table::shelf_walks::Rows;
@@ -24,53 +23,34 @@ fn greater(before: Option<u32>, number: u32) -> u32
 }
 
 /// The greatest O_ID of a district.
-fn last_order<'a>(
-    tables: &'a Tables,
-    when: &AsOf<'a>,
-    key: &DistrictKey,
-) -> Result<Option<u32>, Refusal>
+fn last_order<'a>(tables: &'a Tables, when: &AsOf<'a>, key: &DistrictKey) -> Option<u32>
     requires { ArePassed (rows_then tables.now when.now) (rows tables.now) }
-    ensures last { IfOk result (λ n.
-        n ≡ greatest (order_numbers key.now (rows_then tables.now when.now).orders)) }
-    ensures refusal { IfErr result (λ e. IsUnread when.now e) }
+    ensures { result ≡ greatest (order_numbers key.now (rows_then tables.now when.now).orders) }
 {
     let mut last = None;
     for (order, row) in tables.orders_of(*key) {
-        match when.order(tables, order, row) {
-            Ok(placed) => {
-                if placed.is_some() {
-                    last = Some(greater(last, order.order.get()));
-                }
-            }
-            Err(refusal) => return Err(refusal),
+        let placed = when.order(tables, order, row);
+        if placed.is_some() {
+            last = Some(greater(last, order.order.get()));
         }
     }
-    Ok(last)
+    last
 }
 
 /// The greatest NO_O_ID of a district.
-fn last_new_order<'a>(
-    tables: &'a Tables,
-    when: &AsOf<'a>,
-    key: &DistrictKey,
-) -> Result<Option<u32>, Refusal>
+fn last_new_order<'a>(tables: &'a Tables, when: &AsOf<'a>, key: &DistrictKey) -> Option<u32>
     requires { ArePassed (rows_then tables.now when.now) (rows tables.now) }
-    ensures last { IfOk result (λ n.
-        n ≡ greatest (new_order_numbers key.now (rows_then tables.now when.now).new_orders)) }
-    ensures refusal { IfErr result (λ e. IsUnread when.now e) }
+    ensures { result
+        ≡ greatest (new_order_numbers key.now (rows_then tables.now when.now).new_orders) }
 {
     let mut last = None;
     for (order, _) in tables.orders_of(*key) {
-        match when.has_new_order(tables, &order.new_order_key()) {
-            Ok(waits) => {
-                if waits {
-                    last = Some(greater(last, order.order.get()));
-                }
-            }
-            Err(refusal) => return Err(refusal),
+        let waits = when.has_new_order(tables, &order.new_order_key());
+        if waits {
+            last = Some(greater(last, order.order.get()));
         }
     }
-    Ok(last)
+    last
 }
 
 /// Whether there is such a number, and it is the last.
@@ -99,26 +79,18 @@ pub(crate) fn passes_second<'a>(
     when: &AsOf<'a>,
     key: &DistrictKey,
     next_order: OrderNumber,
-) -> Result<bool, Refusal>
+) -> bool
     requires { ArePassed (rows_then tables.now when.now) (rows tables.now) }
-    ensures passed { IfOk result (λ b.
-        b ≡ is_numbered (rows_then tables.now when.now) key.now next_order) }
-    ensures refusal { IfErr result (λ e. IsUnread when.now e) }
+    ensures { result ≡ is_numbered (rows_then tables.now when.now) key.now next_order }
 {
     let next = next_order.get();
     let last = next - 1;
-    match last_order(tables, when, key) {
-        Ok(order) => {
-            if !is_last(order, last) {
-                return Ok(false);
-            }
-        }
-        Err(refusal) => return Err(refusal),
+    let order = last_order(tables, when, key);
+    if !is_last(order, last) {
+        return false;
     }
-    match last_new_order(tables, when, key) {
-        Ok(new_order) => Ok(is_last_or_none(new_order, last)),
-        Err(refusal) => Err(refusal),
-    }
+    let new_order = last_new_order(tables, when, key);
+    is_last_or_none(new_order, last)
 }
 
 /// Whether a number is one more than the one before it, where there is one.
@@ -134,31 +106,22 @@ fn follows_number(before: Option<u32>, number: u32) -> bool
 
 /// Whether the greatest NO_O_ID less the least, and 1, is the number of NEW-ORDER rows (clause 3.3.2.3): in their order
 /// each has the number after the one before.
-pub(crate) fn passes_third<'a>(
-    tables: &'a Tables,
-    when: &AsOf<'a>,
-    key: &DistrictKey,
-) -> Result<bool, Refusal>
+pub(crate) fn passes_third<'a>(tables: &'a Tables, when: &AsOf<'a>, key: &DistrictKey) -> bool
     requires { ArePassed (rows_then tables.now when.now) (rows tables.now) }
-    ensures passed { IfOk result (λ b. b ≡ are_counted (rows_then tables.now when.now) key.now) }
-    ensures refusal { IfErr result (λ e. IsUnread when.now e) }
+    ensures { result ≡ are_counted (rows_then tables.now when.now) key.now }
 {
     let mut before = None;
     for (order, _) in tables.orders_of(*key) {
-        match when.has_new_order(tables, &order.new_order_key()) {
-            Ok(is_new) => {
-                if is_new {
-                    let number = order.order.get();
-                    if !follows_number(before, number) {
-                        return Ok(false);
-                    }
-                    before = Some(number);
-                }
+        let is_new = when.has_new_order(tables, &order.new_order_key());
+        if is_new {
+            let number = order.order.get();
+            if !follows_number(before, number) {
+                return false;
             }
-            Err(refusal) => return Err(refusal),
+            before = Some(number);
         }
     }
-    Ok(true)
+    true
 }
 
 /// Takes rows off the front of a walk until so many of them stood then, and answers whether there were so many.
@@ -167,29 +130,23 @@ fn takes<'a>(
     tables: &'a Tables,
     when: &AsOf<'a>,
     count: u32,
-) -> Result<bool, Refusal>
-    ensures enough { IfOk result (λ b.
-        IsTrue b ↔ (count ≤ lines_stood tables.now when.now lines.old)) }
-    ensures taken { IfOk result (λ b. IsTrue b →
+) -> bool
+    ensures enough { IsTrue result ↔ (count ≤ lines_stood tables.now when.now lines.old) }
+    ensures taken { IsTrue result →
         lines_stood tables.now when.now lines.new + count
-        ≡ lines_stood tables.now when.now lines.old) }
-    ensures refusal { IfErr result (λ e. IsUnread when.now e) }
+        ≡ lines_stood tables.now when.now lines.old }
 {
     let mut wanted = count;
     while wanted > 0 {
         let Some((key, _)) = lines.next() else {
-            return Ok(false);
+            return false;
         };
-        match when.has_order_line(tables, key) {
-            Ok(stood) => {
-                if stood {
-                    wanted -= 1;
-                }
-            }
-            Err(refusal) => return Err(refusal),
+        let stood = when.has_order_line(tables, key);
+        if stood {
+            wanted -= 1;
         }
     }
-    Ok(true)
+    true
 }
 
 /// Whether a walk has a row yet that stood then.
@@ -197,38 +154,30 @@ fn has_more<'a>(
     lines: &mut Rows<'a, OrderLineKey, OrderLine>,
     tables: &'a Tables,
     when: &AsOf<'a>,
-) -> Result<bool, Refusal>
-    ensures more { IfOk result
-        (λ b. IsTrue b ↔ (1 ≤ lines_stood tables.now when.now lines.old)) }
-    ensures refusal { IfErr result (λ e. IsUnread when.now e) }
+) -> bool
+    ensures { IsTrue result ↔ (1 ≤ lines_stood tables.now when.now lines.old) }
 {
     takes(lines, tables, when, 1)
 }
 
 /// Whether the sum of O_OL_CNT is the number of ORDER-LINE rows (clause 3.3.2.4): the orders take their numbers of rows
 /// off the walk of the lines, and none is left.
-pub(crate) fn passes_fourth<'a>(
-    tables: &'a Tables,
-    when: &AsOf<'a>,
-    key: &DistrictKey,
-) -> Result<bool, Refusal>
+pub(crate) fn passes_fourth<'a>(tables: &'a Tables, when: &AsOf<'a>, key: &DistrictKey) -> bool
     requires { ArePassed (rows_then tables.now when.now) (rows tables.now) }
-    ensures passed { IfOk result (λ b. b ≡ lines_agree (rows_then tables.now when.now) key.now) }
-    ensures refusal { IfErr result (λ e. IsUnread when.now e) }
+    ensures { result ≡ lines_agree (rows_then tables.now when.now) key.now }
 {
     let mut lines = tables.order_lines_of_district(*key);
     for (order, row) in tables.orders_of(*key) {
         match when.order(tables, order, row) {
-            Ok(Some(placed)) => {
-                let enough = takes(&mut lines, tables, when, placed.line_count.get())?;
+            Some(placed) => {
+                let enough = takes(&mut lines, tables, when, placed.line_count.get());
                 if !enough {
-                    return Ok(false);
+                    return false;
                 }
             }
-            Ok(None) => {}
-            Err(refusal) => return Err(refusal),
+            None => {}
         }
     }
-    let has_more = has_more(&mut lines, tables, when)?;
-    Ok(!has_more)
+    let has_more = has_more(&mut lines, tables, when);
+    !has_more
 }

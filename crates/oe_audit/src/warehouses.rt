@@ -1,12 +1,11 @@
 //! The first consistency condition, at a warehouse.
-ghost use Rattle.std.specs.Prelude.{◌≡◌, IfOk, IfErr};
+ghost use Rattle.std.specs.Prelude.{◌≡◌};
 ghost use Rattle.oe_store.specs.Places.{rows};
-ghost use Rattle.oe_audit.specs.AsOf.{rows_then, ArePassed, IsUnread};
+ghost use Rattle.oe_audit.specs.AsOf.{rows_then, ArePassed};
 ghost use Rattle.oe_audit.specs.Tests.{is_summed};
 
 use crate::as_of::AsOf;
 use oe_keys::WarehouseKey;
-use oe_requests::Refusal;
 use oe_store::Tables;
 use oe_values::YearToDate;
 
@@ -18,23 +17,21 @@ pub(crate) fn passes_first<'a>(
     when: &AsOf<'a>,
     key: &WarehouseKey,
     ytd: YearToDate,
-) -> Result<bool, Refusal>
+) -> bool
     requires { ArePassed (rows_then tables.now when.now) (rows tables.now) }
-    ensures passed { IfOk result (λ b. b ≡ is_summed (rows_then tables.now when.now) key.now ytd) }
-    ensures refusal { IfErr result (λ e. IsUnread when.now e) }
+    ensures { result ≡ is_summed (rows_then tables.now when.now) key.now ytd }
 {
     let mut rest = ytd.cents();
     for (district, row) in tables.districts_of(*key) {
         match when.district_ytd(tables, district, row) {
-            Ok(Some(taken)) => {
+            Some(taken) => {
                 let Some(less) = rest.checked_sub(taken.cents()) else {
-                    return Ok(false);
+                    return false;
                 };
                 rest = less;
             }
-            Ok(None) => {}
-            Err(refusal) => return Err(refusal),
+            None => {}
         }
     }
-    Ok(rest == 0)
+    rest == 0
 }

@@ -1,12 +1,18 @@
-use Rattle.std.proofs.Common.{◌≡◌, ◌-◌, subst}
-use Rattle.oe_log.specs.Log.{SegmentLog}
-use Rattle.oe_log.specs.Moments.{newest}
+use Rattle.std.proofs.Common.{sym, subst}
+use Rattle.oe_store.specs.Places.{rows}
+use Rattle.oe_versions.specs.Versions.{VersionState, rows_of}
+use Rattle.oe_audit.specs.AsOf.{ArePassed}
 use Rattle.oe_audit.specs.Verdict.{condition_of, verdict_of}
+use Rattle.oe_audit.proofs.PassedFacts.{passed_at}
 use Rattle.oe_audit.proofs.QuietFacts.{audited_now}
 use Rattle.oe_audit.proofs.conditions.condition_at.Goals as goal
 
 pub returns-then-is_settled-clause-verdict : goal.returns-then-is_settled-clause-verdict
 returns-then-is_settled-clause-verdict c =
-    audited_now c.args.tables.now c.args.undo.now.log c.args.moment c.in-Ok.later (condition_of c.args.number) (verdict_of c.condition.result)
-    (subst (λ (v : SegmentLog). c.in-Ok.later ≡ newest v - c.args.moment) c.segments.ensures c.in-Ok.ensures.count)
+    audited_now c.args.tables.now c.args.undo.now.log c.args.moment (condition_of c.args.number) (verdict_of c.condition.result)
     (c.is_settled.ensures.commits c.if-is_settled.true) (c.is_settled.ensures.open c.if-is_settled.true) c.condition.ensures
+
+pub found-requires : goal.found-requires
+found-requires c =
+    subst (λ (v : VersionState). ArePassed (rows_of v) (rows c.args.tables.now)) (sym c.in-Ok.ensures.version)
+    (passed_at c.args.tables.now c.args.undo.now.log c.args.moment c.requires)
