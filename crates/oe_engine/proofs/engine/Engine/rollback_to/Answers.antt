@@ -21,7 +21,7 @@ mark-requires c =
 pub overflow_sub-count : goal.overflow_sub-count
 unfolding view_of view_from
 overflow_sub-count c =
-    let given = rw (← c.self.view_is) at c.requires.mark in
+    let given = rw (← c.self.view_is) at c.requires.savepoint in
     let below : c.args.savepoint ≤ length ((undo_of c.self.inside.undo.log).active c.args.tx.now.terminal) = given in
     within_mark c.self.inside.undo.log c.of-segment.result c.args.tx.now.terminal c.mark.result c.args.savepoint c.savepoint.inside.records (c.of-segment.ensures ∙ ap (λ x. x.terminal) c.tx.view_is) (counted c.self.inside.undo.log c.segments.result.now c.of-segment.result c.mark.result c.segments.ensures c.mark.ensures) c.savepoint.view_is below
 
