@@ -2,7 +2,7 @@
 //!
 //! Program and mark are of the request's kind by type, so that each position is one of the request's own program. What an earlier
 //! transaction left is written over where it lies. Nothing takes memory, and nothing can fail.
-ghost use Rattle.std.specs.Prelude.{◌≡◌, option_map, IfSome, OnNone, None};
+ghost use Rattle.std.specs.Prelude.{◌≡◌, option_map, IfSome};
 ghost use Rattle.oe_requests.specs.Reply.{told_reply};
 ghost use Rattle.oe_engine.specs.View.{IsOpen};
 ghost use Rattle.oe_engine.specs.Programs.{Progresses, reply_at};

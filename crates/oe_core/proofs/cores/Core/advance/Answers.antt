@@ -7,6 +7,8 @@ use Rattle.oe_engine.specs.Calls.{committed}
 use Rattle.oe_engine.specs.Programs.{reply_at}
 use Rattle.oe_requests.specs.declared.steps.Step.TheVariants as step
 use Rattle.oe_core.specs.Core.{Moves}
+use Rattle.oe_core.specs.Works.{WorkState}
+use Rattle.oe_requests.specs.declared.requests.Request.{Request}
 use Rattle.oe_core.specs.Steps.{refusal_in}
 use Rattle.oe_core.proofs.MoveFacts.{carries, nothing_open, HasOpen, lent_tx, lent_here, own_work}
 use Rattle.oe_core.proofs.AdvanceFacts.{holds_taken, went_on_here, taken_is, taken_is_open, has_reply, committed_here, left_here, told_last, kept_here, given_up_here}
@@ -25,7 +27,7 @@ is_there c =
     lent_here c.self.invariant c.slot.ensures.value c.slot.ensures.high c.index.ensures c.in-Some.is c.slot-2.ensures.value c.slot-2.ensures.high c.index_mut.ensures.value c.in-Some-index_mut.is
 
 pub next-requires : goal.next-requires
-next-requires c = λ o. holds_taken (is_there (goal.at.next-requires c).In-Some-index_mut)
+next-requires c = record { held = λ o. holds_taken (is_there (goal.at.next-requires c).In-Some-index_mut) }
 
 -- the row went on
 went_on : (c : After-self-in-More-1) → Moves (record { engine = c.self.inside.engine; txs = c.self.inside.txs.items; works = c.self.inside.works.items }) (Advance c.args.terminal) More
@@ -66,7 +68,9 @@ committed_now c =
     let reply : reply_at c.next.new.self.position ≡ Some ready.0.0 = has_its_reply (goal.at.returns-in-Ready c).In-Ready here in
     committed_here here c.open_tx-open.result (taken_is here c.open_tx-open.result c.open_tx-open.ensures.value) ready.0.0 c.commit.result c.next.new.engine c.commit.new.engine _ _ (Some c.next.new.self)
     ready.0.1 ready.1 c.commit.ensures.moment
-    (subst (λ o. IfSome o (λ y. view_of c.commit.new.engine ≡ committed c.open_tx-open.result.terminal c.in-Some-index_mut.work.request y (view_of c.next.new.engine))) reply c.commit.ensures.committed)
+    (subst (λ o. IfSome o (λ y. view_of c.commit.new.engine ≡ committed c.open_tx-open.result.terminal c.in-Some-index_mut.work.request y (view_of c.next.new.engine))) reply
+    (subst (λ (q : Request). IfSome (reply_at c.next.new.self.position) (λ y. view_of c.commit.new.engine ≡ committed c.open_tx-open.result.terminal q y (view_of c.next.new.engine)))
+    (ap (λ (w : WorkState). w.request) c.next.ensures.same) c.commit.ensures.committed))
     c.commit.ensures.name c.open_tx-open.ensures.after
     (ap (λ (k : ℕ). slice_set c.self.inside.works.items k (Some c.next.new.self)) c.slot-2.ensures.value)
 

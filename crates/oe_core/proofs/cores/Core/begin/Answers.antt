@@ -24,7 +24,7 @@ begun c =
     (ap (rejection c.args.request.now) (sym c.tables.ensures) ∙ sym c.in_default.ensures) c.in-Ok.ensures.counted
     c.in-Ok.ensures.closed c.begin.ensures.idle c.in-Ok.ensures.begun c.begin.ensures.name
     c.in-Ok.ensures.handle
-    c.put_tx.ensures.after c.begin_work.ensures
+    c.put_tx.ensures.after c.begin_work.ensures.after
 
 pub invariant_of-self : goal.invariant_of-self
 invariant_of-self c = (begun c).orderly
