@@ -8,11 +8,11 @@ use Rattle.std.specs.Ordering.{eq_by_cmp, is_lt, nat_cmp, ordering_then}
 use Rattle.std.specs.FinMap.{get, entries, entries_sorted, retain_keys}
 use Rattle.std.specs.FinMap.Entries.{is_sorted, below_all}
 use Rattle.std.proofs.lemmas.List.Sums.{sum_by-cons}
-use Rattle.oe_keys.specs.Key.{district_cmp, new_order_cmp}
-use Rattle.oe_keys.specs.declared.keys.DistrictKey.{DistrictKey}
-use Rattle.oe_keys.specs.declared.keys.NewOrderKey.{NewOrderKey}
+use Rattle.oe_rows.specs.Key.{district_cmp, new_order_cmp}
+use Rattle.oe_rows.specs.declared.keys.DistrictKey.{DistrictKey}
+use Rattle.oe_rows.specs.declared.keys.NewOrderKey.{NewOrderKey}
 use Rattle.oe_rows.specs.declared.orders.NewOrder.{NewOrder}
-use Rattle.oe_keys.proofs.KeyFacts.{district_total, exact_district, new_order_total, exact_new_order, order_total, exact_order, order_line_total, exact_order_line}
+use Rattle.oe_rows.proofs.KeyFacts.{district_total, exact_district, new_order_total, exact_new_order, order_total, exact_order, order_line_total, exact_order_line}
 use Rattle.oe_model.specs.Keys.{district_of_new_order, district_of_order, order_of_line}
 use Rattle.oe_model.specs.Rows.{Rows}
 use Rattle.oe_model.specs.Conditions.{new_orders_of, lines_asked, lines_there}

@@ -6,7 +6,7 @@ use Rattle.std.specs.declared.cmp.Ordering.{Ordering}
 use Rattle.std.specs.Cmp.{IsTotalOrder}
 use Rattle.std.specs.FinMap.{FinMap, IsAntisymmetric, get, entries}
 use Rattle.std.proofs.lemmas.Bool.{eq-eqb, eqb-true, and_parts, and_from}
-use Rattle.oe_keys.proofs.KeyFacts.{warehouse_total, exact_warehouse, history_total, exact_history, item_total, exact_item}
+use Rattle.oe_rows.proofs.KeyFacts.{warehouse_total, exact_warehouse, history_total, exact_history, item_total, exact_item}
 use Rattle.oe_requests.specs.declared.audits.Verdict.{Verdict}
 use Rattle.oe_requests.specs.declared.audits.Verdict.TheVariants as told
 use Rattle.oe_model.specs.Keys.{warehouse_of_stock, item_of_stock}

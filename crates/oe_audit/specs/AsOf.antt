@@ -3,11 +3,11 @@ use Rattle.std.specs.Prelude.{ℕ, Bool, true, List, length, Option, None, Some,
 use Rattle.std.specs.List.{filter_map}
 use Rattle.std.specs.declared.cmp.Ordering.{Ordering}
 use Rattle.std.specs.FinMap.{FinMap, get}
-use Rattle.oe_keys.specs.declared.keys.WarehouseKey.{WarehouseKey}
-use Rattle.oe_keys.specs.declared.keys.DistrictKey.{DistrictKey}
-use Rattle.oe_keys.specs.declared.keys.OrderKey.{OrderKey}
-use Rattle.oe_keys.specs.declared.keys.OrderLineKey.{OrderLineKey}
-use Rattle.oe_keys.specs.declared.keys.NewOrderKey.{NewOrderKey}
+use Rattle.oe_rows.specs.declared.keys.WarehouseKey.{WarehouseKey}
+use Rattle.oe_rows.specs.declared.keys.DistrictKey.{DistrictKey}
+use Rattle.oe_rows.specs.declared.keys.OrderKey.{OrderKey}
+use Rattle.oe_rows.specs.declared.keys.OrderLineKey.{OrderLineKey}
+use Rattle.oe_rows.specs.declared.keys.NewOrderKey.{NewOrderKey}
 use Rattle.oe_rows.specs.declared.orders.OrderLine.{OrderLine}
 use Rattle.oe_model.specs.Keys.{order_of_new_order}
 use Rattle.oe_model.specs.Rows.{Rows}

@@ -1,8 +1,8 @@
 -- Tests of a row that are told its key, and no column or one, and what they go by.
 use Rattle.std.specs.Prelude.{ℕ, ◌+◌, ◌-◌, ◌==◌, Bool, true, ◌&&◌, Option, None, Some, is_some}
 use Rattle.std.specs.FinMap.{get}
-use Rattle.oe_keys.specs.declared.keys.WarehouseKey.{WarehouseKey}
-use Rattle.oe_keys.specs.declared.keys.DistrictKey.{DistrictKey}
+use Rattle.oe_rows.specs.declared.keys.WarehouseKey.{WarehouseKey}
+use Rattle.oe_rows.specs.declared.keys.DistrictKey.{DistrictKey}
 use Rattle.oe_model.specs.Rows.{Rows}
 use Rattle.oe_model.specs.Conditions.{ytd_of, new_orders_of, lines_asked, lines_there}
 use Rattle.oe_model.specs.PopulationTest.{each_row}

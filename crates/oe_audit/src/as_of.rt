@@ -7,8 +7,9 @@ ghost use Rattle.std.specs.Prelude.{◌≡◌, is_some, option_map};
 ghost use Rattle.std.specs.FinMap.{get};
 ghost use Rattle.oe_audit.specs.AsOf.{rows_then, row_then, has_row_then};
 
-use oe_keys::{DistrictKey, NewOrderKey, OrderKey, OrderLineKey, WarehouseKey};
-use oe_rows::{District, Order, Warehouse};
+use oe_rows::{
+    District, DistrictKey, NewOrderKey, Order, OrderKey, OrderLineKey, Warehouse, WarehouseKey,
+};
 use oe_store::Tables;
 use oe_values::{OrderNumber, YearToDate};
 use oe_versions::Version;

@@ -6,8 +6,7 @@ ghost use Rattle.oe_audit.specs.AsOf.{rows_then, lines_stood, greater_of, ArePas
 ghost use Rattle.oe_audit.specs.Tests.{is_numbered, are_counted, follows, lines_agree};
 
 use crate::as_of::AsOf;
-use oe_keys::{DistrictKey, OrderLineKey};
-use oe_rows::OrderLine;
+use oe_rows::{DistrictKey, OrderLine, OrderLineKey};
 use oe_store::Tables;
 use oe_table::shelf_walks::Rows;
 use oe_values::OrderNumber;

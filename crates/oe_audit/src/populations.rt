@@ -9,8 +9,8 @@ ghost use Rattle.oe_audit.specs.Verdict.{AreMet, condition_of};
 ghost use Rattle.oe_audit.specs.Tests.{stocks_each_item};
 
 use crate::conditions::condition;
-use oe_keys::{StockKey, WarehouseKey};
 use oe_requests::{Condition, Verdict};
+use oe_rows::{StockKey, WarehouseKey};
 use oe_store::Tables;
 
 /// Whether a condition holds.

@@ -5,7 +5,7 @@ ghost use Rattle.oe_audit.specs.AsOf.{rows_then, ArePassed};
 ghost use Rattle.oe_audit.specs.Tests.{is_summed};
 
 use crate::as_of::AsOf;
-use oe_keys::WarehouseKey;
+use oe_rows::WarehouseKey;
 use oe_store::Tables;
 use oe_values::YearToDate;
 

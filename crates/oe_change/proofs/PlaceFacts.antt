@@ -1,6 +1,6 @@
 -- A change of a row that is there gives no key a new place.
 use Rattle.std.proofs.Common.{subst, sym, inl, inr}
-use Rattle.oe_keys.specs.declared.keys.Key.{Key}
+use Rattle.oe_rows.specs.declared.keys.Key.{Key}
 use Rattle.oe_store.specs.Places.{Places, HasPlace, SamePlaces, AddsPlace}
 
 pub adds_own : (old new : Places) (k : Key) → SamePlaces old new → HasPlace old k → AddsPlace old new k

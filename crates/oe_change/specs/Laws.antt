@@ -1,6 +1,6 @@
 -- The laws of changes, of undo records, and of their undo.
 use Rattle.std.specs.Prelude.{◌≡◌, false, Option, cond}
-use Rattle.oe_keys.specs.declared.keys.Key.{Key}
+use Rattle.oe_rows.specs.declared.keys.Key.{Key}
 use Rattle.oe_rows.specs.declared.rows.Row.{Row}
 use Rattle.oe_model.specs.Rows.{Rows, is_key, row_at}
 use Rattle.oe_model.specs.Changes.{Change, key_of, row_of, changed, Record, record_of, put_back}

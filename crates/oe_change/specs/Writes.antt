@@ -1,8 +1,8 @@
 -- A write as a change of the model.
 use Rattle.std.specs.Prelude.{Option, Some, option_map}
 use Rattle.std.specs.FinMap.{get}
-use Rattle.oe_keys.specs.declared.keys.Key.{Key}
-use Rattle.oe_keys.specs.declared.keys.Key.TheVariants as key
+use Rattle.oe_rows.specs.declared.keys.Key.{Key}
+use Rattle.oe_rows.specs.declared.keys.Key.TheVariants as key
 use Rattle.oe_rows.specs.Credit.{with_entry}
 use Rattle.oe_rows.specs.Item.{with_counters}
 use Rattle.oe_model.specs.Rows.{Rows}

@@ -6,9 +6,10 @@ ghost use Rattle.oe_model.specs.Meets.{Accepts, Cause};
 ghost use Rattle.oe_store.specs.Places.{rows};
 ghost use Rattle.oe_change.specs.Applies.{IsFirst};
 
-use oe_keys::{HistoryKey, Key, NewOrderKey, OrderKey, OrderLineKey, StockKey};
 use oe_requests::Refusal;
-use oe_rows::{History, Order, OrderLine};
+use oe_rows::{
+    History, HistoryKey, Key, NewOrderKey, Order, OrderKey, OrderLine, OrderLineKey, StockKey,
+};
 use oe_store::Tables;
 
 /// Whether the tables accept a HISTORY row, which refers to a customer and a district.

@@ -2,14 +2,14 @@
 ghost use Rattle.std.specs.Prelude.{◌≡◌};
 ghost use Rattle.oe_model.specs.Changes.{key_of};
 
-use oe_keys::keys::{
-    CustomerKey, DistrictKey, HistoryKey, Key, NewOrderKey, OrderKey, OrderLineKey, StockKey,
-    WarehouseKey,
-};
 use oe_rows::customers::Customer;
 use oe_rows::districts::District;
 use oe_rows::histories::History;
 use oe_rows::items::Stock;
+use oe_rows::keys::{
+    CustomerKey, DistrictKey, HistoryKey, Key, NewOrderKey, OrderKey, OrderLineKey, StockKey,
+    WarehouseKey,
+};
 use oe_rows::orders::{Order, OrderLine};
 use oe_rows::warehouses::Warehouse;
 

@@ -5,10 +5,11 @@ ghost use Rattle.oe_store.specs.Places.{rows};
 ghost use Rattle.oe_change.specs.Applies.{HasApplied, Refuses, IsFirst};
 
 use crate::accepts::{accept_history, accept_new_order, accept_order, accept_order_line};
-use oe_keys::{HistoryKey, NewOrderKey, OrderKey, OrderLineKey};
 use oe_layout::OwnRecord;
 use oe_requests::Refusal;
-use oe_rows::{History, NewOrder, Order, OrderLine};
+use oe_rows::{
+    History, HistoryKey, NewOrder, NewOrderKey, Order, OrderKey, OrderLine, OrderLineKey,
+};
 use oe_store::Tables;
 
 /// Inserts a HISTORY row, which refers to a customer and a district, and answers its undo record.

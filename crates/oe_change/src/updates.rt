@@ -6,12 +6,12 @@ ghost use Rattle.oe_store.specs.Places.{rows};
 ghost use Rattle.oe_change.specs.Applies.{HasApplied, Refuses, IsFirst};
 
 use crate::accepts::supply_key;
-use oe_keys::{
-    CustomerKey, DistrictKey, Key, NewOrderKey, OrderKey, OrderLineKey, StockKey, WarehouseKey,
-};
 use oe_layout::OwnRecord;
 use oe_requests::Refusal;
-use oe_rows::{Customer, District, Order, OrderLine, Stock, Warehouse};
+use oe_rows::{
+    Customer, CustomerKey, District, DistrictKey, Key, NewOrderKey, Order, OrderKey, OrderLine,
+    OrderLineKey, Stock, StockKey, Warehouse, WarehouseKey,
+};
 use oe_store::Tables;
 
 /// Puts another WAREHOUSE row in the place of a key's.

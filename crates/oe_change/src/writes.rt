@@ -1,13 +1,13 @@
 //! Writes.
 ghost use Rattle.std.specs.Prelude.{◌≡◌};
 
-use oe_keys::keys::{
-    CustomerKey, DistrictKey, HistoryKey, Key, NewOrderKey, OrderKey, OrderLineKey, StockKey,
-    WarehouseKey,
-};
 use oe_rows::customers::Account;
 use oe_rows::histories::History;
 use oe_rows::items::StockCounters;
+use oe_rows::keys::{
+    CustomerKey, DistrictKey, HistoryKey, Key, NewOrderKey, OrderKey, OrderLineKey, StockKey,
+    WarehouseKey,
+};
 use oe_rows::orders::{Order, OrderLine};
 use oe_values::numbers::{Carrier, OrderNumber, YearToDate};
 use oe_values::stamps::Stamp;

@@ -6,7 +6,7 @@ use Rattle.oe_theory.specs.Machine.{Outcome, Here, Missing}
 use Rattle.oe_theory.specs.Next.{Read, Answer, Replied, Rejected, Too_old, Future}
 use Rattle.oe_theory.specs.Store.{version_of, horizon_of, newest_of}
 use Rattle.oe_theory.specs.StoreTheorems.{IsStanding}
-use Rattle.oe_keys.specs.declared.keys.Key.TheVariants as key
+use Rattle.oe_rows.specs.declared.keys.Key.TheVariants as key
 use Rattle.oe_rows.specs.declared.customers.Customer.{Customer}
 use Rattle.oe_rows.specs.declared.districts.District.{District}
 use Rattle.oe_requests.specs.declared.requests.Query.{Query}

@@ -5,8 +5,8 @@ ghost use Rattle.oe_model.specs.Requests as model;
 ghost use Rattle.oe_store.specs.Places.{rows};
 ghost use Rattle.oe_core.specs.Steps.{HasProgram};
 
-use oe_keys::{Key, WarehouseKey};
 use oe_requests::{PaymentRequest, Refusal, Request, RequestLine};
+use oe_rows::{Key, WarehouseKey};
 use oe_store::Tables;
 use oe_values::WarehouseNumber;
 

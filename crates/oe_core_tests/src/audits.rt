@@ -3,8 +3,8 @@
 use crate::populations::{amend, district_key, history_key, order_key, populated};
 use oe_audit::{condition, is_population};
 use oe_change::Change;
-use oe_keys::Key;
 use oe_requests::{Condition, Verdict};
+use oe_rows::Key;
 use oe_store::Tables;
 use oe_values::{Number, YearToDate};
 use std::alloc::Global;

@@ -1,8 +1,7 @@
 //! Keys, and small populations.
 use oe_change::{Change, apply};
-use oe_keys::{DistrictKey, HistoryKey, OrderKey, StockKey};
 use oe_population::populate;
-use oe_rows::Scale;
+use oe_rows::{DistrictKey, HistoryKey, OrderKey, Scale, StockKey};
 use oe_store::Tables;
 use oe_values::Number;
 use std::alloc::Global;

@@ -7,10 +7,10 @@ use Rattle.std.specs.Cmp.{tied_itself, nat_cmp_total, ranked}
 use Rattle.std.specs.Ordering.{eq_by_cmp, is_lt, nat_cmp, ordering_then}
 use Rattle.std.specs.FinMap.{FinMap, entries_sorted, retain_keys}
 use Rattle.std.specs.FinMap.Entries.{is_sorted, below_all}
-use Rattle.oe_keys.specs.Key.{order_cmp, order_line_cmp}
-use Rattle.oe_keys.specs.declared.keys.OrderKey.{OrderKey}
-use Rattle.oe_keys.specs.declared.keys.OrderLineKey.{OrderLineKey}
-use Rattle.oe_keys.proofs.KeyFacts.{order_total, exact_order, order_line_total, exact_order_line}
+use Rattle.oe_rows.specs.Key.{order_cmp, order_line_cmp}
+use Rattle.oe_rows.specs.declared.keys.OrderKey.{OrderKey}
+use Rattle.oe_rows.specs.declared.keys.OrderLineKey.{OrderLineKey}
+use Rattle.oe_rows.proofs.KeyFacts.{order_total, exact_order, order_line_total, exact_order_line}
 use Rattle.oe_rows.specs.declared.orders.OrderLine.{OrderLine}
 use Rattle.oe_model.specs.Keys.{order_of_line, line_in}
 use Rattle.oe_model.specs.Delivery.{lines_of}

@@ -1,6 +1,6 @@
 -- What is left of the delivery of an order, once the order has its carrier.
 use Rattle.std.specs.Prelude.{ℕ, List, map}
-use Rattle.oe_keys.specs.declared.keys.OrderKey.{OrderKey}
+use Rattle.oe_rows.specs.declared.keys.OrderKey.{OrderKey}
 use Rattle.oe_rows.specs.declared.orders.Order.{Order}
 use Rattle.oe_model.specs.Rows.{Rows}
 use Rattle.oe_model.specs.Delivery.{lines_of}

@@ -6,7 +6,7 @@ ghost use Rattle.oe_store.specs.Places.{rows};
 ghost use Rattle.oe_delivery.specs.Remainder.{Left, remainder_of};
 
 use crate::remainders::{LineNumbers, Listed, Remainder};
-use oe_keys::OrderKey;
+use oe_rows::OrderKey;
 use oe_store::Tables;
 
 /// OL_NUMBER of each line of an order, in their order. There are at most 15.

@@ -12,8 +12,8 @@ use oe_change::Write;
 use oe_engine::stages::{failed, hold, put, put_held};
 use oe_engine::{Engine, Lock, Progress, Tx};
 use oe_formulas::deliveries::account_after_delivery;
-use oe_keys::{Key, Mode, Name};
 use oe_requests::{DeliveryRequest, Refusal};
+use oe_rows::{Key, Mode, Name};
 use oe_values::{LineNumber, OrderNumber};
 
 /// NEW-ORDER: the name of the district's queue is taken alone, and the row of the oldest order is deleted, if one waits.

@@ -4,7 +4,7 @@ use Rattle.std.specs.Prelude.{None, is_some}
 use Rattle.std.proofs.lemmas.Bool.{cases_eq, cond-true, cond-false, eq-eqb, ne_eqb, true≢false}
 use Rattle.std.proofs.lemmas.List.{length-set, length-map, take_all, drop_all}
 use mathlib.Core.Path.{fun_ext}
-use Rattle.oe_keys.specs.declared.keys.Key.{Key}
+use Rattle.oe_rows.specs.declared.keys.Key.{Key}
 use Rattle.oe_theory.specs.World as world
 use Rattle.oe_theory.specs.Undo.{unwind, put_records}
 use Rattle.oe_model.specs.System.{system}

@@ -1,6 +1,6 @@
 -- That keys have places for their links each call keeps, and how they get them.
 use Rattle.std.proofs.Common.{◌≡◌, sym, subst}
-use Rattle.oe_keys.specs.declared.keys.Key.{Key}
+use Rattle.oe_rows.specs.declared.keys.Key.{Key}
 use Rattle.oe_store.specs.Places.{Places, SamePlaces}
 use Rattle.oe_undo.specs.Links.{LinkMaps, HasPlace}
 use Rattle.oe_undo.specs.Links as links

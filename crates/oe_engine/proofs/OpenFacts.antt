@@ -1,10 +1,10 @@
 -- How the keys of tables get places for their links, one after another.
 use Rattle.std.proofs.Common.{◌≡◌, refl, sym, ◌∙◌, subst, List, [], ◌∷◌}
 use Rattle.std.specs.Prelude.{Option, None, Some, true, Result, Ok, Err, OnOk}
-use Rattle.oe_keys.specs.declared.keys.Key.{Key}
-use Rattle.oe_keys.specs.declared.keys.Key.TheVariants as key
-use Rattle.oe_keys.specs.declared.keys.Table.{Table}
-use Rattle.oe_keys.specs.declared.keys.Table.TheVariants as table
+use Rattle.oe_rows.specs.declared.keys.Key.{Key}
+use Rattle.oe_rows.specs.declared.keys.Key.TheVariants as key
+use Rattle.oe_rows.specs.declared.keys.Table.{Table}
+use Rattle.oe_rows.specs.declared.keys.Table.TheVariants as table
 use Rattle.oe_undo.specs.Links.{LinkMaps, HasPlace, KeepsPlaces, comes_with}
 use Rattle.oe_undo.proofs.LinkFacts.{comes_placed}
 use Rattle.oe_undo.specs.Undo.{UndoState}

@@ -3,9 +3,9 @@ use Rattle.std.proofs.Common.{◌≡◌, ℕ, Bool, true, false, cond, refl, sym
 use Rattle.std.specs.Prelude.{Option, None, Some, is_some, option_map, Result, Ok, Err, OnOk, IfOk, IfErr}
 use Rattle.std.proofs.lemmas.Bool.{true≢false}
 use mathlib.Core.Path.{fun_ext}
-use Rattle.oe_keys.specs.declared.locks.Name.{Name}
-use Rattle.oe_keys.specs.declared.locks.Mode.{Mode}
-use Rattle.oe_keys.specs.declared.locks.Mode.TheVariants.{Shared, Exclusive}
+use Rattle.oe_rows.specs.declared.locks.Name.{Name}
+use Rattle.oe_rows.specs.declared.locks.Mode.{Mode}
+use Rattle.oe_rows.specs.declared.locks.Mode.TheVariants.{Shared, Exclusive}
 use Rattle.oe_requests.specs.declared.refusals.Refusal.{Refusal}
 use Rattle.oe_requests.specs.declared.refusals.Refusal.TheVariants.{NoSuchRow, RowExists, Overflow, Reference, KeyColumn, Busy, UndoFull, NoMemory, NotOpen, AlreadyOpen, InvalidItem, NoCustomer, TooOld, Future, NotQuiet, NotPinned}
 use Rattle.oe_theory.specs.Machine as theory

@@ -8,7 +8,7 @@ use Rattle.oe_theory.specs.Machine as theory
 use Rattle.oe_theory.specs.World as world
 use Rattle.oe_theory.specs.Undo.{put_records}
 use Rattle.oe_theory.specs.Next.{held_after, record_on, IsNew, GivesWay}
-use Rattle.oe_keys.specs.declared.locks.Name.{Name}
+use Rattle.oe_rows.specs.declared.locks.Name.{Name}
 use Rattle.oe_requests.specs.declared.requests.Request.{Request}
 use Rattle.oe_requests.specs.declared.refusals.Refusal.{Refusal}
 use Rattle.oe_requests.specs.declared.refusals.Refusal.TheVariants.{NoSuchRow, RowExists, Overflow, Reference, KeyColumn, Busy, UndoFull, NoMemory, NotOpen, AlreadyOpen, InvalidItem, NoCustomer, TooOld, Future, NotQuiet, NotPinned}

@@ -6,7 +6,7 @@ use Rattle.std.specs.FinMap.{get}
 use Rattle.oe_theory.specs.Machine.{Take}
 use Rattle.oe_theory.specs.Machine as theory
 use Rattle.oe_theory.proofs.Sets.{some_inj}
-use Rattle.oe_keys.specs.declared.locks.Name.{Name}
+use Rattle.oe_rows.specs.declared.locks.Name.{Name}
 use Rattle.oe_requests.specs.declared.refusals.Refusal.{Refusal}
 use Rattle.oe_requests.specs.declared.refusals.Refusal.TheVariants.{UndoFull, NoMemory}
 use Rattle.oe_rows.specs.declared.orders.NewOrder.{NewOrder}

@@ -6,7 +6,7 @@ use Rattle.oe_theory.specs.World.{go_together, set, bump, total}
 use Rattle.oe_theory.specs.Next.{held_after, record_on, filled, IsNew}
 use Rattle.oe_theory.specs.Undo.{unwind, unwind_commits, put_records, lengths_of, used_of}
 use Rattle.oe_theory.specs.Store.{Slot, with_change_of, with_record_of, count_slots, counts_before}
-use Rattle.oe_keys.specs.declared.locks.Name.{Name}
+use Rattle.oe_rows.specs.declared.locks.Name.{Name}
 use Rattle.oe_requests.specs.declared.requests.Request.{Request}
 use Rattle.oe_requests.specs.declared.replies.Reply.{Reply}
 use Rattle.oe_requests.specs.declared.refusals.Refusal.{Refusal}

@@ -1,6 +1,6 @@
 -- Places for links that are given to the keys of tables when an engine is opened.
-use Rattle.oe_keys.specs.declared.keys.Key.{Key}
-use Rattle.oe_keys.specs.declared.keys.Table.{Table}
+use Rattle.oe_rows.specs.declared.keys.Key.{Key}
+use Rattle.oe_rows.specs.declared.keys.Table.{Table}
 use Rattle.oe_store.specs.Places.{Places}
 use Rattle.std.specs.List.{AllByRecursion}
 use Rattle.oe_store.specs.KeyWalk.{placed_keys}

@@ -3,7 +3,7 @@ use Rattle.std.specs.Prelude.{◌≡◌, ℕ, Bool, true, false, List, Option, R
 use Rattle.oe_theory.specs.Machine.{Ask, Take, Fail, Go, Hold}
 use Rattle.oe_theory.specs.Machine as theory
 use Rattle.oe_theory.specs.Laws.{Holds, held_of}
-use Rattle.oe_keys.specs.declared.locks.Name.{Name}
+use Rattle.oe_rows.specs.declared.locks.Name.{Name}
 use Rattle.oe_requests.specs.declared.requests.Request.{Request}
 use Rattle.oe_requests.specs.declared.refusals.Refusal.{Refusal}
 use Rattle.oe_requests.specs.declared.refusals.Refusal.TheVariants.{NoSuchRow, NoCustomer, InvalidItem, Overflow}

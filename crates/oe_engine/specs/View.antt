@@ -1,6 +1,6 @@
 -- What an engine stands for, in the words of the theory of transactions.
 use Rattle.std.specs.Prelude.{◌≡◌, ℕ, Bool, true, false, List, [], Option, None, is_some, option_map}
-use Rattle.oe_keys.specs.declared.locks.Name.{Name}
+use Rattle.oe_rows.specs.declared.locks.Name.{Name}
 use Rattle.oe_theory.specs.Machine as theory
 use Rattle.oe_theory.specs.Undo.{Undo, no_records}
 use Rattle.oe_theory.specs.Store.{Seal}

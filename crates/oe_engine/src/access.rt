@@ -12,9 +12,8 @@ ghost use Rattle.oe_engine.specs.Calls.{ask_of, IsFree, IsBelow, MayRead, locked
 use crate::engine::{Engine, Tx};
 use crate::programs::Lock;
 use oe_change::Write;
-use oe_keys::{Key, Mode, Name};
 use oe_requests::Refusal;
-use oe_rows::Row;
+use oe_rows::{Key, Mode, Name, Row};
 use oe_store::Tables;
 
 // A name alone.

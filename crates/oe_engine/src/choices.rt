@@ -1,11 +1,11 @@
 //! What a transaction finds in a district by more than a key.
 ghost use Rattle.std.specs.Prelude.{◌≡◌, IsSome};
-ghost use Rattle.oe_keys.specs.declared.locks.Name.TheVariants as name;
+ghost use Rattle.oe_rows.specs.declared.locks.Name.TheVariants as name;
 ghost use Rattle.oe_model.specs.Delivery.{oldest};
 ghost use Rattle.oe_engine.specs.View.{view_of, IsOpen};
 
 use crate::engine::{Engine, Tx};
-use oe_keys::DistrictKey;
+use oe_rows::DistrictKey;
 use oe_values::OrderNumber;
 
 impl Engine {

@@ -15,10 +15,10 @@ ghost use Rattle.oe_engine.specs.Calls.{ask_of, IsFree, IsBusy, IsBelow, begun, 
 
 use crate::opening::beside;
 use crate::programs::Lock;
-use oe_keys::{Mode, Name};
 use oe_locks::Locks;
 use oe_log::Segment;
 use oe_requests::{Column, Refusal, Reply, Request};
+use oe_rows::{Mode, Name};
 use oe_store::Tables;
 use oe_undo::Undo;
 use oe_values::{ExtentCount, Moment, NoMemory, Terminal, TransactionNumber};

@@ -7,8 +7,8 @@ ghost use Rattle.oe_undo.specs.Links.{KeepsPlaces};
 ghost use Rattle.oe_locks.specs.Held.{IsIdle};
 ghost use Rattle.oe_engine.specs.Opened.{IsLinked, HasWaiting, IsCovered};
 
-use oe_keys::{Key, Table};
 use oe_locks::Locks;
+use oe_rows::{Key, Table};
 use oe_store::Tables;
 use oe_undo::{Undo, comes_with};
 use oe_values::{ExtentCount, NoMemory};

@@ -1,7 +1,7 @@
 //! What a stage of a program asks for, and how it ends.
 
-use oe_keys::{Mode, Name};
 use oe_requests::Refusal;
+use oe_rows::{Mode, Name};
 
 /// A lock that a stage asks for before its work.
 #[derive(Clone, Copy)]

@@ -9,12 +9,12 @@ use Rattle.std.specs.FinMap.{FinMap, get, entries, entries_sorted, retain_keys}
 use Rattle.std.specs.FinMap.Entries.{is_sorted, is_sorted-where_key, below_all}
 use Rattle.std.proofs.lemmas.Bool.{leb-true, leb-false}
 use Rattle.oe_theory.specs.Machine.{Outcome, Here, Missing}
-use Rattle.oe_keys.specs.Key.{district_cmp, order_cmp, order_line_cmp}
-use Rattle.oe_keys.specs.declared.keys.DistrictKey.{DistrictKey}
-use Rattle.oe_keys.specs.declared.keys.OrderKey.{OrderKey}
-use Rattle.oe_keys.specs.declared.keys.OrderLineKey.{OrderLineKey}
-use Rattle.oe_keys.specs.declared.keys.Key.TheVariants as key
-use Rattle.oe_keys.proofs.KeyFacts.{district_total, exact_district, order_total, exact_order, order_line_total, exact_order_line}
+use Rattle.oe_rows.specs.Key.{district_cmp, order_cmp, order_line_cmp}
+use Rattle.oe_rows.specs.declared.keys.DistrictKey.{DistrictKey}
+use Rattle.oe_rows.specs.declared.keys.OrderKey.{OrderKey}
+use Rattle.oe_rows.specs.declared.keys.OrderLineKey.{OrderLineKey}
+use Rattle.oe_rows.specs.declared.keys.Key.TheVariants as key
+use Rattle.oe_rows.proofs.KeyFacts.{district_total, exact_district, order_total, exact_order, order_line_total, exact_order_line}
 use Rattle.oe_rows.specs.declared.districts.District.{District}
 use Rattle.oe_rows.specs.declared.orders.OrderLine.{OrderLine}
 use Rattle.oe_rows.specs.declared.rows.Row.TheVariants as row

@@ -3,10 +3,10 @@ use Rattle.std.proofs.Common.{◌≡◌, ℕ, zero, suc, ◌+◌, ◌*◌, ◌-�
 use Rattle.std.specs.Prelude.{not, ◌&&◌}
 use Rattle.std.specs.FinMap.{FinMap}
 use Rattle.std.proofs.lemmas.List.{map-append}
-use Rattle.oe_keys.specs.Key.{order_line_cmp}
-use Rattle.oe_keys.specs.declared.keys.DistrictKey.{DistrictKey}
-use Rattle.oe_keys.specs.declared.keys.OrderKey.{OrderKey}
-use Rattle.oe_keys.specs.declared.keys.OrderLineKey.{OrderLineKey}
+use Rattle.oe_rows.specs.Key.{order_line_cmp}
+use Rattle.oe_rows.specs.declared.keys.DistrictKey.{DistrictKey}
+use Rattle.oe_rows.specs.declared.keys.OrderKey.{OrderKey}
+use Rattle.oe_rows.specs.declared.keys.OrderLineKey.{OrderLineKey}
 use Rattle.oe_rows.specs.declared.orders.OrderLine.{OrderLine}
 use Rattle.oe_requests.specs.declared.replies.StatusLine.{StatusLine}
 use Rattle.oe_model.specs.Keys.{order_in}

@@ -1,8 +1,8 @@
 -- How many lines an order has, and a district's last twenty: what the replies have to hold.
 use Rattle.std.specs.Prelude.{◌≡◌, ◌≤◌, ℕ, length}
 use Rattle.oe_theory.specs.Machine.{Here}
-use Rattle.oe_keys.specs.declared.keys.DistrictKey.{DistrictKey}
-use Rattle.oe_keys.specs.declared.keys.OrderKey.{OrderKey}
+use Rattle.oe_rows.specs.declared.keys.DistrictKey.{DistrictKey}
+use Rattle.oe_rows.specs.declared.keys.OrderKey.{OrderKey}
 use Rattle.oe_requests.specs.declared.requests.LevelQuery.{LevelQuery}
 use Rattle.oe_requests.specs.declared.replies.QueryReply.TheVariants as told
 use Rattle.oe_model.specs.Rows.{Rows}

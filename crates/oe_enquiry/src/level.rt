@@ -9,8 +9,8 @@ ghost use Rattle.oe_versions.specs.Versions.{rows_of, Stand};
 ghost use Rattle.oe_enquiry.specs.Level.{is_short, listed, items_of};
 
 use crate::items::{Items, Listed, is_listed};
-use oe_keys::{Key, StockKey};
 use oe_requests::{LevelQuery, Refusal, StatusLine};
+use oe_rows::{Key, StockKey};
 use oe_values::{ItemNumber, LowStock, OrderNumber};
 use oe_versions::Version;
 

@@ -6,8 +6,8 @@ ghost use Rattle.oe_model.specs.Choice.{chosen};
 ghost use Rattle.oe_model.specs.Queries.{status_of, last_order, order_status};
 ghost use Rattle.oe_versions.specs.Versions.{rows_of, Stand};
 
-use oe_keys::{CustomerKey, DistrictKey};
 use oe_requests::{CustomerChoice, OrderStatus, Refusal, StatusQuery, StatusReply};
+use oe_rows::{CustomerKey, DistrictKey};
 use oe_values::CustomerNumber;
 use oe_versions::Version;
 

@@ -3,8 +3,8 @@ ghost use Rattle.std.specs.Prelude.{◌≡◌, [], ◌∷◌};
 ghost use Rattle.oe_model.specs.Requests.{first_absent};
 ghost use Rattle.oe_store.specs.Places.{rows};
 
-use oe_keys::{Key, WarehouseKey};
 use oe_requests::Refusal;
+use oe_rows::{Key, WarehouseKey};
 use oe_store::Tables;
 use oe_values::WarehouseNumber;
 

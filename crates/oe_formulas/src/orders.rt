@@ -8,10 +8,10 @@ ghost use Rattle.oe_formulas.specs.Orders.{with_quantity, seen_by};
 ghost use Rattle.oe_formulas.specs.Checks.{checked, row_with, with_next_order};
 ghost use Rattle.oe_model.specs.NewOrder.{supplied, stock_of, stock_out, occurs_in, brand, fill, order_row, with_next, next_out, seen, ordered_reply};
 
-use oe_keys::StockKey;
 use oe_requests::{Brand, Column, LineReplies, LineReply, NewOrderRequest, ReplyRef, RequestLine};
 use oe_rows::{
-    Credit, Customer, District, Item, Order, OrderLine, Stock, StockCounters, Warehouse, total,
+    Credit, Customer, District, Item, Order, OrderLine, Stock, StockCounters, StockKey, Warehouse,
+    total,
 };
 use oe_values::{
     Cents, Count, ItemNumber, LineAmount, LineCount, LineQuantity, OrderNumber, Quantity, Rate,

@@ -5,11 +5,10 @@ ghost use Rattle.oe_formulas.specs.Checks.{checked, row_with, with_warehouse_ytd
 ghost use Rattle.oe_model.specs.Payment.{paid_warehouse, paid_warehouse_out, paid_district, paid_district_out, paid_customer, paid_customer_out, history_data, history_row, history_key, paid_reply};
 
 use arrayvec::ArrayString;
-use oe_keys::HistoryKey;
 use oe_requests::{Column, PaymentReply, PaymentRequest};
 use oe_rows::{
-    Account, Credit, CreditIds, Customer, District, History, Warehouse, bad_credit_data,
-    credit_entry,
+    Account, Credit, CreditIds, Customer, District, History, HistoryKey, Warehouse,
+    bad_credit_data, credit_entry,
 };
 use oe_values::{
     Balance, Count, CustomerNumber, HistoryOrdinal, HistoryTerminal, LineAmount, Terminal, Text,

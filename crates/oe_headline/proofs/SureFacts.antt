@@ -19,7 +19,7 @@ use Rattle.oe_requests.specs.declared.steps.Step.{Step}
 use Rattle.oe_texts.specs.Answer.{answer_line}
 use Rattle.oe_lines.specs.declared.commands.Command.{Command}
 use Rattle.oe_lines.specs.declared.commands.Command.TheVariants as command
-use Rattle.oe_keys.specs.declared.keys.Table.{Table}
+use Rattle.oe_rows.specs.declared.keys.Table.{Table}
 use Rattle.oe_core.specs.Steps.{step_in, answer_in}
 use Rattle.oe_script.specs.Dump.{dump_text}
 use Rattle.oe_script.specs.Script.{State, Opens, Answers, IsInLine, ended, last_text, Output}

@@ -2,7 +2,7 @@
 use Rattle.std.specs.Prelude.{◌≡◌, ◌≢◌, ℕ, zero, suc, ◌+◌, List, [], ◌∷◌, ◌++◌, Option, Some, None}
 use Rattle.oe_theory.specs.World.{World}
 use Rattle.oe_theory.specs.Next.{Next}
-use Rattle.oe_keys.specs.declared.keys.Table.{Table}
+use Rattle.oe_rows.specs.declared.keys.Table.{Table}
 use Rattle.oe_rows.specs.declared.scales.Scale.{Scale}
 use Rattle.oe_model.specs.System.{system}
 use Rattle.oe_requests.specs.declared.answers.Answer.{Answer}

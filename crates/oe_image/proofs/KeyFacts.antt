@@ -1,10 +1,10 @@
 -- Keys are read exactly.
 use Rattle.std.proofs.Common.{◌≡◌, ℕ, List, ◌++◌, Some, refl, subst, arith}
-use Rattle.oe_keys.specs.Key.{table_of, IsDistrictKey, IsCustomerKey}
-use Rattle.oe_keys.specs.declared.keys.Key.{Key}
-use Rattle.oe_keys.specs.declared.keys.Key.TheVariants as key
-use Rattle.oe_keys.specs.declared.keys.Table.{Table}
-use Rattle.oe_keys.specs.declared.keys.Table.TheVariants as table
+use Rattle.oe_rows.specs.Key.{table_of, IsDistrictKey, IsCustomerKey}
+use Rattle.oe_rows.specs.declared.keys.Key.{Key}
+use Rattle.oe_rows.specs.declared.keys.Key.TheVariants as key
+use Rattle.oe_rows.specs.declared.keys.Table.{Table}
+use Rattle.oe_rows.specs.declared.keys.Table.TheVariants as table
 use Rattle.oe_image.specs.Fronts.{IsBytes, IsExact}
 use Rattle.oe_image.specs.Keys.{warehouse_key, district_key, customer_key, history_key, new_order_key, order_key, order_line_key, item_key, stock_key, key_image, IsWarehouseKey, IsHistoryKey, IsNewOrderKey, IsOrderKey, IsOrderLineKey, IsItemKey, IsStockKey, IsKey}
 use Rattle.oe_image.specs.KeyFronts.{warehouse_key_at, district_key_at, customer_key_at, history_key_at, new_order_key_at, order_key_at, order_line_key_at, item_key_at, stock_key_at, key_at, IsKeyOf}

@@ -10,9 +10,9 @@ use Rattle.oe_rows.specs.Order.{IsOrder, IsOrderLine}
 use Rattle.oe_rows.specs.Item.{IsItem, IsStock}
 use Rattle.oe_rows.specs.declared.rows.Row.{Row}
 use Rattle.oe_rows.specs.declared.rows.Row.TheVariants as row
-use Rattle.oe_keys.specs.declared.keys.Key.{Key}
-use Rattle.oe_keys.specs.declared.keys.Table.{Table}
-use Rattle.oe_keys.specs.declared.keys.Table.TheVariants as table
+use Rattle.oe_rows.specs.declared.keys.Key.{Key}
+use Rattle.oe_rows.specs.declared.keys.Table.{Table}
+use Rattle.oe_rows.specs.declared.keys.Table.TheVariants as table
 use Rattle.oe_image.specs.Fronts.{Reads, IsBytes, IsExact}
 use Rattle.oe_image.specs.Keys.{key_image}
 use Rattle.oe_image.specs.KeyFronts.{IsKeyOf}

@@ -1,20 +1,20 @@
 -- The key at the front of bytes, and those behind it: column after column, each in its range.
 use Rattle.std.specs.Prelude.{◌≡◌, ℕ, List, Option}
 use Rattle.oe_values.specs.declared.numbers.TheConstants.{TERMINALS}
-use Rattle.oe_keys.specs.Key.{table_of}
-use Rattle.oe_keys.specs.declared.keys.WarehouseKey.{WarehouseKey}
-use Rattle.oe_keys.specs.declared.keys.DistrictKey.{DistrictKey}
-use Rattle.oe_keys.specs.declared.keys.CustomerKey.{CustomerKey}
-use Rattle.oe_keys.specs.declared.keys.HistoryKey.{HistoryKey}
-use Rattle.oe_keys.specs.declared.keys.NewOrderKey.{NewOrderKey}
-use Rattle.oe_keys.specs.declared.keys.OrderKey.{OrderKey}
-use Rattle.oe_keys.specs.declared.keys.OrderLineKey.{OrderLineKey}
-use Rattle.oe_keys.specs.declared.keys.ItemKey.{ItemKey}
-use Rattle.oe_keys.specs.declared.keys.StockKey.{StockKey}
-use Rattle.oe_keys.specs.declared.keys.Key.{Key}
-use Rattle.oe_keys.specs.declared.keys.Key.TheVariants as key
-use Rattle.oe_keys.specs.declared.keys.Table.{Table}
-use Rattle.oe_keys.specs.declared.keys.Table.TheVariants as table
+use Rattle.oe_rows.specs.Key.{table_of}
+use Rattle.oe_rows.specs.declared.keys.WarehouseKey.{WarehouseKey}
+use Rattle.oe_rows.specs.declared.keys.DistrictKey.{DistrictKey}
+use Rattle.oe_rows.specs.declared.keys.CustomerKey.{CustomerKey}
+use Rattle.oe_rows.specs.declared.keys.HistoryKey.{HistoryKey}
+use Rattle.oe_rows.specs.declared.keys.NewOrderKey.{NewOrderKey}
+use Rattle.oe_rows.specs.declared.keys.OrderKey.{OrderKey}
+use Rattle.oe_rows.specs.declared.keys.OrderLineKey.{OrderLineKey}
+use Rattle.oe_rows.specs.declared.keys.ItemKey.{ItemKey}
+use Rattle.oe_rows.specs.declared.keys.StockKey.{StockKey}
+use Rattle.oe_rows.specs.declared.keys.Key.{Key}
+use Rattle.oe_rows.specs.declared.keys.Key.TheVariants as key
+use Rattle.oe_rows.specs.declared.keys.Table.{Table}
+use Rattle.oe_rows.specs.declared.keys.Table.TheVariants as table
 use Rattle.oe_image.specs.Fronts.{seen, pair_at, ranged_at}
 use Rattle.oe_image.specs.Keys.{IsKey}
 

@@ -1,5 +1,5 @@
 -- What each reading finds is exactly what stands at the front of the bytes.
-use Rattle.oe_keys.specs.Key.{IsDistrictKey, IsCustomerKey}
+use Rattle.oe_rows.specs.Key.{IsDistrictKey, IsCustomerKey}
 use Rattle.oe_rows.specs.Warehouse.{IsWarehouse}
 use Rattle.oe_rows.specs.District.{IsDistrict}
 use Rattle.oe_rows.specs.Customer.{IsCustomer}

@@ -14,9 +14,9 @@ use Rattle.oe_rows.specs.declared.items.Item.{Item}
 use Rattle.oe_rows.specs.declared.items.Stock.{Stock}
 use Rattle.oe_rows.specs.declared.rows.Row.{Row}
 use Rattle.oe_rows.specs.declared.rows.Row.TheVariants as row
-use Rattle.oe_keys.specs.declared.keys.Key.{Key}
-use Rattle.oe_keys.specs.declared.keys.Table.{Table}
-use Rattle.oe_keys.specs.declared.keys.Table.TheVariants as table
+use Rattle.oe_rows.specs.declared.keys.Key.{Key}
+use Rattle.oe_rows.specs.declared.keys.Table.{Table}
+use Rattle.oe_rows.specs.declared.keys.Table.TheVariants as table
 use Rattle.oe_image.specs.Fronts.{seen, pair_at, ranged_at}
 use Rattle.oe_image.specs.KeyFronts.{IsKeyOf}
 use Rattle.oe_image.specs.ColumnFronts.{text_at, stamp_at, balance_at, carrier_at, delivery_at, flag_at, credit_at, ten_texts_at}

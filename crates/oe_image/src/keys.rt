@@ -8,7 +8,7 @@ ghost use Rattle.oe_image.specs.KeyFronts.{warehouse_key_at, district_key_at, cu
 
 use crate::columns::Imaged;
 use crate::fronts::read_ranged;
-use oe_keys::{
+use oe_rows::{
     CustomerKey, DistrictKey, HistoryKey, ItemKey, Key, NewOrderKey, OrderKey, OrderLineKey,
     StockKey, Table, WarehouseKey,
 };

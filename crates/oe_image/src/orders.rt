@@ -9,9 +9,9 @@ use crate::columns::Imaged;
 use crate::fronts::{
     read_amount, read_carrier, read_delivery, read_flag, read_ranged, read_stamp, read_text,
 };
-use oe_keys::{CustomerKey, DistrictKey};
 use oe_rows::histories::History;
 use oe_rows::orders::{NewOrder, Order, OrderLine};
+use oe_rows::{CustomerKey, DistrictKey};
 use oe_values::numbers::Carrier;
 use oe_values::stamps::Stamp;
 

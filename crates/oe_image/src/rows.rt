@@ -12,9 +12,9 @@ use crate::items::{read_item, read_stock};
 use crate::keys::read_key;
 use crate::orders::{read_history, read_order, read_order_line};
 use crate::warehouses::{read_district, read_warehouse};
-use oe_keys::{Key, Table};
 use oe_rows::orders::NewOrder;
 use oe_rows::rows::Row;
+use oe_rows::{Key, Table};
 
 impl Imaged for Row {
     ghost most = { 683 };

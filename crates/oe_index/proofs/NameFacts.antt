@@ -4,10 +4,10 @@ use Rattle.std.specs.Prelude.{◌&&◌}
 use Rattle.std.specs.Ordering.{eq_by_cmp, nat_cmp}
 use Rattle.std.specs.Cmp.Lexicographic.{slice_cmp, nat_list_cmp_total}
 use Rattle.std.specs.FinMap.{FinMap, IsAntisymmetric, get, slice_cmp-IsAntisymmetric, nat_cmp-IsAntisymmetric}
-use Rattle.oe_keys.specs.Key.{district_cmp, customer_cmp}
-use Rattle.oe_keys.specs.declared.keys.DistrictKey.{DistrictKey}
-use Rattle.oe_keys.specs.declared.keys.CustomerKey.{CustomerKey}
-use Rattle.oe_keys.proofs.KeyFacts.{district_total, exact_district, customer_total, exact_customer}
+use Rattle.oe_rows.specs.Key.{district_cmp, customer_cmp}
+use Rattle.oe_rows.specs.declared.keys.DistrictKey.{DistrictKey}
+use Rattle.oe_rows.specs.declared.keys.CustomerKey.{CustomerKey}
+use Rattle.oe_rows.proofs.KeyFacts.{district_total, exact_district, customer_total, exact_customer}
 use Rattle.oe_rows.specs.declared.customers.Customer.{Customer}
 use Rattle.oe_table.specs.Shelf.{IsAscending}
 use Rattle.oe_model.specs.Keys.{district_of_customer}

@@ -4,10 +4,10 @@ use Rattle.std.specs.Prelude.{filter, ◌==◌, IsTrue, ◌↔◌}
 use Rattle.std.specs.List.{filter_map, cons_option}
 use Rattle.std.specs.Ordering.{eq_by_cmp}
 use Rattle.std.specs.FinMap.{FinMap, get, entries}
-use Rattle.oe_keys.specs.Key.{customer_cmp, order_cmp}
-use Rattle.oe_keys.specs.declared.keys.CustomerKey.{CustomerKey}
-use Rattle.oe_keys.specs.declared.keys.OrderKey.{OrderKey}
-use Rattle.oe_keys.proofs.KeyFacts.{customer_total, exact_customer, order_total, exact_order}
+use Rattle.oe_rows.specs.Key.{customer_cmp, order_cmp}
+use Rattle.oe_rows.specs.declared.keys.CustomerKey.{CustomerKey}
+use Rattle.oe_rows.specs.declared.keys.OrderKey.{OrderKey}
+use Rattle.oe_rows.proofs.KeyFacts.{customer_total, exact_customer, order_total, exact_order}
 use Rattle.oe_rows.specs.declared.orders.Order.{Order}
 use Rattle.oe_table.specs.Table.{place, rows_of, IsBlanked}
 use Rattle.oe_table.specs.Shelf.{IsAscending}

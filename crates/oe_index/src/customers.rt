@@ -10,7 +10,7 @@ ghost use Rattle.std.specs.FinMap.{entries};
 ghost use Rattle.std.specs.FinMap as map;
 ghost use Rattle.std.specs.BTreeMap.Range.{IsLeBy, entries_between};
 ghost use Rattle.std.specs.declared.ops.Bound.TheVariants.{Included};
-ghost use Rattle.oe_keys.specs.Key.{customer_cmp};
+ghost use Rattle.oe_rows.specs.Key.{customer_cmp};
 ghost use Rattle.oe_rows.specs.Credit.{with_entry};
 ghost use Rattle.oe_rows.specs.declared.customers.Customer.{Customer};
 ghost use Rattle.oe_model.specs.Choice.{namesakes};
@@ -24,8 +24,7 @@ use crate::flags::are_both;
 use crate::lists::Lists;
 use crate::numbers::list_number;
 use crate::walks::Found;
-use oe_keys::{CustomerKey, DistrictKey};
-use oe_rows::{Account, Customer};
+use oe_rows::{Account, Customer, CustomerKey, DistrictKey};
 use oe_table::shelf_walks::{Candidates, Rows};
 use oe_table::shelves::Shelves;
 use oe_values::{NoMemory, Text};
@@ -43,8 +42,8 @@ pub struct Customers {
 
 impl Model for Customers {
     ghost use Rattle.std.specs.Prelude.{List, Option};
-    ghost use Rattle.oe_keys.specs.Key.{customer_cmp};
-    ghost use Rattle.oe_keys.specs.declared.keys.CustomerKey.{CustomerKey};
+    ghost use Rattle.oe_rows.specs.Key.{customer_cmp};
+    ghost use Rattle.oe_rows.specs.declared.keys.CustomerKey.{CustomerKey};
     ghost use Rattle.oe_rows.specs.declared.customers.Customer.{Customer};
     ghost use Rattle.oe_table.specs.Table.{rows_of};
     ghost use Rattle.oe_index.specs.Listed.{AreListed};

@@ -3,7 +3,7 @@
 ghost use Rattle.std.specs.Prelude.{◌≡◌, ◌<◌};
 ghost use Rattle.oe_index.specs.Numbers.{name_number, number_in, list_number, owner_number};
 
-use oe_keys::{CustomerKey, DistrictKey};
+use oe_rows::{CustomerKey, DistrictKey};
 use oe_values::Text;
 
 /// A number below 1,009 of a last name, by all its bytes.

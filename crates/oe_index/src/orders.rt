@@ -11,7 +11,7 @@ ghost use Rattle.std.specs.FinMap.{entries};
 ghost use Rattle.std.specs.FinMap as map;
 ghost use Rattle.std.specs.BTreeMap.Range.{IsLeBy, entries_between};
 ghost use Rattle.std.specs.declared.ops.Bound.TheVariants.{Included};
-ghost use Rattle.oe_keys.specs.Key.{order_cmp};
+ghost use Rattle.oe_rows.specs.Key.{order_cmp};
 ghost use Rattle.oe_rows.specs.declared.orders.Order.{Order};
 ghost use Rattle.oe_model.specs.Keys.{customer_of_order};
 ghost use Rattle.oe_model.specs.Queries.{orders_of};
@@ -24,8 +24,7 @@ use crate::flags::are_both;
 use crate::lists::Lists;
 use crate::numbers::owner_number;
 use crate::walks::Found;
-use oe_keys::{CustomerKey, OrderKey};
-use oe_rows::Order;
+use oe_rows::{CustomerKey, Order, OrderKey};
 use oe_table::shelf_walks::{Candidates, Rows};
 use oe_table::shelves::Shelves;
 use oe_values::{Carrier, CustomerNumber, NoMemory};
@@ -42,8 +41,8 @@ pub struct Orders {
 
 impl Model for Orders {
     ghost use Rattle.std.specs.Prelude.{List, Option};
-    ghost use Rattle.oe_keys.specs.Key.{order_cmp};
-    ghost use Rattle.oe_keys.specs.declared.keys.OrderKey.{OrderKey};
+    ghost use Rattle.oe_rows.specs.Key.{order_cmp};
+    ghost use Rattle.oe_rows.specs.declared.keys.OrderKey.{OrderKey};
     ghost use Rattle.oe_rows.specs.declared.orders.Order.{Order};
     ghost use Rattle.oe_table.specs.Table.{rows_of};
     ghost use Rattle.oe_index.specs.Listed.{AreListed};

@@ -3,7 +3,7 @@ use Rattle.std.proofs.Common.{◌≡◌, ℕ, suc, ◌<◌, ◌≤◌, true, ref
 use Rattle.std.specs.Prelude.{is_some, option_map}
 use Rattle.std.specs.List.{drop-map}
 use Rattle.oe_theory.proofs.Sets.{some_inj}
-use Rattle.oe_keys.specs.declared.keys.Key.{Key}
+use Rattle.oe_rows.specs.declared.keys.Key.{Key}
 use Rattle.oe_layout.specs.declared.links.Previous.{Previous}
 use Rattle.oe_theory.specs.Undo.{unwind, put_records}
 use Rattle.oe_model.specs.Changes.{Record, put_back, record_key}

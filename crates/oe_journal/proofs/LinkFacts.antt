@@ -1,6 +1,6 @@
 -- Which keys have places for their links, after a link is set, and after a record that was pushed is taken off again.
 use Rattle.std.proofs.Common.{◌≡◌, Bool, true, false, cond, refl, sym, ap, ◌∙◌, subst, inl, inr, Option, None, is_some}
-use Rattle.oe_keys.specs.declared.keys.Key.{Key}
+use Rattle.oe_rows.specs.declared.keys.Key.{Key}
 use Rattle.oe_model.specs.Rows.{is_key}
 use Rattle.oe_model.proofs.RowFacts.{key_true}
 use Rattle.oe_store.specs.Places.{AddsPlace}

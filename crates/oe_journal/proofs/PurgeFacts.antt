@@ -2,9 +2,9 @@
 use Rattle.std.proofs.Common.{◌≡◌, ◌⊎◌, ℕ, zero, suc, ◌-◌, ◌<◌, ◌≤◌, refl, sym, ap, ◌∙◌, subst, inl, inr, arith, List, [], ◌∷◌, length, map, get_or, take, drop, Option, None, Some}
 use Rattle.std.specs.Prelude.{◌↔◌, IsSome}
 use Rattle.std.proofs.lemmas.List.{take_all}
-use Rattle.oe_keys.specs.declared.keys.NewOrderKey.{NewOrderKey}
-use Rattle.oe_keys.specs.declared.keys.Key.{Key}
-use Rattle.oe_keys.specs.declared.keys.Key.TheVariants as key
+use Rattle.oe_rows.specs.declared.keys.NewOrderKey.{NewOrderKey}
+use Rattle.oe_rows.specs.declared.keys.Key.{Key}
+use Rattle.oe_rows.specs.declared.keys.Key.TheVariants as key
 use Rattle.oe_theory.specs.Store.{Slot, purged_to}
 use Rattle.oe_model.specs.Rows.{Rows, row_at}
 use Rattle.oe_model.specs.Changes.{Record}

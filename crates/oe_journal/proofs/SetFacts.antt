@@ -3,20 +3,20 @@ use Rattle.std.proofs.Common.{◌≡◌, refl, sym, ap, subst, inl, inr, Option,
 use Rattle.std.specs.Prelude.{IsSome, is_some, option_map}
 use Rattle.std.specs.Option.{IsSomeAnd}
 use Rattle.std.specs.FinMap.{get}
-use Rattle.oe_keys.specs.declared.keys.WarehouseKey.{WarehouseKey}
-use Rattle.oe_keys.specs.declared.keys.DistrictKey.{DistrictKey}
-use Rattle.oe_keys.specs.declared.keys.CustomerKey.{CustomerKey}
-use Rattle.oe_keys.specs.declared.keys.OrderKey.{OrderKey}
-use Rattle.oe_keys.specs.declared.keys.OrderLineKey.{OrderLineKey}
-use Rattle.oe_keys.specs.declared.keys.StockKey.{StockKey}
-use Rattle.oe_keys.specs.declared.keys.Key.{Key}
+use Rattle.oe_rows.specs.declared.keys.WarehouseKey.{WarehouseKey}
+use Rattle.oe_rows.specs.declared.keys.DistrictKey.{DistrictKey}
+use Rattle.oe_rows.specs.declared.keys.CustomerKey.{CustomerKey}
+use Rattle.oe_rows.specs.declared.keys.OrderKey.{OrderKey}
+use Rattle.oe_rows.specs.declared.keys.OrderLineKey.{OrderLineKey}
+use Rattle.oe_rows.specs.declared.keys.StockKey.{StockKey}
+use Rattle.oe_rows.specs.declared.keys.Key.{Key}
 use Rattle.oe_rows.specs.declared.warehouses.Warehouse.{Warehouse}
 use Rattle.oe_rows.specs.declared.districts.District.{District}
 use Rattle.oe_rows.specs.declared.customers.Customer.{Customer}
 use Rattle.oe_rows.specs.declared.orders.Order.{Order}
 use Rattle.oe_rows.specs.declared.orders.OrderLine.{OrderLine}
 use Rattle.oe_rows.specs.declared.items.Stock.{Stock}
-use Rattle.oe_keys.proofs.KeyFacts.{warehouse_total, exact_warehouse, district_total, exact_district, customer_total, exact_customer, order_total, exact_order, order_line_total, exact_order_line, stock_total, exact_stock}
+use Rattle.oe_rows.proofs.KeyFacts.{warehouse_total, exact_warehouse, district_total, exact_district, customer_total, exact_customer, order_total, exact_order, order_line_total, exact_order_line, stock_total, exact_stock}
 use Rattle.oe_model.specs.Keys.{supply_of_line}
 use Rattle.oe_model.specs.Meets.{Accepts, Meets}
 use Rattle.oe_model.specs.Changes.{Change, changed, key_of, UpdateWarehouse, UpdateDistrict, UpdateCustomer, UpdateOrder, UpdateOrderLine, UpdateStock}

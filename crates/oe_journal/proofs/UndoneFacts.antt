@@ -1,7 +1,7 @@
 -- The newest commits are undone, one after another.
 use Rattle.std.proofs.Common.{◌≡◌, ℕ, zero, suc, ◌-◌, ◌<◌, ◌≤◌, refl, sym, ap, ◌∙◌, subst, arith, List, [], ◌∷◌, length, map, take, drop, Option, None}
 use Rattle.std.proofs.lemmas.List.{length-map}
-use Rattle.oe_keys.specs.declared.keys.Key.{Key}
+use Rattle.oe_rows.specs.declared.keys.Key.{Key}
 use Rattle.oe_theory.specs.Undo.{unwind, unwind_commits}
 use Rattle.oe_theory.specs.Store.{Slot, rewound_to}
 use Rattle.oe_model.specs.Changes.{Record}

@@ -1,13 +1,13 @@
 -- Why writes at keys without a place are refused.
 use Rattle.std.proofs.Common.{◌≡◌, refl, ap, Option, None, Some, is_some}
 use Rattle.std.specs.Prelude.{◌≢◌, IsSome}
-use Rattle.oe_keys.specs.declared.keys.HistoryKey.{HistoryKey}
-use Rattle.oe_keys.specs.declared.keys.NewOrderKey.{NewOrderKey}
-use Rattle.oe_keys.specs.declared.keys.OrderKey.{OrderKey}
-use Rattle.oe_keys.specs.declared.keys.OrderLineKey.{OrderLineKey}
-use Rattle.oe_keys.specs.declared.keys.Key.{Key}
-use Rattle.oe_keys.specs.declared.keys.Key.TheVariants as key
-use Rattle.oe_keys.proofs.KeyFacts.{warehouse_total, exact_warehouse, district_total, exact_district, customer_total, exact_customer, history_total, exact_history, new_order_total, exact_new_order, order_total, exact_order, order_line_total, exact_order_line, item_total, exact_item, stock_total, exact_stock}
+use Rattle.oe_rows.specs.declared.keys.HistoryKey.{HistoryKey}
+use Rattle.oe_rows.specs.declared.keys.NewOrderKey.{NewOrderKey}
+use Rattle.oe_rows.specs.declared.keys.OrderKey.{OrderKey}
+use Rattle.oe_rows.specs.declared.keys.OrderLineKey.{OrderLineKey}
+use Rattle.oe_rows.specs.declared.keys.Key.{Key}
+use Rattle.oe_rows.specs.declared.keys.Key.TheVariants as key
+use Rattle.oe_rows.proofs.KeyFacts.{warehouse_total, exact_warehouse, district_total, exact_district, customer_total, exact_customer, history_total, exact_history, new_order_total, exact_new_order, order_total, exact_order, order_line_total, exact_order_line, item_total, exact_item, stock_total, exact_stock}
 use Rattle.oe_requests.specs.declared.refusals.Refusal.TheVariants.{NoSuchRow}
 use Rattle.oe_rows.specs.declared.histories.History.{History}
 use Rattle.oe_rows.specs.declared.orders.Order.{Order}

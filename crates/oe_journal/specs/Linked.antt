@@ -1,7 +1,7 @@
 -- Which keys have places for their links.
 use Rattle.std.specs.Prelude.{◌≡◌}
-use Rattle.oe_keys.specs.declared.keys.Key.{Key}
-use Rattle.oe_keys.specs.declared.keys.Key.TheVariants as key
+use Rattle.oe_rows.specs.declared.keys.Key.{Key}
+use Rattle.oe_rows.specs.declared.keys.Key.TheVariants as key
 use Rattle.oe_store.specs.Places.{Places}
 use Rattle.oe_store.specs.Places as tables
 use Rattle.oe_undo.specs.Links.{LinkMaps, HasPlace}

@@ -4,9 +4,8 @@ ghost use Rattle.std.specs.Prelude.{◌≡◌, IfErr, OnOk, OnErr};
 ghost use Rattle.oe_model.specs.Changes.{InsertHistory, InsertNewOrder, InsertOrder, InsertOrderLine, DeleteNewOrder};
 ghost use Rattle.oe_journal.specs.Writes.{IsApplied, IsRefused};
 
-use oe_keys::{HistoryKey, NewOrderKey, OrderKey, OrderLineKey};
 use oe_requests::Refusal;
-use oe_rows::{History, Order, OrderLine};
+use oe_rows::{History, HistoryKey, NewOrderKey, Order, OrderKey, OrderLine, OrderLineKey};
 use oe_store::Tables;
 
 /// Inserts a HISTORY row; refused as `insert_history` of `oe_change`.

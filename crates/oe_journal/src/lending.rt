@@ -8,9 +8,9 @@ ghost use Rattle.oe_store.specs.Places.{rows};
 ghost use Rattle.oe_journal.specs.Records.{record_of_write};
 
 use oe_change::Write;
-use oe_keys::{CustomerKey, DistrictKey, OrderKey, OrderLineKey, StockKey, WarehouseKey};
 use oe_layout::LentRecord;
 use oe_requests::Refusal;
+use oe_rows::{CustomerKey, DistrictKey, OrderKey, OrderLineKey, StockKey, WarehouseKey};
 use oe_store::Tables;
 
 /// The record of a write to rows as they stand: of an insert or a delete its key, of an update the row, lent from where it lies.

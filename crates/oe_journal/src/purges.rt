@@ -11,10 +11,10 @@ ghost use Rattle.oe_undo.specs.Chains.{IsForgotten, IsEnd};
 ghost use Rattle.oe_undo.specs.Undo.{seen};
 ghost use Rattle.oe_journal.specs.GivesUp.{IsDeleted, GivesUpThose, GivesUpDeleted};
 
-use oe_keys::{Key, NewOrderKey};
 use oe_layout::StoredRecord;
 use oe_log::Records;
 use oe_requests::Refusal;
+use oe_rows::{Key, NewOrderKey};
 use oe_store::Tables;
 use oe_undo::laws::{calls_keep_chains, ends_without_records};
 use oe_undo::{Holder, Undo};

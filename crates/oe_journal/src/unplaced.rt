@@ -7,9 +7,8 @@ ghost use Rattle.oe_store.specs.Places.{rows, HasPlace};
 ghost use Rattle.oe_journal.specs.Writes.{IsRefused, RefusesWrite};
 
 use oe_change::{Write, accept_history, accept_new_order, accept_order, accept_order_line};
-use oe_keys::{HistoryKey, NewOrderKey, OrderKey, OrderLineKey};
 use oe_requests::Refusal;
-use oe_rows::{History, Order, OrderLine};
+use oe_rows::{History, HistoryKey, NewOrderKey, Order, OrderKey, OrderLine, OrderLineKey};
 use oe_store::Tables;
 
 /// Why a write at a key without a place is refused: a deleted row is absent, and so is what an inserted row refers to, or there is no

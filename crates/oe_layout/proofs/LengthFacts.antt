@@ -23,8 +23,8 @@ use Rattle.oe_rows.specs.declared.items.Item.{Item}
 use Rattle.oe_rows.specs.declared.items.Stock.{Stock}
 use Rattle.oe_rows.specs.declared.rows.Row.{Row}
 use Rattle.oe_rows.specs.declared.rows.Row.TheVariants as row
-use Rattle.oe_keys.specs.declared.keys.Key.{Key}
-use Rattle.oe_keys.specs.declared.keys.Key.TheVariants as key
+use Rattle.oe_rows.specs.declared.keys.Key.{Key}
+use Rattle.oe_rows.specs.declared.keys.Key.TheVariants as key
 use Rattle.oe_image.specs.Columns.{text, optional, flag, balance, credit, ten_texts}
 use Rattle.oe_image.specs.Keys.{warehouse_key, district_key, customer_key, history_key, new_order_key, order_key, order_line_key, item_key, stock_key, key_image}
 use Rattle.oe_image.specs.Rows.{address, warehouse, district, customer_name, account, customer, history, order, order_line, item, stock, row_image, IsRow}

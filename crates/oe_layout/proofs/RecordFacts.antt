@@ -7,8 +7,8 @@ use Rattle.std.proofs.lemmas.List.{append-nil, drop_at}
 use Rattle.oe_extent.specs.Spelling.{number, number_at}
 use Rattle.oe_rows.specs.declared.rows.Row.{Row}
 use Rattle.oe_rows.specs.declared.rows.Row.TheVariants as row
-use Rattle.oe_keys.specs.declared.keys.Key.{Key}
-use Rattle.oe_keys.specs.declared.keys.Key.TheVariants as key
+use Rattle.oe_rows.specs.declared.keys.Key.{Key}
+use Rattle.oe_rows.specs.declared.keys.Key.TheVariants as key
 use Rattle.oe_model.specs.Changes.{Record, record_key, row_before}
 use Rattle.oe_image.specs.Fronts.{IsBytes, ◌>>=◌, pair_at}
 use Rattle.oe_image.specs.Keys.{new_order_key}

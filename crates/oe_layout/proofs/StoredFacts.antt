@@ -3,9 +3,9 @@ use Rattle.std.proofs.Common.{◌≡◌, ℕ, ◌-◌, List, ◌++◌, length, t
 use Rattle.std.specs.Option.{option_map, IsSome}
 use Rattle.std.proofs.lemmas.List.{drop_at, take_rest}
 use Rattle.oe_extent.specs.Spelling.{number}
-use Rattle.oe_keys.specs.declared.keys.Key.{Key}
-use Rattle.oe_keys.specs.declared.keys.Table.{Table}
-use Rattle.oe_keys.specs.Key.{table_of}
+use Rattle.oe_rows.specs.declared.keys.Key.{Key}
+use Rattle.oe_rows.specs.declared.keys.Table.{Table}
+use Rattle.oe_rows.specs.Key.{table_of}
 use Rattle.oe_rows.specs.declared.rows.Row.{Row}
 use Rattle.oe_image.specs.Fronts.{Reads}
 use Rattle.oe_image.specs.Keys.{key_image, IsKey}

@@ -1,6 +1,6 @@
 -- What the definitions of this crate promise.
 use Rattle.std.specs.Prelude.{◌≡◌, length}
-use Rattle.oe_keys.specs.declared.keys.Key.{Key}
+use Rattle.oe_rows.specs.declared.keys.Key.{Key}
 use Rattle.oe_rows.specs.declared.rows.Row.{Row}
 use Rattle.oe_image.specs.Keys.{key_image}
 use Rattle.oe_image.specs.Rows.{row_image, IsRow}

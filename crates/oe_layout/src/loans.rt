@@ -11,15 +11,15 @@ use crate::kinds::RecordKind;
 use crate::links::Previous;
 use oe_extent::Written;
 use oe_image::Imaged;
-use oe_keys::{
-    CustomerKey, DistrictKey, HistoryKey, Key, NewOrderKey, OrderKey, OrderLineKey, StockKey,
-    WarehouseKey,
-};
 use oe_rows::customers::Customer;
 use oe_rows::districts::District;
 use oe_rows::items::Stock;
 use oe_rows::orders::{Order, OrderLine};
 use oe_rows::warehouses::Warehouse;
+use oe_rows::{
+    CustomerKey, DistrictKey, HistoryKey, Key, NewOrderKey, OrderKey, OrderLineKey, StockKey,
+    WarehouseKey,
+};
 
 /// The undo record of a change, as it is written: its key, with the row before an update where that lies.
 #[derive(Drop)]

@@ -6,21 +6,21 @@ ghost use Rattle.oe_rows.specs.Customer.{IsCustomer};
 ghost use Rattle.oe_rows.specs.Order.{IsOrder, IsOrderLine};
 ghost use Rattle.oe_rows.specs.Item.{IsStock};
 ghost use Rattle.oe_image.specs.Keys.{IsWarehouseKey, IsHistoryKey, IsNewOrderKey, IsOrderKey, IsOrderLineKey, IsStockKey};
-ghost use Rattle.oe_keys.specs.Key.{IsDistrictKey, IsCustomerKey};
+ghost use Rattle.oe_rows.specs.Key.{IsDistrictKey, IsCustomerKey};
 ghost use Rattle.oe_layout.specs.Links.{IsRecordAddress, IsPrevious};
 ghost use Rattle.oe_layout.specs.Records.{record_of_lent, IsInRanges};
 
 use crate::links::{Previous, RecordAddress};
 use crate::loans::{LentRecord, LinkedRecord};
-use oe_keys::{
-    CustomerKey, DistrictKey, HistoryKey, NewOrderKey, OrderKey, OrderLineKey, StockKey,
-    WarehouseKey,
-};
 use oe_rows::customers::Customer;
 use oe_rows::districts::District;
 use oe_rows::items::Stock;
 use oe_rows::orders::{Order, OrderLine};
 use oe_rows::warehouses::Warehouse;
+use oe_rows::{
+    CustomerKey, DistrictKey, HistoryKey, NewOrderKey, OrderKey, OrderLineKey, StockKey,
+    WarehouseKey,
+};
 
 fn history_key(key: &HistoryKey)
     ensures { IsHistoryKey key.now }

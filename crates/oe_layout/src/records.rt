@@ -3,15 +3,15 @@ ghost use Rattle.std.specs.Prelude.{◌≡◌};
 ghost use Rattle.oe_model.specs.Changes.{record_key};
 ghost use Rattle.oe_layout.specs.Records.{record_of_own};
 
-use oe_keys::{
-    CustomerKey, DistrictKey, HistoryKey, Key, NewOrderKey, OrderKey, OrderLineKey, StockKey,
-    WarehouseKey,
-};
 use oe_rows::customers::Customer;
 use oe_rows::districts::District;
 use oe_rows::items::Stock;
 use oe_rows::orders::{Order, OrderLine};
 use oe_rows::warehouses::Warehouse;
+use oe_rows::{
+    CustomerKey, DistrictKey, HistoryKey, Key, NewOrderKey, OrderKey, OrderLineKey, StockKey,
+    WarehouseKey,
+};
 
 /// The undo record of a change, as it is read: its key, with the row before an update. Before an insert there is no row, and the
 /// row before a delete has no column but its key. It has no memory of its own.

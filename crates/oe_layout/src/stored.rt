@@ -13,7 +13,7 @@ use crate::links::{Previous, read_previous};
 use crate::reading::read_record;
 use crate::records::OwnRecord;
 use oe_image::keys::read_key;
-use oe_keys::{Key, NewOrderKey, Table};
+use oe_rows::{Key, NewOrderKey, Table};
 use std::marker::Model;
 
 /// An undo record where it lies in the ring, which clauses see as the model's record. Key and row are read only where they are asked

@@ -7,10 +7,10 @@ use Rattle.std.proofs.lemmas.Bool.{leb-true}
 use Rattle.std.proofs.lemmas.List.Elements.{All-nil, All-cons, All-head, All-tail}
 use Rattle.std.proofs.lemmas.Fmt.{decimal_digit}
 use Rattle.oe_rows.specs.Credit.{money_text}
-use Rattle.oe_keys.specs.Key.{table_name}
-use Rattle.oe_keys.specs.declared.keys.DistrictKey.{DistrictKey}
-use Rattle.oe_keys.specs.declared.keys.Table.{Table}
-use Rattle.oe_keys.specs.declared.keys.Table.TheVariants as table
+use Rattle.oe_rows.specs.Key.{table_name}
+use Rattle.oe_rows.specs.declared.keys.DistrictKey.{DistrictKey}
+use Rattle.oe_rows.specs.declared.keys.Table.{Table}
+use Rattle.oe_rows.specs.declared.keys.Table.TheVariants as table
 use Rattle.oe_requests.specs.declared.requests.CustomerChoice.{CustomerChoice}
 use Rattle.oe_requests.specs.declared.requests.CustomerChoice.TheVariants as choice
 use Rattle.oe_requests.specs.declared.requests.PaymentRequest.{PaymentRequest}

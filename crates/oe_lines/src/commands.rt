@@ -1,8 +1,7 @@
 //! What a line of a script asks for.
 
-use oe_keys::Table;
 use oe_requests::{Condition, Query, Request};
-use oe_rows::Scale;
+use oe_rows::{Scale, Table};
 use oe_values::{ExtentCount, Moment, Number, Terminal};
 
 /// The newest moment, or one by its number.

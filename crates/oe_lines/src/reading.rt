@@ -13,12 +13,11 @@ use crate::words::{
     amount_before, is_word, last_name, last_number, name_before, number, number_before,
     number_then, stamp, stamp_before,
 };
-use oe_keys::{DistrictKey, Table};
 use oe_requests::{
     Condition, CustomerChoice, DeliveryRequest, LevelQuery, NewOrderRequest, PaymentRequest, Query,
     Request, RequestLine, RequestLines, StatusQuery,
 };
-use oe_rows::Scale;
+use oe_rows::{DistrictKey, Scale, Table};
 use oe_values::fronts::{after, decimal};
 use oe_values::{Lines, Moment, Terminal};
 

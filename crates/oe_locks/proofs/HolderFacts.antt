@@ -1,8 +1,8 @@
 -- Modes of the terminals that hold one name.
 use Rattle.std.proofs.Common.{◌≡◌, ◌≢◌, ℕ, ◌==◌, inl, inr, Bool, true, false, if◌then◌else◌, None, Some, refl, sym, ap, ◌∙◌}
 use Rattle.std.proofs.lemmas.Bool.{cases_eq, cond-true, cond-false, eq-eqb, ne_eqb, eqb-false, false≢true}
-use Rattle.oe_keys.specs.declared.locks.Mode.{Mode}
-use Rattle.oe_keys.specs.declared.locks.Mode.TheVariants.{Shared, Exclusive}
+use Rattle.oe_rows.specs.declared.locks.Mode.{Mode}
+use Rattle.oe_rows.specs.declared.locks.Mode.TheVariants.{Shared, Exclusive}
 use Rattle.oe_locks.specs.declared.holders.Holders.TheVariants.{Alone, Together}
 use Rattle.oe_locks.specs.Held.{go_together, risen, IsFree}
 use Rattle.oe_locks.specs.Holders.{has, mode_among, mode_by, IsLeast}

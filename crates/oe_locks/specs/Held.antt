@@ -1,11 +1,11 @@
 -- Names that are held by terminals, and the modes in which they are held.
 use Rattle.std.specs.Prelude.{◌≡◌, ◌≢◌, ℕ, ◌<◌, ◌==◌, ◌&&◌, Bool, true, false, Option, None, Some, List, if◌then◌else◌}
 use Rattle.std.specs.Map.{lookup}
-use Rattle.oe_keys.specs.contracts.locks.NamePartialEq.TheImpl.{ghosts}
-use Rattle.oe_keys.specs.declared.locks.Name.{Name}
-use Rattle.oe_keys.specs.declared.locks.Name.TheVariants.{Warehouse, District, Customer, Order, Queue, Stock}
-use Rattle.oe_keys.specs.declared.locks.Mode.{Mode}
-use Rattle.oe_keys.specs.declared.locks.Mode.TheVariants.{Shared, Exclusive}
+use Rattle.oe_rows.specs.contracts.locks.NamePartialEq.TheImpl.{ghosts}
+use Rattle.oe_rows.specs.declared.locks.Name.{Name}
+use Rattle.oe_rows.specs.declared.locks.Name.TheVariants.{Warehouse, District, Customer, Order, Queue, Stock}
+use Rattle.oe_rows.specs.declared.locks.Mode.{Mode}
+use Rattle.oe_rows.specs.declared.locks.Mode.TheVariants.{Shared, Exclusive}
 use Rattle.oe_requests.specs.declared.refusals.Refusal.{Refusal}
 use Rattle.oe_requests.specs.declared.refusals.Refusal.TheVariants.{Busy, NoMemory}
 use Rattle.oe_locks.specs.declared.holders.Holders.{Holders}

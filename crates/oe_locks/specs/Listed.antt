@@ -1,7 +1,7 @@
 -- The names that each terminal holds stand on its list.
 use Rattle.std.specs.Prelude.{◌≡◌, ℕ, suc, Bool, false, None, Some, List, [], ◌∷◌, ◌++◌, ◌||◌, get_or, map}
 use Rattle.std.specs.Global.{Vec}
-use Rattle.oe_keys.specs.declared.locks.Name.{Name}
+use Rattle.oe_rows.specs.declared.locks.Name.{Name}
 use Rattle.oe_locks.specs.declared.holders.Holders.{Holders}
 use Rattle.oe_locks.specs.Held.{Holdings, held, is_name}
 use Rattle.oe_locks.specs.Names.{Changes}

@@ -1,8 +1,8 @@
 -- Names that are held, as a list of entries.
 use Rattle.std.specs.Prelude.{◌≡◌, Option, cond}
 use Rattle.std.specs.Map.{lookup}
-use Rattle.oe_keys.specs.declared.locks.Name.{Name}
-use Rattle.oe_keys.specs.contracts.locks.NamePartialEq.TheImpl.{ghosts}
+use Rattle.oe_rows.specs.declared.locks.Name.{Name}
+use Rattle.oe_rows.specs.contracts.locks.NamePartialEq.TheImpl.{ghosts}
 use Rattle.oe_locks.specs.declared.holders.Holders.{Holders}
 use Rattle.oe_locks.specs.Held.{Holdings}
 

@@ -4,7 +4,7 @@ ghost use Rattle.oe_locks.specs.Held.{risen, IsFree, IsFirstInTheWay};
 ghost use Rattle.oe_locks.specs.Holders.{mode_among, mode_by};
 
 use crate::sets::TerminalSet;
-use oe_keys::Mode;
+use oe_rows::Mode;
 use oe_values::Terminal;
 
 /// Who holds a name, and so in which mode: one terminal alone, exclusively, or some terminals, each as shared.

@@ -10,7 +10,7 @@ ghost use Rattle.std.specs.Prelude.{◌≡◌, ◌≢◌, ◌+◌, ◌<◌, [], 
 ghost use Rattle.std.specs.List.{filter};
 ghost use Rattle.std.specs.Map.{lookup};
 ghost use Rattle.oe_values.specs.declared.numbers.TheConstants.{TERMINALS};
-ghost use Rattle.oe_keys.specs.contracts.locks.NamePartialEq.TheImpl.{ghosts};
+ghost use Rattle.oe_rows.specs.contracts.locks.NamePartialEq.TheImpl.{ghosts};
 ghost use Rattle.oe_requests.specs.declared.refusals.Refusal.TheVariants.{NoMemory};
 ghost use Rattle.oe_locks.specs.Held.{held, is_name, IsIdle, IsFreeFor, IsInTheWay, Takes, GivesBack, HoldsNothing, OthersKeep, IsCause, IsBelow};
 ghost use Rattle.oe_locks.specs.Holders.{mode_among, mode_by};
@@ -23,8 +23,8 @@ mod sets;
 
 use holders::Holders;
 use name_map::NameMap;
-use oe_keys::{Mode, Name};
 use oe_requests::Refusal;
+use oe_rows::{Mode, Name};
 use oe_values::{TERMINALS, Terminal};
 use std::alloc::{AllocError, Global};
 use std::marker::Model;

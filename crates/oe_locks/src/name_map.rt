@@ -3,12 +3,12 @@
 //! `insert` takes memory, and only it can fail.
 ghost use Rattle.std.specs.Prelude.{◌≡◌, ◌<◌, ◌+◌, [], length, take, IfSome, IfNone, IsSome, None, Some, OnOk, OnErr, true, false};
 ghost use Rattle.std.specs.Map.{lookup};
-ghost use Rattle.oe_keys.specs.contracts.locks.NamePartialEq.TheImpl.{ghosts};
+ghost use Rattle.oe_rows.specs.contracts.locks.NamePartialEq.TheImpl.{ghosts};
 ghost use Rattle.oe_locks.specs.declared.holders.Holders.TheVariants.{Alone};
 ghost use Rattle.oe_locks.specs.Names.{Changes};
 
 use crate::holders::Holders;
-use oe_keys::Name;
+use oe_rows::Name;
 use oe_values::Terminal;
 use std::alloc::{AllocError, Global};
 use std::collections::HashMap;

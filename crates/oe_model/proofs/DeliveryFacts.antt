@@ -5,10 +5,10 @@ use Rattle.std.specs.Ordering.{eq_by_cmp}
 use Rattle.std.specs.FinMap.{FinMap, get, insert, remove}
 use Rattle.oe_theory.specs.Machine.{Go, Tx}
 use Rattle.oe_theory.specs.Laws.{ends_here, goes_here}
-use Rattle.oe_keys.specs.Key.{new_order_cmp, order_cmp, order_line_cmp}
-use Rattle.oe_keys.specs.declared.keys.OrderKey.{OrderKey}
-use Rattle.oe_keys.specs.declared.keys.OrderLineKey.{OrderLineKey}
-use Rattle.oe_keys.specs.declared.keys.Key.TheVariants as key
+use Rattle.oe_rows.specs.Key.{new_order_cmp, order_cmp, order_line_cmp}
+use Rattle.oe_rows.specs.declared.keys.OrderKey.{OrderKey}
+use Rattle.oe_rows.specs.declared.keys.OrderLineKey.{OrderLineKey}
+use Rattle.oe_rows.specs.declared.keys.Key.TheVariants as key
 use Rattle.oe_rows.specs.declared.customers.Customer.{Customer}
 use Rattle.oe_rows.specs.declared.orders.NewOrder.{NewOrder}
 use Rattle.oe_rows.specs.declared.orders.Order.{Order}
@@ -21,7 +21,7 @@ use Rattle.oe_requests.specs.declared.replies.Reply.TheVariants as reply
 use Rattle.oe_requests.specs.declared.refusals.Column.{Column}
 use Rattle.oe_requests.specs.declared.refusals.Column.TheVariants as column
 use Rattle.oe_requests.specs.declared.refusals.Refusal.TheVariants.{NoSuchRow}
-use Rattle.oe_keys.proofs.KeyFacts.{order_line_total, exact_order_line, order_total, exact_order}
+use Rattle.oe_rows.proofs.KeyFacts.{order_line_total, exact_order_line, order_total, exact_order}
 use Rattle.oe_model.specs.Keys.{order_of_line, supply_of_line, customer_in, order_in, new_order_in, line_in}
 use Rattle.oe_model.specs.Rows.{Rows}
 use Rattle.oe_model.specs.Maps.{each}
@@ -79,7 +79,7 @@ module _ (x : Tx Request) (q : DeliveryRequest) (o c : ℕ) (r : Rows) (queue : 
       let m' : Rows = record m { order_lines = insert m.order_lines j (dated q.stamp y) } in
       goes_here p m (Some (UpdateOrderLine j (dated q.stamp y))) (next (sum + y.amount)) end tt
       (ap (λ (v : Option OrderLine). given (NoSuchRow (key.OrderLine j)) v (λ x. Go (Some (UpdateOrderLine j (dated q.stamp x))) (next (sum + x.amount)))) found)
-      (some_present (get m.order_lines j) y found, subst (λ (v : Rattle.oe_keys.specs.declared.keys.StockKey.StockKey). IsSome (get r.stocks v)) (same_supply (marked j) e.1) (supplied j e.1 here))
+      (some_present (get m.order_lines j) y found, subst (λ (v : Rattle.oe_rows.specs.declared.keys.StockKey.StockKey). IsSome (get r.stocks v)) (same_supply (marked j) e.1) (supplied j e.1 here))
       (subst (λ (n : ℕ). EndsSo DeliveryMayRefuse x (next (sum + n)) m' end) (sym (same_amount (marked j) e.1))
       (subst (λ (v : FinMap order_line_cmp OrderLine). EndsSo DeliveryMayRefuse x (next (sum + e.1.amount)) (record m { order_lines = v }) end) (sym (dated-marked q.stamp r.order_lines marked j e.1 here))
       (lines_dated es (mark j marked) (sum + e.1.amount) h.1

@@ -8,12 +8,12 @@ use Rattle.std.proofs.lemmas.Bool.{leb-false, eqb-true, eq-eqb}
 use Rattle.std.proofs.lemmas.List.Sums.{AllPass-from_list_all, list_all-from_AllPass}
 use Rattle.std.specs.FinMap.{get, entries, get-entries}
 use Rattle.std.specs.FinMap.Entries as listed
-use Rattle.oe_keys.specs.Key.{district_cmp, customer_cmp, new_order_cmp, order_cmp, order_line_cmp}
-use Rattle.oe_keys.specs.declared.keys.DistrictKey.{DistrictKey}
-use Rattle.oe_keys.specs.declared.keys.CustomerKey.{CustomerKey}
-use Rattle.oe_keys.specs.declared.keys.NewOrderKey.{NewOrderKey}
-use Rattle.oe_keys.specs.declared.keys.OrderKey.{OrderKey}
-use Rattle.oe_keys.specs.declared.keys.OrderLineKey.{OrderLineKey}
+use Rattle.oe_rows.specs.Key.{district_cmp, customer_cmp, new_order_cmp, order_cmp, order_line_cmp}
+use Rattle.oe_rows.specs.declared.keys.DistrictKey.{DistrictKey}
+use Rattle.oe_rows.specs.declared.keys.CustomerKey.{CustomerKey}
+use Rattle.oe_rows.specs.declared.keys.NewOrderKey.{NewOrderKey}
+use Rattle.oe_rows.specs.declared.keys.OrderKey.{OrderKey}
+use Rattle.oe_rows.specs.declared.keys.OrderLineKey.{OrderLineKey}
 use Rattle.oe_rows.specs.declared.orders.NewOrder.{NewOrder}
 use Rattle.oe_rows.specs.declared.orders.Order.{Order}
 use Rattle.oe_rows.specs.declared.orders.OrderLine.{OrderLine}
@@ -22,7 +22,7 @@ use Rattle.oe_requests.specs.declared.requests.DeliveryRequest.{DeliveryRequest}
 use Rattle.oe_requests.specs.declared.replies.Reply.{Reply}
 use Rattle.oe_requests.specs.declared.replies.DistrictDelivery.TheVariants.{Skipped}
 use Rattle.oe_requests.specs.declared.replies.Reply.TheVariants as reply
-use Rattle.oe_keys.proofs.KeyFacts.{district_total, exact_district, customer_total, exact_customer, new_order_total, exact_new_order, order_total, exact_order, exact_order_line}
+use Rattle.oe_rows.proofs.KeyFacts.{district_total, exact_district, customer_total, exact_customer, new_order_total, exact_new_order, order_total, exact_order, exact_order_line}
 use Rattle.oe_model.specs.Lists.{IsAmong}
 use Rattle.oe_model.specs.Keys.{customer_in, customer_of_order, district_of_new_order, new_order_in, order_of_line, order_in}
 use Rattle.oe_model.specs.Rows.{Rows}

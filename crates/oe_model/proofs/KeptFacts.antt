@@ -5,7 +5,7 @@ use Rattle.oe_theory.specs.Laws.{after, Fit, stops_here, fails_here, ends_here, 
 use Rattle.oe_requests.specs.declared.requests.Request.{Request}
 use Rattle.oe_requests.specs.declared.replies.Reply.{Reply}
 use Rattle.oe_requests.specs.declared.refusals.Refusal.{Refusal}
-use Rattle.oe_keys.proofs.KeyFacts.{warehouse_total, exact_warehouse, stock_total, exact_stock}
+use Rattle.oe_rows.proofs.KeyFacts.{warehouse_total, exact_warehouse, stock_total, exact_stock}
 use Rattle.oe_model.specs.Keys.{warehouse_of_stock}
 use Rattle.oe_model.specs.Rows.{Rows}
 use Rattle.oe_model.specs.Changes.{Change, InsertHistory, InsertNewOrder, InsertOrder, InsertOrderLine, UpdateWarehouse, UpdateDistrict, UpdateCustomer, UpdateOrder, UpdateOrderLine, UpdateStock, DeleteNewOrder, changed}

@@ -3,11 +3,11 @@ use Rattle.std.proofs.Common.{◌≡◌, ℕ, ◌+◌, ◌<◌, refl, ◌∙◌,
 use Rattle.std.specs.Prelude.{◌⊎◌}
 use Rattle.std.specs.Ordering.{eq_by_cmp}
 use Rattle.std.specs.FinMap.{FinMap, get, insert}
-use Rattle.oe_keys.specs.Key.{order_line_cmp}
-use Rattle.oe_keys.specs.declared.keys.OrderKey.{OrderKey}
-use Rattle.oe_keys.specs.declared.keys.OrderLineKey.{OrderLineKey}
+use Rattle.oe_rows.specs.Key.{order_line_cmp}
+use Rattle.oe_rows.specs.declared.keys.OrderKey.{OrderKey}
+use Rattle.oe_rows.specs.declared.keys.OrderLineKey.{OrderLineKey}
 use Rattle.oe_rows.specs.declared.orders.OrderLine.{OrderLine}
-use Rattle.oe_keys.proofs.KeyFacts.{order_line_total, exact_order_line}
+use Rattle.oe_rows.proofs.KeyFacts.{order_line_total, exact_order_line}
 use Rattle.oe_model.specs.Keys.{line_in}
 use Rattle.oe_model.specs.Maps.{with_all}
 use Rattle.oe_model.specs.Positions.{Filled}

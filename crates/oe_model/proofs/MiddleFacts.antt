@@ -11,11 +11,11 @@ use Rattle.std.proofs.lemmas.Cmp.{on_total, then_total}
 use Rattle.std.proofs.lemmas.Map.Lookups.{exact_pairs, exact_unsigned}
 use Rattle.std.specs.FinMap.{FinMap, IsAntisymmetric, get, entries, entries_sorted, nat_cmp-IsAntisymmetric, slice_cmp-IsAntisymmetric}
 use Rattle.std.specs.FinMap.Entries.{is_sorted, below_all}
-use Rattle.oe_keys.specs.Key.{district_cmp, customer_cmp}
-use Rattle.oe_keys.specs.declared.keys.DistrictKey.{DistrictKey}
-use Rattle.oe_keys.specs.declared.keys.CustomerKey.{CustomerKey}
+use Rattle.oe_rows.specs.Key.{district_cmp, customer_cmp}
+use Rattle.oe_rows.specs.declared.keys.DistrictKey.{DistrictKey}
+use Rattle.oe_rows.specs.declared.keys.CustomerKey.{CustomerKey}
 use Rattle.oe_rows.specs.declared.customers.Customer.{Customer}
-use Rattle.oe_keys.proofs.KeyFacts.{district_total, exact_district, customer_total, exact_customer}
+use Rattle.oe_rows.proofs.KeyFacts.{district_total, exact_district, customer_total, exact_customer}
 use Rattle.oe_model.specs.Lists.{IsAmong, IsDistinct}
 use Rattle.oe_model.specs.Keys.{customer_in, district_of_customer}
 use Rattle.oe_model.specs.Choice.{named, namesakes, comes_before, middle}

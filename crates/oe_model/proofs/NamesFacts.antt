@@ -5,11 +5,11 @@ use Rattle.std.specs.List.{filter_map, cons_option}
 use Rattle.std.specs.Ordering.{eq_by_cmp, nat_cmp}
 use Rattle.std.specs.Cmp.Lexicographic.{slice_cmp}
 use Rattle.std.specs.FinMap.{FinMap, get, entries}
-use Rattle.oe_keys.specs.Key.{district_cmp, customer_cmp}
-use Rattle.oe_keys.specs.declared.keys.DistrictKey.{DistrictKey}
-use Rattle.oe_keys.specs.declared.keys.CustomerKey.{CustomerKey}
+use Rattle.oe_rows.specs.Key.{district_cmp, customer_cmp}
+use Rattle.oe_rows.specs.declared.keys.DistrictKey.{DistrictKey}
+use Rattle.oe_rows.specs.declared.keys.CustomerKey.{CustomerKey}
 use Rattle.oe_rows.specs.declared.customers.Customer.{Customer}
-use Rattle.oe_keys.proofs.KeyFacts.{district_total, exact_district, customer_total, exact_customer}
+use Rattle.oe_rows.proofs.KeyFacts.{district_total, exact_district, customer_total, exact_customer}
 use Rattle.oe_model.specs.Keys.{district_of_customer}
 use Rattle.oe_model.specs.Choice.{named, namesakes}
 use Rattle.oe_model.specs.Locks.{first_if_named}

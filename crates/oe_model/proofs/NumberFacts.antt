@@ -5,9 +5,9 @@ use Rattle.std.specs.declared.cmp.Ordering.{Ordering}
 use Rattle.std.specs.Cmp.{IsTotalOrder}
 use Rattle.std.specs.Ordering.{eq_by_cmp}
 use Rattle.std.specs.FinMap.{FinMap, IsAntisymmetric, get, insert}
-use Rattle.oe_keys.specs.Key.{district_cmp}
-use Rattle.oe_keys.specs.declared.keys.DistrictKey.{DistrictKey}
-use Rattle.oe_keys.proofs.KeyFacts.{district_total, exact_district}
+use Rattle.oe_rows.specs.Key.{district_cmp}
+use Rattle.oe_rows.specs.declared.keys.DistrictKey.{DistrictKey}
+use Rattle.oe_rows.proofs.KeyFacts.{district_total, exact_district}
 use Rattle.oe_model.specs.Conditions.{IsGreatest, IsAfterGreatest}
 use Rattle.oe_model.proofs.MapFacts.{is_self}
 use Rattle.oe_model.proofs.PresenceFacts.{key_cases, get_other, present_own}

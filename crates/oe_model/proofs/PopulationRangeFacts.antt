@@ -7,7 +7,7 @@ use Rattle.std.proofs.lemmas.List.FromFn.{length-map-range_with_len, get_or-map-
 use Rattle.std.proofs.lemmas.Nat.{mod_below, mul-le}
 use lib.Signed.{le_z_yes}
 use Rattle.oe_values.specs.Text.{IsText}
-use Rattle.oe_keys.specs.Key.{IsDistrictKey, IsCustomerKey}
+use Rattle.oe_rows.specs.Key.{IsDistrictKey, IsCustomerKey}
 use Rattle.oe_rows.specs.Warehouse.{IsAddress, IsWarehouse}
 use Rattle.oe_rows.specs.District.{IsDistrict}
 use Rattle.oe_rows.specs.Customer.{IsCustomer}
@@ -15,16 +15,16 @@ use Rattle.oe_rows.specs.History.{IsHistory}
 use Rattle.oe_rows.specs.Order.{IsOrder, IsOrderLine}
 use Rattle.oe_rows.specs.Item.{IsItem, IsStock}
 use Rattle.oe_rows.specs.declared.scales.Scale.{Scale}
-use Rattle.oe_keys.specs.declared.keys.DistrictKey.{DistrictKey}
-use Rattle.oe_keys.specs.declared.keys.CustomerKey.{CustomerKey}
-use Rattle.oe_keys.specs.declared.keys.HistoryKey.{HistoryKey}
-use Rattle.oe_keys.specs.declared.keys.OrderKey.{OrderKey}
-use Rattle.oe_keys.specs.declared.keys.OrderLineKey.{OrderLineKey}
-use Rattle.oe_keys.specs.declared.keys.Key.{Key}
-use Rattle.oe_keys.specs.declared.keys.Key.TheVariants as key
+use Rattle.oe_rows.specs.declared.keys.DistrictKey.{DistrictKey}
+use Rattle.oe_rows.specs.declared.keys.CustomerKey.{CustomerKey}
+use Rattle.oe_rows.specs.declared.keys.HistoryKey.{HistoryKey}
+use Rattle.oe_rows.specs.declared.keys.OrderKey.{OrderKey}
+use Rattle.oe_rows.specs.declared.keys.OrderLineKey.{OrderLineKey}
+use Rattle.oe_rows.specs.declared.keys.Key.{Key}
+use Rattle.oe_rows.specs.declared.keys.Key.TheVariants as key
 use Rattle.oe_rows.specs.declared.rows.Row.{Row}
 use Rattle.oe_rows.specs.declared.rows.Row.TheVariants as row
-use Rattle.oe_keys.proofs.KeyFacts.{history_total, exact_history}
+use Rattle.oe_rows.proofs.KeyFacts.{history_total, exact_history}
 use Rattle.oe_model.specs.Keys.{warehouse_of_district, district_of_customer, order_of_new_order, district_of_order, order_of_line, warehouse_of_stock}
 use Rattle.oe_model.specs.Population.{IsScale, formula, where_there, counts_to, has_warehouse, has_district, has_customer, has_history, has_order, has_new_order, has_line, has_item, has_stock, dec, address_of, letters, has_bad_credit, warehouse_of, district_of, customer_of, history_of, history_key, counted_customer, order_of, line_of, item_of, stock_of, dist_text, is_delivered, lines_of}
 use Rattle.oe_model.specs.PopulationRanges.{IsKey, IsRow, Population_is_in_range}

@@ -6,8 +6,8 @@ use Rattle.std.specs.declared.cmp.Ordering.{Ordering}
 use Rattle.std.specs.Cmp.{IsTotalOrder}
 use Rattle.std.specs.FinMap.{FinMap, IsAntisymmetric, get, entries}
 use Rattle.std.proofs.lemmas.Bool.{eq-eqb, eqb-true, and_parts, and_from, cases_order}
-use Rattle.oe_keys.specs.declared.keys.DistrictKey.{DistrictKey}
-use Rattle.oe_keys.proofs.KeyFacts.{warehouse_total, exact_warehouse, district_total, exact_district, customer_total, exact_customer, history_total, exact_history, new_order_total, exact_new_order, order_total, exact_order, order_line_total, exact_order_line, item_total, exact_item, stock_total, exact_stock}
+use Rattle.oe_rows.specs.declared.keys.DistrictKey.{DistrictKey}
+use Rattle.oe_rows.proofs.KeyFacts.{warehouse_total, exact_warehouse, district_total, exact_district, customer_total, exact_customer, history_total, exact_history, new_order_total, exact_new_order, order_total, exact_order, order_line_total, exact_order_line, item_total, exact_item, stock_total, exact_stock}
 use Rattle.oe_model.specs.Keys.{warehouse_of_district, warehouse_of_stock, item_of_stock}
 use Rattle.oe_model.specs.Rows.{Rows}
 use Rattle.oe_model.specs.Meets.{Meets}

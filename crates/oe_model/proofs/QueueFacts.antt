@@ -9,14 +9,14 @@ use Rattle.std.specs.Ordering.{eq_by_cmp, is_lt, nat_cmp, ordering_then}
 use Rattle.std.proofs.lemmas.List.Sums.{sum_by-cons}
 use Rattle.std.specs.FinMap.{FinMap, IsAntisymmetric, get, insert, entries, entries_sorted, get-entries, get-insert}
 use Rattle.std.specs.FinMap.Entries.{find, is_sorted, below_all}
-use Rattle.oe_keys.specs.Key.{district_cmp, new_order_cmp, order_cmp, order_line_cmp}
-use Rattle.oe_keys.specs.declared.keys.DistrictKey.{DistrictKey}
-use Rattle.oe_keys.specs.declared.keys.NewOrderKey.{NewOrderKey}
-use Rattle.oe_keys.specs.declared.keys.OrderKey.{OrderKey}
-use Rattle.oe_keys.specs.declared.keys.OrderLineKey.{OrderLineKey}
+use Rattle.oe_rows.specs.Key.{district_cmp, new_order_cmp, order_cmp, order_line_cmp}
+use Rattle.oe_rows.specs.declared.keys.DistrictKey.{DistrictKey}
+use Rattle.oe_rows.specs.declared.keys.NewOrderKey.{NewOrderKey}
+use Rattle.oe_rows.specs.declared.keys.OrderKey.{OrderKey}
+use Rattle.oe_rows.specs.declared.keys.OrderLineKey.{OrderLineKey}
 use Rattle.oe_rows.specs.declared.orders.NewOrder.{NewOrder}
 use Rattle.oe_rows.specs.declared.orders.OrderLine.{OrderLine}
-use Rattle.oe_keys.proofs.KeyFacts.{district_total, exact_district, new_order_total, exact_new_order, order_line_total, exact_order_line}
+use Rattle.oe_rows.proofs.KeyFacts.{district_total, exact_district, new_order_total, exact_new_order, order_line_total, exact_order_line}
 use Rattle.oe_model.specs.Keys.{district_of_new_order, order_of_line, new_order_in}
 use Rattle.oe_model.specs.Maps.{each}
 use Rattle.oe_model.specs.Delivery.{undelivered, oldest, lines_of, worth, dated}

@@ -5,7 +5,7 @@ use Rattle.std.proofs.lemmas.Int.{ints}
 use Rattle.std.proofs.lemmas.Bool.{leb-true, leb-false, eqb-true, eq-eqb}
 use Rattle.std.proofs.lemmas.List.Sums.{sum_by-cons}
 use Rattle.oe_rows.specs.Credit.{credit_entry}
-use Rattle.oe_keys.specs.declared.keys.StockKey.{StockKey}
+use Rattle.oe_rows.specs.declared.keys.StockKey.{StockKey}
 use Rattle.oe_rows.specs.declared.customers.Credit.{Credit}
 use Rattle.oe_rows.specs.declared.customers.Credit.TheVariants.{Good, Bad}
 use Rattle.oe_rows.specs.declared.items.Stock.{Stock}

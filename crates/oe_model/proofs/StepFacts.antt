@@ -3,7 +3,7 @@ use Rattle.std.proofs.Common.{◌≡◌, refl, sym, ◌∙◌, ap, subst, Option
 use Rattle.std.specs.Prelude.{option_map}
 use Rattle.oe_theory.specs.Machine.{Mode, Ask, Stop, Take, Tx}
 use Rattle.oe_theory.specs.Laws.{IsAsked, all_held, Ends, stops_here, fails_here}
-use Rattle.oe_keys.specs.declared.locks.Name.{Name}
+use Rattle.oe_rows.specs.declared.locks.Name.{Name}
 use Rattle.oe_requests.specs.declared.requests.Request.{Request}
 use Rattle.oe_requests.specs.declared.replies.Reply.{Reply}
 use Rattle.oe_requests.specs.declared.refusals.Column.{Column}

@@ -3,13 +3,13 @@ use Rattle.std.proofs.Common.{◌≡◌, ℕ, ◌+◌, refl, sym, ◌∙◌, ap,
 use Rattle.std.specs.Prelude.{fold, option_map}
 use Rattle.std.specs.Ordering.{eq_by_cmp}
 use Rattle.std.specs.FinMap.{FinMap, get, insert, get-insert}
-use Rattle.oe_keys.specs.Key.{stock_cmp}
-use Rattle.oe_keys.specs.declared.keys.StockKey.{StockKey}
+use Rattle.oe_rows.specs.Key.{stock_cmp}
+use Rattle.oe_rows.specs.declared.keys.StockKey.{StockKey}
 use Rattle.oe_rows.specs.declared.items.Item.{Item}
 use Rattle.oe_rows.specs.declared.items.Stock.{Stock}
 use Rattle.oe_requests.specs.declared.requests.RequestLine.{RequestLine}
 use Rattle.oe_requests.specs.declared.requests.NewOrderRequest.{NewOrderRequest}
-use Rattle.oe_keys.proofs.KeyFacts.{stock_total, exact_stock}
+use Rattle.oe_rows.proofs.KeyFacts.{stock_total, exact_stock}
 use Rattle.oe_model.specs.Rows.{Rows}
 use Rattle.oe_model.specs.Maps.{each}
 use Rattle.oe_model.specs.Positions.{Filled}

@@ -5,18 +5,18 @@ use Rattle.std.specs.FinMap.{FinMap, get}
 use Rattle.oe_theory.specs.Machine.{Go, Tx}
 use Rattle.oe_theory.specs.World.{bump, overlay}
 use Rattle.oe_theory.specs.Laws.{Laws, Holds, with_asked, Alike, IsGood}
-use Rattle.oe_keys.specs.Key.{item_cmp}
-use Rattle.oe_keys.specs.declared.keys.DistrictKey.{DistrictKey}
-use Rattle.oe_keys.specs.declared.keys.HistoryKey.{HistoryKey}
+use Rattle.oe_rows.specs.Key.{item_cmp}
+use Rattle.oe_rows.specs.declared.keys.DistrictKey.{DistrictKey}
+use Rattle.oe_rows.specs.declared.keys.HistoryKey.{HistoryKey}
 use Rattle.oe_rows.specs.declared.histories.History.{History}
 use Rattle.oe_rows.specs.declared.items.Item.{Item}
-use Rattle.oe_keys.specs.declared.locks.Name.{Name}
-use Rattle.oe_keys.specs.declared.locks.Name.TheVariants as name
+use Rattle.oe_rows.specs.declared.locks.Name.{Name}
+use Rattle.oe_rows.specs.declared.locks.Name.TheVariants as name
 use Rattle.oe_requests.specs.declared.requests.Request.{Request}
 use Rattle.oe_requests.specs.declared.requests.Request.TheVariants as request
 use Rattle.oe_requests.specs.declared.requests.RequestLine.{RequestLine}
 use Rattle.oe_requests.specs.declared.replies.Reply.{Reply}
-use Rattle.oe_keys.proofs.KeyFacts.{warehouse_total, exact_warehouse, district_total, exact_district, customer_total, exact_customer, order_total, exact_order, stock_total, exact_stock}
+use Rattle.oe_rows.proofs.KeyFacts.{warehouse_total, exact_warehouse, district_total, exact_district, customer_total, exact_customer, order_total, exact_order, stock_total, exact_stock}
 use Rattle.oe_model.specs.Keys.{order_in, new_order_in}
 use Rattle.oe_model.specs.Rows.{Rows}
 use Rattle.oe_model.specs.Changes.{Change}

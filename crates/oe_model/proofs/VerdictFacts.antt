@@ -7,13 +7,13 @@ use Rattle.std.specs.Cmp.{IsTotalOrder}
 use Rattle.std.specs.Ordering.{eq_by_cmp}
 use Rattle.std.specs.FinMap.{FinMap, IsAntisymmetric, get, entries, retain_keys}
 use Rattle.std.proofs.lemmas.Bool.{eq-eqb, eqb-true, and_parts, and_from}
-use Rattle.oe_keys.specs.Key.{district_cmp}
-use Rattle.oe_keys.specs.declared.keys.WarehouseKey.{WarehouseKey}
-use Rattle.oe_keys.specs.declared.keys.DistrictKey.{DistrictKey}
-use Rattle.oe_keys.specs.declared.keys.Key.{Key}
-use Rattle.oe_keys.specs.declared.keys.Key.TheVariants as key
+use Rattle.oe_rows.specs.Key.{district_cmp}
+use Rattle.oe_rows.specs.declared.keys.WarehouseKey.{WarehouseKey}
+use Rattle.oe_rows.specs.declared.keys.DistrictKey.{DistrictKey}
+use Rattle.oe_rows.specs.declared.keys.Key.{Key}
+use Rattle.oe_rows.specs.declared.keys.Key.TheVariants as key
 use Rattle.oe_rows.specs.declared.districts.District.{District}
-use Rattle.oe_keys.proofs.KeyFacts.{warehouse_total, exact_warehouse, district_total, exact_district, new_order_total, exact_new_order, order_total, exact_order}
+use Rattle.oe_rows.proofs.KeyFacts.{warehouse_total, exact_warehouse, district_total, exact_district, new_order_total, exact_new_order, order_total, exact_order}
 use Rattle.oe_model.specs.Keys.{district_of_order, district_of_new_order, order_in, new_order_in}
 use Rattle.oe_model.specs.Rows.{Rows}
 use Rattle.oe_model.specs.Conditions.{IsAfterGreatest, HasOrder, HasNewOrder, new_orders_of, Condition_1_at, Condition_2_at, Condition_3_at, Condition_4_at}

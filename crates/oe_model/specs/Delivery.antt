@@ -3,17 +3,17 @@ use Rattle.std.specs.Prelude.{ℕ, ◌+◌, pos, ◌+ℤ◌, cond, List, [], ◌
 use Rattle.std.specs.Ordering.{eq_by_cmp}
 use Rattle.std.specs.FinMap.{FinMap, get, insert, remove, entries, retain_keys}
 use Rattle.oe_theory.specs.Machine.{Exclusive, Ask, Plain, Take, Go, Ready, Hold}
-use Rattle.oe_keys.specs.Key.{district_cmp, new_order_cmp, order_cmp, order_line_cmp}
-use Rattle.oe_keys.specs.declared.keys.DistrictKey.{DistrictKey}
-use Rattle.oe_keys.specs.declared.keys.OrderKey.{OrderKey}
-use Rattle.oe_keys.specs.declared.keys.OrderLineKey.{OrderLineKey}
-use Rattle.oe_keys.specs.declared.keys.Key.TheVariants as key
+use Rattle.oe_rows.specs.Key.{district_cmp, new_order_cmp, order_cmp, order_line_cmp}
+use Rattle.oe_rows.specs.declared.keys.DistrictKey.{DistrictKey}
+use Rattle.oe_rows.specs.declared.keys.OrderKey.{OrderKey}
+use Rattle.oe_rows.specs.declared.keys.OrderLineKey.{OrderLineKey}
+use Rattle.oe_rows.specs.declared.keys.Key.TheVariants as key
 use Rattle.oe_rows.specs.declared.customers.Customer.{Customer}
 use Rattle.oe_rows.specs.declared.orders.NewOrder.{NewOrder}
 use Rattle.oe_rows.specs.declared.orders.Order.{Order}
 use Rattle.oe_rows.specs.declared.orders.OrderLine.{OrderLine}
-use Rattle.oe_keys.specs.declared.locks.Name.{Name}
-use Rattle.oe_keys.specs.declared.locks.Name.TheVariants as name
+use Rattle.oe_rows.specs.declared.locks.Name.{Name}
+use Rattle.oe_rows.specs.declared.locks.Name.TheVariants as name
 use Rattle.oe_requests.specs.declared.requests.DeliveryRequest.{DeliveryRequest}
 use Rattle.oe_requests.specs.declared.replies.DistrictDelivery.TheVariants.{Delivered, Skipped}
 use Rattle.oe_requests.specs.declared.replies.Reply.{Reply}

@@ -13,8 +13,8 @@ use Rattle.oe_rows.specs.declared.items.Item.{Item}
 use Rattle.oe_rows.specs.declared.items.Stock.{Stock}
 use Rattle.oe_rows.specs.declared.rows.Row.{Row}
 use Rattle.oe_rows.specs.declared.rows.Row.TheVariants as row
-use Rattle.oe_keys.specs.declared.keys.Key.{Key}
-use Rattle.oe_keys.specs.declared.keys.Key.TheVariants as key
+use Rattle.oe_rows.specs.declared.keys.Key.{Key}
+use Rattle.oe_rows.specs.declared.keys.Key.TheVariants as key
 use Rattle.oe_model.specs.Changes.{Record, record_key, row_before}
 
 -- a text has its length in 2 bytes before it

@@ -4,20 +4,20 @@ use Rattle.std.specs.Ordering.{eq_by_cmp, nat_cmp}
 use Rattle.std.specs.Cmp.Lexicographic.{slice_cmp}
 use Rattle.oe_theory.specs.Machine.{Guard, Free, Under, Own, Hold}
 use Rattle.oe_theory.specs.Machine as theory
-use Rattle.oe_keys.specs.Key.{warehouse_cmp, district_cmp, customer_cmp, order_cmp, stock_cmp}
-use Rattle.oe_keys.specs.declared.keys.WarehouseKey.{WarehouseKey}
-use Rattle.oe_keys.specs.declared.keys.DistrictKey.{DistrictKey}
-use Rattle.oe_keys.specs.declared.keys.CustomerKey.{CustomerKey}
-use Rattle.oe_keys.specs.declared.keys.ItemKey.{ItemKey}
-use Rattle.oe_keys.specs.declared.keys.StockKey.{StockKey}
-use Rattle.oe_keys.specs.declared.keys.Key.{Key}
-use Rattle.oe_keys.specs.declared.keys.Key.TheVariants as key
+use Rattle.oe_rows.specs.Key.{warehouse_cmp, district_cmp, customer_cmp, order_cmp, stock_cmp}
+use Rattle.oe_rows.specs.declared.keys.WarehouseKey.{WarehouseKey}
+use Rattle.oe_rows.specs.declared.keys.DistrictKey.{DistrictKey}
+use Rattle.oe_rows.specs.declared.keys.CustomerKey.{CustomerKey}
+use Rattle.oe_rows.specs.declared.keys.ItemKey.{ItemKey}
+use Rattle.oe_rows.specs.declared.keys.StockKey.{StockKey}
+use Rattle.oe_rows.specs.declared.keys.Key.{Key}
+use Rattle.oe_rows.specs.declared.keys.Key.TheVariants as key
 use Rattle.oe_rows.specs.declared.rows.Row.{Row}
 use Rattle.oe_rows.specs.declared.customers.Customer.{Customer}
-use Rattle.oe_keys.specs.declared.locks.Name.{Name}
-use Rattle.oe_keys.specs.declared.locks.Name.TheVariants as name
-use Rattle.oe_keys.specs.declared.locks.Mode.{Mode}
-use Rattle.oe_keys.specs.declared.locks.Mode.TheVariants.{Shared, Exclusive}
+use Rattle.oe_rows.specs.declared.locks.Name.{Name}
+use Rattle.oe_rows.specs.declared.locks.Name.TheVariants as name
+use Rattle.oe_rows.specs.declared.locks.Mode.{Mode}
+use Rattle.oe_rows.specs.declared.locks.Mode.TheVariants.{Shared, Exclusive}
 use Rattle.oe_model.specs.Keys.{district_of_new_order, order_of_line}
 use Rattle.oe_model.specs.Rows.{as_customer}
 

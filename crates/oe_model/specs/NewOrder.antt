@@ -5,11 +5,11 @@ use Rattle.std.specs.Ordering.{eq_by_cmp}
 use Rattle.std.specs.FinMap.{FinMap, get, insert}
 use Rattle.oe_theory.specs.Machine.{Shared, Exclusive, Ask, Stop, Plain, Take, Go, Ready, Hold}
 use Rattle.oe_rows.specs.Credit.{order_total}
-use Rattle.oe_keys.specs.Key.{item_cmp, stock_cmp}
-use Rattle.oe_keys.specs.declared.keys.OrderKey.{OrderKey}
-use Rattle.oe_keys.specs.declared.keys.OrderLineKey.{OrderLineKey}
-use Rattle.oe_keys.specs.declared.keys.StockKey.{StockKey}
-use Rattle.oe_keys.specs.declared.keys.Key.TheVariants as key
+use Rattle.oe_rows.specs.Key.{item_cmp, stock_cmp}
+use Rattle.oe_rows.specs.declared.keys.OrderKey.{OrderKey}
+use Rattle.oe_rows.specs.declared.keys.OrderLineKey.{OrderLineKey}
+use Rattle.oe_rows.specs.declared.keys.StockKey.{StockKey}
+use Rattle.oe_rows.specs.declared.keys.Key.TheVariants as key
 use Rattle.oe_rows.specs.declared.warehouses.Warehouse.{Warehouse}
 use Rattle.oe_rows.specs.declared.districts.District.{District}
 use Rattle.oe_rows.specs.declared.customers.Customer.{Customer}
@@ -18,8 +18,8 @@ use Rattle.oe_rows.specs.declared.orders.Order.{Order}
 use Rattle.oe_rows.specs.declared.orders.OrderLine.{OrderLine}
 use Rattle.oe_rows.specs.declared.items.Item.{Item}
 use Rattle.oe_rows.specs.declared.items.Stock.{Stock}
-use Rattle.oe_keys.specs.declared.locks.Name.{Name}
-use Rattle.oe_keys.specs.declared.locks.Name.TheVariants as name
+use Rattle.oe_rows.specs.declared.locks.Name.{Name}
+use Rattle.oe_rows.specs.declared.locks.Name.TheVariants as name
 use Rattle.oe_requests.specs.declared.requests.RequestLine.{RequestLine}
 use Rattle.oe_requests.specs.declared.requests.NewOrderRequest.{NewOrderRequest}
 use Rattle.oe_requests.specs.declared.replies.Brand.{Brand}

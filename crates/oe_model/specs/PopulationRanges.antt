@@ -1,7 +1,7 @@
 -- The population by formula lies in the ranges of the columns (clause 1.3.1), and there are tables that have it.
 use Rattle.std.specs.Prelude.{◌≡◌, Some, ⊤}
 use Rattle.std.specs.Int.{IsInRange}
-use Rattle.oe_keys.specs.Key.{IsDistrictKey, IsCustomerKey}
+use Rattle.oe_rows.specs.Key.{IsDistrictKey, IsCustomerKey}
 use Rattle.oe_rows.specs.Warehouse.{IsWarehouse}
 use Rattle.oe_rows.specs.District.{IsDistrict}
 use Rattle.oe_rows.specs.Customer.{IsCustomer}
@@ -9,8 +9,8 @@ use Rattle.oe_rows.specs.History.{IsHistory}
 use Rattle.oe_rows.specs.Order.{IsOrder, IsOrderLine}
 use Rattle.oe_rows.specs.Item.{IsItem, IsStock}
 use Rattle.oe_rows.specs.declared.scales.Scale.{Scale}
-use Rattle.oe_keys.specs.declared.keys.Key.{Key}
-use Rattle.oe_keys.specs.declared.keys.Key.TheVariants as key
+use Rattle.oe_rows.specs.declared.keys.Key.{Key}
+use Rattle.oe_rows.specs.declared.keys.Key.TheVariants as key
 use Rattle.oe_rows.specs.declared.rows.Row.{Row}
 use Rattle.oe_rows.specs.declared.rows.Row.TheVariants as row
 use Rattle.oe_model.specs.Keys.{district_of_new_order, district_of_order, order_of_line}

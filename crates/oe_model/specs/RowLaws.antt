@@ -1,6 +1,6 @@
 -- The laws of rows, changes and undo records.
 use Rattle.std.specs.Prelude.{◌≡◌, true, cond, Option, ◌⊎◌}
-use Rattle.oe_keys.specs.declared.keys.Key.{Key}
+use Rattle.oe_rows.specs.declared.keys.Key.{Key}
 use Rattle.oe_rows.specs.declared.rows.Row.{Row}
 use Rattle.oe_requests.specs.declared.refusals.Refusal.{Refusal}
 use Rattle.oe_model.specs.Rows.{Rows, is_key, row_at}

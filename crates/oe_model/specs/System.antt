@@ -2,9 +2,9 @@
 use Rattle.std.specs.Prelude.{ℕ, suc, Bool, true, false, List, [], Option, None}
 use Rattle.oe_theory.specs.Machine.{Machine, Ask, Stop, Fail, Tx, Hold}
 use Rattle.oe_values.specs.declared.numbers.TheConstants.{TERMINALS}
-use Rattle.oe_keys.specs.declared.keys.Key.{Key}
+use Rattle.oe_rows.specs.declared.keys.Key.{Key}
 use Rattle.oe_rows.specs.declared.rows.Row.{Row}
-use Rattle.oe_keys.specs.declared.locks.Name.{Name}
+use Rattle.oe_rows.specs.declared.locks.Name.{Name}
 use Rattle.oe_requests.specs.declared.requests.CustomerChoice.{CustomerChoice}
 use Rattle.oe_requests.specs.declared.requests.CustomerChoice.TheVariants.{Number, LastName}
 use Rattle.oe_requests.specs.declared.requests.Request.{Request}

@@ -5,11 +5,11 @@ use Rattle.std.proofs.lemmas.Bool.{le-leb}
 use Rattle.std.proofs.lemmas.Bool.Decides.{leb_tells}
 use Rattle.std.specs.FinMap.{get}
 use Rattle.oe_theory.specs.Machine.{Ask, Stop, Take, Fail, Go, Exclusive}
-use Rattle.oe_keys.specs.declared.keys.StockKey.{StockKey}
-use Rattle.oe_keys.specs.declared.locks.Name.{Name}
-use Rattle.oe_keys.specs.declared.locks.Name.TheVariants as name
+use Rattle.oe_rows.specs.declared.keys.StockKey.{StockKey}
+use Rattle.oe_rows.specs.declared.locks.Name.{Name}
+use Rattle.oe_rows.specs.declared.locks.Name.TheVariants as name
 use Rattle.oe_requests.specs.declared.refusals.Refusal.{Refusal}
-use Rattle.oe_keys.specs.declared.keys.Key.TheVariants as key
+use Rattle.oe_rows.specs.declared.keys.Key.TheVariants as key
 use Rattle.oe_rows.specs.Item.{with_counters}
 use Rattle.oe_rows.specs.declared.districts.District.{District}
 use Rattle.oe_rows.specs.declared.items.Item.{Item}

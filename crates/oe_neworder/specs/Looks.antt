@@ -1,7 +1,7 @@
 -- What a stage of a New-Order reads, and what it comes to, by the model.
 use Rattle.std.specs.Prelude.{◌≡◌, ℕ, ◌+◌, true, List, ◌∷◌, length, Option, None, Some, Result, Ok, Err}
 use Rattle.oe_theory.specs.Machine.{Stop, Take, Fail, Go, Shared, Exclusive}
-use Rattle.oe_keys.specs.declared.locks.Name.TheVariants as name
+use Rattle.oe_rows.specs.declared.locks.Name.TheVariants as name
 use Rattle.oe_requests.specs.declared.requests.RequestLine.{RequestLine}
 use Rattle.oe_requests.specs.declared.requests.NewOrderRequest.{NewOrderRequest}
 use Rattle.oe_requests.specs.declared.replies.LineReply.{LineReply}

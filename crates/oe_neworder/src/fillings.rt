@@ -2,7 +2,7 @@
 ghost use Rattle.std.specs.Prelude.{◌≡◌, ◌+◌, ◌<◌, length, slice_get, Some, None, IsSome, OnErr, option_map};
 ghost use Rattle.oe_theory.specs.Machine.{Plain};
 ghost use Rattle.oe_theory.specs.Machine as theory;
-ghost use Rattle.oe_keys.specs.declared.locks.Name.TheVariants as name;
+ghost use Rattle.oe_rows.specs.declared.locks.Name.TheVariants as name;
 ghost use Rattle.oe_requests.specs.Reply.{told_reply};
 ghost use Rattle.oe_model.specs.Keys.{order_in, line_in};
 ghost use Rattle.oe_model.specs.Changes.{InsertOrderLine};
@@ -17,9 +17,8 @@ use oe_change::Write;
 use oe_engine::stages::{failed, put, put_held};
 use oe_engine::{Engine, Lock, Progress, Tx};
 use oe_formulas::orders::Seen;
-use oe_keys::{Mode, Name};
 use oe_requests::{LineReplies, LineReply, NewOrderRequest, Refusal, ReplyRef, RequestLine};
-use oe_rows::OrderLine;
+use oe_rows::{Mode, Name, OrderLine};
 use oe_values::{LineNumber, OrderNumber};
 
 /// A line whose stock has been taken: its OL_NUMBER, its ORDER-LINE row, which is still to be inserted, and its reply.

@@ -9,9 +9,8 @@ use crate::fillings::Filled;
 use oe_formulas::orders::{
     Seen, counters_after_line, next_order_after, order_line, reply_with_quantity, stock_key,
 };
-use oe_keys::{Key, StockKey};
 use oe_requests::{NewOrderRequest, Refusal, RequestLine};
-use oe_rows::StockCounters;
+use oe_rows::{Key, StockCounters, StockKey};
 use oe_store::Tables;
 use oe_values::{LineNumber, OrderNumber, Rate};
 

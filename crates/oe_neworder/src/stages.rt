@@ -1,6 +1,6 @@
 //! The stages of a New-Order before its lines, each done on an engine or refused by it.
 ghost use Rattle.std.specs.Prelude.{◌≡◌, IsSome};
-ghost use Rattle.oe_keys.specs.declared.locks.Name.TheVariants as name;
+ghost use Rattle.oe_rows.specs.declared.locks.Name.TheVariants as name;
 ghost use Rattle.oe_model.specs.Keys.{order_in};
 ghost use Rattle.oe_model.specs.Positions.{NewOrderWarehouse, NewOrderDistrict, NewOrderCustomer, NewOrderOrder, NewOrderQueue};
 ghost use Rattle.oe_formulas.specs.Orders.{seen_by};
@@ -14,8 +14,8 @@ use oe_change::Write;
 use oe_engine::stages::{failed, hold, put};
 use oe_engine::{Engine, Lock, Tx};
 use oe_formulas::orders::{Seen, order_row};
-use oe_keys::{Mode, Name};
 use oe_requests::{LineReplies, NewOrderRequest, Refusal};
+use oe_rows::{Mode, Name};
 use oe_values::{OrderNumber, Rate};
 
 /// WAREHOUSE: its name is taken beside others'.

@@ -3,7 +3,7 @@ use Rattle.std.proofs.Common.{◌≡◌, ◌≢◌, ℕ, zero, suc, ◌+◌, ref
 use Rattle.std.specs.Prelude.{◌⊎◌}
 use Rattle.std.specs.List.{sum_by}
 use Rattle.std.proofs.lemmas.List.Sums.{sum_by-cons}
-use Rattle.oe_keys.specs.declared.keys.Key.{Key}
+use Rattle.oe_rows.specs.declared.keys.Key.{Key}
 use Rattle.oe_log.specs.Log.{SegmentLog, Open, TerminalState, idle, active_at, records_in, open_total}
 use Rattle.oe_log.specs.Stands.{model_records}
 use Rattle.oe_undo.specs.Chains.{HaveNone, IsAlone}

@@ -1,10 +1,10 @@
 //! The texts of answers that no script gets, at worked values.
 use crate::made::district_key;
-use oe_keys::Key;
 use oe_requests::{
     Answer, Condition, DeliveredOrder, DistrictDelivery, QueryReply, RenameReply, Reply,
     StatusReply, Verdict,
 };
+use oe_rows::Key;
 use oe_texts::{Pending, answer, audited};
 use oe_values::{Balance, Cents, FirstName, LastName, Lines, Moment, Number};
 

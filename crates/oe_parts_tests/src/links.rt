@@ -1,9 +1,9 @@
 //! Where an order's link leads, call by call.
 use crate::made::{address, order, order_key};
 use crate::opened::{begin, commit, push_order, undo};
-use oe_keys::{Key, OrderKey};
 use oe_layout::Previous;
 use oe_log::Segment;
+use oe_rows::{Key, OrderKey};
 use oe_undo::{Holder, Link, Undo};
 use oe_values::{Moment, Terminal};
 

@@ -1,7 +1,7 @@
 //! Who is told of whom among several holders, one of whom wants the name alone.
-use oe_keys::{Mode, Name, StockKey};
 use oe_locks::Locks;
 use oe_requests::Refusal;
+use oe_rows::{Mode, Name, StockKey};
 use oe_values::{Number, Terminal};
 
 fn stock() -> Option<Name> {

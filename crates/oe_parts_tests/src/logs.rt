@@ -1,10 +1,10 @@
 //! A log of two extents that is filled, and filled again around its end: at which addresses records come to stand.
 use crate::made::{queue_entry, warehouse};
 use crate::opened::request;
-use oe_keys::NewOrderKey;
 use oe_layout::{LentRecord, LinkedRecord, Previous, RecordAddress};
 use oe_log::{Log, Segment};
 use oe_requests::{DistrictDelivery, Reply};
+use oe_rows::NewOrderKey;
 use oe_values::numbers::{Number, Terminal};
 use std::alloc::Global;
 use std::snapshot::Snapshot;

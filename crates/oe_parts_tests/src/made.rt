@@ -1,7 +1,8 @@
 //! Keys, rows and addresses, whose values differ. `None` where one could not be made.
-use oe_keys::{DistrictKey, NewOrderKey, OrderKey, StockKey, WarehouseKey};
 use oe_layout::RecordAddress;
-use oe_rows::{Address, Order, Stock, Warehouse};
+use oe_rows::{
+    Address, DistrictKey, NewOrderKey, Order, OrderKey, Stock, StockKey, Warehouse, WarehouseKey,
+};
 use oe_values::numbers::{Amount, Number};
 use oe_values::stamps::Stamp;
 use oe_values::texts::Text;

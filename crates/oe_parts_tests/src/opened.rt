@@ -1,14 +1,13 @@
 //! An undo log with segments that are opened, pushed to and committed. `None` where a call was refused.
 ghost use Rattle.std.specs.Prelude.{IfSome, IsSome};
-ghost use Rattle.oe_keys.specs.declared.keys.Key.{Key};
+ghost use Rattle.oe_rows.specs.declared.keys.Key.{Key};
 ghost use Rattle.oe_log.specs.Log.{active_at};
 ghost use Rattle.oe_undo.specs.Chains.{IsAlone};
 
-use oe_keys::{DistrictKey, OrderKey};
 use oe_layout::{LentRecord, LinkedRecord, Previous};
 use oe_log::Segment;
 use oe_requests::{DeliveryRequest, DistrictDelivery, Reply, Request};
-use oe_rows::Order;
+use oe_rows::{DistrictKey, Order, OrderKey};
 use oe_undo::Undo;
 use oe_values::{ExtentCount, Moment, Number, Stamp, Terminal};
 use std::alloc::Global;

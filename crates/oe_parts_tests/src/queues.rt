@@ -1,7 +1,7 @@
 //! A queue that one thread fills and empties: that its calls come back, with what was submitted, or with nothing.
-use oe_keys::WarehouseKey;
 use oe_queue::{Message, Sender, Taker, open};
 use oe_requests::DeliveriesRequest;
+use oe_rows::WarehouseKey;
 use oe_values::{Number, Stamp};
 use std::alloc::Global;
 use std::sync::Wait;

@@ -1,7 +1,7 @@
 //! The lines of refusals that no script gets, with each kind of key.
 use crate::made::district_key;
-use oe_keys::{HistoryKey, Key, Name, StockKey};
 use oe_requests::{Answer, Refusal};
+use oe_rows::{HistoryKey, Key, Name, StockKey};
 use oe_texts::{Pending, answer};
 use oe_values::Number;
 

@@ -1,5 +1,5 @@
 //! That a row is put on its shelf where there is memory, and what calls leave of it at keys that lie far apart.
-use oe_keys::{DistrictKey, OrderKey};
+use oe_rows::{DistrictKey, OrderKey};
 use oe_table::shelf_walks::Candidates;
 use oe_table::shelves::Shelves;
 use oe_values::{DistrictNumber, OrderNumber, WarehouseNumber};

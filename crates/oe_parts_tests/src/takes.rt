@@ -1,8 +1,8 @@
 //! What no clause says: that the calls that take memory succeed where there is memory.
 use crate::made::{address, order_key};
 use crate::opened::undo;
-use oe_keys::{Key, StockKey};
 use oe_log::SegmentOwner;
+use oe_rows::{Key, StockKey};
 use oe_undo::{Links, OwnedLink};
 use oe_values::{Number, Terminal, TransactionNumber};
 

@@ -2,8 +2,8 @@
 use Rattle.std.proofs.Common.{◌≡◌, ℕ, sym, ap, ◌∙◌, subst, None, Some}
 use Rattle.std.specs.Prelude.{option_map}
 use Rattle.std.specs.FinMap.{FinMap, get}
-use Rattle.oe_keys.specs.Key.{customer_cmp}
-use Rattle.oe_keys.specs.declared.keys.DistrictKey.{DistrictKey}
+use Rattle.oe_rows.specs.Key.{customer_cmp}
+use Rattle.oe_rows.specs.declared.keys.DistrictKey.{DistrictKey}
 use Rattle.oe_values.proofs.FrontFacts.{some_same}
 use Rattle.oe_rows.specs.declared.customers.Customer.{Customer}
 use Rattle.oe_requests.specs.declared.requests.CustomerChoice.{CustomerChoice}

@@ -3,9 +3,9 @@ use Rattle.std.proofs.Common.{◌≡◌, ℕ, refl, sym, ap, ◌∙◌, suc, Lis
 use Rattle.std.specs.Prelude.{option_map}
 use Rattle.std.specs.FinMap.{get}
 use Rattle.oe_theory.specs.Machine.{Ask, Stop, Take, Fail, Go, Exclusive}
-use Rattle.oe_keys.specs.declared.keys.Key.TheVariants as key
-use Rattle.oe_keys.specs.declared.locks.Name.{Name}
-use Rattle.oe_keys.specs.declared.locks.Name.TheVariants as name
+use Rattle.oe_rows.specs.declared.keys.Key.TheVariants as key
+use Rattle.oe_rows.specs.declared.locks.Name.{Name}
+use Rattle.oe_rows.specs.declared.locks.Name.TheVariants as name
 use Rattle.oe_rows.specs.Credit.{credit_entry, with_entry}
 use Rattle.oe_rows.specs.declared.warehouses.Warehouse.{Warehouse}
 use Rattle.oe_rows.specs.declared.districts.District.{District}

@@ -1,8 +1,8 @@
 -- The customer that a payment is of (clause 2.5.2.2).
 use Rattle.std.specs.Prelude.{ℕ, Option, Some}
 use Rattle.std.specs.FinMap.{FinMap}
-use Rattle.oe_keys.specs.Key.{customer_cmp}
-use Rattle.oe_keys.specs.declared.keys.DistrictKey.{DistrictKey}
+use Rattle.oe_rows.specs.Key.{customer_cmp}
+use Rattle.oe_rows.specs.declared.keys.DistrictKey.{DistrictKey}
 use Rattle.oe_rows.specs.declared.customers.Customer.{Customer}
 use Rattle.oe_requests.specs.declared.requests.CustomerChoice.{CustomerChoice}
 use Rattle.oe_requests.specs.declared.requests.CustomerChoice.TheVariants.{Number, LastName}

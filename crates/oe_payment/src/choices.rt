@@ -3,8 +3,8 @@ ghost use Rattle.std.specs.Prelude.{◌≡◌};
 ghost use Rattle.oe_store.specs.Places.{rows};
 ghost use Rattle.oe_payment.specs.Choice.{meant};
 
-use oe_keys::DistrictKey;
 use oe_requests::CustomerChoice;
+use oe_rows::DistrictKey;
 use oe_store::Tables;
 use oe_values::CustomerNumber;
 

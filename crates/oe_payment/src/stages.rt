@@ -22,9 +22,8 @@ use oe_formulas::payments::{
     account_after, bad_credit_entry, district_ytd_after, history_data, history_key, history_row,
     warehouse_ytd_after,
 };
-use oe_keys::{Key, Mode, Name};
 use oe_requests::{PaymentReply, PaymentRequest, Refusal};
-use oe_rows::{Account, Credit, Customer};
+use oe_rows::{Account, Credit, Customer, Key, Mode, Name};
 use oe_values::{CustomerNumber, Text};
 
 // Why a stage fails: for its own reason, or since another holds the name that it asks for.

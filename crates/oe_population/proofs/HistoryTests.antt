@@ -3,15 +3,15 @@ use Rattle.std.proofs.Common.{◌≡◌, ℕ, ◌+◌, ◌<◌, ◌≤◌, refl,
 use Rattle.std.specs.Prelude.{◌&&◌, ◌==◌, not, option_map}
 use Rattle.std.specs.Ordering.{eq_by_cmp}
 use Rattle.std.proofs.lemmas.Bool.Decides.{nat_tests}
-use Rattle.oe_keys.specs.Key.{customer_cmp, history_cmp, new_order_cmp}
+use Rattle.oe_rows.specs.Key.{customer_cmp, history_cmp, new_order_cmp}
 use Rattle.oe_rows.specs.declared.scales.Scale.{Scale}
-use Rattle.oe_keys.specs.declared.keys.DistrictKey.{DistrictKey}
-use Rattle.oe_keys.specs.declared.keys.CustomerKey.{CustomerKey}
-use Rattle.oe_keys.specs.declared.keys.HistoryKey.{HistoryKey}
-use Rattle.oe_keys.specs.declared.keys.NewOrderKey.{NewOrderKey}
+use Rattle.oe_rows.specs.declared.keys.DistrictKey.{DistrictKey}
+use Rattle.oe_rows.specs.declared.keys.CustomerKey.{CustomerKey}
+use Rattle.oe_rows.specs.declared.keys.HistoryKey.{HistoryKey}
+use Rattle.oe_rows.specs.declared.keys.NewOrderKey.{NewOrderKey}
 use Rattle.oe_rows.specs.declared.histories.History.{History}
 use Rattle.oe_rows.specs.declared.rows.Row.TheVariants as row
-use Rattle.oe_keys.proofs.KeyFacts.{customer_total, exact_customer, history_total, exact_history}
+use Rattle.oe_rows.proofs.KeyFacts.{customer_total, exact_customer, history_total, exact_history}
 use Rattle.oe_model.specs.Keys.{district_of_customer, district_of_new_order, customer_in}
 use Rattle.oe_model.specs.Population.{counts_to, has_customer, counted_customer, history_key, is_delivered, last_delivered}
 use Rattle.oe_model.proofs.MapFacts.{is_self, is_same}

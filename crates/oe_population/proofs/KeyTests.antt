@@ -3,15 +3,15 @@ use Rattle.std.proofs.Common.{◌≡◌, ℕ, ◌+◌, ◌*◌, ◌/◌, ◌%◌
 use Rattle.std.specs.Prelude.{◌&&◌, ◌==◌}
 use Rattle.std.specs.Ordering.{eq_by_cmp, is_eq, nat_cmp, ordering_then}
 use Rattle.std.proofs.lemmas.Bool.Decides.{nat_tests}
-use Rattle.oe_keys.specs.Key.{warehouse_cmp, district_cmp, customer_cmp, new_order_cmp, order_cmp, order_line_cmp, item_cmp, stock_cmp}
-use Rattle.oe_keys.specs.declared.keys.WarehouseKey.{WarehouseKey}
-use Rattle.oe_keys.specs.declared.keys.DistrictKey.{DistrictKey}
-use Rattle.oe_keys.specs.declared.keys.CustomerKey.{CustomerKey}
-use Rattle.oe_keys.specs.declared.keys.NewOrderKey.{NewOrderKey}
-use Rattle.oe_keys.specs.declared.keys.OrderKey.{OrderKey}
-use Rattle.oe_keys.specs.declared.keys.OrderLineKey.{OrderLineKey}
-use Rattle.oe_keys.specs.declared.keys.ItemKey.{ItemKey}
-use Rattle.oe_keys.specs.declared.keys.StockKey.{StockKey}
+use Rattle.oe_rows.specs.Key.{warehouse_cmp, district_cmp, customer_cmp, new_order_cmp, order_cmp, order_line_cmp, item_cmp, stock_cmp}
+use Rattle.oe_rows.specs.declared.keys.WarehouseKey.{WarehouseKey}
+use Rattle.oe_rows.specs.declared.keys.DistrictKey.{DistrictKey}
+use Rattle.oe_rows.specs.declared.keys.CustomerKey.{CustomerKey}
+use Rattle.oe_rows.specs.declared.keys.NewOrderKey.{NewOrderKey}
+use Rattle.oe_rows.specs.declared.keys.OrderKey.{OrderKey}
+use Rattle.oe_rows.specs.declared.keys.OrderLineKey.{OrderLineKey}
+use Rattle.oe_rows.specs.declared.keys.ItemKey.{ItemKey}
+use Rattle.oe_rows.specs.declared.keys.StockKey.{StockKey}
 use Rattle.oe_model.specs.Keys.{district_of_customer, district_of_new_order, district_of_order, order_of_line, customer_in, order_in, new_order_in, line_in}
 use Rattle.oe_model.specs.Population.{counts_to, lines_of}
 use Rattle.oe_population.specs.Group.{is_district, is_order, district_count, is_any_district}

@@ -1,15 +1,15 @@
 -- Which keys have a row in the population, district by district and order by order.
 use Rattle.std.specs.Prelude.{ℕ, ◌+◌, ◌-◌, ◌*◌, ◌==◌, Bool, not, ◌&&◌, nat_le}
 use Rattle.std.specs.Ordering.{eq_by_cmp}
-use Rattle.oe_keys.specs.Key.{history_cmp}
+use Rattle.oe_rows.specs.Key.{history_cmp}
 use Rattle.oe_rows.specs.declared.scales.Scale.{Scale}
-use Rattle.oe_keys.specs.declared.keys.DistrictKey.{DistrictKey}
-use Rattle.oe_keys.specs.declared.keys.CustomerKey.{CustomerKey}
-use Rattle.oe_keys.specs.declared.keys.HistoryKey.{HistoryKey}
-use Rattle.oe_keys.specs.declared.keys.NewOrderKey.{NewOrderKey}
-use Rattle.oe_keys.specs.declared.keys.OrderKey.{OrderKey}
-use Rattle.oe_keys.specs.declared.keys.OrderLineKey.{OrderLineKey}
-use Rattle.oe_keys.specs.declared.keys.StockKey.{StockKey}
+use Rattle.oe_rows.specs.declared.keys.DistrictKey.{DistrictKey}
+use Rattle.oe_rows.specs.declared.keys.CustomerKey.{CustomerKey}
+use Rattle.oe_rows.specs.declared.keys.HistoryKey.{HistoryKey}
+use Rattle.oe_rows.specs.declared.keys.NewOrderKey.{NewOrderKey}
+use Rattle.oe_rows.specs.declared.keys.OrderKey.{OrderKey}
+use Rattle.oe_rows.specs.declared.keys.OrderLineKey.{OrderLineKey}
+use Rattle.oe_rows.specs.declared.keys.StockKey.{StockKey}
 use Rattle.oe_rows.specs.declared.orders.NewOrder.{NewOrder}
 use Rattle.oe_model.specs.Keys.{district_of_customer, district_of_new_order, district_of_order, order_of_line}
 use Rattle.oe_model.specs.Population.{counts_to, counted_customer, history_key, is_delivered, lines_of}

@@ -1,7 +1,7 @@
 //! The tables of the population, filled key after key.
 ghost use Rattle.std.specs.Prelude.{◌≡◌, ◌≤◌, ◌<◌, ◌+◌, ◌*◌, ◌/◌, ◌%◌, OnOk, IfOk};
 ghost use Rattle.std.specs.FinMap.{empty};
-ghost use Rattle.oe_keys.specs.Key.{warehouse_cmp, district_cmp, customer_cmp, history_cmp, new_order_cmp, order_cmp, order_line_cmp, item_cmp, stock_cmp};
+ghost use Rattle.oe_rows.specs.Key.{warehouse_cmp, district_cmp, customer_cmp, history_cmp, new_order_cmp, order_cmp, order_line_cmp, item_cmp, stock_cmp};
 ghost use Rattle.oe_table.specs.Table.{rows_of};
 ghost use Rattle.oe_model.specs.Population.{warehouse_of, district_of, customer_of, history_of, counted_customer, order_of, line_of, item_of, stock_of, has_warehouse, has_district, has_customer, has_history, has_new_order, has_order, has_line, has_item, has_stock, is_delivered};
 ghost use Rattle.oe_population.specs.Fill.{IsFree, Fills};
@@ -13,11 +13,10 @@ use crate::formulas::{
 };
 use crate::numbers::number;
 use oe_index::{Customers, Orders};
-use oe_keys::{
-    CustomerKey, DistrictKey, HistoryKey, ItemKey, NewOrderKey, OrderKey, OrderLineKey, StockKey,
-    WarehouseKey,
+use oe_rows::{
+    CustomerKey, District, DistrictKey, History, HistoryKey, Item, ItemKey, NewOrder, NewOrderKey,
+    Order, OrderKey, OrderLine, OrderLineKey, Scale, Stock, StockKey, Warehouse, WarehouseKey,
 };
-use oe_rows::{District, History, Item, NewOrder, Order, OrderLine, Scale, Stock, Warehouse};
 use oe_table::shelves::Shelves;
 use oe_values::{CustomerNumber, NoMemory, WarehouseNumber};
 use std::alloc::Global;

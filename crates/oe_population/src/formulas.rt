@@ -4,10 +4,9 @@ ghost use Rattle.oe_model.specs.Population.{address_of, warehouse_of, district_o
 
 use crate::numbers::{amount, number};
 use crate::texts::{alphabet, dist_info, name_of, numbered, plain, zip};
-use oe_keys::{CustomerKey, HistoryKey, OrderLineKey, StockKey};
 use oe_rows::{
-    Account, Address, Credit, Customer, CustomerName, District, History, Item, Order, OrderLine,
-    Scale, Stock, Warehouse,
+    Account, Address, Credit, Customer, CustomerKey, CustomerName, District, History, HistoryKey,
+    Item, Order, OrderLine, OrderLineKey, Scale, Stock, StockKey, Warehouse,
 };
 use oe_values::{
     Balance, CustomerNumber, DistrictNumber, ItemNumber, LineCount, Stamp, WarehouseNumber,

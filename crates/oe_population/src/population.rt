@@ -4,7 +4,7 @@
 //! dropped by name: a scope that ends would drop it part by part.
 ghost use Rattle.std.specs.Prelude.{IfOk};
 ghost use Rattle.std.specs.FinMap.{empty};
-ghost use Rattle.oe_keys.specs.Key.{warehouse_cmp, district_cmp, customer_cmp, history_cmp, new_order_cmp, order_cmp, order_line_cmp, item_cmp, stock_cmp};
+ghost use Rattle.oe_rows.specs.Key.{warehouse_cmp, district_cmp, customer_cmp, history_cmp, new_order_cmp, order_cmp, order_line_cmp, item_cmp, stock_cmp};
 ghost use Rattle.oe_table.specs.Table.{rows_of};
 ghost use Rattle.oe_model.specs.Population.{IsPopulated, warehouse_of, district_of, customer_of, history_of, counted_customer, order_of, line_of, item_of, stock_of, has_warehouse, has_district, has_customer, has_history, has_new_order, has_order, has_line, has_item, has_stock};
 ghost use Rattle.oe_population.specs.Fill.{Fills};
@@ -13,10 +13,10 @@ ghost use Rattle.oe_store.specs.Places.{rows};
 
 use crate::fills;
 use oe_index::{Customers, Orders};
-use oe_keys::{
-    DistrictKey, HistoryKey, ItemKey, NewOrderKey, OrderLineKey, StockKey, WarehouseKey,
+use oe_rows::{
+    District, DistrictKey, History, HistoryKey, Item, ItemKey, NewOrder, NewOrderKey, OrderLine,
+    OrderLineKey, Scale, Stock, StockKey, Warehouse, WarehouseKey,
 };
-use oe_rows::{District, History, Item, NewOrder, OrderLine, Scale, Stock, Warehouse};
 use oe_store::{NineTables, Tables};
 use oe_table::shelves::Shelves;
 use oe_values::NoMemory;

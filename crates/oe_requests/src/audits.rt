@@ -2,7 +2,7 @@
 ghost use Rattle.std.specs.Prelude.{◌≡◌};
 ghost use Rattle.oe_requests.specs.Condition.{condition_number};
 
-use oe_keys::Key;
+use oe_rows::Key;
 
 /// The consistency conditions of clauses 3.3.2.1 to 3.3.2.4.
 #[derive(Clone, Copy, PartialEq, Eq)]

@@ -5,8 +5,8 @@
 ghost use Rattle.std.specs.Prelude.{◌≡◌};
 ghost use Rattle.oe_requests.specs.Refusal.{refusal_number, column_name};
 
-use oe_keys::keys::Key;
-use oe_keys::locks::Name;
+use oe_rows::keys::Key;
+use oe_rows::locks::Name;
 use oe_values::numbers::{Moment, Terminal, TerminalCount};
 
 /// A column whose range a result may leave (clause 1.3.1).

@@ -4,7 +4,7 @@
 //! Nothing can fail, and nothing takes memory.
 ghost use Rattle.std.specs.Prelude.{◌≡◌};
 
-use oe_keys::keys::{CustomerKey, DistrictKey, WarehouseKey};
+use oe_rows::keys::{CustomerKey, DistrictKey, WarehouseKey};
 use oe_values::lines::Lines;
 use oe_values::numbers::{
     Carrier, CustomerNumber, PaymentAmount, Quantity, RequestedItem, Threshold, WarehouseNumber,

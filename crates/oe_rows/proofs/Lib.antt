@@ -1,2 +1,4 @@
+pub mod ColumnFacts
 pub mod CreditFacts
+pub mod KeyFacts
 pub mod ListFacts

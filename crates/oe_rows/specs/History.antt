@@ -1,6 +1,6 @@
 -- The ranges of the columns of histories (clause 1.3.1).
 use Rattle.std.specs.Prelude.{◌≤◌, ◌<◌}
-use Rattle.oe_keys.specs.Key.{IsCustomerKey, IsDistrictKey}
+use Rattle.oe_rows.specs.Key.{IsCustomerKey, IsDistrictKey}
 use Rattle.oe_values.specs.Text.{IsText}
 use Rattle.oe_values.specs.declared.stamps.TheConstants.{SECONDS}
 use Rattle.oe_rows.specs.declared.histories.History.{History}

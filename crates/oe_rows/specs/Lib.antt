@@ -2,8 +2,12 @@
 pub mod Credit
 pub mod Customer
 pub mod District
+pub mod ExactKeys
 pub mod History
 pub mod Item
+pub mod Key
+pub mod KeyShelves
+pub mod Lock
 pub mod Order
 pub mod Row
 pub mod Warehouse

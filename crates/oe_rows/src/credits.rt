@@ -5,9 +5,9 @@ ghost use Rattle.arrayvec.specs.ArrayString.{array_string_len};
 ghost use Rattle.oe_rows.specs.Credit.{order_total, money_text, credit_entry, bad_credit_data};
 ghost use Rattle.oe_values.specs.Text.{IsPrintable};
 
+use crate::keys::{CustomerKey, DistrictKey};
 use arrayvec::ArrayString;
 use itoa::Buffer;
-use oe_keys::keys::{CustomerKey, DistrictKey};
 use oe_values::numbers::{Cents, LineAmount, PaymentAmount, Rate};
 use oe_values::texts::Text;
 

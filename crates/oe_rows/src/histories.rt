@@ -1,7 +1,7 @@
 //! Histories.
 ghost use Rattle.std.specs.Prelude.{◌≡◌, ◌↔◌, IsTrue};
 
-use oe_keys::keys::{CustomerKey, DistrictKey};
+use crate::keys::{CustomerKey, DistrictKey};
 use oe_values::numbers::LineAmount;
 use oe_values::stamps::Stamp;
 use oe_values::texts::Text;

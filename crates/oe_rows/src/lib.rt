@@ -1,6 +1,6 @@
-//! The nine tables' rows, each column in its range by type, the total of an order and the data of a customer with bad credit.
-//! Rows are copied by `copied`, which takes no memory, and compared by `is_same`. Clauses of the standard are those of TPC
-//! Benchmark C 5.11.
+//! The nine tables' keys and rows, each column in its range by type, and the names that transactions lock. Beside them stand the
+//! total of an order and the data of a customer with bad credit. Rows are copied by `copied`, which takes no memory, and compared
+//! by `is_same`. Clauses of the standard are those of TPC Benchmark C 5.11.
 #![tactic(auto)]
 
 pub mod credits;
@@ -8,9 +8,12 @@ pub mod customers;
 pub mod districts;
 pub mod histories;
 pub mod items;
+pub mod keys;
+pub mod locks;
 pub mod orders;
 pub mod rows;
 pub mod scales;
+pub mod table_keys;
 pub mod warehouses;
 
 pub use credits::{CreditIds, bad_credit_data, credit_entry, total};
@@ -18,6 +21,11 @@ pub use customers::{Account, Credit, Customer, CustomerName};
 pub use districts::District;
 pub use histories::History;
 pub use items::{Item, Stock, StockCounters};
+pub use keys::{
+    CustomerKey, DistrictKey, HistoryKey, ItemKey, Key, NewOrderKey, OrderKey, OrderLineKey,
+    StockKey, Table, WarehouseKey,
+};
+pub use locks::{Mode, Name};
 pub use orders::{NewOrder, Order, OrderLine};
 pub use rows::Row;
 pub use scales::Scale;

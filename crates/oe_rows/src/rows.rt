@@ -6,9 +6,9 @@ use crate::customers::Customer;
 use crate::districts::District;
 use crate::histories::History;
 use crate::items::{Item, Stock};
+use crate::keys::Table;
 use crate::orders::{NewOrder, Order, OrderLine};
 use crate::warehouses::Warehouse;
-use oe_keys::keys::Table;
 
 /// A row of any table, without its key.
 #[derive(Drop)]

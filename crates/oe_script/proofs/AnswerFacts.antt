@@ -9,7 +9,7 @@ use Rattle.oe_theory.specs.Next as theory
 use Rattle.oe_theory.specs.Next.{Next, Begin, Advance, Save, Back, Rollback, Read, Audit, Purge, Rewind, begins, goes_on, commits, saves, goes_back, rolls_back, reads, audits, purges, rewinds, stops, fails, is_busy, is_full, is_rejected, is_open, number_is_rejected, query_is_rejected, misses, not_open, too_old, future, not_quiet, lacks_memory}
 use Rattle.oe_theory.specs.Theorems.{IsReached}
 use Rattle.oe_theory.proofs.Theorems.{each_is_answered, abort_is_its_own}
-use Rattle.oe_keys.specs.declared.keys.Key.TheVariants as key
+use Rattle.oe_rows.specs.declared.keys.Key.TheVariants as key
 use Rattle.oe_rows.specs.declared.customers.Customer.{Customer}
 use Rattle.oe_rows.specs.declared.districts.District.{District}
 use Rattle.oe_requests.specs.declared.refusals.Column.TheVariants as column

@@ -6,7 +6,7 @@ use Rattle.oe_theory.specs.Next.{Next}
 use Rattle.oe_theory.specs.World.{World, tables}
 use Rattle.oe_theory.specs.Theorems.{opened}
 use Rattle.oe_theory.proofs.Theorems.{opening_is_reached}
-use Rattle.oe_keys.specs.declared.keys.Table.{Table}
+use Rattle.oe_rows.specs.declared.keys.Table.{Table}
 use Rattle.oe_requests.specs.declared.refusals.Refusal.TheVariants as refusal
 use Rattle.oe_requests.specs.declared.replies.Reply.{Reply}
 use Rattle.oe_requests.specs.declared.requests.Request.{Request}

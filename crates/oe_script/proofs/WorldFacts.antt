@@ -10,7 +10,7 @@ use Rattle.oe_theory.specs.Next.{Next, begun, moved, Begin, Advance, More, begin
 use Rattle.oe_theory.specs.Undo.{with_change, changed}
 use Rattle.oe_theory.proofs.Sets.{set_same}
 use Rattle.oe_theory.proofs.Theorems.{run_is_reached, world_has_records, tables_follow}
-use Rattle.oe_keys.specs.declared.keys.Key.TheVariants as key
+use Rattle.oe_rows.specs.declared.keys.Key.TheVariants as key
 use Rattle.oe_requests.specs.declared.requests.PaymentRequest.{PaymentRequest}
 use Rattle.oe_requests.specs.declared.requests.NewOrderRequest.{NewOrderRequest}
 use Rattle.oe_requests.specs.declared.requests.DeliveryRequest.{DeliveryRequest}

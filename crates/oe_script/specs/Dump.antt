@@ -3,8 +3,8 @@ use Rattle.std.specs.Prelude.{ℕ, ◌++◌, ◌^◌, ◌-◌, min, List, length
 use Rattle.std.specs.List.{flat_map}
 use Rattle.std.specs.FinMap.{FinMap, entries}
 use Rattle.std.specs.declared.cmp.Ordering.{Ordering}
-use Rattle.oe_keys.specs.declared.keys.Table.{Table}
-use Rattle.oe_keys.specs.declared.keys.Table.TheVariants as table
+use Rattle.oe_rows.specs.declared.keys.Table.{Table}
+use Rattle.oe_rows.specs.declared.keys.Table.TheVariants as table
 use Rattle.oe_model.specs.Rows.{Rows}
 use Rattle.oe_texts.specs.Column.{line_of}
 use Rattle.oe_texts.specs.Dump.{warehouse_columns, district_columns, customer_columns, history_columns, new_order_columns, order_columns, order_line_columns, item_columns, stock_columns, count_line}

@@ -9,11 +9,11 @@ ghost use Rattle.oe_script.specs.Ports.{Streams};
 
 use crate::output::make_room;
 use crate::ports::{Failed, Outlet};
-use oe_keys::{
-    CustomerKey, DistrictKey, HistoryKey, ItemKey, NewOrderKey, OrderKey, OrderLineKey, StockKey,
-    Table, WarehouseKey,
+use oe_rows::{
+    Customer, CustomerKey, District, DistrictKey, History, HistoryKey, Item, ItemKey, NewOrder,
+    NewOrderKey, Order, OrderKey, OrderLine, OrderLineKey, Stock, StockKey, Table, Warehouse,
+    WarehouseKey,
 };
-use oe_rows::{Customer, District, History, Item, NewOrder, Order, OrderLine, Stock, Warehouse};
 use oe_store::Tables;
 use oe_table::shelf_walks::Rows;
 use oe_texts::{LONGEST, Pending, SIZE};

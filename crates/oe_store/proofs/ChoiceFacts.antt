@@ -11,11 +11,11 @@ use Rattle.std.specs.Cmp.{tied_itself, nat_cmp_total, ranked}
 use Rattle.std.specs.FinMap.{FinMap, get, entries, entries_sorted, retain_keys}
 use Rattle.std.specs.FinMap.Entries.{is_sorted, below_all}
 use Rattle.std.proofs.lemmas.List.Sums.{count_by-le-length}
-use Rattle.oe_keys.specs.Key.{district_cmp, customer_cmp}
-use Rattle.oe_keys.specs.declared.keys.DistrictKey.{DistrictKey}
-use Rattle.oe_keys.specs.declared.keys.CustomerKey.{CustomerKey}
+use Rattle.oe_rows.specs.Key.{district_cmp, customer_cmp}
+use Rattle.oe_rows.specs.declared.keys.DistrictKey.{DistrictKey}
+use Rattle.oe_rows.specs.declared.keys.CustomerKey.{CustomerKey}
 use Rattle.oe_rows.specs.declared.customers.Customer.{Customer}
-use Rattle.oe_keys.proofs.KeyFacts.{district_total, exact_district, customer_total, exact_customer}
+use Rattle.oe_rows.proofs.KeyFacts.{district_total, exact_district, customer_total, exact_customer}
 use Rattle.oe_model.specs.Keys.{district_of_customer}
 use Rattle.oe_model.specs.Choice.{named, namesakes, comes_before, middle}
 use Rattle.oe_model.proofs.MapFacts.{is_same}

@@ -5,12 +5,12 @@ use Rattle.std.specs.Ordering.{is_eq}
 use Rattle.std.specs.declared.cmp.Ordering.{Ordering}
 use Rattle.std.specs.Cmp.{IsTotalOrder, eq_by_cmp_equiv}
 use Rattle.std.specs.FinMap.{IsAntisymmetric, get}
-use Rattle.oe_keys.specs.Key.{new_order_cmp}
-use Rattle.oe_keys.specs.declared.keys.NewOrderKey.{NewOrderKey}
-use Rattle.oe_keys.specs.declared.keys.Key.TheVariants as key
+use Rattle.oe_rows.specs.Key.{new_order_cmp}
+use Rattle.oe_rows.specs.declared.keys.NewOrderKey.{NewOrderKey}
+use Rattle.oe_rows.specs.declared.keys.Key.TheVariants as key
 use Rattle.oe_rows.specs.declared.orders.NewOrder.{NewOrder}
 use Rattle.oe_rows.specs.declared.rows.Row.TheVariants as row
-use Rattle.oe_keys.proofs.KeyFacts.{new_order_total, exact_new_order}
+use Rattle.oe_rows.proofs.KeyFacts.{new_order_total, exact_new_order}
 use Rattle.oe_table.specs.Table.{place, rows_of, left_of, GivesUpPlace}
 use Rattle.oe_table.proofs.TableFacts.{row_in, get-rows_of, tied}
 use Rattle.oe_model.proofs.PresenceFacts.{some-map}

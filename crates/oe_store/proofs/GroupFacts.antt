@@ -10,19 +10,19 @@ use Rattle.std.specs.Cmp.{IsTotalOrder, eq_by_cmp_equiv, ranked}
 use Rattle.std.specs.FinMap.{FinMap, IsAntisymmetric, get, entries, entries_sorted, get-entries, retain_keys, get-retain_keys}
 use Rattle.std.specs.FinMap.Entries.{find-where_key, is_sorted-where_key, same_entries}
 use Rattle.std.specs.BTreeMap.Range.{range_contains, entries_between}
-use Rattle.oe_keys.specs.Key.{warehouse_cmp, district_cmp, customer_cmp, new_order_cmp, order_cmp, order_line_cmp}
-use Rattle.oe_keys.specs.declared.keys.WarehouseKey.{WarehouseKey}
-use Rattle.oe_keys.specs.declared.keys.DistrictKey.{DistrictKey}
-use Rattle.oe_keys.specs.declared.keys.CustomerKey.{CustomerKey}
-use Rattle.oe_keys.specs.declared.keys.NewOrderKey.{NewOrderKey}
-use Rattle.oe_keys.specs.declared.keys.OrderKey.{OrderKey}
-use Rattle.oe_keys.specs.declared.keys.OrderLineKey.{OrderLineKey}
+use Rattle.oe_rows.specs.Key.{warehouse_cmp, district_cmp, customer_cmp, new_order_cmp, order_cmp, order_line_cmp}
+use Rattle.oe_rows.specs.declared.keys.WarehouseKey.{WarehouseKey}
+use Rattle.oe_rows.specs.declared.keys.DistrictKey.{DistrictKey}
+use Rattle.oe_rows.specs.declared.keys.CustomerKey.{CustomerKey}
+use Rattle.oe_rows.specs.declared.keys.NewOrderKey.{NewOrderKey}
+use Rattle.oe_rows.specs.declared.keys.OrderKey.{OrderKey}
+use Rattle.oe_rows.specs.declared.keys.OrderLineKey.{OrderLineKey}
 use Rattle.oe_rows.specs.declared.districts.District.{District}
 use Rattle.oe_rows.specs.declared.customers.Customer.{Customer}
 use Rattle.oe_rows.specs.declared.orders.NewOrder.{NewOrder}
 use Rattle.oe_rows.specs.declared.orders.Order.{Order}
 use Rattle.oe_rows.specs.declared.orders.OrderLine.{OrderLine}
-use Rattle.oe_keys.proofs.KeyFacts.{warehouse_total, district_total, exact_district, customer_total, exact_customer, new_order_total, exact_new_order, order_total, exact_order, order_line_total, exact_order_line}
+use Rattle.oe_rows.proofs.KeyFacts.{warehouse_total, district_total, exact_district, customer_total, exact_customer, new_order_total, exact_new_order, order_total, exact_order, order_line_total, exact_order_line}
 use Rattle.oe_model.specs.Keys.{warehouse_of_district, district_of_customer, district_of_new_order, district_of_order, order_of_line}
 use Rattle.oe_store.specs.Places.{entries_of}
 

@@ -5,10 +5,10 @@ use Rattle.std.specs.List.{AllByRecursion}
 use Rattle.std.specs.Ordering.{is_eq}
 use Rattle.std.specs.declared.cmp.Ordering.{Ordering}
 use Rattle.std.specs.FinMap.{IsAntisymmetric}
-use Rattle.oe_keys.specs.Key.{table_of}
-use Rattle.oe_keys.specs.declared.keys.Key.{Key}
-use Rattle.oe_keys.specs.declared.keys.Key.TheVariants as key
-use Rattle.oe_keys.proofs.KeyFacts.{exact_warehouse, exact_district, exact_customer, exact_history, exact_new_order, exact_order, exact_order_line, exact_item, exact_stock}
+use Rattle.oe_rows.specs.Key.{table_of}
+use Rattle.oe_rows.specs.declared.keys.Key.{Key}
+use Rattle.oe_rows.specs.declared.keys.Key.TheVariants as key
+use Rattle.oe_rows.proofs.KeyFacts.{exact_warehouse, exact_district, exact_customer, exact_history, exact_new_order, exact_order, exact_order_line, exact_item, exact_stock}
 use Rattle.oe_table.specs.Table.{place}
 use Rattle.oe_table.proofs.TableFacts.{tied}
 use Rattle.oe_store.specs.Places.{Places, HasPlace}

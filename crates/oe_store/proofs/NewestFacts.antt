@@ -9,12 +9,12 @@ use Rattle.std.specs.Cmp.{tied_itself, nat_cmp_total, ranked}
 use Rattle.std.specs.FinMap.{FinMap, entries, entries_sorted}
 use Rattle.std.specs.FinMap.Entries.{is_sorted, below_all}
 use Rattle.std.proofs.lemmas.Bool.Decides.{nat_tests}
-use Rattle.oe_keys.specs.Key.{district_cmp, customer_cmp, order_cmp}
-use Rattle.oe_keys.specs.declared.keys.DistrictKey.{DistrictKey}
-use Rattle.oe_keys.specs.declared.keys.CustomerKey.{CustomerKey}
-use Rattle.oe_keys.specs.declared.keys.OrderKey.{OrderKey}
+use Rattle.oe_rows.specs.Key.{district_cmp, customer_cmp, order_cmp}
+use Rattle.oe_rows.specs.declared.keys.DistrictKey.{DistrictKey}
+use Rattle.oe_rows.specs.declared.keys.CustomerKey.{CustomerKey}
+use Rattle.oe_rows.specs.declared.keys.OrderKey.{OrderKey}
 use Rattle.oe_rows.specs.declared.orders.Order.{Order}
-use Rattle.oe_keys.proofs.KeyFacts.{district_total, exact_district, customer_total, exact_customer, order_total, exact_order}
+use Rattle.oe_rows.proofs.KeyFacts.{district_total, exact_district, customer_total, exact_customer, order_total, exact_order}
 use Rattle.oe_model.specs.Keys.{district_of_customer, district_of_order, customer_of_order}
 use Rattle.oe_model.specs.Queries.{orders_of, last_order}
 use Rattle.oe_model.proofs.MapFacts.{is_same, is_self}

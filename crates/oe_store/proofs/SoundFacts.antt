@@ -4,14 +4,14 @@ use Rattle.std.specs.Prelude.{IsSome, is_some, option_map}
 use Rattle.std.specs.Int.{IsInRange}
 use Rattle.std.specs.declared.cmp.Ordering.{Ordering}
 use Rattle.std.specs.FinMap.{get, empty, get-empty}
-use Rattle.oe_keys.specs.Key.{warehouse_cmp, district_cmp, customer_cmp, history_cmp, new_order_cmp, order_cmp, order_line_cmp, item_cmp, stock_cmp}
-use Rattle.oe_keys.specs.declared.keys.DistrictKey.{DistrictKey}
-use Rattle.oe_keys.specs.declared.keys.CustomerKey.{CustomerKey}
-use Rattle.oe_keys.specs.declared.keys.NewOrderKey.{NewOrderKey}
-use Rattle.oe_keys.specs.declared.keys.OrderKey.{OrderKey}
-use Rattle.oe_keys.specs.declared.keys.OrderLineKey.{OrderLineKey}
-use Rattle.oe_keys.specs.declared.keys.Key.{Key}
-use Rattle.oe_keys.specs.declared.keys.Key.TheVariants as key
+use Rattle.oe_rows.specs.Key.{warehouse_cmp, district_cmp, customer_cmp, history_cmp, new_order_cmp, order_cmp, order_line_cmp, item_cmp, stock_cmp}
+use Rattle.oe_rows.specs.declared.keys.DistrictKey.{DistrictKey}
+use Rattle.oe_rows.specs.declared.keys.CustomerKey.{CustomerKey}
+use Rattle.oe_rows.specs.declared.keys.NewOrderKey.{NewOrderKey}
+use Rattle.oe_rows.specs.declared.keys.OrderKey.{OrderKey}
+use Rattle.oe_rows.specs.declared.keys.OrderLineKey.{OrderLineKey}
+use Rattle.oe_rows.specs.declared.keys.Key.{Key}
+use Rattle.oe_rows.specs.declared.keys.Key.TheVariants as key
 use Rattle.oe_rows.specs.declared.rows.Row.{Row}
 use Rattle.oe_rows.specs.declared.rows.Row.TheVariants as row
 use Rattle.oe_rows.specs.declared.warehouses.Warehouse.{Warehouse}
@@ -26,7 +26,7 @@ use Rattle.oe_model.specs.Keys.{order_of_new_order}
 use Rattle.oe_model.specs.Rows.{Rows, is_key, row_at}
 use Rattle.oe_model.specs.Changes.{Change, key_of, row_of, changed, Record, record_key, row_before, put_back, DeletedNewOrder}
 use Rattle.oe_model.specs.Meets.{Meets, Accepts}
-use Rattle.oe_keys.proofs.KeyFacts.{new_order_total, exact_new_order}
+use Rattle.oe_rows.proofs.KeyFacts.{new_order_total, exact_new_order}
 use Rattle.oe_model.proofs.MapFacts.{get_own}
 use Rattle.oe_model.proofs.RowFacts.{key_true, at_changed, at_put_back}
 use Rattle.oe_model.proofs.PresenceFacts.{some-map}

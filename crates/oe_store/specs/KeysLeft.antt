@@ -1,7 +1,7 @@
 -- What a walk over the keys of a table still has to give.
 use Rattle.std.specs.Prelude.{List, map}
-use Rattle.oe_keys.specs.declared.keys.Key.{Key}
-use Rattle.oe_keys.specs.declared.keys.Key.TheVariants as key
+use Rattle.oe_rows.specs.declared.keys.Key.{Key}
+use Rattle.oe_rows.specs.declared.keys.Key.TheVariants as key
 use Rattle.oe_store.specs.declared.key_walks.PlaceWalk.{PlaceWalk}
 use Rattle.oe_store.specs.declared.key_walks.PlaceWalk.TheVariants as walk
 

@@ -1,6 +1,6 @@
 -- The last of a row of orders.
 use Rattle.std.specs.Prelude.{ℕ, List, [], ◌∷◌, Option, Some}
-use Rattle.oe_keys.specs.declared.keys.OrderKey.{OrderKey}
+use Rattle.oe_rows.specs.declared.keys.OrderKey.{OrderKey}
 use Rattle.oe_rows.specs.declared.orders.Order.{Order}
 
 -- the number of the last of the orders, or of the one before them

@@ -1,6 +1,6 @@
 -- What the tables' type keeps of the numbers in keys.
 use Rattle.std.specs.Prelude.{IsSome}
-use Rattle.oe_keys.specs.declared.keys.Key.{Key}
+use Rattle.oe_rows.specs.declared.keys.Key.{Key}
 use Rattle.oe_model.specs.Rows.{Rows, row_at}
 use Rattle.oe_store.specs.Places.{IsNumbered}
 

@@ -4,18 +4,18 @@ use Rattle.std.specs.Int.{IsInRange}
 use Rattle.std.specs.Ordering.{eq_by_cmp}
 use Rattle.std.specs.declared.cmp.Ordering.{Ordering}
 use Rattle.std.specs.FinMap.{FinMap, empty, entries, retain_keys}
-use Rattle.oe_keys.specs.Key.{warehouse_cmp, district_cmp, customer_cmp, history_cmp, new_order_cmp, order_cmp, order_line_cmp, item_cmp, stock_cmp}
-use Rattle.oe_keys.specs.declared.keys.WarehouseKey.{WarehouseKey}
-use Rattle.oe_keys.specs.declared.keys.DistrictKey.{DistrictKey}
-use Rattle.oe_keys.specs.declared.keys.CustomerKey.{CustomerKey}
-use Rattle.oe_keys.specs.declared.keys.HistoryKey.{HistoryKey}
-use Rattle.oe_keys.specs.declared.keys.NewOrderKey.{NewOrderKey}
-use Rattle.oe_keys.specs.declared.keys.OrderKey.{OrderKey}
-use Rattle.oe_keys.specs.declared.keys.OrderLineKey.{OrderLineKey}
-use Rattle.oe_keys.specs.declared.keys.ItemKey.{ItemKey}
-use Rattle.oe_keys.specs.declared.keys.StockKey.{StockKey}
-use Rattle.oe_keys.specs.declared.keys.Key.{Key}
-use Rattle.oe_keys.specs.declared.keys.Key.TheVariants as key
+use Rattle.oe_rows.specs.Key.{warehouse_cmp, district_cmp, customer_cmp, history_cmp, new_order_cmp, order_cmp, order_line_cmp, item_cmp, stock_cmp}
+use Rattle.oe_rows.specs.declared.keys.WarehouseKey.{WarehouseKey}
+use Rattle.oe_rows.specs.declared.keys.DistrictKey.{DistrictKey}
+use Rattle.oe_rows.specs.declared.keys.CustomerKey.{CustomerKey}
+use Rattle.oe_rows.specs.declared.keys.HistoryKey.{HistoryKey}
+use Rattle.oe_rows.specs.declared.keys.NewOrderKey.{NewOrderKey}
+use Rattle.oe_rows.specs.declared.keys.OrderKey.{OrderKey}
+use Rattle.oe_rows.specs.declared.keys.OrderLineKey.{OrderLineKey}
+use Rattle.oe_rows.specs.declared.keys.ItemKey.{ItemKey}
+use Rattle.oe_rows.specs.declared.keys.StockKey.{StockKey}
+use Rattle.oe_rows.specs.declared.keys.Key.{Key}
+use Rattle.oe_rows.specs.declared.keys.Key.TheVariants as key
 use Rattle.oe_rows.specs.declared.warehouses.Warehouse.{Warehouse}
 use Rattle.oe_rows.specs.declared.districts.District.{District}
 use Rattle.oe_rows.specs.declared.customers.Customer.{Customer}

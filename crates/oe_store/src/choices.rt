@@ -3,7 +3,7 @@
 ghost use Rattle.std.specs.Prelude.{◌≡◌, ◌==◌, ◌≤◌, ◌&&◌, ◌+◌, ◌/◌, option_map, count_by, length};
 ghost use Rattle.std.specs.Ordering.{eq_by_cmp, nat_cmp};
 ghost use Rattle.std.specs.Cmp.Lexicographic.{slice_cmp};
-ghost use Rattle.oe_keys.specs.Key.{district_cmp, customer_cmp};
+ghost use Rattle.oe_rows.specs.Key.{district_cmp, customer_cmp};
 ghost use Rattle.oe_model.specs.Keys.{district_of_customer, customer_of_order};
 ghost use Rattle.oe_model.specs.Choice.{namesakes, comes_before, middle};
 ghost use Rattle.oe_model.specs.Delivery.{oldest};
@@ -13,8 +13,7 @@ ghost use Rattle.oe_store.specs.Places.{rows};
 
 use crate::tables::Tables;
 use oe_index::Found;
-use oe_keys::{CustomerKey, DistrictKey, OrderKey};
-use oe_rows::{Customer, CustomerName, Order};
+use oe_rows::{Customer, CustomerKey, CustomerName, DistrictKey, Order, OrderKey};
 use oe_values::{CustomerNumber, OrderNumber, Text};
 use std::cmp::Ordering;
 

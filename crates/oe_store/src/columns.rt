@@ -14,8 +14,10 @@ ghost use Rattle.oe_model.specs.Changes.{changed, UpdateWarehouse, UpdateDistric
 ghost use Rattle.oe_store.specs.Places.{rows, SamePlaces};
 
 use crate::tables::Tables;
-use oe_keys::{CustomerKey, DistrictKey, OrderKey, OrderLineKey, StockKey, WarehouseKey};
-use oe_rows::{Account, StockCounters};
+use oe_rows::{
+    Account, CustomerKey, DistrictKey, OrderKey, OrderLineKey, StockCounters, StockKey,
+    WarehouseKey,
+};
 use oe_values::{Carrier, OrderNumber, Stamp, Text, YearToDate};
 
 impl Tables {

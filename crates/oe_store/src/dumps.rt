@@ -6,11 +6,11 @@ ghost use Rattle.oe_store.specs.Dump.{dumped};
 ghost use Rattle.oe_store.specs.Walk.{rest, entry_of};
 
 use crate::tables::Tables;
-use oe_keys::{
-    CustomerKey, DistrictKey, HistoryKey, ItemKey, NewOrderKey, OrderKey, OrderLineKey, StockKey,
-    Table, WarehouseKey,
+use oe_rows::{
+    Customer, CustomerKey, District, DistrictKey, History, HistoryKey, Item, ItemKey, NewOrder,
+    NewOrderKey, Order, OrderKey, OrderLine, OrderLineKey, Stock, StockKey, Table, Warehouse,
+    WarehouseKey,
 };
-use oe_rows::{Customer, District, History, Item, NewOrder, Order, OrderLine, Stock, Warehouse};
 use oe_table::shelf_walks::Rows;
 use std::marker::Model;
 
@@ -50,7 +50,7 @@ pub struct Dump<'a> {
 
 impl<'a> Model for Dump<'a> {
     ghost use Rattle.std.specs.Prelude.{List};
-    ghost use Rattle.oe_keys.specs.declared.keys.Key.{Key};
+    ghost use Rattle.oe_rows.specs.declared.keys.Key.{Key};
     ghost use Rattle.oe_rows.specs.declared.rows.Row.{Row};
 
     ghost Value = { List (Key × Row) };

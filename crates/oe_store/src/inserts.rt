@@ -5,8 +5,9 @@ ghost use Rattle.oe_model.specs.Meets.{Accepts};
 ghost use Rattle.oe_store.specs.Places.{rows, HasPlace, AddsPlace};
 
 use crate::tables::Tables;
-use oe_keys::{HistoryKey, Key, NewOrderKey, OrderKey, OrderLineKey};
-use oe_rows::{History, NewOrder, Order, OrderLine};
+use oe_rows::{
+    History, HistoryKey, Key, NewOrder, NewOrderKey, Order, OrderKey, OrderLine, OrderLineKey,
+};
 use oe_values::NoMemory;
 
 // Only a key without a place takes memory.

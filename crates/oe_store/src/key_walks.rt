@@ -1,16 +1,16 @@
 //! Walks over the keys of a table that have a place, those that were blanked too.
 ghost use Rattle.std.specs.Prelude.{◌≡◌};
 ghost use Rattle.std.specs.Iterator.{YieldsFirstBy, item_count};
-ghost use Rattle.oe_keys.specs.declared.keys.Key.{Key};
+ghost use Rattle.oe_rows.specs.declared.keys.Key.{Key};
 ghost use Rattle.oe_store.specs.KeyWalk.{placed_keys};
 ghost use Rattle.oe_store.specs.KeysLeft.{keys_left};
 
 use crate::tables::Tables;
-use oe_keys::{
-    CustomerKey, DistrictKey, HistoryKey, ItemKey, Key, NewOrderKey, OrderKey, OrderLineKey,
-    StockKey, Table, WarehouseKey,
+use oe_rows::{
+    Customer, CustomerKey, District, DistrictKey, History, HistoryKey, Item, ItemKey, Key,
+    NewOrder, NewOrderKey, Order, OrderKey, OrderLine, OrderLineKey, Stock, StockKey, Table,
+    Warehouse, WarehouseKey,
 };
-use oe_rows::{Customer, District, History, Item, NewOrder, Order, OrderLine, Stock, Warehouse};
 use oe_table::shelf_walks::Candidates;
 use std::marker::Model;
 
@@ -36,7 +36,7 @@ pub struct KeyWalk<'a> {
 
 impl<'a> Model for KeyWalk<'a> {
     ghost use Rattle.std.specs.Prelude.{List};
-    ghost use Rattle.oe_keys.specs.declared.keys.Key.{Key};
+    ghost use Rattle.oe_rows.specs.declared.keys.Key.{Key};
 
     ghost Value = { List Key };
 

@@ -3,7 +3,7 @@ ghost use Rattle.std.specs.Prelude.{◌≡◌};
 ghost use Rattle.oe_store.specs.Places.{rows, GivesUp};
 
 use crate::tables::Tables;
-use oe_keys::{Key, NewOrderKey};
+use oe_rows::{Key, NewOrderKey};
 
 impl Tables {
     /// Gives up the place of a NEW-ORDER key without a row. Where the key has a row, or no place, nothing

@@ -7,11 +7,11 @@ ghost use Rattle.oe_store.specs.Places.{rows, HasPlace, IsSound};
 ghost use Rattle.oe_model.specs.Meets.{Meets};
 
 use oe_index::{Customers, Orders};
-use oe_keys::{
-    CustomerKey, DistrictKey, HistoryKey, ItemKey, NewOrderKey, OrderKey, OrderLineKey, StockKey,
+use oe_rows::{
+    Customer, CustomerKey, District, DistrictKey, History, HistoryKey, Item, ItemKey, NewOrder,
+    NewOrderKey, Order, OrderKey, OrderLine, OrderLineKey, Stock, StockKey, Warehouse,
     WarehouseKey,
 };
-use oe_rows::{Customer, District, History, Item, NewOrder, Order, OrderLine, Stock, Warehouse};
 use oe_table::shelves::Shelves;
 use std::alloc::Global;
 use std::marker::Model;

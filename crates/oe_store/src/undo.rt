@@ -7,11 +7,10 @@ ghost use Rattle.oe_model.specs.Meets.{Meets};
 ghost use Rattle.oe_store.specs.Places.{rows, HasPlace, SamePlaces};
 
 use crate::tables::Tables;
-use oe_keys::{
-    CustomerKey, DistrictKey, HistoryKey, Key, NewOrderKey, OrderKey, OrderLineKey, StockKey,
-    WarehouseKey,
+use oe_rows::{
+    Customer, CustomerKey, District, DistrictKey, History, HistoryKey, Key, NewOrder, NewOrderKey,
+    Order, OrderKey, OrderLine, OrderLineKey, Stock, StockKey, Warehouse, WarehouseKey,
 };
-use oe_rows::{Customer, District, History, NewOrder, Order, OrderLine, Stock, Warehouse};
 
 impl Tables {
     /// Takes an inserted HISTORY row back, where nothing refers to it, and answers it. Its key keeps its place.

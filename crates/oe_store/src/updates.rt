@@ -6,10 +6,10 @@ ghost use Rattle.oe_model.specs.Meets.{Accepts};
 ghost use Rattle.oe_store.specs.Places.{rows, SamePlaces};
 
 use crate::tables::Tables;
-use oe_keys::{
-    CustomerKey, DistrictKey, NewOrderKey, OrderKey, OrderLineKey, StockKey, WarehouseKey,
+use oe_rows::{
+    Customer, CustomerKey, District, DistrictKey, NewOrder, NewOrderKey, Order, OrderKey,
+    OrderLine, OrderLineKey, Stock, StockKey, Warehouse, WarehouseKey,
 };
-use oe_rows::{Customer, District, NewOrder, Order, OrderLine, Stock, Warehouse};
 
 impl Tables {
     /// Puts another WAREHOUSE row in the place of a key's, and answers the row before.

@@ -2,15 +2,15 @@
 ghost use Rattle.std.specs.Prelude.{◌≡◌, ◌≤◌};
 ghost use Rattle.std.specs.FinMap.{entries};
 ghost use Rattle.oe_model.specs.Keys.{warehouse_of_district, district_of_customer, district_of_new_order, district_of_order, order_of_line};
-ghost use Rattle.oe_keys.specs.Key.{warehouse_cmp, district_cmp, order_cmp};
+ghost use Rattle.oe_rows.specs.Key.{warehouse_cmp, district_cmp, order_cmp};
 ghost use Rattle.oe_store.specs.Places.{rows, entries_of};
 
 use crate::tables::Tables;
-use oe_keys::{
-    CustomerKey, DistrictKey, HistoryKey, ItemKey, NewOrderKey, OrderKey, OrderLineKey, StockKey,
+use oe_rows::{
+    Customer, CustomerKey, District, DistrictKey, History, HistoryKey, Item, ItemKey, NewOrder,
+    NewOrderKey, Order, OrderKey, OrderLine, OrderLineKey, Stock, StockKey, Warehouse,
     WarehouseKey,
 };
-use oe_rows::{Customer, District, History, Item, NewOrder, Order, OrderLine, Stock, Warehouse};
 use oe_table::shelf_walks::Rows;
 use oe_values::Number;
 

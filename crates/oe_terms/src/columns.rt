@@ -5,9 +5,8 @@ ghost use Rattle.oe_terms.specs.Columns.{home, other, stamp_of, district_in, cus
 use crate::draws::{number, number_in, nurand, random};
 use crate::errands::RequestNumber;
 use crate::names::name_of;
-use oe_keys::DistrictKey;
 use oe_requests::CustomerChoice;
-use oe_rows::Scale;
+use oe_rows::{DistrictKey, Scale};
 use oe_values::{CustomerNumber, ItemNumber, LastName, Stamp, Terminal, WarehouseNumber};
 use rand_pcg::Lcg64Xsh32;
 

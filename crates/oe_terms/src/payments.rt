@@ -5,9 +5,8 @@ ghost use Rattle.oe_terms.specs.Errands.{payment, order_status, delivery, stock_
 use crate::columns::{choice, district_in, home, residence, stamp_of};
 use crate::draws::{number, number_in};
 use crate::errands::RequestNumber;
-use oe_keys::{DistrictKey, WarehouseKey};
 use oe_requests::{DeliveriesRequest, LevelQuery, PaymentRequest, StatusQuery};
-use oe_rows::Scale;
+use oe_rows::{DistrictKey, Scale, WarehouseKey};
 use oe_values::Terminal;
 use rand_pcg::Lcg64Xsh32;
 

@@ -1,11 +1,11 @@
 -- The texts of keys, and of the names of locks.
 use Rattle.std.specs.Prelude.{ℕ, List, ◌∷◌, ◌++◌, map, codes, decimal}
 use Rattle.std.specs.List.{join_with_byte}
-use Rattle.oe_keys.specs.Key.{table_of, table_name, key_columns}
-use Rattle.oe_keys.specs.Lock.{name_columns}
-use Rattle.oe_keys.specs.declared.keys.Key.{Key}
-use Rattle.oe_keys.specs.declared.locks.Name.{Name}
-use Rattle.oe_keys.specs.declared.locks.Name.TheVariants.{Warehouse, District, Customer, Order, Queue, Stock}
+use Rattle.oe_rows.specs.Key.{table_of, table_name, key_columns}
+use Rattle.oe_rows.specs.Lock.{name_columns}
+use Rattle.oe_rows.specs.declared.keys.Key.{Key}
+use Rattle.oe_rows.specs.declared.locks.Name.{Name}
+use Rattle.oe_rows.specs.declared.locks.Name.TheVariants.{Warehouse, District, Customer, Order, Queue, Stock}
 
 -- the columns of a key, from the left
 abbrev pub key_texts : Key → List (List ℕ)

@@ -10,13 +10,10 @@ use crate::columns::{
 };
 use crate::keys::{columns, tabbed};
 use crate::pending::{LONGEST, Pending, SIZE, text};
-use oe_keys::{
-    CustomerKey, DistrictKey, HistoryKey, ItemKey, Key, NewOrderKey, OrderKey, OrderLineKey,
-    StockKey, WarehouseKey,
-};
 use oe_rows::{
-    Account, Address, Customer, CustomerName, District, History, Item, Order, OrderLine, Stock,
-    Warehouse,
+    Account, Address, Customer, CustomerKey, CustomerName, District, DistrictKey, History,
+    HistoryKey, Item, ItemKey, Key, NewOrderKey, Order, OrderKey, OrderLine, OrderLineKey, Stock,
+    StockKey, Warehouse, WarehouseKey,
 };
 use oe_values::Text;
 

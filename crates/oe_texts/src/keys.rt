@@ -2,13 +2,13 @@
 ghost use Rattle.std.specs.Prelude.{◌≡◌, ◌≤◌, ◌+◌, ◌++◌};
 ghost use Rattle.std.specs.List.{join_with_byte};
 ghost use Rattle.arrayvec.specs.ArrayVec.{array_vec_len};
-ghost use Rattle.oe_keys.specs.Key.{table_of, table_name};
+ghost use Rattle.oe_rows.specs.Key.{table_of, table_name};
 ghost use Rattle.oe_texts.specs.Column.{tabbed};
 ghost use Rattle.oe_texts.specs.Key.{key_texts, key_text, name_text};
 
 use crate::columns::{small, small_then};
 use crate::pending::{Pending, SIZE, text};
-use oe_keys::{
+use oe_rows::{
     CustomerKey, DistrictKey, HistoryKey, ItemKey, Key, Name, NewOrderKey, OrderKey, OrderLineKey,
     StockKey,
 };

@@ -4,7 +4,7 @@ use Rattle.std.specs.Prelude.{◌≢◌}
 use Rattle.std.specs.List.{AllByRecursion}
 use Rattle.std.proofs.lemmas.Bool.{cases_eq, cases_lt, eq-eqb, ne_eqb, cond-true, cond-false}
 use Rattle.std.proofs.lemmas.List.{append_assoc}
-use Rattle.oe_keys.specs.declared.keys.Key.{Key}
+use Rattle.oe_rows.specs.declared.keys.Key.{Key}
 use Rattle.oe_model.specs.Rows.{is_key}
 use Rattle.oe_model.specs.Changes.{record_key}
 use Rattle.oe_model.specs.System.{system}

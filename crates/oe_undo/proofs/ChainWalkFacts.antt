@@ -3,7 +3,7 @@ use Rattle.std.proofs.Common.{◌≡◌, ℕ, zero, suc, ◌+◌, ◌-◌, ◌�
 use Rattle.std.specs.Prelude.{nat_lt}
 use Rattle.std.proofs.lemmas.Bool.{ltb-true, ltb-false, le-ltb}
 use Rattle.std.proofs.lemmas.List.{append_assoc}
-use Rattle.oe_keys.specs.declared.keys.Key.{Key}
+use Rattle.oe_rows.specs.declared.keys.Key.{Key}
 use Rattle.oe_model.specs.Rows.{is_key}
 use Rattle.oe_model.specs.Changes.{Record, record_key}
 use Rattle.oe_model.specs.System.{terminal_limit, system}

@@ -1,7 +1,7 @@
 -- What is left of the links where one was set, inserted, or given a place.
 use Rattle.std.proofs.Common.{◌≡◌, refl, sym, ◌∙◌, ap, subst, cond, Bool, true, false, Option, Some, None}
 use Rattle.std.specs.Prelude.{IsSome}
-use Rattle.oe_keys.specs.declared.keys.Key.{Key}
+use Rattle.oe_rows.specs.declared.keys.Key.{Key}
 use Rattle.oe_model.specs.Rows.{is_key}
 use Rattle.oe_model.proofs.RowFacts.{key_true, key_refl}
 use Rattle.oe_undo.specs.declared.links.OwnedLink.{OwnedLink}

@@ -1,6 +1,6 @@
 -- All undo records of a key, the newest first, each beside its holder.
 use Rattle.std.specs.Prelude.{ℕ, suc, ◌-◌, cond, nat_lt, Bool, true, List, [], ◌∷◌, ◌++◌, length}
-use Rattle.oe_keys.specs.declared.keys.Key.{Key}
+use Rattle.oe_rows.specs.declared.keys.Key.{Key}
 use Rattle.oe_model.specs.Rows.{is_key}
 use Rattle.oe_model.specs.Changes.{record_key}
 use Rattle.oe_model.specs.System.{terminal_limit, system}

@@ -1,6 +1,6 @@
 -- What each call of a log makes of the chains, and of which keys no record is left.
 use Rattle.std.specs.Prelude.{◌≡◌, ◌≤◌, ◌↔◌, ℕ, suc, List, [], ◌∷◌, length, Option, None, Some}
-use Rattle.oe_keys.specs.declared.keys.Key.{Key}
+use Rattle.oe_rows.specs.declared.keys.Key.{Key}
 use Rattle.oe_model.specs.Changes.{record_key}
 use Rattle.oe_model.specs.System.{terminal_limit}
 use Rattle.oe_requests.specs.declared.requests.Request.{Request}

@@ -3,10 +3,10 @@
 use Rattle.std.specs.Prelude.{◌≡◌, ◌↔◌, Bool, false, [], cond, Option, Some, IsSome}
 use Rattle.std.specs.Ordering.{eq_by_cmp}
 use Rattle.std.specs.FinMap.{FinMap, empty, get, insert}
-use Rattle.oe_keys.specs.Key.{history_cmp}
-use Rattle.oe_keys.specs.KeyShelves.{district_shelf}
-use Rattle.oe_keys.specs.declared.keys.Key.{Key}
-use Rattle.oe_keys.specs.declared.keys.Key.TheVariants as key
+use Rattle.oe_rows.specs.Key.{history_cmp}
+use Rattle.oe_rows.specs.KeyShelves.{district_shelf}
+use Rattle.oe_rows.specs.declared.keys.Key.{Key}
+use Rattle.oe_rows.specs.declared.keys.Key.TheVariants as key
 use Rattle.oe_model.specs.Rows.{is_key}
 use Rattle.oe_undo.specs.declared.links.OwnedLink.{OwnedLink}
 use Rattle.oe_undo.specs.Numbers.{warehouse_number, district_number, customer_number, new_order_number, order_number, order_line_number, item_number, stock_number}

@@ -3,7 +3,7 @@ use Rattle.std.specs.Prelude.{◌≡◌, Option}
 use Rattle.std.specs.Option.{OnSome}
 use Rattle.std.specs.Borrow.{LendsSo, Fml, MutBor}
 use Rattle.std.specs.contracts.option.Option.{the_row as option_row}
-use Rattle.oe_keys.specs.declared.keys.Key.{Key}
+use Rattle.oe_rows.specs.declared.keys.Key.{Key}
 use Rattle.oe_undo.specs.declared.links.OwnedLink.{OwnedLink}
 use Rattle.oe_undo.specs.contracts.links.OwnedLink.{the_row as link_row}
 use Rattle.oe_undo.specs.contracts.links.Links.{the_row}

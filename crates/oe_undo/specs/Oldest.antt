@@ -1,7 +1,7 @@
 -- The oldest record of a key that is put back on the way to a moment: it has the key's row of that moment.
 use Rattle.std.specs.Prelude.{ℕ, cond, List, [], ◌∷◌, take, Option, None, Some}
 use Rattle.oe_theory.specs.Store.{all_below}
-use Rattle.oe_keys.specs.declared.keys.Key.{Key}
+use Rattle.oe_rows.specs.declared.keys.Key.{Key}
 use Rattle.oe_model.specs.Rows.{is_key}
 use Rattle.oe_model.specs.Changes.{Record, record_key}
 use Rattle.oe_model.specs.System.{system, terminal_limit}

@@ -3,7 +3,7 @@
 use Rattle.std.specs.Prelude.{◌≡◌, ⊤, ℕ, suc, ◌≤◌, ◌<◌, ◌-◌, ◌==◌, nat_lt, cond, List, [], ◌∷◌, length, get_or, slice_get, Option, None, Some, IsSome, option_map}
 use Rattle.std.specs.List.{All}
 use Rattle.oe_values.specs.declared.numbers.TheConstants.{TERMINALS}
-use Rattle.oe_keys.specs.declared.keys.Key.{Key}
+use Rattle.oe_rows.specs.declared.keys.Key.{Key}
 use Rattle.oe_log.specs.declared.heads.SegmentOwner.{SegmentOwner}
 use Rattle.oe_log.specs.Log.{SegmentLog, Committed as CommitSegment, count_at, active_at, total_count}
 use Rattle.oe_undo.specs.declared.holders.Link.{Link}

@@ -1,6 +1,6 @@
 -- The undo log beside the links of keys to their newest records, and what each call makes of the two.
 use Rattle.std.specs.Prelude.{◌≡◌, ℕ, cond, List, [], ◌∷◌, Option, None, Some}
-use Rattle.oe_keys.specs.declared.keys.Key.{Key}
+use Rattle.oe_rows.specs.declared.keys.Key.{Key}
 use Rattle.oe_model.specs.Changes.{Record, record_key}
 use Rattle.oe_model.specs.Lengths.{record_length}
 use Rattle.oe_layout.specs.declared.links.RecordAddress.{RecordAddress}

@@ -6,7 +6,7 @@
 ghost use Rattle.std.specs.Prelude.{◌≡◌, Some, None, IsSome, OnOk, OnErr, cond};
 ghost use Rattle.std.specs.Ordering.{eq_by_cmp};
 ghost use Rattle.std.specs.FinMap.{get};
-ghost use Rattle.oe_keys.specs.Key.{history_cmp};
+ghost use Rattle.oe_rows.specs.Key.{history_cmp};
 ghost use Rattle.oe_table.specs.Table.{rows_of};
 ghost use Rattle.oe_undo.specs.Tables.{link_in, is_not_above};
 ghost use Rattle.oe_undo.specs.Links.{place_of, links_of, HasPlace, no_links, comes_with, SetsLink, GivesPlaces, InsertsLink};
@@ -14,9 +14,9 @@ ghost use Rattle.oe_undo.specs.Links.{place_of, links_of, HasPlace, no_links, co
 use crate::numbers::NumberedKey;
 use crate::places::Places;
 use crate::tables::{insert, link_in, place_in, reach, set};
-use oe_keys::{HistoryKey, Key};
 use oe_layout::RecordAddress;
 use oe_log::SegmentOwner;
+use oe_rows::{HistoryKey, Key};
 use oe_table::shelves::Shelves;
 use oe_values::NoMemory;
 use std::alloc::Global;
@@ -45,7 +45,7 @@ pub struct Links {
 }
 
 impl Model for Links {
-    ghost use Rattle.oe_keys.specs.Key.{history_cmp};
+    ghost use Rattle.oe_rows.specs.Key.{history_cmp};
     ghost use Rattle.oe_table.specs.Table.{rows_of};
     ghost use Rattle.std.specs.Coded.{codes};
     ghost use Rattle.std.specs.FinMap.{code as map_code};

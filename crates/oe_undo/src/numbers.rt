@@ -1,7 +1,7 @@
 //! Keys that have their places by their numbers. Nothing here takes memory or can fail.
 ghost use Rattle.std.specs.Prelude.{◌≡◌, ◌<◌, ℕ, Option, Some};
 
-use oe_keys::{
+use oe_rows::{
     CustomerKey, DistrictKey, ItemKey, NewOrderKey, OrderKey, OrderLineKey, StockKey, WarehouseKey,
 };
 use oe_values::ShelvedKey;

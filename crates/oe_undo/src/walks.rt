@@ -10,8 +10,8 @@ ghost use Rattle.oe_undo.specs.Ticks.{ticked};
 
 use crate::holders::{Holder, Link};
 use crate::undo::Undo;
-use oe_keys::Key;
 use oe_layout::{Previous, StoredRecord};
+use oe_rows::Key;
 use oe_values::Moment;
 use std::marker::Model;
 

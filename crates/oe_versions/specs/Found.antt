@@ -1,6 +1,6 @@
 -- The row that a key had at a moment, by the record that is found for it.
 use Rattle.std.specs.Prelude.{◌≡◌, ℕ, Option, None, Some}
-use Rattle.oe_keys.specs.declared.keys.Key.{Key}
+use Rattle.oe_rows.specs.declared.keys.Key.{Key}
 use Rattle.oe_rows.specs.declared.rows.Row.{Row}
 use Rattle.oe_theory.specs.Store.{version_of}
 use Rattle.oe_model.specs.Rows.{Rows, row_at}

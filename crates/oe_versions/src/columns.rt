@@ -1,15 +1,15 @@
 //! Columns of rows as they stood at a moment. Of a row nothing else is handed out.
 ghost use Rattle.std.specs.Prelude.{◌≡◌, option_map, option_and_then};
 ghost use Rattle.std.specs.FinMap.{get};
-ghost use Rattle.oe_keys.specs.declared.keys.Key.TheVariants as keys;
+ghost use Rattle.oe_rows.specs.declared.keys.Key.TheVariants as keys;
 ghost use Rattle.oe_model.specs.Rows.{row_at, as_warehouse, as_district, as_customer, as_stock};
 ghost use Rattle.oe_store.specs.Places.{rows};
 ghost use Rattle.oe_versions.specs.Versions.{rows_of};
 ghost use Rattle.oe_versions.specs.Found.{row_found};
 
 use crate::moments::Version;
-use oe_keys::{CustomerKey, DistrictKey, Key, StockKey, WarehouseKey};
 use oe_layout::{OwnRecord, StoredRecord};
+use oe_rows::{CustomerKey, DistrictKey, Key, StockKey, WarehouseKey};
 use oe_store::Tables;
 use oe_values::{Balance, Count, OrderNumber, YearToDate};
 

@@ -1,14 +1,13 @@
 //! The last order of a customer as it stood at a moment.
 ghost use Rattle.std.specs.Prelude.{◌≡◌};
 ghost use Rattle.std.specs.Ordering.{eq_by_cmp};
-ghost use Rattle.oe_keys.specs.Key.{customer_cmp};
+ghost use Rattle.oe_rows.specs.Key.{customer_cmp};
 ghost use Rattle.oe_model.specs.Keys.{customer_of_order};
 ghost use Rattle.oe_model.specs.Queries.{last_order};
 ghost use Rattle.oe_versions.specs.Versions.{rows_of, Stand};
 
 use crate::moments::Version;
-use oe_keys::{CustomerKey, OrderKey};
-use oe_rows::Order;
+use oe_rows::{CustomerKey, Order, OrderKey};
 use std::cmp::Ordering;
 
 /// Whether the order is the customer's.

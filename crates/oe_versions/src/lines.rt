@@ -5,9 +5,8 @@ ghost use Rattle.oe_model.specs.Queries.{status_line};
 ghost use Rattle.oe_versions.specs.Versions.{rows_of, Stand};
 
 use crate::moments::Version;
-use oe_keys::OrderKey;
 use oe_requests::{StatusLine, StatusLines};
-use oe_rows::OrderLine;
+use oe_rows::{OrderKey, OrderLine};
 
 /// What is told of a line (clause 2.6.3).
 fn told(line: &OrderLine) -> StatusLine

@@ -4,7 +4,7 @@ ghost use Rattle.oe_model.specs.Choice.{namesakes, middle};
 ghost use Rattle.oe_versions.specs.Versions.{rows_of, Stand};
 
 use crate::moments::Version;
-use oe_keys::DistrictKey;
+use oe_rows::DistrictKey;
 use oe_values::{CustomerNumber, Text};
 
 impl<'a> Version<'a> {

@@ -7,8 +7,8 @@ ghost use Rattle.oe_log.specs.Moments.{IsKeptMoment};
 ghost use Rattle.oe_versions.specs.Found.{HasRow};
 
 use crate::moments::Version;
-use oe_keys::Key;
 use oe_layout::StoredRecord;
+use oe_rows::Key;
 use oe_undo::{Ticks, Undo};
 use oe_values::Moment;
 

@@ -1,7 +1,7 @@
 //! Rows as they stood at a moment.
 ghost use Rattle.std.specs.Prelude.{◌≡◌, is_some, option_and_then};
 ghost use Rattle.std.specs.FinMap.{get};
-ghost use Rattle.oe_keys.specs.declared.keys.Key.TheVariants as keys;
+ghost use Rattle.oe_rows.specs.declared.keys.Key.TheVariants as keys;
 ghost use Rattle.oe_model.specs.Rows.{row_at, as_new_order, as_order, as_order_line};
 ghost use Rattle.oe_model.specs.Changes.{row_before};
 ghost use Rattle.oe_layout.specs.Records.{record_of_own};
@@ -12,9 +12,8 @@ ghost use Rattle.oe_versions.specs.Versions.{rows_of};
 ghost use Rattle.oe_versions.specs.Found.{row_found};
 
 use crate::moments::Version;
-use oe_keys::{Key, NewOrderKey, OrderKey, OrderLineKey};
 use oe_layout::{OwnRecord, StoredRecord};
-use oe_rows::{NewOrder, Order, OrderLine, Row};
+use oe_rows::{Key, NewOrder, NewOrderKey, Order, OrderKey, OrderLine, OrderLineKey, Row};
 use oe_store::Tables;
 use oe_undo::Ticks;
 

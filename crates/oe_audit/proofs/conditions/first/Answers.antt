@@ -1,7 +1,7 @@
 use Rattle.std.proofs.Common.{sym, ◌∙◌, ap, not, option_map, List}
 use Rattle.std.specs.Prelude.{find}
-use Rattle.oe_keys.specs.declared.keys.Key.TheVariants as key
-use Rattle.oe_keys.specs.declared.keys.WarehouseKey.{WarehouseKey}
+use Rattle.oe_rows.specs.declared.keys.Key.TheVariants as key
+use Rattle.oe_rows.specs.declared.keys.WarehouseKey.{WarehouseKey}
 use Rattle.oe_rows.specs.declared.warehouses.Warehouse.{Warehouse}
 use Rattle.oe_model.specs.Audits.{Verdict, judged, passes_1}
 use Rattle.oe_model.specs.Rows.{Rows}

@@ -1,6 +1,6 @@
 use Rattle.std.proofs.Common.{◌≡◌, option_map, not}
 use Rattle.std.specs.Prelude.{find}
-use Rattle.oe_keys.specs.declared.keys.Key.TheVariants as key
+use Rattle.oe_rows.specs.declared.keys.Key.TheVariants as key
 use Rattle.oe_model.specs.Audits.{First, judged, passes_1, verdict}
 use Rattle.oe_audit.specs.AsOf.{rows_then, stood}
 use Rattle.oe_audit.proofs.conditions.first.Given as goal

@@ -1,8 +1,8 @@
 use Rattle.std.proofs.Common.{◌≡◌, refl, sym, ◌∙◌, ap, not, option_map, List}
 use Rattle.std.specs.Prelude.{find}
 use Rattle.std.specs.FinMap.{entries}
-use Rattle.oe_keys.specs.declared.keys.Key.TheVariants as key
-use Rattle.oe_keys.specs.declared.keys.DistrictKey.{DistrictKey}
+use Rattle.oe_rows.specs.declared.keys.Key.TheVariants as key
+use Rattle.oe_rows.specs.declared.keys.DistrictKey.{DistrictKey}
 use Rattle.oe_rows.specs.declared.districts.District.{District}
 use Rattle.oe_model.specs.Audits.{Verdict, judged, verdict}
 use Rattle.oe_model.specs.Rows.{Rows}

@@ -1,5 +1,5 @@
 use Rattle.std.proofs.Common.{sym, ◌∙◌, ap, map, None, List, ℕ}
-use Rattle.oe_keys.specs.declared.keys.OrderKey.{OrderKey}
+use Rattle.oe_rows.specs.declared.keys.OrderKey.{OrderKey}
 use Rattle.oe_rows.specs.declared.orders.Order.{Order}
 use Rattle.oe_model.specs.Audits.{order_numbers}
 use Rattle.oe_model.specs.Rows.{Rows}

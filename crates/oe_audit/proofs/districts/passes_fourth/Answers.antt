@@ -1,6 +1,6 @@
 use Rattle.std.proofs.Common.{ℕ, sym, ◌∙◌, length}
 use Rattle.std.specs.Prelude.{◌==◌, sum_by}
-use Rattle.oe_keys.specs.declared.keys.OrderKey.{OrderKey}
+use Rattle.oe_rows.specs.declared.keys.OrderKey.{OrderKey}
 use Rattle.oe_rows.specs.declared.orders.Order.{Order}
 use Rattle.oe_model.specs.Rows.{Rows}
 use Rattle.oe_audit.specs.AsOf.{rows_then, stood}

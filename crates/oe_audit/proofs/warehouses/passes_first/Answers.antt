@@ -1,6 +1,6 @@
 use Rattle.std.proofs.Common.{ℕ, sym, ◌∙◌, ap}
 use Rattle.std.specs.Prelude.{◌==◌, sum_by}
-use Rattle.oe_keys.specs.declared.keys.DistrictKey.{DistrictKey}
+use Rattle.oe_rows.specs.declared.keys.DistrictKey.{DistrictKey}
 use Rattle.oe_rows.specs.declared.districts.District.{District}
 use Rattle.oe_model.specs.Rows.{Rows}
 use Rattle.oe_audit.specs.AsOf.{rows_then, stood}

@@ -1,6 +1,6 @@
 use Rattle.std.proofs.Common.{rules, ap}
 use Rattle.std.specs.Prelude.{is_some}
-use Rattle.oe_keys.proofs.KeyFacts.{order_line_total, exact_order_line}
+use Rattle.oe_rows.proofs.KeyFacts.{order_line_total, exact_order_line}
 use Rattle.oe_store.proofs.PlaceFacts.{place_of_row}
 use Rattle.oe_change.proofs.PlaceFacts.{adds_own}
 use Rattle.oe_change.proofs.updates.update_order_line.Goals as goal

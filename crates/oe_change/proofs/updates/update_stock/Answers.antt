@@ -1,6 +1,6 @@
 use Rattle.std.proofs.Common.{rules, ap}
 use Rattle.std.specs.Prelude.{is_some}
-use Rattle.oe_keys.proofs.KeyFacts.{stock_total, exact_stock}
+use Rattle.oe_rows.proofs.KeyFacts.{stock_total, exact_stock}
 use Rattle.oe_store.proofs.PlaceFacts.{place_of_row}
 use Rattle.oe_change.proofs.PlaceFacts.{adds_own}
 use Rattle.oe_change.proofs.updates.update_stock.Goals as goal

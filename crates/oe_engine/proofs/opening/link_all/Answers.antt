@@ -1,6 +1,6 @@
 use Rattle.std.proofs.Common.{◌+◌, drop, get_or, subst, rules}
 use Rattle.std.proofs.lemmas.List.{drop_more, drop_all}
-use Rattle.oe_keys.specs.declared.keys.Table.TheVariants as table
+use Rattle.oe_rows.specs.declared.keys.Table.TheVariants as table
 use Rattle.oe_engine.specs.declared.opening.TheConstants.{CHANGED}
 use Rattle.oe_engine.specs.Opened.{IsLinked}
 use Rattle.oe_engine.proofs.OpenFacts.{IsLinking, changed_tables, tables_still, one_linked, all_linked, are_linked}

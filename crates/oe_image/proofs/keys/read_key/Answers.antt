@@ -1,6 +1,6 @@
 -- What stands at the front is read exactly.
 use Rattle.std.proofs.Common.{ℕ, List, Option, sym, subst, arith}
-use Rattle.oe_keys.specs.declared.keys.Key.{Key}
+use Rattle.oe_rows.specs.declared.keys.Key.{Key}
 use Rattle.oe_image.specs.Fronts.{Reads}
 use Rattle.oe_image.specs.Keys.{key_image}
 use Rattle.oe_image.specs.KeyFronts.{IsKeyOf}

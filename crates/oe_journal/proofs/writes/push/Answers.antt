@@ -1,6 +1,6 @@
 -- Why a record can't be pushed.
 use Rattle.std.proofs.Common.{◌≡◌, subst, None}
-use Rattle.oe_keys.specs.declared.keys.Key.{Key}
+use Rattle.oe_rows.specs.declared.keys.Key.{Key}
 use Rattle.oe_change.specs.Writes.{key_written}
 use Rattle.oe_undo.specs.Links.{place_of}
 use Rattle.oe_model.specs.Lengths.{record_length}

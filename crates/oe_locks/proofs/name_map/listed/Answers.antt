@@ -1,6 +1,6 @@
 use Rattle.std.proofs.Common.{rules, ◌≡◌, ℕ, true, false, None, take, sym, subst, add-one}
 use Rattle.std.specs.Map.{lookup}
-use Rattle.oe_keys.specs.contracts.locks.NamePartialEq.TheImpl.{ghosts}
+use Rattle.oe_rows.specs.contracts.locks.NamePartialEq.TheImpl.{ghosts}
 use Rattle.oe_locks.proofs.MapFacts.{found_at, none_next, none_all}
 use Rattle.oe_locks.proofs.name_map.listed.Goals as goal
 

@@ -2,7 +2,7 @@ use Rattle.std.proofs.Common.{◌≡◌, ℕ, ◌+◌, ◌<◌, ◌≤◌, ◌-�
 use Rattle.std.proofs.lemmas.List.{take_all}
 use Rattle.std.specs.Prelude.{vec_len}
 use Rattle.std.specs.Map.{lookup}
-use Rattle.oe_keys.specs.contracts.locks.NamePartialEq.TheImpl.{ghosts}
+use Rattle.oe_rows.specs.contracts.locks.NamePartialEq.TheImpl.{ghosts}
 use Rattle.oe_locks.specs.declared.holders.Holders.TheVariants.{Alone}
 use Rattle.oe_locks.specs.Held.{Holdings}
 use Rattle.oe_locks.proofs.MapFacts.{named_at, found_at, changes-last}

@@ -1,7 +1,7 @@
 use Rattle.std.proofs.Common.{rules, not, ap, ◌∙◌}
 use Rattle.std.proofs.lemmas.Fn.{filter_same}
 use Rattle.std.specs.Map.{lookup}
-use Rattle.oe_keys.specs.contracts.locks.NamePartialEq.TheImpl.{ghosts}
+use Rattle.oe_rows.specs.contracts.locks.NamePartialEq.TheImpl.{ghosts}
 use Rattle.oe_locks.proofs.MapFacts.{changes-filter}
 use Rattle.oe_locks.proofs.name_map.strike_listed.Goals as goal
 

@@ -1,6 +1,6 @@
 use Rattle.std.proofs.Common.{◌≡◌, ◌≤◌, None, Some, refl, sym, ap, ◌∙◌, subst}
 use Rattle.std.specs.FinMap.{get}
-use Rattle.oe_keys.specs.declared.keys.StockKey.{StockKey}
+use Rattle.oe_rows.specs.declared.keys.StockKey.{StockKey}
 use Rattle.oe_store.specs.Places.{rows}
 use Rattle.oe_neworder.proofs.LookFacts.{none_used, none_there, none_stocked, too_much, filled_so}
 use Rattle.oe_neworder.proofs.looks.supply_of.Goals.{After-item}

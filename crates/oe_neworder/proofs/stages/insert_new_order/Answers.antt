@@ -1,6 +1,6 @@
 use Rattle.std.proofs.Common.{Some, [], refl, sym, ap, subst}
 use Rattle.oe_theory.specs.Machine.{Take, Go, Exclusive}
-use Rattle.oe_keys.specs.declared.locks.Name.TheVariants as name
+use Rattle.oe_rows.specs.declared.locks.Name.TheVariants as name
 use Rattle.oe_model.specs.Keys.{district_of_new_order}
 use Rattle.oe_requests.specs.declared.requests.Request.TheVariants as request
 use Rattle.oe_formulas.specs.Orders.{seen_by}

@@ -1,6 +1,6 @@
 use Rattle.std.proofs.Common.{Ok, Err, refl, sym, ap, subst}
 use Rattle.oe_theory.specs.Machine.{Take, Shared}
-use Rattle.oe_keys.specs.declared.locks.Name.TheVariants as name
+use Rattle.oe_rows.specs.declared.locks.Name.TheVariants as name
 use Rattle.oe_requests.specs.declared.requests.Request.TheVariants as request
 use Rattle.oe_model.specs.Positions.{NewOrderWarehouse, NewOrderDistrict, InNewOrder}
 use Rattle.oe_neworder.specs.Looks.{ReadsTax}

@@ -2,14 +2,14 @@ use Rattle.std.proofs.Common.{◌≡◌, ◌+◌, ◌*◌, ◌/◌, ◌%◌, ◌
 use Rattle.std.specs.Prelude.{◌&&◌}
 use Rattle.std.specs.Ordering.{eq_by_cmp}
 use Rattle.std.specs.FinMap.{insert, empty}
-use Rattle.oe_keys.specs.Key.{district_cmp}
-use Rattle.oe_keys.proofs.KeyFacts.{district_total, exact_district}
+use Rattle.oe_rows.specs.Key.{district_cmp}
+use Rattle.oe_rows.proofs.KeyFacts.{district_total, exact_district}
 use Rattle.oe_model.specs.Population.{counts_to, district_of}
 use Rattle.oe_model.proofs.MapFacts.{is_self}
 use Rattle.oe_population.specs.Group.{is_any_district, district_count}
 use Rattle.oe_population.proofs.FillFacts.{fill_start, fill_step, fill_free, fills_put, fills_by, free_empty}
 use Rattle.oe_population.proofs.KeyTests.{same_district, same_ordinal, all_districts}
-use Rattle.oe_keys.specs.declared.keys.DistrictKey.{DistrictKey}
+use Rattle.oe_rows.specs.declared.keys.DistrictKey.{DistrictKey}
 use Rattle.oe_population.proofs.fills.districts.Goals as goal
 
 pub loop-ordinal-init : goal.loop-ordinal-init

@@ -1,6 +1,6 @@
 use Rattle.std.specs.Prelude.{◌&&◌}
 use Rattle.std.specs.FinMap.{empty}
-use Rattle.oe_keys.specs.Key.{district_cmp}
+use Rattle.oe_rows.specs.Key.{district_cmp}
 use Rattle.oe_table.specs.Table.{rows_of}
 use Rattle.oe_model.specs.Population.{counts_to, district_of}
 use Rattle.oe_population.specs.Fill.{Fills}

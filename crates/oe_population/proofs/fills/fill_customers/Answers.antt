@@ -2,15 +2,15 @@ use Rattle.std.proofs.Common.{◌+◌, ◌<◌, ◌∙◌, ap, arith}
 use Rattle.std.specs.Prelude.{◌&&◌}
 use Rattle.std.specs.Ordering.{eq_by_cmp}
 use Rattle.std.specs.FinMap.{insert}
-use Rattle.oe_keys.specs.Key.{customer_cmp}
-use Rattle.oe_keys.proofs.KeyFacts.{customer_total, exact_customer}
+use Rattle.oe_rows.specs.Key.{customer_cmp}
+use Rattle.oe_rows.proofs.KeyFacts.{customer_total, exact_customer}
 use Rattle.oe_model.specs.Keys.{district_of_customer, customer_in}
 use Rattle.oe_model.specs.Population.{customer_of}
 use Rattle.oe_model.proofs.MapFacts.{is_self}
 use Rattle.oe_population.specs.Group.{is_district}
 use Rattle.oe_population.proofs.FillFacts.{and_false, fill_step, fill_free, fills_put}
 use Rattle.oe_population.proofs.KeyTests.{same_customer}
-use Rattle.oe_keys.specs.declared.keys.CustomerKey.{CustomerKey}
+use Rattle.oe_rows.specs.declared.keys.CustomerKey.{CustomerKey}
 use Rattle.oe_population.proofs.fills.fill_customers.Goals as goal
 
 pub put_new-requires : goal.put_new-requires

@@ -1,5 +1,5 @@
 use Rattle.std.specs.Prelude.{◌&&◌}
-use Rattle.oe_keys.specs.Key.{customer_cmp}
+use Rattle.oe_rows.specs.Key.{customer_cmp}
 use Rattle.oe_table.specs.Table.{rows_of}
 use Rattle.oe_model.specs.Keys.{district_of_customer}
 use Rattle.oe_model.specs.Population.{counts_to, customer_of}

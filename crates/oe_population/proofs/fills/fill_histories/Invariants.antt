@@ -1,6 +1,6 @@
 use Rattle.std.specs.Prelude.{◌&&◌}
 use Rattle.std.specs.Ordering.{eq_by_cmp}
-use Rattle.oe_keys.specs.Key.{history_cmp}
+use Rattle.oe_rows.specs.Key.{history_cmp}
 use Rattle.oe_table.specs.Table.{rows_of}
 use Rattle.oe_model.specs.Keys.{district_of_customer}
 use Rattle.oe_model.specs.Population.{counts_to, history_of, history_key, counted_customer}

@@ -1,5 +1,5 @@
 use Rattle.std.specs.Prelude.{◌&&◌, not}
-use Rattle.oe_keys.specs.Key.{new_order_cmp}
+use Rattle.oe_rows.specs.Key.{new_order_cmp}
 use Rattle.oe_table.specs.Table.{rows_of}
 use Rattle.oe_model.specs.Keys.{district_of_new_order}
 use Rattle.oe_model.specs.Population.{counts_to, is_delivered}

@@ -2,15 +2,15 @@ use Rattle.std.proofs.Common.{◌≡◌, ◌+◌, ◌<◌, ◌∙◌, ap, arith}
 use Rattle.std.specs.Prelude.{◌&&◌}
 use Rattle.std.specs.Ordering.{eq_by_cmp}
 use Rattle.std.specs.FinMap.{insert}
-use Rattle.oe_keys.specs.Key.{order_line_cmp}
-use Rattle.oe_keys.proofs.KeyFacts.{order_line_total, exact_order_line}
+use Rattle.oe_rows.specs.Key.{order_line_cmp}
+use Rattle.oe_rows.proofs.KeyFacts.{order_line_total, exact_order_line}
 use Rattle.oe_model.specs.Keys.{order_of_line, line_in}
 use Rattle.oe_model.specs.Population.{counts_to, line_of, lines_of}
 use Rattle.oe_model.proofs.MapFacts.{is_self}
 use Rattle.oe_population.specs.Group.{is_order}
 use Rattle.oe_population.proofs.FillFacts.{and_false, fill_step, fill_free, fills_put, fills_by}
 use Rattle.oe_population.proofs.KeyTests.{same_line, same_lines}
-use Rattle.oe_keys.specs.declared.keys.OrderLineKey.{OrderLineKey}
+use Rattle.oe_rows.specs.declared.keys.OrderLineKey.{OrderLineKey}
 use Rattle.oe_population.proofs.fills.fill_order_lines.Goals as goal
 
 pub put_new-requires : goal.put_new-requires

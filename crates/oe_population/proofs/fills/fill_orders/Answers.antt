@@ -2,15 +2,15 @@ use Rattle.std.proofs.Common.{◌+◌, ◌<◌, ◌∙◌, ap, arith}
 use Rattle.std.specs.Prelude.{◌&&◌}
 use Rattle.std.specs.Ordering.{eq_by_cmp}
 use Rattle.std.specs.FinMap.{insert}
-use Rattle.oe_keys.specs.Key.{order_cmp}
-use Rattle.oe_keys.proofs.KeyFacts.{order_total, exact_order}
+use Rattle.oe_rows.specs.Key.{order_cmp}
+use Rattle.oe_rows.proofs.KeyFacts.{order_total, exact_order}
 use Rattle.oe_model.specs.Keys.{district_of_order, order_in}
 use Rattle.oe_model.specs.Population.{order_of}
 use Rattle.oe_model.proofs.MapFacts.{is_self}
 use Rattle.oe_population.specs.Group.{is_district}
 use Rattle.oe_population.proofs.FillFacts.{and_false, fill_step, fill_free, fills_put}
 use Rattle.oe_population.proofs.KeyTests.{same_order}
-use Rattle.oe_keys.specs.declared.keys.OrderKey.{OrderKey}
+use Rattle.oe_rows.specs.declared.keys.OrderKey.{OrderKey}
 use Rattle.oe_population.proofs.fills.fill_orders.Goals as goal
 
 pub put_new-requires : goal.put_new-requires

@@ -2,13 +2,13 @@ use Rattle.std.proofs.Common.{◌+◌, ◌<◌, ◌∙◌, ap, arith}
 use Rattle.std.specs.Prelude.{◌&&◌, ◌==◌}
 use Rattle.std.specs.Ordering.{eq_by_cmp}
 use Rattle.std.specs.FinMap.{insert}
-use Rattle.oe_keys.specs.Key.{stock_cmp}
-use Rattle.oe_keys.proofs.KeyFacts.{stock_total, exact_stock}
+use Rattle.oe_rows.specs.Key.{stock_cmp}
+use Rattle.oe_rows.proofs.KeyFacts.{stock_total, exact_stock}
 use Rattle.oe_model.specs.Population.{stock_of}
 use Rattle.oe_model.proofs.MapFacts.{is_self}
 use Rattle.oe_population.proofs.FillFacts.{and_false, fill_step, fill_free, fills_put}
 use Rattle.oe_population.proofs.KeyTests.{same_stock}
-use Rattle.oe_keys.specs.declared.keys.StockKey.{StockKey}
+use Rattle.oe_rows.specs.declared.keys.StockKey.{StockKey}
 use Rattle.oe_population.proofs.fills.fill_stocks.Goals as goal
 
 pub put_new-requires : goal.put_new-requires

@@ -2,13 +2,13 @@ use Rattle.std.proofs.Common.{◌≡◌, ◌+◌, ◌*◌, ◌/◌, ◌%◌, ◌
 use Rattle.std.specs.Prelude.{◌&&◌}
 use Rattle.std.specs.Ordering.{eq_by_cmp}
 use Rattle.std.specs.FinMap.{empty}
-use Rattle.oe_keys.specs.Key.{history_cmp}
+use Rattle.oe_rows.specs.Key.{history_cmp}
 use Rattle.oe_model.specs.Keys.{district_of_customer}
 use Rattle.oe_model.specs.Population.{counts_to, history_of, counted_customer, history_key}
 use Rattle.oe_population.specs.Group.{is_any_district, district_count, histories_in}
 use Rattle.oe_population.proofs.FillFacts.{fill_start, fill_step, fill_free, fills_by, free_empty}
 use Rattle.oe_population.proofs.KeyTests.{same_ordinal, all_districts}
-use Rattle.oe_keys.specs.declared.keys.DistrictKey.{DistrictKey}
+use Rattle.oe_rows.specs.declared.keys.DistrictKey.{DistrictKey}
 use Rattle.oe_population.proofs.fills.histories.Goals as goal
 
 pub loop-ordinal-init : goal.loop-ordinal-init

@@ -1,13 +1,13 @@
 use Rattle.std.proofs.Common.{◌+◌, ◌<◌, ◌∙◌, ap, refl, arith}
 use Rattle.std.specs.Ordering.{eq_by_cmp}
 use Rattle.std.specs.FinMap.{insert, empty}
-use Rattle.oe_keys.specs.Key.{item_cmp}
-use Rattle.oe_keys.proofs.KeyFacts.{item_total, exact_item}
+use Rattle.oe_rows.specs.Key.{item_cmp}
+use Rattle.oe_rows.proofs.KeyFacts.{item_total, exact_item}
 use Rattle.oe_model.specs.Population.{item_of}
 use Rattle.oe_model.proofs.MapFacts.{is_self}
 use Rattle.oe_population.proofs.FillFacts.{fill_start, fill_step, fill_free, fills_put, free_empty}
 use Rattle.oe_population.proofs.KeyTests.{same_item}
-use Rattle.oe_keys.specs.declared.keys.ItemKey.{ItemKey}
+use Rattle.oe_rows.specs.declared.keys.ItemKey.{ItemKey}
 use Rattle.oe_population.proofs.fills.items.Goals as goal
 
 pub loop-before-init : goal.loop-before-init

@@ -1,5 +1,5 @@
 use Rattle.std.specs.FinMap.{empty}
-use Rattle.oe_keys.specs.Key.{item_cmp}
+use Rattle.oe_rows.specs.Key.{item_cmp}
 use Rattle.oe_table.specs.Table.{rows_of}
 use Rattle.oe_model.specs.Population.{counts_to, item_of}
 use Rattle.oe_population.specs.Fill.{Fills}

@@ -1,13 +1,13 @@
 use Rattle.std.proofs.Common.{◌≡◌, ◌+◌, ◌*◌, ◌/◌, ◌%◌, ◌<◌, ap, refl, arith}
 use Rattle.std.specs.Prelude.{◌&&◌}
 use Rattle.std.specs.FinMap.{empty}
-use Rattle.oe_keys.specs.Key.{order_line_cmp}
+use Rattle.oe_rows.specs.Key.{order_line_cmp}
 use Rattle.oe_model.specs.Keys.{district_of_order, order_of_line}
 use Rattle.oe_model.specs.Population.{counts_to, line_of, lines_of}
 use Rattle.oe_population.specs.Group.{is_any_district, district_count, lines_in}
 use Rattle.oe_population.proofs.FillFacts.{fill_start, fill_step, fill_free, fills_by, free_empty}
 use Rattle.oe_population.proofs.KeyTests.{same_ordinal, all_districts}
-use Rattle.oe_keys.specs.declared.keys.DistrictKey.{DistrictKey}
+use Rattle.oe_rows.specs.declared.keys.DistrictKey.{DistrictKey}
 use Rattle.oe_population.proofs.fills.order_lines.Goals as goal
 
 pub loop-ordinal-init : goal.loop-ordinal-init

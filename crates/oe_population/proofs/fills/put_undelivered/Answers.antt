@@ -1,8 +1,8 @@
 use Rattle.std.proofs.Common.{◌<◌, arith}
 use Rattle.std.specs.Ordering.{eq_by_cmp}
 use Rattle.std.proofs.lemmas.Result.{on_ok_weaker}
-use Rattle.oe_keys.specs.Key.{new_order_cmp}
-use Rattle.oe_keys.proofs.KeyFacts.{new_order_total, exact_new_order}
+use Rattle.oe_rows.specs.Key.{new_order_cmp}
+use Rattle.oe_rows.proofs.KeyFacts.{new_order_total, exact_new_order}
 use Rattle.oe_model.specs.Population.{last_delivered}
 use Rattle.oe_population.specs.Group.{no_columns, is_new_order}
 use Rattle.oe_population.proofs.FillFacts.{fills_put, fills_by}

@@ -1,7 +1,7 @@
 use Rattle.std.proofs.Common.{◌+◌, ◌<◌, refl, arith}
 use Rattle.std.specs.Prelude.{◌&&◌}
 use Rattle.std.specs.FinMap.{empty}
-use Rattle.oe_keys.specs.Key.{stock_cmp}
+use Rattle.oe_rows.specs.Key.{stock_cmp}
 use Rattle.oe_model.specs.Population.{counts_to, stock_of}
 use Rattle.oe_population.specs.Group.{stocks_in}
 use Rattle.oe_population.proofs.FillFacts.{fill_start, fill_step, fill_free, free_empty}

@@ -1,13 +1,13 @@
 use Rattle.std.proofs.Common.{◌+◌, ◌<◌, ◌∙◌, ap, refl, arith}
 use Rattle.std.specs.Ordering.{eq_by_cmp}
 use Rattle.std.specs.FinMap.{insert, empty}
-use Rattle.oe_keys.specs.Key.{warehouse_cmp}
-use Rattle.oe_keys.proofs.KeyFacts.{warehouse_total, exact_warehouse}
+use Rattle.oe_rows.specs.Key.{warehouse_cmp}
+use Rattle.oe_rows.proofs.KeyFacts.{warehouse_total, exact_warehouse}
 use Rattle.oe_model.specs.Population.{warehouse_of}
 use Rattle.oe_model.proofs.MapFacts.{is_self}
 use Rattle.oe_population.proofs.FillFacts.{fill_start, fill_step, fill_free, fills_put, free_empty}
 use Rattle.oe_population.proofs.KeyTests.{same_warehouse}
-use Rattle.oe_keys.specs.declared.keys.WarehouseKey.{WarehouseKey}
+use Rattle.oe_rows.specs.declared.keys.WarehouseKey.{WarehouseKey}
 use Rattle.oe_population.proofs.fills.warehouses.Goals as goal
 
 pub loop-before-init : goal.loop-before-init

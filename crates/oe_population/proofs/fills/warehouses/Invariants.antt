@@ -1,5 +1,5 @@
 use Rattle.std.specs.FinMap.{empty}
-use Rattle.oe_keys.specs.Key.{warehouse_cmp}
+use Rattle.oe_rows.specs.Key.{warehouse_cmp}
 use Rattle.oe_table.specs.Table.{rows_of}
 use Rattle.oe_model.specs.Population.{counts_to, warehouse_of}
 use Rattle.oe_population.specs.Fill.{Fills}

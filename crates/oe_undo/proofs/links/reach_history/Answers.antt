@@ -1,7 +1,7 @@
 use Rattle.std.proofs.Common.{rules, ◌≡◌, ◌∙◌, ap, None, is_some}
 use Rattle.std.specs.FinMap.{get}
 use Rattle.std.proofs.lemmas.Result.{on_ok_weaker}
-use Rattle.oe_keys.specs.Key.{history_cmp}
+use Rattle.oe_rows.specs.Key.{history_cmp}
 use Rattle.oe_table.specs.Table.{rows_of}
 use Rattle.oe_undo.proofs.LinkFacts.{history_given, history_own}
 use Rattle.oe_undo.proofs.links.reach_history.Goals as goal

@@ -1,4 +1,4 @@
-use Rattle.oe_keys.specs.Key.{history_cmp}
+use Rattle.oe_rows.specs.Key.{history_cmp}
 use Rattle.oe_table.specs.Table.{rows_of}
 use Rattle.oe_undo.proofs.LinkFacts.{history_put, on_row}
 use Rattle.oe_undo.proofs.links.set_history.Goals as goal

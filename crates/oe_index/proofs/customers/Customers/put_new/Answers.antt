@@ -1,4 +1,4 @@
-use Rattle.oe_keys.proofs.KeyFacts.{customer_total, exact_customer}
+use Rattle.oe_rows.proofs.KeyFacts.{customer_total, exact_customer}
 use Rattle.oe_index.specs.Numbers.{list_of_name}
 use Rattle.oe_index.proofs.FoundFacts.{listed-more, listed-put}
 use Rattle.oe_index.proofs.customers.Customers.put_new.Goals as goal

@@ -1,8 +1,8 @@
 use Rattle.std.proofs.Common.{refl, subst}
-use Rattle.oe_keys.specs.Key.{customer_cmp}
+use Rattle.oe_rows.specs.Key.{customer_cmp}
 use Rattle.oe_rows.specs.declared.customers.Customer.{Customer}
 use Rattle.oe_table.specs.Table.{rows_of, RewritesRow}
-use Rattle.oe_keys.proofs.KeyFacts.{customer_total, exact_customer}
+use Rattle.oe_rows.proofs.KeyFacts.{customer_total, exact_customer}
 use Rattle.oe_index.specs.Numbers.{list_of_name}
 use Rattle.oe_index.proofs.FoundFacts.{on_row, row_was, same_row, listed-set}
 use Rattle.oe_index.proofs.customers.Customers.set_account.Goals as goal

@@ -1,5 +1,5 @@
-use Rattle.oe_keys.specs.Key.{customer_cmp}
-use Rattle.oe_keys.proofs.KeyFacts.{customer_total, exact_customer}
+use Rattle.oe_rows.specs.Key.{customer_cmp}
+use Rattle.oe_rows.proofs.KeyFacts.{customer_total, exact_customer}
 use Rattle.oe_table.specs.Table.{rows_of}
 use Rattle.oe_index.specs.Numbers.{list_of_name}
 use Rattle.oe_index.proofs.FoundFacts.{listed-swap}

@@ -1,5 +1,5 @@
 use Rattle.std.proofs.Common.{true}
-use Rattle.oe_keys.specs.Key.{order_cmp}
+use Rattle.oe_rows.specs.Key.{order_cmp}
 use Rattle.oe_table.specs.Table.{rows_of}
 use Rattle.oe_index.specs.Numbers.{list_of_owner}
 use Rattle.oe_index.proofs.FoundFacts.{listed-none}

@@ -1,7 +1,7 @@
 use Rattle.std.proofs.Common.{ap, subst}
 use Rattle.std.specs.Prelude.{◌&&◌}
-use Rattle.oe_keys.specs.Key.{order_cmp}
-use Rattle.oe_keys.proofs.KeyFacts.{order_total, exact_order}
+use Rattle.oe_rows.specs.Key.{order_cmp}
+use Rattle.oe_rows.proofs.KeyFacts.{order_total, exact_order}
 use Rattle.oe_table.specs.Table.{rows_of}
 use Rattle.oe_index.specs.Numbers.{list_of_owner}
 use Rattle.oe_index.proofs.FoundFacts.{both_true, listed-more, listed-less, listed-put}

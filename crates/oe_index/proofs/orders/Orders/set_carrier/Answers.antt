@@ -1,6 +1,6 @@
 use Rattle.std.proofs.Common.{refl, subst, Some}
-use Rattle.oe_keys.specs.Key.{order_cmp}
-use Rattle.oe_keys.proofs.KeyFacts.{order_total, exact_order}
+use Rattle.oe_rows.specs.Key.{order_cmp}
+use Rattle.oe_rows.proofs.KeyFacts.{order_total, exact_order}
 use Rattle.oe_rows.specs.declared.orders.Order.{Order}
 use Rattle.oe_table.specs.Table.{rows_of, RewritesRow}
 use Rattle.oe_index.specs.Numbers.{list_of_owner}

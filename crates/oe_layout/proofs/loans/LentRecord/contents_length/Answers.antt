@@ -1,5 +1,5 @@
 -- The key's length, and the row's, are sums of widths and of lengths of texts.
-use Rattle.oe_keys.specs.declared.keys.Key.TheVariants as key
+use Rattle.oe_rows.specs.declared.keys.Key.TheVariants as key
 use Rattle.oe_rows.specs.declared.rows.Row.TheVariants as row
 use Rattle.oe_layout.proofs.LengthFacts.{key_alone, key_and_row, warehouse_long, district_long, customer_long, order_long, order_line_long, stock_long}
 use Rattle.oe_layout.proofs.loans.LentRecord.contents_length.Goals as goal

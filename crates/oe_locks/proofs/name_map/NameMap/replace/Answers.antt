@@ -1,6 +1,6 @@
 use Rattle.std.proofs.Common.{◌++◌, Some, IsSome, ap, ◌∙◌, subst}
 use Rattle.std.specs.Map.{lookup}
-use Rattle.oe_keys.specs.contracts.locks.NamePartialEq.TheImpl.{ghosts}
+use Rattle.oe_rows.specs.contracts.locks.NamePartialEq.TheImpl.{ghosts}
 use Rattle.oe_locks.proofs.MapFacts.{found-later, changes-front, changes-back}
 use Rattle.oe_locks.proofs.name_map.NameMap.replace.Goals as goal
 

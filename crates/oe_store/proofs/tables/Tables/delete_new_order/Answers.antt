@@ -1,5 +1,5 @@
 use Rattle.std.proofs.Common.{None}
-use Rattle.oe_keys.proofs.KeyFacts.{new_order_total, exact_new_order}
+use Rattle.oe_rows.proofs.KeyFacts.{new_order_total, exact_new_order}
 use Rattle.oe_model.specs.Changes.{DeleteNewOrder}
 use Rattle.oe_store.proofs.PlaceFacts.{place_of_row, same_new_orders}
 use Rattle.oe_store.proofs.SoundFacts.{sound_changed, new_order_numbered}

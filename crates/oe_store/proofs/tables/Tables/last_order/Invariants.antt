@@ -1,7 +1,7 @@
 use Rattle.std.proofs.Common.{◌≡◌}
 use Rattle.std.specs.Prelude.{filter, option_map}
 use Rattle.std.specs.Ordering.{eq_by_cmp}
-use Rattle.oe_keys.specs.Key.{customer_cmp}
+use Rattle.oe_rows.specs.Key.{customer_cmp}
 use Rattle.oe_model.specs.Keys.{customer_of_order}
 use Rattle.oe_model.specs.Queries.{last_order}
 use Rattle.oe_store.specs.Places.{rows}

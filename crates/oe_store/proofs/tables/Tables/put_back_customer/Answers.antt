@@ -1,5 +1,5 @@
 use Rattle.std.proofs.Common.{Some}
-use Rattle.oe_keys.proofs.KeyFacts.{customer_total, exact_customer}
+use Rattle.oe_rows.proofs.KeyFacts.{customer_total, exact_customer}
 use Rattle.oe_model.specs.Changes.{UpdatedCustomer}
 use Rattle.oe_store.proofs.PlaceFacts.{place_of_row, same_customers}
 use Rattle.oe_store.proofs.SoundFacts.{sound_put_back, customer_numbered}

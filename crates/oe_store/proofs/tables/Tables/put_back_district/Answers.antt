@@ -1,5 +1,5 @@
 use Rattle.std.proofs.Common.{Some}
-use Rattle.oe_keys.proofs.KeyFacts.{district_total, exact_district}
+use Rattle.oe_rows.proofs.KeyFacts.{district_total, exact_district}
 use Rattle.oe_model.specs.Changes.{UpdatedDistrict}
 use Rattle.oe_store.proofs.PlaceFacts.{place_of_row, same_districts}
 use Rattle.oe_store.proofs.SoundFacts.{sound_put_back, district_numbered}

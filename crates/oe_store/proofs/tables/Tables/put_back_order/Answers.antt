@@ -1,5 +1,5 @@
 use Rattle.std.proofs.Common.{Some}
-use Rattle.oe_keys.proofs.KeyFacts.{order_total, exact_order}
+use Rattle.oe_rows.proofs.KeyFacts.{order_total, exact_order}
 use Rattle.oe_model.specs.Changes.{UpdatedOrder}
 use Rattle.oe_store.proofs.PlaceFacts.{place_of_row, same_orders}
 use Rattle.oe_store.proofs.SoundFacts.{sound_put_back, order_numbered}

@@ -1,5 +1,5 @@
 use Rattle.std.proofs.Common.{Some}
-use Rattle.oe_keys.proofs.KeyFacts.{stock_total, exact_stock}
+use Rattle.oe_rows.proofs.KeyFacts.{stock_total, exact_stock}
 use Rattle.oe_model.specs.Changes.{UpdatedStock}
 use Rattle.oe_store.proofs.PlaceFacts.{place_of_row, same_stocks}
 use Rattle.oe_store.proofs.SoundFacts.{sound_put_back}

@@ -1,5 +1,5 @@
 use Rattle.std.proofs.Common.{Some}
-use Rattle.oe_keys.proofs.KeyFacts.{new_order_total, exact_new_order}
+use Rattle.oe_rows.proofs.KeyFacts.{new_order_total, exact_new_order}
 use Rattle.oe_model.specs.Changes.{DeletedNewOrder}
 use Rattle.oe_store.proofs.PlaceFacts.{blanked_without_row, same_new_orders}
 use Rattle.oe_store.proofs.SoundFacts.{sound_put_back, refilled_numbered}

@@ -1,5 +1,5 @@
 use Rattle.std.proofs.Common.{None}
-use Rattle.oe_keys.proofs.KeyFacts.{history_total, exact_history}
+use Rattle.oe_rows.proofs.KeyFacts.{history_total, exact_history}
 use Rattle.oe_model.specs.Changes.{InsertedHistory}
 use Rattle.oe_store.proofs.PlaceFacts.{place_of_row, same_histories}
 use Rattle.oe_store.proofs.SoundFacts.{sound_put_back}

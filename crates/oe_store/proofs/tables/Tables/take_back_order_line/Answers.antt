@@ -1,5 +1,5 @@
 use Rattle.std.proofs.Common.{None}
-use Rattle.oe_keys.proofs.KeyFacts.{order_line_total, exact_order_line}
+use Rattle.oe_rows.proofs.KeyFacts.{order_line_total, exact_order_line}
 use Rattle.oe_model.specs.Changes.{InsertedOrderLine}
 use Rattle.oe_store.proofs.PlaceFacts.{place_of_row, same_order_lines}
 use Rattle.oe_store.proofs.SoundFacts.{sound_put_back, order_line_numbered}

@@ -1,6 +1,6 @@
 use Rattle.std.proofs.Common.{Some, ap}
 use Rattle.std.specs.Prelude.{is_some}
-use Rattle.oe_keys.proofs.KeyFacts.{customer_total, exact_customer}
+use Rattle.oe_rows.proofs.KeyFacts.{customer_total, exact_customer}
 use Rattle.oe_model.specs.Changes.{UpdateCustomer}
 use Rattle.oe_store.proofs.PlaceFacts.{place_of_row, same_customers}
 use Rattle.oe_store.proofs.SoundFacts.{sound_changed, customer_numbered}

@@ -1,6 +1,6 @@
 use Rattle.std.proofs.Common.{Some, ap}
 use Rattle.std.specs.Prelude.{is_some}
-use Rattle.oe_keys.proofs.KeyFacts.{order_total, exact_order}
+use Rattle.oe_rows.proofs.KeyFacts.{order_total, exact_order}
 use Rattle.oe_model.specs.Changes.{UpdateOrder}
 use Rattle.oe_store.proofs.PlaceFacts.{place_of_row, same_orders}
 use Rattle.oe_store.proofs.SoundFacts.{sound_changed, order_numbered}

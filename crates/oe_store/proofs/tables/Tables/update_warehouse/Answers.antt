@@ -1,5 +1,5 @@
 use Rattle.std.proofs.Common.{Some}
-use Rattle.oe_keys.proofs.KeyFacts.{warehouse_total, exact_warehouse}
+use Rattle.oe_rows.proofs.KeyFacts.{warehouse_total, exact_warehouse}
 use Rattle.oe_model.specs.Changes.{UpdateWarehouse}
 use Rattle.oe_store.proofs.PlaceFacts.{place_of_row, same_warehouses}
 use Rattle.oe_store.proofs.SoundFacts.{sound_changed}

@@ -1,5 +1,5 @@
 use Rattle.std.proofs.lemmas.Result.{on_ok_weaker}
-use Rattle.oe_keys.specs.Key.{history_cmp}
+use Rattle.oe_rows.specs.Key.{history_cmp}
 use Rattle.oe_table.specs.Table.{rows_of}
 use Rattle.oe_undo.specs.contracts.links.Links.{the_view}
 use Rattle.oe_undo.proofs.LinkFacts.{give_warehouses, give_districts, give_customers, give_histories, give_new_orders, give_orders, give_order_lines, give_items, give_stocks}

@@ -1,6 +1,6 @@
 use Rattle.std.specs.Prelude.{Some}
 use Rattle.std.proofs.lemmas.Result.{on_ok_weaker}
-use Rattle.oe_keys.specs.Key.{history_cmp}
+use Rattle.oe_rows.specs.Key.{history_cmp}
 use Rattle.oe_table.specs.Table.{rows_of}
 use Rattle.oe_undo.specs.contracts.links.Links.{the_view}
 use Rattle.oe_undo.proofs.LinkFacts.{insert_warehouses, insert_districts, insert_customers, insert_histories, insert_new_orders, insert_orders, insert_order_lines, insert_items, insert_stocks, history_put}

@@ -1,6 +1,6 @@
 -- Each table's place, and the links with what was last written there.
 use Rattle.std.proofs.Common.{refl, ap}
-use Rattle.oe_keys.specs.Key.{history_cmp}
+use Rattle.oe_rows.specs.Key.{history_cmp}
 use Rattle.oe_table.specs.Table.{rows_of}
 use Rattle.oe_undo.specs.contracts.links.Links.{the_view}
 use Rattle.oe_undo.proofs.LinkFacts.{on_some_always, on_some_weaker}

@@ -1,4 +1,4 @@
-use Rattle.oe_keys.specs.Key.{history_cmp}
+use Rattle.oe_rows.specs.Key.{history_cmp}
 use Rattle.oe_table.specs.Table.{rows_of}
 use Rattle.oe_undo.specs.contracts.links.Links.{the_view}
 use Rattle.oe_undo.proofs.LinkFacts.{set_warehouses, set_districts, set_customers, set_histories, set_new_orders, set_orders, set_order_lines, set_items, set_stocks}

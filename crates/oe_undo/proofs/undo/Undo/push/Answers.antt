@@ -1,6 +1,6 @@
 -- A record more, behind the one to which its key's link led.
 use Rattle.std.proofs.Common.{◌≡◌, sym, ap, subst, ◌∙◌, Option, Some, is_some}
-use Rattle.oe_keys.specs.declared.keys.Key.{Key}
+use Rattle.oe_rows.specs.declared.keys.Key.{Key}
 use Rattle.oe_model.specs.Changes.{record_key}
 use Rattle.oe_layout.specs.Records.{record_of_lent}
 use Rattle.oe_log.specs.Records.{logged}

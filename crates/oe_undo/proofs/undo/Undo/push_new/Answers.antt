@@ -1,6 +1,6 @@
 -- A record more of a key that has no place for a link yet; or it is taken off again, since memory was refused for that.
 use Rattle.std.proofs.Common.{◌≡◌, sym, ap, subst, ◌∙◌, Some, None}
-use Rattle.oe_keys.specs.declared.keys.Key.{Key}
+use Rattle.oe_rows.specs.declared.keys.Key.{Key}
 use Rattle.oe_model.specs.Changes.{record_key}
 use Rattle.oe_layout.specs.Records.{record_of_lent}
 use Rattle.oe_log.specs.Records.{logged}

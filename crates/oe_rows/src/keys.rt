@@ -3,7 +3,7 @@
 //! A key has the columns of its table's primary key, in their order, each in its range by its type; its order is theirs from the
 //! left. Nothing can fail, and nothing takes memory.
 ghost use Rattle.std.specs.Prelude.{◌≡◌};
-ghost use Rattle.oe_keys.specs.Key.{table_of, table_name, IsDistrictKey, IsCustomerKey};
+ghost use Rattle.oe_rows.specs.Key.{table_of, table_name, IsDistrictKey, IsCustomerKey};
 
 use oe_values::numbers::{
     CustomerNumber, DistrictNumber, HistoryOrdinal, HistoryTerminal, ItemNumber, LineNumber,

@@ -1,6 +1,6 @@
 //! The nine keys as keys of tables: the order of each tells any two keys apart, and its numbers say where its row lies.
 ghost use Rattle.std.specs.Prelude.{◌≡◌, ◌<◌};
-ghost use Rattle.oe_keys.specs.KeyShelves.{district_shelf};
+ghost use Rattle.oe_rows.specs.KeyShelves.{district_shelf};
 
 use crate::keys::{
     CustomerKey, DistrictKey, HistoryKey, ItemKey, NewOrderKey, OrderKey, OrderLineKey, StockKey,
@@ -9,55 +9,55 @@ use crate::keys::{
 use oe_values::{DistrictNumber, ShelvedKey, TableKey, WarehouseNumber};
 
 impl TableKey for WarehouseKey {
-    ghost use Rattle.oe_keys.specs.ExactKeys.{exact_warehouse};
+    ghost use Rattle.oe_rows.specs.ExactKeys.{exact_warehouse};
 
     ghost exact = { exact_warehouse };
 }
 
 impl TableKey for DistrictKey {
-    ghost use Rattle.oe_keys.specs.ExactKeys.{exact_district};
+    ghost use Rattle.oe_rows.specs.ExactKeys.{exact_district};
 
     ghost exact = { exact_district };
 }
 
 impl TableKey for CustomerKey {
-    ghost use Rattle.oe_keys.specs.ExactKeys.{exact_customer};
+    ghost use Rattle.oe_rows.specs.ExactKeys.{exact_customer};
 
     ghost exact = { exact_customer };
 }
 
 impl TableKey for HistoryKey {
-    ghost use Rattle.oe_keys.specs.ExactKeys.{exact_history};
+    ghost use Rattle.oe_rows.specs.ExactKeys.{exact_history};
 
     ghost exact = { exact_history };
 }
 
 impl TableKey for NewOrderKey {
-    ghost use Rattle.oe_keys.specs.ExactKeys.{exact_new_order};
+    ghost use Rattle.oe_rows.specs.ExactKeys.{exact_new_order};
 
     ghost exact = { exact_new_order };
 }
 
 impl TableKey for OrderKey {
-    ghost use Rattle.oe_keys.specs.ExactKeys.{exact_order};
+    ghost use Rattle.oe_rows.specs.ExactKeys.{exact_order};
 
     ghost exact = { exact_order };
 }
 
 impl TableKey for OrderLineKey {
-    ghost use Rattle.oe_keys.specs.ExactKeys.{exact_order_line};
+    ghost use Rattle.oe_rows.specs.ExactKeys.{exact_order_line};
 
     ghost exact = { exact_order_line };
 }
 
 impl TableKey for ItemKey {
-    ghost use Rattle.oe_keys.specs.ExactKeys.{exact_item};
+    ghost use Rattle.oe_rows.specs.ExactKeys.{exact_item};
 
     ghost exact = { exact_item };
 }
 
 impl TableKey for StockKey {
-    ghost use Rattle.oe_keys.specs.ExactKeys.{exact_stock};
+    ghost use Rattle.oe_rows.specs.ExactKeys.{exact_stock};
 
     ghost exact = { exact_stock };
 }
@@ -72,7 +72,7 @@ fn district_shelf(warehouse: WarehouseNumber, district: DistrictNumber) -> usize
 }
 
 impl ShelvedKey for WarehouseKey {
-    ghost use Rattle.oe_keys.specs.KeyShelves.{warehouse_ascends};
+    ghost use Rattle.oe_rows.specs.KeyShelves.{warehouse_ascends};
 
     ghost shelf_of = { λ k. 0 };
 
@@ -90,7 +90,7 @@ impl ShelvedKey for WarehouseKey {
 }
 
 impl ShelvedKey for DistrictKey {
-    ghost use Rattle.oe_keys.specs.KeyShelves.{district_ascends};
+    ghost use Rattle.oe_rows.specs.KeyShelves.{district_ascends};
 
     ghost shelf_of = { λ k. 0 };
 
@@ -108,7 +108,7 @@ impl ShelvedKey for DistrictKey {
 }
 
 impl ShelvedKey for CustomerKey {
-    ghost use Rattle.oe_keys.specs.KeyShelves.{customer_ascends};
+    ghost use Rattle.oe_rows.specs.KeyShelves.{customer_ascends};
 
     ghost shelf_of = { λ k. district_shelf k.warehouse k.district };
 
@@ -126,7 +126,7 @@ impl ShelvedKey for CustomerKey {
 }
 
 impl ShelvedKey for HistoryKey {
-    ghost use Rattle.oe_keys.specs.KeyShelves.{history_ascends};
+    ghost use Rattle.oe_rows.specs.KeyShelves.{history_ascends};
 
     ghost shelf_of = { λ k. k.terminal };
 
@@ -144,7 +144,7 @@ impl ShelvedKey for HistoryKey {
 }
 
 impl ShelvedKey for NewOrderKey {
-    ghost use Rattle.oe_keys.specs.KeyShelves.{new_order_ascends};
+    ghost use Rattle.oe_rows.specs.KeyShelves.{new_order_ascends};
 
     ghost shelf_of = { λ k. district_shelf k.warehouse k.district };
 
@@ -162,7 +162,7 @@ impl ShelvedKey for NewOrderKey {
 }
 
 impl ShelvedKey for OrderKey {
-    ghost use Rattle.oe_keys.specs.KeyShelves.{order_ascends};
+    ghost use Rattle.oe_rows.specs.KeyShelves.{order_ascends};
 
     ghost shelf_of = { λ k. district_shelf k.warehouse k.district };
 
@@ -180,7 +180,7 @@ impl ShelvedKey for OrderKey {
 }
 
 impl ShelvedKey for OrderLineKey {
-    ghost use Rattle.oe_keys.specs.KeyShelves.{order_line_ascends};
+    ghost use Rattle.oe_rows.specs.KeyShelves.{order_line_ascends};
 
     ghost shelf_of = { λ k. district_shelf k.warehouse k.district };
 
@@ -198,7 +198,7 @@ impl ShelvedKey for OrderLineKey {
 }
 
 impl ShelvedKey for ItemKey {
-    ghost use Rattle.oe_keys.specs.KeyShelves.{item_ascends};
+    ghost use Rattle.oe_rows.specs.KeyShelves.{item_ascends};
 
     ghost shelf_of = { λ k. 0 };
 
@@ -216,7 +216,7 @@ impl ShelvedKey for ItemKey {
 }
 
 impl ShelvedKey for StockKey {
-    ghost use Rattle.oe_keys.specs.KeyShelves.{stock_ascends};
+    ghost use Rattle.oe_rows.specs.KeyShelves.{stock_ascends};
 
     ghost shelf_of = { λ k. k.warehouse };
 

@@ -1,2 +1,0 @@
-pub mod ColumnFacts
-pub mod KeyFacts
