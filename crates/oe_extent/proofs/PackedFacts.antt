@@ -4,7 +4,7 @@ use Rattle.std.proofs.lemmas.List.{length-append, append-nil, drop-take, take_at
 use Rattle.std.specs.List.{AllByRecursion}
 use Rattle.byteorder.specs.Endian.{big_number}
 use Rattle.byteorder.specs.Numbers.{big_from-append}
-use Rattle.oe_extent.specs.Spelling.{Writes}
+use Rattle.oe_extent.specs.Images.{Writes}
 use Rattle.oe_extent.specs.Strings.{last_length, IsFramed, joined, cut, AreStrings, IsPacked}
 
 pub last_is : (bytes : List ℕ) (size : ℕ) → size ≡ big_number 2 (take (length bytes - (length bytes - 2)) (drop (length bytes - 2) bytes))

@@ -2,7 +2,7 @@
 use Rattle.std.proofs.Common.{◌≡◌, ℕ, ◌+◌, ◌-◌, ◌≤◌, List, ◌++◌, length, take, drop, refl, sym, ap, ◌∙◌, arith, append_assoc}
 use Rattle.std.proofs.lemmas.List.{take-append-drop, take-append-le, take-take, take_at, drop_at, drop-append-le, drop-drop, drop-take, length-append, length-take, length-drop}
 use borrow.Rule.Slice.PartMut.{put_mid}
-use Rattle.oe_extent.specs.Spelling.{Writes}
+use Rattle.oe_extent.specs.Images.{Writes}
 
 -- a text put at its offset
 Writes-put : (old : List ℕ) (start : ℕ) (text tail : List ℕ) → start + length text ≤ length old → tail ≡ text ++ drop (length text) (drop start old)

@@ -1,5 +1,5 @@
 -- What the clauses of this crate cite.
-pub mod Spelling
+pub mod Images
 pub mod Laws
 pub mod Strings
 pub mod Extents

@@ -1,7 +1,7 @@
 //! Runs of bytes whose length lies in a range that is known where they are written. A short one is copied by moves of 1 to 16 bytes,
 //! since a call of the C library costs more than the copy.
 ghost use Rattle.std.specs.Prelude.{◌≡◌, ◌≤◌, ◌+◌, length, take, drop};
-ghost use Rattle.oe_extent.specs.Spelling.{Writes};
+ghost use Rattle.oe_extent.specs.Images.{Writes};
 
 use crate::runs::write_run;
 

@@ -7,8 +7,8 @@ ghost use Rattle.std.specs.Prelude.{◌≡◌, ◌<◌, ◌≤◌, ◌+◌, [], 
 ghost use Rattle.oe_extent.specs.Strings.{IsFramed, HasOffset, IsStringFrom};
 ghost use Rattle.oe_extent.specs.Extents.{number_of, numbers_of, strings_at, contents_in, newest_strings, rest_of, end_of, first_string, with_string, without_newest, IsEmptyExtent, LosesString, LosesExtent};
 
+use crate::images::Written;
 use crate::packing::PackedStrings;
-use crate::spellings::Written;
 use std::alloc::{AllocError, Global};
 use std::marker::Model;
 
@@ -126,9 +126,9 @@ impl ExtentList {
     /// Appends a string to the newest extent.
     #[inline(always)]
     pub(crate) fn push<S: Written>(&mut self, string: &S)
-        requires framed { IsFramed (S.spelling string.now) }
-        requires rest { length (S.spelling string.now) ≤ rest_of self.old }
-        ensures { self.new ≡ with_string (S.spelling string.now) self.old }
+        requires framed { IsFramed (S.image string.now) }
+        requires rest { length (S.image string.now) ≤ rest_of self.old }
+        ensures { self.new ≡ with_string (S.image string.now) self.old }
     {
         match &mut self.newest {
             Some(extent) => extent.strings.push(string),
@@ -152,9 +152,9 @@ impl ExtentList {
     #[tactic(auto, unfolding(crate::specs::Strings::joined))]
     pub(crate) fn push_new<S: Written>(&mut self, number: usize, extent: Box<Extent>, string: &S)
         requires fresh { IsEmptyExtent number extent.value }
-        requires framed { IsFramed (S.spelling string.now) }
-        requires small { length (S.spelling string.now) ≤ 4096 }
-        ensures { self.new ≡ first_string number (S.spelling string.now) ∷ self.old }
+        requires framed { IsFramed (S.image string.now) }
+        requires small { length (S.image string.now) ≤ 4096 }
+        ensures { self.new ≡ first_string number (S.image string.now) ∷ self.old }
     {
         self.add(number, extent);
         self.push(string);

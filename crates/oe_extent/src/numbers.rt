@@ -1,7 +1,7 @@
 //! Numbers, most significant byte first.
 ghost use Rattle.std.specs.Prelude.{◌≡◌, ◌≤◌, ◌<◌, ◌+◌, ◌^◌, length, IfSome};
 ghost use Rattle.std.specs.Option.{option_map};
-ghost use Rattle.oe_extent.specs.Spelling.{Writes, number, number_at};
+ghost use Rattle.oe_extent.specs.Images.{Writes, number, number_at};
 
 use byteorder::{BigEndian, ByteOrder};
 

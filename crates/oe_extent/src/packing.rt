@@ -2,7 +2,7 @@
 ghost use Rattle.std.specs.Prelude.{◌≡◌, ◌<◌, ◌≤◌, ◌+◌, [], ◌∷◌, length, drop};
 ghost use Rattle.oe_extent.specs.Strings.{last_length, joined, IsFramed, HasOffset, IsStringFrom};
 
-use crate::spellings::Written;
+use crate::images::Written;
 use crate::walks::ExtentStrings;
 use byteorder::{BigEndian, ByteOrder};
 use std::marker::Model;
@@ -107,9 +107,9 @@ impl PackedStrings {
     /// Appends a string, which is written where it is to stand.
     #[inline(always)]
     pub(crate) fn push<S: Written>(&mut self, string: &S)
-        requires framed { IsFramed (S.spelling string.now) }
-        requires room { length (joined self.old) + length (S.spelling string.now) ≤ 4096 }
-        ensures { self.new ≡ S.spelling string.now ∷ self.old }
+        requires framed { IsFramed (S.image string.now) }
+        requires room { length (joined self.old) + length (S.image string.now) ≤ 4096 }
+        ensures { self.new ≡ S.image string.now ∷ self.old }
     {
         self.fill = string.write(&mut self.bytes, self.fill);
         self.count += 1;

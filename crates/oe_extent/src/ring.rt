@@ -10,8 +10,8 @@ ghost use Rattle.oe_extent.specs.Strings.{IsFramed};
 ghost use Rattle.oe_extent.specs.Ring.{used_of, IsFull, IsFresh, no_strings, pushed_at, popped_at, sealed_at, reopened_at, newest_bytes, strings_of, without_oldest, capacity_of, HasAddress, IsStringAt};
 
 use crate::extents::{Address, ExtentList};
+use crate::images::Written;
 use crate::pools::Pool;
-use crate::spellings::Written;
 use crate::walks::Strings;
 use std::alloc::{AllocError, Global};
 use std::collections::VecDeque;
@@ -118,12 +118,12 @@ impl Ring {
     /// Appends a string of 4 to 4,096 bytes to a slot's strings, and answers its address, where no other string is.
     pub fn push<S: Written>(&mut self, slot: usize, string: &S) -> Result<Address, Full>
         requires slot { slot < length self.old.active }
-        requires framed { IsFramed (S.spelling string.now) }
-        requires small { length (S.spelling string.now) ≤ 4096 }
+        requires framed { IsFramed (S.image string.now) }
+        requires small { length (S.image string.now) ≤ 4096 }
         ensures pushed { IfOk result (λ a.
-            self.new ≡ pushed_at self.old slot a (S.spelling string.now)) }
+            self.new ≡ pushed_at self.old slot a (S.image string.now)) }
         ensures same { OnErr result (self.new ≡ self.old) }
-        ensures full { IsErr result ↔ IsFull self.old slot (length (S.spelling string.now)) }
+        ensures full { IsErr result ↔ IsFull self.old slot (length (S.image string.now)) }
         ensures fresh { IfOk result (IsFresh self.old) }
         ensures extent { IfOk result (λ a. a.extent < self.old.extents) }
         ensures offset { IfOk result (λ a. a.offset < 4096) }

@@ -1,7 +1,7 @@
 //! Runs of bytes.
 ghost use Rattle.std.specs.Prelude.{◌≡◌, ◌≤◌, ◌+◌, length};
 ghost use Rattle.std.specs.Option.{option_map};
-ghost use Rattle.oe_extent.specs.Spelling.{Writes, run_at};
+ghost use Rattle.oe_extent.specs.Images.{Writes, run_at};
 
 /// Writes a run of bytes from offset `start` on, and answers the offset behind it.
 #[inline]

@@ -11,7 +11,7 @@ use Rattle.std.proofs.lemmas.List.Sums.{AllPass-from_list_all, list_all-from_All
 use Rattle.std.proofs.lemmas.Int.{ints, to_z-of_z, of_z-to_z}
 use Rattle.std.proofs.Math.Facts.{sfits_to_z, Fits-of_z, Fits-of_lt, Fits-lt-pow}
 use Rattle.byteorder.specs.Endian.{big_bytes}
-use Rattle.oe_extent.specs.Spelling.{number, number_at, run_at}
+use Rattle.oe_extent.specs.Images.{number, number_at, run_at}
 use Rattle.oe_values.specs.Number.{IsWithin}
 use Rattle.oe_values.specs.Text.{IsText, IsPrintable}
 use Rattle.oe_rows.specs.declared.customers.Credit.{Credit}

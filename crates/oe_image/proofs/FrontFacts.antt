@@ -1,4 +1,4 @@
--- What is read of bytes is spelled there, and what is spelled there is read: of a number, and of what is made of such parts.
+-- What is read of bytes is an image that stands there, and an image that stands there is read: of a number, and of what is made of such parts.
 use Rattle.std.proofs.Common.{◌≡◌, ℕ, ◌+◌, ◌^◌, ◌<◌, ◌≤◌, Bool, true, false, cond, ltb, List, ◌++◌, ◌&&◌, length, drop, Option, Some, None, refl, sym, ap, subst, ◌∙◌, arith, append_assoc}
 use Rattle.std.specs.Int.{IsInRange}
 use Rattle.std.proofs.lemmas.Bool.{ltb-false, le-ltb}
@@ -6,7 +6,7 @@ use Rattle.std.proofs.lemmas.Bool.Decides.{nat_tests}
 use Rattle.std.proofs.lemmas.List.{drop_at, take-append-drop, length-append, get_or-drop}
 use Rattle.byteorder.specs.Endian.{big_bytes, big_number}
 use Rattle.byteorder.specs.Numbers.{big_from-lt, big_number-reads_back, length-bytes_high_first}
-use Rattle.oe_extent.specs.Spelling.{number, number_at}
+use Rattle.oe_extent.specs.Images.{number, number_at}
 use Rattle.oe_image.specs.Fronts.{IsBytes, IsExact, ◌>>=◌, kept, seen, pair_at, is_from, ranged_at}
 use Rattle.oe_image.proofs.NumberFacts.{number_back}
 

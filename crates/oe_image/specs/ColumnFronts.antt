@@ -2,7 +2,7 @@
 use Rattle.std.specs.Prelude.{◌==◌, ◌||◌, ◌&&◌, ℕ, ℤ, Bool, true, false, not, pos, neg_ℤ, int_lt, nat_le, List, [], ◌∷◌, length, get_or, Option, None, Some, if◌then◌else◌}
 use Rattle.std.specs.List.{list_all}
 use Rattle.std.specs.Int.{w64, cast_signed}
-use Rattle.oe_extent.specs.Spelling.{number_at, run_at}
+use Rattle.oe_extent.specs.Images.{number_at, run_at}
 use Rattle.oe_rows.specs.declared.customers.Credit.{Credit}
 use Rattle.oe_rows.specs.declared.customers.Credit.TheVariants.{Good, Bad}
 use Rattle.oe_image.specs.Fronts.{◌>>=◌, kept, seen, pair_at, ranged_at}

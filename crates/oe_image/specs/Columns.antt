@@ -1,7 +1,7 @@
 -- The images of columns, beside numbers in a width: texts, what may be null, what is so or not, balances, credits.
 use Rattle.std.specs.Prelude.{ℕ, ℤ, Bool, List, [], ◌∷◌, ◌++◌, length, get_or, Option, None, Some, if◌then◌else◌}
 use Rattle.std.specs.Int.{w64, cast_unsigned}
-use Rattle.oe_extent.specs.Spelling.{number}
+use Rattle.oe_extent.specs.Images.{number}
 use Rattle.oe_rows.specs.declared.customers.Credit.{Credit}
 use Rattle.oe_rows.specs.declared.customers.Credit.TheVariants.{Good, Bad}
 

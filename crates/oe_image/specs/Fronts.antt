@@ -1,6 +1,6 @@
 -- What stands at the front of bytes, and what it means that it is read.
 use Rattle.std.specs.Prelude.{◌≡◌, ◌<◌, ◌&&◌, ℕ, Bool, nat_le, List, ◌++◌, get_or, Option, Some, None, if◌then◌else◌}
-use Rattle.oe_extent.specs.Spelling.{number_at}
+use Rattle.oe_extent.specs.Images.{number_at}
 
 -- The front of the bytes is the image of a value that is in its ranges: then it is read, and what follows is told. Nothing else is read.
 pub record Reads {X : Type 0} (Fits : X → Type 0) (image : X → List ℕ) (bytes : List ℕ)

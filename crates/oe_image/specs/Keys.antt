@@ -1,7 +1,7 @@
 -- The images of keys: the columns from the left (clause 1.3.1), each a number in a fixed width.
 use Rattle.std.specs.Prelude.{ℕ, List, ◌++◌}
 use Rattle.std.specs.Int.{IsInRange}
-use Rattle.oe_extent.specs.Spelling.{number}
+use Rattle.oe_extent.specs.Images.{number}
 use Rattle.oe_values.specs.declared.numbers.TheConstants.{TERMINALS}
 use Rattle.oe_rows.specs.Key.{IsDistrictKey, IsCustomerKey}
 use Rattle.oe_rows.specs.declared.keys.WarehouseKey.{WarehouseKey}

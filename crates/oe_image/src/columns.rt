@@ -1,7 +1,7 @@
 //! What has an image: columns, and columns one after another. A column writes its image at its offset, so that no buffer lies
 //! between.
 ghost use Rattle.std.specs.Prelude.{◌≡◌, ◌≤◌, ◌+◌, ◌++◌, ℕ, List, length};
-ghost use Rattle.oe_extent.specs.Spelling.{Writes, number};
+ghost use Rattle.oe_extent.specs.Images.{Writes, number};
 ghost use Rattle.oe_image.specs.Columns.{text, optional, flag, credit};
 
 use oe_extent::bounded::write_bounded_run;

@@ -1,7 +1,7 @@
 //! Images of customers, and these read from the front of bytes.
 ghost use Rattle.std.specs.Prelude.{◌≡◌, ◌≤◌, ◌+◌, length};
 ghost use Rattle.std.specs.Option.{option_map};
-ghost use Rattle.oe_extent.specs.Spelling.{Writes};
+ghost use Rattle.oe_extent.specs.Images.{Writes};
 ghost use Rattle.oe_image.specs.Rows.{customer_name, account, customer};
 ghost use Rattle.oe_image.specs.RowFronts.{customer_name_at, account_at, customer_at};
 

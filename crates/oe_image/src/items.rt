@@ -1,7 +1,7 @@
 //! Images of items and their stock, and these read from the front of bytes.
 ghost use Rattle.std.specs.Prelude.{◌≡◌, ◌≤◌, ◌+◌, length};
 ghost use Rattle.std.specs.Option.{option_map};
-ghost use Rattle.oe_extent.specs.Spelling.{Writes};
+ghost use Rattle.oe_extent.specs.Images.{Writes};
 ghost use Rattle.oe_image.specs.Columns.{ten_texts};
 ghost use Rattle.oe_image.specs.ColumnFronts.{ten_texts_at};
 ghost use Rattle.oe_image.specs.Rows.{item, stock};

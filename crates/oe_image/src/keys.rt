@@ -1,7 +1,7 @@
 //! Images of keys, and keys read from the front of bytes.
 ghost use Rattle.std.specs.Prelude.{◌≡◌, ◌≤◌, ◌+◌, length};
 ghost use Rattle.std.specs.Option.{option_map};
-ghost use Rattle.oe_extent.specs.Spelling.{Writes};
+ghost use Rattle.oe_extent.specs.Images.{Writes};
 ghost use Rattle.oe_image.specs.Fronts.{Reads};
 ghost use Rattle.oe_image.specs.Keys.{warehouse_key, district_key, customer_key, history_key, new_order_key, order_key, order_line_key, item_key, stock_key, key_image};
 ghost use Rattle.oe_image.specs.KeyFronts.{warehouse_key_at, district_key_at, customer_key_at, history_key_at, new_order_key_at, order_key_at, order_line_key_at, item_key_at, stock_key_at, key_at, IsKeyOf};

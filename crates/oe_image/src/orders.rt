@@ -1,7 +1,7 @@
 //! Images of histories, orders and their lines, and these read from the front of bytes.
 ghost use Rattle.std.specs.Prelude.{◌≡◌, ◌≤◌, ◌+◌, length};
 ghost use Rattle.std.specs.Option.{option_map};
-ghost use Rattle.oe_extent.specs.Spelling.{Writes};
+ghost use Rattle.oe_extent.specs.Images.{Writes};
 ghost use Rattle.oe_image.specs.Rows.{history, new_order, order, order_line};
 ghost use Rattle.oe_image.specs.RowFronts.{history_at, order_at, order_line_at};
 

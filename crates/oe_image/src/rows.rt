@@ -1,7 +1,7 @@
 //! Images of rows of any table, and of a row with its key.
 ghost use Rattle.std.specs.Prelude.{◌≡◌, ◌≤◌, ◌+◌, length};
 ghost use Rattle.std.specs.Option.{option_map};
-ghost use Rattle.oe_extent.specs.Spelling.{Writes};
+ghost use Rattle.oe_extent.specs.Images.{Writes};
 ghost use Rattle.oe_image.specs.Fronts.{Reads};
 ghost use Rattle.oe_image.specs.Rows.{row_image, image_of};
 ghost use Rattle.oe_image.specs.RowFronts.{row_at, IsRowOf, ReadsImage};

@@ -1,7 +1,7 @@
 //! Images of addresses, warehouses and districts, and these read from the front of bytes.
 ghost use Rattle.std.specs.Prelude.{◌≡◌, ◌≤◌, ◌+◌, length};
 ghost use Rattle.std.specs.Option.{option_map};
-ghost use Rattle.oe_extent.specs.Spelling.{Writes};
+ghost use Rattle.oe_extent.specs.Images.{Writes};
 ghost use Rattle.oe_image.specs.Rows.{address, warehouse, district};
 ghost use Rattle.oe_image.specs.RowFronts.{address_at, warehouse_at, district_at};
 

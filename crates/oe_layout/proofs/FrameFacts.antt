@@ -3,7 +3,7 @@ use Rattle.std.proofs.Common.{◌≡◌, ℕ, ◌+◌, ◌-◌, ◌<◌, ◌≤�
 use Rattle.std.proofs.lemmas.List.{append-nil, drop_at}
 use Rattle.byteorder.specs.Endian.{big_number}
 use Rattle.byteorder.specs.Numbers.{big_number-reads_back}
-use Rattle.oe_extent.specs.Spelling.{number, Writes}
+use Rattle.oe_extent.specs.Images.{number, Writes}
 use Rattle.oe_extent.proofs.WriteFacts.{Writes-then, Writes-before}
 use Rattle.oe_extent.specs.Strings.{last_length, IsFramed}
 use Rattle.oe_model.specs.Changes.{Record, record_key, row_before}

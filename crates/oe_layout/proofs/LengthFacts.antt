@@ -5,7 +5,7 @@ use Rattle.std.specs.Int.{w64, cast_unsigned}
 use Rattle.std.specs.List.{All}
 use Rattle.std.proofs.lemmas.List.{length-append}
 use Rattle.byteorder.specs.Numbers.{length-bytes_high_first}
-use Rattle.oe_extent.specs.Spelling.{number}
+use Rattle.oe_extent.specs.Images.{number}
 use Rattle.oe_values.specs.Text.{IsText}
 use Rattle.oe_rows.specs.Item.{IsStock}
 use Rattle.oe_rows.specs.declared.warehouses.Address.{Address}

@@ -3,7 +3,7 @@ use Rattle.std.proofs.Common.{◌≡◌, ◌==◌, ◌&&◌, ℕ, ◌^◌, ◌<�
 use Rattle.std.specs.Prelude.{nat_le}
 use Rattle.std.proofs.lemmas.Bool.{leb-true, le-leb, eqb-true}
 use Rattle.std.proofs.lemmas.Bool.Decides.{nat_tests}
-use Rattle.oe_extent.specs.Spelling.{number, number_at}
+use Rattle.oe_extent.specs.Images.{number, number_at}
 use Rattle.oe_image.specs.Fronts.{IsBytes, pair_at}
 use Rattle.oe_image.proofs.FrontFacts.{Takes, IsCodec, some_is, both, number_law, pair_law}
 use Rattle.oe_layout.specs.Links.{LinkNumbers, link_numbers, link_image, previous_image, IsRecordAddress, IsPrevious, with_rest, read_as, at_address, nothing_at, previous_of, previous_at}

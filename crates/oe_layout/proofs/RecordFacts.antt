@@ -4,7 +4,7 @@ use Rattle.std.specs.Prelude.{IfSome}
 use Rattle.std.proofs.lemmas.Bool.{eqb-true}
 use Rattle.std.proofs.lemmas.Bool.Decides.{nat_tests}
 use Rattle.std.proofs.lemmas.List.{append-nil, drop_at}
-use Rattle.oe_extent.specs.Spelling.{number, number_at}
+use Rattle.oe_extent.specs.Images.{number, number_at}
 use Rattle.oe_rows.specs.declared.rows.Row.{Row}
 use Rattle.oe_rows.specs.declared.rows.Row.TheVariants as row
 use Rattle.oe_rows.specs.declared.keys.Key.{Key}

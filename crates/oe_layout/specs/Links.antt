@@ -1,6 +1,6 @@
 -- What leads from a record to the previous one of its row, as three numbers: extent, offset and moment.
 use Rattle.std.specs.Prelude.{◌≡◌, ◌==◌, ◌≤◌, ◌&&◌, ⊤, ℕ, nat_le, List, ◌++◌, Option, Some, None, if◌then◌else◌}
-use Rattle.oe_extent.specs.Spelling.{number, number_at}
+use Rattle.oe_extent.specs.Images.{number, number_at}
 use Rattle.oe_image.specs.Fronts.{pair_at}
 use Rattle.oe_layout.specs.declared.links.RecordAddress.{RecordAddress}
 use Rattle.oe_layout.specs.declared.links.Previous.{Previous}

@@ -1,7 +1,7 @@
 -- Undo records as bytes.
 use Rattle.std.specs.Prelude.{ℕ, List, ◌++◌, Option, None, Some, IfSome}
 use Rattle.oe_rows.specs.declared.rows.Row.{Row}
-use Rattle.oe_extent.specs.Spelling.{number}
+use Rattle.oe_extent.specs.Images.{number}
 use Rattle.oe_image.specs.Keys.{key_image, IsKey}
 use Rattle.oe_image.specs.Rows.{row_image, IsRow}
 use Rattle.oe_model.specs.Changes as model

@@ -1,6 +1,6 @@
 //! Undo records whose rows are lent from where they lie, to be written.
 ghost use Rattle.std.specs.Prelude.{◌≡◌, ◌≤◌, ◌+◌, length};
-ghost use Rattle.oe_extent.specs.Spelling.{Writes};
+ghost use Rattle.oe_extent.specs.Images.{Writes};
 ghost use Rattle.oe_extent.specs.Strings.{IsFramed};
 ghost use Rattle.oe_layout.specs.Kinds.{kind_of};
 ghost use Rattle.oe_model.specs.Changes.{record_key};
@@ -152,7 +152,7 @@ impl<'a> LinkedRecord<'a> {
 }
 
 impl<'a> Written for LinkedRecord<'a> {
-    ghost spelling = { λ r. record_image r.previous (record_of_lent r.record) };
+    ghost image = { λ r. record_image r.previous (record_of_lent r.record) };
 
     fn size(&self) -> usize {
         self.length()

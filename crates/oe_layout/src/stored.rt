@@ -1,6 +1,6 @@
 //! Undo records where they lie as bytes.
 ghost use Rattle.std.specs.Prelude.{◌≡◌, ◌++◌};
-ghost use Rattle.oe_extent.specs.Spelling.{number};
+ghost use Rattle.oe_extent.specs.Images.{number};
 ghost use Rattle.oe_image.specs.Keys.{IsKey};
 ghost use Rattle.oe_model.specs.Changes.{record_key};
 ghost use Rattle.oe_model.specs.Lengths.{record_length};

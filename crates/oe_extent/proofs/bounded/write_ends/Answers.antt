@@ -1,7 +1,7 @@
 -- The first bytes, and then the last.
 use Rattle.std.proofs.Common.{ℕ, ◌+◌, ◌-◌, List, length, take, drop, ◌∙◌, subst, arith}
 use Rattle.std.proofs.lemmas.List.{take_all, length-drop}
-use Rattle.oe_extent.specs.Spelling.{Writes}
+use Rattle.oe_extent.specs.Images.{Writes}
 use Rattle.oe_extent.proofs.WriteFacts.{Writes-ends}
 use Rattle.oe_extent.proofs.bounded.write_ends.Goals as goal
 

@@ -4,7 +4,7 @@ use Rattle.std.proofs.lemmas.Bool.{le-ltb}
 use Rattle.std.proofs.lemmas.List.{take-append-drop, take_at, drop_at, length-append, length-take}
 use Rattle.byteorder.specs.Endian.{big_bytes}
 use Rattle.byteorder.specs.Numbers.{big_number-reads_back, length-bytes_high_first}
-use Rattle.oe_extent.specs.Spelling.{Writes, number_at, run_at}
+use Rattle.oe_extent.specs.Images.{Writes, number_at, run_at}
 use Rattle.oe_extent.proofs.laws.written_is_read.Goals as goal
 
 text_stands : (old : List ℕ) (start : ℕ) (text new : List ℕ) (end : ℕ) → start ≤ length old → Writes old start text new end

@@ -1,6 +1,6 @@
 -- The length, and then the bytes.
 use Rattle.std.proofs.Common.{◌≡◌, List, ℕ, length, subst}
-use Rattle.oe_extent.specs.Spelling.{Writes, number}
+use Rattle.oe_extent.specs.Images.{Writes, number}
 use Rattle.oe_extent.proofs.WriteFacts.{Writes-then}
 use Rattle.oe_image.specs.Columns.{text}
 use Rattle.oe_image.proofs.columns.write_text.Goals as goal

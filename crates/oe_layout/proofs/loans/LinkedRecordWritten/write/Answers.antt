@@ -1,6 +1,6 @@
 -- What stands between the lengths, and then the lengths.
 use Rattle.std.proofs.Common.{◌+◌, ◌-◌, ◌++◌, sym, ◌∙◌, subst, refl}
-use Rattle.oe_extent.specs.Spelling.{Writes}
+use Rattle.oe_extent.specs.Images.{Writes}
 use Rattle.oe_layout.specs.Kinds.{kind_image}
 use Rattle.oe_layout.specs.Links.{previous_image}
 use Rattle.oe_layout.specs.Records.{contents, body_image, record_of_lent}

@@ -1,4 +1,4 @@
--- How numbers are spelled as bytes, what a write leaves, and what is read from the front of bytes.
+-- The images of numbers, what a write leaves, and what is read from the front of bytes.
 use Rattle.std.specs.Prelude.{◌≡◌, ℕ, ◌+◌, List, ◌++◌, length, take, drop, Option, Some, None, nat_lt, if◌then◌else◌}
 use Rattle.byteorder.specs.Endian.{big_bytes, big_number}
 
