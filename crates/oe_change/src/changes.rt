@@ -1,4 +1,5 @@
-//! Changes.
+//! Changes of one whole row, for those who have the tables alone. A change owns its row and is spent by `apply`; a program writes by
+//! `Write`.
 ghost use Rattle.std.specs.Prelude.{◌≡◌};
 ghost use Rattle.oe_model.specs.Changes.{key_of};
 

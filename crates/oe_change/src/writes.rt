@@ -1,4 +1,4 @@
-//! Writes.
+//! Writes, which a program makes of the columns that it sets. A write is lent to the engine, and owns no row but one that is inserted.
 ghost use Rattle.std.specs.Prelude.{◌≡◌};
 
 use oe_rows::customers::Account;

@@ -1,4 +1,4 @@
-//! The program.
+//! The program of a delivery: one stage at each call, by its position.
 ghost use Rattle.std.specs.Prelude.{◌≡◌, None, option_map};
 ghost use Rattle.std.specs.Option.{MatchOption};
 ghost use Rattle.oe_requests.specs.declared.requests.Request.{Request};

@@ -1,4 +1,6 @@
 //! What a line of a script asks for.
+//!
+//! A `Command` keeps its parts as plain values, in their ranges by type. A line has at most one meaning.
 
 use oe_requests::{Condition, Query, Request};
 use oe_rows::{Scale, Table};

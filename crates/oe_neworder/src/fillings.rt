@@ -1,4 +1,7 @@
 //! The lines of an order, two stages a line.
+//!
+//! A `Filling` keeps the replies of the lines that are done, and a `Filled` line between its two stages. A stage that the engine refuses
+//! leaves both as they were.
 ghost use Rattle.std.specs.Prelude.{◌≡◌, ◌+◌, ◌<◌, length, slice_get, Some, None, IsSome, OnErr, option_map};
 ghost use Rattle.oe_theory.specs.Machine.{Plain};
 ghost use Rattle.oe_theory.specs.Machine as theory;

@@ -1,5 +1,7 @@
-//! What the stages of a New-Order read, and what they come to (clause 2.4.2.2). Nothing is changed, and only the columns that are
-//! needed are read.
+//! What the stages of a New-Order read, and what they come to (clause 2.4.2.2).
+//!
+//! A look answers the columns that its stage needs, or the refusal of a row that is absent or of a column that would leave its range.
+//! Nothing is changed or kept.
 ghost use Rattle.std.specs.Prelude.{◌≡◌};
 ghost use Rattle.oe_store.specs.Places.{rows};
 ghost use Rattle.oe_model.specs.Positions.{NewOrderCustomer};

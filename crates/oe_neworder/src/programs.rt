@@ -1,4 +1,4 @@
-//! The program.
+//! The program of a new order: one stage at each call, by its position.
 ghost use Rattle.std.specs.Prelude.{◌≡◌, option_map};
 ghost use Rattle.oe_requests.specs.declared.requests.Request.{Request};
 ghost use Rattle.oe_requests.specs.Reply.{told_reply};

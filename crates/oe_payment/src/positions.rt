@@ -1,4 +1,7 @@
 //! Where a payment stands.
+//!
+//! A `Position` keeps its `Stage` and what the stages before it have read. What later ones read may be anything yet, so that a payment
+//! begins by setting its stage alone. Nothing can fail.
 ghost use Rattle.std.specs.Prelude.{◌≡◌};
 
 use oe_requests::PaymentReply;

@@ -1,4 +1,4 @@
-//! The program.
+//! The program of a payment: one stage at each call, by its position.
 ghost use Rattle.std.specs.Prelude.{◌≡◌, option_map};
 ghost use Rattle.std.specs.Option.{option_copied};
 ghost use Rattle.oe_requests.specs.declared.requests.Request.{Request};

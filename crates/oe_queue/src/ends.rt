@@ -1,4 +1,7 @@
 //! The taker, and the end of a queue that a sender has.
+//!
+//! Each end keeps its channel's end and its pass, which knows what was submitted or taken there; by the invariants the pass sits on the
+//! seat of that end. To submit may wait for a place, and to take for a message.
 ghost use Rattle.std.specs.Prelude.{◌≡◌, ◌+◌, ◌<◌, ◌++◌, [], ◌∷◌, OnOk, OnErr, IfOk, IfSome, IfNone};
 ghost use Rattle.crossbeam_channel.specs.Claims.{view as known, IsSeatAt};
 ghost use Rattle.crossbeam_channel.specs.Ends.{sends_on, receives_on};

@@ -1,4 +1,7 @@
 //! Senders, which submit deliveries and end by a mark.
+//!
+//! By its invariant a `Sender` has submitted no end mark, and a `Finished` one has submitted it last. So a sender that has ended can
+//! submit nothing more.
 ghost use Rattle.std.specs.Prelude.{◌≡◌, ◌+◌, ◌++◌, ℕ, [], ◌∷◌, Some, false, vec_len, slice_get, OnOk, OnErr, IfOk, IfErr};
 ghost use Rattle.std.specs.List.{Contains};
 ghost use Rattle.oe_queue.specs.Ends.{TheSender, unused};

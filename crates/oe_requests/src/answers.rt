@@ -1,4 +1,4 @@
-//! Answers.
+//! Answers: each step has one. An answer is a plain value, and owns its reply.
 ghost use Rattle.std.specs.Prelude.{◌≡◌};
 
 use crate::audits::Verdict;

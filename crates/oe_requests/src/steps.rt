@@ -1,4 +1,4 @@
-//! Steps.
+//! Steps, for those who keep lists of them. A step is a plain value, and owns its request.
 ghost use Rattle.std.specs.Prelude.{◌≡◌};
 
 use crate::audits::Condition;

@@ -1,4 +1,6 @@
 //! Districts.
+//!
+//! A row's columns are in their ranges by type. Nothing can fail, and nothing takes memory.
 ghost use Rattle.std.specs.Prelude.{◌≡◌, ◌↔◌, IsTrue};
 
 use crate::warehouses::Address;

@@ -1,4 +1,6 @@
 //! Dumps of tables: all rows of one, in the keys' order.
+//!
+//! A `Dump` keeps the `Walk` over its table, and lends each row as an `Entry`. Nothing can fail, and nothing takes memory.
 ghost use Rattle.std.specs.Prelude.{◌≡◌};
 ghost use Rattle.std.specs.Iterator.{YieldsFirstBy, item_count};
 ghost use Rattle.oe_store.specs.Places.{rows};

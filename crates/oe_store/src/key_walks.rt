@@ -1,4 +1,6 @@
 //! Walks over the keys of a table that have a place, those that were blanked too.
+//!
+//! A `KeyWalk` keeps the `PlaceWalk` of its table. Nothing can fail, and nothing takes memory.
 ghost use Rattle.std.specs.Prelude.{◌≡◌};
 ghost use Rattle.std.specs.Iterator.{YieldsFirstBy, item_count};
 ghost use Rattle.oe_rows.specs.declared.keys.Key.{Key};

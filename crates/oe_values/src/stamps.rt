@@ -1,4 +1,7 @@
 //! Stamps.
+//!
+//! A stamp is seen as its seconds since 1900-01-01T00:00:00; by the invariant it lies before 2101. `read` gives `None` exactly for a text
+//! that is no stamp. Nothing takes memory.
 ghost use Rattle.std.specs.Prelude.{◌≡◌, ◌+◌, ◌*◌, ◌<◌, ◌≤◌, ◌∷◌, ◌++◌, ◌↔◌, ℕ, List, IsSome, IsNone, IfSome, Some, pos, ◌+ℤ◌, ◌≤ℤ◌, unsigned_abs};
 ghost use Rattle.std.specs.List.{All};
 ghost use Rattle.std.specs.Option.{option_map};
