@@ -1,6 +1,7 @@
 -- Places are given up key by key: of one record, of a commit's records, of the oldest commits.
 use Rattle.std.proofs.Common.{◌≡◌, ◌⊎◌, ℕ, zero, suc, ◌-◌, ◌<◌, ◌≤◌, refl, sym, ap, ◌∙◌, subst, inl, inr, arith, List, [], ◌∷◌, length, map, get_or, take, drop, Option, None, Some}
 use Rattle.std.specs.Prelude.{◌↔◌, IsSome}
+use Rattle.std.specs.List.{cons_option}
 use Rattle.std.proofs.lemmas.List.{take_all}
 use Rattle.oe_rows.specs.declared.keys.NewOrderKey.{NewOrderKey}
 use Rattle.oe_rows.specs.declared.keys.Key.{Key}
@@ -14,7 +15,7 @@ use Rattle.oe_store.specs.Places.{rows, HasPlace, GivesUp}
 use Rattle.oe_store.specs.Places as tables
 use Rattle.oe_layout.specs.Stored.{deleted_new_order}
 use Rattle.oe_log.specs.Log.{SegmentLog, Committed, committed_records, records_of, total_count, with_newest}
-use Rattle.oe_log.specs.Stands.{model_records, undo_of, DeletesNothing}
+use Rattle.oe_log.specs.Stands.{model_records, undo_of, deleted_keys}
 use Rattle.oe_log.proofs.LawFacts as stands
 use Rattle.oe_log.proofs.StandsFacts.{totals}
 use Rattle.oe_undo.specs.declared.holders.Link.{Link}
@@ -107,7 +108,7 @@ each_with {A} {B} {C} {E} is = (there, back)
     back (inl d) = (is.1 (inl d.0), d.1)
     back (inr d) = (is.1 (inr d.0), d.1)
 
--- One record, whose key goes where E holds of it. It is of a delete
+-- a record of a delete
 delete_of : (b : Record) (o : NewOrderKey) → deleted_new_order b ≡ Some o → IsDelete o b
 delete_of (model.DeletedNewOrder p v) o e = let same : p ≡ o = cc in (v, ap (λ q. model.DeletedNewOrder q v) same)
 delete_of (model.InsertedHistory k v) o e = cc
@@ -121,89 +122,74 @@ delete_of (model.UpdatedOrder k v) o e = cc
 delete_of (model.UpdatedOrderLine k v) o e = cc
 delete_of (model.UpdatedStock k v) o e = cc
 
-deleted_is : (b : Record) (o : NewOrderKey) (k : Key) → deleted_new_order b ≡ Some o → IsDeleted k (b ∷ []) → k ≡ key.NewOrder o
-deleted_is b o k e d = d.1 ∙ ap key.NewOrder (elim d.2 [ inl is ↦ same d.0 is | inr none ↦ absurd none ])
+-- the key is of one of these NEW-ORDER rows
+abbrev pub IsOneOf : Key → List NewOrderKey → Type 0
+IsOneOf k [] = ⊥
+IsOneOf k (o ∷ os) = (k ≡ key.NewOrder o) ⊎ IsOneOf k os
+
+one_more_of : (k : Key) (z : Option NewOrderKey) (os : List NewOrderKey) → IsOneOf k os → IsOneOf k (cons_option z os)
+one_more_of k None os h = h
+one_more_of k (Some o) os h = inr h
+
+has_key : (o : NewOrderKey) (bs : List Record) → HasDelete o bs → IsOneOf (key.NewOrder o) (deleted_keys bs)
+has_key o [] h = h
+has_key o (b ∷ bs) h = elim h [
+  | inl d ↦ subst (λ z. IsOneOf (key.NewOrder o) (cons_option z (deleted_keys bs))) (sym (ap deleted_new_order d.1)) (inl refl)
+  | inr rest ↦ one_more_of (key.NewOrder o) (deleted_new_order b) (deleted_keys bs) (has_key o bs rest)
+]
+
+deleted_more : (k : Key) (b : Record) (bs : List Record) → IsDeleted k bs → IsDeleted k (b ∷ bs)
+deleted_more k b bs d = (d.0, d.1, inr d.2)
+
+is_deleted : (k : Key) (bs : List Record) → IsOneOf k (deleted_keys bs) → IsDeleted k bs
+is_deleted k [] h = absurd h
+is_deleted k (b ∷ bs) h = go (deleted_new_order b) refl h
   where
-    same : (q : NewOrderKey) → IsDelete q b → q ≡ o
-    same q is =
-        let of_q : deleted_new_order b ≡ Some q = ap deleted_new_order is.1 in
-        let both : ◌≡◌ {A = Option NewOrderKey} (Some q) (Some o) = sym of_q ∙ e in cc
+    rest : IsOneOf k (deleted_keys bs) → IsDeleted k (b ∷ bs)
+    rest r = deleted_more k b bs (is_deleted k bs r)
 
+    go : (z : Option NewOrderKey) → deleted_new_order b ≡ z → IsOneOf k (cons_option z (deleted_keys bs)) → IsDeleted k (b ∷ bs)
+    go None e r = rest r
+    go (Some o) e r = elim r [ inl is ↦ (o, is, inl (delete_of b o e)) | inr r' ↦ rest r' ]
+
+-- the keys that the records of a commit say were deleted
+pub deleted_are : (k : Key) (bs : List Record) → IsOneOf k (deleted_keys bs) ↔ IsDeleted k bs
+deleted_are k bs = (is_deleted k bs, λ d. subst (λ j. IsOneOf j (deleted_keys bs)) (sym d.1) (has_key d.0 bs d.2))
+
+-- One key, which goes where E holds of it
 module _ (E : Key → Type 0) where
-  pub deleted_given_up : (old new : tables.Places) (b : Record) (o : NewOrderKey) → deleted_new_order b ≡ Some o → E (key.NewOrder o) → GivesUp old new (key.NewOrder o)
-      → GivesUpThose old new (λ k. IsDeleted k (b ∷ []) × E k)
-  deleted_given_up old new b o e ended g = same_given_up old new (λ k. k ≡ key.NewOrder o) (λ k. IsDeleted k (b ∷ []) × E k) (λ k. (own k, λ d. deleted_is b o k e d.0)) g
-    where
-      own : (k : Key) → k ≡ key.NewOrder o → IsDeleted k (b ∷ []) × E k
-      own k is = ((o, is, inl (delete_of b o e)), subst E (sym is) ended)
+  pub ended_given_up : (old new : tables.Places) (o : NewOrderKey) → E (key.NewOrder o) → GivesUp old new (key.NewOrder o)
+      → GivesUpThose old new (λ k. (k ≡ key.NewOrder o) × E k)
+  ended_given_up old new o ended g = same_given_up old new (λ k. k ≡ key.NewOrder o) (λ k. (k ≡ key.NewOrder o) × E k) (λ k. (λ is. (is, subst E (sym is) ended), λ d. d.0)) g
 
-  -- or of one whose key stays
-  pub deleted_stays : (ts : tables.Places) (b : Record) (o : NewOrderKey) → deleted_new_order b ≡ Some o → (E (key.NewOrder o) → ⊥)
-      → GivesUpThose ts ts (λ k. IsDeleted k (b ∷ []) × E k)
-  deleted_stays ts b o e other = none_given_up ts (λ k. IsDeleted k (b ∷ []) × E k) (λ k d. other (subst E (deleted_is b o k e d.0) d.1))
+  -- or stays
+  pub other_stays : (ts : tables.Places) (o : NewOrderKey) → (E (key.NewOrder o) → ⊥) → GivesUpThose ts ts (λ k. (k ≡ key.NewOrder o) × E k)
+  other_stays ts o other = none_given_up ts (λ k. (k ≡ key.NewOrder o) × E k) (λ k d. other (subst E d.0 d.1))
 
-  -- or of another change
-  pub other_given_up : (ts : tables.Places) (b : Record) → deleted_new_order b ≡ None → GivesUpThose ts ts (λ k. IsDeleted k (b ∷ []) × E k)
-  other_given_up ts b other = none_given_up ts (λ k. IsDeleted k (b ∷ []) × E k) (λ k d. none k d.0)
-    where
-      no_delete : (o : NewOrderKey) → IsDelete o b → ⊥
-      no_delete o d =
-          let is : deleted_new_order b ≡ Some o = ap deleted_new_order d.1 in
-          let no : ◌≡◌ {A = Option NewOrderKey} None (Some o) = sym other ∙ is in cc
-
-      none : (k : Key) → IsDeleted k (b ∷ []) → ⊥
-      none k d = elim d.2 [ inl e ↦ no_delete d.0 e | inr never ↦ never ]
-
-  -- or of no deleted row, all of them
-  pub nothing_given_up : (ts : tables.Places) (bs : List Record) → DeletesNothing bs → GivesUpThose ts ts (λ k. IsDeleted k bs × E k)
-  nothing_given_up ts bs nothing = none_given_up ts (λ k. IsDeleted k bs × E k) (λ k d. none d.0.0 bs nothing d.0.2)
-    where
-      no_delete : (b : Record) (o : NewOrderKey) → deleted_new_order b ≡ None → IsDelete o b → ⊥
-      no_delete b o other d =
-          let is : deleted_new_order b ≡ Some o = ap deleted_new_order d.1 in
-          let no : ◌≡◌ {A = Option NewOrderKey} None (Some o) = sym other ∙ is in cc
-
-      none : (o : NewOrderKey) (bs : List Record) → DeletesNothing bs → HasDelete o bs → ⊥
-      none o [] h d = d
-      none o (b ∷ bs) h d = elim d [ inl is ↦ no_delete b o h.0 is | inr rest ↦ none o bs h.1 rest ]
-
--- The records of a commit: on old those of `all` before `left` have been looked at
-pub record LooksAt (E : Key → Type 0) (old now : tables.Places) (all left : List Record) : Type 0 where
+-- The keys that a commit deleted: on old those of `all` before `left` have been looked at
+pub record LooksAt (E : Key → Type 0) (old now : tables.Places) (all left : List NewOrderKey) : Type 0 where
   pub same : rows now ≡ rows old
-  pub rest : (new : tables.Places) → GivesUpThose now new (λ k. IsDeleted k left × E k) → GivesUpThose old new (λ k. IsDeleted k all × E k)
+  pub rest : (new : tables.Places) → GivesUpThose now new (λ k. IsOneOf k left × E k) → GivesUpThose old new (λ k. IsOneOf k all × E k)
 
-pub none_looked_at : (E : Key → Type 0) (ts : tables.Places) (all : List Record) → LooksAt E ts ts all all
+pub none_looked_at : (E : Key → Type 0) (ts : tables.Places) (all : List NewOrderKey) → LooksAt E ts ts all all
 none_looked_at E ts all = record { same = refl; rest = λ new g. g }
 
-one_or_rest : (b : Record) (bs : List Record) (k : Key) → IsDeleted k (b ∷ bs) ↔ (IsDeleted k (b ∷ []) ⊎ IsDeleted k bs)
-one_or_rest b bs k = (there, back)
-  where
-    there : IsDeleted k (b ∷ bs) → IsDeleted k (b ∷ []) ⊎ IsDeleted k bs
-    there d = elim d.2 [
-      | inl e ↦ inl (d.0, d.1, inl e)
-      | inr e ↦ inr (d.0, d.1, e)
-    ]
-
-    front : (o : NewOrderKey) → HasDelete o (b ∷ []) → HasDelete o (b ∷ bs)
-    front o (inl e) = inl e
-    front o (inr none) = absurd none
-
-    back : (IsDeleted k (b ∷ []) ⊎ IsDeleted k bs) → IsDeleted k (b ∷ bs)
-    back (inl d) = (d.0, d.1, front d.0 d.2)
-    back (inr d) = (d.0, d.1, inr d.2)
-
-pub one_looked_at : (E : Key → Type 0) (old now now' : tables.Places) (all : List Record) (b : Record) (bs : List Record) → rows now' ≡ rows now
-    → GivesUpThose now now' (λ k. IsDeleted k (b ∷ []) × E k) → LooksAt E old now all (b ∷ bs) → LooksAt E old now' all bs
-one_looked_at E old now now' all b bs same g h =
+pub one_looked_at : (E : Key → Type 0) (old now now' : tables.Places) (all : List NewOrderKey) (o : NewOrderKey) (os : List NewOrderKey) → rows now' ≡ rows now
+    → GivesUpThose now now' (λ k. (k ≡ key.NewOrder o) × E k) → LooksAt E old now all (o ∷ os) → LooksAt E old now' all os
+one_looked_at E old now now' all o os same g h =
     record {
       same = same ∙ h.same;
       rest = λ new rest. h.rest new
-          (both_given_up now now' new (λ k. IsDeleted k (b ∷ []) × E k) (λ k. IsDeleted k bs × E k) (λ k. IsDeleted k (b ∷ bs) × E k) same
-          (λ k. each_with (one_or_rest b bs k)) g rest);
+          (both_given_up now now' new (λ k. (k ≡ key.NewOrder o) × E k) (λ k. IsOneOf k os × E k) (λ k. IsOneOf k (o ∷ os) × E k) same
+          (λ k. each_with ((λ d. d), (λ d. d))) g rest);
     }
 
-pub all_looked_at : (E : Key → Type 0) (old now : tables.Places) (all : List Record) → LooksAt E old now all [] → GivesUpThose old now (λ k. IsDeleted k all × E k)
-all_looked_at E old now all h = h.rest now (none_given_up now (λ k. IsDeleted k [] × E k) (λ k d. d.0.2))
+pub all_looked_at : (E : Key → Type 0) (old now : tables.Places) (bs : List Record) → LooksAt E old now (deleted_keys bs) []
+    → GivesUpThose old now (λ k. IsDeleted k bs × E k)
+all_looked_at E old now bs h =
+    same_given_up old now (λ k. IsOneOf k (deleted_keys bs) × E k) (λ k. IsDeleted k bs × E k)
+    (λ k. (λ d. ((deleted_are k bs).0 d.0, d.1), λ d. ((deleted_are k bs).1 d.0, d.1)))
+    (h.rest now (none_given_up now (λ k. IsOneOf k [] × E k) (λ k d. d.0)))
 
 -- The oldest commits: of those of u the newest `left` are there still, and `last` will be
 pub record ForgetsOldest (old now : tables.Places) (u u' : SegmentLog) (last left : ℕ) : Type 0 where

@@ -1,5 +1,5 @@
 //! A purge: the oldest commits are forgotten.
-ghost use Rattle.std.specs.Prelude.{◌≡◌, ◌-◌, ◌<◌, ◌≤◌, ◌↔◌, ◌∷◌, [], ℕ, Option, length, drop, get_or, IsTrue, IfErr, OnOk, OnErr};
+ghost use Rattle.std.specs.Prelude.{◌≡◌, ◌-◌, ◌<◌, ◌≤◌, ◌↔◌, [], ℕ, Option, length, drop, get_or, IsTrue, IfErr, OnOk, OnErr};
 ghost use Rattle.oe_theory.specs.Store.{Slot, purged_to};
 ghost use Rattle.oe_model.specs.Rows.{Rows};
 ghost use Rattle.oe_model.specs.System.{system};
@@ -11,8 +11,6 @@ ghost use Rattle.oe_undo.specs.Chains.{IsForgotten, IsEnd};
 ghost use Rattle.oe_undo.specs.Undo.{seen};
 ghost use Rattle.oe_journal.specs.GivesUp.{IsDeleted, GivesUpThose, GivesUpDeleted};
 
-use oe_layout::StoredRecord;
-use oe_log::Records;
 use oe_requests::Refusal;
 use oe_rows::{Key, NewOrderKey};
 use oe_store::Tables;
@@ -74,7 +72,7 @@ fn forget_oldest(tables: &mut Tables, undo: &mut Undo, moment: Moment, count: us
 }
 
 /// Gives up the places of the NEW-ORDER keys that a commit deleted, that have no row, and whose links end at the moment. The commit is
-/// given by the number of later ones. The records of one that deleted nothing are not looked at.
+/// given by the number of later ones.
 fn give_up_deleted(tables: &mut Tables, undo: &Undo, later: usize, moment: Moment)
     requires { later < length undo.now.log.committed }
     ensures rows { rows tables.new ≡ rows tables.old }
@@ -82,35 +80,19 @@ fn give_up_deleted(tables: &mut Tables, undo: &Undo, later: usize, moment: Momen
         (λ k. IsDeleted k (model_records (get_or (committed_records undo.now.log) later []))
         × IsEnd moment (seen undo.now k)) }
 {
-    if !undo.segments().may_delete(later) {
-        return;
-    }
-    let records = undo.segments().committed_records(later);
-    give_up_those(tables, undo, records, moment)
-}
-
-/// The same of those that records are of.
-fn give_up_those(tables: &mut Tables, undo: &Undo, records: Records<'_>, moment: Moment)
-    ensures rows { rows tables.new ≡ rows tables.old }
-    ensures places { GivesUpThose tables.old tables.new
-        (λ k. IsDeleted k records.entry × IsEnd moment (seen undo.now k)) }
-{
-    for before in records {
-        give_up_key(tables, undo, &before, moment);
+    for key in undo.segments().deleted(later) {
+        give_up_key(tables, undo, key, moment);
     }
 }
 
-/// Gives up the place of the NEW-ORDER key that a record says was deleted, if it says so, if the key has no row, and if its link
-/// ends at the moment.
-fn give_up_key(tables: &mut Tables, undo: &Undo, before: &StoredRecord<'_>, moment: Moment)
+/// Gives up the place of a NEW-ORDER key, if it has no row, and if its link ends at the moment.
+fn give_up_key(tables: &mut Tables, undo: &Undo, key: NewOrderKey, moment: Moment)
     ensures rows { rows tables.new ≡ rows tables.old }
     ensures places { GivesUpThose tables.old tables.new
-        (λ k. IsDeleted k (before.now ∷ []) × IsEnd moment (seen undo.now k)) }
+        (λ k. (k ≡ Key.NewOrder key) × IsEnd moment (seen undo.now k)) }
 {
-    if let Some(key) = before.deleted_new_order() {
-        if has_ended(undo, &key, moment) {
-            tables.give_up_new_order(key);
-        }
+    if has_ended(undo, &key, moment) {
+        tables.give_up_new_order(key);
     }
 }
 

@@ -6,3 +6,4 @@ pub mod Kept
 pub mod Stands
 pub mod Laws
 pub mod Moments
+pub mod Ticks

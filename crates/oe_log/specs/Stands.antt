@@ -1,6 +1,7 @@
 -- What segments stand for, in the words of the theory of transactions.
-use Rattle.std.specs.Prelude.{◌≡◌, ℕ, List, map, None}
+use Rattle.std.specs.Prelude.{◌≡◌, ℕ, List, map, filter_map, None}
 use Rattle.std.specs.List.{AllByRecursion}
+use Rattle.oe_rows.specs.declared.keys.NewOrderKey.{NewOrderKey}
 use Rattle.oe_model.specs.Changes.{Record}
 use Rattle.oe_model.specs.System.{Layout, machine, system}
 use Rattle.oe_theory.specs.Undo.{Undo}
@@ -16,6 +17,10 @@ model_records rs = map (λ r. r.before) rs
 -- none of these records is of a NEW-ORDER row that was deleted
 abbrev pub DeletesNothing : List Record → Type 0
 DeletesNothing bs = AllByRecursion (λ b. deleted_new_order b ≡ None) bs
+
+-- the keys of the NEW-ORDER rows that these records say were deleted
+abbrev pub deleted_keys : List Record → List NewOrderKey
+deleted_keys bs = filter_map deleted_new_order bs
 
 -- the records of each open transaction and of each commit
 abbrev pub undo_of : SegmentLog → Undo system

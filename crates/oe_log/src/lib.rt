@@ -11,9 +11,11 @@ pub mod log;
 pub mod moments;
 pub mod opens;
 pub mod reads;
+pub mod ticks;
 pub mod walks;
 
 pub use heads::SegmentOwner;
 pub use log::{Log, Segment};
 pub use oe_extent::Full;
-pub use walks::Records;
+pub use ticks::Ticks;
+pub use walks::Deleted;

@@ -4,10 +4,12 @@ ghost use Rattle.oe_model.specs.Lengths.{record_length};
 ghost use Rattle.oe_layout.specs.Records.{record_of_own, record_of_lent};
 ghost use Rattle.oe_layout.specs.Stored.{deleted_new_order};
 ghost use Rattle.oe_log.specs.Records.{logged, newest_of};
+ghost use Rattle.oe_log.specs.Ticks.{ticked};
 ghost use Rattle.oe_log.specs.Log.{count_at, active_at, records_at, opened, pushed, popped, dropped, IsFull, IsFresh};
 
 use crate::heads::SegmentOwner;
 use crate::log::{Log, Segment};
+use crate::ticks::Ticks;
 use oe_extent::{Address, Full};
 use oe_layout::{LentRecord, LinkedRecord, OwnRecord, Previous, RecordAddress, read_record};
 use oe_values::NoMemory;
@@ -120,12 +122,19 @@ impl Log {
         self.terminals[segment.terminal().get() as usize].len
     }
 
-    /// The newest record of an open segment, with what leads to the previous one of its row; none exactly where it has none.
-    pub fn newest_record(&self, segment: Segment) -> Option<(Previous, OwnRecord)>
+    /// The newest record of an open segment, with what leads to the previous one of its row; none exactly where it has none. It ticks
+    /// once.
+    pub fn newest_record(
+        &self,
+        segment: Segment,
+        ticks: &mut Ticks,
+    ) -> Option<(Previous, OwnRecord)>
         requires { IsSome (active_at self.now segment) }
-        ensures { option_map (λ x. (x.0, record_of_own x.1)) result
+        ensures record { option_map (λ x. (x.0, record_of_own x.1)) result
             ≡ newest_of (records_at self.now segment) }
+        ensures ticks { ticks.new ≡ ticked ticks.old 1 }
     {
+        ticks.tick();
         let slot = segment.terminal().get() as usize;
         if self.terminals[slot].len == 0 {
             return None;

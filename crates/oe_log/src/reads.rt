@@ -4,11 +4,13 @@ ghost use Rattle.oe_log.specs.Records.{HasAddress, IsRecordAt};
 ghost use Rattle.oe_model.specs.System.{system, terminal_limit};
 ghost use Rattle.oe_theory.specs.Store.{Slot, count_slots};
 ghost use Rattle.oe_log.specs.Log.{count_at, active_at, records_at, open_total, commits_of, committed_records, owner_of};
-ghost use Rattle.oe_log.specs.Stands.{model_records, DeletesNothing};
+ghost use Rattle.oe_log.specs.Stands.{model_records, deleted_keys, DeletesNothing};
+ghost use Rattle.oe_log.specs.Ticks.{ticked};
 
 use crate::heads::SegmentOwner;
 use crate::log::Log;
-use crate::walks::Records;
+use crate::ticks::Ticks;
+use crate::walks::{Deleted, Records};
 use oe_extent::Address;
 use oe_layout::{Previous, RecordAddress, StoredRecord, linked_record};
 use oe_values::numbers::{TERMINALS, Terminal, TransactionNumber};
@@ -88,7 +90,7 @@ impl Log {
 
     /// Whether a commit may have deleted a NEW-ORDER row, by the number of later ones. One that has recorded no delete has not, so
     /// that its records need not be looked at.
-    pub fn may_delete(&self, later: usize) -> bool
+    fn may_delete(&self, later: usize) -> bool
         ensures { result ≡ false
             → DeletesNothing (model_records (get_or (committed_records self.now) later [])) }
     {
@@ -98,40 +100,58 @@ impl Log {
         }
     }
 
-    /// The record at that address of a terminal's open segment, where it lies, with what leads to the previous one of its row. No row
-    /// is read, and no memory is taken.
+    /// The record at that address of a terminal's open segment, where it lies, with what leads to the previous one of its row. It ticks
+    /// once. No row is read, and no memory is taken.
     pub fn linked_at(
         &self,
         terminal: Terminal,
         address: RecordAddress,
+        ticks: &mut Ticks,
     ) -> (Previous, StoredRecord<'_>)
         requires { HasAddress (records_at self.now terminal) address }
-        ensures { IsRecordAt (records_at self.now terminal) address (result.0, result.1) }
+        ensures record { IsRecordAt (records_at self.now terminal) address
+            (result.0, result.1) }
+        ensures ticks { ticks.new ≡ ticked ticks.old 1 }
     {
+        ticks.tick();
         let slot = terminal.get() as usize;
         let place = ring_address(address);
         linked_record(self.ring.at(slot, place))
     }
 
     /// The record at that address of a commit's segment, where it lies, with what leads to the previous one of its row. The commit is
-    /// given by the number of later ones. No row is read, and no memory is taken.
+    /// given by the number of later ones. It ticks once. No row is read, and no memory is taken.
     pub fn committed_linked_at(
         &self,
         later: usize,
         address: RecordAddress,
+        ticks: &mut Ticks,
     ) -> (Previous, StoredRecord<'_>)
         requires commit { later < length self.now.committed }
         requires some { HasAddress (get_or (committed_records self.now) later []) address }
-        ensures { IsRecordAt (get_or (committed_records self.now) later []) address
+        ensures record { IsRecordAt (get_or (committed_records self.now) later []) address
             (result.0, result.1) }
+        ensures ticks { ticks.new ≡ ticked ticks.old 1 }
     {
+        ticks.tick();
         let place = ring_address(address);
         linked_record(self.ring.committed_at(later, place))
     }
 
-    /// The records of a commit's segment, the newest first, where they lie. The commit is given by the number of later ones. It takes
-    /// no memory.
-    pub fn committed_records(&self, later: usize) -> Records<'_>
+    /// The keys of the NEW-ORDER rows that a commit deleted, the newest delete first. The commit is given by the number of later ones.
+    /// Its records are not looked at where its head says that it deleted nothing. It takes no memory.
+    pub fn deleted(&self, later: usize) -> Deleted<'_>
+        requires { later < length self.now.committed }
+        ensures { result
+            ≡ deleted_keys (model_records (get_or (committed_records self.now) later [])) }
+    {
+        let has_any = self.may_delete(later);
+        let records = self.committed_records(later);
+        Deleted { records, has_any }
+    }
+
+    /// The records of a commit's segment, the newest first, where they lie.
+    fn committed_records(&self, later: usize) -> Records<'_>
         requires { later < length self.now.committed }
         ensures { result ≡ model_records (get_or (committed_records self.now) later []) }
     {

@@ -10,7 +10,7 @@ use Rattle.oe_undo.specs.declared.holders.Link.{Link}
 use Rattle.oe_undo.specs.Held.{is_later}
 use Rattle.oe_undo.specs.Chains.{link_from}
 use Rattle.oe_undo.specs.Walks.{records_by, leads_later, Walks, Ends, Reads}
-use Rattle.oe_undo.specs.Ticks.{ticked}
+use Rattle.oe_log.specs.Ticks.{ticked}
 
 -- ---- records at an address
 

@@ -14,6 +14,5 @@ pub mod Shelf
 pub mod ShelfLends
 pub mod Tables
 pub mod TablesLend
-pub mod Ticks
 pub mod Undo
 pub mod Walks

@@ -21,6 +21,6 @@ pub mod walks;
 
 pub use holders::{Holder, Link};
 pub use links::{Links, OwnedLink, comes_with};
+pub use oe_log::Ticks;
 pub use pushes::CantPush;
 pub use undo::Undo;
-pub use walks::Ticks;

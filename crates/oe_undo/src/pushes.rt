@@ -17,7 +17,7 @@ use crate::holders::{Link, previous_of};
 use crate::links::OwnedLink;
 use crate::undo::{Undo, followed_in};
 use oe_layout::{LinkedRecord, OwnRecord, Previous};
-use oe_log::Segment;
+use oe_log::{Segment, Ticks};
 
 /// Why a record was not pushed.
 #[derive(Clone, Copy)]
@@ -141,7 +141,8 @@ impl Undo {
         ensures links { GivesBack self.old self.new segment (records_at self.old.log segment) }
     {
         self.is_chained();
-        let Some((previous, before)) = self.segments.newest_record(segment) else {
+        let mut ticks = Ticks::new();
+        let Some((previous, before)) = self.segments.newest_record(segment, &mut ticks) else {
             return None;
         };
         let link = self.owned(segment, previous);

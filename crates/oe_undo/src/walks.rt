@@ -1,49 +1,19 @@
 //! Walks along a key's records, the newest first. A record is read at its address in its holder's segment, and tells where the next
 //! one lies. No row is read, and nothing takes memory.
-ghost use Rattle.std.specs.Prelude.{◌≡◌, ◌-◌, ◌≤◌, ◌<◌, ℕ};
+ghost use Rattle.std.specs.Prelude.{◌≡◌, ◌-◌, ◌≤◌};
 ghost use Rattle.oe_log.specs.Records.{HasAddress, IsRecordAt};
 ghost use Rattle.oe_log.specs.Log.{total_count};
 ghost use Rattle.oe_undo.specs.Held.{held, of_key, horizon, is_later, count_later};
 ghost use Rattle.oe_undo.specs.Oldest.{oldest_after};
 ghost use Rattle.oe_undo.specs.Walks.{records_by};
-ghost use Rattle.oe_undo.specs.Ticks.{ticked};
+ghost use Rattle.oe_log.specs.Ticks.{ticked};
 
 use crate::holders::{Holder, Link};
 use crate::undo::Undo;
 use oe_layout::{Previous, StoredRecord};
+use oe_log::Ticks;
 use oe_rows::Key;
 use oe_values::Moment;
-use std::marker::Model;
-
-/// How many records were read. At its greatest value it rises no further.
-#[derive(Clone, Copy)]
-pub struct Ticks {
-    records: u64,
-}
-
-impl Model for Ticks {
-    ghost Value = { ℕ };
-
-    ghost view = { λ t. t.records };
-
-    ghost inverse = { λ n. record { records = n } };
-}
-
-impl Ticks {
-    /// None so far.
-    pub fn new() -> Ticks
-        ensures { result ≡ 0 }
-    {
-        Ticks { records: 0 }
-    }
-
-    /// How many there were.
-    pub fn records(&self) -> u64
-        ensures { result ≡ self.now }
-    {
-        self.records
-    }
-}
 
 /// Whether a record of this holder is put back on the way to the moment: it is open, or of a later commit.
 fn is_later(holder: &Holder, moment: Moment) -> bool
@@ -56,23 +26,6 @@ fn is_later(holder: &Holder, moment: Moment) -> bool
 }
 
 impl Undo {
-    /// The record that `read_record` reads.
-    fn record_at(&self, link: &Link) -> (Previous, StoredRecord<'_>)
-        requires { HasAddress (records_by self.now.log link.now.holder) link.now.address }
-        ensures { IsRecordAt (records_by self.now.log link.now.holder) link.now.address
-            (result.0, result.1) }
-    {
-        match &link.holder {
-            Holder::Open(terminal) => self.segments.linked_at(*terminal, link.address),
-            Holder::At(made) => {
-                let newest = self.segments.newest();
-                let later = newest.get().saturating_sub(made.get());
-                self.segments
-                    .committed_linked_at(later as usize, link.address)
-            }
-        }
-    }
-
     /// The record where a link leads, as it lies in its holder's segment, with what leads to the previous one of its key. It ticks once.
     /// No row is read, and no memory is taken.
     pub fn read_record(&self, link: &Link, ticks: &mut Ticks) -> (Previous, StoredRecord<'_>)
@@ -81,8 +34,15 @@ impl Undo {
             (result.0, result.1) }
         ensures ticks { ticks.new ≡ ticked ticks.old 1 }
     {
-        ticks.records = ticks.records.saturating_add(1);
-        self.record_at(link)
+        match &link.holder {
+            Holder::Open(terminal) => self.segments.linked_at(*terminal, link.address, ticks),
+            Holder::At(made) => {
+                let newest = self.segments.newest();
+                let later = newest.get().saturating_sub(made.get());
+                self.segments
+                    .committed_linked_at(later as usize, link.address, ticks)
+            }
+        }
     }
 
     /// The record that has the row which a key had at a moment that is kept: the oldest of the key's records that are open or of a later
@@ -102,7 +62,7 @@ impl Undo {
             ≡ ticked ticks.old (count_later moment (of_key key.now (held self.now.log))) }
     {
         self.is_chained();
-        let _known = ticks.records;
+        let _known = ticks.records();
         let mut link = self.link(key);
         let mut oldest = None;
         while let Some(newer) = link {

@@ -2,7 +2,7 @@
 //! key's own records, from the newest on: no row is read, and nothing takes memory.
 ghost use Rattle.std.specs.Prelude.{◌≡◌};
 ghost use Rattle.oe_undo.specs.Held.{held, of_key, count_later};
-ghost use Rattle.oe_undo.specs.Ticks.{ticked};
+ghost use Rattle.oe_log.specs.Ticks.{ticked};
 ghost use Rattle.oe_log.specs.Moments.{IsKeptMoment};
 ghost use Rattle.oe_versions.specs.Found.{HasRow};
 

@@ -7,7 +7,7 @@ ghost use Rattle.oe_model.specs.Changes.{row_before};
 ghost use Rattle.oe_layout.specs.Records.{record_of_own};
 ghost use Rattle.oe_store.specs.Places.{rows};
 ghost use Rattle.oe_undo.specs.Held.{held, of_key, count_later};
-ghost use Rattle.oe_undo.specs.Ticks.{ticked};
+ghost use Rattle.oe_log.specs.Ticks.{ticked};
 ghost use Rattle.oe_versions.specs.Versions.{rows_of};
 ghost use Rattle.oe_versions.specs.Found.{row_found};
 

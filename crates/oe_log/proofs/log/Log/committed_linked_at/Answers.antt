@@ -26,8 +26,8 @@ linked_record-requires c =
     let stands = subst (λ (a : Address). ring.IsStringAt (get_or c.self.inside.ring.committed c.args.later []) a c.committed_at.result.now) c.ring_address-place.ensures c.committed_at.ensures in
     is_stored c.args.address c.self.inside.ring.committed c.args.later c.committed_at.result.now c.self.invariant.lie.committed_are has stands
 
-pub returns : goal.returns
-returns c p b k =
+pub returns-clause-record : goal.returns-clause-record
+returns-clause-record c p b k =
     let seen = subst (λ (v : SegmentLog). IsAmong (logged c.args.address p b) (get_or (committed_records v) c.args.later [])) (sym c.self.view_is) k in
     let there = subst (λ (rss : List (List Logged)). IsAmong (logged c.args.address p b) (get_or rss c.args.later [])) (seen_committed (inside c.self.invariant)) seen in
     let stands = subst (λ (a : Address). ring.IsStringAt (get_or c.self.inside.ring.committed c.args.later []) a c.committed_at.result.now) c.ring_address-place.ensures c.committed_at.ensures in

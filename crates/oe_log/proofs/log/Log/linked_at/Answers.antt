@@ -24,8 +24,8 @@ linked_record-requires c =
     let stands = subst (λ (a : Address). ring.IsStringAt (get_or c.self.inside.ring.active c.get-slot.result []) a c.at.result.now) c.ring_address-place.ensures c.at.ensures in
     is_stored c.args.address c.self.inside.ring.active c.get-slot.result c.at.result.now c.self.invariant.lie.active_are has stands
 
-pub returns : goal.returns
-returns c p b k =
+pub returns-clause-record : goal.returns-clause-record
+returns-clause-record c p b k =
     let seen = subst (λ (v : SegmentLog). IsAmong (logged c.args.address p b) (records_at v c.args.terminal)) (sym c.self.view_is) k in
     let is = records_are (inside c.self.invariant) c.args.terminal ∙ ap (λ t. get_or (map records_in c.self.inside.ring.active) t []) (sym c.get-slot.ensures.value) in
     let there = subst (λ (rs : List Logged). IsAmong (logged c.args.address p b) rs) is seen in

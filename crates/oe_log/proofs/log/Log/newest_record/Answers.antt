@@ -13,14 +13,14 @@ newest-requires-clause-some c =
     let len = len_lies c.self.invariant c.get-slot.result c.index.result.now (omega (arith, c.get-slot.ensures.high)) c.index.ensures in
     omega (arith, len, c.if-index-eq0.false)
 
-pub returns-then-index-eq0 : goal.returns-then-index-eq0
-returns-then-index-eq0 c =
+pub returns-then-index-eq0-clause-record : goal.returns-then-index-eq0-clause-record
+returns-then-index-eq0-clause-record c =
     rw (← c.self.view_is)
     (none_newest c.self.invariant c.get-slot.result c.args.segment c.index.result.now (c.get-slot.ensures.value ∙ c.terminal.ensures) (omega (arith, c.get-slot.ensures.high)) c.index.ensures
     c.if-index-eq0.true)
 
-pub returns : goal.returns
-returns c =
+pub returns-clause-record : goal.returns-clause-record
+returns-clause-record c =
     let len = len_lies c.self.invariant c.get-slot.result c.index.result.now (omega (arith, c.get-slot.ensures.high)) c.index.ensures in
     let are = are_at c.self.inside.ring.active c.get-slot.result c.self.invariant.lie.active_are in
     let some : 0 < length (get_or c.self.inside.ring.active c.get-slot.result []) = omega (arith, len, c.if-index-eq0.false) in

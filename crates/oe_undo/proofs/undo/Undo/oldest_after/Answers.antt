@@ -12,7 +12,7 @@ loop-link-init c =
     let link : c.link-link.result ≡ seen c.args.self.now c.args.key.now = c.link-link.ensures in
     let walks = chains_are_walked u (seen c.args.self.now) c.args.key.now c.args.moment (total_count u - c.args.moment) c.is_chained.ensures.whole
     c.is_chained.ensures.chained c.requires.kept at in
-    goes_first _ _ _ _ _ _ _ (rw link walks) refl (omega (arith, c.ticks.invariant))
+    goes_first _ _ _ _ _ _ _ (rw link walks) refl (omega (arith, c.records-known.ensures))
 
 pub read_record-previous-requires : goal.read_record-previous-requires
 read_record-previous-requires c = stands_there _ _ _ _ _ _ _ _ _ c.in-Some.is (sym c.is_later.ensures ∙ c.if-not-is_later.false) c.loop-link.invariant
