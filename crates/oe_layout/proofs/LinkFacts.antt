@@ -4,8 +4,8 @@ use Rattle.std.specs.Prelude.{nat_le}
 use Rattle.std.proofs.lemmas.Bool.{leb-true, le-leb, eqb-true}
 use Rattle.std.proofs.lemmas.Bool.Decides.{nat_tests}
 use Rattle.oe_extent.specs.Images.{number, number_at}
-use Rattle.oe_image.specs.Fronts.{IsBytes, pair_at}
-use Rattle.oe_image.proofs.FrontFacts.{Takes, IsCodec, some_is, both, number_law, pair_law}
+use Rattle.oe_fronts.specs.Fronts.{IsBytes, pair_at}
+use Rattle.oe_fronts.proofs.FrontFacts.{Takes, IsCodec, some_is, both, number_law, pair_law}
 use Rattle.oe_layout.specs.Links.{LinkNumbers, link_numbers, link_image, previous_image, IsRecordAddress, IsPrevious, with_rest, read_as, at_address, nothing_at, previous_of, previous_at}
 use Rattle.oe_layout.specs.Kinds.{kind_numbers, kind_image, inserted_in, updated_in, deleted_in, kind_of_numbers, kind_at}
 use Rattle.oe_layout.specs.declared.links.RecordAddress.{RecordAddress}

@@ -10,12 +10,12 @@ use Rattle.oe_rows.specs.declared.rows.Row.TheVariants as row
 use Rattle.oe_rows.specs.declared.keys.Key.{Key}
 use Rattle.oe_rows.specs.declared.keys.Key.TheVariants as key
 use Rattle.oe_model.specs.Changes.{Record, record_key, row_before}
-use Rattle.oe_image.specs.Fronts.{IsBytes, ◌>>=◌, pair_at}
+use Rattle.oe_fronts.specs.Fronts.{IsBytes, ◌>>=◌, pair_at}
 use Rattle.oe_image.specs.Keys.{new_order_key}
 use Rattle.oe_image.specs.Rows.{IsRow}
-use Rattle.oe_image.proofs.FrontFacts.{Takes, IsCodec, some_is, bind_some, both, IsBytes-drop, Takes-then, number_law, pair_law, found_as, finds_as}
-use Rattle.oe_image.proofs.KeyFacts.{warehouse_key_law, district_key_law, customer_key_law, history_key_law, new_order_key_law, order_key_law, order_line_key_law, stock_key_law}
-use Rattle.oe_image.proofs.RowFacts.{warehouse_law, district_law, customer_law, order_law, order_line_law, stock_law}
+use Rattle.oe_fronts.proofs.FrontFacts.{Takes, IsCodec, some_is, bind_some, both, IsBytes-drop, Takes-then, number_law, pair_law, found_as, finds_as}
+use Rattle.oe_fronts.proofs.KeyFacts.{warehouse_key_law, district_key_law, customer_key_law, history_key_law, new_order_key_law, order_key_law, order_line_key_law, stock_key_law}
+use Rattle.oe_fronts.proofs.RowFacts.{warehouse_law, district_law, customer_law, order_law, order_line_law, stock_law}
 use Rattle.oe_model.specs.Lengths.{optional_length, key_length, row_length, before_length, record_length}
 use Rattle.oe_layout.specs.Links.{previous_image, IsPrevious, previous_at}
 use Rattle.oe_layout.specs.Kinds.{kind_image, kind_of, kind_at}

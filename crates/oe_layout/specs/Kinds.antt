@@ -1,7 +1,7 @@
 -- What was done to a row of which table, as two numbers.
 use Rattle.std.specs.Prelude.{◌==◌, ℕ, List, ◌++◌, Option, Some, None, if◌then◌else◌}
 use Rattle.oe_extent.specs.Images.{number, number_at}
-use Rattle.oe_image.specs.Fronts.{pair_at}
+use Rattle.oe_fronts.specs.Fronts.{pair_at}
 use Rattle.oe_layout.specs.Links.{read_as}
 use Rattle.oe_model.specs.Changes as model
 use Rattle.oe_layout.specs.declared.kinds.RecordKind.{RecordKind}

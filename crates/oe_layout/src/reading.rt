@@ -8,14 +8,14 @@ use crate::kinds::{RecordKind, read_kind};
 use crate::links::{Previous, read_previous};
 use crate::records::OwnRecord;
 use oe_extent::numbers::read_number;
-use oe_image::customers::read_customer;
-use oe_image::items::read_stock;
-use oe_image::keys::{
+use oe_fronts::customers::read_customer;
+use oe_fronts::items::read_stock;
+use oe_fronts::keys::{
     read_customer_key, read_district_key, read_history_key, read_new_order_key, read_order_key,
     read_order_line_key, read_stock_key, read_warehouse_key,
 };
-use oe_image::orders::{read_order, read_order_line};
-use oe_image::warehouses::{read_district, read_warehouse};
+use oe_fronts::orders::{read_order, read_order_line};
+use oe_fronts::warehouses::{read_district, read_warehouse};
 
 /// The key of a record of that kind at the front of the bytes, and the row behind it.
 fn read_contents(kind: RecordKind, bytes: &[u8]) -> Option<(OwnRecord, &[u8])>

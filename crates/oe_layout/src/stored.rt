@@ -12,7 +12,7 @@ use crate::kinds::{RecordKind, read_kind};
 use crate::links::{Previous, read_previous};
 use crate::reading::read_record;
 use crate::records::OwnRecord;
-use oe_image::keys::read_key;
+use oe_fronts::keys::read_key;
 use oe_rows::{Key, NewOrderKey, Table};
 use std::marker::Model;
 

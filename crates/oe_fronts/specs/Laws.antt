@@ -1,0 +1,34 @@
+-- What each reading finds is exactly what stands at the front of the bytes.
+use Rattle.oe_rows.specs.Key.{IsDistrictKey, IsCustomerKey}
+use Rattle.oe_rows.specs.Warehouse.{IsWarehouse}
+use Rattle.oe_rows.specs.District.{IsDistrict}
+use Rattle.oe_rows.specs.Customer.{IsCustomer}
+use Rattle.oe_rows.specs.History.{IsHistory}
+use Rattle.oe_rows.specs.Order.{IsOrder, IsOrderLine}
+use Rattle.oe_rows.specs.Item.{IsItem, IsStock}
+use Rattle.oe_fronts.specs.Fronts.{IsExact}
+use Rattle.oe_image.specs.Keys.{warehouse_key, district_key, customer_key, history_key, new_order_key, order_key, order_line_key, item_key, stock_key, IsWarehouseKey, IsHistoryKey, IsNewOrderKey, IsOrderKey, IsOrderLineKey, IsItemKey, IsStockKey}
+use Rattle.oe_fronts.specs.KeyFronts.{warehouse_key_at, district_key_at, customer_key_at, history_key_at, new_order_key_at, order_key_at, order_line_key_at, item_key_at, stock_key_at}
+use Rattle.oe_image.specs.Rows.{warehouse, district, customer, history, order, order_line, item, stock}
+use Rattle.oe_fronts.specs.RowFronts.{warehouse_at, district_at, customer_at, history_at, order_at, order_line_at, item_at, stock_at}
+
+pub record Keys_are_read_exactly : Type 0 where
+  pub warehouse_keys : IsExact IsWarehouseKey warehouse_key warehouse_key_at
+  pub district_keys : IsExact IsDistrictKey district_key district_key_at
+  pub customer_keys : IsExact IsCustomerKey customer_key customer_key_at
+  pub history_keys : IsExact IsHistoryKey history_key history_key_at
+  pub new_order_keys : IsExact IsNewOrderKey new_order_key new_order_key_at
+  pub order_keys : IsExact IsOrderKey order_key order_key_at
+  pub order_line_keys : IsExact IsOrderLineKey order_line_key order_line_key_at
+  pub item_keys : IsExact IsItemKey item_key item_key_at
+  pub stock_keys : IsExact IsStockKey stock_key stock_key_at
+
+pub record Rows_are_read_exactly : Type 0 where
+  pub warehouses : IsExact IsWarehouse warehouse warehouse_at
+  pub districts : IsExact IsDistrict district district_at
+  pub customers : IsExact IsCustomer customer customer_at
+  pub histories : IsExact IsHistory history history_at
+  pub orders : IsExact IsOrder order order_at
+  pub order_lines : IsExact IsOrderLine order_line order_line_at
+  pub items : IsExact IsItem item item_at
+  pub stocks : IsExact IsStock stock stock_at

@@ -1,0 +1,6 @@
+-- What the clauses of this crate cite.
+pub mod Fronts
+pub mod ColumnFronts
+pub mod KeyFronts
+pub mod RowFronts
+pub mod Laws

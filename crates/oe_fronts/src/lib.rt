@@ -1,0 +1,15 @@
+//! Keys and rows read from the front of bytes: what is read is exactly what has its image there. Bytes that are no image are
+//! refused. No call takes memory.
+#![tactic(auto)]
+
+pub mod customers;
+mod fronts;
+pub mod items;
+pub mod keys;
+pub mod laws;
+pub mod orders;
+pub mod rows;
+pub mod warehouses;
+
+pub use keys::read_key;
+pub use rows::{read_image, read_row};
