@@ -128,8 +128,10 @@ module _ {K X : Type 0} {cmp : K → K → Ordering} (total : IsTotalOrder cmp) 
   listed-put (Ok x) b ls old new key row own h ok err = subst (AreListed cmp number_of b ls) (sym ok) (listed-insert b ls (rows_of cmp old) key row own h)
   listed-put (Err x) b ls old new key row own h ok err = subst (λ (t : List (K × Option X)). AreListed cmp number_of b ls (rows_of cmp t)) (sym err) h
 
-  pub listed-less : (a was : Bool) (ls : List (Keys K)) (m : FinMap cmp X) → AreListed cmp number_of a ls m → AreListed cmp number_of (a && was) ls m
-  listed-less a was ls m h = λ on. h (both_true a was on).0
+-- lists that stand no more often than before
+pub listed-less : {K X : Type 0} {cmp : K → K → Ordering} (number_of : K → X → ℕ) (a b : Bool) (ls : List (Keys K)) (m : FinMap cmp X) → (b ≡ true → a ≡ true)
+    → AreListed cmp number_of a ls m → AreListed cmp number_of b ls m
+listed-less number_of a b ls m less h = λ on. h (less on)
 
 -- a row that is taken leaves the others listed
 gone : {X : Type 0} (b : Bool) (o : Option X) (x : X) → cond b None o ≡ Some x → o ≡ Some x

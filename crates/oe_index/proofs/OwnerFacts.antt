@@ -1,6 +1,6 @@
 -- Among the rows of a list are all orders of a customer.
 use Rattle.std.proofs.Common.{◌≡◌, refl, sym, ◌∙◌, ap, subst, Bool, true, false, cond, ℕ, List, [], ◌∷◌, get_or, Option, Some, None, rules}
-use Rattle.std.specs.Prelude.{filter, ◌==◌, IsTrue, ◌↔◌}
+use Rattle.std.specs.Prelude.{filter, ◌==◌}
 use Rattle.std.specs.List.{filter_map, cons_option}
 use Rattle.std.specs.Ordering.{eq_by_cmp}
 use Rattle.std.specs.FinMap.{FinMap, get, entries}
@@ -58,13 +58,12 @@ listed-owner ls m key row b is h on = by (get m key) refl (sym is ∙ on)
     by (Some x) at t = subst (λ n. IsListed order_cmp ls (owner_number (customer_in (district_of_order key) n)) key) (eq_nat x.customer row.customer t) (h refl key x at)
 
 -- a key that has no row and was not blanked has no place
-pub no-place : (t : List (OrderKey × Option Order)) (key : OrderKey) (blanked : Bool) → IsTrue blanked ↔ IsBlanked order_cmp t key → get (rows_of order_cmp t) key ≡ None → blanked ≡ false
-    → place order_cmp t key ≡ None
-no-place t key blanked is none off = by (place order_cmp t key) refl
+pub no-place : (t : List (OrderKey × Option Order)) (key : OrderKey) → get (rows_of order_cmp t) key ≡ None → (IsBlanked order_cmp t key → ⊥) → place order_cmp t key ≡ None
+no-place t key none off = by (place order_cmp t key) refl
   where
     by : (p : Option (Option Order)) → place order_cmp t key ≡ p → p ≡ None
     by None at = refl
-    by (Some None) at = let on : blanked ≡ true = is.1 at in never (sym on ∙ off)
+    by (Some None) at = absurd (off at)
     by (Some (Some x)) at =
         let there : get (rows_of order_cmp t) key ≡ Some x = get-rows_of order_total t key ∙ ap row_in at in
         let clash : None ≡ Some x = sym none ∙ there in cc

@@ -2,7 +2,7 @@
 //!
 //! By the invariant the keys of each list ascend. A key is listed once under a number, and stays. Only `add` takes memory, for a key
 //! that is not listed; where that is refused each key is listed as before.
-ghost use Rattle.std.specs.Prelude.{◌≡◌, ◌<◌, [], OnOk, slice_index_or};
+ghost use Rattle.std.specs.Prelude.{◌≡◌, ◌<◌, [], OnOk, OnErr, slice_index_or};
 ghost use Rattle.oe_table.specs.Shelf.{IsAscending};
 ghost use Rattle.oe_index.specs.Listed.{IsListed, ListsMore};
 
@@ -52,13 +52,14 @@ impl<K: ShelvedKey> Lists<K> {
         }
     }
 
-    /// Lists a key under a number.
+    /// Lists a key under a number. `NoMemory` comes only for a key that is not listed there.
     pub(crate) fn add(&mut self, number: usize, key: K) -> Result<(), NoMemory>
     where
         K: Drop,
         requires { number < 1_000_000 }
         ensures kept { ListsMore K.cmp self.old self.new }
         ensures listed { OnOk result (IsListed K.cmp self.new number key) }
+        ensures unlisted { OnErr result (¬ IsListed K.cmp self.old number key) }
     {
         if let Err(refusal) = reach(&mut self.lists, self.alloc, number) {
             return Err(refusal);

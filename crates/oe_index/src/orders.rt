@@ -3,9 +3,10 @@
 //! Beside the rows each order's key is listed under a number of its customer, so that a walk over a customer's orders meets few
 //! others. By the invariant each row's key is in the list of its customer, unless the lists were given up: that is done where a row
 //! takes the place of another customer's, or a blanked place is filled for a customer under whom there is no memory to list it.
-//! Walks then go over all rows that they are given. A key that was blanked stays listed. Only `put_new` takes memory, for a key without
-//! a place; where that is refused the table is as before.
-ghost use Rattle.std.specs.Prelude.{◌≡◌, true, Some, None, OnOk, OnErr, IsSome, []};
+//! Walks then go over all rows that they are given. A key that was blanked stays listed, so that an order of the same customer fills
+//! its place again without memory. Only `put_new` takes memory, for a key's place and for its customer's list, where it has none or is
+//! not in that list; it is refused only for a key without a place, and the table is then as before.
+ghost use Rattle.std.specs.Prelude.{◌≡◌, true, Some, None, Ok, OnOk, OnErr, IsSome, []};
 ghost use Rattle.std.specs.Option.{option_copied};
 ghost use Rattle.std.specs.FinMap.{entries};
 ghost use Rattle.std.specs.FinMap as map;
@@ -15,7 +16,7 @@ ghost use Rattle.oe_rows.specs.Key.{order_cmp};
 ghost use Rattle.oe_rows.specs.declared.orders.Order.{Order};
 ghost use Rattle.oe_model.specs.Keys.{customer_of_order};
 ghost use Rattle.oe_model.specs.Queries.{orders_of};
-ghost use Rattle.oe_table.specs.Table.{place, rows_of, SetsPlace, RewritesRow};
+ghost use Rattle.oe_table.specs.Table.{place, rows_of, IsBlanked, SetsPlace, RewritesRow};
 ghost use Rattle.oe_index.specs.Listed.{IsListed, ListsMore};
 ghost use Rattle.oe_index.specs.Numbers.{list_of_owner};
 ghost use Rattle.oe_index.specs.Own.{own_of, is_owner};
@@ -56,14 +57,33 @@ impl Model for Orders {
         AreListed order_cmp list_of_owner t.is_listed t.lists (rows_of order_cmp t.rows) };
 }
 
-// Lists an order under its customer, and answers whether there was memory for it.
-fn list(lists: &mut Lists<OrderKey>, key: &OrderKey, row: &Order) -> bool
+// Lists an order under its customer. A key that is listed there already takes no memory, and nothing is given up. Where there is
+// none for another, the insert is refused, or if its key was blanked the lists are given up, since that place may be filled.
+fn list(
+    lists: &mut Lists<OrderKey>,
+    is_listed: &mut bool,
+    rows: &Shelves<OrderKey, Order>,
+    key: &OrderKey,
+    row: &Order,
+) -> Result<(), NoMemory>
     ensures kept { ListsMore order_cmp lists.old lists.new }
-    ensures listed { result ≡ true
-        → IsListed order_cmp lists.new (list_of_owner key.now row.now) key.now }
+    ensures listed { OnOk result (is_listed.new ≡ true
+        → IsListed order_cmp lists.new (list_of_owner key.now row.now) key.now) }
+    ensures same { IsListed order_cmp lists.old (list_of_owner key.now row.now) key.now
+        → (is_listed.new ≡ is_listed.old) × (result ≡ Ok tt) }
+    ensures given_up { ¬ IsBlanked order_cmp rows.now key.now → is_listed.new ≡ is_listed.old }
+    ensures only_less { is_listed.new ≡ true → is_listed.old ≡ true }
+    ensures refused { OnErr result (¬ IsBlanked order_cmp rows.now key.now) }
 {
     let owner = key.district_key().customer(row.customer);
-    lists.add(owner_number(&owner), *key).is_ok()
+    let Err(refusal) = lists.add(owner_number(&owner), *key) else {
+        return Ok(());
+    };
+    if !rows.is_blanked(key) {
+        return Err(refusal);
+    }
+    *is_listed = false;
+    Ok(())
 }
 
 impl Orders {
@@ -87,7 +107,8 @@ impl Orders {
     }
 
     /// Puts a row at a key that has none. `NoMemory` comes only for a key without a place, where there was none for the place or for
-    /// the customer's list; the table is then as before.
+    /// the customer's list; the table is then as before. A blanked key that is listed under the customer takes no memory, and no
+    /// list is given up.
     pub fn put_new(&mut self, key: OrderKey, row: Order) -> Result<(), NoMemory>
         requires { map.get (rows_of order_cmp self.old) key ≡ None }
         ensures ok { OnOk result (SetsPlace order_cmp self.old self.new key (Some row)) }
@@ -96,11 +117,9 @@ impl Orders {
         ensures err { OnErr result (self.new ≡ self.old) }
         ensures no_place { OnErr result (place order_cmp self.old key ≡ None) }
     {
-        let was_listed = list(&mut self.lists, &key, &row);
-        if !was_listed && !self.rows.is_blanked(&key) {
-            return Err(NoMemory);
+        if let Err(refusal) = list(&mut self.lists, &mut self.is_listed, &self.rows, &key, &row) {
+            return Err(refusal);
         }
-        self.is_listed = are_both(self.is_listed, was_listed);
         let _carrier = row.carrier;
         self.rows.put_new(key, row)
     }
