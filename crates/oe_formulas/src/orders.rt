@@ -65,17 +65,22 @@ pub fn stock_key(line: RequestLine) -> Option<StockKey>
     })
 }
 
-/// S_QUANTITY after a line of that quantity: 10 or more are left, or 91 come in.
+/// The least that a line leaves of a stock, and what comes in where it would leave less (clause 2.4.2.2).
+const LEAST_LEFT: u32 = 10;
+
+const RESTOCK: u32 = 91;
+
+/// S_QUANTITY after a line of that quantity (clause 2.4.2.2).
 fn quantity_after(row: &Stock, quantity: Quantity) -> Count
     ensures { result ≡ cond (nat_le (quantity + 10) row.now.quantity)
         (row.now.quantity - quantity) (row.now.quantity + 91 - quantity) }
 {
     let in_stock = row.quantity.get();
     let asked = quantity.get();
-    let left = if in_stock >= asked + 10 {
+    let left = if in_stock >= asked + LEAST_LEFT {
         in_stock - asked
     } else {
-        in_stock + 91 - asked
+        in_stock + RESTOCK - asked
     };
     match Count::new(left) {
         Some(count) => count,

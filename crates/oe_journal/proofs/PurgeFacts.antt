@@ -141,16 +141,14 @@ has_key o (b ∷ bs) h = elim h [
 deleted_more : (k : Key) (b : Record) (bs : List Record) → IsDeleted k bs → IsDeleted k (b ∷ bs)
 deleted_more k b bs d = (d.0, d.1, inr d.2)
 
+one_deleted : (k : Key) (b : Record) (bs : List Record) (z : Option NewOrderKey) → deleted_new_order b ≡ z → (IsOneOf k (deleted_keys bs) → IsDeleted k (b ∷ bs))
+    → IsOneOf k (cons_option z (deleted_keys bs)) → IsDeleted k (b ∷ bs)
+one_deleted k b bs None e rest h = rest h
+one_deleted k b bs (Some o) e rest h = elim h [ inl is ↦ (o, is, inl (delete_of b o e)) | inr r ↦ rest r ]
+
 is_deleted : (k : Key) (bs : List Record) → IsOneOf k (deleted_keys bs) → IsDeleted k bs
 is_deleted k [] h = absurd h
-is_deleted k (b ∷ bs) h = go (deleted_new_order b) refl h
-  where
-    rest : IsOneOf k (deleted_keys bs) → IsDeleted k (b ∷ bs)
-    rest r = deleted_more k b bs (is_deleted k bs r)
-
-    go : (z : Option NewOrderKey) → deleted_new_order b ≡ z → IsOneOf k (cons_option z (deleted_keys bs)) → IsDeleted k (b ∷ bs)
-    go None e r = rest r
-    go (Some o) e r = elim r [ inl is ↦ (o, is, inl (delete_of b o e)) | inr r' ↦ rest r' ]
+is_deleted k (b ∷ bs) h = one_deleted k b bs (deleted_new_order b) refl (λ r. deleted_more k b bs (is_deleted k bs r)) h
 
 -- the keys that the records of a commit say were deleted
 pub deleted_are : (k : Key) (bs : List Record) → IsOneOf k (deleted_keys bs) ↔ IsDeleted k bs

@@ -10,6 +10,31 @@ use oe_rows::{DistrictKey, Scale};
 use oe_values::{CustomerNumber, ItemNumber, LastName, Stamp, Terminal, WarehouseNumber};
 use rand_pcg::Lcg64Xsh32;
 
+/// The customers of a district in the standard's population (clause 1.2.1), and how many of them have different last names.
+const CUSTOMERS: u32 = 3_000;
+
+const NAMES: u32 = 1_000;
+
+/// The items of the standard's population (clause 1.2.1).
+const ITEMS: u32 = 100_000;
+
+/// NURand's A for C_ID, C_LAST and OL_I_ID (clause 2.1.6).
+const CUSTOMER_A: u32 = 1_023;
+
+const NAME_A: u32 = 255;
+
+const ITEM_A: u32 = 8_191;
+
+/// NURand's C for each of these, which clause 2.1.6.1 leaves to the run.
+const CUSTOMER_C: u32 = 987;
+
+const NAME_C: u32 = 157;
+
+const ITEM_C: u32 = 5_987;
+
+/// 2001-01-01T00:00:00, in seconds since 1900-01-01T00:00:00.
+const FIRST_STAMP: u64 = 3_187_296_000;
+
 /// Gives the terminal's warehouse (clause 2.4.1.1).
 pub fn home(scale: &Scale, terminal: Terminal) -> WarehouseNumber
     ensures { result ≡ home scale.now terminal }
@@ -24,11 +49,11 @@ pub fn other(scale: &Scale, warehouse: WarehouseNumber) -> WarehouseNumber
     number(1 + warehouse.get() % scale.warehouses.get())
 }
 
-/// Gives the stamp of a terminal's request: so many seconds after 2001-01-01T00:00:00.
+/// Gives the stamp of a terminal's request: r seconds after 2001-01-01T00:00:00.
 pub fn stamp_of(r: RequestNumber) -> Stamp
     ensures { result ≡ stamp_of r }
 {
-    match Stamp::from_seconds(3_187_296_000 + u64::from(r.get())) {
+    match Stamp::from_seconds(FIRST_STAMP + u64::from(r.get())) {
         Some(stamp) => stamp,
         None => unreachable!(),
     }
@@ -50,8 +75,8 @@ pub fn customer_number(customers: CustomerNumber, words: &mut Lcg64Xsh32) -> Cus
     ensures { (result, words.new) ≡ customer_number customers words.old }
 {
     let count = customers.get();
-    if count == 3_000 {
-        return number(nurand(words, 1_023, 987, 1, 3_000));
+    if count == CUSTOMERS {
+        return number(nurand(words, CUSTOMER_A, CUSTOMER_C, 1, CUSTOMERS));
     }
     number(random(words, 1, count))
 }
@@ -63,10 +88,10 @@ pub fn name_number(customers: CustomerNumber, words: &mut Lcg64Xsh32) -> u32
     ensures within { result < 1_000 }
 {
     let count = customers.get();
-    if count == 3_000 {
-        return nurand(words, 255, 157, 0, 999);
+    if count == CUSTOMERS {
+        return nurand(words, NAME_A, NAME_C, 0, NAMES - 1);
     }
-    random(words, 0, count.min(1_000) - 1)
+    random(words, 0, count.min(NAMES) - 1)
 }
 
 /// Draws I_ID (clause 2.4.1.5), evenly where there are other than 100,000 items.
@@ -74,8 +99,8 @@ pub fn item_number(items: ItemNumber, words: &mut Lcg64Xsh32) -> ItemNumber
     ensures { (result, words.new) ≡ item_number items words.old }
 {
     let count = items.get();
-    if count == 100_000 {
-        return number(nurand(words, 8_191, 5_987, 1, 100_000));
+    if count == ITEMS {
+        return number(nurand(words, ITEM_A, ITEM_C, 1, ITEMS));
     }
     number(random(words, 1, count))
 }
