@@ -1,6 +1,7 @@
 -- Lists of extents as lists of what each extent holds, the newest first.
 use Rattle.std.specs.Prelude.{◌≡◌, ◌==◌, ◌<◌, ℕ, cond, ◌-◌, List, [], ◌∷◌, ◌++◌, length, map, drop, Option, None, Some}
 use Rattle.std.specs.Global.{Box}
+use Rattle.oe_extent.specs.declared.sizes.TheConstants.{EXTENT_BYTES}
 use Rattle.oe_extent.specs.declared.extents.Address.{Address}
 use Rattle.oe_extent.specs.declared.extents.Extent.{Extent, Extent', Held-Extent-older, None', Some'}
 use Rattle.oe_extent.specs.Strings.{joined}
@@ -47,7 +48,7 @@ all_strings (c ∷ cs) = c.strings ++ all_strings cs
 -- the bytes that are left in the newest extent
 abbrev pub rest_of : List Contents → ℕ
 rest_of [] = 0
-rest_of (c ∷ cs) = 4096 - length (joined c.strings)
+rest_of (c ∷ cs) = EXTENT_BYTES - length (joined c.strings)
 
 -- where the next string of the newest extent begins
 abbrev pub end_of : List Contents → Address

@@ -1,6 +1,7 @@
 -- How strings lie in extents: what a ring keeps of itself.
 use Rattle.std.specs.Prelude.{◌≡◌, ◌<◌, ◌≤◌, ◌+◌, ◌==◌, ℕ, Bool, true, false, List, [], ◌∷◌, ◌++◌, length, get_or, ⊤, if◌then◌else◌}
 use Rattle.std.specs.List.{AllByRecursion, sum_by}
+use Rattle.oe_extent.specs.declared.sizes.TheConstants.{EXTENT_BYTES}
 use Rattle.oe_extent.specs.Strings.{joined}
 use Rattle.oe_extent.specs.Extents.{Contents, numbers_of, rest_of}
 use Rattle.oe_extent.specs.Free.{count_of_free}
@@ -18,7 +19,7 @@ abbrev pub addressed_of : List Contents → List Addressed
 addressed_of [] = []
 addressed_of (c ∷ cs) = addressed_in c.number c.strings ++ addressed_of cs
 
--- the oldest of these strings, of which x is the newest, did not fit into so many bytes
+-- the oldest of x and the strings behind it did not fit into `rest` bytes
 abbrev pub Opens : ℕ → List ℕ → List (List ℕ) → Type 0
 Opens rest x [] = rest < length x
 Opens rest x (y ∷ ys) = Opens rest y ys
@@ -27,13 +28,13 @@ Opens rest x (y ∷ ys) = Opens rest y ys
 abbrev pub HaveBytes : List (List ℕ) → Type 0
 HaveBytes xs = AllByRecursion (λ x. 0 < length x) xs
 
--- these strings are those of one extent, where so many bytes are left of the one before
+-- one extent has these strings, and the extent before it has `rest` bytes left
 abbrev pub FillsUp : ℕ → List (List ℕ) → Type 0
 FillsUp rest [] = ⊥
 FillsUp rest (x ∷ xs) =
-    Opens rest x xs × (length (joined (x ∷ xs)) ≤ 4096) × HaveBytes (x ∷ xs)
+    Opens rest x xs × (length (joined (x ∷ xs)) ≤ EXTENT_BYTES) × HaveBytes (x ∷ xs)
 
--- each extent has strings, the first of which did not fit into the one before
+-- each extent has strings, and its first did not fit into the extent before
 abbrev pub ArePacked : List Contents → Type 0
 ArePacked [] = ⊤
 ArePacked (c ∷ cs) = FillsUp (rest_of cs) c.strings × ArePacked cs
@@ -52,7 +53,7 @@ uses active committed e =
 abbrev pub extent_count : List (List Contents) → List (List Contents) → ℕ
 extent_count active committed = sum_by length active + sum_by length committed
 
--- so many extents are used, each once, and the others are free
+-- `count` extents are used, each once, and the others are free
 pub record AreHeld (free : List Bool) (uses : ℕ → ℕ) (count : ℕ) : Type 0 where
   pub once : (e : ℕ) → uses e ≤ 1
   pub taken : (e : ℕ) → 0 < uses e → get_or free e true ≡ false

@@ -1,6 +1,7 @@
 -- The strings of a ring, by slot and by commit, and what each call makes of them.
 use Rattle.std.specs.Prelude.{◌≡◌, ◌≢◌, ◌<◌, ◌≤◌, ◌⊎◌, ◌+◌, ◌-◌, ℕ, suc, nat_le, cond, List, [], ◌∷◌, length, map, take, drop, get_or, set, replicate}
 use Rattle.std.specs.List.{AllByRecursion, sum_by}
+use Rattle.oe_extent.specs.declared.sizes.TheConstants.{EXTENT_BYTES}
 use Rattle.oe_extent.specs.declared.extents.Address.{Address}
 
 -- a string with its address
@@ -19,7 +20,7 @@ pub record RingStrings : Type 0 where
 -- how many extents strings of these lengths, the newest first, fill in order, and how many bytes are left of the last
 abbrev pub filled : List ℕ → ℕ × ℕ
 filled [] = (0, 0)
-filled (l ∷ ls) = let f = filled ls in cond (nat_le l f.1) (f.0, f.1 - l) (suc f.0, 4096 - l)
+filled (l ∷ ls) = let f = filled ls in cond (nat_le l f.1) (f.0, f.1 - l) (suc f.0, EXTENT_BYTES - l)
 
 abbrev pub lengths_of : List Addressed → List ℕ
 lengths_of ss = map (λ s. length s.bytes) ss
@@ -68,7 +69,7 @@ pub record HasAddress (ss : List Addressed) (a : Address) : Type 0 where
   pub bytes : List ℕ
   pub stands : StandsAt a bytes ss
 
--- the bytes are those of the string at that address
+-- the string at that address has these bytes
 abbrev pub IsStringAt : List Addressed → Address → List ℕ → Type 0
 IsStringAt ss a bytes = (s : List ℕ) → StandsAt a s ss → bytes ≡ s
 
@@ -81,7 +82,7 @@ pub record IsFresh (v : RingStrings) (a : Address) : Type 0 where
   pub active : (slot : ℕ) → StandElsewhere a (get_or v.active slot [])
   pub committed : (commit : ℕ) → StandElsewhere a (get_or v.committed commit [])
 
--- a slot's strings are those of the newest commit, and it has none
+-- the newest commit has a slot's strings, and the slot has none
 abbrev pub sealed_at : RingStrings → ℕ → RingStrings
 sealed_at v slot =
     record v { active = set v.active slot []; committed = get_or v.active slot [] ∷ v.committed }

@@ -1,16 +1,17 @@
--- Byte strings that stand one after another, and how they are told apart again.
+-- Byte strings that stand one after another, and how a reader tells them apart.
 use Rattle.std.specs.Prelude.{◌≡◌, ◌≤◌, ℕ, zero, suc, ◌-◌, ◌*◌, List, [], ◌∷◌, ◌++◌, length, take, drop}
 use Rattle.std.specs.List.{AllByRecursion}
 use Rattle.byteorder.specs.Endian.{big_number}
+use Rattle.oe_extent.specs.declared.sizes.TheConstants.{EXTENT_BYTES, LENGTH_BYTES, FRAME_BYTES}
 
--- the number in the last two bytes
+-- the length in the last two bytes
 unfoldable pub last_length : List ℕ → ℕ
-last_length bytes = big_number 2 (drop (length bytes - 2) bytes)
+last_length bytes = big_number LENGTH_BYTES (drop (length bytes - LENGTH_BYTES) bytes)
 
 -- a string's length stands at both its ends
 pub record IsFramed (s : List ℕ) : Type 0 where
-  pub long : 4 ≤ length s
-  pub first : big_number 2 s ≡ length s
+  pub long : FRAME_BYTES ≤ length s
+  pub first : big_number LENGTH_BYTES s ≡ length s
   pub last : last_length s ≡ length s
 
 -- the bytes of strings, the newest first, which stands last
@@ -18,25 +19,25 @@ unfoldable pub joined : List (List ℕ) → List ℕ
 joined [] = []
 joined (s ∷ ss) = joined ss ++ s
 
--- so many strings, the newest first, as their last two bytes tell them apart
+-- the last k strings of the bytes, the newest first: the last two bytes of each are its length
 unfoldable pub cut : ℕ → List ℕ → List (List ℕ)
 cut zero bytes = []
 cut (suc k) bytes =
     let start = length bytes - last_length bytes in drop start bytes ∷ cut k (take start bytes)
 
--- so many framed strings fill the bytes
+-- `count` framed strings fill the bytes
 pub record AreStrings (count : ℕ) (bytes : List ℕ) : Type 0 where
   pub framed : AllByRecursion IsFramed (cut count bytes)
   pub whole : joined (cut count bytes) ≡ bytes
-  pub counted : 4 * count ≤ length bytes
+  pub counted : FRAME_BYTES * count ≤ length bytes
 
--- the 4,096 bytes of an extent, whose front is full of strings
+-- the bytes of an extent, whose front is full of strings
 pub record IsPacked (count fill : ℕ) (bytes : List ℕ) : Type 0 where
-  pub small : fill ≤ 4096
-  pub size : length bytes ≡ 4096
+  pub small : fill ≤ EXTENT_BYTES
+  pub size : length bytes ≡ EXTENT_BYTES
   pub strings : AreStrings count (take fill bytes)
 
--- the string is one of these and begins there, behind older ones of so many bytes
+-- s is one of these strings, and the older ones before it have `offset` bytes
 pub record BeginsAt (ss : List (List ℕ)) (offset : ℕ) (s : List ℕ) : Type 0 where
   pub newer : List (List ℕ)
   pub older : List (List ℕ)

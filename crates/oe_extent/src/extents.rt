@@ -4,6 +4,7 @@
 //! of one leaves all others as they are. Only the newest extent gets strings, behind those that are there. Nothing can be refused,
 //! and no call but the making of an extent takes memory.
 ghost use Rattle.std.specs.Prelude.{◌≡◌, ◌<◌, ◌≤◌, ◌+◌, [], ◌∷◌, length, drop, IfSome, IfNone};
+ghost use Rattle.oe_extent.specs.declared.sizes.TheConstants.{EXTENT_BYTES};
 ghost use Rattle.oe_extent.specs.Strings.{IsFramed, HasOffset, IsStringFrom};
 ghost use Rattle.oe_extent.specs.Extents.{number_of, numbers_of, strings_at, contents_in, newest_strings, rest_of, end_of, first_string, with_string, without_newest, IsEmptyExtent, LosesString, LosesExtent};
 
@@ -153,7 +154,7 @@ impl ExtentList {
     pub(crate) fn push_new<S: Written>(&mut self, number: usize, extent: Box<Extent>, string: &S)
         requires fresh { IsEmptyExtent number extent.value }
         requires framed { IsFramed (S.image string.now) }
-        requires small { length (S.image string.now) ≤ 4096 }
+        requires small { length (S.image string.now) ≤ EXTENT_BYTES }
         ensures { self.new ≡ first_string number (S.image string.now) ∷ self.old }
     {
         self.add(number, extent);

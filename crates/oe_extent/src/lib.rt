@@ -16,9 +16,11 @@ mod packing;
 mod pools;
 pub mod ring;
 pub mod runs;
+pub mod sizes;
 mod walks;
 
 pub use extents::Address;
 pub use images::Written;
 pub use ring::{Full, Ring};
+pub use sizes::{EXTENT_BYTES, FRAME_BYTES, LENGTH_BYTES};
 pub use walks::Strings;

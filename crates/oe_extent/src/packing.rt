@@ -1,14 +1,13 @@
 //! The bytes of an extent, as strings.
 ghost use Rattle.std.specs.Prelude.{◌≡◌, ◌<◌, ◌≤◌, ◌+◌, [], ◌∷◌, length, drop};
+ghost use Rattle.oe_extent.specs.declared.sizes.TheConstants.{EXTENT_BYTES, LENGTH_BYTES};
 ghost use Rattle.oe_extent.specs.Strings.{last_length, joined, IsFramed, HasOffset, IsStringFrom};
 
 use crate::images::Written;
+use crate::sizes::{EXTENT_BYTES, LENGTH_BYTES};
 use crate::walks::ExtentStrings;
 use byteorder::{BigEndian, ByteOrder};
 use std::marker::Model;
-
-/// How many bytes an extent has.
-const SIZE: usize = 4_096;
 
 /// How many bytes a line of the processor's caches has.
 const LINE: usize = 64;
@@ -20,7 +19,7 @@ const TOUCHED_LINES: usize = 12;
 /// length stands in its first two bytes and in its last two. No call takes memory.
 #[derive(Drop)]
 pub(crate) struct PackedStrings {
-    bytes: [u8; SIZE],
+    bytes: [u8; EXTENT_BYTES],
     // How many bytes from the front on the strings fill, and how many strings these are.
     fill: usize,
     count: usize,
@@ -41,17 +40,17 @@ impl Model for PackedStrings {
 #[inline]
 #[tactic(auto, using(crate::proofs::PackedFacts::last_is))]
 pub(crate) fn last_size(bytes: &[u8]) -> usize
-    requires { 2 ≤ length bytes.now }
+    requires { LENGTH_BYTES ≤ length bytes.now }
     ensures { result ≡ last_length bytes.now }
 {
-    BigEndian::read_u16(&bytes[bytes.len() - 2..]) as usize
+    BigEndian::read_u16(&bytes[bytes.len() - LENGTH_BYTES..]) as usize
 }
 
 /// As many zeros as an extent has bytes.
-fn zeros() -> [u8; SIZE]
-    ensures { length result ≡ 4096 }
+fn zeros() -> [u8; EXTENT_BYTES]
+    ensures { length result ≡ EXTENT_BYTES }
 {
-    [0; SIZE]
+    [0; EXTENT_BYTES]
 }
 
 impl PackedStrings {
@@ -82,16 +81,16 @@ impl PackedStrings {
     /// How many bytes are left behind the strings: 0 to 4,096.
     #[inline(always)]
     pub(crate) fn rest(&self) -> usize
-        ensures { result + length (joined self.now) ≡ 4096 }
+        ensures { result + length (joined self.now) ≡ EXTENT_BYTES }
     {
-        SIZE - self.fill
+        EXTENT_BYTES - self.fill
     }
 
     /// The offset at which the next string begins: 0 to 4,096.
     #[inline(always)]
     pub(crate) fn end(&self) -> usize
         ensures value { result ≡ length (joined self.now) }
-        ensures most { result ≤ 4096 }
+        ensures most { result ≤ EXTENT_BYTES }
     {
         self.fill
     }
@@ -108,7 +107,7 @@ impl PackedStrings {
     #[inline(always)]
     pub(crate) fn push<S: Written>(&mut self, string: &S)
         requires framed { IsFramed (S.image string.now) }
-        requires room { length (joined self.old) + length (S.image string.now) ≤ 4096 }
+        requires room { length (joined self.old) + length (S.image string.now) ≤ EXTENT_BYTES }
         ensures { self.new ≡ S.image string.now ∷ self.old }
     {
         self.fill = string.write(&mut self.bytes, self.fill);

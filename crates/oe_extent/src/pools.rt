@@ -62,7 +62,7 @@ fn next_free(extents: &[Option<Box<Extent>>], cursor: usize) -> Option<usize>
 }
 
 impl Pool {
-    /// So many extents, all free, numbered from 0; an error where memory is refused.
+    /// Makes `count` extents, all free, numbered from 0; an error where memory is refused.
     pub(crate) fn new(alloc: Global, count: usize) -> Result<Pool, AllocError>
         ensures free { IfOk result (λ p. p.is_free ≡ replicate count true) }
         ensures cursor { IfOk result (λ p. p.cursor ≡ 0) }

@@ -6,6 +6,7 @@
 //! strings of commits by `reserve`; these two may be refused memory. `push` is refused exactly where the ring is full, and changes
 //! nothing then. No other call can be refused.
 ghost use Rattle.std.specs.Prelude.{◌≡◌, ◌<◌, ◌≤◌, ◌+◌, ◌↔◌, [], length, get_or, replicate, IsErr, IfOk, OnOk, OnErr};
+ghost use Rattle.oe_extent.specs.declared.sizes.TheConstants.{EXTENT_BYTES};
 ghost use Rattle.oe_extent.specs.Strings.{IsFramed};
 ghost use Rattle.oe_extent.specs.Ring.{used_of, IsFull, IsFresh, no_strings, pushed_at, popped_at, sealed_at, reopened_at, newest_bytes, strings_of, without_oldest, capacity_of, HasAddress, IsStringAt};
 
@@ -49,7 +50,7 @@ impl Model for Ring {
     ghost invariant = { λ r. IsRing r.pool.is_free r.active.items r.committed.items };
 }
 
-/// So many lists without extents.
+/// Makes `count` lists without extents.
 fn empty_lists(alloc: Global, count: usize) -> Result<Vec<ExtentList>, AllocError>
     ensures { IfOk result (λ v. v.items ≡ replicate count []) }
 {
@@ -61,7 +62,7 @@ fn empty_lists(alloc: Global, count: usize) -> Result<Vec<ExtentList>, AllocErro
 }
 
 impl Ring {
-    /// A ring of so many extents and slots, which have no strings; an error where memory is refused.
+    /// Makes a ring of `extents` extents and `slots` slots without strings; an error where memory is refused.
     pub fn new(alloc: Global, extents: usize, slots: usize) -> Result<Ring, AllocError>
         ensures { IfOk result (λ r. r ≡ record (no_strings extents slots) { room = r.room }) }
     {
@@ -82,7 +83,7 @@ impl Ring {
         self.pool.len()
     }
 
-    /// Makes room for so many commits more; an error where memory is refused.
+    /// Makes room for `additional` commits more; an error where memory is refused.
     pub fn reserve(&mut self, additional: usize) -> Result<(), AllocError>
         ensures same { self.new ≡ record self.old { room = self.new.room } }
         ensures room { OnOk result (additional ≤ self.new.room) }
@@ -91,7 +92,7 @@ impl Ring {
         self.committed.reserve(additional)
     }
 
-    /// Makes a slot's strings those of the newest commit, and leaves the slot none.
+    /// Gives a slot's strings to a commit, the newest from then on, and leaves the slot none.
     pub fn seal(&mut self, slot: usize)
         requires slot { slot < length self.old.active }
         requires room { 0 < self.old.room }
@@ -119,14 +120,14 @@ impl Ring {
     pub fn push<S: Written>(&mut self, slot: usize, string: &S) -> Result<Address, Full>
         requires slot { slot < length self.old.active }
         requires framed { IsFramed (S.image string.now) }
-        requires small { length (S.image string.now) ≤ 4096 }
+        requires small { length (S.image string.now) ≤ EXTENT_BYTES }
         ensures pushed { IfOk result (λ a.
             self.new ≡ pushed_at self.old slot a (S.image string.now)) }
         ensures same { OnErr result (self.new ≡ self.old) }
         ensures full { IsErr result ↔ IsFull self.old slot (length (S.image string.now)) }
         ensures fresh { IfOk result (IsFresh self.old) }
         ensures extent { IfOk result (λ a. a.extent < self.old.extents) }
-        ensures offset { IfOk result (λ a. a.offset < 4096) }
+        ensures offset { IfOk result (λ a. a.offset < EXTENT_BYTES) }
     {
         if string.size() <= self.active[slot].rest() {
             let address = self.active[slot].end();

@@ -2,7 +2,7 @@
 use Rattle.std.specs.Prelude.{◌≡◌, ◌<◌, ◌&&◌, ℕ, Bool, nat_le, List, ◌++◌, get_or, Option, Some, None, if◌then◌else◌}
 use Rattle.oe_extent.specs.Images.{number_at}
 
--- The front of the bytes is the image of a value that is in its ranges: then it is read, and what follows is told. Nothing else is read.
+-- Where the front of the bytes is the image of a value in its ranges, the result is the value and what follows. Nothing else is read.
 pub record Reads {X : Type 0} (Fits : X → Type 0) (image : X → List ℕ) (bytes : List ℕ)
     (result : Option (X × List ℕ)) : Type 0 where
   pub found : (x : X) (rest : List ℕ) → result ≡ Some (x, rest) → Fits x × (bytes ≡ image x ++ rest)
@@ -40,6 +40,6 @@ pair_at first second bytes = first bytes >>= λ x. second x.1 >>= λ y. Some ((x
 abbrev pub is_from : ℕ → ℕ → ℕ → Bool
 is_from low high n = nat_le low n && nat_le n high
 
--- a number in so many bytes, from low to high
+-- a number in `width` bytes, from low to high
 abbrev pub ranged_at : ℕ → ℕ → ℕ → List ℕ → Option (ℕ × List ℕ)
 ranged_at width low high bytes = kept (is_from low high) (number_at width bytes)

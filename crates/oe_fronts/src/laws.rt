@@ -1,4 +1,4 @@
-//! What is read is exactly what stands at the front. The functions have empty bodies and carry the laws.
+//! Each reading finds exactly what stands at the front. The functions have empty bodies and carry the laws.
 ghost use Rattle.oe_fronts.specs.Laws.{Keys_are_read_exactly, Rows_are_read_exactly};
 
 /// Each reading of a key finds the key whose image stands at the front of the bytes, and nothing else.

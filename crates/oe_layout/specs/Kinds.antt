@@ -1,4 +1,4 @@
--- What was done to a row of which table, as two numbers.
+-- What was done, and in which table, as two numbers.
 use Rattle.std.specs.Prelude.{◌==◌, ℕ, List, ◌++◌, Option, Some, None, if◌then◌else◌}
 use Rattle.oe_extent.specs.Images.{number, number_at}
 use Rattle.oe_fronts.specs.Fronts.{pair_at}

@@ -1,5 +1,6 @@
 -- The record that bytes are the image of.
 use Rattle.std.specs.Prelude.{◌≡◌, ◌==◌, ◌&&◌, ℕ, List, length, Option, Some, None, if◌then◌else◌}
+use Rattle.oe_extent.specs.declared.sizes.TheConstants.{LENGTH_BYTES}
 use Rattle.oe_extent.specs.Images.{number_at}
 use Rattle.oe_fronts.specs.Fronts.{◌>>=◌, seen, pair_at}
 use Rattle.oe_fronts.specs.KeyFronts.{history_key_at, new_order_key_at, order_key_at, order_line_key_at, warehouse_key_at, district_key_at, customer_key_at, stock_key_at}
@@ -50,7 +51,7 @@ framed_by size (Some x) =
 
 unfoldable pub record_at : List ℕ → Option (Previous × OwnRecord)
 record_at bytes =
-    framed_by (length bytes) (pair_at (number_at 2) (pair_at body_at (number_at 2)) bytes)
+    framed_by (length bytes) (pair_at (number_at LENGTH_BYTES) (pair_at body_at (number_at LENGTH_BYTES)) bytes)
 
 -- The bytes are the image of a record that is in its ranges: then it is read. Nothing else is read.
 pub record ReadsRecord (bytes : List ℕ) (result : Option (Previous × OwnRecord)) : Type 0 where

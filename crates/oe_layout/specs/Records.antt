@@ -1,6 +1,7 @@
 -- Undo records as bytes.
 use Rattle.std.specs.Prelude.{ℕ, List, ◌++◌, Option, None, Some, IfSome}
 use Rattle.oe_rows.specs.declared.rows.Row.{Row}
+use Rattle.oe_extent.specs.declared.sizes.TheConstants.{LENGTH_BYTES}
 use Rattle.oe_extent.specs.Images.{number}
 use Rattle.oe_image.specs.Keys.{key_image, IsKey}
 use Rattle.oe_image.specs.Rows.{row_image, IsRow}
@@ -26,10 +27,10 @@ contents b = followed (key_image (model.record_key b)) (model.row_before b)
 abbrev pub body_image : Previous → model.Record → List ℕ
 body_image p b = kind_image (kind_of b) ++ (previous_image p ++ contents b)
 
--- The image of an undo record: its length, what was done to a row of which table, the previous record, the key, the row before, and
--- its length again.
+-- The image of an undo record: its length, its kind, its link to the previous record, the key, the row before, and its length again.
 abbrev pub record_image : Previous → model.Record → List ℕ
-record_image p b = number 2 (record_length b) ++ (body_image p b ++ number 2 (record_length b))
+record_image p b =
+    number LENGTH_BYTES (record_length b) ++ (body_image p b ++ number LENGTH_BYTES (record_length b))
 
 -- its key and its row are in their ranges
 abbrev pub IsInRanges : model.Record → Type 0

@@ -1,12 +1,14 @@
-//! What was done to a row of which table.
+//! What was done, and in which table.
 ghost use Rattle.std.specs.Prelude.{◌≡◌};
 ghost use Rattle.std.specs.Option.{option_map};
+ghost use Rattle.oe_layout.specs.declared.parts.TheConstants.{KIND_BYTES};
 ghost use Rattle.oe_layout.specs.Kinds.{kind_numbers, kind_image, inserted_in, updated_in, kind_of_numbers, kind_at};
 
+use crate::parts::KIND_BYTES;
 use oe_extent::numbers::read_number;
 use oe_image::Imaged;
 
-/// What was done to a row of which table, of the changes that the standard's transactions make (clauses 2.4.2, 2.5.2 and 2.7.4).
+/// What was done, and in which table: one of the changes that the standard's transactions make (clauses 2.4.2, 2.5.2 and 2.7.4).
 #[derive(Clone, Copy)]
 pub enum RecordKind {
     InsertedHistory,
@@ -44,14 +46,14 @@ impl RecordKind {
 }
 
 impl Imaged for RecordKind {
-    ghost most = { 2 };
+    ghost most = { KIND_BYTES };
 
     ghost image = { λ k. kind_image k };
 
     #[inline]
     fn length(&self) -> usize {
         let _kind = *self;
-        2
+        KIND_BYTES
     }
 
     #[inline]

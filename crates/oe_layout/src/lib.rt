@@ -1,5 +1,5 @@
 //! Undo records as bytes, as they will lie in the ring. A record has its length at both its ends, so that it is found from either;
-//! between them stand what was done to a row of which table, where the previous record of the same row lies, the key, and the row
+//! between them stand what was done, and in which table, where the previous record of the same row lies, the key, and the row
 //! before. Numbers have their most significant byte first. Bytes that are no record are refused. No call takes memory. Clauses of
 //! the standard are those of TPC Benchmark C 5.11.
 #![tactic(auto)]
@@ -8,6 +8,7 @@ pub mod kinds;
 pub mod laws;
 pub mod links;
 pub mod loans;
+pub mod parts;
 pub mod ranges;
 pub mod reading;
 pub mod records;

@@ -1,8 +1,10 @@
 //! What leads from a record to the previous one of its row.
 ghost use Rattle.std.specs.Prelude.{◌≡◌, ◌≤◌};
 ghost use Rattle.std.specs.Option.{option_map};
+ghost use Rattle.oe_layout.specs.declared.parts.TheConstants.{LINK_BYTES};
 ghost use Rattle.oe_layout.specs.Links.{link_numbers, previous_image, at_address, nothing_at, previous_of, previous_at};
 
+use crate::parts::LINK_BYTES;
 use oe_extent::numbers::read_number;
 use oe_image::Imaged;
 use oe_values::numbers::{Moment, Number};
@@ -47,14 +49,14 @@ impl Previous {
 }
 
 impl Imaged for Previous {
-    ghost most = { 12 };
+    ghost most = { LINK_BYTES };
 
     ghost image = { λ p. previous_image p };
 
     #[inline]
     fn length(&self) -> usize {
         let _numbers = self.numbers();
-        12
+        LINK_BYTES
     }
 
     #[inline]

@@ -2,6 +2,7 @@
 ghost use Rattle.std.specs.Prelude.{◌≡◌, ◌≤◌, ◌+◌, length};
 ghost use Rattle.oe_extent.specs.Images.{Writes};
 ghost use Rattle.oe_extent.specs.Strings.{IsFramed};
+ghost use Rattle.oe_layout.specs.declared.parts.TheConstants.{OTHER_BYTES, MOST_CONTENTS, MOST_BYTES};
 ghost use Rattle.oe_layout.specs.Kinds.{kind_of};
 ghost use Rattle.oe_model.specs.Changes.{record_key};
 ghost use Rattle.oe_model.specs.Lengths.{record_length};
@@ -9,7 +10,8 @@ ghost use Rattle.oe_layout.specs.Records.{contents, record_image, record_of_lent
 
 use crate::kinds::RecordKind;
 use crate::links::Previous;
-use oe_extent::Written;
+use crate::parts::OTHER_BYTES;
+use oe_extent::{LENGTH_BYTES, Written};
 use oe_image::Imaged;
 use oe_rows::customers::Customer;
 use oe_rows::districts::District;
@@ -38,7 +40,7 @@ pub enum LentRecord<'a> {
 }
 
 impl<'a> LentRecord<'a> {
-    /// What was done to a row of which table.
+    /// Answers what was done, and in which table.
     pub fn kind(&self) -> RecordKind
         ensures { result ≡ kind_of (record_of_lent self.now) }
     {
@@ -80,9 +82,9 @@ impl<'a> LentRecord<'a> {
     /// How many bytes its key and its row have, of the whole record's length.
     #[inline(always)]
     fn contents_length(&self) -> usize
-        ensures sum { result + 18 ≡ record_length (record_of_lent self.now) }
+        ensures sum { result + OTHER_BYTES ≡ record_length (record_of_lent self.now) }
         ensures image { result ≡ length (contents (record_of_lent self.now)) }
-        ensures short { result ≤ 688 }
+        ensures short { result ≤ MOST_CONTENTS }
     {
         match self {
             LentRecord::InsertedHistory(key) => key.length(),
@@ -104,7 +106,7 @@ impl<'a> LentRecord<'a> {
 }
 
 impl<'a> Imaged for LentRecord<'a> {
-    ghost most = { 688 };
+    ghost most = { MOST_CONTENTS };
 
     ghost image = { λ r. contents (record_of_lent r) };
 
@@ -143,11 +145,11 @@ impl<'a> LinkedRecord<'a> {
         ensures sum { result ≡ record_length (record_of_lent self.now.record) }
         ensures image { result
             ≡ length (record_image self.now.previous (record_of_lent self.now.record)) }
-        ensures short { result ≤ 706 }
+        ensures short { result ≤ MOST_BYTES }
         ensures framed { IsFramed
             (record_image self.now.previous (record_of_lent self.now.record)) }
     {
-        self.record.contents_length() + 18
+        self.record.contents_length() + OTHER_BYTES
     }
 }
 
@@ -162,8 +164,8 @@ impl<'a> Written for LinkedRecord<'a> {
         // The offsets give the length; what the columns say of it is for the proof alone.
         let _length = self.length();
         let body = (self.record.kind(), (&self.previous, &self.record));
-        let end = body.write(bytes, start + 2);
-        let length = (end + 2 - start) as u16;
+        let end = body.write(bytes, start + LENGTH_BYTES);
+        let length = (end + LENGTH_BYTES - start) as u16;
         let _middle = length.write(bytes, start);
         length.write(bytes, end)
     }

@@ -7,6 +7,7 @@ ghost use Rattle.oe_layout.specs.declared.kinds.RecordKind.TheVariants as kind;
 use crate::kinds::{RecordKind, read_kind};
 use crate::links::{Previous, read_previous};
 use crate::records::OwnRecord;
+use oe_extent::LENGTH_BYTES;
 use oe_extent::numbers::read_number;
 use oe_fronts::customers::read_customer;
 use oe_fronts::items::read_stock;
@@ -150,19 +151,19 @@ fn read_body(bytes: &[u8]) -> Option<((Previous, OwnRecord), &[u8])>
     Some(((previous, record), rest))
 }
 
-/// The record, where both lengths are that of the bytes.
+/// Reads the record, where both its lengths are the number of bytes.
 #[tactic(auto, unfolding(crate::specs::RecordFronts::record_at))]
 fn whole_record(bytes: &[u8]) -> Option<(Previous, OwnRecord)>
     ensures { result ≡ record_at bytes.now }
 {
     let size = bytes.len() as u64;
-    let Some((first, rest)) = read_number(bytes, 2) else {
+    let Some((first, rest)) = read_number(bytes, LENGTH_BYTES) else {
         return None;
     };
     let Some((record, rest)) = read_body(rest) else {
         return None;
     };
-    let Some((last, rest)) = read_number(rest, 2) else {
+    let Some((last, rest)) = read_number(rest, LENGTH_BYTES) else {
         return None;
     };
     if first == size && last == size && rest.is_empty() {

@@ -1,5 +1,6 @@
 //! Undo records where they lie as bytes.
 ghost use Rattle.std.specs.Prelude.{◌≡◌, ◌++◌};
+ghost use Rattle.oe_extent.specs.declared.sizes.TheConstants.{LENGTH_BYTES};
 ghost use Rattle.oe_extent.specs.Images.{number};
 ghost use Rattle.oe_image.specs.Keys.{IsKey};
 ghost use Rattle.oe_model.specs.Changes.{record_key};
@@ -10,6 +11,7 @@ ghost use Rattle.oe_layout.specs.Stored.{IsStoredRecord, told, IsTold, IsToldLin
 
 use crate::kinds::{RecordKind, read_kind};
 use crate::links::{Previous, read_previous};
+use crate::parts::{CONTENTS_START, KIND_START, LINK_START};
 use crate::reading::read_record;
 use crate::records::OwnRecord;
 use oe_fronts::keys::read_key;
@@ -72,7 +74,7 @@ pub fn linked_record(bytes: &[u8]) -> (Previous, StoredRecord<'_>)
     requires { IsStoredRecord bytes.now }
     ensures { IsToldLinked bytes.now (result.0, result.1) }
 {
-    let Some((previous, _contents)) = read_previous(&bytes[4..]) else {
+    let Some((previous, _contents)) = read_previous(&bytes[LINK_START..]) else {
         unreachable!()
     };
     (previous, StoredRecord::of(bytes))
@@ -88,19 +90,19 @@ impl<'a> StoredRecord<'a> {
         StoredRecord { bytes }
     }
 
-    /// What was done to a row of which table.
+    /// Answers what was done, and in which table.
     pub fn kind(&self) -> RecordKind
         ensures { result ≡ kind_of self.now }
     {
-        read_kind(&self.bytes[2..]).unwrap().0
+        read_kind(&self.bytes[KIND_START..]).unwrap().0
     }
 
     /// The bytes from its key on, which is in its ranges.
     fn contents(&self) -> &[u8]
         ensures key { IsKey (record_key self.now) }
-        ensures bytes { result.now ≡ contents self.now ++ number 2 (record_length self.now) }
+        ensures bytes { result.now ≡ contents self.now ++ number LENGTH_BYTES (record_length self.now) }
     {
-        &self.bytes[16..]
+        &self.bytes[CONTENTS_START..]
     }
 
     /// The key of the row that was changed. No row is read.

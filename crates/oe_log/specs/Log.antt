@@ -115,7 +115,7 @@ pushed v t r = with_records v t (r ∷ records_at v t)
 abbrev pub popped : SegmentLog → ℕ → SegmentLog
 popped v t = with_records v t (drop 1 (records_at v t))
 
--- the open segment made that of the newest commit
+-- the open segment sealed, so that the newest commit has it
 abbrev pub sealed : SegmentLog → ℕ → Request → Reply → SegmentLog
 sealed v t q y =
     record {

@@ -32,7 +32,7 @@ IsOutside low high m (TooOld h) = (h ≡ low) × (m < h)
 IsOutside low high m (Future n) = (n ≡ high) × (n < m)
 IsOutside low high m e = ⊥
 
--- a moment of which the later commits are kept
+-- all commits after the moment are kept
 abbrev pub IsKeptMoment : SegmentLog → ℕ → Type 0
 IsKeptMoment v m = IsBetween (horizon v) (newest v) m
 

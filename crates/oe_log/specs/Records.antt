@@ -46,7 +46,7 @@ pub record HasAddress (rs : List Logged) (a : RecordAddress) : Type 0 where
   pub before : Record
   pub there : IsAmong (logged a previous before) rs
 
--- what is told is the record at that address
+-- the answer is the record at that address
 abbrev pub IsRecordAt : List Logged → RecordAddress → Previous × Record → Type 0
 IsRecordAt rs a told =
     (p : Previous) (b : Record) → IsAmong (logged a p b) rs → told ≡ (p, b)

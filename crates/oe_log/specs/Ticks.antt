@@ -1,6 +1,6 @@
 -- A count of records that were read.
 use Rattle.std.specs.Prelude.{ℕ, ◌+◌, ◌-◌, ◌^◌, min}
 
--- so many more; at its greatest value the count rises no further
+-- `count` records more; at its greatest value the count rises no further
 abbrev pub ticked : ℕ → ℕ → ℕ
 ticked before count = min (before + count) (2 ^ 64 - 1)

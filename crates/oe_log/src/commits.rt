@@ -28,8 +28,8 @@ impl Log {
         Moment::new(self.newest.get() - kept).unwrap()
     }
 
-    /// Makes an open segment that of the newest commit, and answers the commit's moment. It takes no memory, and keeps no byte of
-    /// request and reply.
+    /// Seals an open segment, which the newest commit has from then on, and answers the commit's moment. It takes no memory, and
+    /// keeps no byte of request and reply.
     pub fn seal(
         &mut self,
         segment: Segment,

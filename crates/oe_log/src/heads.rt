@@ -1,6 +1,6 @@
 //! Heads: whose the segments are, and how many records each has in the ring.
 //!
-//! Their invariant is that of the log that keeps them. No call takes memory, and nothing can fail.
+//! The log that keeps them has their invariant. No call takes memory, and nothing can fail.
 ghost use Rattle.std.specs.Prelude.{◌≡◌};
 
 use oe_requests::replies::Reply;

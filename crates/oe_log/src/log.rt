@@ -96,7 +96,7 @@ fn idle_heads(alloc: Global) -> Result<Vec<TerminalHead>, NoMemory>
 }
 
 impl Log {
-    /// No segment, and no commit of any terminal, on a ring of so many extents; `NoMemory` where memory was refused.
+    /// Makes a log without a segment or a commit, on a ring of `extents` extents; `NoMemory` where memory was refused.
     pub fn new(alloc: Global, extents: ExtentCount) -> Result<Log, NoMemory>
         ensures { IfOk result (λ s. s ≡ no_segments extents) }
     {

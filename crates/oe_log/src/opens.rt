@@ -1,5 +1,6 @@
 //! Open segments.
 ghost use Rattle.std.specs.Prelude.{◌≡◌, ◌<◌, ◌↔◌, suc, false, [], length, option_map, None, IsSome, IsErr, IfOk, OnOk, OnErr};
+ghost use Rattle.oe_extent.specs.declared.sizes.TheConstants.{EXTENT_BYTES};
 ghost use Rattle.oe_model.specs.Lengths.{record_length};
 ghost use Rattle.oe_layout.specs.Records.{record_of_own, record_of_lent};
 ghost use Rattle.oe_layout.specs.Stored.{deleted_new_order};
@@ -18,7 +19,7 @@ use oe_values::numbers::{Number, Terminal, TransactionNumber};
 /// An address of the ring as that of a record.
 fn record_address(address: Address) -> RecordAddress
     requires extent { address.extent < 4096 }
-    requires offset { address.offset < 4096 }
+    requires offset { address.offset < EXTENT_BYTES }
     ensures { result ≡ record { extent = address.extent; offset = address.offset } }
 {
     RecordAddress {

@@ -1,4 +1,4 @@
-//! What is known of terminals, and of records, by their addresses or one after another.
+//! Terminals and records as they are read: whose they are, and the records by their addresses or one after another.
 ghost use Rattle.std.specs.Prelude.{◌≡◌, ◌<◌, ◌≤◌, ◌+◌, ◌↔◌, ℕ, suc, false, [], length, get_or, take, slice_get, option_map, Option, is_some, IsTrue, IsSome, IfSome};
 ghost use Rattle.oe_log.specs.Records.{HasAddress, IsRecordAt};
 ghost use Rattle.oe_model.specs.System.{system, terminal_limit};
@@ -73,8 +73,8 @@ impl Log {
         self.open_count as u32
     }
 
-    /// Whose a commit was, by the number of later ones; none exactly where so many are not kept. Its number is its terminal's count
-    /// less the terminal's later commits, and 1 at least.
+    /// Answers whose a commit was, by the number of later ones; none exactly where that commit is not kept. Its number is its
+    /// terminal's count less the terminal's later commits, and 1 at least.
     pub fn committed(&self, later: usize) -> Option<SegmentOwner>
         ensures commit { result ≡ option_map owner_of (slice_get self.now.committed later) }
         ensures number { IfSome result

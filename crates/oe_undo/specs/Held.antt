@@ -19,12 +19,12 @@ abbrev pub held_by : Holder → List Logged → List Held
 held_by h [] = []
 held_by h (r ∷ rs) = record { logged = r; holder = h } ∷ held_by h rs
 
--- those of the open segments of these terminals
+-- the records of these terminals' open segments
 abbrev pub held_open : (ℕ → List Logged) → List ℕ → List Held
 held_open active [] = []
 held_open active (t ∷ ts) = held_by (Open t) (active t) ++ held_open active ts
 
--- those of commits, the newest at this moment, each older one at the moment before
+-- the records of these commits, the newest at this moment, each older one at the moment before
 abbrev pub held_commits : ℕ → List CommitSegment → List Held
 held_commits m [] = []
 held_commits m (c ∷ cs) = held_by (At m) c.records ++ held_commits (m - 1) cs
@@ -33,7 +33,7 @@ held_commits m (c ∷ cs) = held_by (At m) c.records ++ held_commits (m - 1) cs
 abbrev pub held : SegmentLog → List Held
 held u = held_open (records_at u) (all_below system terminal_limit) ++ held_commits (total_count u) u.committed
 
--- those of the key
+-- the records of the key
 abbrev pub of_key : Key → List Held → List Held
 of_key k [] = []
 of_key k (r ∷ rs) = cond (is_key k (record_key r.logged.before)) (r ∷ of_key k rs) (of_key k rs)

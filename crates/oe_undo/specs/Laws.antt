@@ -1,4 +1,4 @@
--- What each call of a log makes of the chains, and of which keys no record is left.
+-- What each call of a log makes of the chains, and which keys have no record left.
 use Rattle.std.specs.Prelude.{◌≡◌, ◌≤◌, ◌↔◌, ℕ, suc, List, [], ◌∷◌, length, Option, None, Some}
 use Rattle.oe_rows.specs.declared.keys.Key.{Key}
 use Rattle.oe_model.specs.Changes.{record_key}

@@ -1,5 +1,5 @@
--- What is kept of links. A key without a link may have a place for one. HISTORY's keys have theirs in a finite map, and those of the
--- other tables by their numbers.
+-- Links, and the places that keep them. A key without a link may have a place for one. HISTORY's keys have theirs in a finite map, and
+-- the keys of the other tables by their numbers.
 use Rattle.std.specs.Prelude.{◌≡◌, ◌↔◌, Bool, false, [], cond, Option, Some, IsSome}
 use Rattle.std.specs.Ordering.{eq_by_cmp}
 use Rattle.std.specs.FinMap.{FinMap, empty, get, insert}

@@ -23,7 +23,7 @@ abbrev pub oldest_of_commits : Key → List (List Record) → Option Record → 
 oldest_of_commits k [] newer = newer
 oldest_of_commits k (bs ∷ ss) newer = oldest_of_commits k ss (oldest_in k bs newer)
 
--- among all open transactions and so many of the newest commits
+-- among all open transactions and the `count` newest commits
 abbrev pub oldest_after : Key → SegmentLog → ℕ → Option Record
 oldest_after k u count =
     oldest_of_commits k (take count (undo_of u).history)

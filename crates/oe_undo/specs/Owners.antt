@@ -12,7 +12,7 @@ use Rattle.oe_undo.specs.declared.holders.Holder.TheVariants.{Open, At}
 use Rattle.oe_undo.specs.Chains.{AreChained}
 use Rattle.oe_undo.specs.declared.links.OwnedLink.{OwnedLink}
 
--- the moments of a terminal's commits among these, the newest of which made moment m, and each older one the moment before
+-- the moments of a terminal's commits among these: the newest made moment m, and each older one the moment before
 abbrev pub moments_of : ℕ → ℕ → List CommitSegment → List ℕ
 moments_of t m [] = []
 moments_of t m (c ∷ cs) = cond (t == c.terminal) (m ∷ moments_of t (m - 1) cs) (moments_of t (m - 1) cs)
@@ -42,7 +42,7 @@ abbrev pub IsMadeBy : SegmentLog → Holder → Type 0
 IsMadeBy u (Open t) = ⊤
 IsMadeBy u (At m) = m ≤ total_count u
 
--- that of the link has, if there is a link
+-- the commit that a link's holder names has been made, if there is a link
 abbrev pub IsMade : SegmentLog → Option Link → Type 0
 IsMade u None = ⊤
 IsMade u (Some l) = IsMadeBy u l.holder
@@ -67,13 +67,13 @@ pub record AreIdle (ms : List MomentList) : Type 0 where
   pub size : length ms ≡ suc TERMINALS
   pub idle : All (λ m. m.moments ≡ []) ms
 
--- these lists are those of the terminals, with room for the commit of each open transaction
+-- each terminal has its list of these, with room for the commit of its open transaction
 pub record AreMoments (u : SegmentLog) (ms : List MomentList) : Type 0 where
   pub size : length ms ≡ suc TERMINALS
   pub kept : (t : ℕ) → t < suc TERMINALS → (moments_at ms t).moments ≡ moments_of t (total_count u) u.committed
   pub room : (t : ℕ) → IsSome (active_at u t) → 1 ≤ (moments_at ms t).room
 
--- what is kept beside a log
+-- the links and the moments beside a log
 pub record IsLinked (u : SegmentLog) (links : Key → Option OwnedLink) (ms : List MomentList) : Type 0 where
   pub chained : AreChained u (λ k. followed u (links k))
   pub owned : AreOwned u links

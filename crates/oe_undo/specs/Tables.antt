@@ -1,4 +1,4 @@
--- What is kept of the links of one table: shelf by shelf the places of its keys, by number.
+-- The links of one table: shelf by shelf the places of its keys, by number.
 use Rattle.std.specs.Prelude.{◌≡◌, ℕ, cond, Bool, false, List, Option, None, Some}
 use Rattle.std.specs.Ordering.{eq_by_cmp}
 use Rattle.std.specs.declared.cmp.Ordering.{Ordering}

@@ -21,7 +21,7 @@ abbrev pub leads_later : ℕ → Option Link → Bool
 leads_later m None = false
 leads_later m (Some l) = is_later m l.holder
 
--- from this link on, where the oldest record so far is `newer`, so many records are read, and the last of them is `oldest`
+-- From this link on, where the oldest record so far is `newer`, a walk reads this number of records, and the last of them is `oldest`.
 pub data Walks (u : SegmentLog) (m : ℕ) : Option Link → Option Record → ℕ → Option Record → Type 0 where
   Ends : (l : Option Link) (newer : Option Record) → leads_later m l ≡ false → Walks u m l newer 0 newer
   Reads : (a : RecordAddress) (h : Holder) (p : Previous) (b : Record) (newer : Option Record) (n : ℕ) (oldest : Option Record)

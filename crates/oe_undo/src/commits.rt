@@ -1,4 +1,4 @@
-//! Commits: their moments told, their segments given up, or opened again. No link changes.
+//! Commits: their moments, and their segments given up or opened again. No link changes.
 ghost use Rattle.std.specs.Prelude.{◌≡◌, ◌+◌, ◌-◌, ℕ, length, slice_get, option_map, None, IsSome};
 ghost use Rattle.oe_log.specs.Log.{active_at, total_count, owner_of, sealed, with_newest, reopened};
 
@@ -10,8 +10,8 @@ use oe_values::Moment;
 use std::snapshot::Snapshot;
 
 impl Undo {
-    /// Makes an open segment that of the newest commit, and answers the commit's moment, which is that of the links to its records
-    /// then. It takes no memory, and keeps no byte of request and reply.
+    /// Seals an open segment, which the newest commit has from then on, and answers the commit's moment. Links to its records lead
+    /// to that commit then. It takes no memory, and keeps no byte of request and reply.
     pub fn seal(
         &mut self,
         segment: Segment,

@@ -8,7 +8,7 @@ use std::alloc::Global;
 use std::collections::VecDeque;
 use std::marker::Model;
 
-/// The moments of a terminal's commits that are kept, the newest first, with room for so many more.
+/// The moments of a terminal's commits that are kept, the newest first, and for how many more there is room.
 #[derive(Drop)]
 pub(crate) struct TerminalMoments {
     newest_first: VecDeque<Moment>,
@@ -48,7 +48,7 @@ impl TerminalMoments {
         }
     }
 
-    /// One more, that of the newest commit. It takes no memory.
+    /// Adds the newest commit's moment. It takes no memory.
     pub(crate) fn commit(&mut self, moment: Moment)
         requires { 1 ≤ self.old.room }
         ensures { self.new.moments ≡ moment ∷ self.old.moments }
@@ -56,7 +56,7 @@ impl TerminalMoments {
         self.newest_first.push_front_reserved(moment);
     }
 
-    /// Without that of the newest commit, whose room is free again.
+    /// Takes off the newest commit's moment, whose room is free again.
     pub(crate) fn take_back(&mut self)
         ensures moments { self.new.moments ≡ drop 1 self.old.moments }
         ensures room { self.new.room + length self.new.moments
@@ -65,7 +65,7 @@ impl TerminalMoments {
         let _newest = self.newest_first.pop_front();
     }
 
-    /// Without that of the oldest commit.
+    /// Takes off the oldest commit's moment.
     pub(crate) fn forget_oldest(&mut self)
         ensures moments { self.new.moments
             ≡ take (length self.old.moments - 1) self.old.moments }
@@ -74,7 +74,7 @@ impl TerminalMoments {
         let _oldest = self.newest_first.pop_back();
     }
 
-    /// That of the commit with so many later ones; none where that is not kept.
+    /// Answers the moment of the commit with `later` later ones; none where that commit is not kept.
     #[inline(always)]
     pub(crate) fn at(&self, later: usize) -> Option<Moment>
         ensures { result ≡ slice_get self.now.moments later }

@@ -78,7 +78,7 @@ impl<T> Places<T> {
         }
     }
 
-    /// What is in a place; none where it is empty, or there is no such place.
+    /// Answers the content of a place; none where it is empty, or there is no such place.
     #[inline(always)]
     pub(crate) fn content(&self, shelf: usize, number: usize) -> Option<T>
     where

@@ -28,7 +28,7 @@ pub enum CantPush {
     NoMemory,
 }
 
-// What is behind a `&mut`, to be read. To read it without a call is more than the borrow checker's proof can do here.
+// Lends the value behind a `&mut`. To read it without a call is more than the borrow checker's proof can do here.
 #[inline(always)]
 fn shared<T>(lent: &mut T) -> &T
     ensures* stays { sem 𝓛 (Rests T.row lent.entry (λ v. v ≡ lent.entry.now)) }

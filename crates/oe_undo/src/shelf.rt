@@ -69,7 +69,7 @@ impl<T> PlaceShelf<T> {
         }
     }
 
-    /// What is in the place of that number; none where it is empty, or there is no such place.
+    /// Answers the content of the place of that number; none where it is empty, or there is no such place.
     #[inline(always)]
     pub(crate) fn content(&self, number: usize) -> Option<T>
     where

@@ -85,7 +85,7 @@ pub(crate) fn followed_in(
 }
 
 impl Undo {
-    /// No segment, no commit and no link, on a ring of so many extents; `NoMemory` where memory was refused.
+    /// Makes a log without a segment, a commit or a link, on a ring of `extents` extents; `NoMemory` where memory was refused.
     pub fn new(alloc: Global, extents: ExtentCount) -> Result<Undo, NoMemory>
         ensures log { IfOk result (λ u. u.log ≡ no_segments extents) }
         ensures links { IfOk result (λ u. u.links ≡ no_links) }

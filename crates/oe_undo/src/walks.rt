@@ -45,9 +45,9 @@ impl Undo {
         }
     }
 
-    /// The record that has the row which a key had at a moment that is kept: the oldest of the key's records that are open or of a later
-    /// commit; none where the row that stands is that of the moment. From the key's link on, these records are read, each of which
-    /// ticks, and no other.
+    /// Answers the record that has the row which a key had at a moment that is kept: the oldest of the key's records that are open or of
+    /// a later commit; none where the row of that moment still stands. It reads these records from the key's link on, ticks once for
+    /// each, and reads no other.
     pub fn oldest_after(
         &self,
         key: &Key,
