@@ -10,5 +10,6 @@ mod ChainedFacts
 pub mod MoreFacts
 pub mod WriteFacts
 mod UnplacedFacts
+pub mod LedFacts
 pub mod PurgeFacts
 pub mod LeftFacts

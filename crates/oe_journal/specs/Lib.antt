@@ -6,3 +6,4 @@ pub mod GoesBack
 pub mod Unwinds
 pub mod Rewinds
 pub mod GivesUp
+pub mod Identity

@@ -4,6 +4,7 @@
 #![tactic(auto)]
 
 mod inserts;
+pub mod laws;
 mod lending;
 pub mod purges;
 pub mod rewinds;

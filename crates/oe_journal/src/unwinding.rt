@@ -5,13 +5,15 @@ ghost use Rattle.oe_log.specs.Log.{active_at, records_at, with_records};
 ghost use Rattle.oe_log.specs.Stands.{undo_of};
 ghost use Rattle.oe_undo.specs.Links as links;
 ghost use Rattle.oe_journal.specs.GoesBack.{CanUnwind, HavePlaces};
+ghost use Rattle.oe_journal.specs.Identity.{LeadBack};
 ghost use Rattle.oe_journal.specs.Unwinds.{TakesBack};
 
 use oe_log::Segment;
 use oe_store::Tables;
 use oe_undo::Undo;
 
-/// Puts back what the newest records of an open segment are of, so many, and drops them. It takes no memory.
+/// Puts back what the newest records of an open segment are of, so many, and drops them. Their keys lead again where they led before
+/// each of them was made. It takes no memory.
 pub fn take_back(tables: &mut Tables, undo: &mut Undo, segment: Segment, count: usize)
     requires open { IsSome (active_at undo.old.log segment) }
     requires enough { count ≤ length (records_at undo.old.log segment) }
@@ -22,6 +24,7 @@ pub fn take_back(tables: &mut Tables, undo: &mut Undo, segment: Segment, count: 
     ensures log { undo.new.log
         ≡ with_records undo.old.log segment (drop count (records_at undo.old.log segment)) }
     ensures links { links.SamePlaces undo.old.links undo.new.links }
+    ensures seen { LeadBack undo.old undo.new segment count }
 {
     for _ in 0..count {
         // For the proof: a key that has a record has a link, and a place for it.

@@ -1,9 +1,14 @@
 -- One record after another.
-use Rattle.std.proofs.Common.{◌≡◌, suc, ◌+◌, ◌-◌, ◌∙◌, sym, subst, arith}
+use Rattle.std.proofs.Common.{◌≡◌, suc, ◌+◌, ◌-◌, ◌∙◌, sym, ap, subst, arith, take}
+use Rattle.oe_rows.specs.declared.keys.Key.{Key}
 use Rattle.oe_layout.specs.Records.{record_of_own}
 use Rattle.oe_log.specs.Log.{active_at, records_at}
 use Rattle.oe_log.proofs.StateFacts.{some_of}
+use Rattle.oe_undo.specs.Held.{horizon}
+use Rattle.oe_undo.specs.Undo.{seen}
+use Rattle.oe_journal.specs.Identity.{led_back}
 use Rattle.oe_journal.proofs.LinkFacts.{then_links}
+use Rattle.oe_journal.proofs.LedFacts.{horizon_kept, led_on}
 use Rattle.oe_journal.proofs.ChainedFacts.{same_given_back}
 use Rattle.oe_journal.proofs.BackFacts.{GoesBack, begins, still_open, can_go, goes_on, ends}
 use Rattle.oe_journal.proofs.unwinding.take_back.Goals as goal
@@ -14,6 +19,7 @@ loop-init c =
       subst (λ n. GoesBack c.args.tables.now c.args.tables.now c.args.undo.now.log c.args.undo.now.log c.args.segment c.args.count (records_at c.args.undo.now.log c.args.segment) n) all
           (begins c.args.tables.now c.args.undo.now.log c.args.segment c.args.count c.requires.enough c.requires.places c.requires.unwinds),
       λ k. (λ h. h, λ h. h),
+      λ k. ap (λ n. led_back (horizon c.args.undo.now.log) c.args.segment (take n (records_at c.args.undo.now.log c.args.segment)) (seen c.args.undo.now) k) (sym all),
     )
 
 pub take_newest-requires : goal.take_newest-requires
@@ -36,6 +42,13 @@ loop-preserved c =
           (subst (λ n. GoesBack c.args.tables.now c.loop.tables c.args.undo.now.log c.loop.undo.log c.args.segment c.args.count (records_at c.loop.undo.log c.args.segment) n) one_less c.loop.invariant.0),
       then_links c.args.undo.now.links c.loop.undo.links c.take_newest.new.self.links c.loop.invariant.1
           (same_given_back c.loop.undo c.take_newest.new.self c.args.segment c.is_chained.ensures.whole c.is_chained.ensures.chained c.take_newest.ensures.links),
+      led_on c.args.undo.now c.loop.undo c.take_newest.new.self c.args.segment (c.args.count - (c.loop.counter + 1)) c.args.count (record_of_own c.in-Some.newest)
+          (still_open c.args.tables.now c.loop.tables c.args.undo.now.log c.loop.undo.log c.args.segment c.args.count (records_at c.loop.undo.log c.args.segment) (c.args.count - c.loop.counter) c.loop.invariant.0 c.args.segment
+          ∙ c.requires.open)
+          (horizon_kept c.args.undo.now.log c.loop.undo.log c.args.segment (records_at c.loop.undo.log c.args.segment) c.loop.invariant.0.log)
+          (sym c.in-Some.ensures.newest) c.take_newest.ensures.log c.take_newest.ensures.links
+          (subst (λ n. (k : Key) → led_back (horizon c.args.undo.now.log) c.args.segment (take n (records_at c.loop.undo.log c.args.segment)) (seen c.loop.undo) k
+          ≡ led_back (horizon c.args.undo.now.log) c.args.segment (take c.args.count (records_at c.args.undo.now.log c.args.segment)) (seen c.args.undo.now) k) one_less c.loop.invariant.2),
     )
 
 pub returns-clause-back : goal.returns-clause-back
@@ -44,3 +57,8 @@ returns-clause-back c =
     let o = some_of (active_at c.args.undo.now.log c.args.segment) c.requires.open in
     ends c.args.tables.now c.loop.tables c.args.undo.now.log c.loop.undo.log c.args.segment c.args.count o.0 (records_at c.loop.undo.log c.args.segment) o.1
     (subst (λ n. GoesBack c.args.tables.now c.loop.tables c.args.undo.now.log c.loop.undo.log c.args.segment c.args.count (records_at c.loop.undo.log c.args.segment) n) none c.loop.invariant.0)
+
+pub returns-clause-seen : goal.returns-clause-seen
+returns-clause-seen c = λ k.
+    let none : 0 ≡ c.args.count - c.loop.counter = omega arith in
+    ap (λ n. led_back (horizon c.args.undo.now.log) c.args.segment (take n (records_at c.loop.undo.log c.args.segment)) (seen c.loop.undo) k) none ∙ c.loop.invariant.2 k
