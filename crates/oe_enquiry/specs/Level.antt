@@ -31,7 +31,7 @@ listed p items (i ∷ is) = listed p (cond (not (is_listed items i) && p i) (ite
 abbrev pub items_of : OrderKey → FinMap order_line_cmp OrderLine → List ℕ
 items_of k lines = map (λ e. e.1.item) (lines_of k lines)
 
--- those of so many orders before the district's next one
+-- the items of the last n orders before the district's next one
 abbrev pub sold : DistrictKey → ℕ → FinMap order_line_cmp OrderLine → ℕ → List ℕ
 sold h next lines zero = []
 sold h next lines (suc n) = items_of (order_in h (next - suc n)) lines ++ sold h next lines n

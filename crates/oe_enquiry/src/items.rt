@@ -48,7 +48,7 @@ impl Default for Listed {
     }
 }
 
-/// The items of the lines of at most 20 orders, of which each has at most 15.
+/// The items of the lines of at most 20 orders with at most 15 lines each.
 pub type Items = Lines<Listed, 0, 300>;
 
 /// Whether an item is in the list.

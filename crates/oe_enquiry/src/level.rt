@@ -94,7 +94,7 @@ fn order_number(number: u32) -> OrderNumber
     }
 }
 
-/// The distinct items that were short among those of the district's last 20 orders before the next one (clause 2.8.2.2).
+/// Lists the distinct items of the district's last 20 orders before the next one that were short (clause 2.8.2.2).
 fn short_items(version: &Version<'_>, query: &LevelQuery, next: OrderNumber) -> Items
     requires { Stand version.now.tables version.now.log }
     ensures { AreLow query.now (rows_of version.now) next result }
@@ -119,8 +119,8 @@ fn count_of(items: &Items) -> LowStock
     }
 }
 
-/// What Stock-Level answers of a version: how many distinct items the lines of the district's last 20 orders name of which its
-/// warehouse has less than the threshold (clause 2.8.2.2). `NoSuchRow` with the district where there was none.
+/// Answers Stock-Level of a version: how many distinct items on the lines of the district's last 20 orders had a stock below the
+/// threshold in the district's warehouse (clause 2.8.2.2). `NoSuchRow` with the district where there was none.
 #[tactic(auto, using(crate::proofs::AnswerFacts::level_counted, crate::proofs::AnswerFacts::no_district))]
 pub fn stock_level(version: &Version<'_>, query: &LevelQuery) -> Result<LowStock, Refusal>
     requires { Stand version.now.tables version.now.log }

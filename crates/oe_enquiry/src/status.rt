@@ -1,4 +1,4 @@
-//! Order-Status (clause 2.6): what is told of a customer's newest order.
+//! Order-Status (clause 2.6): a customer's newest order.
 ghost use Rattle.std.specs.Prelude.{◌≡◌, IfOk, IfErr};
 ghost use Rattle.oe_theory.specs.Machine.{Here, Missing};
 ghost use Rattle.oe_requests.specs.declared.replies.QueryReply.TheVariants as told;
@@ -29,7 +29,7 @@ fn chosen(
     }
 }
 
-/// What is told of the newest order that a customer had, if there was any, with its lines by OL_NUMBER.
+/// Answers the newest order that a customer had, if there was any, with its lines by OL_NUMBER.
 fn newest_order(version: &Version<'_>, customer: CustomerKey) -> Option<OrderStatus>
     requires { Stand version.now.tables version.now.log }
     ensures { result

@@ -1,11 +1,12 @@
 //! Columns of rows as they stood at a moment. Of a row nothing else is handed out.
-ghost use Rattle.std.specs.Prelude.{◌≡◌, option_map, option_and_then};
+ghost use Rattle.std.specs.Prelude.{◌≡◌, option_and_then};
 ghost use Rattle.std.specs.FinMap.{get};
 ghost use Rattle.oe_rows.specs.declared.keys.Key.TheVariants as keys;
 ghost use Rattle.oe_model.specs.Rows.{row_at, as_warehouse, as_district, as_customer, as_stock};
 ghost use Rattle.oe_store.specs.Places.{rows};
 ghost use Rattle.oe_versions.specs.Versions.{rows_of};
 ghost use Rattle.oe_versions.specs.Found.{row_found};
+ghost use Rattle.oe_versions.specs.Columns.{ytd_of_warehouse, ytd_of_district, next_order_of, balance_of, quantity_of};
 
 use crate::moments::Version;
 use oe_layout::{OwnRecord, StoredRecord};
@@ -19,7 +20,7 @@ fn ytd_of_warehouse(
     key: &WarehouseKey,
     found: Option<StoredRecord<'_>>,
 ) -> Option<YearToDate>
-    ensures { result ≡ option_map (λ x. x.ytd) (option_and_then as_warehouse
+    ensures { result ≡ ytd_of_warehouse (option_and_then as_warehouse
         (row_found found.entry (row_at (rows tables.now) (keys.Warehouse key.now)))) }
 {
     match found {
@@ -37,7 +38,7 @@ fn ytd_of_district(
     key: &DistrictKey,
     found: Option<StoredRecord<'_>>,
 ) -> Option<YearToDate>
-    ensures { result ≡ option_map (λ x. x.ytd) (option_and_then as_district
+    ensures { result ≡ ytd_of_district (option_and_then as_district
         (row_found found.entry (row_at (rows tables.now) (keys.District key.now)))) }
 {
     match found {
@@ -55,7 +56,7 @@ fn next_order_of(
     key: &DistrictKey,
     found: Option<StoredRecord<'_>>,
 ) -> Option<OrderNumber>
-    ensures { result ≡ option_map (λ x. x.next_order) (option_and_then as_district
+    ensures { result ≡ next_order_of (option_and_then as_district
         (row_found found.entry (row_at (rows tables.now) (keys.District key.now)))) }
 {
     match found {
@@ -73,7 +74,7 @@ fn balance_of(
     key: &CustomerKey,
     found: Option<StoredRecord<'_>>,
 ) -> Option<Balance>
-    ensures { result ≡ option_map (λ x. x.account.balance) (option_and_then as_customer
+    ensures { result ≡ balance_of (option_and_then as_customer
         (row_found found.entry (row_at (rows tables.now) (keys.Customer key.now)))) }
 {
     match found {
@@ -87,7 +88,7 @@ fn balance_of(
 
 /// S_QUANTITY of the row that a record has, or of the one that stands where there is no record.
 fn quantity_of(tables: &Tables, key: &StockKey, found: Option<StoredRecord<'_>>) -> Option<Count>
-    ensures { result ≡ option_map (λ x. x.quantity) (option_and_then as_stock
+    ensures { result ≡ quantity_of (option_and_then as_stock
         (row_found found.entry (row_at (rows tables.now) (keys.Stock key.now)))) }
 {
     match found {
@@ -102,7 +103,7 @@ fn quantity_of(tables: &Tables, key: &StockKey, found: Option<StoredRecord<'_>>)
 impl<'a> Version<'a> {
     /// W_YTD of a warehouse, if it was there.
     pub fn warehouse_ytd(&self, key: &WarehouseKey) -> Option<YearToDate>
-        ensures { result ≡ option_map (λ x. x.ytd) (get (rows_of self.now).warehouses key.now) }
+        ensures { result ≡ ytd_of_warehouse (get (rows_of self.now).warehouses key.now) }
     {
         let found = self.found(&Key::Warehouse(*key));
         ytd_of_warehouse(self.tables(), key, found)
@@ -110,7 +111,7 @@ impl<'a> Version<'a> {
 
     /// D_YTD of a district, if it was there.
     pub fn district_ytd(&self, key: &DistrictKey) -> Option<YearToDate>
-        ensures { result ≡ option_map (λ x. x.ytd) (get (rows_of self.now).districts key.now) }
+        ensures { result ≡ ytd_of_district (get (rows_of self.now).districts key.now) }
     {
         let found = self.found(&Key::District(*key));
         ytd_of_district(self.tables(), key, found)
@@ -118,7 +119,7 @@ impl<'a> Version<'a> {
 
     /// D_NEXT_O_ID of a district, if it was there.
     pub fn next_order(&self, key: &DistrictKey) -> Option<OrderNumber>
-        ensures { result ≡ option_map (λ x. x.next_order) (get (rows_of self.now).districts key.now) }
+        ensures { result ≡ next_order_of (get (rows_of self.now).districts key.now) }
     {
         let found = self.found(&Key::District(*key));
         next_order_of(self.tables(), key, found)
@@ -126,7 +127,7 @@ impl<'a> Version<'a> {
 
     /// C_BALANCE of a customer, if it was there.
     pub fn balance(&self, key: &CustomerKey) -> Option<Balance>
-        ensures { result ≡ option_map (λ x. x.account.balance) (get (rows_of self.now).customers key.now) }
+        ensures { result ≡ balance_of (get (rows_of self.now).customers key.now) }
     {
         let found = self.found(&Key::Customer(*key));
         balance_of(self.tables(), key, found)
@@ -134,7 +135,7 @@ impl<'a> Version<'a> {
 
     /// S_QUANTITY of a stock, if it was there.
     pub fn stock_quantity(&self, key: &StockKey) -> Option<Count>
-        ensures { result ≡ option_map (λ x. x.quantity) (get (rows_of self.now).stocks key.now) }
+        ensures { result ≡ quantity_of (get (rows_of self.now).stocks key.now) }
     {
         let found = self.found(&Key::Stock(*key));
         quantity_of(self.tables(), key, found)

@@ -8,7 +8,7 @@ use crate::moments::Version;
 use oe_requests::{StatusLine, StatusLines};
 use oe_rows::{OrderKey, OrderLine};
 
-/// What is told of a line (clause 2.6.3).
+/// Answers what Order-Status says of a line (clause 2.6.3).
 fn told(line: &OrderLine) -> StatusLine
     ensures { result ≡ status_line line.now }
 {
@@ -22,7 +22,7 @@ fn told(line: &OrderLine) -> StatusLine
 }
 
 impl<'a> Version<'a> {
-    /// What is told of the lines that an order had, by OL_NUMBER (clause 2.6.3).
+    /// Answers what Order-Status says of the lines that an order had, by OL_NUMBER (clause 2.6.3).
     pub fn lines(&self, order: OrderKey) -> StatusLines
         requires { Stand self.now.tables self.now.log }
         ensures { result
