@@ -1,5 +1,5 @@
 -- Commits that are forgotten or undone.
-use Rattle.std.proofs.Common.{◌≡◌, ℕ, zero, suc, ◌<◌, Bool, refl, sym, ap, ◌∙◌, subst, arith, List, [], ◌∷◌, ◌++◌}
+use Rattle.std.proofs.Common.{◌≡◌, ℕ, zero, suc, ◌<◌, Bool, refl, sym, ap, ◌∙◌, subst, arith}
 use Rattle.std.specs.Prelude.{Option, None, Some, is_some}
 use mathlib.Core.Path.{fun_ext}
 use Rattle.oe_requests.specs.declared.refusals.Refusal.{Refusal}
@@ -7,23 +7,13 @@ use Rattle.oe_requests.specs.declared.refusals.Refusal.TheVariants.{TooOld, Futu
 use Rattle.oe_requests.specs.declared.steps.Step.TheVariants as step
 use Rattle.oe_theory.specs.Next.{Purge, Rewind, Purged, Rewound}
 use Rattle.oe_theory.specs.Next as theory
-use Rattle.oe_theory.specs.Undo.{unwind, Finds, GoesBack, commit_records}
 use Rattle.oe_theory.specs.Store.{horizon_of, newest_of, count_slots}
 use Rattle.oe_theory.specs.Store as stored
-use Rattle.oe_theory.proofs.StoreClosing.{each_goes_back_here}
-use Rattle.oe_model.specs.Rows.{Rows, row_at}
-use Rattle.oe_model.specs.Changes.{Record, key_of, put_back}
-use Rattle.oe_model.specs.Meets.{Meets}
 use Rattle.oe_model.specs.System.{system, terminal_limit}
-use Rattle.oe_model.proofs.ChangeFacts.{accepted_meets}
-use Rattle.oe_model.proofs.SystemLaws.{laws}
-use Rattle.oe_change.specs.PutBack.{Stands}
-use Rattle.oe_journal.specs.GoesBack.{CanUnwind, CanUnwindAll}
 use Rattle.oe_log.specs.Moments.{IsBetween, IsOutside}
 use Rattle.oe_engine.specs.View.{View, view_of, Handle}
 use Rattle.oe_engine.specs.View as engine
 use Rattle.oe_engine.specs.Calls.{newest, horizon, IsQuiet, CantRewind, purged_to, rewound_to}
-use Rattle.oe_engine.proofs.CoveredFacts.{stands_left}
 use Rattle.oe_core.specs.Core.{CoreState, in_slot, work_of, work_at, open_at, store_with, store_of, Works, IsOrderly, Moves}
 use Rattle.oe_core.specs.Steps.{refusal_in}
 use Rattle.oe_core.specs.Works.{WorkState}
@@ -88,7 +78,7 @@ rewound_here s o e' m quiet kept now name =
     (λ u. works_still s.engine e' (ap (λ (z : View). z.is_open) now) name u (in_slot s.txs u) (in_slot s.works u) (o.works u))
 
 -- a slot is taken exactly where its terminal has a transaction open
-taken_is : (e : engine.EngineState) (v : View) (t : ℕ) (x : Option Handle) (y : Option WorkState) → view_of e ≡ v → Works e t x y → is_some (open_at v t (work_of x y)) ≡ v.is_open t
+pub taken_is : (e : engine.EngineState) (v : View) (t : ℕ) (x : Option Handle) (y : Option WorkState) → view_of e ≡ v → Works e t x y → is_some (open_at v t (work_of x y)) ≡ v.is_open t
 taken_is e v t None y is h = sym h ∙ ap (λ (z : View). z.is_open t) is
 taken_is e v t (Some x) None is h = absurd h
 taken_is e v t (Some x) (Some w) is h = sym (ap (view_of e).is_open (sym h.terminal) ∙ h.is_open.terminal) ∙ ap (λ (z : View). z.is_open t) is
@@ -111,27 +101,3 @@ rewind_refused s o m (Future k) i =
     (stays s o (Rewind m) (theory.Future (newest_of system (store_of s)))
     (the_steps.is_future (store_of s) (Rewind m) m (standing s o) refl (λ t. is_shut s o t (i.0 t)) (subst (λ (z : ℕ). z < m) cause.0 cause.1)))
 rewind_refused s o m _ i = absurd i.1
-
--- Records of commits can be put back. A record finds the row that its change left
-stands_found : (b : Record) (r : Rows) → Finds system b r → Stands b r
-stands_found b r f = subst (λ (z : Record). Stands z r) (sym f.is_of) (stands_left f.change (row_at f.on (key_of f.change)) r f.left)
-
-first_holds : (bs : List Record) (r : Rows) → GoesBack system Meets bs r → Meets r
-first_holds [] r h = h
-first_holds (b ∷ bs) r h = h.0
-
-one_by_one : (bs cs : List Record) (r : Rows) → GoesBack system Meets (bs ++ cs) r → CanUnwind bs r × GoesBack system Meets cs (unwind system bs r)
-one_by_one [] cs r h = (tt, h)
-one_by_one (b ∷ bs) cs r h =
-    let rest = one_by_one bs cs (put_back b r) h.2 in
-    ((stands_found b r h.1, first_holds (bs ++ cs) (put_back b r) h.2, rest.0), rest.1)
-
-all_by_one : (ss : List (List Record)) (r : Rows) → GoesBack system Meets (commit_records system ss) r → CanUnwindAll ss r
-all_by_one [] r h = tt
-all_by_one (bs ∷ ss) r h = let first = one_by_one bs (commit_records system ss) r h in (first.0, all_by_one ss (unwind system bs r) first.1)
-
-pub commits_go_back : (s : CoreState) → IsOrderly s → IsQuiet (view_of s.engine) → CanUnwindAll (view_of s.engine).undo.history (view_of s.engine).rows
-commits_go_back s o quiet =
-    all_by_one (view_of s.engine).undo.history (view_of s.engine).rows
-    (each_goes_back_here system laws Meets (record { between = λ f r g. g.meets; kept = accepted_meets }) (store_of s) [] (standing s o)
-    (λ t p e. let no : None ≡ Some p = sym (is_shut s o t (quiet t)) ∙ e in absurd (cc)))

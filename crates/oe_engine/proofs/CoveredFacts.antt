@@ -1,8 +1,9 @@
--- Open work can be put back in any order, also after a change of a row that no other's work is about.
-use Rattle.std.proofs.Common.{◌≡◌, ◌≢◌, ℕ, zero, suc, Bool, true, false, cond, refl, sym, ap, ◌∙◌, subst, inl, inr, ◌⊎◌, List, [], ◌∷◌, take, drop, Option, None, Some}
+-- Open work can be put back in any order, and commits behind it, also after a change of a row that no other's work is about.
+use Rattle.std.proofs.Common.{◌≡◌, ◌≢◌, ℕ, zero, suc, Bool, true, false, cond, refl, sym, ap, ◌∙◌, subst, inl, inr, ◌⊎◌, arith, List, [], ◌∷◌, length, take, drop, Option, None, Some}
 use Rattle.std.specs.Prelude.{IsSome, is_some, option_map, option_and_then}
 use Rattle.std.specs.FinMap.{get}
 use Rattle.std.proofs.lemmas.Bool.{cases_eq}
+use Rattle.std.proofs.lemmas.List.{take_all, drop_all}
 use Rattle.oe_rows.specs.declared.keys.CustomerKey.{CustomerKey}
 use Rattle.oe_rows.specs.declared.keys.DistrictKey.{DistrictKey}
 use Rattle.oe_rows.specs.declared.keys.OrderKey.{OrderKey}
@@ -13,7 +14,7 @@ use Rattle.oe_rows.specs.declared.rows.Row.{Row}
 use Rattle.oe_rows.specs.declared.rows.Row.TheVariants as row
 use Rattle.oe_theory.specs.World.{set}
 use Rattle.oe_theory.specs.Next.{record_on}
-use Rattle.oe_theory.specs.Undo.{unwind}
+use Rattle.oe_theory.specs.Undo.{unwind, unwind_commits}
 use Rattle.oe_theory.proofs.Sets.{set_same, set_other, set_swap}
 use Rattle.oe_model.specs.Keys.{order_of_new_order, order_of_line, customer_of_order, supply_of_line}
 use Rattle.oe_model.specs.Rows.{Rows, is_key, row_at, as_warehouse, as_district, as_customer, as_order, as_order_line, as_stock}
@@ -24,8 +25,8 @@ use Rattle.oe_model.proofs.RowFacts.{key_true, key_refl, at_changed, at_put_back
 use Rattle.oe_model.proofs.PresenceFacts.{some-map, mapped_absent}
 use Rattle.oe_model.proofs.ChangeFacts.{accepted_meets}
 use Rattle.oe_change.specs.PutBack.{Stands}
-use Rattle.oe_journal.specs.GoesBack.{CanUnwind}
-use Rattle.oe_engine.specs.Covered.{IsWhole, FindsNewest, put_newest, Unwinds}
+use Rattle.oe_journal.specs.GoesBack.{CanUnwind, CanUnwindAll}
+use Rattle.oe_engine.specs.Covered.{IsWhole, FindsNewest, put_newest, HaveNone, Unwinds}
 use Rattle.oe_engine.proofs.LockFacts.{set_own, set_at, set_twice}
 
 -- rows at other keys
@@ -73,7 +74,7 @@ stands_same (UpdatedOrderLine k v) r s e h = subst (λ (o : Option Row). IsSome 
 stands_same (UpdatedStock k v) r s e h = subst (λ (o : Option Row). IsSome o) e h
 
 -- and where a change was just made its record finds it
-pub stands_left : (c : Change) (v : Option Row) (r : Rows) → row_at r (key_of c) ≡ row_of c → Stands (record_of c v) r
+stands_left : (c : Change) (v : Option Row) (r : Rows) → row_at r (key_of c) ≡ row_of c → Stands (record_of c v) r
 stands_left (InsertHistory k x) v r e = ap is_some e
 stands_left (InsertNewOrder k x) v r e = ap is_some e
 stands_left (InsertOrder k x) v r e = ap is_some e
@@ -209,104 +210,138 @@ accepts_under : (c : Change) (bs : List Record) (r : Rows) → AreApart c bs →
 accepts_under c [] r p a = a
 accepts_under c (b ∷ bs) r p a = accepted_before c b r p.0 a
 
--- Open work that can be put back in any order
-abbrev pub UnwindsAll : (ℕ → List Record) → Rows → Type 0
-UnwindsAll f r = (ts : List ℕ) → Unwinds f r ts
+-- Open work that can be put back in any order, and commits behind it. The records of a terminal being known
+at_head : (ss : List (List Record)) (f : ℕ → List Record) (u : ℕ) (bs : List Record) (r : Rows) (ts : List ℕ) → f u ≡ bs → FindsNewest bs r → Unwinds ss (set u (drop 1 bs) f) (put_newest bs r) ts
+    → Unwinds ss f r (u ∷ ts)
+at_head ss f u bs r ts e finds rest =
+    subst (λ (z : List Record). FindsNewest z r × Unwinds ss (set u (drop 1 z) f) (put_newest z r) ts) (sym e) (finds, rest)
 
--- the records of a terminal being known
-at_head : (f : ℕ → List Record) (u : ℕ) (bs : List Record) (r : Rows) (ts : List ℕ) → f u ≡ bs → FindsNewest bs r → Unwinds (set u (drop 1 bs) f) (put_newest bs r) ts → Unwinds f r (u ∷ ts)
-at_head f u bs r ts e finds rest =
-    subst (λ (z : List Record). FindsNewest z r × Unwinds (set u (drop 1 z) f) (put_newest z r) ts) (sym e) (finds, rest)
+module _ (ss : List (List Record)) where
+  abbrev pub UnwindsAll : (ℕ → List Record) → Rows → Type 0
+  UnwindsAll f r = (ts : List ℕ) → Unwinds ss f r ts
 
--- also with a change on it that no other terminal's work is about
-abbrev MadeUnwinds : Change → ℕ → List ℕ → Type 0
-MadeUnwinds c t ts =
-    (f : ℕ → List Record) (r : Rows) → Accepts c r → ((u : ℕ) → u ≢ t → AreApart c (f u)) → UnwindsAll f r → Unwinds (set t (record_on system c r ∷ f t) f) (changed c r) ts
+  -- also with a change on it that no other terminal's work is about
+  abbrev MadeUnwinds : Change → ℕ → List ℕ → Type 0
+  MadeUnwinds c t ts =
+      (f : ℕ → List Record) (r : Rows) → Accepts c r → ((u : ℕ) → u ≢ t → AreApart c (f u)) → UnwindsAll f r → Unwinds ss (set t (record_on system c r ∷ f t) f) (changed c r) ts
 
-made_own : (c : Change) (t : ℕ) (ts : List ℕ) (f : ℕ → List Record) (r : Rows) → UnwindsAll f r → Unwinds (set t (record_on system c r ∷ f t) f) (changed c r) (t ∷ ts)
-made_own c t ts f r h =
-    let there : set t (record_on system c r ∷ f t) f t ≡ record_on system c r ∷ f t = set_at t (record_on system c r ∷ f t) f in
-    let same : set t (f t) (set t (record_on system c r ∷ f t) f) ≡ f = set_twice t (f t) (record_on system c r ∷ f t) f ∙ set_own t f in
-    at_head (set t (record_on system c r ∷ f t) f) t (record_on system c r ∷ f t) (changed c r) ts there (stands_made c r)
-    (subst (λ (z : ℕ → List Record). Unwinds z (put_back (record_on system c r) (changed c r)) ts) (sym same)
-    (subst (λ (z : Rows). Unwinds f z ts) (sym (undone c r)) (h ts)))
+  made_own : (c : Change) (t : ℕ) (ts : List ℕ) (f : ℕ → List Record) (r : Rows) → UnwindsAll f r → Unwinds ss (set t (record_on system c r ∷ f t) f) (changed c r) (t ∷ ts)
+  made_own c t ts f r h =
+      let there : set t (record_on system c r ∷ f t) f t ≡ record_on system c r ∷ f t = set_at t (record_on system c r ∷ f t) f in
+      let same : set t (f t) (set t (record_on system c r ∷ f t) f) ≡ f = set_twice t (f t) (record_on system c r ∷ f t) f ∙ set_own t f in
+      at_head ss (set t (record_on system c r ∷ f t) f) t (record_on system c r ∷ f t) (changed c r) ts there (stands_made c r)
+      (subst (λ (z : ℕ → List Record). Unwinds ss z (put_back (record_on system c r) (changed c r)) ts) (sym same)
+      (subst (λ (z : Rows). Unwinds ss f z ts) (sym (undone c r)) (h ts)))
 
-apart_then : (c : Change) (t u : ℕ) (f : ℕ → List Record) → ((w : ℕ) → w ≢ t → AreApart c (f w)) → u ≢ t → (w : ℕ) → w ≢ t → AreApart c (set u (drop 1 (f u)) f w)
-apart_then c t u f p ne w nw = go (cases_eq w u)
-  where
-    go : (w ≡ u) ⊎ (w ≢ u) → AreApart c (set u (drop 1 (f u)) f w)
-    go (inl e) = subst (AreApart c) (sym (set_same u (drop 1 (f u)) f w e)) (apart_below c (f u) (p u ne))
-    go (inr e) = subst (AreApart c) (sym (set_other u (drop 1 (f u)) f w e)) (p w nw)
+  apart_then : (c : Change) (t u : ℕ) (f : ℕ → List Record) → ((w : ℕ) → w ≢ t → AreApart c (f w)) → u ≢ t → (w : ℕ) → w ≢ t → AreApart c (set u (drop 1 (f u)) f w)
+  apart_then c t u f p ne w nw = go (cases_eq w u)
+    where
+      go : (w ≡ u) ⊎ (w ≢ u) → AreApart c (set u (drop 1 (f u)) f w)
+      go (inl e) = subst (AreApart c) (sym (set_same u (drop 1 (f u)) f w e)) (apart_below c (f u) (p u ne))
+      go (inr e) = subst (AreApart c) (sym (set_other u (drop 1 (f u)) f w e)) (p w nw)
 
-made_other : (c : Change) (t : ℕ) (ts : List ℕ) → MadeUnwinds c t ts → (u : ℕ) → u ≢ t → MadeUnwinds c t (u ∷ ts)
-made_other c t ts below u ne f r a p h =
-    let q : AreApart c (f u) = p u ne in
-    let there : set t (record_on system c r ∷ f t) f u ≡ f u = set_other t (record_on system c r ∷ f t) f u ne in
-    let next : Unwinds (set t (record_on system c (put_newest (f u) r) ∷ set u (drop 1 (f u)) f t) (set u (drop 1 (f u)) f)) (changed c (put_newest (f u) r)) ts =
-    below (set u (drop 1 (f u)) f) (put_newest (f u) r) (accepts_under c (f u) r q a) (apart_then c t u f p ne) (λ us. (h (u ∷ us)).1) in
-    let records : record_on system c (put_newest (f u) r) ∷ set u (drop 1 (f u)) f t ≡ record_on system c r ∷ f t =
-    λ i. record_of c (row_under c (f u) r q i) ∷ set_other u (drop 1 (f u)) f t (λ e. ne (sym e)) i in
-    let logs : set t (record_on system c (put_newest (f u) r) ∷ set u (drop 1 (f u)) f t) (set u (drop 1 (f u)) f) ≡ set u (drop 1 (f u)) (set t (record_on system c r ∷ f t) f) =
-    ap (λ (z : List Record). set t z (set u (drop 1 (f u)) f)) records ∙ set_swap t u (record_on system c r ∷ f t) (drop 1 (f u)) f ne in
-    at_head (set t (record_on system c r ∷ f t) f) u (f u) (changed c r) ts there (finds_under c (f u) r q (h (u ∷ [])).0)
-    (subst (λ (z : Rows). Unwinds (set u (drop 1 (f u)) (set t (record_on system c r ∷ f t) f)) z ts) (sym (put_under c (f u) r q))
-    (subst (λ (z : ℕ → List Record). Unwinds z (changed c (put_newest (f u) r)) ts) logs next))
+  made_other : (c : Change) (t : ℕ) (ts : List ℕ) → MadeUnwinds c t ts → (u : ℕ) → u ≢ t → MadeUnwinds c t (u ∷ ts)
+  made_other c t ts below u ne f r a p h =
+      let q : AreApart c (f u) = p u ne in
+      let there : set t (record_on system c r ∷ f t) f u ≡ f u = set_other t (record_on system c r ∷ f t) f u ne in
+      let next : Unwinds ss (set t (record_on system c (put_newest (f u) r) ∷ set u (drop 1 (f u)) f t) (set u (drop 1 (f u)) f)) (changed c (put_newest (f u) r)) ts =
+      below (set u (drop 1 (f u)) f) (put_newest (f u) r) (accepts_under c (f u) r q a) (apart_then c t u f p ne) (λ us. (h (u ∷ us)).1) in
+      let records : record_on system c (put_newest (f u) r) ∷ set u (drop 1 (f u)) f t ≡ record_on system c r ∷ f t =
+      λ i. record_of c (row_under c (f u) r q i) ∷ set_other u (drop 1 (f u)) f t (λ e. ne (sym e)) i in
+      let logs : set t (record_on system c (put_newest (f u) r) ∷ set u (drop 1 (f u)) f t) (set u (drop 1 (f u)) f) ≡ set u (drop 1 (f u)) (set t (record_on system c r ∷ f t) f) =
+      ap (λ (z : List Record). set t z (set u (drop 1 (f u)) f)) records ∙ set_swap t u (record_on system c r ∷ f t) (drop 1 (f u)) f ne in
+      at_head ss (set t (record_on system c r ∷ f t) f) u (f u) (changed c r) ts there (finds_under c (f u) r q (h (u ∷ [])).0)
+      (subst (λ (z : Rows). Unwinds ss (set u (drop 1 (f u)) (set t (record_on system c r ∷ f t) f)) z ts) (sym (put_under c (f u) r q))
+      (subst (λ (z : ℕ → List Record). Unwinds ss z (changed c (put_newest (f u) r)) ts) logs next))
 
-made_step : (c : Change) (t : ℕ) (ts : List ℕ) → MadeUnwinds c t ts → (u : ℕ) → MadeUnwinds c t (u ∷ ts)
-made_step c t ts below u f r a p h = go (cases_eq u t)
-  where
-    go : (u ≡ t) ⊎ (u ≢ t) → Unwinds (set t (record_on system c r ∷ f t) f) (changed c r) (u ∷ ts)
-    go (inl e) = subst (λ (z : ℕ). Unwinds (set t (record_on system c r ∷ f t) f) (changed c r) (z ∷ ts)) (sym e) (made_own c t ts f r h)
-    go (inr ne) = made_other c t ts below u ne f r a p h
+  made_step : (c : Change) (t : ℕ) (ts : List ℕ) → MadeUnwinds c t ts → (u : ℕ) → MadeUnwinds c t (u ∷ ts)
+  made_step c t ts below u f r a p h = go (cases_eq u t)
+    where
+      go : (u ≡ t) ⊎ (u ≢ t) → Unwinds ss (set t (record_on system c r ∷ f t) f) (changed c r) (u ∷ ts)
+      go (inl e) = subst (λ (z : ℕ). Unwinds ss (set t (record_on system c r ∷ f t) f) (changed c r) (z ∷ ts)) (sym e) (made_own c t ts f r h)
+      go (inr ne) = made_other c t ts below u ne f r a p h
 
-pub made_unwinds : (c : Change) (t : ℕ) (ts : List ℕ) (f : ℕ → List Record) (r : Rows) → Accepts c r → ((u : ℕ) → u ≢ t → AreApart c (f u)) → UnwindsAll f r
-    → Unwinds (set t (record_on system c r ∷ f t) f) (changed c r) ts
-made_unwinds c t [] f r a p h = accepted_meets c r a (h [])
-made_unwinds c t (u ∷ ts) f r a p h = made_step c t ts (λ g s b q k. made_unwinds c t ts g s b q k) u f r a p h
+  -- who has a record has some
+  not_none : (t : ℕ) (b : Record) (bs : List Record) (f : ℕ → List Record) → HaveNone (set t (b ∷ bs) f) → ⊥
+  not_none t b bs f none =
+      let no : b ∷ bs ≡ [] = sym (set_at t (b ∷ bs) f) ∙ none t in
+      let never : ⊥ = cc in
+      never
 
--- where a terminal's newest records were put back
-pub back_unwinds : (n : ℕ) (bs : List Record) (t : ℕ) (f : ℕ → List Record) (r : Rows) → f t ≡ bs → UnwindsAll f r
-    → UnwindsAll (set t (drop n bs) f) (unwind system (take n bs) r)
-back_unwinds zero bs t f r e h = λ ts. subst (λ (z : ℕ → List Record). Unwinds z r ts) (sym (ap (λ (z : List Record). set t z f) (sym e) ∙ set_own t f)) (h ts)
-back_unwinds (suc n) [] t f r e h = λ ts. subst (λ (z : ℕ → List Record). Unwinds z r ts) (sym (ap (λ (z : List Record). set t z f) (sym e) ∙ set_own t f)) (h ts)
-back_unwinds (suc n) (b ∷ bs) t f r e h =
-    let one : UnwindsAll (set t bs f) (put_back b r) =
-    λ ts. subst (λ (z : List Record). Unwinds (set t (drop 1 z) f) (put_newest z r) ts) e (h (t ∷ ts)).1 in
-    let more = back_unwinds n bs t (set t bs f) (put_back b r) (set_at t bs f) one in
-    λ ts. subst (λ (z : ℕ → List Record). Unwinds z (unwind system (take n bs) (put_back b r)) ts) (set_twice t (drop n bs) bs f) (more ts)
+  pub made_unwinds : (c : Change) (t : ℕ) (ts : List ℕ) (f : ℕ → List Record) (r : Rows) → Accepts c r → ((u : ℕ) → u ≢ t → AreApart c (f u)) → UnwindsAll f r
+      → Unwinds ss (set t (record_on system c r ∷ f t) f) (changed c r) ts
+  made_unwinds c t [] f r a p h = (accepted_meets c r a (h []).0, λ none. absurd (not_none t (record_on system c r) (f t) f none))
+  made_unwinds c t (u ∷ ts) f r a p h = made_step c t ts (λ g s b q k. made_unwinds c t ts g s b q k) u f r a p h
 
--- they can be
-pub can_go_back : (n : ℕ) (bs : List Record) (t : ℕ) (f : ℕ → List Record) (r : Rows) → f t ≡ bs → UnwindsAll f r → CanUnwind (take n bs) r
-can_go_back zero bs t f r e h = tt
-can_go_back (suc n) [] t f r e h = tt
-can_go_back (suc n) (b ∷ bs) t f r e h =
-    let one : UnwindsAll (set t bs f) (put_back b r) =
-    λ ts. subst (λ (z : List Record). Unwinds (set t (drop 1 z) f) (put_newest z r) ts) e (h (t ∷ ts)).1 in
-    (subst (λ (z : List Record). FindsNewest z r) e (h (t ∷ [])).0, one [], can_go_back n bs t (set t bs f) (put_back b r) (set_at t bs f) one)
+  -- where a terminal's newest records were put back
+  pub back_unwinds : (n : ℕ) (bs : List Record) (t : ℕ) (f : ℕ → List Record) (r : Rows) → f t ≡ bs → UnwindsAll f r
+      → UnwindsAll (set t (drop n bs) f) (unwind system (take n bs) r)
+  back_unwinds zero bs t f r e h = λ ts. subst (λ (z : ℕ → List Record). Unwinds ss z r ts) (sym (ap (λ (z : List Record). set t z f) (sym e) ∙ set_own t f)) (h ts)
+  back_unwinds (suc n) [] t f r e h = λ ts. subst (λ (z : ℕ → List Record). Unwinds ss z r ts) (sym (ap (λ (z : List Record). set t z f) (sym e) ∙ set_own t f)) (h ts)
+  back_unwinds (suc n) (b ∷ bs) t f r e h =
+      let one : UnwindsAll (set t bs f) (put_back b r) =
+      λ ts. subst (λ (z : List Record). Unwinds ss (set t (drop 1 z) f) (put_newest z r) ts) e (h (t ∷ ts)).1 in
+      let more = back_unwinds n bs t (set t bs f) (put_back b r) (set_at t bs f) one in
+      λ ts. subst (λ (z : ℕ → List Record). Unwinds ss z (unwind system (take n bs) (put_back b r)) ts) (set_twice t (drop n bs) bs f) (more ts)
 
--- where a terminal's records were sealed
-abbrev SealedUnwinds : ℕ → List ℕ → Type 0
-SealedUnwinds t ts = (f : ℕ → List Record) (r : Rows) → UnwindsAll f r → Unwinds (set t [] f) r ts
+  -- they can be
+  pub can_go_back : (n : ℕ) (bs : List Record) (t : ℕ) (f : ℕ → List Record) (r : Rows) → f t ≡ bs → UnwindsAll f r → CanUnwind (take n bs) r
+  can_go_back zero bs t f r e h = tt
+  can_go_back (suc n) [] t f r e h = tt
+  can_go_back (suc n) (b ∷ bs) t f r e h =
+      let one : UnwindsAll (set t bs f) (put_back b r) =
+      λ ts. subst (λ (z : List Record). Unwinds ss (set t (drop 1 z) f) (put_newest z r) ts) e (h (t ∷ ts)).1 in
+      (subst (λ (z : List Record). FindsNewest z r) e (h (t ∷ [])).0, (one []).0, can_go_back n bs t (set t bs f) (put_back b r) (set_at t bs f) one)
 
-sealed_step : (t : ℕ) (ts : List ℕ) → SealedUnwinds t ts → (u : ℕ) → SealedUnwinds t (u ∷ ts)
-sealed_step t ts below u f r h = go (cases_eq u t)
-  where
-    go : (u ≡ t) ⊎ (u ≢ t) → Unwinds (set t [] f) r (u ∷ ts)
-    go (inl e) =
-        at_head (set t [] f) u [] r ts (set_same t [] f u e) tt
-        (subst (λ (z : ℕ → List Record). Unwinds z r ts) (sym (ap (λ (k : ℕ). set k [] (set t [] f)) e ∙ set_twice t [] [] f)) (below f r h))
-    go (inr ne) =
-        at_head (set t [] f) u (f u) r ts (set_other t [] f u ne) (h (u ∷ [])).0
-        (subst (λ (z : ℕ → List Record). Unwinds z (put_newest (f u) r) ts) (set_swap t u [] (drop 1 (f u)) f ne)
-        (below (set u (drop 1 (f u)) f) (put_newest (f u) r) (λ us. (h (u ∷ us)).1)))
+  -- all of them can be, and are
+  pub all_go_back : (t : ℕ) (f : ℕ → List Record) (r : Rows) → UnwindsAll f r → CanUnwind (f t) r
+  all_go_back t f r h = subst (λ bs. CanUnwind bs r) (take_all (length (f t)) (f t) (omega arith)) (can_go_back (length (f t)) (f t) t f r refl h)
 
-pub sealed_unwinds : (t : ℕ) (ts : List ℕ) (f : ℕ → List Record) (r : Rows) → UnwindsAll f r → Unwinds (set t [] f) r ts
-sealed_unwinds t [] f r h = h []
-sealed_unwinds t (u ∷ ts) f r h = sealed_step t ts (λ g s k. sealed_unwinds t ts g s k) u f r h
+  pub all_back : (t : ℕ) (f : ℕ → List Record) (r : Rows) → UnwindsAll f r → UnwindsAll (set t [] f) (unwind system (f t) r)
+  all_back t f r h ts =
+      subst (λ z. Unwinds ss (set t z f) (unwind system (f t) r) ts) (drop_all (length (f t)) (f t) (omega arith))
+      (subst (λ z. Unwinds ss (set t (drop (length (f t)) (f t)) f) (unwind system z r) ts) (take_all (length (f t)) (f t) (omega arith)) (back_unwinds (length (f t)) (f t) t f r refl h ts))
+
+  -- where a terminal's records were sealed they are the newest commit's
+  abbrev SealedUnwinds : ℕ → List ℕ → Type 0
+  SealedUnwinds t ts = (f : ℕ → List Record) (r : Rows) → UnwindsAll f r → Unwinds (f t ∷ ss) (set t [] f) r ts
+
+  sealed_step : (t : ℕ) (ts : List ℕ) → SealedUnwinds t ts → (u : ℕ) → SealedUnwinds t (u ∷ ts)
+  sealed_step t ts below u f r h = go (cases_eq u t)
+    where
+      go : (u ≡ t) ⊎ (u ≢ t) → Unwinds (f t ∷ ss) (set t [] f) r (u ∷ ts)
+      go (inl e) =
+          at_head (f t ∷ ss) (set t [] f) u [] r ts (set_same t [] f u e) tt
+          (subst (λ (z : ℕ → List Record). Unwinds (f t ∷ ss) z r ts) (sym (ap (λ (k : ℕ). set k [] (set t [] f)) e ∙ set_twice t [] [] f)) (below f r h))
+      go (inr ne) =
+          at_head (f t ∷ ss) (set t [] f) u (f u) r ts (set_other t [] f u ne) (h (u ∷ [])).0
+          (subst (λ (z : List Record). Unwinds (z ∷ ss) (set u (drop 1 (f u)) (set t [] f)) (put_newest (f u) r) ts) (set_other u (drop 1 (f u)) f t (λ e. ne (sym e)))
+          (subst (λ (z : ℕ → List Record). Unwinds (set u (drop 1 (f u)) f t ∷ ss) z (put_newest (f u) r) ts) (set_swap t u [] (drop 1 (f u)) f ne)
+          (below (set u (drop 1 (f u)) f) (put_newest (f u) r) (λ us. (h (u ∷ us)).1))))
+
+  pub sealed_unwinds : (t : ℕ) (ts : List ℕ) (f : ℕ → List Record) (r : Rows) → UnwindsAll f r → Unwinds (f t ∷ ss) (set t [] f) r ts
+  sealed_unwinds t [] f r h = ((h []).0, λ none. (all_go_back t f r h, (all_back t f r h []).1 none))
+  sealed_unwinds t (u ∷ ts) f r h = sealed_step t ts (λ g s k. sealed_unwinds t ts g s k) u f r h
+
+-- where the oldest commits were forgotten
+all_taken : (n : ℕ) (ss : List (List Record)) (r : Rows) → CanUnwindAll ss r → CanUnwindAll (take n ss) r
+all_taken zero ss r h = tt
+all_taken (suc n) [] r h = tt
+all_taken (suc n) (bs ∷ ss) r h = (h.0, all_taken n ss (unwind system bs r) h.1)
+
+pub purged_unwinds : (n : ℕ) (ss : List (List Record)) (ts : List ℕ) (f : ℕ → List Record) (r : Rows) → Unwinds ss f r ts → Unwinds (take n ss) f r ts
+purged_unwinds n ss [] f r h = (h.0, λ none. all_taken n ss r (h.1 none))
+purged_unwinds n ss (t ∷ ts) f r h = (h.0, purged_unwinds n ss ts (set t (drop 1 (f t)) f) (put_newest (f t) r) h.1)
+
+-- where the newest were undone
+pub all_left : (n : ℕ) (ss : List (List Record)) (r : Rows) → CanUnwindAll ss r → CanUnwindAll (drop n ss) (unwind_commits system (take n ss) r)
+all_left zero ss r h = h
+all_left (suc n) [] r h = tt
+all_left (suc n) (bs ∷ ss) r h = all_left n ss (unwind system bs r) h.1
 
 -- and where there is no open work
-pub none_unwinds : (ts : List ℕ) (r : Rows) → Meets r → Unwinds (λ _. []) r ts
-none_unwinds [] r m = m
-none_unwinds (t ∷ ts) r m =
+pub none_unwinds : (ss : List (List Record)) (ts : List ℕ) (r : Rows) → Meets r → CanUnwindAll ss r → Unwinds ss (λ _. []) r ts
+none_unwinds ss [] r m h = (m, λ none. h)
+none_unwinds ss (t ∷ ts) r m h =
     let none : ℕ → List Record = λ _. [] in
-    (tt, subst (λ (z : ℕ → List Record). Unwinds z r ts) (sym (set_own t none)) (none_unwinds ts r m))
+    (tt, subst (λ (z : ℕ → List Record). Unwinds ss z r ts) (sym (set_own t none)) (none_unwinds ss ts r m h))

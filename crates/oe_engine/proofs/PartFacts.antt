@@ -24,9 +24,9 @@ use Rattle.oe_locks.specs.Held as locks
 use Rattle.oe_locks.specs.Held.{Holdings, held}
 use Rattle.oe_log.specs.Log as undo
 use Rattle.oe_log.specs.Log.{active_at}
-use Rattle.oe_engine.specs.View.{View, view_from, view_of, EngineState, Handle, IsOpen}
+use Rattle.oe_engine.specs.View.{View, view_from}
 use Rattle.oe_engine.specs.Kept.{IsKept}
-use Rattle.oe_engine.specs.Calls.{IsFree, IsInTheWay, IsBelow, locked, made, put_mode, LockRefused, ChangeRefused, PairRefused, StageRefused, stage_done}
+use Rattle.oe_engine.specs.Calls.{IsFree, IsInTheWay, IsBelow, locked, made, put_mode, LockRefused, ChangeRefused, stage_done}
 use Rattle.oe_engine.proofs.LockFacts.{held_of, same_together, taken_is, put_is, set_own, set_at, set_twice, put_taken}
 
 pub change_done : (t : ℕ) (c : Change) (v : View) → stage_done t Plain (Some c) v ≡ made t c v

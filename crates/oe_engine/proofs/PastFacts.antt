@@ -20,7 +20,7 @@ use Rattle.oe_log.specs.Stands.{model_records, undo_of}
 use Rattle.oe_log.proofs.LawFacts as stands
 use Rattle.oe_log.proofs.StandsFacts.{slots_counted}
 use Rattle.oe_journal.specs.GivesUp.{IsDeletedIn, HasNoRecord, GivesUpThose, GivesUpDeleted}
-use Rattle.oe_journal.specs.GoesBack.{HavePlaces, AllHavePlaces}
+use Rattle.oe_journal.specs.GoesBack.{CanUnwindAll, HavePlaces, AllHavePlaces}
 use Rattle.oe_log.specs.Moments.{store_with}
 use Rattle.oe_log.specs.Moments as past
 use Rattle.oe_journal.proofs.BackFacts.{more_places}
@@ -35,7 +35,7 @@ use Rattle.oe_engine.specs.Covered.{AreOwned, Unwinds, IsSafe}
 use Rattle.oe_engine.specs.Kept.{IsKept, IsSound}
 use Rattle.oe_engine.specs.Calls.{IsQuiet, CantRewind, purged_to}
 use Rattle.oe_engine.specs.Calls as calls
-use Rattle.oe_engine.proofs.CoveredFacts.{none_unwinds}
+use Rattle.oe_engine.proofs.CoveredFacts.{purged_unwinds, all_left, none_unwinds}
 use Rattle.oe_engine.proofs.LinkFacts.{linked_same, linked_less}
 use Rattle.oe_engine.proofs.LockFacts.{held_of}
 
@@ -95,7 +95,11 @@ purged_view ts ts' u ls m same =
     }
 
 safe_purged : (m : ℕ) (v : View) → IsSafe v → IsSafe (purged_to m v)
-safe_purged m v s = record { owned = s.owned; alone = s.alone; unwinds = s.unwinds }
+safe_purged m v s = record {
+  owned = s.owned;
+  alone = s.alone;
+  unwinds = λ ts. purged_unwinds (calls.newest v - m) v.undo.history ts v.undo.active v.rows (s.unwinds ts);
+}
 
 pub purge_sound : {T E : Type 0} (r : Result T E) (ts ts' : tables.Places) (u u' : UndoState) (ls : Holdings) (m : ℕ)
     → OnOk r (u'.log ≡ with_newest (past.newest u.log - m) u.log) → rows ts' ≡ rows ts → OnOk r (GivesUpDeleted ts ts' (drop (past.newest u.log - m) (undo_of u.log).history) u'.log)
@@ -167,7 +171,8 @@ safe_rewound m v empty meets s =
     record {
       owned = λ t. subst (AreOwned (v.held t) t (suc (w.counts t))) (sym (empty t)) tt;
       alone = s.alone;
-      unwinds = λ ts. subst (λ (z : ℕ → List Record). Unwinds z w.rows ts) none (none_unwinds ts w.rows meets);
+      unwinds = λ ts. subst (λ (z : ℕ → List Record). Unwinds w.undo.history z w.rows ts) none
+          (none_unwinds w.undo.history ts w.rows meets (all_left (calls.newest v - m) v.undo.history v.rows ((s.unwinds []).1 empty)));
     }
 
 no_records_of : (u : SegmentLog) → ((t : ℕ) → active_at u t ≡ None) → (t : ℕ) → (undo_of u).active t ≡ []
@@ -208,6 +213,11 @@ is_quiet ts u ls none t = ap is_some (none_open u none t)
 pub rewind_quiet : {T E : Type 0} (r : Result T E) (ts : tables.Places) (u : SegmentLog) (ls : Holdings) → OnOk r (open_total u ≡ 0) → OnOk r (IsQuiet (view_from ts u ls))
 rewind_quiet (Ok x) ts u ls none = is_quiet ts u ls none
 rewind_quiet (Err e) ts u ls none = tt
+
+-- then the records of the commits can be put back
+pub commits_go_back : (ts : tables.Places) (u : SegmentLog) (ls : Holdings) → IsSafe (view_from ts u ls) → open_total u ≡ 0 → CanUnwindAll (undo_of u).history (rows ts)
+unfolding view_from
+commits_go_back ts u ls s none = (s.unwinds []).1 (no_records_of u (none_open u none))
 
 -- why it is refused
 cause_is : (ts : tables.Places) (u : SegmentLog) (ls : Holdings) (m : ℕ) (e : Refusal) → length u.terminals ≡ 65 → journal.CantRewind u m e → CantRewind (view_from ts u ls) m e

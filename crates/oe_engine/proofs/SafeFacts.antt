@@ -1,8 +1,7 @@
 -- What holds of open work each move of an engine keeps.
-use Rattle.std.proofs.Common.{◌≡◌, ◌≢◌, ℕ, zero, suc, Bool, true, false, cond, refl, sym, ap, ◌∙◌, subst, inl, inr, ◌⊎◌, arith, List, [], ◌∷◌, length, take, drop, Option, None, Some}
+use Rattle.std.proofs.Common.{◌≡◌, ◌≢◌, ℕ, zero, suc, Bool, true, false, cond, refl, sym, ap, ◌∙◌, subst, inl, inr, ◌⊎◌, List, [], ◌∷◌, take, drop, Option, None, Some}
 use Rattle.std.specs.Prelude.{IsSome, is_some, Result, Ok, Err, OnOk, OnErr}
 use Rattle.std.proofs.lemmas.Bool.{cases_eq}
-use Rattle.std.proofs.lemmas.List.{take_all, drop_all}
 use Rattle.oe_rows.specs.declared.keys.Key.{Key}
 use Rattle.oe_rows.specs.declared.keys.OrderKey.{OrderKey}
 use Rattle.oe_rows.specs.declared.locks.Mode.{Mode}
@@ -14,7 +13,6 @@ use Rattle.oe_theory.specs.Machine.{Guard, Free, Under, Own, Take}
 use Rattle.oe_theory.specs.Machine as theory
 use Rattle.oe_theory.specs.World.{set, risen, go_together}
 use Rattle.oe_theory.specs.Next.{held_after, record_on}
-use Rattle.oe_theory.specs.Undo.{unwind}
 use Rattle.oe_theory.proofs.Sets.{set_same, set_other}
 use Rattle.oe_model.specs.Rows.{Rows, row_at}
 use Rattle.oe_model.specs.Changes.{Change, InsertHistory, InsertNewOrder, InsertOrder, InsertOrderLine, UpdateWarehouse, UpdateDistrict, UpdateCustomer, UpdateOrder, UpdateOrderLine, UpdateStock, DeleteNewOrder, key_of, Record, record_key}
@@ -31,11 +29,11 @@ use Rattle.oe_undo.specs.Chains.{HaveNone, IsAlone}
 use Rattle.oe_locks.specs.Held as locks
 use Rattle.oe_locks.specs.Held.{Holdings}
 use Rattle.oe_engine.specs.View.{View, view_from, opened_view}
-use Rattle.oe_engine.specs.Covered.{Owns, AreOwned, IsUnused, MayMake, IsOwn, Unwinds, IsSafe}
+use Rattle.oe_engine.specs.Covered.{Owns, AreOwned, IsUnused, MayMake, IsOwn, IsSafe}
 use Rattle.oe_journal.specs.GoesBack.{CanUnwind}
 use Rattle.oe_engine.specs.Calls.{ask_to_write, IsFree, IsBelow, begun, locked, made, put_mode, count_since, back_at, committed, rolled_back}
 use Rattle.oe_engine.proofs.PartFacts.{free_is, locked_is}
-use Rattle.oe_engine.proofs.CoveredFacts.{RefersTo, AreApart, whole_made, made_unwinds, back_unwinds, can_go_back, sealed_unwinds, none_unwinds}
+use Rattle.oe_engine.proofs.CoveredFacts.{RefersTo, AreApart, whole_made, made_unwinds, back_unwinds, can_go_back, all_go_back, all_back, sealed_unwinds, none_unwinds}
 
 -- what holds at a terminal that was replaced, and at each other
 at_each : {A : Type 0} (P : ℕ → A → Type 0) (t : ℕ) (x : A) (f : ℕ → A) → P t x → ((u : ℕ) → u ≢ t → P u (f u)) → (u : ℕ) → P u (set t x f u)
@@ -117,7 +115,7 @@ pub safe_first : (r : Rows) (n : ℕ) → Meets r → IsSafe (opened_view r n)
 safe_first r n m = record {
   owned = λ t. tt;
   alone = λ t u q ne e. refl;
-  unwinds = λ ts. none_unwinds ts r m;
+  unwinds = λ ts. none_unwinds [] ts r m tt;
 }
 
 pub safe_begun : (t : ℕ) (v : View) → IsSafe v → IsSafe (begun t v)
@@ -133,7 +131,7 @@ safe_made t c v a m s =
       owned = at_each (λ u bs. AreOwned (v.held u) u (suc (v.counts u)) bs) t (record_on system c v.rows ∷ v.undo.active t) v.undo.active
           (own, whole_made c v.rows a, s.owned t) (λ u ne. s.owned u);
       alone = s.alone;
-      unwinds = λ ts. made_unwinds c t ts v.undo.active v.rows a (λ u ne. apart_all v s t c m u ne (v.undo.active u) (s.owned u)) s.unwinds;
+      unwinds = λ ts. made_unwinds v.undo.history c t ts v.undo.active v.rows a (λ u ne. apart_all v s t c m u ne (v.undo.active u) (s.owned u)) s.unwinds;
     }
 
 -- records stay owned where each name that is held exclusively is still held so
@@ -280,7 +278,7 @@ pub safe_committed : (t : ℕ) (q : Request) (y : Reply) (v : View) → IsSafe v
 safe_committed t q y v s = record {
   owned = λ u. go u (cases_eq u t);
   alone = alone_gone t v s;
-  unwinds = λ ts. sealed_unwinds t ts v.undo.active v.rows s.unwinds;
+  unwinds = λ ts. sealed_unwinds v.undo.history t ts v.undo.active v.rows s.unwinds;
 }
   where
     go : (u : ℕ) → (u ≡ t) ⊎ (u ≢ t) → AreOwned (set t (λ _. None) v.held u) u (suc (set t (suc (v.counts t)) v.counts u)) (set t [] v.undo.active u)
@@ -303,23 +301,16 @@ safe_back t mark v s =
       owned = at_each (λ u bs. AreOwned (v.held u) u (suc (v.counts u)) bs) t (drop n (v.undo.active t)) v.undo.active
           (below_owned n (v.held t) t (suc (v.counts t)) (v.undo.active t) (s.owned t)) (λ u ne. s.owned u);
       alone = s.alone;
-      unwinds = back_unwinds n (v.undo.active t) t v.undo.active v.rows refl s.unwinds;
+      unwinds = back_unwinds v.undo.history n (v.undo.active t) t v.undo.active v.rows refl s.unwinds;
     }
 
 -- or rolled back
 pub safe_rolled_back : (t : ℕ) (v : View) → IsSafe v → IsSafe (rolled_back t v)
-safe_rolled_back t v s =
-    let bs = v.undo.active t in
-    let none : drop (length bs) bs ≡ [] = drop_all (length bs) bs (omega arith) in
-    let all : take (length bs) bs ≡ bs = take_all (length bs) bs (omega arith) in
-    let back = back_unwinds (length bs) bs t v.undo.active v.rows refl s.unwinds in
-    record {
-      owned = λ u. go u (cases_eq u t);
-      alone = alone_gone t v s;
-      unwinds = λ ts.
-          subst (λ z. Unwinds (set t z v.undo.active) (unwind system bs v.rows) ts) none
-          (subst (λ z. Unwinds (set t (drop (length bs) bs) v.undo.active) (unwind system z v.rows) ts) all (back ts));
-    }
+safe_rolled_back t v s = record {
+  owned = λ u. go u (cases_eq u t);
+  alone = alone_gone t v s;
+  unwinds = all_back v.undo.history t v.undo.active v.rows s.unwinds;
+}
   where
     go : (u : ℕ) → (u ≡ t) ⊎ (u ≢ t) → AreOwned (set t (λ _. None) v.held u) u (suc (v.counts u)) (set t [] v.undo.active u)
     go u (inl e) = subst (AreOwned (set t (λ _. None) v.held u) u (suc (v.counts u))) (sym (set_same t [] v.undo.active u e)) tt
@@ -329,11 +320,10 @@ safe_rolled_back t v s =
 
 -- the newest of a transaction's records can be put back, so many as there may be
 pub newest_unwind : (t n : ℕ) (v : View) → IsSafe v → CanUnwind (take n (v.undo.active t)) v.rows
-newest_unwind t n v s = can_go_back n (v.undo.active t) t v.undo.active v.rows refl s.unwinds
+newest_unwind t n v s = can_go_back v.undo.history n (v.undo.active t) t v.undo.active v.rows refl s.unwinds
 
 pub all_unwind : (t : ℕ) (v : View) → IsSafe v → CanUnwind (v.undo.active t) v.rows
-all_unwind t v s =
-    subst (λ bs. CanUnwind bs v.rows) (take_all (length (v.undo.active t)) (v.undo.active t) (omega arith)) (newest_unwind t (length (v.undo.active t)) v s)
+all_unwind t v s = all_go_back v.undo.history t v.undo.active v.rows s.unwinds
 
 -- rows of the transaction's own, or under a name that is taken for it, it alone may change
 pub owns_to_write : (v : View) (t k : ℕ) (g : Guard Name) → IsOwn t k g → Owns (held_after system (ask_to_write g) (v.held t)) t k g

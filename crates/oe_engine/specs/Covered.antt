@@ -1,4 +1,4 @@
--- Open work: whose the rows are that it has changed, and that it can be put back.
+-- Open work: whose the rows are that it has changed, and that it can be put back, with the commits behind it.
 use Rattle.std.specs.Prelude.{◌≡◌, ◌≢◌, ℕ, suc, List, [], ◌∷◌, Option, None, Some, IsSome, drop}
 use Rattle.oe_theory.specs.Machine.{Guard, Free, Under, Own}
 use Rattle.oe_theory.specs.Machine as theory
@@ -11,6 +11,7 @@ use Rattle.oe_model.specs.Changes.{Change, InsertNewOrder, key_of, Record, Updat
 use Rattle.oe_model.specs.Meets.{Meets}
 use Rattle.oe_model.specs.Locks.{governs}
 use Rattle.oe_change.specs.PutBack.{Stands}
+use Rattle.oe_journal.specs.GoesBack.{CanUnwindAll}
 use Rattle.oe_engine.specs.View.{View}
 
 -- transaction k of terminal t alone may change rows under this guard: it holds their name exclusively, or they are its own
@@ -64,16 +65,20 @@ abbrev pub put_newest : List Record → Rows → Rows
 put_newest [] r = r
 put_newest (b ∷ bs) r = put_back b r
 
+-- no terminal has a record of open work
+abbrev pub HaveNone : (ℕ → List Record) → Type 0
+HaveNone active = (t : ℕ) → active t ≡ []
+
 -- the newest records of these terminals' transactions can be put back, one after another in this order: each finds the row that
--- its change left, and after the last the schema holds
-abbrev pub Unwinds : (ℕ → List Record) → Rows → List ℕ → Type 0
-Unwinds active r [] = Meets r
-Unwinds active r (t ∷ ts) = FindsNewest (active t) r × Unwinds (set t (drop 1 (active t)) active) (put_newest (active t) r) ts
+-- its change left, and after the last the schema holds. Where no terminal has a record left, those of the commits can be put back next
+abbrev pub Unwinds : List (List Record) → (ℕ → List Record) → Rows → List ℕ → Type 0
+Unwinds history active r [] = Meets r × (HaveNone active → CanUnwindAll history r)
+Unwinds history active r (t ∷ ts) = FindsNewest (active t) r × Unwinds history (set t (drop 1 (active t)) active) (put_newest (active t) r) ts
 
 pub record IsSafe (v : View) : Type 0 where
   -- what an open transaction has changed it alone may change
   pub owned : (t : ℕ) → AreOwned (v.held t) t (suc (v.counts t)) (v.undo.active t)
   -- a name that one transaction holds exclusively no other holds
   pub alone : (t u : ℕ) (n : Name) → u ≢ t → v.held t n ≡ Some theory.Exclusive → v.held u n ≡ None
-  -- open work can be put back, whole or in part, in any order of terminals
-  pub unwinds : (ts : List ℕ) → Unwinds v.undo.active v.rows ts
+  -- open work can be put back, whole or in part, in any order of terminals, and after the whole of it the commits
+  pub unwinds : (ts : List ℕ) → Unwinds v.undo.history v.undo.active v.rows ts

@@ -2,7 +2,6 @@
 ghost use Rattle.std.specs.Prelude.{◌≡◌, IfErr, OnOk, OnErr};
 ghost use Rattle.oe_log.specs.Moments.{IsOutside};
 ghost use Rattle.oe_journal.specs.GivesUp.{GivesUpDeleted};
-ghost use Rattle.oe_journal.specs.GoesBack.{CanUnwindAll};
 ghost use Rattle.oe_engine.specs.View.{view_of};
 ghost use Rattle.oe_engine.specs.Calls.{newest, horizon, records_up_to, IsQuiet, IsKeptMoment, CantRewind, purged_to, rewound_to};
 
@@ -31,15 +30,12 @@ impl Engine {
     }
 
     /// Undoes the commits after a moment, the newest first, while no transaction is open: the moment becomes the newest, and the
-    /// next commit the one after it. It takes no memory. That the records of commits can be put back is the caller's to know, as
-    /// of a store that stands.
+    /// next commit the one after it. It takes no memory.
     ///
     /// `NotQuiet`: so many transactions are open. `TooOld` with the oldest, `Future` with the newest moment: the moment is not
     /// between the two. The first of these is named, and nothing has changed then.
     #[tactic(auto, unfolding(crate::specs::View::view_of, crate::specs::View::view_from))]
     pub fn rewind(&mut self, moment: Moment) -> Result<(), Refusal>
-        requires { IsQuiet (view_of self.old)
-            → CanUnwindAll (view_of self.old).undo.history (view_of self.old).rows }
         ensures quiet { OnOk result (IsQuiet (view_of self.old)) }
         ensures kept { OnOk result (IsKeptMoment (view_of self.old) moment) }
         ensures rewound { OnOk result (view_of self.new ≡ rewound_to moment (view_of self.old)) }

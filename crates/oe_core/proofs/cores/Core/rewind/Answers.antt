@@ -1,9 +1,6 @@
 use Rattle.oe_core.proofs.MoveFacts.{carries}
-use Rattle.oe_core.proofs.PastFacts.{unchanged, commits_go_back, rewound_here, rewind_refused}
+use Rattle.oe_core.proofs.PastFacts.{unchanged, rewound_here, rewind_refused}
 use Rattle.oe_core.proofs.cores.Core.rewind.Goals as goal
-
-pub rewind-requires : goal.rewind-requires
-rewind-requires c = commits_go_back _ c.self.invariant
 
 pub invariant_of-self : goal.invariant_of-self
 invariant_of-self c = (unchanged c.rewind.new.self c.in-Err.ensures.err (rewind_refused _ c.self.invariant c.args.moment c.in-Err.cause c.in-Err.ensures.cause)).orderly

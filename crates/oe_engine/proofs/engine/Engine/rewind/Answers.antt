@@ -1,6 +1,9 @@
 use Rattle.oe_engine.specs.View.{view_of}
-use Rattle.oe_engine.proofs.PastFacts.{rewind_sound, rewind_view, rewind_cause}
+use Rattle.oe_engine.proofs.PastFacts.{commits_go_back, rewind_sound, rewind_view, rewind_cause}
 use Rattle.oe_engine.proofs.engine.Engine.rewind.Goals as goal
+
+pub rewind-answer-requires-clause-unwinds : goal.rewind-answer-requires-clause-unwinds
+rewind-answer-requires-clause-unwinds c = commits_go_back c.self.inside.tables c.self.inside.undo.log c.self.inside.locks c.self.invariant.safe
 
 pub invariant_of-self : goal.invariant_of-self
 invariant_of-self c =
