@@ -63,7 +63,7 @@ ran_unread (Some a) (Some b) None c d read buf waits calls core count held over 
 ran_unread (Some a) (Some b) (Some z) None d read buf waits calls core count held over x p q e s = tt
 ran_unread (Some a) (Some b) (Some z) (Some c) None read buf waits calls core count held over x p q e s = absurd s.4
 ran_unread (Some a) (Some b) (Some z) (Some c) (Some d) read buf waits calls core count held over x p q e s =
-    (inl q.1, answered_standing a z c d read waits core count held over (p.0 ∙ ap (λ r. read ++ r) (sym q.0)) e s)
+    (inl (q.1 ∙ ap (λ n. n + 1) p.1), s.4.1, answered_standing a z c d read waits core count held over (p.0 ∙ ap (λ r. read ++ r) (sym q.0)) e s)
 
 pub ran_long : (a b : Option Source) (c d : Option Sink) (read waits : List ℕ) (calls : ℕ) (core : State) (count : ℕ) (held : List ℕ) (over : Bool) →
     2 ^ 64 ≤ calls + 1 → ReadSoFar a b read calls → waits ≡ [] → Standing c read d waits core count held over → ScriptRan a b c d (Err Read)
@@ -72,14 +72,14 @@ ran_long (Some a) None c d read waits calls core count held over h p e s = absur
 ran_long (Some a) (Some b) None d read waits calls core count held over h p e s = tt
 ran_long (Some a) (Some b) (Some c) None read waits calls core count held over h p e s = absurd s.4
 ran_long (Some a) (Some b) (Some c) (Some d) read waits calls core count held over h p e s =
-    (inr (omega (arith, p.2, ap length p.0, length-append read b.remaining)), answered_standing a b c d read waits core count held over p.0 e s)
+    (inr (p.1, omega (arith, p.2, ap length p.0, length-append read b.remaining)), s.4.1, answered_standing a b c d read waits core count held over p.0 e s)
 
 pub ran_cut : (a b : Option Source) (c d : Option Sink) (read : List ℕ) (calls : ℕ) → ReadSoFar a b read calls → ((out : List ℕ) × Output read out × Cut c [] d out) → ScriptRan a b c d (Err Write)
 ran_cut None b c d read calls p s = tt
 ran_cut (Some a) None c d read calls p s = absurd p
 ran_cut (Some a) (Some b) None d read calls p s = tt
 ran_cut (Some a) (Some b) (Some c) None read calls p s = absurd s.2
-ran_cut (Some a) (Some b) (Some c) (Some d) read calls p s = (s.2.1, begun_cut a b c d read p.0 s)
+ran_cut (Some a) (Some b) (Some c) (Some d) read calls p s = (p.1, s.2.1, begun_cut a b c d read p.0 s)
 
 -- a failure before the end of the input
 pub broken_here : (c d : Option Sink) (read : List ℕ) → Broken c read d → (out : List ℕ) × Output read out × Cut c [] d out
@@ -102,4 +102,4 @@ ran_whole (Some a) (Some b) (Some z) (Some c) None read buf calls p q h s = absu
 ran_whole (Some a) (Some b) (Some z) (Some c) (Some d) read buf calls p q h s =
     let end = q.2 refl h in
     let all : read ≡ a.remaining = sym (p.0 ∙ ap (λ r. read ++ r) (q.0 ∙ end) ∙ append-nil read) in
-    (end, s.0, output_as read a.remaining s.0 all s.1, sym (append-nil d.contents) ∙ s.2.0 ∙ ap (λ r. r ++ s.0) (append-nil c.contents))
+    (q.1 ∙ p.1, s.2.1, end, s.0, output_as read a.remaining s.0 all s.1, sym (append-nil d.contents) ∙ s.2.0 ∙ ap (λ r. r ++ s.0) (append-nil c.contents))

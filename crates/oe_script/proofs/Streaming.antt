@@ -20,7 +20,7 @@ sent_cut None b c h i t u p q = tt
 sent_cut (Some a) None c h i t u p q = absurd p
 sent_cut (Some a) (Some b) None h i t u p q = absurd q
 sent_cut (Some a) (Some b) (Some c) h i t u p q =
-    ((q.0.0, q.0.1 ∙ ap (λ z. z ++ u) p.0 ∙ append_assoc (a.contents ++ h) t u), q.1)
+    ((q.0.0, q.0.1 ∙ ap (λ z. z ++ u) p.0 ∙ append_assoc (a.contents ++ h) t u), q.1 ∙ ap (λ n. n + 1) p.1)
 
 pub cut_more : (a b : Option Sink) (h t u : List ℕ) → Cut a h b t → Cut a h b (t ++ u)
 cut_more None b h t u p = tt

@@ -1,5 +1,5 @@
 -- A session between two bytes of its input, and how a script ends.
-use Rattle.std.specs.Prelude.{◌≡◌, ℕ, ◌+◌, ◌^◌, ◌<◌, ◌≤◌, ◌⊎◌, Bool, List, [], ◌++◌, length, ⊤, Option, Some, None, Result, Ok, Err, MatchResult}
+use Rattle.std.specs.Prelude.{◌≡◌, ℕ, ◌+◌, ◌^◌, ◌≤◌, ◌⊎◌, Bool, List, [], ◌++◌, length, ⊤, Option, Some, None, Result, Ok, Err, MatchResult}
 use Rattle.oe_theory.specs.World.{Open, World}
 use Rattle.oe_theory.specs.Theorems.{IsReached}
 use Rattle.oe_model.specs.Positions.{Position, InPayment, InNewOrder, InDelivery}
@@ -78,13 +78,18 @@ pub record Answered (a b : Source) (c d : Sink) : Type 0 where
   pub reached : Reached read answers state count line
   pub written : d.contents ≡ c.contents ++ answers
 
--- How a script ends, where reader and writer tell their bytes: all of it is read, and an output of it is written. A fault comes only
--- where a call of theirs has failed, or the input had not ended after 2^64 - 1 reads. One of the reader finds the whole lines answered.
+-- one call of the reader failed, or none did and the input had not ended after 2^64 - 1 reads
+abbrev pub ReadFailed : Source → Source → Type 0
+ReadFailed a b = (b.failures ≡ a.failures + 1) ⊎ ((b.failures ≡ a.failures) × (2 ^ 64 ≤ length a.remaining + 1))
+
+-- How a script ends, where reader and writer tell their bytes. Without a fault no call of theirs failed in this run, all of the input is
+-- read, and an output of it is written. A fault tells which of them failed, in the last call of the run; the other never did. One of the
+-- reader finds the whole lines answered.
 abbrev pub ScriptRan : Option Source → Option Source → Option Sink → Option Sink → Result (Unit {0}) Fault → Type 0
 ScriptRan (Some a) (Some b) (Some c) (Some d) (Ok x) =
-    (b.remaining ≡ []) × (out : List ℕ) × Output a.remaining out × (d.contents ≡ c.contents ++ out)
-ScriptRan (Some a) (Some b) (Some c) (Some d) (Err Read) = ((0 < b.failures) ⊎ (2 ^ 64 ≤ length a.remaining + 1)) × Answered a b c d
-ScriptRan (Some a) (Some b) (Some c) (Some d) (Err Write) = (0 < d.failures) × Began a b c d
+    (b.failures ≡ a.failures) × (d.failures ≡ c.failures) × (b.remaining ≡ []) × (out : List ℕ) × Output a.remaining out × (d.contents ≡ c.contents ++ out)
+ScriptRan (Some a) (Some b) (Some c) (Some d) (Err Read) = ReadFailed a b × (d.failures ≡ c.failures) × Answered a b c d
+ScriptRan (Some a) (Some b) (Some c) (Some d) (Err Write) = (b.failures ≡ a.failures) × (d.failures ≡ c.failures + 1) × Began a b c d
 ScriptRan (Some a) (Some b) (Some c) None r = ⊥
 ScriptRan (Some a) None (Some c) d r = ⊥
 ScriptRan (Some a) b None d r = ⊤
