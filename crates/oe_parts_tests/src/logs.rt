@@ -1,4 +1,5 @@
-//! A log of two extents that is filled, and filled again around its end: at which addresses records come to stand.
+//! A log of two extents that is filled, and filled again around its end: at which addresses records come to stand. And which
+//! commits may have deleted a row.
 use crate::made::{queue_entry, warehouse};
 use crate::opened::request;
 use oe_layout::{LentRecord, LinkedRecord, Previous, RecordAddress};
@@ -130,5 +131,32 @@ fn records_fill_extents_and_go_around(rt: HostRuntime) {
     assert!(rt; at == Some([(0, 1_694), (0, 4_046), (0, 4_071), (1, 0), REFUSED, (1, 25)]));
     let at = filled_again(&mut log, first, second);
     assert!(rt; at == Some([REFUSED, (0, 0), (0, 25), REFUSED, (1, 0)]));
+    drop(log);
+}
+
+/// Commits 23 updates, then nothing, then a delete. Answers whether each commit may have deleted a NEW-ORDER row, the newest
+/// first, and the same of a commit that there is not.
+fn deleting(log: &mut Log, terminal: Terminal) -> Option<[bool; 4]> {
+    let key = queue_entry()?;
+    begin(log, terminal)?;
+    let _updated = push_updates(log, terminal)?;
+    seal(log, terminal)?;
+    seal(log, terminal)?;
+    let _deleted = push(log, terminal, &key);
+    seal(log, terminal)?;
+    Some([
+        log.may_delete(0),
+        log.may_delete(1),
+        log.may_delete(2),
+        log.may_delete(3),
+    ])
+}
+
+#[test]
+fn only_a_commit_that_recorded_a_delete_may_delete(rt: HostRuntime) {
+    let mut log = log(rt.alloc()).expect(&rt, "a log");
+    let terminal = Terminal::new(1).expect(&rt, "a terminal");
+    let may = deleting(&mut log, terminal);
+    assert!(rt; may == Some([true, false, false, false]));
     drop(log);
 }
