@@ -18,11 +18,11 @@ pub record IsReply (q : Query) (ts : tables.Places) (u : SegmentLog) (m : ℕ) (
   pub readable : IsKeptMoment u m
   pub answer : answer_of q (version ts u m) ≡ Here f
 
--- there is no reply of a moment that can't be read, nor of what is not there at one that can
+-- a moment that can't be read has no reply, and neither has a row that is absent at a moment that can
 abbrev pub HasNoReply : Query → tables.Places → SegmentLog → ℕ → Refusal → Type 0
 HasNoReply q ts u m e = IsUnkept u m e ⊎ (IsKeptMoment u m × (answer_of q (version ts u m) ≡ Missing e))
 
--- a query is refused for an absent warehouse before it is for the moment, and for the moment before it is for what is not there
+-- a query is refused for an absent warehouse first, then for the moment, and then for a row that is absent at the moment
 abbrev pub IsRefused : Query → tables.Places → SegmentLog → ℕ → Refusal → Type 0
 IsRefused q ts u m e =
     (query_rejection q (rows ts) ≡ Some e) ⊎ ((query_rejection q (rows ts) ≡ None) × HasNoReply q ts u m e)

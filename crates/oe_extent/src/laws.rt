@@ -1,7 +1,7 @@
-//! What is written is read again. The function has an empty body and carries the law.
+//! A reading finds again what a write left. The function has an empty body and carries the law.
 ghost use Rattle.oe_extent.specs.Laws.{Written_is_read};
 
-/// From where it was written on stands what was written. The number or the run that was written there is read again.
+/// The text of a write stands from its offset on, and a reading there finds its number or its run again.
 pub fn written_is_read()
     ensures { Written_is_read }
 {}

@@ -102,7 +102,7 @@ fn kind_of_numbers(done: u64, table: u64) -> Option<RecordKind>
     }
 }
 
-/// The kind at the front of the bytes, and what is behind it.
+/// Reads the kind at the front of the bytes, and answers the bytes behind it too.
 #[tactic(auto, unfolding(crate::specs::Kinds::kind_at))]
 pub(crate) fn read_kind(bytes: &[u8]) -> Option<(RecordKind, &[u8])>
     ensures { option_map (λ x. (x.0, x.1.now)) result ≡ kind_at bytes.now }

@@ -99,7 +99,7 @@ fn previous_of(extent: u64, offset: u64, moment: u64) -> Option<Previous>
     at_address(RecordAddress { extent, offset }, moment)
 }
 
-/// The previous record, as it stands at the front of the bytes, and what is behind it.
+/// Reads the link to the previous record at the front of the bytes, and answers the bytes behind it too.
 #[tactic(auto, unfolding(crate::specs::Links::previous_at))]
 pub(crate) fn read_previous(bytes: &[u8]) -> Option<(Previous, &[u8])>
     ensures { option_map (λ x. (x.0, x.1.now)) result ≡ previous_at bytes.now }

@@ -134,7 +134,7 @@ fn read_stock_update(bytes: &[u8]) -> Option<(OwnRecord, &[u8])>
     Some((OwnRecord::UpdatedStock(key, row), rest))
 }
 
-/// What stands between the two lengths, and what is behind it.
+/// Reads what stands between the two lengths, and answers the bytes behind it too.
 #[tactic(auto, unfolding(crate::specs::RecordFronts::body_at))]
 fn read_body(bytes: &[u8]) -> Option<((Previous, OwnRecord), &[u8])>
     ensures { option_map (λ x. (x.0, x.1.now)) result ≡ body_at bytes.now }

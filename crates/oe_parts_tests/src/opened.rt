@@ -13,7 +13,7 @@ use oe_values::{ExtentCount, Moment, Number, Stamp, Terminal};
 use std::alloc::Global;
 use std::snapshot::Snapshot;
 
-/// An undo log on a ring of so many extents.
+/// Makes an undo log on a ring of `extents` extents.
 pub(crate) fn undo(alloc: Global, extents: u32) -> Option<Undo> {
     Undo::new(alloc, ExtentCount::new(extents)?).ok()
 }

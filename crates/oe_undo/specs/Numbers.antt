@@ -1,4 +1,4 @@
--- The numbers of keys: on its shelf of a table a key has a number of its own, and what is no key has none.
+-- The numbers of keys: a key has a number of its own on its shelf of a table, and a value that is no key has none.
 use Rattle.std.specs.Prelude.{ℕ, ◌+◌, ◌*◌, cond, ltb, ◌&&◌, Option, None, Some}
 use Rattle.oe_rows.specs.declared.keys.WarehouseKey.{WarehouseKey}
 use Rattle.oe_rows.specs.declared.keys.DistrictKey.{DistrictKey}
