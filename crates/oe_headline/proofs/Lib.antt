@@ -3,6 +3,9 @@ pub mod AnswerFacts
 pub mod DeedFacts
 pub mod PassFacts
 pub mod AuditFacts
+pub mod MomentFacts
 pub mod ReadFacts
+pub mod RewindFacts
 pub mod WithoutFacts
 pub mod SureFacts
+pub mod FaultFacts

@@ -4,6 +4,7 @@ use Rattle.oe_theory.specs.Machine.{Here, Missing}
 use Rattle.oe_theory.specs.World.{World, horizon, newest, at, tables}
 use Rattle.oe_theory.specs.Next as theory
 use Rattle.oe_theory.specs.Next.{Next, reads, query_is_rejected, misses, not_open, too_old, future, IsPast}
+use Rattle.oe_theory.specs.Theorems.{IsReached}
 use Rattle.oe_theory.proofs.Sets.{some_inj, some_none}
 use Rattle.oe_requests.specs.declared.refusals.Refusal.{Refusal}
 use Rattle.oe_requests.specs.declared.refusals.Refusal.TheVariants as refusal
@@ -23,6 +24,7 @@ use Rattle.oe_script.specs.Script as script
 use Rattle.oe_script.specs.Script.{moment_in, Answers}
 use Rattle.oe_script.proofs.LineFacts.{one_command}
 use Rattle.oe_headline.specs.Laws.{Tells, IsRead, Reads_are_of_moments}
+use Rattle.oe_headline.proofs.MomentFacts.{version_at}
 use Rattle.oe_headline.proofs.AnswerFacts.{answer_once, rejected_once}
 
 -- what the machine answers
@@ -59,24 +61,24 @@ step_asked w _ _ _ m q (future i k e p l) h =
 step_asked w _ _ _ m q n h = cc
 
 -- and its text
-query_told : (w : World system) (q : Query) (m : ℕ) (x : Answer) (w' : World system) (text : List ℕ) → text ≡ answer_line x
+query_told : (w : World system) (q : Query) (m : ℕ) (x : Answer) (w' : World system) (text : List ℕ) → IsReached system w → text ≡ answer_line x
     → Asked w m q (answer_in (step.Read m q) x) w' → IsRead w q m text × (w' ≡ w)
-query_told w q m x w' text t (tells n l u f h e same) =
-    (inr (n, inl (l, u, subst (λ z. Tells z text) (sym h) (t ∙ ap answer_line (answer_once (step.Read m q) x (answer.Replied f) e)))), same)
-query_told w q m x w' text t (turns d r e same) = (inl (d, r, t ∙ ap answer_line (rejected_once (step.Read m q) x d e)), same)
-query_told w q m x w' text t (has_none n l u d h e same) =
-    (inr (n, inl (l, u, subst (λ z. Tells z text) (sym h) (t ∙ ap answer_line (rejected_once (step.Read m q) x d e)))), same)
-query_told w q m x w' text t (is_old n l e same) =
+query_told w q m x w' text made t (tells n l u f h e same) =
+    (inr (n, inl (l, u, version_at w m made l u, subst (λ z. Tells z text) (sym h) (t ∙ ap answer_line (answer_once (step.Read m q) x (answer.Replied f) e)))), same)
+query_told w q m x w' text made t (turns d r e same) = (inl (d, r, t ∙ ap answer_line (rejected_once (step.Read m q) x d e)), same)
+query_told w q m x w' text made t (has_none n l u d h e same) =
+    (inr (n, inl (l, u, version_at w m made l u, subst (λ z. Tells z text) (sym h) (t ∙ ap answer_line (rejected_once (step.Read m q) x d e)))), same)
+query_told w q m x w' text made t (is_old n l e same) =
     (inr (n, inr (inl (l, t ∙ ap answer_line (answer_once (step.Read m q) x (answer.Refused (refusal.TooOld (horizon system w))) e)))), same)
-query_told w q m x w' text t (is_future n l e same) =
+query_told w q m x w' text made t (is_future n l e same) =
     (inr (n, inr (inr (l, t ∙ ap answer_line (answer_once (step.Read m q) x (answer.Refused (refusal.Future (newest system w))) e)))), same)
 
 pub reads_are_of_moments : Reads_are_of_moments
-reads_are_of_moments w n line text s m q asks (inr (bad, e, same)) = absurd (bad (command.Read m q) asks)
-reads_are_of_moments w n line text s m q asks (inl (d, other, a)) =
+reads_are_of_moments w n line text s m q made asks (inr (bad, e, same)) = absurd (bad (command.Read m q) asks)
+reads_are_of_moments w n line text s m q made asks (inl (d, other, a)) =
     go (subst (λ (z : Command). Answers (Some w) z text s) (one_command line d (command.Read m q) other.says asks.says) a)
   where
     go : script.Stepped w (step.Read (moment_in w m) q) text s → IsRead w q (moment_in w m) text × (s ≡ Some w)
     go (x, w', next, t, same) =
-        let told_so = query_told w q (moment_in w m) x w' text t (step_asked w _ _ w' (moment_in w m) q next refl) in
+        let told_so = query_told w q (moment_in w m) x w' text made t (step_asked w _ _ w' (moment_in w m) q next refl) in
         (told_so.0, same ∙ ap Some told_so.1)

@@ -1,8 +1,10 @@
 -- What every script keeps.
-use Rattle.std.specs.Prelude.{◌≡◌, ◌≢◌, ℕ, ◌+◌, ◌≤◌, ◌<◌, ◌⊎◌, true, List, [], ◌∷◌, ◌++◌, length, Some, None}
+use Rattle.std.specs.Prelude.{◌≡◌, ◌≢◌, ℕ, ◌+◌, ◌≤◌, ◌<◌, ◌⊎◌, true, List, [], ◌∷◌, ◌++◌, length, Some, None, Err}
 use Rattle.std.specs.List.{flat_map}
 use Rattle.oe_theory.specs.Machine.{Outcome, Here, Missing}
-use Rattle.oe_theory.specs.World.{World, horizon, newest, at, tables}
+use Rattle.oe_theory.specs.World.{World, counts_at, horizon, newest, at, tables}
+use Rattle.oe_theory.specs.Next as theory
+use Rattle.oe_theory.specs.Next.{Next}
 use Rattle.oe_theory.specs.Theorems.{IsReached, opened}
 use Rattle.oe_rows.specs.declared.scales.Scale.{Scale}
 use Rattle.oe_requests.specs.declared.refusals.Refusal.{Refusal}
@@ -27,9 +29,13 @@ use Rattle.oe_lines.specs.declared.commands.MomentChoice.{MomentChoice}
 use Rattle.oe_lines.specs.declared.commands.MomentChoice.TheVariants as moment
 use Rattle.oe_core.specs.Run.{Ran}
 use Rattle.oe_texts.specs.Answer.{answer_line, audit_line}
+use Rattle.oe_script.specs.declared.session.Fault.TheVariants as fault
+use Rattle.oe_script.specs.Ports.{Source, Sink}
+use Rattle.oe_script.specs.Session.{ScriptRan}
 use Rattle.oe_script.specs.Script.{State, moment_in, Asks, LineAnswer, RunOfLines, ended, last_text, Output}
 use Rattle.oe_headline.specs.Deeds.{Deed, No_form, Opening, Dump, Steps, Entry, Passed, lines_of, texts_of, steps_of, answers_of}
 use Rattle.oe_headline.specs.Without.{is_rolled_back, Without}
+use Rattle.oe_headline.specs.Moments.{IsVersion, AreUnpurged, IsRewound, IsRewoundTo}
 
 -- each run of lines is lines one after another, of each of which it is known what it was; and the other way round
 pub record Lines_are_deeds : Type 0 where
@@ -78,15 +84,15 @@ pub record Audits_hold : Type 0 where
   pub verdicts : (s s' : State) (before after : List Entry) (e : Entry) (n : ℕ) (c : Condition) (m : ℕ) (v : Verdict) → IsReachedState s
       → Passed s (before ++ e ∷ after) s' → e.deed ≡ Steps n (step.Audit c m) (answer.Audited v) → v ≡ verdict.Holds
 
--- A query of a moment is told what is found in the version of that moment, which has the commits up to it and nobody's open work,
--- or what is missed there. It is refused where its warehouse is absent, or where the moment is not kept
+-- A query of a moment is told what is found in the version of that moment, which the commits up to it leave, run one at a time, each with
+-- its effect, and nobody's open work; or what is missed there. It is refused where its warehouse is absent, or where the moment is not kept
 abbrev pub Tells : Outcome QueryReply Refusal → List ℕ → Type 0
 Tells (Here f) text = text ≡ answer_line (answer.Replied f)
 Tells (Missing e) text = text ≡ answer_line (answer.Refused e)
 
 abbrev pub IsReadAt : World system → Query → ℕ → List ℕ → Type 0
 IsReadAt w q m text =
-    ((horizon system w ≤ m) × (m ≤ newest system w) × Tells (answer_of q (at system w m)) text)
+    ((horizon system w ≤ m) × (m ≤ newest system w) × IsVersion w m (at system w m) × Tells (answer_of q (at system w m)) text)
     ⊎ ((m < horizon system w) × (text ≡ answer_line (answer.Refused (refusal.TooOld (horizon system w)))))
     ⊎ ((newest system w < m) × (text ≡ answer_line (answer.Refused (refusal.Future (newest system w)))))
 
@@ -98,8 +104,8 @@ IsRead w q m text =
 -- so it is with each line that asks a query
 abbrev pub Reads_are_of_moments : Type 0
 Reads_are_of_moments =
-    (w : World system) (n : ℕ) (line text : List ℕ) (s : State) (m : MomentChoice) (q : Query) → Asks (Some w) line (command.Read m q)
-    → LineAnswer (Some w) n line text s → IsRead w q (moment_in w m) text × (s ≡ Some w)
+    (w : World system) (n : ℕ) (line text : List ℕ) (s : State) (m : MomentChoice) (q : Query) → IsReached system w
+    → Asks (Some w) line (command.Read m q) → LineAnswer (Some w) n line text s → IsRead w q (moment_in w m) text × (s ≡ Some w)
 
 -- The lines of a script up to its opening, and what follows of those after it. They are one run of the machine, from the
 -- population that was opened: each of its transactions ends whole, although others overlap it; the commits are those of
@@ -123,6 +129,22 @@ pub record Scripts_are_runs : Type 0 where
   -- and from each world that steps led to
   pub from_world : (w : World system) (es : List Entry) (s : State) → IsReached system w → Passed (Some w) es s
       → (w' : World system) × (s ≡ Some w') × Ran w (steps_of es) (answers_of es) w'
+
+-- what a run goes on from, and where a rewind leads
+pub record Rewinds_restore : Type 0 where
+  -- a purge makes the version of its moment the base
+  pub by_purge : (w v : World system) (m : ℕ) → Next system w (theory.Purge m) (theory.Purged m) v → (v.base ≡ at system w m) × (v.counts ≡ counts_at system w m)
+  -- which each other step leaves
+  pub by_other : (w v : World system) (i : theory.Step system) (a : theory.Answer system) → Next system w i a v → ((m : ℕ) → a ≢ theory.Purged m)
+      → (v.base ≡ w.base) × (v.counts ≡ w.counts)
+  -- so as long as nothing is purged it is the population that was opened
+  pub of_population : (es : List Entry) (w : World system) (r : IsOneRun es w) → AreUnpurged (answers_of r.after) → (w.base ≡ r.rows) × (horizon system w ≡ 0)
+  -- each line that asks for a rewind
+  pub answered : (w : World system) (n : ℕ) (line text : List ℕ) (s : State) (m : MomentChoice) → IsReached system w
+      → Asks (Some w) line (command.Rewind m) → LineAnswer (Some w) n line text s → IsRewound w (moment_in w m) text s
+  -- as long as nothing is purged `rewind 0` gives the population back
+  pub to_population : (es : List Entry) (w : World system) (r : IsOneRun es w) (n : ℕ) (line text : List ℕ) (s : State) → AreUnpurged (answers_of r.after)
+      → Asks (Some w) line (command.Rewind (moment.At 0)) → LineAnswer (Some w) n line text s → IsRewoundTo r.rows w text s
 
 -- A transaction begins in the line `first`, and is rolled back in those that follow. Without its lines the others are answered
 -- the same, and leave the same state
@@ -169,3 +191,33 @@ pub record Answers_are_determined : Type 0 where
   -- so an input determines its output
   pub of_output : (input out out' : List ℕ) (o : Output input out) (o' : Output input out') (es fs : List Entry) → IsOutputOf input out o es → IsOutputOf input out' o' fs
       → HaveMemory es → HaveMemory fs → (out ≡ out') × (o.state ≡ o'.state)
+
+-- An output of what was read, and what each whole line of it was. From the opening on the lines are one run of the machine, whatever
+-- transactions overlap in them
+pub record IsAnswered (read : List ℕ) : Type 0 where
+  pub out : List ℕ
+  pub output : Output read out
+  pub es : List Entry
+  pub deeds : IsOutputOf read out output es
+  pub run : (w : World system) → output.state ≡ Some w → IsOneRun es w
+
+-- Exactly the answers of all whole lines that were read were written, and whatever input follows, an output of all of it begins so
+pub record IsCutByReader (a b : Source) (c d : Sink) : Type 0 where
+  pub read : List ℕ
+  pub were_read : a.remaining ≡ read ++ b.remaining
+  pub lines : IsAnswered read
+  pub written : d.contents ≡ c.contents ++ texts_of 0 lines.es
+  pub goes_on : (more : List ℕ) → (rest : List ℕ) × Output (read ++ more) (texts_of 0 lines.es ++ rest)
+
+-- what was written is a beginning of an output of what was read
+pub record IsCutByWriter (a b : Source) (c d : Sink) : Type 0 where
+  pub read : List ℕ
+  pub were_read : a.remaining ≡ read ++ b.remaining
+  pub lines : IsAnswered read
+  pub unwritten : List ℕ
+  pub written : d.contents ++ unwritten ≡ c.contents ++ lines.out
+
+-- how a fault of the reader and one of the writer cut a script's output
+pub record Faults_cut_outputs : Type 0 where
+  pub by_reader : (a b : Source) (c d : Sink) → ScriptRan (Some a) (Some b) (Some c) (Some d) (Err fault.Read) → IsCutByReader a b c d
+  pub by_writer : (a b : Source) (c d : Sink) → ScriptRan (Some a) (Some b) (Some c) (Some d) (Err fault.Write) → IsCutByWriter a b c d

@@ -3,3 +3,4 @@ pub mod Beside
 pub mod Deeds
 pub mod Without
 pub mod Laws
+pub mod Moments

@@ -3,7 +3,7 @@
 #![tactic(auto)]
 
 ghost use Rattle.oe_headline.specs.Beside.{Others_see_nothing};
-ghost use Rattle.oe_headline.specs.Laws.{Lines_are_deeds, Worlds_are_reached, Audits_hold, Reads_are_of_moments, Scripts_are_runs, Lines_without_rollback, Outputs_without_rollback, Answers_are_determined};
+ghost use Rattle.oe_headline.specs.Laws.{Lines_are_deeds, Worlds_are_reached, Audits_hold, Reads_are_of_moments, Scripts_are_runs, Lines_without_rollback, Outputs_without_rollback, Answers_are_determined, Rewinds_restore, Faults_cut_outputs};
 ghost use Rattle.oe_model.specs.System.{system};
 
 /// Of each line that is answered it is known what it was: none of the forms, an opening, a dump, or steps of the machine with
@@ -23,8 +23,8 @@ pub fn audits_hold()
     ensures { Audits_hold }
 {}
 
-/// Each line that asks a query of a moment that is kept is told what is found in the version of that moment, which has exactly
-/// the commits up to it, whatever is open.
+/// Each line that asks a query of a moment that is kept is told what is found in the version of that moment, whatever is open:
+/// in what exactly the commits up to it leave, run one at a time, each with its whole effect.
 pub fn reads_are_of_moments()
     ensures { Reads_are_of_moments }
 {}
@@ -34,6 +34,12 @@ pub fn reads_are_of_moments()
 /// those of the same transactions run one at a time.
 pub fn scripts_are_runs()
     ensures { Scripts_are_runs }
+{}
+
+/// Each line that asks for a rewind to a moment that is kept, while nothing is open, leaves the moment's version; to moment 0, as
+/// long as nothing was purged, the population. A purge makes the version of its moment the base that a run goes on from.
+pub fn rewinds_restore()
+    ensures { Rewinds_restore }
 {}
 
 /// Beside an open transaction each step of others is answered as it is without that transaction, unless it gives way to it: it
@@ -55,4 +61,11 @@ pub fn outputs_without_rollback()
 /// Where no line is refused memory, lines determine their answers and the state that they leave, and an input its output.
 pub fn answers_are_determined()
     ensures { Answers_are_determined }
+{}
+
+/// Where a run of a script ends with a fault, in the midst of any transactions: after one of the reader exactly the answers of
+/// all whole lines that were read were written, and whatever input follows, an output of all of it begins so; after one of the
+/// writer what was written is a beginning of an output of what was read.
+pub fn faults_cut_outputs()
+    ensures { Faults_cut_outputs }
 {}
