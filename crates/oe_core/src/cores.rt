@@ -10,10 +10,11 @@ ghost use Rattle.oe_store.specs.Places.{rows};
 ghost use Rattle.oe_engine.specs.View.{view_of, IsOpen};
 ghost use Rattle.oe_engine.specs.Calls.{committed, rolled_back};
 ghost use Rattle.oe_engine.specs.Programs.{reply_at};
-ghost use Rattle.oe_core.specs.Steps.{step_in, answer_in, Carries, begin_answer, Advances, IsStep, HasProgram};
+ghost use Rattle.oe_core.specs.Steps.{step_in, answer_in, Carries, begin_answer, Advances, begins_with, HasProgram};
 ghost use Rattle.oe_core.specs.Core.{world_of, last_reply, keeps_open, IsEndable, IsEnded};
 
 use crate::advances::Advanced;
+use crate::ranges::ranges_hold;
 use crate::rejections::rejection;
 use crate::slots::{begin_work, empty_places, open_tx, put_tx, slot, take_tx};
 use crate::works::Work;
@@ -132,7 +133,7 @@ impl Core {
     // In its callers, so that an answer is not copied from layer to layer.
     #[inline(always)]
     pub fn step(&mut self, step: Step) -> Answer
-        requires { IsStep step }
+        requires { IfSome (begins_with step) HasProgram }
         ensures serves { Next system (world_of self.old) (step_in step) (answer_in step result)
             (world_of self.new) }
         ensures reached { IsReached system (world_of self.new) }
@@ -242,6 +243,7 @@ impl Core {
         if let Some(refusal) = rejection(self.engine.tables(), request) {
             return Err(refusal);
         }
+        ranges_hold(request);
         match self.engine.begin(terminal) {
             Ok(tx) => {
                 put_tx(&mut self.txs, terminal, tx);
