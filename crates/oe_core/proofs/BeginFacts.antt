@@ -9,13 +9,13 @@ use Rattle.oe_requests.specs.declared.refusals.Refusal.TheVariants.{NoSuchRow, R
 use Rattle.oe_rows.specs.declared.keys.Key.TheVariants as key
 use Rattle.oe_requests.specs.declared.steps.Step.TheVariants as step
 use Rattle.oe_model.specs.Rows.{Rows, row_at}
-use Rattle.oe_model.specs.Requests.{warehouses_of, warehouse_no, first_absent, rejection, number_rejection}
+use Rattle.oe_model.specs.Requests.{IsRequest, warehouses_of, warehouse_no, first_absent, rejection, number_rejection}
 use Rattle.oe_model.specs.System.{system}
 use Rattle.oe_engine.specs.View.{view_of}
 use Rattle.oe_engine.specs.Calls.{CantBegin}
 use Rattle.oe_core.specs.Core.{CoreState, in_slot, slot_of, open_at, store_of, IsOrderly, Moves}
-use Rattle.oe_core.specs.Steps.{HasProgram, refusal_in}
-use Rattle.oe_core.proofs.MoveFacts.{standing, stays, the_steps, has_work, is_shut, below_limit, valid}
+use Rattle.oe_core.specs.Steps.{refusal_in}
+use Rattle.oe_core.proofs.MoveFacts.{standing, stays, the_steps, has_work, is_shut, below_limit}
 
 -- a request that is turned away
 only_absent : (t : ℕ) (q : Request) (e : Refusal) (ws : List ℕ) (r : Rows) → first_absent ws r ≡ Some e → refusal_in (step.Begin t q) e ≡ Rejected e
@@ -51,7 +51,7 @@ outnumbered s o t q e k h =
     (the_steps.number_is_rejected (store_of s) t q e (standing s o) k
     (is_shut s o t h.0) h.1)
 
-pub not_begun : (s : CoreState) → IsOrderly s → (t : ℕ) → 1 ≤ t → t < 65 → (q : Request) → HasProgram q → rejection q (view_of s.engine).rows ≡ None → (e : Refusal)
+pub not_begun : (s : CoreState) → IsOrderly s → (t : ℕ) → 1 ≤ t → t < 65 → (q : Request) → IsRequest q → rejection q (view_of s.engine).rows ≡ None → (e : Refusal)
     → CantBegin (view_of s.engine) t e → Moves s (Begin t q) (refusal_in (step.Begin t q) e) s
 not_begun s o t l b q g kn (NoSuchRow k) h = outnumbered s o t q (NoSuchRow k) kn h
 not_begun s o t l b q g kn (RowExists k) h = outnumbered s o t q (RowExists k) kn h
@@ -71,7 +71,7 @@ not_begun s o t l b q g kn NoMemory h =
     (the_steps.lacks_memory_at_begin (store_of s) t q (standing s o)
     (record {
       terminal = (l, below_limit t b);
-      valid = valid q g;
+      valid = g;
       known = kn;
       closed = is_shut s o t h.0;
       counted = h.1;

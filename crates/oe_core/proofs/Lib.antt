@@ -10,3 +10,4 @@ pub mod AuditFacts
 pub mod RunFacts
 pub mod ReadFacts
 pub mod PastFacts
+pub mod CountFacts

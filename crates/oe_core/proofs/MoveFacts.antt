@@ -14,7 +14,6 @@ use Rattle.oe_theory.proofs.Sets.{set_same, set_other}
 use Rattle.oe_theory.proofs.StoreTheorems.{steps_of_the_store}
 use Rattle.oe_theory.proofs.StoreClosing.{store_is_orderly}
 use Rattle.oe_requests.specs.declared.requests.Request.{Request}
-use Rattle.oe_requests.specs.declared.requests.Request.TheVariants as request
 use Rattle.oe_model.specs.Rows.{Rows}
 use Rattle.oe_model.specs.Requests.{IsRequest, rejection, number_rejection}
 use Rattle.oe_model.specs.System.{system, start_of, terminal_limit}
@@ -23,7 +22,6 @@ use Rattle.oe_engine.specs.View.{View, view_of, Handle, IsOpen}
 use Rattle.oe_engine.specs.View as engine
 use Rattle.oe_engine.specs.Calls.{begun, back_at, rolled_back}
 use Rattle.oe_core.specs.Core.{CoreState, in_slot, work_of, work_at, slot_of, open_at, store_with, store_of, world_of, IsSound, IsTx, Works, IsOrderly, Moves}
-use Rattle.oe_core.specs.Steps.{HasProgram}
 use Rattle.oe_core.specs.Works.{WorkState, begun as begun_work}
 use Rattle.oe_core.proofs.SlotFacts.{slot_set, kept_slot, get_slot, lent_slot, set_idle_slot}
 
@@ -318,14 +316,7 @@ taken_here {s} {t} {x} o h e =
     (found.0, record { orderly = o; low = omega (arith, h); tx = tx; work = found.1 })
 
 -- begin
-pub valid : (q : Request) → HasProgram q → IsRequest q
-valid (request.Payment q) h = h
-valid (request.NewOrder q) h = h
-valid (request.Delivery q) h = h
-valid (request.Deliveries q) h = absurd h
-valid (request.Rename q) h = absurd h
-
-pub begun_here : (s : CoreState) → IsOrderly s → (t : ℕ) → 1 ≤ t → t ≤ 64 → (q : Request) → HasProgram q → (x : Handle) (e' : engine.EngineState) (xs : List (Option Handle)) (ws : List (Option WorkState))
+pub begun_here : (s : CoreState) → IsOrderly s → (t : ℕ) → 1 ≤ t → t ≤ 64 → (q : Request) → IsRequest q → (x : Handle) (e' : engine.EngineState) (xs : List (Option Handle)) (ws : List (Option WorkState))
     → rejection q (view_of s.engine).rows ≡ None → number_rejection (suc ((view_of s.engine).counts t)) ≡ None
     → (view_of s.engine).is_open t ≡ false → ((view_of s.engine).is_open t ≡ false → (view_of s.engine).held t ≡ (λ _. None))
     → view_of e' ≡ begun t (view_of s.engine) → e'.name ≡ s.engine.name
@@ -337,7 +328,7 @@ begun_here s o t l h q g x e' xs ws known counted shut idle b name tx txs works 
     let free : v.held t ≡ (λ _. None) = idle shut in
     replaced s o (Begin t q) Begun t low (Some x) (Some (begun_work q)) (Some (first_slot system (store_of s) t q)) e' (begun t v)
     (the_steps.begins (store_of s) t q (standing s o)
-    (record { terminal = (l, below_limit t low); valid = valid q g; known = known; closed = is_shut s o t shut; counted = counted }))
+    (record { terminal = (l, below_limit t low); valid = g; known = known; closed = is_shut s o t shut; counted = counted }))
     b name (record { counts = λ u n. refl; held = λ u n. refl; is_open = λ u n. set_other t true v.is_open u n })
     (λ i. Some (record { number = suc (v.counts t); request = q; position = start_of q; mark_position = start_of q; mark_count = 0; held = free i }))
     (record {

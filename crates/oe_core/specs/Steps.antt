@@ -1,5 +1,5 @@
 -- Steps and answers as those of the theory of transactions, and what a step may be answered.
-use Rattle.std.specs.Prelude.{◌≡◌, ℕ, Option, Some, Result, Ok, Err}
+use Rattle.std.specs.Prelude.{◌≡◌, ℕ, Option, None, Some, Result, Ok, Err}
 use Rattle.oe_theory.specs.World.{World}
 use Rattle.oe_theory.specs.Next as theory
 use Rattle.oe_theory.specs.Next.{Next}
@@ -14,7 +14,6 @@ use Rattle.oe_requests.specs.declared.steps.Step.TheVariants as step
 use Rattle.oe_requests.specs.declared.answers.Answer.{Answer}
 use Rattle.oe_requests.specs.declared.answers.Answer.TheVariants as answer
 use Rattle.oe_audit.specs.Verdict.{condition_of, verdict_of}
-use Rattle.oe_model.specs.Requests.{IsRequest}
 use Rattle.oe_model.specs.System.{system}
 use Rattle.oe_core.specs.declared.advances.Advanced.{Advanced}
 use Rattle.oe_core.specs.declared.advances.Advanced.TheVariants as advanced
@@ -75,14 +74,14 @@ Advances w t advanced.More w' last = Carries w (step.Advance t) answer.More w'
 Advances w t (advanced.Committed m) w' last = (y : Reply) × (last ≡ Some y) × Carries w (step.Advance t) (answer.Committed m y) w'
 Advances w t (advanced.Refused e) w' last = Carries w (step.Advance t) (answer.Refused e) w'
 
--- the requests that have a program today, in their ranges: payments, orders, and deliveries of one district
+-- the requests that have a program today: payments, orders, and deliveries of one district
 abbrev pub HasProgram : Request → Type 0
-HasProgram (request.Payment q) = IsRequest (request.Payment q)
-HasProgram (request.NewOrder q) = IsRequest (request.NewOrder q)
-HasProgram (request.Delivery q) = IsRequest (request.Delivery q)
+HasProgram (request.Payment q) = Unit {0}
+HasProgram (request.NewOrder q) = Unit {0}
+HasProgram (request.Delivery q) = Unit {0}
 HasProgram q = ⊥
 
--- the steps of today: a Begin is of a request that has a program
-abbrev pub IsStep : Step → Type 0
-IsStep (step.Begin t q) = HasProgram q
-IsStep i = Unit {0}
+-- the request that a step begins a transaction with
+abbrev pub begins_with : Step → Option Request
+begins_with (step.Begin t q) = Some q
+begins_with i = None

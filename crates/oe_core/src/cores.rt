@@ -1,7 +1,7 @@
 //! The core.
-ghost use Rattle.std.specs.Prelude.{◌≡◌, IfOk, IfSome, IsSome, suc, option_map};
-ghost use Rattle.oe_theory.specs.World.{latest, newest, tables, total};
-ghost use Rattle.oe_theory.specs.Next.{Next};
+ghost use Rattle.std.specs.Prelude.{◌≡◌, ◌↔◌, IfOk, IfSome, IsSome, is_some, suc, option_map};
+ghost use Rattle.oe_theory.specs.World.{horizon, latest, newest, tables, total};
+ghost use Rattle.oe_theory.specs.Next.{Next, IsQuiet, count_open};
 ghost use Rattle.oe_theory.specs.Theorems.{opened, IsReached};
 ghost use Rattle.oe_requests.specs.Reply.{told_reply};
 ghost use Rattle.oe_model.specs.Conditions.{IsPopulation};
@@ -10,10 +10,11 @@ ghost use Rattle.oe_store.specs.Places.{rows};
 ghost use Rattle.oe_engine.specs.View.{view_of, IsOpen};
 ghost use Rattle.oe_engine.specs.Calls.{committed, rolled_back};
 ghost use Rattle.oe_engine.specs.Programs.{reply_at};
-ghost use Rattle.oe_core.specs.Steps.{step_in, answer_in, Carries, begin_answer, Advances, IsStep, HasProgram};
+ghost use Rattle.oe_core.specs.Steps.{step_in, answer_in, Carries, begin_answer, Advances, begins_with, HasProgram};
 ghost use Rattle.oe_core.specs.Core.{world_of, last_reply, keeps_open, IsEndable, IsEnded};
 
 use crate::advances::Advanced;
+use crate::ranges::ranges_hold;
 use crate::rejections::rejection;
 use crate::slots::{begin_work, empty_places, open_tx, put_tx, slot, take_tx};
 use crate::works::Work;
@@ -81,6 +82,28 @@ impl Core {
         self.engine.newest()
     }
 
+    /// Tells the oldest moment that can be read.
+    pub fn horizon(&self) -> Moment
+        ensures { result ≡ horizon system (world_of self.now) }
+    {
+        self.engine.horizon()
+    }
+
+    /// Counts the terminals that have a transaction open.
+    pub fn open_count(&self) -> u32
+        ensures count { result ≡ count_open system (world_of self.now).active terminal_limit }
+        ensures quiet { (result ≡ 0) ↔ IsQuiet system (world_of self.now) }
+    {
+        self.engine.open_count()
+    }
+
+    /// Tells whether a terminal has a transaction open.
+    pub fn is_open(&self, terminal: Terminal) -> bool
+        ensures { result ≡ is_some ((world_of self.now).active terminal) }
+    {
+        self.txs[slot(terminal)].is_some()
+    }
+
     /// The reply of a terminal's last transaction, where that has committed; none where it is open, was rolled back, or there was
     /// none. It is lent where it lies, in the terminal's slot.
     #[inline]
@@ -110,7 +133,7 @@ impl Core {
     // In its callers, so that an answer is not copied from layer to layer.
     #[inline(always)]
     pub fn step(&mut self, step: Step) -> Answer
-        requires { IsStep step }
+        requires { IfSome (begins_with step) HasProgram }
         ensures serves { Next system (world_of self.old) (step_in step) (answer_in step result)
             (world_of self.new) }
         ensures reached { IsReached system (world_of self.new) }
@@ -166,12 +189,12 @@ impl Core {
         }
     }
 
-    /// The answer of a query of that moment, whatever is open.
+    /// Answers a query of that moment, whatever is open.
     ///
     /// `NoSuchRow`: its warehouse isn't there. `TooOld`, `Future`: the moment is before the horizon, or after the newest, which is
     /// named. `NoCustomer`: nobody has the number or the last name. The first of these is named.
     #[inline(never)]
-    fn read(&self, moment: Moment, query: &Query) -> Answer
+    pub fn read(&self, moment: Moment, query: &Query) -> Answer
         ensures { Carries (world_of self.now) (Step.Read moment query.now) result
             (world_of self.now) }
     {
@@ -220,6 +243,7 @@ impl Core {
         if let Some(refusal) = rejection(self.engine.tables(), request) {
             return Err(refusal);
         }
+        ranges_hold(request);
         match self.engine.begin(terminal) {
             Ok(tx) => {
                 put_tx(&mut self.txs, terminal, tx);
@@ -262,8 +286,10 @@ impl Core {
     }
 
     /// Rolls the terminal's transaction back, and forgets what it carried out.
+    ///
+    /// `NotOpen`: it has none. Nothing has changed then.
     #[inline(never)]
-    fn rollback(&mut self, terminal: Terminal) -> Answer
+    pub fn rollback(&mut self, terminal: Terminal) -> Answer
         ensures { Carries (world_of self.old) (Step.Rollback terminal) result (world_of self.new) }
     {
         let Some(tx) = take_tx(&mut self.txs, terminal) else {
@@ -310,7 +336,7 @@ impl Core {
     ///
     /// `TooOld` with the horizon, `Future` with the newest moment: the moment is not between the two.
     #[inline(never)]
-    fn purge(&mut self, moment: Moment) -> Answer
+    pub fn purge(&mut self, moment: Moment) -> Answer
         ensures { Carries (world_of self.old) (Step.Purge moment) result (world_of self.new) }
     {
         if let Err(cause) = self.engine.purge(moment) {

@@ -3,6 +3,7 @@
 
 pub mod advances;
 pub mod cores;
+mod ranges;
 mod rejections;
 pub mod runs;
 mod slots;

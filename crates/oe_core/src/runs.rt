@@ -1,7 +1,7 @@
 //! Runs of steps.
-ghost use Rattle.std.specs.Prelude.{◌≡◌, IfOk, OnErr};
+ghost use Rattle.std.specs.Prelude.{◌≡◌, IfOk, IfSome, OnErr};
 ghost use Rattle.std.specs.List.{All};
-ghost use Rattle.oe_core.specs.Steps.{IsStep};
+ghost use Rattle.oe_core.specs.Steps.{begins_with, HasProgram};
 ghost use Rattle.oe_core.specs.Core.{world_of};
 ghost use Rattle.oe_core.specs.Run.{Served, Ran};
 
@@ -13,7 +13,7 @@ use oe_values::NoMemory;
 ///
 /// `NoMemory`: memory was refused for the answers; no step was carried out then.
 pub fn run(core: &mut Core, steps: &[Step]) -> Result<Vec<Answer>, NoMemory>
-    requires { All IsStep steps.now }
+    requires { All (λ i. IfSome (begins_with i) HasProgram) steps.now }
     ensures served { IfOk result
         (λ ys. Served (world_of core.old) steps.now ys.items (world_of core.new)) }
     ensures ran { IfOk result

@@ -1,6 +1,7 @@
 //! A list of steps, which no program runs.
+ghost use Rattle.std.specs.Prelude.{IfSome};
 ghost use Rattle.std.specs.List.{All};
-ghost use Rattle.oe_core.specs.Steps.{IsStep};
+ghost use Rattle.oe_core.specs.Steps.{begins_with, HasProgram};
 
 use crate::populations::populated;
 use crate::sessions::core_on;
@@ -18,7 +19,7 @@ fn is_not_open(answers: &[Answer]) -> bool {
 
 // Whether a run of these steps is answered so.
 fn run_is_not_open(core: &mut Core, steps: &[Step]) -> bool
-    requires { All IsStep steps.now }
+    requires { All (λ i. IfSome (begins_with i) HasProgram) steps.now }
 {
     match run(core, steps) {
         Ok(answers) => is_not_open(answers.as_slice()),

@@ -1,6 +1,6 @@
 -- Each line is answered.
 use Rattle.std.proofs.Common.{◌≡◌, Result, Ok, Err, ℕ, ◌+◌, ◌<◌, ◌≤◌, Bool, true, false, Option, None, Some, List, [], ◌∷◌, ◌++◌, length, refl, sym, ap, ◌∙◌, subst, inl, inr, arith}
-use Rattle.std.specs.Prelude.{◌⊎◌, ◌≢◌}
+use Rattle.std.specs.Prelude.{◌⊎◌, ◌≢◌, IfSome}
 use Rattle.std.proofs.lemmas.Bool.{cases_order}
 use Rattle.oe_theory.specs.Next.{Next}
 use Rattle.oe_theory.specs.World.{World, tables}
@@ -29,7 +29,7 @@ use Rattle.oe_model.specs.Population.{IsScale, IsPopulated}
 use Rattle.oe_model.specs.System.{system}
 use Rattle.oe_model.proofs.PopulationFacts.{population_is_one}
 use Rattle.oe_model.proofs.SystemLaws.{laws, population_is_good}
-use Rattle.oe_core.specs.Steps.{step_in, answer_in, Advances, HasProgram, IsStep}
+use Rattle.oe_core.specs.Steps.{step_in, answer_in, Advances, begins_with, HasProgram}
 use Rattle.oe_core.specs.declared.advances.Advanced.{Advanced}
 use Rattle.oe_core.specs.declared.advances.Advanced.TheVariants as advanced
 use Rattle.oe_script.specs.Dump.{dump_text}
@@ -45,13 +45,13 @@ use Rattle.oe_script.proofs.AnswerFacts.{IsTold, told_advance, told_save, told_b
 
 -- a request that a line spells has a program
 pub has_program : (q : Request) → grammar.IsRequest q → HasProgram q
-has_program (request.Payment q) h = h
-has_program (request.NewOrder q) h = h
-has_program (request.Delivery q) h = h
+has_program (request.Payment q) h = tt
+has_program (request.NewOrder q) h = tt
+has_program (request.Delivery q) h = tt
 has_program (request.Deliveries q) h = absurd h
 has_program (request.Rename q) h = absurd h
 
-is_request : (q : Request) → HasProgram q → model.IsRequest q
+is_request : (q : Request) → grammar.IsRequest q → model.IsRequest q
 is_request (request.Payment q) h = h
 is_request (request.NewOrder q) h = h
 is_request (request.Delivery q) h = h
@@ -71,7 +71,7 @@ live_opened s extents r h p = (
   λ t. tt,
 )
 
-live_stepped : (w : World system) (i : Step) (text : List ℕ) (s : State) → IsStep i → IsLive (Some w) → Stepped w i text s → IsLive s
+live_stepped : (w : World system) (i : Step) (text : List ℕ) (s : State) → IfSome (begins_with i) HasProgram → IsLive (Some w) → Stepped w i text s → IsLive s
 live_stepped w i text s b l (x, w', serves, e, same) = subst IsLive (sym same) (live_step w i _ w' b l serves)
 
 pub live_answers : (s : State) (c : Command) (text : List ℕ) (s' : State) → HasForm c → IsLive s → Answers s c text s' → IsLive s'
@@ -131,7 +131,7 @@ answered None (command.Read m q) f l a = absurd a
 answered None (command.Purge m) f l a = absurd a
 answered None (command.Rewind m) f l a = absurd a
 answered (Some w) (command.Open scale extents) f l a = absurd a
-answered (Some w) (command.Begin t q) f l a = stepped w (step.Begin t q) (told_begin w t q f.0.0 f.0.1 (is_request q (has_program q f.1)))
+answered (Some w) (command.Begin t q) f l a = stepped w (step.Begin t q) (told_begin w t q f.0.0 f.0.1 (is_request q f.1))
 answered (Some w) (command.Next t) f l a = stepped w (step.Advance t) (told_advance w t l.0)
 answered (Some w) (command.Run t) f l a = let r = told_run w t l in (answer_line r.1, Some r.2, (r.0, r.1, r.2, r.3, refl, refl))
 answered (Some w) (command.Save t) f l a = stepped w (step.Save t) (told_save w t)

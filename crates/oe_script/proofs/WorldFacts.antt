@@ -1,5 +1,6 @@
 -- What the steps of today keep of a world, that each of them is answered, and that a run of them ends.
 use Rattle.std.proofs.Common.{◌≡◌, ℕ, zero, suc, ◌+◌, ◌*◌, ◌<◌, ◌==◌, cond, Bool, true, false, Option, None, Some, [], ◌∷◌, map, length, refl, ap, ◌∙◌, subst, arith}
+use Rattle.std.specs.Prelude.{IfSome}
 use Rattle.std.specs.FinMap.{get}
 use Rattle.std.proofs.lemmas.List.{length-map}
 use Rattle.oe_theory.specs.Machine.{Go, Tx}
@@ -31,7 +32,7 @@ use Rattle.oe_model.specs.Delivery.{oldest, lines_of}
 use Rattle.oe_model.specs.System.{system, ask, act, start_of}
 use Rattle.oe_model.proofs.LawFacts.{given_goes, within_goes}
 use Rattle.oe_model.proofs.SystemLaws.{laws}
-use Rattle.oe_core.specs.Steps.{step_in, HasProgram, IsStep}
+use Rattle.oe_core.specs.Steps.{step_in, begins_with, HasProgram}
 use Rattle.oe_script.specs.Script.{RunsIn}
 use Rattle.oe_script.specs.Session.{IsServed, IsServing, AreServing, IsLive}
 
@@ -222,7 +223,7 @@ served_stay w _ _ _ b h (lacks_memory t o e m) = h
 next_live : (w : World system) (i : theory.Step system) (a : theory.Answer system) (w' : World system) → IsBegun i → IsLive (Some w) → Next system w i a w' → IsLive (Some w')
 next_live w i a w' b l n = (run_is_reached system laws w w' (i ∷ []) (a ∷ []) l.0 (w', n, refl), served_stay w i a w' b l.1 n)
 
-pub live_step : (w : World system) (j : Step) (a : theory.Answer system) (w' : World system) → IsStep j → IsLive (Some w) → Next system w (step_in j) a w' → IsLive (Some w')
+pub live_step : (w : World system) (j : Step) (a : theory.Answer system) (w' : World system) → IfSome (begins_with j) HasProgram → IsLive (Some w) → Next system w (step_in j) a w' → IsLive (Some w')
 live_step w (step.Begin t q) a w' b l n = next_live w _ a w' b l n
 live_step w (step.Advance t) a w' b l n = next_live w _ a w' tt l n
 live_step w (step.Save t) a w' b l n = next_live w _ a w' tt l n

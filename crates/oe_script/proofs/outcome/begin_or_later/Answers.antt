@@ -5,9 +5,6 @@ use Rattle.oe_core.specs.Core.{world_of}
 use Rattle.oe_script.proofs.LineFacts.{told_here}
 use Rattle.oe_script.proofs.outcome.begin_or_later.Goals as goal
 
-pub tell_begin-requires-clause-program : goal.tell_begin-requires-clause-program
-tell_begin-requires-clause-program g c = let says = c.in-Some.ensures.found in says.form.1
-
 pub returns-in-Some : goal.returns-in-Some
 returns-in-Some g c =
     let asked = command.Begin c.in-Some.asked.0 (request.Payment c.in-Some.asked.1) in

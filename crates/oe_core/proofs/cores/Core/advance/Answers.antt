@@ -10,7 +10,7 @@ use Rattle.oe_core.specs.Core.{Moves}
 use Rattle.oe_core.specs.Works.{WorkState}
 use Rattle.oe_requests.specs.declared.requests.Request.{Request}
 use Rattle.oe_core.specs.Steps.{refusal_in}
-use Rattle.oe_core.proofs.MoveFacts.{carries, nothing_open, HasOpen, lent_tx, lent_here, own_work}
+use Rattle.oe_core.proofs.MoveFacts.{carries, nothing_open, HasOpen, lent_tx, lent_here}
 use Rattle.oe_core.proofs.AdvanceFacts.{holds_taken, went_on_here, taken_is, taken_is_open, has_reply, committed_here, left_here, told_last, kept_here, given_up_here}
 use Rattle.oe_core.proofs.cores.Core.advance.Goals.{In-Some-index_mut, In-Ready, After-self-in-More-1, After-self-in-Ready-1, Then-keeps_open, After-roll_back}
 use Rattle.oe_core.proofs.cores.Core.advance.Goals as goal

@@ -20,7 +20,7 @@ put_tx-requires-clause-free c = slice_of c.self.inside.txs.items c.args.terminal
 begun : (c : After-begin_work) → Moves (record { engine = c.self.inside.engine; txs = c.self.inside.txs.items; works = c.self.inside.works.items }) (Begin c.args.terminal c.args.request.now) Begun
     (record { engine = c.begin.new.self; txs = c.put_tx.new.txs.items; works = c.begin_work.new.works.items })
 begun c =
-    begun_here _ c.self.invariant c.args.terminal c.put_tx.ensures.low c.put_tx.ensures.high c.args.request.now c.requires c.in-Ok.tx c.begin.new.self _ _
+    begun_here _ c.self.invariant c.args.terminal c.put_tx.ensures.low c.put_tx.ensures.high c.args.request.now c.ranges_hold.ensures c.in-Ok.tx c.begin.new.self _ _
     (ap (rejection c.args.request.now) (sym c.tables.ensures) ∙ sym c.in_default.ensures) c.in-Ok.ensures.counted
     c.in-Ok.ensures.closed c.begin.ensures.idle c.in-Ok.ensures.begun c.begin.ensures.name
     c.in-Ok.ensures.handle
@@ -35,5 +35,5 @@ returns-in-Ok c = rw (← c.self.view_is) (carries (begun c))
 pub returns-in-Err : goal.returns-in-Err
 returns-in-Err c =
     rw (← c.self.view_is, c.in-Err.ensures.err)
-    (carries (not_begun _ c.self.invariant c.args.terminal (search rules) (search rules) c.args.request.now c.requires
+    (carries (not_begun _ c.self.invariant c.args.terminal (search rules) (search rules) c.args.request.now c.ranges_hold.ensures
     (ap (rejection c.args.request.now) (sym c.tables.ensures) ∙ sym c.in_default.ensures) c.in-Err.refusal c.in-Err.ensures.cause))
