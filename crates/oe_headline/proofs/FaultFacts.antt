@@ -10,7 +10,7 @@ use Rattle.oe_headline.specs.Laws.{IsAnswered, IsCutByReader, IsCutByWriter, Fau
 use Rattle.oe_headline.proofs.DeedFacts.{lines_are_deeds}
 use Rattle.oe_headline.proofs.PassFacts.{scripts_are_runs}
 
--- what each whole line was of which an output tells
+-- the whole lines of an output, and what each was
 abbrev answered : (read out : List ℕ) → Output read out → IsAnswered read
 answered read out o =
     let d = lines_are_deeds.each None 0 o.lines o.answers o.state o.run in

@@ -13,17 +13,22 @@ use Rattle.oe_requests.specs.declared.requests.Query.{Query}
 use Rattle.oe_model.specs.Queries.{answer_of}
 use Rattle.oe_model.specs.Requests.{query_rejection}
 use Rattle.oe_model.specs.System.{system}
+use Rattle.oe_model.proofs.PopulationFacts.{population_is_one}
+use Rattle.oe_model.proofs.SystemLaws.{population_is_good}
 use Rattle.oe_requests.specs.declared.answers.Answer.{Answer}
 use Rattle.oe_requests.specs.declared.answers.Answer.TheVariants as answer
 use Rattle.oe_requests.specs.declared.steps.Step.TheVariants as step
 use Rattle.oe_texts.specs.Answer.{answer_line}
 use Rattle.oe_lines.specs.declared.commands.Command.{Command}
 use Rattle.oe_lines.specs.declared.commands.Command.TheVariants as command
+use Rattle.oe_lines.specs.declared.commands.MomentChoice.{MomentChoice}
 use Rattle.oe_core.specs.Steps.{answer_in}
+use Rattle.oe_core.specs.Run.{steps_in, answers_in}
 use Rattle.oe_script.specs.Script as script
-use Rattle.oe_script.specs.Script.{moment_in, Answers}
+use Rattle.oe_script.specs.Script.{State, moment_in, Answers, Asks, LineAnswer}
 use Rattle.oe_script.proofs.LineFacts.{one_command}
-use Rattle.oe_headline.specs.Laws.{Tells, IsRead, Reads_are_of_moments}
+use Rattle.oe_headline.specs.Deeds.{Entry, steps_of, answers_of}
+use Rattle.oe_headline.specs.Laws.{Tells, IsRead, IsOneRun, Reads_are_of_moments}
 use Rattle.oe_headline.proofs.MomentFacts.{version_at}
 use Rattle.oe_headline.proofs.AnswerFacts.{answer_once, rejected_once}
 
@@ -61,8 +66,8 @@ step_asked w _ _ _ m q (future i k e p l) h =
 step_asked w _ _ _ m q n h = cc
 
 -- and its text
-query_told : (w : World system) (q : Query) (m : ℕ) (x : Answer) (w' : World system) (text : List ℕ) → IsReached system w → text ≡ answer_line x
-    → Asked w m q (answer_in (step.Read m q) x) w' → IsRead w q m text × (w' ≡ w)
+query_told : (w : World system) (q : Query) (m : ℕ) (x : Answer) (w' : World system) (text : List ℕ) (made : IsReached system w) → text ≡ answer_line x
+    → Asked w m q (answer_in (step.Read m q) x) w' → IsRead made.base w q m text × (w' ≡ w)
 query_told w q m x w' text made t (tells n l u f h e same) =
     (inr (n, inl (l, u, version_at w m made l u, subst (λ z. Tells z text) (sym h) (t ∙ ap answer_line (answer_once (step.Read m q) x (answer.Replied f) e)))), same)
 query_told w q m x w' text made t (turns d r e same) = (inl (d, r, t ∙ ap answer_line (rejected_once (step.Read m q) x d e)), same)
@@ -73,12 +78,30 @@ query_told w q m x w' text made t (is_old n l e same) =
 query_told w q m x w' text made t (is_future n l e same) =
     (inr (n, inr (inr (l, t ∙ ap answer_line (answer_once (step.Read m q) x (answer.Refused (refusal.Future (newest system w))) e)))), same)
 
-pub reads_are_of_moments : Reads_are_of_moments
-reads_are_of_moments w n line text s m q made asks (inr (bad, e, same)) = absurd (bad (command.Read m q) asks)
-reads_are_of_moments w n line text s m q made asks (inl (d, other, a)) =
+of_world : (w : World system) (made : IsReached system w) (n : ℕ) (line text : List ℕ) (s : State) (m : MomentChoice) (q : Query)
+    → Asks (Some w) line (command.Read m q) → LineAnswer (Some w) n line text s → IsRead made.base w q (moment_in w m) text × (s ≡ Some w)
+of_world w made n line text s m q asks (inr (bad, e, same)) = absurd (bad (command.Read m q) asks)
+of_world w made n line text s m q asks (inl (d, other, a)) =
     go (subst (λ (z : Command). Answers (Some w) z text s) (one_command line d (command.Read m q) other.says asks.says) a)
   where
-    go : script.Stepped w (step.Read (moment_in w m) q) text s → IsRead w q (moment_in w m) text × (s ≡ Some w)
+    go : script.Stepped w (step.Read (moment_in w m) q) text s → IsRead made.base w q (moment_in w m) text × (s ≡ Some w)
     go (x, w', next, t, same) =
         let told_so = query_told w q (moment_in w m) x w' text made t (step_asked w _ _ w' (moment_in w m) q next refl) in
         (told_so.0, same ∙ ap Some told_so.1)
+
+-- the population is the base of a script's world
+abbrev from_population : (es : List Entry) (w : World system) → IsOneRun es w → IsReached system w
+from_population es w r = record {
+  base = r.rows;
+  extents = r.extents;
+  good = population_is_good r.rows (population_is_one.is_population r.scale r.rows r.says.form.0 r.populated);
+  steps = steps_in (steps_of r.after);
+  answers = answers_in (steps_of r.after) (answers_of r.after);
+  run = r.ran.runs;
+}
+
+pub reads_are_of_moments : Reads_are_of_moments
+reads_are_of_moments = record {
+  of_world = of_world;
+  of_script = λ es w r n line text s m q. of_world w (from_population es w r) n line text s m q;
+}

@@ -1,7 +1,6 @@
 -- Bases, and where a rewind leads.
 use Rattle.std.proofs.Common.{◌≡◌, ℕ, zero, suc, ◌-◌, ◌≤◌, ◌<◌, Some, List, [], ◌∷◌, length, drop, refl, sym, ap, ◌∙◌, subst, inl, inr, arith}
-use Rattle.std.specs.Prelude.{◌≢◌}
-use Rattle.oe_theory.specs.World.{World, total, version, counts_at, horizon, newest, at, tables}
+use Rattle.oe_theory.specs.World.{World, total, version, horizon, newest, at, tables}
 use Rattle.oe_theory.specs.Next as theory
 use Rattle.oe_theory.specs.Next.{Next, IsQuiet, IsPast, count_open, begins, goes_on, commits, saves, goes_back, rolls_back, reads, audits, purges, rewinds, stops, fails, is_busy, is_full, is_rejected, is_open, number_is_rejected, query_is_rejected, misses, not_open, too_old, future, not_quiet, lacks_memory_at_begin, lacks_memory}
 use Rattle.oe_theory.specs.Theorems.{IsReached, opened}
@@ -28,41 +27,9 @@ use Rattle.oe_headline.specs.Deeds.{Entry, steps_of, answers_of}
 use Rattle.oe_headline.specs.Moments.{AreUnpurged, IsRewound, IsRewoundTo}
 use Rattle.oe_headline.specs.Laws.{IsOneRun, Rewinds_restore}
 use Rattle.oe_headline.proofs.AnswerFacts.{answer_once}
-use Rattle.oe_headline.proofs.MomentFacts.{version_at}
+use Rattle.oe_headline.proofs.MomentFacts.{purged_step, by_other, total_none, version_at}
 
 -- WHAT A RUN GOES ON FROM
-
-purged_step : (w : World system) (i : theory.Step system) (a : theory.Answer system) (v : World system) (m : ℕ) → Next system w i a v → i ≡ theory.Purge m → a ≡ theory.Purged m
-    → (v.base ≡ at system w m) × (v.counts ≡ counts_at system w m)
-purged_step w _ _ _ m (purges k l u) i a = let here : k ≡ m = cc in (ap (at system w) here, ap (counts_at system w) here)
-purged_step w _ _ _ m n i a = cc
-
-by_other : (w v : World system) (i : theory.Step system) (a : theory.Answer system) → Next system w i a v → ((m : ℕ) → a ≢ theory.Purged m) → (v.base ≡ w.base) × (v.counts ≡ w.counts)
-by_other w _ _ _ (begins t q m) h = (refl, refl)
-by_other w _ _ _ (goes_on t o c p e g r room) h = (refl, refl)
-by_other w _ _ _ (commits t o reply e g r) h = (refl, refl)
-by_other w _ _ _ (saves t o e) h = (refl, refl)
-by_other w _ _ _ (goes_back t o e) h = (refl, refl)
-by_other w _ _ _ (rolls_back t o e) h = (refl, refl)
-by_other w _ _ _ (reads m q f a l u k) h = (refl, refl)
-by_other w _ _ _ (audits m c l u) h = (refl, refl)
-by_other w _ _ _ (purges m l u) h = absurd (h m refl)
-by_other w _ _ _ (rewinds m q l u) h = (refl, refl)
-by_other w _ _ _ (stops t o e f r) h = (refl, refl)
-by_other w _ _ _ (fails t o e f g r) h = (refl, refl)
-by_other w _ _ _ (is_busy t o n m u e r g) h = (refl, refl)
-by_other w _ _ _ (is_full t o c p e g r f) h = (refl, refl)
-by_other w _ _ _ (is_rejected t q e r) h = (refl, refl)
-by_other w _ _ _ (is_open t q o r e) h = (refl, refl)
-by_other w _ _ _ (number_is_rejected t q e r c k) h = (refl, refl)
-by_other w _ _ _ (query_is_rejected m q e r) h = (refl, refl)
-by_other w _ _ _ (misses m q e r l u k) h = (refl, refl)
-by_other w _ _ _ (not_open s t e f) h = (refl, refl)
-by_other w _ _ _ (too_old s m e p l) h = (refl, refl)
-by_other w _ _ _ (future s m e p l) h = (refl, refl)
-by_other w _ _ _ (not_quiet m n e) h = (refl, refl)
-by_other w _ _ _ (lacks_memory_at_begin t q m) h = (refl, refl)
-by_other w _ _ _ (lacks_memory t o e m) h = (refl, refl)
 
 -- along a run
 unpurged : (w v : World system) (is : List Step) (ys : List Answer) → AreWhole w is ys v → AreUnpurged ys → (v.base ≡ w.base) × (v.counts ≡ w.counts)
@@ -73,10 +40,6 @@ unpurged w v (i ∷ is) (x ∷ ys) (good, (mid, next, ends, past, rest)) h =
     let here = by_other w mid (step_in i) (answer_in i x) next (λ m e. h.0 m (answer_once i x (answer.Purged m) e)) in
     let more = unpurged mid v is ys rest h.1 in
     (more.0 ∙ here.0, more.1 ∙ here.1)
-
-total_none : (n : ℕ) → total n (λ _. 0) ≡ 0
-total_none zero = refl
-total_none (suc n) = omega (arith, total_none n)
 
 of_population : (es : List Entry) (w : World system) (r : IsOneRun es w) → AreUnpurged (answers_of r.after) → (w.base ≡ r.rows) × (horizon system w ≡ 0)
 of_population es w r h =
@@ -108,8 +71,8 @@ step_rewinds w _ _ _ m (future i k e p l) h =
 step_rewinds w _ _ _ m n h = cc
 
 -- and its text
-rewind_told : (w : World system) (m : ℕ) (x : Answer) (w' : World system) (text : List ℕ) (s : State) → IsReached system w → text ≡ answer_line x → s ≡ Some w'
-    → Rewinds w m (answer_in (step.Rewind m) x) w' → IsRewound w m text s
+rewind_told : (w : World system) (m : ℕ) (x : Answer) (w' : World system) (text : List ℕ) (s : State) (made : IsReached system w) → text ≡ answer_line x → s ≡ Some w'
+    → Rewinds w m (answer_in (step.Rewind m) x) w' → IsRewound made.base w m text s
 rewind_told w m x w' text s made t same (restores q l u rows newest e) =
     inl (q, l, u, version_at w m made l u, (w', same, rows, newest), t ∙ ap answer_line (answer_once (step.Rewind m) x (answer.Rewound m) e))
 rewind_told w m x w' text s made t same (has_open k c e v) =
@@ -119,13 +82,13 @@ rewind_told w m x w' text s made t same (is_old q l e v) =
 rewind_told w m x w' text s made t same (is_future q l e v) =
     inr (inr (inr (q, l, t ∙ ap answer_line (answer_once (step.Rewind m) x (answer.Refused (refusal.Future (newest system w))) e), same ∙ ap Some v)))
 
-answered : (w : World system) (n : ℕ) (line text : List ℕ) (s : State) (m : MomentChoice) → IsReached system w
-    → Asks (Some w) line (command.Rewind m) → LineAnswer (Some w) n line text s → IsRewound w (moment_in w m) text s
-answered w n line text s m made asks (inr (bad, e, same)) = absurd (bad (command.Rewind m) asks)
-answered w n line text s m made asks (inl (d, other, a)) =
+answered : (w : World system) (made : IsReached system w) (n : ℕ) (line text : List ℕ) (s : State) (m : MomentChoice)
+    → Asks (Some w) line (command.Rewind m) → LineAnswer (Some w) n line text s → IsRewound made.base w (moment_in w m) text s
+answered w made n line text s m asks (inr (bad, e, same)) = absurd (bad (command.Rewind m) asks)
+answered w made n line text s m asks (inl (d, other, a)) =
     go (subst (λ (z : Command). Answers (Some w) z text s) (one_command line d (command.Rewind m) other.says asks.says) a)
   where
-    go : script.Stepped w (step.Rewind (moment_in w m)) text s → IsRewound w (moment_in w m) text s
+    go : script.Stepped w (step.Rewind (moment_in w m)) text s → IsRewound made.base w (moment_in w m) text s
     go (x, w', next, t, same) = rewind_told w (moment_in w m) x w' text s made t same (step_rewinds w _ _ w' (moment_in w m) next refl)
 
 -- moment 0 is the base, where nothing was purged
@@ -140,9 +103,9 @@ first_at w = ap (version system w.base) (drop_all (newest system w - 0) w.histor
 
 to_population : (es : List Entry) (w : World system) (r : IsOneRun es w) (n : ℕ) (line text : List ℕ) (s : State) → AreUnpurged (answers_of r.after)
     → Asks (Some w) line (command.Rewind (moment.At 0)) → LineAnswer (Some w) n line text s → IsRewoundTo r.rows w text s
-to_population es w r n line text s h asks a = go (answered w n line text s (moment.At 0) r.ran.reached asks a)
+to_population es w r n line text s h asks a = go (answered w r.ran.reached n line text s (moment.At 0) asks a)
   where
-    go : IsRewound w 0 text s → IsRewoundTo r.rows w text s
+    go : IsRewound r.ran.reached.base w 0 text s → IsRewoundTo r.rows w text s
     go (inl (q, l, u, version, (v, same, rows, newest), t)) = inl (q, (v, same, rows ∙ (first_at w ∙ (of_population es w r h).0), newest), t)
     go (inr (inl refused)) = inr refused
     go (inr (inr (inl (q, l, t, same)))) = let none : horizon system w ≡ 0 = (of_population es w r h).1 in absurd (omega (arith, l, none))

@@ -84,28 +84,22 @@ pub record Audits_hold : Type 0 where
   pub verdicts : (s s' : State) (before after : List Entry) (e : Entry) (n : ℕ) (c : Condition) (m : ℕ) (v : Verdict) → IsReachedState s
       → Passed s (before ++ e ∷ after) s' → e.deed ≡ Steps n (step.Audit c m) (answer.Audited v) → v ≡ verdict.Holds
 
--- A query of a moment is told what is found in the version of that moment, which the commits up to it leave, run one at a time, each with
--- its effect, and nobody's open work; or what is missed there. It is refused where its warehouse is absent, or where the moment is not kept
+-- A query of a moment is answered what is found in the version of that moment, which the commits up to it leave, run one at a time, each
+-- with its effect, and nobody's open work; or what is missed there. It is refused where its warehouse is absent, or where the moment is not kept
 abbrev pub Tells : Outcome QueryReply Refusal → List ℕ → Type 0
 Tells (Here f) text = text ≡ answer_line (answer.Replied f)
 Tells (Missing e) text = text ≡ answer_line (answer.Refused e)
 
-abbrev pub IsReadAt : World system → Query → ℕ → List ℕ → Type 0
-IsReadAt w q m text =
-    ((horizon system w ≤ m) × (m ≤ newest system w) × IsVersion w m (at system w m) × Tells (answer_of q (at system w m)) text)
+abbrev pub IsReadAt : Rows → World system → Query → ℕ → List ℕ → Type 0
+IsReadAt base w q m text =
+    ((horizon system w ≤ m) × (m ≤ newest system w) × IsVersion base w m (at system w m) × Tells (answer_of q (at system w m)) text)
     ⊎ ((m < horizon system w) × (text ≡ answer_line (answer.Refused (refusal.TooOld (horizon system w)))))
     ⊎ ((newest system w < m) × (text ≡ answer_line (answer.Refused (refusal.Future (newest system w)))))
 
-abbrev pub IsRead : World system → Query → ℕ → List ℕ → Type 0
-IsRead w q m text =
+abbrev pub IsRead : Rows → World system → Query → ℕ → List ℕ → Type 0
+IsRead base w q m text =
     ((e : Refusal) × (query_rejection q (tables system w) ≡ Some e) × (text ≡ answer_line (answer.Refused e)))
-    ⊎ ((query_rejection q (tables system w) ≡ None) × IsReadAt w q m text)
-
--- so it is with each line that asks a query
-abbrev pub Reads_are_of_moments : Type 0
-Reads_are_of_moments =
-    (w : World system) (n : ℕ) (line text : List ℕ) (s : State) (m : MomentChoice) (q : Query) → IsReached system w
-    → Asks (Some w) line (command.Read m q) → LineAnswer (Some w) n line text s → IsRead w q (moment_in w m) text × (s ≡ Some w)
+    ⊎ ((query_rejection q (tables system w) ≡ None) × IsReadAt base w q m text)
 
 -- The lines of a script up to its opening, and what follows of those after it. They are one run of the machine, from the
 -- population that was opened: each of its transactions ends whole, although others overlap it; the commits are those of
@@ -130,6 +124,15 @@ pub record Scripts_are_runs : Type 0 where
   pub from_world : (w : World system) (es : List Entry) (s : State) → IsReached system w → Passed (Some w) es s
       → (w' : World system) × (s ≡ Some w') × Ran w (steps_of es) (answers_of es) w'
 
+-- so it is with each line that asks a query
+pub record Reads_are_of_moments : Type 0 where
+  -- in each world that steps led to from a base
+  pub of_world : (w : World system) (made : IsReached system w) (n : ℕ) (line text : List ℕ) (s : State) (m : MomentChoice) (q : Query)
+      → Asks (Some w) line (command.Read m q) → LineAnswer (Some w) n line text s → IsRead made.base w q (moment_in w m) text × (s ≡ Some w)
+  -- and behind each line of a script, from the population that it opened
+  pub of_script : (es : List Entry) (w : World system) (r : IsOneRun es w) (n : ℕ) (line text : List ℕ) (s : State) (m : MomentChoice) (q : Query)
+      → Asks (Some w) line (command.Read m q) → LineAnswer (Some w) n line text s → IsRead r.rows w q (moment_in w m) text × (s ≡ Some w)
+
 -- what a run goes on from, and where a rewind leads
 pub record Rewinds_restore : Type 0 where
   -- a purge makes the version of its moment the base
@@ -140,8 +143,8 @@ pub record Rewinds_restore : Type 0 where
   -- so as long as nothing is purged it is the population that was opened
   pub of_population : (es : List Entry) (w : World system) (r : IsOneRun es w) → AreUnpurged (answers_of r.after) → (w.base ≡ r.rows) × (horizon system w ≡ 0)
   -- each line that asks for a rewind
-  pub answered : (w : World system) (n : ℕ) (line text : List ℕ) (s : State) (m : MomentChoice) → IsReached system w
-      → Asks (Some w) line (command.Rewind m) → LineAnswer (Some w) n line text s → IsRewound w (moment_in w m) text s
+  pub answered : (w : World system) (made : IsReached system w) (n : ℕ) (line text : List ℕ) (s : State) (m : MomentChoice)
+      → Asks (Some w) line (command.Rewind m) → LineAnswer (Some w) n line text s → IsRewound made.base w (moment_in w m) text s
   -- as long as nothing is purged `rewind 0` gives the population back
   pub to_population : (es : List Entry) (w : World system) (r : IsOneRun es w) (n : ℕ) (line text : List ℕ) (s : State) → AreUnpurged (answers_of r.after)
       → Asks (Some w) line (command.Rewind (moment.At 0)) → LineAnswer (Some w) n line text s → IsRewoundTo r.rows w text s

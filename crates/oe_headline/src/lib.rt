@@ -23,8 +23,8 @@ pub fn audits_hold()
     ensures { Audits_hold }
 {}
 
-/// Each line that asks a query of a moment that is kept is told what is found in the version of that moment, whatever is open:
-/// in what exactly the commits up to it leave, run one at a time, each with its whole effect.
+/// Each line that asks a query of a moment that is kept is answered what is found in the version of that moment, whatever is open:
+/// in what the first commits leave, up to that moment, run one at a time, each with its whole effect.
 pub fn reads_are_of_moments()
     ensures { Reads_are_of_moments }
 {}

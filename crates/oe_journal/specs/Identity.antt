@@ -31,7 +31,7 @@ abbrev pub led_back : ℕ → ℕ → List Logged → (Key → Option Link) → 
 led_back h t [] links = links
 led_back h t (r ∷ rs) links = led_back h t rs (linked links (record_key r.before) (unended h (link_from (Open t) r.previous)))
 
--- so it is after the newest records of the segment, so many, were put back
+-- so it is after this count of the newest records was put back
 abbrev pub LeadBack : UndoState → UndoState → ℕ → ℕ → Type 0
 LeadBack old new t count = (k : Key) → seen new k ≡ led_back (horizon old.log) t (take count (records_at old.log t)) (seen old) k
 

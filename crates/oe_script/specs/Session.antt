@@ -83,8 +83,8 @@ abbrev pub ReadFailed : Source → Source → Type 0
 ReadFailed a b = (b.failures ≡ a.failures + 1) ⊎ ((b.failures ≡ a.failures) × (2 ^ 64 ≤ length a.remaining + 1))
 
 -- How a script ends, where reader and writer tell their bytes. Without a fault no call of theirs failed in this run, all of the input is
--- read, and an output of it is written. A fault tells which of them failed, in the last call of the run; the other never did. One of the
--- reader finds the whole lines answered.
+-- read, and an output of it is written. A fault names the one of the two whose call failed, once, in this run; no call of the other did.
+-- After a fault of the reader the whole lines are answered.
 abbrev pub ScriptRan : Option Source → Option Source → Option Sink → Option Sink → Result (Unit {0}) Fault → Type 0
 ScriptRan (Some a) (Some b) (Some c) (Some d) (Ok x) =
     (b.failures ≡ a.failures) × (d.failures ≡ c.failures) × (b.remaining ≡ []) × (out : List ℕ) × Output a.remaining out × (d.contents ≡ c.contents ++ out)
