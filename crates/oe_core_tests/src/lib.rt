@@ -7,6 +7,8 @@ mod audits;
 #[cfg(test)]
 mod ends;
 #[cfg(test)]
+mod engines;
+#[cfg(test)]
 mod populations;
 #[cfg(test)]
 mod runs;
