@@ -136,18 +136,20 @@ pub record Reads_are_of_moments : Type 0 where
 -- what a run goes on from, and where a rewind leads
 pub record Rewinds_restore : Type 0 where
   -- a purge makes the version of its moment the base
-  pub by_purge : (w v : World system) (m : ℕ) → Next system w (theory.Purge m) (theory.Purged m) v → (v.base ≡ at system w m) × (v.counts ≡ counts_at system w m)
+  pub by_purge : (w v : World system) (m : ℕ) → Next system w (theory.Purge m) (theory.Purged m) v
+      → (v.base ≡ at system w m) × (v.counts ≡ counts_at system w m)
   -- which each other step leaves
   pub by_other : (w v : World system) (i : theory.Step system) (a : theory.Answer system) → Next system w i a v → ((m : ℕ) → a ≢ theory.Purged m)
       → (v.base ≡ w.base) × (v.counts ≡ w.counts)
   -- so as long as nothing is purged it is the population that was opened
-  pub of_population : (es : List Entry) (w : World system) (r : IsOneRun es w) → AreUnpurged (answers_of r.after) → (w.base ≡ r.rows) × (horizon system w ≡ 0)
+  pub of_population : (es : List Entry) (w : World system) (r : IsOneRun es w) → AreUnpurged (answers_of r.after)
+      → (w.base ≡ r.rows) × (horizon system w ≡ 0)
   -- each line that asks for a rewind
   pub answered : (w : World system) (made : IsReached system w) (n : ℕ) (line text : List ℕ) (s : State) (m : MomentChoice)
       → Asks (Some w) line (command.Rewind m) → LineAnswer (Some w) n line text s → IsRewound made.base w (moment_in w m) text s
   -- as long as nothing is purged `rewind 0` gives the population back
-  pub to_population : (es : List Entry) (w : World system) (r : IsOneRun es w) (n : ℕ) (line text : List ℕ) (s : State) → AreUnpurged (answers_of r.after)
-      → Asks (Some w) line (command.Rewind (moment.At 0)) → LineAnswer (Some w) n line text s → IsRewoundTo r.rows w text s
+  pub to_population : (es : List Entry) (w : World system) (r : IsOneRun es w) (n : ℕ) (line text : List ℕ) (s : State)
+      → AreUnpurged (answers_of r.after) → Asks (Some w) line (command.Rewind (moment.At 0)) → LineAnswer (Some w) n line text s → IsRewoundTo r.rows w text s
 
 -- A transaction begins in the line `first`, and is rolled back in those that follow. Without its lines the others are answered
 -- the same, and leave the same state

@@ -40,8 +40,10 @@ StandsAt m r s = (v : World system) × (s ≡ Some v) × (tables system v ≡ r)
 -- something is open, it is refused
 abbrev pub IsRewound : Rows → World system → ℕ → List ℕ → State → Type 0
 IsRewound base w m text s =
-    (IsQuiet system w × (horizon system w ≤ m) × (m ≤ newest system w) × IsVersion base w m (at system w m) × StandsAt m (at system w m) s × (text ≡ answer_line (answer.Rewound m)))
-    ⊎ (((k : ℕ) × (count_open system w.active system.terminal_limit ≡ suc k) × (text ≡ answer_line (answer.Refused (refusal.NotQuiet (suc k))))) × (s ≡ Some w))
+    (IsQuiet system w × (horizon system w ≤ m) × (m ≤ newest system w) × IsVersion base w m (at system w m)
+    × StandsAt m (at system w m) s × (text ≡ answer_line (answer.Rewound m)))
+    ⊎ (((k : ℕ) × (count_open system w.active system.terminal_limit ≡ suc k)
+    × (text ≡ answer_line (answer.Refused (refusal.NotQuiet (suc k))))) × (s ≡ Some w))
     ⊎ (IsQuiet system w × (m < horizon system w) × (text ≡ answer_line (answer.Refused (refusal.TooOld (horizon system w)))) × (s ≡ Some w))
     ⊎ (IsQuiet system w × (newest system w < m) × (text ≡ answer_line (answer.Refused (refusal.Future (newest system w)))) × (s ≡ Some w))
 
@@ -49,4 +51,5 @@ IsRewound base w m text s =
 abbrev pub IsRewoundTo : Rows → World system → List ℕ → State → Type 0
 IsRewoundTo r w text s =
     (IsQuiet system w × StandsAt 0 r s × (text ≡ answer_line (answer.Rewound 0)))
-    ⊎ (((k : ℕ) × (count_open system w.active system.terminal_limit ≡ suc k) × (text ≡ answer_line (answer.Refused (refusal.NotQuiet (suc k))))) × (s ≡ Some w))
+    ⊎ (((k : ℕ) × (count_open system w.active system.terminal_limit ≡ suc k)
+    × (text ≡ answer_line (answer.Refused (refusal.NotQuiet (suc k))))) × (s ≡ Some w))

@@ -57,8 +57,8 @@ impl Model for Orders {
         AreListed order_cmp list_of_owner t.is_listed t.lists (rows_of order_cmp t.rows) };
 }
 
-// Lists an order under its customer. A key that is listed there already takes no memory, and nothing is given up. Where there is
-// none for another, the insert is refused, or if its key was blanked the lists are given up, since that place may be filled.
+// Lists an order under its customer. A key that is listed there already takes no memory, and nothing is given up. Where there is no
+// memory for another key, that is refused, or if it was blanked the lists are given up, since its place has to be filled.
 fn list(
     lists: &mut Lists<OrderKey>,
     is_listed: &mut bool,

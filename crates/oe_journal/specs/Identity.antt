@@ -56,9 +56,9 @@ pub record IsAsBefore (ts ts' : Places) (u u' : UndoState) (own : Key) : Type 0 
 -- what `write` has made is taken back by `take_back` of one record
 pub record Write_then_take_back_is_identity : Type 0 where
   -- which may be called then, on all tables that meet the schema
-  pub may : (w : Write) (ts ts' : Places) (u u' : UndoState) (t : ℕ) → IsSome (active_at u.log t) → Meets (rows ts) → HavePlaces ts ((undo_of u.log).active t)
-      → HasRecorded w ts ts' u u' t → MayTakeBack ts' u'.log t
+  pub may : (w : Write) (ts ts' : Places) (u u' : UndoState) (t : ℕ) → IsSome (active_at u.log t) → Meets (rows ts)
+      → HavePlaces ts ((undo_of u.log).active t) → HasRecorded w ts ts' u u' t → MayTakeBack ts' u'.log t
   -- and leaves all as it was
   pub identity : (w : Write) (ts ts' ts'' : Places) (u u' u'' : UndoState) (t : ℕ) → IsSome (active_at u.log t) → IsWhole u.log
-      → HasRecorded w ts ts' u u' t → TakesBack ts' u'.log t 1 ts'' u''.log → u''.log ≡ with_records u'.log t (drop 1 (records_at u'.log t)) → LeadBack u' u'' t 1
-      → IsAsBefore ts ts'' u u'' (key_written w)
+      → HasRecorded w ts ts' u u' t → TakesBack ts' u'.log t 1 ts'' u''.log
+      → u''.log ≡ with_records u'.log t (drop 1 (records_at u'.log t)) → LeadBack u' u'' t 1 → IsAsBefore ts ts'' u u'' (key_written w)

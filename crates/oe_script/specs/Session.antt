@@ -87,7 +87,8 @@ ReadFailed a b = (b.failures ≡ a.failures + 1) ⊎ ((b.failures ≡ a.failures
 -- After a fault of the reader the whole lines are answered.
 abbrev pub ScriptRan : Option Source → Option Source → Option Sink → Option Sink → Result (Unit {0}) Fault → Type 0
 ScriptRan (Some a) (Some b) (Some c) (Some d) (Ok x) =
-    (b.failures ≡ a.failures) × (d.failures ≡ c.failures) × (b.remaining ≡ []) × (out : List ℕ) × Output a.remaining out × (d.contents ≡ c.contents ++ out)
+    (b.failures ≡ a.failures) × (d.failures ≡ c.failures) × (b.remaining ≡ [])
+    × (out : List ℕ) × Output a.remaining out × (d.contents ≡ c.contents ++ out)
 ScriptRan (Some a) (Some b) (Some c) (Some d) (Err Read) = ReadFailed a b × (d.failures ≡ c.failures) × Answered a b c d
 ScriptRan (Some a) (Some b) (Some c) (Some d) (Err Write) = (b.failures ≡ a.failures) × (d.failures ≡ c.failures + 1) × Began a b c d
 ScriptRan (Some a) (Some b) (Some c) None r = ⊥
