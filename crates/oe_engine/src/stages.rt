@@ -1,5 +1,5 @@
 //! A stage of a program of any kind, carried out on an engine or refused by it.
-ghost use Rattle.std.specs.Prelude.{◌≡◌, true, suc, Some, None, OnErr};
+ghost use Rattle.std.specs.Prelude.{◌≡◌, true, suc, Some, None, IsSome, OnOk, OnErr};
 ghost use Rattle.oe_theory.specs.Machine.{Plain, Take};
 ghost use Rattle.oe_model.specs.Changes as model;
 ghost use Rattle.oe_model.specs.Locks.{mode_of, governs};
@@ -47,6 +47,8 @@ pub fn put(engine: &mut Engine, tx: &Tx, write: &Write) -> Result<(), Refusal>
         → WriteHoldsOrder ((view_of engine.old).held tx.now.terminal) write.now }
     ensures does { (c : model.Change) → change_written write.now (view_of engine.old) ≡ Some c
         → Does engine.old tx.now (ask_of_write write.now) (Some c) result engine.new }
+    ensures there { OnOk result
+        (IsSome (change_written write.now (view_of engine.old))) }
     ensures name { engine.new.name ≡ engine.old.name }
     ensures err { OnErr result (view_of engine.new ≡ view_of engine.old) }
 {
@@ -64,6 +66,8 @@ pub fn put_held(engine: &mut Engine, tx: &Tx, write: &Write) -> Result<(), Refus
         → WriteHoldsOrder ((view_of engine.old).held tx.now.terminal) write.now }
     ensures does { (c : model.Change) → change_written write.now (view_of engine.old) ≡ Some c
         → Does engine.old tx.now Plain (Some c) result engine.new }
+    ensures there { OnOk result
+        (IsSome (change_written write.now (view_of engine.old))) }
     ensures name { engine.new.name ≡ engine.old.name }
     ensures err { OnErr result (view_of engine.new ≡ view_of engine.old) }
 {

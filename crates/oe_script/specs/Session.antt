@@ -78,13 +78,13 @@ pub record Answered (a b : Source) (c d : Sink) : Type 0 where
   pub reached : Reached read answers state count line
   pub written : d.contents ≡ c.contents ++ answers
 
--- one call of the reader failed, or none did and the input had not ended after 2^64 - 1 reads
+-- one call of the reader failed; or none did, and the input has 2^64 - 1 bytes or more
 abbrev pub ReadFailed : Source → Source → Type 0
 ReadFailed a b = (b.failures ≡ a.failures + 1) ⊎ ((b.failures ≡ a.failures) × (2 ^ 64 ≤ length a.remaining + 1))
 
 -- How a script ends, where reader and writer tell their bytes. Without a fault no call of theirs failed in this run, all of the input is
--- read, and an output of it is written. A fault names the one of the two whose call failed, once, in this run; no call of the other did.
--- After a fault of the reader the whole lines are answered.
+-- read, and an output of it is written. After a fault one call failed, of the reader or the writer that it names, and none of the other; but
+-- an input of 2^64 - 1 bytes or more may end in a fault of the reader without one. After a fault of the reader the whole lines are answered.
 abbrev pub ScriptRan : Option Source → Option Source → Option Sink → Option Sink → Result (Unit {0}) Fault → Type 0
 ScriptRan (Some a) (Some b) (Some c) (Some d) (Ok x) =
     (b.failures ≡ a.failures) × (d.failures ≡ c.failures) × (b.remaining ≡ [])
