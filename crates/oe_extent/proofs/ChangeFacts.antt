@@ -4,7 +4,7 @@ use Rattle.std.specs.List.{sum_by, AllByRecursion}
 use Rattle.std.proofs.lemmas.Bool.{cases_eq, cases_lt}
 use Rattle.std.proofs.lemmas.List.{get_or_past, get_or_default, get_or-map, get_or-set_same, get_or-set_other, length-map, length-replicate, get_or_append_left}
 use Rattle.std.proofs.lemmas.List.Sums.{sum_by-set, sum_by-cons, sum_by-append}
-use Rattle.oe_extent.specs.Free.{freed, AllTaken, count_of_free}
+use Rattle.oe_extent.specs.Free.{FreeExtents, freed, AllTaken, count_of_free}
 use Rattle.oe_extent.specs.Extents.{Contents, numbers_of, rest_of}
 use Rattle.oe_extent.specs.Ring.{Addressed, RingStrings, filled, lengths_of, used_of}
 use Rattle.oe_extent.specs.Kept.{addressed_of, ArePacked, times, uses, extent_count, AreHeld, IsRing}
@@ -12,8 +12,9 @@ use Rattle.oe_extent.proofs.HeldFacts.{free_within, same_held, take_held, give_h
 use Rattle.oe_extent.proofs.FillFacts.{filled_packed}
 
 -- what is stored
-abbrev pub shown : List Bool → List (List Contents) → List (List Contents) → ℕ → RingStrings
-shown free os ss room = record { extents = length free; active = map addressed_of os; committed = map addressed_of ss; room = room }
+abbrev pub shown : FreeExtents → List (List Contents) → List (List Contents) → ℕ → RingStrings
+shown pool os ss room =
+    record { extents = length pool.is_free; active = map addressed_of os; committed = map addressed_of ss; room = room; pool = pool }
 
 pub uses-set : (os ss : List (List Contents)) (t : ℕ) (y : List Contents) (e : ℕ) → t < length os
     → uses (set os t y) ss e + times e (numbers_of (get_or os t [])) ≡ uses os ss e + times e (numbers_of y)
@@ -70,8 +71,9 @@ used_sum (x ∷ xs) h =
     let rest = used_sum xs (λ i. h (suc i)) in
     omega (arith, first, rest, sum_by-cons (λ ps. (filled (lengths_of ps)).0) (addressed_of x) (map addressed_of xs), sum_by-cons length x xs)
 
-pub used_is : (free : List Bool) (os ss : List (List Contents)) (room : ℕ) → IsRing free os ss → used_of (shown free os ss room) ≡ extent_count os ss
-used_is free os ss room r = omega (arith, used_sum os r.active_packed, used_sum ss r.committed_packed)
+pub used_is : (pool : FreeExtents) (os ss : List (List Contents)) (room : ℕ) → IsRing pool.is_free os ss
+    → used_of (shown pool os ss room) ≡ extent_count os ss
+used_is pool os ss room r = omega (arith, used_sum os r.active_packed, used_sum ss r.committed_packed)
 
 none_free : (free : List Bool) → AllTaken free 0 (length free) → count_of_free free ≡ 0
 none_free [] h = refl
@@ -82,9 +84,9 @@ none_free (b ∷ bs) h =
     omega (arith, sum_by-cons (λ x. cond x 1 0) b bs, rest, value)
 
 -- all extents are used where none is free
-pub full : (free : List Bool) (os ss : List (List Contents)) (room : ℕ) → IsRing free os ss → AllTaken free 0 (length free)
-    → length free ≤ used_of (shown free os ss room)
-full free os ss room r h = omega (arith, used_is free os ss room r, none_free free h, r.held.counted)
+pub full : (pool : FreeExtents) (os ss : List (List Contents)) (room : ℕ) → IsRing pool.is_free os ss → AllTaken pool.is_free 0 (length pool.is_free)
+    → length pool.is_free ≤ used_of (shown pool os ss room)
+full pool os ss room r h = omega (arith, used_is pool os ss room r, none_free pool.is_free h, r.held.counted)
 
 some_free : (free : List Bool) (e : ℕ) → get_or free e false ≡ true → 0 < count_of_free free
 some_free free e h =
@@ -94,9 +96,9 @@ some_free free e h =
     omega (arith, change, was)
 
 -- not all are where one is
-pub not_full : (free : List Bool) (os ss : List (List Contents)) (room e : ℕ) → IsRing free os ss → get_or free e false ≡ true
-    → length free ≤ used_of (shown free os ss room) → ⊥
-not_full free os ss room e r h le = omega (arith, used_is free os ss room r, some_free free e h, r.held.counted, le)
+pub not_full : (pool : FreeExtents) (os ss : List (List Contents)) (room e : ℕ) → IsRing pool.is_free os ss → get_or pool.is_free e false ≡ true
+    → length pool.is_free ≤ used_of (shown pool os ss room) → ⊥
+not_full pool os ss room e r h le = omega (arith, used_is pool os ss room r, some_free pool.is_free e h, r.held.counted, le)
 
 -- one of several lists, which was told by a default of its own
 pub at_slot : (os : List (List Contents)) (t : ℕ) → t < length (map addressed_of os) → (x : List Contents) → x ≡ get_or os t x → x ≡ get_or os t []

@@ -1,12 +1,13 @@
 -- How strings are packed into extents.
-use Rattle.std.proofs.Common.{◌≡◌, ℕ, suc, ◌-◌, ◌<◌, ◌≤◌, Bool, true, false, cond, List, [], ◌∷◌, ◌++◌, length, drop, refl, sym, ap, ◌∙◌, arith}
+use Rattle.std.proofs.Common.{◌≡◌, ℕ, suc, ◌-◌, ◌<◌, ◌≤◌, Bool, true, false, cond, List, [], ◌∷◌, ◌++◌, length, drop, get_or, refl, sym, ap, ◌∙◌, arith}
 use Rattle.std.specs.Prelude.{nat_le}
-use Rattle.std.proofs.lemmas.Bool.{leb-true, le-leb}
+use Rattle.std.proofs.lemmas.Bool.{leb-true, le-leb, ne_eqb}
 use Rattle.oe_extent.specs.declared.extents.Address.{Address}
 use Rattle.oe_extent.specs.Strings.{joined}
+use Rattle.oe_extent.specs.Free.{FreeExtents, given_at}
 use Rattle.oe_extent.specs.Extents.{Contents, numbers_of, newest_strings, rest_of, end_of, with_string, without_newest, LosesString, LosesExtent}
 use Rattle.oe_extent.proofs.PackedFacts.{length-joined}
-use Rattle.oe_extent.specs.Ring.{Addressed, filled, lengths_of}
+use Rattle.oe_extent.specs.Ring.{Addressed, filled, lengths_of, behind, pool_without_newest}
 use Rattle.oe_extent.specs.Kept.{addressed_in, addressed_of, Opens, FillsUp, ArePacked}
 
 pub not_le : (l r : ℕ) → r < l → nat_le l r ≡ false
@@ -49,6 +50,16 @@ pub filled_packed : (ss : List Contents) → ArePacked ss → filled (lengths_of
 filled_packed [] h = refl
 filled_packed (s ∷ ss) h =
     filled_extent s.number s.strings (addressed_of ss) (length ss) (rest_of ss) (filled_packed ss h.1) h.0
+
+-- the next string of the newest extent goes behind the newest string
+pub end_is : (ss : List Contents) → ArePacked ss → end_of ss ≡ behind (addressed_of ss)
+end_is [] h = refl
+end_is (s ∷ ss) h = go s.strings h.0
+  where
+    go : (xs : List (List ℕ)) → FillsUp (rest_of ss) xs
+        → ◌≡◌ {A = Address} (record { extent = s.number; offset = length (joined xs) }) (behind (addressed_in s.number xs ++ addressed_of ss))
+    go [] f = absurd f
+    go (x ∷ xs) f = λ i. record { extent = s.number; offset = length-joined x xs i }
 
 -- ---- a string more
 
@@ -129,3 +140,27 @@ less_extent (s ∷ ss) h one = (record { packed = h.1; strings = one_of s.number
 pub less_own : (ss ts : List Contents) (e : ℕ) → ArePacked ss → length (newest_strings ss) ≡ 1 → LosesExtent ss ts e
     → Less ss ts × (length ss ≡ suc (length ts))
 less_own ss ts e h one l = rw l.left (less_extent ss h one)
+
+-- the string before others of its extent is not at the front
+pub newest_kept : (ss : List Contents) (p : FreeExtents) → ArePacked ss → 1 < length (newest_strings ss) → pool_without_newest (addressed_of ss) p ≡ p
+newest_kept [] p h some = absurd (omega arith)
+newest_kept (s ∷ ss) p h some = go s.strings h.0 some
+  where
+    go : (xs : List (List ℕ)) → FillsUp (rest_of ss) xs → 1 < length xs → pool_without_newest (addressed_in s.number xs ++ addressed_of ss) p ≡ p
+    go [] f some = absurd f
+    go (x ∷ []) f some = absurd (omega arith)
+    go (x ∷ y ∷ ys) f some =
+        ap (λ (b : Bool). cond b (given_at p s.number) p)
+        (ne_eqb (length (joined (y ∷ ys))) 0 (λ e. omega (arith, e, length-joined y ys, f.2.1.0)))
+
+-- a string alone in its extent is at the front
+pub own_freed : (ss ts : List Contents) (e : ℕ) (p : FreeExtents) → length (newest_strings ss) ≡ 1 → LosesExtent ss ts e
+    → pool_without_newest (addressed_of ss) p ≡ given_at p e
+unfolding joined
+own_freed [] ts e p one l = absurd (omega (arith, one))
+own_freed (s ∷ ss) ts e p one l = go s.strings one ∙ ap (given_at p) (ap (λ (ns : List ℕ). get_or ns 0 0) l.numbers)
+  where
+    go : (xs : List (List ℕ)) → length xs ≡ 1 → pool_without_newest (addressed_in s.number xs ++ addressed_of ss) p ≡ given_at p s.number
+    go [] one = absurd (omega (arith, one))
+    go (x ∷ []) one = refl
+    go (x ∷ y ∷ ys) one = absurd (omega (arith, one))

@@ -1,9 +1,10 @@
 -- The address of a string that is pushed is no other string's.
-use Rattle.std.proofs.Common.{◌≡◌, ◌≢◌, ℕ, zero, suc, ◌<◌, ◌≤◌, Bool, true, false, List, [], ◌∷◌, ◌++◌, length, map, get_or, sym, ap, ◌∙◌, subst, arith}
+use Rattle.std.proofs.Common.{◌≡◌, ◌≢◌, ℕ, zero, suc, ◌<◌, ◌≤◌, true, false, List, [], ◌∷◌, ◌++◌, length, map, get_or, sym, ap, ◌∙◌, subst, arith}
 use Rattle.std.specs.List.{sum_by}
 use Rattle.std.proofs.lemmas.List.Sums.{sum_by-cons}
 use Rattle.oe_extent.specs.declared.extents.Address.{Address}
 use Rattle.oe_extent.specs.Strings.{joined}
+use Rattle.oe_extent.specs.Free.{FreeExtents}
 use Rattle.oe_extent.specs.Extents.{Contents, numbers_of, rest_of, end_of}
 use Rattle.oe_extent.proofs.PackedFacts.{length-joined}
 use Rattle.oe_extent.specs.Ring.{Addressed, StandElsewhere, IsFresh}
@@ -95,15 +96,15 @@ but_one a (s ∷ ss) (suc t) once some h zero =
     not_among a s (omega (arith, once, some, some_sum a.extent ss t, sum_by-cons (λ s. times a.extent (numbers_of s)) s ss))
 but_one a (s ∷ ss) (suc t) once some h (suc i) = but_one a ss t (omega (arith, once, sum_by-cons (λ s. times a.extent (numbers_of s)) s ss)) some h i
 
-pub record Fresh (free : List Bool) (os cs : List (List Contents)) (room : ℕ) (a : Address) : Type 0 where
-  pub fresh : IsFresh (shown free os cs room) a
-  pub extent : a.extent < length free
+pub record Fresh (pool : FreeExtents) (os cs : List (List Contents)) (room : ℕ) (a : Address) : Type 0 where
+  pub fresh : IsFresh (shown pool os cs room) a
+  pub extent : a.extent < length pool.is_free
   pub offset : a.offset < 4096
 
-module _ (free : List Bool) (os cs : List (List Contents)) (room t : ℕ) (r : IsRing free os cs) (lt : t < length (map addressed_of os)) where
+module _ (pool : FreeExtents) (os cs : List (List Contents)) (room t : ℕ) (r : IsRing pool.is_free os cs) (lt : t < length (map addressed_of os)) where
   -- behind the strings of the slot's newest extent
   pub fresh_here : (x₁ x₂ : List Contents) (a : Address) (size rest : ℕ) → x₁ ≡ get_or os t x₁ → x₂ ≡ get_or os t x₂
-      → rest ≡ rest_of x₁ → size ≤ rest → 0 < size → a ≡ end_of x₂ → Fresh free os cs room a
+      → rest ≡ rest_of x₁ → size ≤ rest → 0 < size → a ≡ end_of x₂ → Fresh pool os cs room a
   fresh_here x₁ x₂ a size rest e₁ e₂ er le long ea =
       let x = get_or os t [] in
       let some : 0 < rest_of x = omega (arith, le, long, er, ap rest_of (at_slot os t lt x₁ e₁)) in
@@ -115,20 +116,20 @@ module _ (free : List Bool) (os cs : List (List Contents)) (room t : ℕ) (r : I
           active = but_one a os t (omega (arith, once)) b.used b.elsewhere;
           committed = none_has a cs (omega (arith, once, b.used, own));
         };
-        extent = taken_within free a.extent (r.held.taken a.extent (omega (arith, b.used, own)));
+        extent = taken_within pool.is_free a.extent (r.held.taken a.extent (omega (arith, b.used, own)));
         offset = b.offset;
       }
 
 -- at the front of an extent that was free
-pub fresh_other : (free : List Bool) (os cs : List (List Contents)) (room e : ℕ) → IsRing free os cs → get_or free e false ≡ true
-    → Fresh free os cs room (record { extent = e; offset = 0 })
-fresh_other free os cs room e r is_free =
-    let unused = free_unused free (uses os cs) (extent_count os cs) e r.held is_free in
+pub fresh_other : (pool : FreeExtents) (os cs : List (List Contents)) (room e : ℕ) → IsRing pool.is_free os cs → get_or pool.is_free e false ≡ true
+    → Fresh pool os cs room (record { extent = e; offset = 0 })
+fresh_other pool os cs room e r is_free =
+    let unused = free_unused pool.is_free (uses os cs) (extent_count os cs) e r.held is_free in
     record {
       fresh = record {
         active = none_has (record { extent = e; offset = 0 }) os (omega (arith, unused));
         committed = none_has (record { extent = e; offset = 0 }) cs (omega (arith, unused));
       };
-      extent = free_within free e is_free;
+      extent = free_within pool.is_free e is_free;
       offset = omega arith;
     }

@@ -1,21 +1,23 @@
 -- The strings of a ring, by slot and by commit, and what each call makes of them.
-use Rattle.std.specs.Prelude.{◌≡◌, ◌≢◌, ◌<◌, ◌≤◌, ◌⊎◌, ◌+◌, ◌-◌, ℕ, suc, nat_le, cond, List, [], ◌∷◌, length, map, take, drop, get_or, set, replicate}
+use Rattle.std.specs.Prelude.{◌≡◌, ◌≢◌, ◌<◌, ◌≤◌, ◌⊎◌, ◌+◌, ◌-◌, ◌==◌, ℕ, suc, nat_le, cond, true, List, [], ◌∷◌, length, map, take, drop, get_or, set, replicate}
 use Rattle.std.specs.List.{AllByRecursion, sum_by}
 use Rattle.oe_extent.specs.declared.sizes.TheConstants.{EXTENT_BYTES}
 use Rattle.oe_extent.specs.declared.extents.Address.{Address}
+use Rattle.oe_extent.specs.Free.{FreeExtents, IsNextFree, taken_at, given_at, all_given}
 
 -- a string with its address
 pub record Addressed : Type 0 where
   pub address : Address
   pub bytes : List ℕ
 
--- How many extents there are, the strings of each slot and of each commit, newest first, and for how many commits more there is
--- memory. Commits are newest first too.
+-- How many extents there are, the strings of each slot and of each commit, newest first, for how many commits more there is
+-- memory, and which extents are free. Commits are newest first too.
 pub record RingStrings : Type 0 where
   pub extents : ℕ
   pub active : List (List Addressed)
   pub committed : List (List Addressed)
   pub room : ℕ
+  pub pool : FreeExtents
 
 -- how many extents strings of these lengths, the newest first, fill in order, and how many bytes are left of the last
 abbrev pub filled : List ℕ → ℕ × ℕ
@@ -35,20 +37,48 @@ used_of v =
 abbrev pub capacity_of : RingStrings → ℕ
 capacity_of v = length v.committed + v.room
 
+-- how many bytes are left behind these strings in the last extent that they fill
+abbrev pub rest_behind : List Addressed → ℕ
+rest_behind ss = (filled (lengths_of ss)).1
+
 -- a string of that length fits neither the rest of the slot's last extent nor a free one
 abbrev pub IsFull : RingStrings → ℕ → ℕ → Type 0
 IsFull v slot length =
-    ((filled (lengths_of (get_or v.active slot []))).1 < length) × (v.extents ≤ used_of v)
+    (rest_behind (get_or v.active slot []) < length) × (v.extents ≤ used_of v)
 
--- a slot has a string more
+-- the address behind the newest of these strings
+abbrev pub behind : List Addressed → Address
+behind [] = record { extent = 0; offset = 0 }
+behind (s ∷ ss) =
+    record { extent = s.address.extent; offset = s.address.offset + length s.bytes }
+
+-- A string of that length comes to stand there: behind the slot's newest string, where the rest of its extent has room, else at the
+-- front of the extent that is the next free one from the cursor on.
+pub record IsNextAddress (v : RingStrings) (slot size : ℕ) (a : Address) : Type 0 where
+  pub fits : size ≤ rest_behind (get_or v.active slot []) → a ≡ behind (get_or v.active slot [])
+  pub other : rest_behind (get_or v.active slot []) < size
+      → IsNextFree v.pool.is_free v.pool.cursor a.extent × (a.offset ≡ 0)
+
+-- a slot has a string more, and the string takes its extent where the rest of the slot's last one is too short
 abbrev pub pushed_at : RingStrings → ℕ → Address → List ℕ → RingStrings
 pushed_at v slot a bytes =
     let s : Addressed = record { address = a; bytes = bytes } in
-    record v { active = set v.active slot (s ∷ get_or v.active slot []) }
+    let ss = get_or v.active slot [] in
+    record v {
+      active = set v.active slot (s ∷ ss);
+      pool = cond (nat_le (length bytes) (rest_behind ss)) v.pool (taken_at v.pool a.extent);
+    }
 
--- a slot has a string less
+-- the pool without the newest of these strings, whose extent is free again where the string stands at its front: no other stands there
+abbrev pub pool_without_newest : List Addressed → FreeExtents → FreeExtents
+pool_without_newest [] p = p
+pool_without_newest (s ∷ ss) p = cond (s.address.offset == 0) (given_at p s.address.extent) p
+
+-- a slot has a string less, and the pool an extent more where that string was the only one there
 abbrev pub popped_at : RingStrings → ℕ → RingStrings
-popped_at v slot = record v { active = set v.active slot (drop 1 (get_or v.active slot [])) }
+popped_at v slot =
+    let ss = get_or v.active slot [] in
+    record v { active = set v.active slot (drop 1 ss); pool = pool_without_newest ss v.pool }
 
 -- the bytes of the newest of these strings
 abbrev pub newest_bytes : List Addressed → List ℕ
@@ -99,11 +129,30 @@ reopened_at v slot =
 abbrev pub without_last : List (List Addressed) → List (List Addressed)
 without_last ss = take (length ss - 1) ss
 
--- the oldest commit is gone, where there is one
-abbrev pub without_oldest : RingStrings → ℕ → RingStrings
-without_oldest v room = record v { committed = without_last v.committed; room = room }
+-- the last, which is the oldest, where there is one
+abbrev pub oldest_of : List (List Addressed) → List Addressed
+oldest_of ss = get_or ss (length ss - 1) []
 
--- no strings
+-- the extent of each of these strings
+abbrev pub extents_of : List Addressed → List ℕ
+extents_of ss = map (λ s. s.address.extent) ss
+
+-- the oldest commit is gone, where there is one, and the extents of its strings are free again
+abbrev pub without_oldest : RingStrings → ℕ → RingStrings
+without_oldest v room =
+    record v {
+      committed = without_last v.committed;
+      room = room;
+      pool = all_given v.pool (extents_of (oldest_of v.committed));
+    }
+
+-- no strings, and all extents are free
 abbrev pub no_strings : ℕ → ℕ → RingStrings
 no_strings extents slots =
-    record { extents = extents; active = replicate slots []; committed = []; room = 0 }
+    record {
+      extents = extents;
+      active = replicate slots [];
+      committed = [];
+      room = 0;
+      pool = record { is_free = replicate extents true; cursor = 0 };
+    }

@@ -8,7 +8,7 @@
 ghost use Rattle.std.specs.Prelude.{◌≡◌, ◌<◌, ◌≤◌, ◌+◌, ◌↔◌, [], length, get_or, replicate, IsErr, IfOk, OnOk, OnErr};
 ghost use Rattle.oe_extent.specs.declared.sizes.TheConstants.{EXTENT_BYTES};
 ghost use Rattle.oe_extent.specs.Strings.{IsFramed};
-ghost use Rattle.oe_extent.specs.Ring.{used_of, IsFull, IsFresh, no_strings, pushed_at, popped_at, sealed_at, reopened_at, newest_bytes, strings_of, without_oldest, capacity_of, HasAddress, IsStringAt};
+ghost use Rattle.oe_extent.specs.Ring.{used_of, IsFull, IsFresh, IsNextAddress, no_strings, pushed_at, popped_at, sealed_at, reopened_at, newest_bytes, strings_of, without_oldest, capacity_of, HasAddress, IsStringAt};
 
 use crate::extents::{Address, ExtentList};
 use crate::images::Written;
@@ -45,6 +45,7 @@ impl Model for Ring {
       active = map addressed_of r.active.items;
       committed = map addressed_of r.committed.items;
       room = deque_capacity r.committed - deque_len r.committed;
+      pool = r.pool;
     } };
 
     ghost invariant = { λ r. IsRing r.pool.is_free r.active.items r.committed.items };
@@ -116,7 +117,8 @@ impl Ring {
         self.active[slot] = list;
     }
 
-    /// Appends a string of 4 to 4,096 bytes to a slot's strings, and answers its address, where no other string is.
+    /// Appends a string of 4 to 4,096 bytes to a slot's strings, and answers its address, where no other string is. Where the rest of
+    /// the slot's newest extent is too short, it takes the next free extent from the cursor on, and behind the last from 0 on.
     pub fn push<S: Written>(&mut self, slot: usize, string: &S) -> Result<Address, Full>
         requires slot { slot < length self.old.active }
         requires framed { IsFramed (S.image string.now) }
@@ -124,6 +126,7 @@ impl Ring {
         ensures pushed { IfOk result (λ a.
             self.new ≡ pushed_at self.old slot a (S.image string.now)) }
         ensures same { OnErr result (self.new ≡ self.old) }
+        ensures next { IfOk result (IsNextAddress self.old slot (length (S.image string.now))) }
         ensures full { IsErr result ↔ IsFull self.old slot (length (S.image string.now)) }
         ensures fresh { IfOk result (IsFresh self.old) }
         ensures extent { IfOk result (λ a. a.extent < self.old.extents) }

@@ -3,6 +3,7 @@ use Rattle.std.proofs.Common.{◌≡◌, ℕ, zero, suc, ◌+◌, ◌-◌, ◌<�
 use Rattle.std.specs.List.{AllByRecursion}
 use Rattle.std.proofs.lemmas.List.{length-set, map-set, get_or-map, get_or-set_same, length-replicate, length-drop}
 use Rattle.oe_extent.specs.declared.extents.Address.{Address}
+use Rattle.oe_extent.specs.Free.{FreeExtents}
 use Rattle.oe_extent.specs.Ring as ring
 use Rattle.oe_log.specs.Records.{Logged, logged, newest_of}
 use Rattle.oe_log.proofs.Lists as log
@@ -73,11 +74,11 @@ module _ {r : ring.RingStrings} {lens cls : List ℕ} {opens : ℕ} (newest : �
   len_is t n lt e =
       len_at t n lt e ∙ sym (length_is (get_or r.active t []) (are_at r.active t k.active_are)) ∙ ap length (sym (at_slot r.active t))
 
-  -- other records of a slot
-  pub changed : (t n : ℕ) (r' : ring.RingStrings) (lens' : List ℕ) (ss : List (ring.Addressed)) (rs : List Logged) → AreRecords ss
-      → r' ≡ record r { active = set r.active t ss } → lens' ≡ set lens t n → n ≡ length ss → records_in ss ≡ rs
+  -- other records of a slot, and other free extents
+  pub changed : (t n : ℕ) (r' : ring.RingStrings) (pool : FreeExtents) (lens' : List ℕ) (ss : List (ring.Addressed)) (rs : List Logged) → AreRecords ss
+      → r' ≡ record r { active = set r.active t ss; pool = pool } → lens' ≡ set lens t n → n ≡ length ss → records_in ss ≡ rs
       → Stands r' lens' cls opens newest (log.with_records (lists_of r opens newest) t rs)
-  changed t n r' lens' ss rs are er el en es =
+  changed t n r' pool lens' ss rs are er el en es =
       rw er
       record {
         kept = record {
@@ -99,7 +100,8 @@ module _ {r : ring.RingStrings} {lens cls : List ℕ} {opens : ℕ} (newest : �
       let ss = get_or r.active t [] in
       let are = are_at r.active t k.active_are in
       let size : n - 1 ≡ length (drop 1 ss) = omega (arith, len_at t n lt e, length-drop 1 ss) in
-      changed t (n - 1) r' (set lens t (n - 1)) (drop 1 ss) (drop 1 (log.records_at (lists_of r opens newest) t)) (older_are ss are) er refl size
+      changed t (n - 1) r' (ring.pool_without_newest ss r.pool) (set lens t (n - 1)) (drop 1 ss)
+      (drop 1 (log.records_at (lists_of r opens newest) t)) (older_are ss are) er refl size
       (older_is ss are ∙ ap (drop 1) (sym (at_slot r.active t)))
 
   pub pushed : (t n : ℕ) (r' : ring.RingStrings) (a : Address) (p : Previous) (l : LentRecord) → t < 65 → n ≡ get_or lens t n
@@ -110,7 +112,7 @@ module _ {r : ring.RingStrings} {lens cls : List ℕ} {opens : ℕ} (newest : �
       let are = are_at r.active t k.active_are in
       let s : ring.Addressed = record { address = a; bytes = record_image p (record_of_lent l) } in
       let size : n + 1 ≡ length (s ∷ ss) = omega (arith, len_at t n lt e) in
-      changed t (n + 1) r' (set lens t (n + 1)) (s ∷ ss)
+      changed t (n + 1) r' _ (set lens t (n + 1)) (s ∷ ss)
       (logged (record_address a) p (record_of_lent l) ∷ log.records_at (lists_of r opens newest) t) (written_is p l hp hb, are) er refl size
       (seen_lent a p l ss hp hb
       ∙ ap (λ (rs : List Logged). logged (record_address a) p (record_of_lent l) ∷ rs) (sym (at_slot r.active t)))

@@ -12,14 +12,14 @@ pub pop-emptied-requires : goal.pop-emptied-requires
 pop-emptied-requires c =
     let slot = subst (λ (v : RingStrings). c.args.slot < length v.active) (sym c.self.view_is) c.requires.slot in
     let some = subst (λ (v : RingStrings). 0 < length (get_or v.active c.args.slot [])) (sym c.self.view_is) c.requires.some in
-    some_there c.self.inside.pool.is_free c.self.inside.active.items c.self.inside.committed.items
+    some_there c.self.inside.pool c.self.inside.active.items c.self.inside.committed.items
     (deque_capacity c.self.inside.committed - deque_len c.self.inside.committed) c.args.slot c.self.invariant slot
     c.index_mut.result.now c.index_mut.ensures.value some
 
 pub give-requires : goal.give-requires
 give-requires c =
     let slot = subst (λ (v : RingStrings). c.args.slot < length v.active) (sym c.self.view_is) c.requires.slot in
-    let now = pop_own c.self.inside.pool.is_free c.self.inside.active.items c.self.inside.committed.items
+    let now = pop_own c.self.inside.pool c.self.inside.active.items c.self.inside.committed.items
     (deque_capacity c.self.inside.committed - deque_len c.self.inside.committed) c.args.slot c.self.invariant slot
     c.index_mut.result.now c.pop-emptied.new.self (number_of c.in-Some.extent.value) c.index_mut.ensures.value
     c.in-Some.ensures.only c.in-Some.ensures.emptied in
@@ -28,7 +28,7 @@ give-requires c =
 pub invariant_of-self : goal.invariant_of-self
 invariant_of-self c =
     let slot = subst (λ (v : RingStrings). c.args.slot < length v.active) (sym c.self.view_is) c.requires.slot in
-    let now = pop_own c.self.inside.pool.is_free c.self.inside.active.items c.self.inside.committed.items
+    let now = pop_own c.self.inside.pool c.self.inside.active.items c.self.inside.committed.items
     (deque_capacity c.self.inside.committed - deque_len c.self.inside.committed) c.args.slot c.self.invariant slot
     c.index_mut.result.now c.pop-emptied.new.self (number_of c.in-Some.extent.value) c.index_mut.ensures.value
     c.in-Some.ensures.only c.in-Some.ensures.emptied in
@@ -38,7 +38,7 @@ invariant_of-self c =
 pub invariant_of-self-in_default : goal.invariant_of-self-in_default
 invariant_of-self-in_default c =
     let slot = subst (λ (v : RingStrings). c.args.slot < length v.active) (sym c.self.view_is) c.requires.slot in
-    let now = pop_here c.self.inside.pool.is_free c.self.inside.active.items c.self.inside.committed.items
+    let now = pop_here c.self.inside.pool c.self.inside.active.items c.self.inside.committed.items
     (deque_capacity c.self.inside.committed - deque_len c.self.inside.committed) c.args.slot c.self.invariant slot
     c.index_mut.result.now c.pop-emptied.new.self c.index_mut.ensures.value c.in_default.ensures.left in
     now.ring
@@ -46,18 +46,18 @@ invariant_of-self-in_default c =
 pub returns-in-Some : goal.returns-in-Some
 returns-in-Some c =
     let slot = subst (λ (v : RingStrings). c.args.slot < length v.active) (sym c.self.view_is) c.requires.slot in
-    let now = pop_own c.self.inside.pool.is_free c.self.inside.active.items c.self.inside.committed.items
+    let now = pop_own c.self.inside.pool c.self.inside.active.items c.self.inside.committed.items
     (deque_capacity c.self.inside.committed - deque_len c.self.inside.committed) c.args.slot c.self.invariant slot
     c.index_mut.result.now c.pop-emptied.new.self (number_of c.in-Some.extent.value) c.index_mut.ensures.value
     c.in-Some.ensures.only c.in-Some.ensures.emptied in
-    let given = ap (λ (f : FreeExtents). shown f.is_free (set c.self.inside.active.items c.args.slot c.pop-emptied.new.self)
+    let given = ap (λ (f : FreeExtents). shown f (set c.self.inside.active.items c.args.slot c.pop-emptied.new.self)
     c.self.inside.committed.items (deque_capacity c.self.inside.committed - deque_len c.self.inside.committed)) c.give.ensures in
     rw (← c.self.view_is) (given ∙ now.0.view)
 
 pub returns-in_default : goal.returns-in_default
 returns-in_default c =
     let slot = subst (λ (v : RingStrings). c.args.slot < length v.active) (sym c.self.view_is) c.requires.slot in
-    let now = pop_here c.self.inside.pool.is_free c.self.inside.active.items c.self.inside.committed.items
+    let now = pop_here c.self.inside.pool c.self.inside.active.items c.self.inside.committed.items
     (deque_capacity c.self.inside.committed - deque_len c.self.inside.committed) c.args.slot c.self.invariant slot
     c.index_mut.result.now c.pop-emptied.new.self c.index_mut.ensures.value c.in_default.ensures.left in
     rw (← c.self.view_is) now.view

@@ -7,7 +7,7 @@ use Rattle.oe_extent.proofs.ring.Ring.seal.Goals as goal
 pub invariant_of-self : goal.invariant_of-self
 invariant_of-self c =
     let slot = subst (λ (v : RingStrings). c.args.slot < length v.active) (sym c.self.view_is) c.requires.slot in
-    let now = seal_all c.self.inside.pool.is_free c.self.inside.active.items c.self.inside.committed.items
+    let now = seal_all c.self.inside.pool c.self.inside.active.items c.self.inside.committed.items
     (deque_capacity c.self.inside.committed - deque_len c.self.inside.committed) c.args.slot c.self.invariant slot
     c.push_front_reserved.new.self.items (deque_capacity c.push_front_reserved.new.self - deque_len c.push_front_reserved.new.self)
     c.index_mut.result.now c.replace-list.result c.replace-list.new.dest c.index_mut.ensures.value c.replace-list.ensures.value
@@ -17,7 +17,7 @@ invariant_of-self c =
 pub returns-clause-sealed : goal.returns-clause-sealed
 returns-clause-sealed c =
     let slot = subst (λ (v : RingStrings). c.args.slot < length v.active) (sym c.self.view_is) c.requires.slot in
-    let now = seal_all c.self.inside.pool.is_free c.self.inside.active.items c.self.inside.committed.items
+    let now = seal_all c.self.inside.pool c.self.inside.active.items c.self.inside.committed.items
     (deque_capacity c.self.inside.committed - deque_len c.self.inside.committed) c.args.slot c.self.invariant slot
     c.push_front_reserved.new.self.items (deque_capacity c.push_front_reserved.new.self - deque_len c.push_front_reserved.new.self)
     c.index_mut.result.now c.replace-list.result c.replace-list.new.dest c.index_mut.ensures.value c.replace-list.ensures.value

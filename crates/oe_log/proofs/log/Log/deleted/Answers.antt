@@ -1,7 +1,6 @@
 -- Where the head says that nothing was deleted, no record is of a delete.
 use Rattle.std.proofs.Common.{◌≡◌, Bool, true, false, List, [], ◌∷◌, cond, get_or, refl, sym, ap, ◌∙◌}
 use Rattle.std.specs.List.{cons_option}
-use Rattle.oe_rows.specs.declared.keys.NewOrderKey.{NewOrderKey}
 use Rattle.oe_model.specs.Changes.{Record}
 use Rattle.oe_log.specs.Log.{committed_records}
 use Rattle.oe_log.specs.Stands.{model_records, deleted_keys, DeletesNothing}
