@@ -1,10 +1,11 @@
--- When the row before a change may be put back.
+-- When the row before a change may be put back, and which keys have places then.
 use Rattle.std.specs.Prelude.{◌≡◌, None, IsSome}
 use Rattle.std.specs.FinMap.{get}
+use Rattle.oe_rows.specs.declared.keys.Key.TheVariants as key
 use Rattle.oe_model.specs.Rows.{Rows, row_at}
-use Rattle.oe_model.specs.Changes.{Record, DeletedNewOrder, record_key, put_back}
+use Rattle.oe_model.specs.Changes.{Record, InsertedHistory, InsertedNewOrder, InsertedOrder, InsertedOrderLine, DeletedNewOrder, record_key, put_back}
 use Rattle.oe_model.specs.Meets.{Meets}
-use Rattle.oe_store.specs.Places.{Places, rows, HasPlace}
+use Rattle.oe_store.specs.Places.{Places, rows, HasPlace, LosesPlace, SamePlaces}
 
 -- a row stands where the change left one, and none where it deleted one
 abbrev pub Stands : Record → Rows → Type 0
@@ -16,3 +17,11 @@ pub record CanPutBack (s : Places) (b : Record) : Type 0 where
   pub stands : Stands b (rows s)
   pub place : HasPlace s (record_key b)
   pub schema : Meets (put_back b (rows s))
+
+-- an inserted row's key has no place any more, and else the same keys have places
+abbrev pub LeavesPlaces : Record → Places → Places → Type 0
+LeavesPlaces (InsertedHistory k v) old new = LosesPlace old new (key.History k)
+LeavesPlaces (InsertedNewOrder k v) old new = LosesPlace old new (key.NewOrder k)
+LeavesPlaces (InsertedOrder k v) old new = LosesPlace old new (key.Order k)
+LeavesPlaces (InsertedOrderLine k v) old new = LosesPlace old new (key.OrderLine k)
+LeavesPlaces b old new = SamePlaces old new

@@ -16,6 +16,6 @@ pub use applies::apply;
 pub use changes::Change;
 pub use inserts::{insert_history, insert_new_order, insert_order, insert_order_line};
 pub use oe_layout::OwnRecord;
-pub use records::undo;
+pub use records::{undo, undo_and_give_up};
 pub use updates::delete_new_order;
 pub use writes::Write;

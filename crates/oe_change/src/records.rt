@@ -3,7 +3,7 @@ ghost use Rattle.std.specs.Prelude.{◌≡◌};
 ghost use Rattle.oe_model.specs.Changes.{put_back};
 ghost use Rattle.oe_layout.specs.Records.{record_of_own};
 ghost use Rattle.oe_store.specs.Places.{rows, SamePlaces};
-ghost use Rattle.oe_change.specs.PutBack.{CanPutBack};
+ghost use Rattle.oe_change.specs.PutBack.{CanPutBack, LeavesPlaces};
 
 use oe_layout::OwnRecord;
 use oe_rows::NewOrder;
@@ -28,5 +28,21 @@ pub fn undo(tables: &mut Tables, before: OwnRecord)
         OwnRecord::UpdatedOrderLine(key, row) => drop(tables.put_back_order_line(key, row)),
         OwnRecord::UpdatedStock(key, row) => drop(tables.put_back_stock(key, row)),
         OwnRecord::DeletedNewOrder(key) => tables.refill_new_order(key, NewOrder),
+    }
+}
+
+/// Puts the row before a change back as `undo`, where no older change of the key is to be put back: an inserted row goes with its
+/// key's place. It takes no memory and can't fail.
+pub fn undo_and_give_up(tables: &mut Tables, before: OwnRecord)
+    requires { CanPutBack tables.old (record_of_own before) }
+    ensures rows { rows tables.new ≡ put_back (record_of_own before) (rows tables.old) }
+    ensures places { LeavesPlaces (record_of_own before) tables.old tables.new }
+{
+    match before {
+        OwnRecord::InsertedHistory(key) => drop(tables.remove_history(key)),
+        OwnRecord::InsertedNewOrder(key) => drop(tables.remove_new_order(key)),
+        OwnRecord::InsertedOrder(key) => drop(tables.remove_order(key)),
+        OwnRecord::InsertedOrderLine(key) => drop(tables.remove_order_line(key)),
+        other => undo(tables, other),
     }
 }

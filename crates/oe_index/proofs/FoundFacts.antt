@@ -10,14 +10,14 @@ use Rattle.std.specs.Map.{keys_of}
 use Rattle.std.specs.Ordering.{eq_by_cmp, is_lt}
 use Rattle.std.specs.declared.cmp.Ordering.{Ordering}
 use Rattle.std.specs.declared.cmp.Ordering.TheVariants.{Less}
-use Rattle.std.specs.Cmp.{IsTotalOrder}
+use Rattle.std.specs.Cmp.{IsTotalOrder, eq_by_cmp_equiv}
 use Rattle.std.specs.FinMap.{FinMap, IsAntisymmetric, get, entries, entries_sorted, get-entries, retain_keys, get-retain_keys, get-insert, insert, get-remove, remove, empty, get-empty}
 use Rattle.std.specs.FinMap.Entries.{find, is_sorted, below_all, find-where_key, is_sorted-where_key, same_entries}
 use Rattle.oe_table.specs.Table.{place, rows_of}
 use Rattle.oe_table.specs.Shelf.{IsAscending}
 use Rattle.oe_table.proofs.TableFacts.{tied}
 use Rattle.oe_model.proofs.EntryFacts.{EachOf, each_of, entries_at}
-use Rattle.oe_index.specs.Listed.{Keys, with_row, found, IsListed, ListsMore, AreListed}
+use Rattle.oe_index.specs.Listed.{Keys, with_row, found, IsListed, ListsMore, Unlists, AreListed}
 
 both : (a b : Bool) → T a → T b → T (a && b)
 both true b p q = q
@@ -142,6 +142,21 @@ pub listed-remove : {K X : Type 0} {cmp : K → K → Ordering} (total : IsTotal
     → AreListed cmp number_of b ls m → AreListed cmp number_of b ls (remove m key)
 listed-remove {cmp = cmp} total number_of b ls m key h on k x at =
     h on k x (gone (eq_by_cmp cmp k key) (get m k) x (sym (get-remove total m key k) ∙ at))
+
+own-gone : {X : Type 0} {P : Type 0} (b : Bool) (o : Option X) (x : X) → b ≡ true → cond b None o ≡ Some x → P
+own-gone true o x own e = absurd (let no : ⊥ = cc in no)
+own-gone false o x own e = never (sym own)
+
+-- also where its key is taken off a list
+pub listed-unlist : {K X : Type 0} {cmp : K → K → Ordering} (total : IsTotalOrder cmp) (number_of : K → X → ℕ) (b : Bool) (old new : List (Keys K)) (m : FinMap cmp X) (number : ℕ) (key : K)
+    → Unlists cmp old new number key → AreListed cmp number_of b old m → AreListed cmp number_of b new (remove m key)
+listed-unlist {cmp = cmp} total number_of b old new m number key off h on k x at =
+    let left = sym (get-remove total m key k) ∙ at in
+    (off (number_of k x) k).1 (
+      h on k x (gone (eq_by_cmp cmp k key) (get m k) x left),
+      λ e.
+          own-gone (eq_by_cmp cmp k key) (get m k) x (ap (λ y. eq_by_cmp cmp y key) e.1 ∙ (eq_by_cmp_equiv total).refl key) left,
+    )
 
 pub listed-more : {K X : Type 0} {cmp : K → K → Ordering} (number_of : K → X → ℕ) (b : Bool) (old new : List (Keys K)) (m : FinMap cmp X) → ListsMore cmp old new
     → AreListed cmp number_of b old m → AreListed cmp number_of b new m

@@ -1,19 +1,22 @@
--- Lists of keys, of which one is given a key.
-use Rattle.std.proofs.Common.{◌≡◌, refl, sym, ◌∙◌, ap, subst, Bool, true, false, cond, ℕ, suc, zero, ◌<◌, List, [], ◌∷◌, ◌++◌, length, get_or, set, replicate, Option, Some, Result, Ok, Err}
-use Rattle.std.specs.Prelude.{IsSome}
+-- Lists of keys, of which one is given a key, or loses one.
+use Rattle.std.proofs.Common.{◌≡◌, refl, sym, ◌∙◌, ap, subst, Bool, true, false, cond, ℕ, suc, zero, ◌<◌, List, [], ◌∷◌, ◌++◌, length, get_or, set, replicate, Option, Some, None, Result, Ok, Err}
+use Rattle.std.specs.Prelude.{◌↔◌, ◌≤◌, IsSome}
 use Rattle.std.specs.Result.{OnOk, OnErr}
 use Rattle.std.specs.List.Sorted.{IsStrictlySortedBy}
 use Rattle.std.specs.Ordering.{is_eq}
 use Rattle.std.specs.declared.cmp.Ordering.{Ordering}
 use Rattle.std.specs.Cmp.{IsTotalOrder, eq_by_cmp_equiv}
-use Rattle.std.proofs.lemmas.List.{get_or-set_same, get_or-set_other}
+use Rattle.std.specs.FinMap.{IsAntisymmetric}
+use Rattle.std.proofs.lemmas.List.{get_or-set_same, get_or-set_other, get_or_past}
 use borrow.Author.Tests.{eqb-true, eqb-false}
 use lib.Dec.{eqb}
 use Rattle.oe_table.specs.Table.{place}
-use Rattle.oe_table.specs.Shelf.{IsAscending, put_at}
+use Rattle.oe_table.specs.Shelf.{IsAscending, put_at, without}
 use Rattle.oe_table.proofs.ShelfFacts.{lookup-put, ascending-put}
 use Rattle.oe_table.proofs.ShelvesFacts.{get_or-padded}
-use Rattle.oe_index.specs.Listed.{Keys, IsListed, AreLists}
+use Rattle.oe_table.proofs.TableFacts.{tied}
+use Rattle.oe_table.proofs.TakenOutFacts.{lookup-without, ascending-without}
+use Rattle.oe_index.specs.Listed.{Keys, IsListed, Unlists, AreLists}
 
 some-cond : {X : Type 0} (b : Bool) (w : X) (o : Option X) → IsSome o → IsSome (cond b (Some w) o)
 some-cond true w o h = refl
@@ -87,3 +90,42 @@ module _ {K : Type 0} (cmp : K → K → Ordering) where
             subst IsSome (sym (ap (λ (l : Keys K). place cmp l key) (get_or-set_same ls i new [] within ∙ e) ∙ lookup-put cmp total s key w key))
             (rw ((eq_by_cmp_equiv total).refl key) refl)
         by (Err x) e = e
+
+none-there : {P : Type 0} → false ≡ true → P
+none-there h = absurd (let no : ⊥ = cc in no)
+
+-- the list under i, where s is what stood there, loses the key
+module _ {K : Type 0} {cmp : K → K → Ordering} (total : IsTotalOrder cmp) (exact : IsAntisymmetric cmp) (i : ℕ) (key : K) where
+  less-here : {X : Type 0} (n : ℕ) (k : K) (old new : Option X) (b : Bool) → is_eq (cmp key k) ≡ b → n ≡ i → new ≡ cond b None old
+      → IsSome new ↔ (IsSome old × ((n ≡ i) × (k ≡ key) → ⊥))
+  less-here n k old new true at here is = ((λ h. none-there (subst IsSome is h)), (λ h. absurd (h.1 (here, sym (exact key k (tied (cmp key k) at))))))
+  less-here n k old new false at here is =
+      let apart : k ≡ key → ⊥ = λ e. let own : is_eq (cmp key k) ≡ true = ap (λ (y : K). is_eq (cmp key y)) e ∙ (eq_by_cmp_equiv total).refl key in (let no : ⊥ = cc in no) in
+      ((λ h. (subst IsSome is h, λ e. apart e.1)), (λ h. subst IsSome (sym is) h.0))
+
+  -- past the last list no key is listed
+  pub unlists-none : (ls : List (Keys K)) → length ls ≤ i → Unlists cmp ls ls i key
+  unlists-none ls past n k =
+      ((λ h. (h, λ e. none-there (subst (λ (l : Keys K). IsSome (place cmp l k)) (ap (λ j. get_or ls j []) e.0 ∙ get_or_past ls i [] past) h))), (λ h. h.0))
+
+  module _ (ls : List (Keys K)) (s new : Keys K) (there : (d : Keys K) → s ≡ get_or ls i d) (up : AreLists cmp ls) (is : new ≡ without cmp s key) where
+    ascends-there : IsAscending cmp s
+    ascends-there = rw (there []) (list-ascends cmp ls i up)
+
+    pub lists-without : AreLists cmp (set ls i new)
+    lists-without = lists-set cmp ls i new up (rw is (ascending-without cmp s key ascends-there))
+
+    pub unlists-there : i < length ls → Unlists cmp ls (set ls i new) i key
+    unlists-there within n k = by (eqb n i) refl
+      where
+        by : (b : Bool) → eqb n i ≡ b → IsListed cmp (set ls i new) n k ↔ (IsListed cmp ls n k × ((n ≡ i) × (k ≡ key) → ⊥))
+        by true e =
+            let here : n ≡ i = eqb-true n i e in
+            less-here n k (place cmp (get_or ls n []) k) (place cmp (get_or (set ls i new) n []) k) (is_eq (cmp key k)) refl here
+            (ap (λ (l : Keys K). place cmp l k) (ap (λ j. get_or (set ls i new) j []) here ∙ get_or-set_same ls i new [] within ∙ is)
+            ∙ lookup-without total exact s key ascends-there k
+            ∙ ap (λ (l : Keys K). cond (is_eq (cmp key k)) None (place cmp l k)) (there [] ∙ ap (λ j. get_or ls j []) (sym here)))
+        by false e =
+            let other : n ≡ i → ⊥ = eqb-false n i e in
+            let same : get_or (set ls i new) n [] ≡ get_or ls n [] = get_or-set_other ls i n new [] other in
+            ((λ h. (subst (λ (l : Keys K). IsSome (place cmp l k)) same h, λ e. other e.0)), (λ h. subst (λ (l : Keys K). IsSome (place cmp l k)) (sym same) h.0))

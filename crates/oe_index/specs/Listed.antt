@@ -1,5 +1,5 @@
 -- Keys in lists under numbers, and the rows that are found by a list.
-use Rattle.std.specs.Prelude.{◌≡◌, ℕ, ⊤, Bool, true, false, List, [], ◌∷◌, Option, None, Some, IsSome, slice_index_or}
+use Rattle.std.specs.Prelude.{◌≡◌, ◌↔◌, ℕ, ⊤, Bool, true, false, List, [], ◌∷◌, Option, None, Some, IsSome, slice_index_or}
 use Rattle.std.specs.Ordering.{eq_by_cmp, nat_cmp}
 use Rattle.std.specs.Cmp.Lexicographic.{slice_cmp}
 use Rattle.std.specs.declared.cmp.Ordering.{Ordering}
@@ -25,6 +25,10 @@ module _ {K : Type 0} (cmp : K → K → Ordering) where
   -- each key that was listed is listed
   abbrev pub ListsMore : List (Keys K) → List (Keys K) → Type 0
   ListsMore old new = (n : ℕ) (k : K) → IsListed old n k → IsListed new n k
+
+  -- the key is off the list under the number, and else each key is listed as before
+  abbrev pub Unlists : List (Keys K) → List (Keys K) → ℕ → K → Type 0
+  Unlists old new number key = (n : ℕ) (k : K) → IsListed new n k ↔ (IsListed old n k × ((n ≡ number) × (k ≡ key) → ⊥))
 
   -- the keys of each list ascend
   abbrev pub AreLists : List (Keys K) → Type 0

@@ -14,7 +14,7 @@ ghost use Rattle.oe_rows.specs.Key.{customer_cmp};
 ghost use Rattle.oe_rows.specs.Credit.{with_entry};
 ghost use Rattle.oe_rows.specs.declared.customers.Customer.{Customer};
 ghost use Rattle.oe_model.specs.Choice.{namesakes};
-ghost use Rattle.oe_table.specs.Table.{rows_of, SetsPlace, RewritesRow};
+ghost use Rattle.oe_table.specs.Table.{rows_of, GivesUpBlanked, SetsPlace, RewritesRow};
 ghost use Rattle.oe_model.specs.Keys.{district_of_customer};
 ghost use Rattle.oe_index.specs.Listed.{IsListed, ListsMore, is_name};
 ghost use Rattle.oe_index.specs.Numbers.{list_number};
@@ -152,6 +152,14 @@ impl Customers {
         let debtor = self.rows.row_mut(key).unwrap();
         debtor.account = *account;
         debtor.data = entry.before(&debtor.data);
+    }
+
+    /// Gives up the places of all blanked keys, which stay listed. It takes no memory.
+    pub fn sweep(&mut self)
+        ensures places { GivesUpBlanked customer_cmp self.old self.new }
+        ensures rows { rows_of customer_cmp self.new ≡ rows_of customer_cmp self.old }
+    {
+        self.rows.sweep();
     }
 
     /// The rows with their keys, in the keys' order.

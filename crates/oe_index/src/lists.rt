@@ -1,10 +1,10 @@
 //! Keys that are listed under numbers, each list in the keys' order.
 //!
-//! By the invariant the keys of each list ascend. A key is listed once under a number, and stays. Only `add` takes memory, for a key
-//! that is not listed; where that is refused each key is listed as before.
+//! By the invariant the keys of each list ascend. A key is listed once under a number, until it is taken off. Only `add` takes
+//! memory, for a key that is not listed; where that is refused each key is listed as before.
 ghost use Rattle.std.specs.Prelude.{◌≡◌, ◌<◌, [], OnOk, OnErr, slice_index_or};
 ghost use Rattle.oe_table.specs.Shelf.{IsAscending};
-ghost use Rattle.oe_index.specs.Listed.{IsListed, ListsMore};
+ghost use Rattle.oe_index.specs.Listed.{IsListed, ListsMore, Unlists};
 
 use oe_table::shelf::{Shelf, Slot};
 use oe_table::shelves::reach;
@@ -65,5 +65,17 @@ impl<K: ShelvedKey> Lists<K> {
             return Err(refusal);
         }
         self.lists[number].put(key, ())
+    }
+
+    /// Takes a key off the list under a number. Where it is not listed there, nothing changes.
+    pub(crate) fn remove(&mut self, number: usize, key: &K)
+    where
+        K: Drop,
+        ensures { Unlists K.cmp self.old self.new number key.now }
+    {
+        let Some(list) = self.lists.get_mut(number) else {
+            return;
+        };
+        list.take_out(key);
     }
 }

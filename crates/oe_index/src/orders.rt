@@ -1,11 +1,12 @@
 //! The orders, which are found by customer too.
 //!
 //! Beside the rows each order's key is listed under a number of its customer, so that a walk over a customer's orders meets few
-//! others. By the invariant each row's key is in the list of its customer, unless the lists were given up: that is done where a row
-//! takes the place of another customer's, or a blanked place is filled for a customer under whom there is no memory to list it.
-//! Walks then go over all rows that they are given. A key that was blanked stays listed, so that an order of the same customer fills
-//! its place again without memory. Only `put_new` takes memory, for a key's place and for its customer's list, where it has none or is
-//! not in that list; it is refused only for a key without a place, and the table is then as before.
+//! others. By the invariant each row's key is in the list of its customer, unless the lists were given up: that is done where a
+//! row takes the place of another customer's, or a blanked place is filled for a customer under whom there is no memory to list
+//! it. Walks then go over all rows that they are given. A key that was blanked stays listed, so that an order of the same
+//! customer fills its place again without memory; one that is removed is off its list. Only `put_new` takes memory, for a key's
+//! place and for its customer's list, where it has none or is not in that list; it is refused only for a key without a place, and
+//! the table is then as before.
 ghost use Rattle.std.specs.Prelude.{◌≡◌, true, Some, None, Ok, OnOk, OnErr, IsSome, []};
 ghost use Rattle.std.specs.Option.{option_copied};
 ghost use Rattle.std.specs.FinMap.{entries};
@@ -16,8 +17,8 @@ ghost use Rattle.oe_rows.specs.Key.{order_cmp};
 ghost use Rattle.oe_rows.specs.declared.orders.Order.{Order};
 ghost use Rattle.oe_model.specs.Keys.{customer_of_order};
 ghost use Rattle.oe_model.specs.Queries.{orders_of};
-ghost use Rattle.oe_table.specs.Table.{place, rows_of, IsBlanked, SetsPlace, RewritesRow};
-ghost use Rattle.oe_index.specs.Listed.{IsListed, ListsMore};
+ghost use Rattle.oe_table.specs.Table.{place, rows_of, GivesUpBlanked, IsBlanked, LosesPlace, SetsPlace, RewritesRow};
+ghost use Rattle.oe_index.specs.Listed.{IsListed, ListsMore, Unlists};
 ghost use Rattle.oe_index.specs.Numbers.{list_of_owner};
 ghost use Rattle.oe_index.specs.Own.{own_of, is_owner};
 
@@ -84,6 +85,14 @@ fn list(
     }
     *is_listed = false;
     Ok(())
+}
+
+// Takes an order off its customer's list.
+fn unlist(lists: &mut Lists<OrderKey>, key: &OrderKey, row: &Order)
+    ensures { Unlists order_cmp lists.old lists.new (list_of_owner key.now row.now) key.now }
+{
+    let owner = key.district_key().customer(row.customer);
+    lists.remove(owner_number(&owner), key);
 }
 
 impl Orders {
@@ -169,6 +178,27 @@ impl Orders {
             ≡ map.remove (rows_of order_cmp self.old) key.now }
     {
         self.rows.blank(key)
+    }
+
+    /// Takes the row at a key that has one, and the key's place. The key is off its customer's list: no walk meets it again.
+    pub fn remove(&mut self, key: &OrderKey) -> Order
+        requires { IsSome (map.get (rows_of order_cmp self.old) key.now) }
+        ensures before { map.get (rows_of order_cmp self.old) key.now ≡ Some result }
+        ensures places { LosesPlace order_cmp self.old self.new key.now }
+        ensures rows { rows_of order_cmp self.new
+            ≡ map.remove (rows_of order_cmp self.old) key.now }
+    {
+        let row = self.rows.remove(key);
+        unlist(&mut self.lists, key, &row);
+        row
+    }
+
+    /// Gives up the places of all blanked keys, which stay listed. It takes no memory.
+    pub fn sweep(&mut self)
+        ensures places { GivesUpBlanked order_cmp self.old self.new }
+        ensures rows { rows_of order_cmp self.new ≡ rows_of order_cmp self.old }
+    {
+        self.rows.sweep();
     }
 
     /// The rows with their keys, in the keys' order.

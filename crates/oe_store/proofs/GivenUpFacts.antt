@@ -17,12 +17,12 @@ use Rattle.oe_model.proofs.PresenceFacts.{some-map}
 use Rattle.oe_store.specs.Places.{Places, GivesUp}
 
 -- a place is left where there is a row in it
-row_is_left : {R : Type 0} (p : Option (Option R)) → IsSome (row_in p) → IsSome (left_of p)
+pub row_is_left : {R : Type 0} (p : Option (Option R)) → IsSome (row_in p) → IsSome (left_of p)
 row_is_left None h = h
 row_is_left (Some None) h = h
 row_is_left (Some (Some x)) h = refl
 
-left_is_row : {R : Type 0} (p : Option (Option R)) → IsSome (left_of p) → IsSome p × IsSome (row_in p)
+pub left_is_row : {R : Type 0} (p : Option (Option R)) → IsSome (left_of p) → IsSome p × IsSome (row_in p)
 left_is_row None h = (h, h)
 left_is_row (Some None) h = (refl, h)
 left_is_row (Some (Some x)) h = (refl, refl)

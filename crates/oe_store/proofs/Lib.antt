@@ -7,3 +7,4 @@ mod ChoiceFacts
 mod GroupFacts
 mod NewestFacts
 mod GivenUpFacts
+mod LostFacts

@@ -1,7 +1,5 @@
 -- What the clauses of this crate cite.
 pub mod Places
-pub mod Dump
-pub mod Walk
 pub mod KeyWalk
 pub mod KeysLeft
 pub mod Newest

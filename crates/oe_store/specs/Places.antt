@@ -1,5 +1,5 @@
 -- What the tables store: the places of each table's keys, and the rows that stand in them.
-use Rattle.std.specs.Prelude.{◌≡◌, ◌↔◌, ◌⊎◌, List, Option, IsSome}
+use Rattle.std.specs.Prelude.{◌≡◌, ◌≢◌, ◌↔◌, ◌⊎◌, List, Option, IsSome}
 use Rattle.std.specs.Int.{IsInRange}
 use Rattle.std.specs.Ordering.{eq_by_cmp}
 use Rattle.std.specs.declared.cmp.Ordering.{Ordering}
@@ -74,6 +74,14 @@ SamePlaces old new = (k : Key) → HasPlace new k ↔ HasPlace old k
 -- and this key
 abbrev pub AddsPlace : Places → Places → Key → Type 0
 AddsPlace old new own = (k : Key) → HasPlace new k ↔ (HasPlace old k ⊎ (k ≡ own))
+
+-- this key has no place any more, and each other key has one as before
+abbrev pub LosesPlace : Places → Places → Key → Type 0
+LosesPlace old new own = (k : Key) → HasPlace new k ↔ (HasPlace old k × (k ≢ own))
+
+-- the keys that have places are those that have rows
+abbrev pub IsSwept : Rows → Places → Type 0
+IsSwept r s = (k : Key) → HasPlace s k ↔ IsSome (row_at r k)
 
 -- a key without a row has no place any more, and each other key has one as before
 abbrev pub GivesUp : Places → Places → Key → Type 0

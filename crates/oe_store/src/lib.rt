@@ -3,7 +3,6 @@
 
 pub mod choices;
 pub mod columns;
-pub mod dumps;
 pub mod inserts;
 pub mod key_walks;
 pub mod purges;
@@ -12,6 +11,5 @@ pub mod undo;
 pub mod updates;
 pub mod walks;
 
-pub use dumps::{Dump, Entry};
 pub use key_walks::KeyWalk;
 pub use tables::{NineTables, Tables};

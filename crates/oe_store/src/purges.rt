@@ -1,6 +1,6 @@
-//! What a purge of old commits gives up of the tables: places of deleted rows that nobody puts back any more.
+//! What a purge of old commits gives up of the tables: places of rows that nobody puts back any more.
 ghost use Rattle.std.specs.Prelude.{◌≡◌};
-ghost use Rattle.oe_store.specs.Places.{rows, GivesUp};
+ghost use Rattle.oe_store.specs.Places.{rows, GivesUp, IsSwept};
 
 use crate::tables::Tables;
 use oe_rows::{Key, NewOrderKey};
@@ -13,5 +13,21 @@ impl Tables {
         ensures places { GivesUp self.old self.new (Key.NewOrder key) }
     {
         self.new_orders.give_up(&key);
+    }
+
+    /// Gives up the place of each key without a row, in all tables. It takes no memory.
+    pub fn sweep(&mut self)
+        ensures rows { rows self.new ≡ rows self.old }
+        ensures places { IsSwept (rows self.old) self.new }
+    {
+        self.warehouses.sweep();
+        self.districts.sweep();
+        self.customers.sweep();
+        self.histories.sweep();
+        self.new_orders.sweep();
+        self.orders.sweep();
+        self.order_lines.sweep();
+        self.items.sweep();
+        self.stocks.sweep();
     }
 }

@@ -2,7 +2,7 @@
 //!
 //! `NineTables` keeps any rows. `Tables` keeps rows that meet the schema, by its invariant: each reference leads to a row (clause
 //! 1.3). So there is no call that sets a row of `Tables` without looking at what refers to it. Only an insert takes memory.
-ghost use Rattle.std.specs.Prelude.{◌≡◌};
+ghost use Rattle.std.specs.Prelude.{◌≡◌, ◌↔◌, IsTrue};
 ghost use Rattle.std.specs.Option.{option_copied};
 ghost use Rattle.std.specs.FinMap.{get, empty};
 ghost use Rattle.oe_store.specs.Numbered.{AreNumbered};
@@ -11,8 +11,8 @@ ghost use Rattle.oe_model.specs.Meets.{Meets};
 
 use oe_index::{Customers, Orders};
 use oe_rows::{
-    Customer, CustomerKey, District, DistrictKey, History, HistoryKey, Item, ItemKey, NewOrder,
-    NewOrderKey, Order, OrderKey, OrderLine, OrderLineKey, Stock, StockKey, Warehouse,
+    Customer, CustomerKey, District, DistrictKey, History, HistoryKey, Item, ItemKey, Key,
+    NewOrder, NewOrderKey, Order, OrderKey, OrderLine, OrderLineKey, Stock, StockKey, Warehouse,
     WarehouseKey,
 };
 use oe_table::shelves::Shelves;
@@ -52,8 +52,8 @@ impl Model for NineTables {
 }
 
 /// The nine tables, whose rows meet the schema (clauses 1.3 and 1.4): each reference finds its row, each warehouse has
-/// ten districts, and each column is in its range. A key that lost its row keeps its place, so that to put a row back
-/// takes no memory.
+/// ten districts, and each column is in its range. A key that lost its row keeps its place until that is given up, so that to put
+/// a row back takes no memory.
 ///
 /// The customers are found by last name too, and the orders by customer.
 #[derive(Drop)]
@@ -102,6 +102,11 @@ impl Model for Tables {
 
 impl Tables {
     ghost use Rattle.oe_store.specs.Places.{no_rows};
+
+    /// Lets go of the tables. A crate above that let them go out of scope would prove the drop of each of their parts again.
+    pub fn discard(self) {
+        drop(self);
+    }
 
     /// Tables without a row.
     pub fn new(alloc: Global) -> Self
@@ -164,6 +169,13 @@ impl Tables {
         ensures { option_copied result ≡ get (rows self.now).histories key }
     {
         self.histories.get(&key)
+    }
+
+    /// Whether a HISTORY key has a place, with a row or blanked.
+    pub fn history_has_place(&self, key: &HistoryKey) -> bool
+        ensures { IsTrue result ↔ HasPlace self.now (Key.History key.now) }
+    {
+        self.histories.has_place(key)
     }
 
     /// The NEW-ORDER row of a key, if it has one.

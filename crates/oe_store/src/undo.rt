@@ -1,10 +1,10 @@
-//! The undo of changes: an insert's row is taken back, an update's row before is put back, and a deleted row refilled.
-//! None takes memory.
+//! The undo of changes: an insert's row is taken back, or removed with its key's place; an update's row before is put back, and a
+//! deleted row refilled. None takes memory.
 ghost use Rattle.std.specs.Prelude.{◌≡◌, Some, None, IsSome};
 ghost use Rattle.std.specs.FinMap.{get};
 ghost use Rattle.oe_model.specs.Changes.{put_back, InsertedHistory, InsertedNewOrder, InsertedOrder, InsertedOrderLine, UpdatedWarehouse, UpdatedDistrict, UpdatedCustomer, UpdatedOrder, UpdatedOrderLine, UpdatedStock, DeletedNewOrder};
 ghost use Rattle.oe_model.specs.Meets.{Meets};
-ghost use Rattle.oe_store.specs.Places.{rows, HasPlace, SamePlaces};
+ghost use Rattle.oe_store.specs.Places.{rows, HasPlace, LosesPlace, SamePlaces};
 
 use crate::tables::Tables;
 use oe_rows::{
@@ -55,6 +55,50 @@ impl Tables {
         ensures places { SamePlaces self.old self.new }
     {
         self.order_lines.blank(&key)
+    }
+
+    /// Removes an inserted HISTORY row and its key's place, where nothing refers to the row, and answers it.
+    pub fn remove_history(&mut self, key: HistoryKey) -> History
+        requires there { IsSome (get (rows self.old).histories key) }
+        requires schema { Meets (put_back (InsertedHistory key None) (rows self.old)) }
+        ensures before { get (rows self.old).histories key ≡ Some result }
+        ensures rows { rows self.new ≡ put_back (InsertedHistory key None) (rows self.old) }
+        ensures places { LosesPlace self.old self.new (Key.History key) }
+    {
+        self.histories.remove(&key)
+    }
+
+    /// Removes an inserted NEW-ORDER row and its key's place, where nothing refers to the row, and answers it.
+    pub fn remove_new_order(&mut self, key: NewOrderKey) -> NewOrder
+        requires there { IsSome (get (rows self.old).new_orders key) }
+        requires schema { Meets (put_back (InsertedNewOrder key None) (rows self.old)) }
+        ensures before { get (rows self.old).new_orders key ≡ Some result }
+        ensures rows { rows self.new ≡ put_back (InsertedNewOrder key None) (rows self.old) }
+        ensures places { LosesPlace self.old self.new (Key.NewOrder key) }
+    {
+        self.new_orders.remove(&key)
+    }
+
+    /// Removes an inserted ORDER row and its key's place, where nothing refers to the row, and answers it.
+    pub fn remove_order(&mut self, key: OrderKey) -> Order
+        requires there { IsSome (get (rows self.old).orders key) }
+        requires schema { Meets (put_back (InsertedOrder key None) (rows self.old)) }
+        ensures before { get (rows self.old).orders key ≡ Some result }
+        ensures rows { rows self.new ≡ put_back (InsertedOrder key None) (rows self.old) }
+        ensures places { LosesPlace self.old self.new (Key.Order key) }
+    {
+        self.orders.remove(&key)
+    }
+
+    /// Removes an inserted ORDER-LINE row and its key's place, where nothing refers to the row, and answers it.
+    pub fn remove_order_line(&mut self, key: OrderLineKey) -> OrderLine
+        requires there { IsSome (get (rows self.old).order_lines key) }
+        requires schema { Meets (put_back (InsertedOrderLine key None) (rows self.old)) }
+        ensures before { get (rows self.old).order_lines key ≡ Some result }
+        ensures rows { rows self.new ≡ put_back (InsertedOrderLine key None) (rows self.old) }
+        ensures places { LosesPlace self.old self.new (Key.OrderLine key) }
+    {
+        self.order_lines.remove(&key)
     }
 
     /// Puts the WAREHOUSE row before an update back in its place, and answers the row that stood there.

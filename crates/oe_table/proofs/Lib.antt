@@ -7,4 +7,6 @@ pub mod ShelvesFacts
 mod RangeFacts
 mod PassedFacts
 mod GivenUpFacts
+mod SweepFacts
+pub mod TakenOutFacts
 mod FrontFacts

@@ -57,6 +57,11 @@ module _ {K X : Type 0} (cmp : K → K → Ordering) where
   AreShelves shelf_of n (s ∷ ss) =
       IsAscending s × AllByRecursion (λ k. shelf_of k ≡ n) (keys_of s) × AreShelves shelf_of (suc n) ss
 
+-- the shelf without the key's place
+abbrev pub without : {K X : Type 0} → (K → K → Ordering) → List (K × X) → K → List (K × X)
+without cmp [] key = []
+without cmp (e ∷ s) key = cond (is_at (cmp key) e.0) s (e ∷ without cmp s key)
+
 -- the shelf without the key's place, where that is blanked
 abbrev pub without_blanked : {K R : Type 0} → (K → K → Ordering) → List (K × Option R) → K → List (K × Option R)
 without_blanked cmp [] key = []

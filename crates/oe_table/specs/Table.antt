@@ -1,5 +1,5 @@
 -- A table is seen as the list of its places, in the keys' order: each has a row, or is blanked.
-use Rattle.std.specs.Prelude.{◌≡◌, cond, List, [], ◌∷◌, Option, None, Some}
+use Rattle.std.specs.Prelude.{◌≡◌, cond, filter, List, [], ◌∷◌, Option, None, Some, is_some}
 use Rattle.std.specs.declared.cmp.Ordering.{Ordering}
 use Rattle.std.specs.BTreeMap.{is_at}
 use Rattle.std.specs.Map.{lookup}
@@ -15,6 +15,10 @@ abbrev pub live : {K R : Type 0} → List (K × Option R) → List (K × R)
 live [] = []
 live ((key, None) ∷ t) = live t
 live ((key, Some row) ∷ t) = (key, row) ∷ live t
+
+-- the places that have a row
+abbrev pub with_rows : {K R : Type 0} → List (K × Option R) → List (K × Option R)
+with_rows t = filter (λ e. is_some e.1) t
 
 -- what is left of a place where a blanked one is given up
 abbrev pub left_of : {R : Type 0} → Option (Option R) → Option (Option R)
@@ -42,6 +46,14 @@ module _ {K R : Type 0} (cmp : K → K → Ordering) where
   -- a blanked key has no place any more; a row, and each other key's place, is as before
   abbrev pub GivesUpPlace : List (K × Option R) → List (K × Option R) → K → Type 0
   GivesUpPlace old new key = (other : K) → place new other ≡ cond (is_at (cmp key) other) (left_of (place old key)) (place old other)
+
+  -- no blanked key has a place any more, and each row stays in its own
+  abbrev pub GivesUpBlanked : List (K × Option R) → List (K × Option R) → Type 0
+  GivesUpBlanked old new = (key : K) → place new key ≡ left_of (place old key)
+
+  -- the key has no place any more, and each other key's is as before
+  abbrev pub LosesPlace : List (K × Option R) → List (K × Option R) → K → Type 0
+  LosesPlace old new key = (other : K) → place new other ≡ cond (is_at (cmp key) other) None (place old other)
 
   -- the rows, as a finite map
   abbrev pub rows_of : List (K × Option R) → FinMap cmp R

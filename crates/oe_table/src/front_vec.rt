@@ -4,6 +4,8 @@
 //! so to take out n first elements costs in proportion to n. Only `insert` and `push` take memory.
 ghost use Rattle.std.specs.Prelude.{◌≡◌, ◌<◌, ◌≤◌, List, [], ◌∷◌, ◌++◌, OnOk, OnErr, length, drop, slice_index_or};
 ghost use Rattle.std.specs.List.{insert, remove};
+ghost use Rattle.std.specs.List.Retain.{IsFiltered};
+ghost use Rattle.std.specs.Fn.{CalledAt};
 ghost use Rattle.std.specs.Borrow.{sem};
 
 use oe_values::NoMemory;
@@ -121,5 +123,15 @@ impl<T: Drop> FrontVec<T> {
     {
         cut_front(&mut self.all, self.gone);
         self.gone = 0;
+    }
+
+    /// Takes those elements out that the test does not keep.
+    pub(crate) fn retain<F: FnMut(&T) -> bool>(&mut self, keeps: F)
+        requires { F.IsAlwaysCallable keeps }
+        ensures { IsFiltered (CalledAt F.FnMut) keeps self.old self.new }
+    {
+        cut_front(&mut self.all, self.gone);
+        self.gone = 0;
+        self.all.retain(keeps);
     }
 }

@@ -3,12 +3,12 @@
 //! That the keys ascend is asked of each call and is the invariant of the table that has the shelf. By its own invariant a shelf
 //! knows of some slots at its beginning that they are blanked, so that a walk over rows can pass them. Only `put` takes memory, for
 //! a key without a place; where that is refused the shelf is as before.
-ghost use Rattle.std.specs.Prelude.{◌≡◌, ◌+◌, ◌<◌, ◌≤◌, ◌↔◌, Some, None, List, Option, [], Err, IsTrue, OnOk, OnErr, length, take};
-ghost use Rattle.std.specs.List.{insert, remove};
+ghost use Rattle.std.specs.Prelude.{◌≡◌, ◌+◌, ◌<◌, ◌≤◌, ◌↔◌, Some, None, List, Option, [], Err, IsTrue, OnOk, OnErr, is_some, length, take};
+ghost use Rattle.std.specs.List.{insert, list_all, remove};
 ghost use Rattle.std.specs.Option.{option_copied, option_copied_mut, ForSome};
 ghost use Rattle.std.specs.Borrow.{sem};
-ghost use Rattle.oe_table.specs.Table.{place, live};
-ghost use Rattle.oe_table.specs.Shelf.{IsAscending, StandsAt, IsFound, put_at, lower, upper, without_blanked};
+ghost use Rattle.oe_table.specs.Table.{place, live, with_rows};
+ghost use Rattle.oe_table.specs.Shelf.{IsAscending, StandsAt, IsFound, put_at, lower, upper, without, without_blanked};
 
 use crate::front_vec::FrontVec;
 use oe_values::{NoMemory, ShelvedKey};
@@ -106,6 +106,13 @@ impl<K, R> Shelf<K, R> {
         passed
     }
 
+    // Whether each slot has a row.
+    fn has_rows_alone(&self) -> bool
+        ensures { result ≡ list_all (λ e. is_some e.1) self.now }
+    {
+        self.slots().iter().all(|slot| slot.content.is_some())
+    }
+
     /// Passes the slots at the beginning that have no row, so that no walk over rows meets them again.
     pub(crate) fn pass_blanked(&mut self)
         ensures { self.new ≡ self.old }
@@ -120,6 +127,17 @@ fn passed_without(passed: usize, at: usize) -> usize
     ensures after { passed ≤ at → result ≡ passed }
 {
     if at < passed { passed - 1 } else { passed }
+}
+
+// Takes the slots out that have no row.
+fn keep_rows<K: Drop, R: Drop>(slots: &mut FrontVec<Slot<K, R>>)
+    ensures { slots.new ≡ with_rows slots.old }
+{
+    slots.retain(
+        |slot: &Slot<K, R>| -> bool
+            ensures { result ≡ is_some slot.now.1 }
+        { slot.content.is_some() },
+    );
 }
 
 // Where a key stands, or would stand, among slots whose keys ascend.
@@ -210,11 +228,17 @@ impl<K: ShelvedKey, R> Shelf<K, R> {
 
     // About where the key may stand, if keys lie between the first and the last one as evenly as their numbers.
     fn guess(&self, key: &K) -> Option<usize> {
-        let first = self.slots().first()?.key.place();
-        let last = self.slots().last()?.key.place();
+        let slots = self.slots();
+        let (Some(first), Some(last)) = (slots.first(), slots.last()) else {
+            return None;
+        };
+        let first = first.key.place();
         let ahead = key.place().wrapping_sub(first);
-        let span = last.wrapping_sub(first);
-        ahead.checked_mul(self.slots().len())?.checked_div(span)
+        let span = last.key.place().wrapping_sub(first);
+        match ahead.checked_mul(slots.len()) {
+            Some(scaled) => scaled.checked_div(span),
+            None => None,
+        }
     }
 
     // Where a key stands, or would stand, if the slots about the place that is guessed tell.
@@ -283,8 +307,10 @@ impl<K: ShelvedKey, R> Shelf<K, R> {
         ensures { option_copied result ≡ place K.cmp self.now key.now }
     {
         let at = self.position(key);
-        let slot = self.slots().get(at)?;
-        Some(&slot.content)
+        match self.slots().get(at) {
+            Some(slot) => Some(&slot.content),
+            None => None,
+        }
     }
 
     /// What stands at a key, to be changed there.
@@ -398,6 +424,35 @@ impl<K: ShelvedKey, R> Shelf<K, R> {
             return;
         }
         self.remove(at);
+    }
+
+    /// Takes a key's slot out, whatever stands in it. Where the key has no place, nothing changes.
+    pub fn take_out(&mut self, key: &K)
+    where
+        K: Drop,
+        R: Drop,
+        requires { IsAscending K.cmp self.old }
+        ensures { self.new ≡ without K.cmp self.old key.now }
+    {
+        let at = self.position(key);
+        if at >= self.slots().len() {
+            return;
+        }
+        self.remove(at);
+    }
+
+    /// Gives up the places of all blanked keys. It writes nothing where none is blanked.
+    pub(crate) fn sweep(&mut self)
+    where
+        K: Drop,
+        R: Drop,
+        ensures { self.new ≡ with_rows self.old }
+    {
+        if self.has_rows_alone() {
+            return;
+        }
+        keep_rows(&mut self.slots);
+        self.blanked = 0;
     }
 
     // Takes a slot out.

@@ -46,8 +46,10 @@ impl<'a, K, R> Iterator for Slots<'a, K, R> {
                 return Some(slot.parts());
             }
         }
-        let slot = self.back.next()?;
-        Some(slot.parts())
+        match self.back.next() {
+            Some(slot) => Some(slot.parts()),
+            None => None,
+        }
     }
 }
 

@@ -4,7 +4,7 @@
 //! is a place between two slots, from which walks begin and at which they end. A walk over rows passes what is blanked at the
 //! beginning of its first shelf, and so goes over no row that was taken before all others. Only `put_new` takes memory, for a key without a
 //! place and for the shelves up to its own; where that is refused the table is as before.
-ghost use Rattle.std.specs.Prelude.{◌≡◌, ◌+◌, ◌<◌, ◌≤◌, ℕ, Some, None, OnOk, OnErr, IsSome, IsTrue, ◌↔◌, List, [], ◌++◌, Option, vec_len, replicate, length, slice_index_or, take, drop};
+ghost use Rattle.std.specs.Prelude.{◌≡◌, ◌+◌, ◌<◌, ◌≤◌, ℕ, Some, None, OnOk, OnErr, IsSome, IsTrue, ◌↔◌, List, [], ◌++◌, Option, map as each, vec_len, replicate, length, slice_index_or, take, drop};
 ghost use Rattle.std.specs.List.Sorted.{IsStrictlySortedBy};
 ghost use Rattle.std.specs.Map.{keys_of};
 ghost use Rattle.std.specs.BTreeMap.Range.{IsLeBy, entries_between};
@@ -13,7 +13,7 @@ ghost use Rattle.std.specs.FinMap.{entries};
 ghost use Rattle.std.specs.Option.{option_copied, option_copied_mut};
 ghost use Rattle.std.specs.Borrow.{sem};
 ghost use Rattle.std.specs.FinMap as map;
-ghost use Rattle.oe_table.specs.Table.{place, live, rows_of, IsBlanked, SetsPlace, GivesUpPlace};
+ghost use Rattle.oe_table.specs.Table.{place, live, rows_of, with_rows, IsBlanked, SetsPlace, GivesUpPlace, GivesUpBlanked, LosesPlace};
 ghost use Rattle.oe_table.specs.Shelf.{joined, AreShelves, lower, upper, cut_between};
 
 use crate::shelf::{Shelf, Slot};
@@ -59,6 +59,15 @@ pub fn reach<K: Drop, R: Drop>(
         }
     }
     Ok(())
+}
+
+// Sweeps each shelf.
+fn sweep_each<K: ShelvedKey + Drop, R: Drop>(shelves: &mut Vec<Shelf<K, R>>)
+    ensures { shelves.new.items ≡ each with_rows shelves.old.items }
+{
+    for number in 0..shelves.len() {
+        shelves[number].sweep();
+    }
 }
 
 // A place between two slots: a shelf, and how many of its slots stand before.
@@ -264,7 +273,10 @@ impl<K: ShelvedKey, R> Shelves<K, R> {
         ensures { option_copied result ≡ place K.cmp self.now key.now }
     {
         let number = key.shelf();
-        self.shelves.get(number)?.slot(key)
+        match self.shelves.get(number) {
+            Some(shelf) => shelf.slot(key),
+            None => None,
+        }
     }
 
     // What stands at a key, to be changed there.
@@ -291,6 +303,13 @@ impl<K: ShelvedKey, R> Shelves<K, R> {
         ensures { IsTrue result ↔ IsBlanked K.cmp self.now key.now }
     {
         matches!(self.slot(key), Some(None))
+    }
+
+    /// Whether a key has a place, with a row or blanked.
+    pub fn has_place(&self, key: &K) -> bool
+        ensures { IsTrue result ↔ IsSome (place K.cmp self.now key.now) }
+    {
+        self.slot(key).is_some()
     }
 
     /// Puts a row at a key that has none.
@@ -385,6 +404,32 @@ impl<K: ShelvedKey, R> Shelves<K, R> {
             return;
         };
         shelf.give_up(key);
+    }
+
+    /// Takes the row at a key that has one, and the key's place.
+    pub fn remove(&mut self, key: &K) -> R
+    where
+        K: Drop,
+        R: Drop,
+        requires { IsSome (map.get (rows_of K.cmp self.old) key.now) }
+        ensures before { map.get (rows_of K.cmp self.old) key.now ≡ Some result }
+        ensures places { LosesPlace K.cmp self.old self.new key.now }
+        ensures rows { rows_of K.cmp self.new ≡ map.remove (rows_of K.cmp self.old) key.now }
+    {
+        let taken = self.blank(key);
+        self.give_up(key);
+        taken
+    }
+
+    /// Gives up the places of all blanked keys. It takes no memory, and writes none of a shelf on which no key is blanked.
+    pub fn sweep(&mut self)
+    where
+        K: Drop,
+        R: Drop,
+        ensures places { GivesUpBlanked K.cmp self.old self.new }
+        ensures rows { rows_of K.cmp self.new ≡ rows_of K.cmp self.old }
+    {
+        sweep_each(&mut self.shelves);
     }
 
     /// The rows with their keys, in the keys' order.

@@ -1,0 +1,7 @@
+use Rattle.oe_index.proofs.orders.Orders.sweep.Goals as goal
+
+pub invariant_of-self : goal.invariant_of-self
+invariant_of-self c = rw c.sweep.ensures.rows c.self.invariant
+
+pub returns-clause-places : goal.returns-clause-places
+returns-clause-places c = rw (← c.self.view_is) c.sweep.ensures.places
