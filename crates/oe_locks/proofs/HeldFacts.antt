@@ -1,5 +1,5 @@
 -- What is held, by the map from names to holders, and what stands on the terminals' lists.
-use Rattle.std.proofs.Common.{◌≡◌, ◌≢◌, ℕ, suc, ◌+◌, ◌<◌, ◌==◌, inl, inr, Bool, true, false, not, ◌||◌, cond, if◌then◌else◌, List, [], ◌∷◌, ◌++◌, map, length, get_or, set, Option, None, Some, IsSome, is_some, refl, sym, ap, ◌∙◌, subst, arith, add-one}
+use Rattle.std.proofs.Common.{◌≡◌, ◌≢◌, ℕ, ◌<◌, ◌≤◌, ◌==◌, inl, inr, Bool, true, false, not, ◌||◌, cond, if◌then◌else◌, List, [], ◌∷◌, ◌++◌, map, length, get_or, set, Option, None, Some, IsSome, is_some, refl, sym, ap, ◌∙◌, subst}
 use Rattle.std.proofs.lemmas.Bool.{cases_eq, cond-true, cond-false, eq-eqb, ne_eqb, false≢true}
 use Rattle.std.proofs.lemmas.List.{length-map, map-set, get_or-map, get_or-set_same, get_or-set_other}
 use Rattle.std.specs.Prelude.{MatchOption, OnOk, OnErr, IfOk, IfNone}
@@ -165,38 +165,36 @@ stands-filter (x ∷ xs) n q e = go (is_name x n) refl (stands-filter xs n q e)
     go true s ih = ih ∙ sym (ap (λ z. z || stands xs q) (ap (is_name q) (name_true x n s) ∙ e))
 
 -- the lists of all terminals
-module _ (xs : List (Vec Name)) (i t : ℕ) (v : Vec Name) (slot : i + 1 ≡ t) (within : i < length xs) where
+module _ (xs : List (Vec Name)) (t : ℕ) (v : Vec Name) (low : 1 ≤ t) (within : t < length xs) where
   abbrev names : List (Vec Name) → List (List Name)
   names ys = map (λ w. w.items) ys
 
   -- a terminal's list
-  pub listed-at : (locks : Holdings) → v ≡ get_or xs i v → AreListed locks xs → IsListed locks t v.items
+  pub listed-at : (locks : Holdings) → v ≡ get_or xs t v → AreListed locks xs → IsListed locks t v.items
   listed-at locks is all q h =
-      let here : get_or (names xs) i [] ≡ v.items = get_or-map (λ w. w.items) xs i v [] within ∙ ap (λ w. w.items) (sym is) in
-      ap (λ u. held locks u q) (sym slot ∙ add-one i) ∙ all i q (ap (λ l. stands l q) here ∙ h)
+      let here : get_or (names xs) t [] ≡ v.items = get_or-map (λ w. w.items) xs t v [] within ∙ ap (λ w. w.items) (sym is) in
+      all t low q (ap (λ l. stands l q) here ∙ h)
 
   -- one terminal's list and names have changed
-  pub listed-set : (old new : Holdings) → AreListed old xs → OthersKeep old new t → IsListed new t v.items → AreListed new (set xs i v)
-  listed-set old new all others own j q h = elim (cases_eq j i) [
+  pub listed-set : (old new : Holdings) → AreListed old xs → OthersKeep old new t → IsListed new t v.items → AreListed new (set xs t v)
+  listed-set old new all others own j first q h = elim (cases_eq j t) [
     | inl e ↦
-        let room : i < length (names xs) = subst (λ n. i < n) (sym (length-map xs (λ w. w.items))) within in
-        let here : get_or (names (set xs i v)) j [] ≡ v.items =
-        ap (λ k. get_or (names (set xs i v)) k []) e
-        ∙ (ap (λ l. get_or l i []) (map-set (λ w. w.items) xs i v) ∙ get_or-set_same (names xs) i v.items [] room)
+        let room : t < length (names xs) = subst (λ n. t < n) (sym (length-map xs (λ w. w.items))) within in
+        let here : get_or (names (set xs t v)) j [] ≡ v.items =
+        ap (λ k. get_or (names (set xs t v)) k []) e
+        ∙ (ap (λ l. get_or l t []) (map-set (λ w. w.items) xs t v) ∙ get_or-set_same (names xs) t v.items [] room)
         in
-        let at : suc j ≡ t = omega arith in
-        ap (λ u. held new u q) at ∙ own q (sym (ap (λ l. stands l q) here) ∙ h)
+        ap (λ u. held new u q) e ∙ own q (sym (ap (λ l. stands l q) here) ∙ h)
     | inr ne ↦
-        let there : get_or (names (set xs i v)) j [] ≡ get_or (names xs) j [] = ap (λ l. get_or l j []) (map-set (λ w. w.items) xs i v) ∙ get_or-set_other (names xs) i j v.items [] ne in
-        let apart : suc j ≢ t = omega arith in
-        others (suc j) apart q ∙ all j q (sym (ap (λ l. stands l q) there) ∙ h)
+        let there : get_or (names (set xs t v)) j [] ≡ get_or (names xs) j [] = ap (λ l. get_or l j []) (map-set (λ w. w.items) xs t v) ∙ get_or-set_other (names xs) t j v.items [] ne in
+        others j ne q ∙ all j first q (sym (ap (λ l. stands l q) there) ∙ h)
   ]
 
 -- names that stay on their lists
 pub listed-kept : (xs : List (Vec Name)) (old new : Holdings) (t : ℕ) → OthersKeep old new t → ((q : Name) → held old t q ≡ None → held new t q ≡ None) → AreListed old xs → AreListed new xs
-listed-kept xs old new t others own all j q h = elim (cases_eq (suc j) t) [
-  | inl e ↦ ap (λ u. held new u q) e ∙ own q (ap (λ u. held old u q) (sym e) ∙ all j q h)
-  | inr ne ↦ others (suc j) ne q ∙ all j q h
+listed-kept xs old new t others own all j first q h = elim (cases_eq j t) [
+  | inl e ↦ ap (λ u. held new u q) e ∙ own q (ap (λ u. held old u q) (sym e) ∙ all j first q h)
+  | inr ne ↦ others j ne q ∙ all j first q h
 ]
 
 -- a name that was given back is off the list

@@ -1,5 +1,5 @@
 -- The names that each terminal holds stand on its list.
-use Rattle.std.specs.Prelude.{◌≡◌, ℕ, suc, Bool, false, None, Some, List, [], ◌∷◌, ◌++◌, ◌||◌, get_or, map}
+use Rattle.std.specs.Prelude.{◌≡◌, ◌≤◌, ℕ, Bool, false, None, Some, List, [], ◌∷◌, ◌++◌, ◌||◌, get_or, map}
 use Rattle.std.specs.Global.{Vec}
 use Rattle.oe_rows.specs.declared.locks.Name.{Name}
 use Rattle.oe_locks.specs.declared.holders.Holders.{Holders}
@@ -15,9 +15,9 @@ stands (x ∷ xs) q = is_name q x || stands xs q
 abbrev pub IsListed : Holdings → ℕ → List Name → Type 0
 IsListed locks t names = (q : Name) → stands names q ≡ false → held locks t q ≡ None
 
--- each terminal, from the first on, holds no name but those of its list
+-- each terminal holds no name but those of its list; the first list is nobody's
 abbrev pub AreListed : Holdings → List (Vec Name) → Type 0
-AreListed locks lists = (i : ℕ) → IsListed locks (suc i) (get_or (map (λ v. v.items) lists) i [])
+AreListed locks lists = (t : ℕ) → 1 ≤ t → IsListed locks t (get_or (map (λ v. v.items) lists) t [])
 
 -- a name has come into the map with those holders, and at the end of a list
 abbrev pub Enters : Holdings → Holdings → List Name → List Name → Name → Holders → Type 0

@@ -6,10 +6,9 @@
 //! only for a name that a terminal does not hold yet.
 #![tactic(auto)]
 
-ghost use Rattle.std.specs.Prelude.{◌≡◌, ◌≢◌, ◌+◌, ◌<◌, [], ◌++◌, ◌∷◌, ℕ, not, MatchOption, OnOk, OnErr, IfOk, IfErr, IfNone, IsSome, Some, None};
+ghost use Rattle.std.specs.Prelude.{◌≡◌, ◌≢◌, [], ◌++◌, ◌∷◌, ℕ, not, MatchOption, OnOk, OnErr, IfOk, IfErr, IfNone, IsSome, Some, None};
 ghost use Rattle.std.specs.List.{filter};
 ghost use Rattle.std.specs.Map.{lookup};
-ghost use Rattle.oe_values.specs.declared.numbers.TheConstants.{TERMINALS};
 ghost use Rattle.oe_rows.specs.contracts.locks.NamePartialEq.TheImpl.{ghosts};
 ghost use Rattle.oe_requests.specs.declared.refusals.Refusal.TheVariants.{NoMemory};
 ghost use Rattle.oe_locks.specs.Held.{held, is_name, IsIdle, IsFreeFor, IsInTheWay, Takes, GivesBack, HoldsNothing, OthersKeep, IsCause, IsBelow};
@@ -25,7 +24,7 @@ use holders::Holders;
 use name_map::NameMap;
 use oe_requests::Refusal;
 use oe_rows::{Mode, Name};
-use oe_values::{TERMINALS, Terminal};
+use oe_values::{PerTerminal, TERMINALS, Terminal};
 use std::alloc::{AllocError, Global};
 use std::marker::Model;
 
@@ -34,13 +33,11 @@ use std::marker::Model;
 pub struct Locks {
     // Who holds each name that is held.
     holders: NameMap,
-    // Lists on which all names stand that a terminal holds, from the first terminal on.
-    names: Vec<Vec<Name>>,
+    // Lists on which all names stand that a terminal holds.
+    names: PerTerminal<Vec<Name>>,
 }
 
 impl Model for Locks {
-    ghost use Rattle.std.specs.Prelude.{◌≡◌, vec_len};
-    ghost use Rattle.oe_values.specs.declared.numbers.TheConstants.{TERMINALS};
     ghost use Rattle.oe_locks.specs.Held.{Holdings};
     ghost use Rattle.oe_locks.specs.Listed.{AreListed};
 
@@ -48,16 +45,7 @@ impl Model for Locks {
 
     ghost view = { λ s. s.holders };
 
-    ghost invariant = { λ s. (vec_len s.names ≡ TERMINALS) × AreListed s.holders s.names.items };
-}
-
-// Where the terminal's names are.
-#[inline(always)]
-fn slot(terminal: Terminal) -> usize
-    ensures value { result + 1 ≡ terminal }
-    ensures within { result < TERMINALS }
-{
-    terminal.get() as usize - 1
+    ghost invariant = { λ s. AreListed s.holders s.names };
 }
 
 // The terminal is no longer among those who hold the name. A name that nobody holds is no longer kept.
@@ -177,14 +165,19 @@ impl Locks {
     pub fn new(alloc: Global) -> Result<Self, AllocError>
         ensures { IfOk result IsIdle }
     {
-        let mut names = Vec::with_capacity(alloc, TERMINALS as usize)?;
-        for _ in 0..TERMINALS {
+        let mut names = Vec::with_capacity(alloc, TERMINALS as usize + 1)?;
+        for _ in 0..TERMINALS + 1 {
             names.push(Vec::new(alloc))?;
         }
         Ok(Locks {
             holders: NameMap::new(alloc),
-            names,
+            names: PerTerminal::of(names),
         })
+    }
+
+    /// Lets go of the locks. A crate above that let them go out of scope would prove the drop of each of their parts again.
+    pub fn discard(self) {
+        drop(self);
     }
 
     /// The mode in which the terminal holds the name, or `None` where it does not hold it.
@@ -228,7 +221,7 @@ impl Locks {
         ensures cause { IfErr result (λ e. e ≡ NoMemory) }
         ensures err { OnErr result (self.new ≡ self.old) }
     {
-        let names = &mut self.names[slot(terminal)];
+        let names = self.names.at_mut(terminal);
         join(&mut self.holders, names, name, after)
     }
 
@@ -251,7 +244,7 @@ impl Locks {
         ensures absent { OnErr result ((u : ℕ) → held self.old u name.now ≡ None) }
         ensures err { OnErr result (self.new ≡ self.old) }
     {
-        let names = &mut self.names[slot(terminal)];
+        let names = self.names.at_mut(terminal);
         enter(&mut self.holders, names, name, Holders::one(terminal, mode))
     }
 
@@ -327,7 +320,7 @@ impl Locks {
             Some(mode) => self.change(&name, terminal, Holders::one(terminal, mode)),
             None => {
                 leave(&mut self.holders, &name, terminal);
-                strike(&mut self.names[slot(terminal)], &name);
+                strike(self.names.at_mut(terminal), &name);
             }
         }
     }
@@ -338,7 +331,7 @@ impl Locks {
         ensures own { HoldsNothing self.new terminal }
         ensures others { OthersKeep self.old self.new terminal }
     {
-        let names = &mut self.names[slot(terminal)];
+        let names = self.names.at_mut(terminal);
         leave_all(&mut self.holders, names, terminal);
     }
 }

@@ -40,9 +40,10 @@ impl Log {
         ensures sealed { self.new ≡ sealed self.old segment request.value reply.value }
         ensures moment { result ≡ total_count self.old + 1 }
     {
-        let slot = segment.terminal().get() as usize;
+        let terminal = segment.terminal();
+        let slot = terminal.get() as usize;
         let moment = Moment::new(self.newest.get() + 1).unwrap();
-        let state = &mut self.terminals[slot];
+        let state = self.terminals.at_mut(terminal);
         let Some(owner) = state.active.take() else {
             unreachable!()
         };
@@ -91,7 +92,7 @@ impl Log {
         let owner = head.owner();
         let terminal = owner.terminal;
         let slot = terminal.get() as usize;
-        let state = &mut self.terminals[slot];
+        let state = self.terminals.at_mut(terminal);
         state.count -= 1;
         state.active = Some(owner);
         state.deletes = head.may_delete();

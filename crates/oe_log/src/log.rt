@@ -11,7 +11,7 @@ ghost use Rattle.oe_log.specs.Kept.{idle_heads};
 use crate::heads::{CommitHead, TerminalHead};
 use oe_extent::Ring;
 use oe_values::numbers::{Moment, Number, TERMINALS, Terminal};
-use oe_values::{ExtentCount, NoMemory};
+use oe_values::{ExtentCount, NoMemory, PerTerminal};
 use std::alloc::Global;
 use std::collections::VecDeque;
 use std::marker::Model;
@@ -56,8 +56,7 @@ impl Segment {
 pub struct Log {
     // The records. Its slots are the terminals' numbers; 0 is nobody's.
     pub(crate) ring: Ring,
-    // By the terminals' numbers.
-    pub(crate) terminals: Vec<TerminalHead>,
+    pub(crate) terminals: PerTerminal<TerminalHead>,
     // The newest first, each beside its records in the ring. It has room for the commit of each open segment.
     pub(crate) commits: VecDeque<CommitHead>,
     pub(crate) open_count: usize,
@@ -71,15 +70,15 @@ impl Model for Log {
 
     ghost Value = { SegmentLog };
 
-    ghost view = { λ s. stored s.terminals.items s.commits.items s.ring };
+    ghost view = { λ s. stored s.terminals s.commits.items s.ring };
 
-    ghost invariant = { λ s. IsKept s.terminals.items s.commits.items (deque_capacity s.commits)
+    ghost invariant = { λ s. IsKept s.terminals s.commits.items (deque_capacity s.commits)
         s.ring s.open_count s.newest };
 }
 
 /// The terminals before anything was committed.
-fn idle_heads(alloc: Global) -> Result<Vec<TerminalHead>, NoMemory>
-    ensures { IfOk result (λ v. v.items ≡ idle_heads) }
+fn idle_heads(alloc: Global) -> Result<PerTerminal<TerminalHead>, NoMemory>
+    ensures { IfOk result (λ heads. heads ≡ idle_heads) }
 {
     let Ok(mut terminals) = Vec::with_capacity(alloc, TERMINALS as usize + 1) else {
         return Err(NoMemory);
@@ -92,7 +91,7 @@ fn idle_heads(alloc: Global) -> Result<Vec<TerminalHead>, NoMemory>
             len: 0,
         });
     }
-    Ok(terminals)
+    Ok(PerTerminal::of(terminals))
 }
 
 impl Log {

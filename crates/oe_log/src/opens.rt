@@ -49,7 +49,7 @@ impl Log {
         ensures segment { IfOk result (λ s. s ≡ terminal) }
         ensures err { OnErr result (self.new ≡ self.old) }
     {
-        let slot = terminal.get() as usize;
+        let count = self.terminals.at(terminal).count;
         let needed = self.open_count + 1;
         if self.ring.reserve(needed).is_err() {
             return Err(NoMemory);
@@ -57,8 +57,8 @@ impl Log {
         if self.commits.reserve(needed).is_err() {
             return Err(NoMemory);
         }
-        let state = &mut self.terminals[slot];
-        let number = TransactionNumber::new(state.count + 1).unwrap();
+        let number = TransactionNumber::new(count + 1).unwrap();
+        let state = self.terminals.at_mut(terminal);
         state.active = Some(SegmentOwner { terminal, number });
         state.deletes = false;
         self.open_count = needed;
@@ -71,7 +71,7 @@ impl Log {
         requires empty { records_at self.old segment ≡ [] }
         ensures { self.new ≡ dropped self.old segment }
     {
-        let state = &mut self.terminals[segment.terminal().get() as usize];
+        let state = self.terminals.at_mut(segment.terminal());
         state.active = None;
         self.open_count -= 1;
     }
@@ -89,7 +89,8 @@ impl Log {
             (record_length (record_of_lent lent.now.record)) }
         ensures fresh { IfOk result (IsFresh self.old) }
     {
-        let slot = segment.terminal().get() as usize;
+        let terminal = segment.terminal();
+        let slot = terminal.get() as usize;
         lent.ranges();
         let _length = lent.length();
         let pushed = self.ring.push(slot, lent);
@@ -97,7 +98,7 @@ impl Log {
             return Err(Full);
         };
         let _extents = self.ring.extents();
-        let state = &mut self.terminals[slot];
+        let state = self.terminals.at_mut(terminal);
         state.deletes = may_delete(state.deletes, &lent.record);
         state.len += 1;
         Ok(record_address(address))
@@ -109,7 +110,7 @@ impl Log {
         ensures { result
             ≡ record { terminal = segment; number = suc (count_at self.now segment) } }
     {
-        match self.terminals[segment.terminal().get() as usize].active {
+        match self.terminals.at(segment.terminal()).active {
             Some(owner) => owner,
             None => unreachable!(),
         }
@@ -120,7 +121,7 @@ impl Log {
         requires { IsSome (active_at self.now segment) }
         ensures { result ≡ length (records_at self.now segment) }
     {
-        self.terminals[segment.terminal().get() as usize].len
+        self.terminals.at(segment.terminal()).len
     }
 
     /// The newest record of an open segment, with what leads to the previous one of its row; none exactly where it has none. It ticks
@@ -136,8 +137,9 @@ impl Log {
         ensures ticks { ticks.new ≡ ticked ticks.old 1 }
     {
         ticks.tick();
-        let slot = segment.terminal().get() as usize;
-        if self.terminals[slot].len == 0 {
+        let terminal = segment.terminal();
+        let slot = terminal.get() as usize;
+        if self.terminals.at(terminal).len == 0 {
             return None;
         }
         read_record(self.ring.newest(slot))
@@ -148,11 +150,12 @@ impl Log {
         requires { IsSome (active_at self.old segment) }
         ensures { self.new ≡ popped self.old segment }
     {
-        let slot = segment.terminal().get() as usize;
-        let len = self.terminals[slot].len;
+        let terminal = segment.terminal();
+        let slot = terminal.get() as usize;
+        let len = self.terminals.at(terminal).len;
         if len > 0 {
             self.ring.pop(slot);
-            self.terminals[slot].len = len - 1;
+            self.terminals.at_mut(terminal).len = len - 1;
         }
     }
 }

@@ -44,7 +44,7 @@ impl Log {
     pub fn count(&self, terminal: Terminal) -> u32
         ensures { result ≡ count_at self.now terminal }
     {
-        self.terminals[terminal.get() as usize].count
+        self.terminals.at(terminal).count
     }
 
     /// The number of the transaction that a terminal has open or begins next.
@@ -59,7 +59,7 @@ impl Log {
     pub fn is_open(&self, terminal: Terminal) -> bool
         ensures { IsTrue result ↔ IsSome (active_at self.now terminal) }
     {
-        self.terminals[terminal.get() as usize].active.is_some()
+        self.terminals.at(terminal).active.is_some()
     }
 
     /// How many terminals have a segment open.

@@ -3,4 +3,5 @@ pub mod Front
 pub mod Number
 pub mod Reading
 pub mod Stamp
+pub mod TerminalsLend
 pub mod Text

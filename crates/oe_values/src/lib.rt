@@ -1,5 +1,5 @@
-//! Numbers, money, moments, stamps and texts in their ranges, and short lists; what makes a value a key of a table, and the refusal of
-//! memory. Copying any of them takes no memory. Clauses of the standard are those of TPC Benchmark C 5.11.
+//! Numbers, money, moments, stamps and texts in their ranges, and short lists, whose copies take no memory; what is kept by terminal;
+//! what makes a value a key of a table, and the refusal of memory. Clauses of the standard are those of TPC Benchmark C 5.11.
 #![tactic(auto)]
 
 pub mod fronts;
@@ -8,6 +8,7 @@ pub mod memory;
 pub mod numbers;
 pub mod stamps;
 pub mod table_keys;
+pub mod terminals;
 pub mod texts;
 
 pub use lines::Lines;
@@ -21,4 +22,5 @@ pub use numbers::{
 };
 pub use stamps::{SECONDS, Stamp};
 pub use table_keys::{ShelvedKey, TableKey};
+pub use terminals::{PerTerminal, empty_slots};
 pub use texts::{FirstName, LastName, Text};

@@ -15,13 +15,11 @@ pub replace-requires : goal.replace-requires
 replace-requires c = in_map c.self.inside.holders c.args.terminal c.args.name.now (rw c.self.view_is c.requires.held)
 
 pub invariant_of-self : goal.invariant_of-self
-invariant_of-self c = (
-  c.self.invariant.0,
-  listed-kept c.self.inside.names.items c.self.inside.holders c.replace.new.self c.args.terminal
-      (others-changed c.self.inside.holders c.replace.new.self c.args.name.now (Some c.args.after) c.replace.ensures c.args.terminal (others c))
-      (none-changed c.self.inside.holders c.replace.new.self c.args.terminal c.args.name.now _
-      (own-changed c.self.inside.holders c.replace.new.self c.args.name.now (Some c.args.after) c.replace.ensures c.args.terminal) (some c)) c.self.invariant.1,
-)
+invariant_of-self c =
+    listed-kept c.self.inside.names c.self.inside.holders c.replace.new.self c.args.terminal
+    (others-changed c.self.inside.holders c.replace.new.self c.args.name.now (Some c.args.after) c.replace.ensures c.args.terminal (others c))
+    (none-changed c.self.inside.holders c.replace.new.self c.args.terminal c.args.name.now _
+    (own-changed c.self.inside.holders c.replace.new.self c.args.name.now (Some c.args.after) c.replace.ensures c.args.terminal) (some c)) c.self.invariant
 
 pub returns-clause-own : goal.returns-clause-own
 returns-clause-own c =

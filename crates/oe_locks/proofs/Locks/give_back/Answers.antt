@@ -11,11 +11,9 @@ change-requires-clause-others c u ne =
 
 pub invariant_of-self : goal.invariant_of-self
 invariant_of-self c =
-    let room : c.slot.result < length c.self.inside.names.items = omega (arith, c.self.invariant.0) in
+    let room : c.args.terminal < length c.self.inside.names = omega (arith, c.at_mut.ensures.size, c.at_mut.ensures.high) in
     let listed =
-    listed-at c.self.inside.names.items c.slot.result c.args.terminal c.index_mut.result.now c.slot.ensures.value room c.self.inside.holders c.index_mut.ensures.value c.self.invariant.1
-    in (
-      c.self.invariant.0,
-      listed-set c.self.inside.names.items c.slot.result c.args.terminal c.strike.new.names c.slot.ensures.value room c.self.inside.holders c.leave.new.holders c.self.invariant.1 c.leave.ensures.others
-          (struck c.self.inside.holders c.leave.new.holders c.args.terminal c.args.name c.index_mut.result.now.items c.strike.new.names.items c.leave.ensures.own c.strike.ensures listed),
-    )
+    listed-at c.self.inside.names c.args.terminal c.at_mut.result.now c.at_mut.ensures.low room c.self.inside.holders c.at_mut.ensures.value c.self.invariant
+    in
+    listed-set c.self.inside.names c.args.terminal c.strike.new.names c.at_mut.ensures.low room c.self.inside.holders c.leave.new.holders c.self.invariant c.leave.ensures.others
+    (struck c.self.inside.holders c.leave.new.holders c.args.terminal c.args.name c.at_mut.result.now.items c.strike.new.names.items c.leave.ensures.own c.strike.ensures listed)

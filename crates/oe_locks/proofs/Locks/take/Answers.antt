@@ -5,15 +5,13 @@ use Rattle.oe_locks.proofs.Locks.take.Goals as goal
 
 pub invariant_of-self : goal.invariant_of-self
 invariant_of-self c =
-    let room : c.slot.result < length c.self.inside.names.items = omega (arith, c.self.invariant.0) in
+    let room : c.args.terminal < length c.self.inside.names = omega (arith, c.at_mut-names.ensures.size, c.at_mut-names.ensures.high) in
     let kept =
-    entered c.self.inside.holders c.join.new.holders c.args.terminal c.args.name.now (Some c.args.after) c.index_mut-names.result.now.items c.join.new.names.items c.join.result
+    entered c.self.inside.holders c.join.new.holders c.args.terminal c.args.name.now (Some c.args.after) c.at_mut-names.result.now.items c.join.new.names.items c.join.result
     c.join.ensures.map c.join.ensures.list c.join.ensures.err (rw c.self.view_is c.requires)
-    (listed-at c.self.inside.names.items c.slot.result c.args.terminal c.index_mut-names.result.now c.slot.ensures.value room c.self.inside.holders c.index_mut-names.ensures.value c.self.invariant.1)
-    in (
-      c.self.invariant.0,
-      listed-set c.self.inside.names.items c.slot.result c.args.terminal c.join.new.names c.slot.ensures.value room c.self.inside.holders c.join.new.holders c.self.invariant.1 kept.0 kept.1,
-    )
+    (listed-at c.self.inside.names c.args.terminal c.at_mut-names.result.now c.at_mut-names.ensures.low room c.self.inside.holders c.at_mut-names.ensures.value c.self.invariant)
+    in
+    listed-set c.self.inside.names c.args.terminal c.join.new.names c.at_mut-names.ensures.low room c.self.inside.holders c.join.new.holders c.self.invariant kept.0 kept.1
 
 pub returns-clause-own : goal.returns-clause-own
 returns-clause-own c =

@@ -1,5 +1,5 @@
 -- The open segment is gone.
-use Rattle.std.proofs.Common.{refl, ◌∙◌, arith}
+use Rattle.std.proofs.Common.{refl, arith}
 use Rattle.oe_log.proofs.CallFacts.{inside, some_opens}
 use Rattle.oe_log.proofs.KeptFacts.{dropped}
 use Rattle.oe_log.proofs.log.Log.drop_segment.Goals as goal
@@ -13,13 +13,13 @@ pub invariant_of-self : goal.invariant_of-self
 invariant_of-self c =
     let some = rw (← c.self.view_is) at c.requires.open in
     let empty = rw (← c.self.view_is) at c.requires.empty in
-    (dropped c.self.invariant c.get.result c.args.segment c.index_mut-state.result.now _
-    (c.get.ensures.value ∙ c.terminal.ensures) c.get.ensures.low (omega (arith, c.get.ensures.high)) c.index_mut-state.ensures.value some empty refl).kept
+    (dropped c.self.invariant c.terminal.result c.args.segment c.at_mut-state.result.now _
+    c.terminal.ensures c.at_mut-state.ensures.low c.at_mut-state.ensures.high c.at_mut-state.ensures.value some empty refl).kept
 
 pub returns : goal.returns
 returns c =
     let some = rw (← c.self.view_is) at c.requires.open in
     let empty = rw (← c.self.view_is) at c.requires.empty in
     rw (← c.self.view_is)
-    ((dropped c.self.invariant c.get.result c.args.segment c.index_mut-state.result.now _
-    (c.get.ensures.value ∙ c.terminal.ensures) c.get.ensures.low (omega (arith, c.get.ensures.high)) c.index_mut-state.ensures.value some empty refl).view)
+    ((dropped c.self.invariant c.terminal.result c.args.segment c.at_mut-state.result.now _
+    c.terminal.ensures c.at_mut-state.ensures.low c.at_mut-state.ensures.high c.at_mut-state.ensures.value some empty refl).view)

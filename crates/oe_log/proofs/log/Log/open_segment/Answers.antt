@@ -1,26 +1,24 @@
 -- A segment is open, or memory was refused.
-use Rattle.std.proofs.Common.{◌≡◌, ◌+◌, ◌≤◌, length, refl, ap, arith, rules, deque_capacity}
-use Rattle.oe_log.proofs.CallFacts.{inside, few_opens, below_count}
+use Rattle.std.proofs.Common.{◌≡◌, ◌+◌, ◌≤◌, length, refl, sym, ap, ◌∙◌, arith, rules, deque_capacity}
+use Rattle.oe_log.proofs.CallFacts.{inside, is_head, few_opens, below_count}
 use Rattle.oe_log.proofs.KeptFacts.{opened, same}
 use Rattle.oe_log.proofs.log.Log.open_segment.Goals as goal
 
 pub overflow_add-needed : goal.overflow_add-needed
 overflow_add-needed c =
     let closed = rw (← c.self.view_is) at c.requires.closed in
-    omega (arith, few_opens (inside c.self.invariant) c.get-slot.result c.args.terminal c.get-slot.ensures.value c.get-slot.ensures.low (omega (arith, c.get-slot.ensures.high)) closed)
+    omega (arith, few_opens (inside c.self.invariant) c.args.terminal c.args.terminal refl c.at.ensures.low c.at.ensures.high closed)
 
-pub overflow_add-state : goal.overflow_add-state
-overflow_add-state c =
+pub overflow_add-count : goal.overflow_add-count
+overflow_add-count c =
     let counted = rw (← c.self.view_is) at c.requires.counted in
-    let below = below_count (inside c.self.invariant) c.get-slot.result c.args.terminal 4_294_967_295 c.index_mut-state.result.now
-    c.get-slot.ensures.value (omega (arith, c.get-slot.ensures.high)) c.index_mut-state.ensures.value counted in
+    let below = below_count (inside c.self.invariant) c.args.terminal c.args.terminal 4_294_967_295 c.at.result.now refl c.at.ensures.high c.at.ensures.value counted in
     search rules
 
 pub unwrap-number-requires : goal.unwrap-number-requires
 unwrap-number-requires c =
     let counted = rw (← c.self.view_is) at c.requires.counted in
-    let below = below_count (inside c.self.invariant) c.get-slot.result c.args.terminal 4_294_967_295 c.index_mut-state.result.now
-    c.get-slot.ensures.value (omega (arith, c.get-slot.ensures.high)) c.index_mut-state.ensures.value counted in
+    let below = below_count (inside c.self.invariant) c.args.terminal c.args.terminal 4_294_967_295 c.at.result.now refl c.at.ensures.high c.at.ensures.value counted in
     search rules
 
 pub invariant_of-self : goal.invariant_of-self
@@ -38,23 +36,33 @@ pub invariant_of-self-2 : goal.invariant_of-self-2
 invariant_of-self-2 c =
     let closed = rw (← c.self.view_is) at c.requires.closed in
     let counted = rw (← c.self.view_is) at c.requires.counted in
-    let number : c.unwrap-number.result ≡ c.index_mut-state.result.now.count + 1 = search rules in
+    let more : c.unwrap-number.result ≡ c.at.result.now.count + 1 = search rules in
+    let number : c.unwrap-number.result ≡ c.at_mut-state.result.now.count + 1 =
+    more
+    ∙ ap (λ z. z.count + 1)
+    (is_head (inside c.self.invariant) c.args.terminal c.at.result.now c.at.ensures.high c.at.ensures.value
+    ∙ sym (is_head (inside c.self.invariant) c.args.terminal c.at_mut-state.result.now c.at.ensures.high c.at_mut-state.ensures.value)) in
     let spare : length c.reserve-2.new.self.items + (c.self.inside.open_count + 1) ≤ deque_capacity c.reserve-2.new.self = search rules in
     let room : c.self.inside.open_count + 1 ≤ c.reserve.new.self.room = search rules in
-    (opened c.self.invariant c.get-slot.result c.args.terminal (deque_capacity c.reserve-2.new.self) (c.self.inside.open_count + 1) c.reserve.new.self.room c.index_mut-state.result.now
+    (opened c.self.invariant c.args.terminal c.args.terminal (deque_capacity c.reserve-2.new.self) (c.self.inside.open_count + 1) c.reserve.new.self.room c.at_mut-state.result.now
     (record { terminal = c.args.terminal; number = c.unwrap-number.result }) _ c.reserve-2.new.self.items c.reserve.new.self
-    c.get-slot.ensures.value c.get-slot.ensures.low (omega (arith, c.get-slot.ensures.high)) c.index_mut-state.ensures.value closed counted
+    refl c.at.ensures.low c.at.ensures.high c.at_mut-state.ensures.value closed counted
     refl number refl c.reserve-2.ensures.items refl spare c.reserve.ensures.same room).kept
 
 pub returns-clause-opened : goal.returns-clause-opened
 returns-clause-opened c =
     let closed = rw (← c.self.view_is) at c.requires.closed in
     let counted = rw (← c.self.view_is) at c.requires.counted in
-    let number : c.unwrap-number.result ≡ c.index_mut-state.result.now.count + 1 = search rules in
+    let more : c.unwrap-number.result ≡ c.at.result.now.count + 1 = search rules in
+    let number : c.unwrap-number.result ≡ c.at_mut-state.result.now.count + 1 =
+    more
+    ∙ ap (λ z. z.count + 1)
+    (is_head (inside c.self.invariant) c.args.terminal c.at.result.now c.at.ensures.high c.at.ensures.value
+    ∙ sym (is_head (inside c.self.invariant) c.args.terminal c.at_mut-state.result.now c.at.ensures.high c.at_mut-state.ensures.value)) in
     let spare : length c.reserve-2.new.self.items + (c.self.inside.open_count + 1) ≤ deque_capacity c.reserve-2.new.self = search rules in
     let room : c.self.inside.open_count + 1 ≤ c.reserve.new.self.room = search rules in
     rw (← c.self.view_is)
-    ((opened c.self.invariant c.get-slot.result c.args.terminal (deque_capacity c.reserve-2.new.self) (c.self.inside.open_count + 1) c.reserve.new.self.room c.index_mut-state.result.now
+    ((opened c.self.invariant c.args.terminal c.args.terminal (deque_capacity c.reserve-2.new.self) (c.self.inside.open_count + 1) c.reserve.new.self.room c.at_mut-state.result.now
     (record { terminal = c.args.terminal; number = c.unwrap-number.result }) _ c.reserve-2.new.self.items c.reserve.new.self
-    c.get-slot.ensures.value c.get-slot.ensures.low (omega (arith, c.get-slot.ensures.high)) c.index_mut-state.ensures.value closed counted
+    refl c.at.ensures.low c.at.ensures.high c.at_mut-state.ensures.value closed counted
     refl number refl c.reserve-2.ensures.items refl spare c.reserve.ensures.same room).view)

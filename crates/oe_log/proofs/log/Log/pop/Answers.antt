@@ -1,37 +1,40 @@
 -- A record less, where there is one.
-use Rattle.std.proofs.Common.{◌≡◌, ◌-◌, sym, ap, ◌∙◌, arith}
+use Rattle.std.proofs.Common.{◌≡◌, ◌-◌, [], length, get_or, sym, ap, ◌∙◌, arith}
+use Rattle.oe_extent.specs.Ring as ring
 use Rattle.oe_log.proofs.CallFacts.{inside, is_head}
 use Rattle.oe_log.proofs.KeptFacts.{len_lies, popped, not_popped}
 use Rattle.oe_log.proofs.log.Log.pop.Goals as goal
 
 pub pop-requires-clause-some : goal.pop-requires-clause-some
 pop-requires-clause-some c =
-    let len = len_lies c.self.invariant c.get-slot.result c.index.result.now (omega (arith, c.get-slot.ensures.high)) c.index.ensures in
+    let len = len_lies c.self.invariant c.terminal-terminal.result c.at.result.now c.at.ensures.high c.at.ensures.value ∙ ap (λ t. length (get_or c.self.inside.ring.active t [])) (sym c.get-slot.ensures.value) in
     omega (arith, len, c.if-len-gt0.true)
 
 pub invariant_of-self : goal.invariant_of-self
 invariant_of-self c =
     let some = rw (← c.self.view_is) at c.requires in
-    let less : c.index.result.now.len - 1 ≡ c.index_mut.result.now.len - 1 =
+    let less : c.at.result.now.len - 1 ≡ c.at_mut.result.now.len - 1 =
     ap (λ z. z.len - 1)
-    (is_head (inside c.self.invariant) c.get-slot.result c.index.result.now (omega (arith, c.get-slot.ensures.high)) c.index.ensures
-    ∙ sym (is_head (inside c.self.invariant) c.get-slot.result c.index_mut.result.now (omega (arith, c.get-slot.ensures.high)) c.index_mut.ensures.value)) in
-    (popped c.self.invariant c.get-slot.result c.args.segment (c.index.result.now.len - 1) c.index_mut.result.now c.pop.new.self
-    (c.get-slot.ensures.value ∙ c.terminal.ensures) c.get-slot.ensures.low (omega (arith, c.get-slot.ensures.high)) c.index_mut.ensures.value some less c.pop.ensures).kept
+    (is_head (inside c.self.invariant) c.terminal-terminal.result c.at.result.now c.at.ensures.high c.at.ensures.value
+    ∙ sym (is_head (inside c.self.invariant) c.terminal-terminal.result c.at_mut.result.now c.at.ensures.high c.at_mut.ensures.value)) in
+    (popped c.self.invariant c.terminal-terminal.result c.args.segment (c.at.result.now.len - 1) c.at_mut.result.now c.pop.new.self
+    c.terminal-terminal.ensures c.at.ensures.low c.at.ensures.high c.at_mut.ensures.value some less
+    (c.pop.ensures ∙ ap (ring.popped_at c.self.inside.ring) c.get-slot.ensures.value)).kept
 
 pub returns-then-len-gt0 : goal.returns-then-len-gt0
 returns-then-len-gt0 c =
     let some = rw (← c.self.view_is) at c.requires in
-    let less : c.index.result.now.len - 1 ≡ c.index_mut.result.now.len - 1 =
+    let less : c.at.result.now.len - 1 ≡ c.at_mut.result.now.len - 1 =
     ap (λ z. z.len - 1)
-    (is_head (inside c.self.invariant) c.get-slot.result c.index.result.now (omega (arith, c.get-slot.ensures.high)) c.index.ensures
-    ∙ sym (is_head (inside c.self.invariant) c.get-slot.result c.index_mut.result.now (omega (arith, c.get-slot.ensures.high)) c.index_mut.ensures.value)) in
+    (is_head (inside c.self.invariant) c.terminal-terminal.result c.at.result.now c.at.ensures.high c.at.ensures.value
+    ∙ sym (is_head (inside c.self.invariant) c.terminal-terminal.result c.at_mut.result.now c.at.ensures.high c.at_mut.ensures.value)) in
     rw (← c.self.view_is)
-    ((popped c.self.invariant c.get-slot.result c.args.segment (c.index.result.now.len - 1) c.index_mut.result.now c.pop.new.self
-    (c.get-slot.ensures.value ∙ c.terminal.ensures) c.get-slot.ensures.low (omega (arith, c.get-slot.ensures.high)) c.index_mut.ensures.value some less c.pop.ensures).view)
+    ((popped c.self.invariant c.terminal-terminal.result c.args.segment (c.at.result.now.len - 1) c.at_mut.result.now c.pop.new.self
+    c.terminal-terminal.ensures c.at.ensures.low c.at.ensures.high c.at_mut.ensures.value some less
+    (c.pop.ensures ∙ ap (ring.popped_at c.self.inside.ring) c.get-slot.ensures.value)).view)
 
 pub returns-else-len-gt0 : goal.returns-else-len-gt0
 returns-else-len-gt0 c =
     rw (← c.self.view_is)
-    (not_popped c.self.invariant c.get-slot.result c.args.segment c.index.result.now (c.get-slot.ensures.value ∙ c.terminal.ensures) (omega (arith, c.get-slot.ensures.high)) c.index.ensures
+    (not_popped c.self.invariant c.terminal-terminal.result c.args.segment c.at.result.now c.terminal-terminal.ensures c.at.ensures.high c.at.ensures.value
     (omega (arith, c.if-len-gt0.false)))

@@ -1,5 +1,6 @@
 -- The newest commit is open again.
 use Rattle.std.proofs.Common.{◌≡◌, ◌-◌, ◌+◌, refl, sym, ap, ◌∙◌, arith, rules, deque_capacity}
+use Rattle.oe_extent.specs.Ring as ring
 use Rattle.oe_log.specs.Log as seen
 use Rattle.oe_log.specs.Log.{SegmentLog}
 use Rattle.oe_log.proofs.CallFacts.{inside, few_opens, none_open}
@@ -22,22 +23,24 @@ overflow_add-self c =
 pub invariant_of-self-2 : goal.invariant_of-self-2
 invariant_of-self-2 c =
     let none = rw (← c.self.view_is) at c.requires in
-    let closed = none_open (inside c.self.invariant) c.get-slot.result (none c.get-slot.result) in
+    let closed = none_open (inside c.self.invariant) c.owner-owner.result.terminal (none c.owner-owner.result.terminal) in
     let moment : c.unwrap-self-inside.result ≡ c.self.inside.newest - 1 = search rules in
     (reopened c.self.invariant _ c.pop_front.new.self.items c.in-Some.head (deque_capacity c.pop_front.new.self) c.reopen_newest.new.self.room c.unwrap-self-inside.result (c.self.inside.open_count + 1)
-    c.get-slot.result c.owner-owner.result.terminal c.len-state.result c.index_mut-state.result.now c.may_delete-state.result c.owner-owner.result c.reopen_newest.new.self
-    c.in-Some.ensures.items c.pop_front.ensures.capacity c.get-slot.ensures.value c.get-slot.ensures.low (omega (arith, c.get-slot.ensures.high))
-    (ap (λ z. z.terminal) (sym c.owner-owner.ensures)) c.index_mut-state.ensures.value closed c.owner-owner.ensures c.may_delete-state.ensures c.len-state.ensures refl
-    c.reopen_newest.ensures.reopened c.reopen_newest.ensures.room moment refl).kept
+    c.owner-owner.result.terminal c.owner-owner.result.terminal c.len-state.result c.at_mut-state.result.now c.may_delete-state.result c.owner-owner.result c.reopen_newest.new.self
+    c.in-Some.ensures.items c.pop_front.ensures.capacity refl c.at_mut-state.ensures.low c.at_mut-state.ensures.high
+    (ap (λ z. z.terminal) (sym c.owner-owner.ensures)) c.at_mut-state.ensures.value closed c.owner-owner.ensures c.may_delete-state.ensures c.len-state.ensures refl
+    (c.reopen_newest.ensures.reopened ∙ ap (λ t. record (ring.reopened_at c.self.inside.ring t) { room = c.reopen_newest.new.self.room }) c.get-slot.ensures.value)
+    c.reopen_newest.ensures.room moment refl).kept
 
 pub returns-clause-reopened : goal.returns-clause-reopened
 returns-clause-reopened c =
     let none = rw (← c.self.view_is) at c.requires in
-    let closed = none_open (inside c.self.invariant) c.get-slot.result (none c.get-slot.result) in
+    let closed = none_open (inside c.self.invariant) c.owner-owner.result.terminal (none c.owner-owner.result.terminal) in
     let moment : c.unwrap-self-inside.result ≡ c.self.inside.newest - 1 = search rules in
     (reopened c.self.invariant _ c.pop_front.new.self.items c.in-Some.head (deque_capacity c.pop_front.new.self) c.reopen_newest.new.self.room c.unwrap-self-inside.result (c.self.inside.open_count + 1)
-    c.get-slot.result c.owner-owner.result.terminal c.len-state.result c.index_mut-state.result.now c.may_delete-state.result c.owner-owner.result c.reopen_newest.new.self
-    c.in-Some.ensures.items c.pop_front.ensures.capacity c.get-slot.ensures.value c.get-slot.ensures.low (omega (arith, c.get-slot.ensures.high))
-    (ap (λ z. z.terminal) (sym c.owner-owner.ensures)) c.index_mut-state.ensures.value closed c.owner-owner.ensures c.may_delete-state.ensures c.len-state.ensures refl
-    c.reopen_newest.ensures.reopened c.reopen_newest.ensures.room moment refl).view
+    c.owner-owner.result.terminal c.owner-owner.result.terminal c.len-state.result c.at_mut-state.result.now c.may_delete-state.result c.owner-owner.result c.reopen_newest.new.self
+    c.in-Some.ensures.items c.pop_front.ensures.capacity refl c.at_mut-state.ensures.low c.at_mut-state.ensures.high
+    (ap (λ z. z.terminal) (sym c.owner-owner.ensures)) c.at_mut-state.ensures.value closed c.owner-owner.ensures c.may_delete-state.ensures c.len-state.ensures refl
+    (c.reopen_newest.ensures.reopened ∙ ap (λ t. record (ring.reopened_at c.self.inside.ring t) { room = c.reopen_newest.new.self.room }) c.get-slot.ensures.value)
+    c.reopen_newest.ensures.room moment refl).view
     ∙ ap (λ (v : SegmentLog). seen.reopened v v.committed) c.self.view_is
