@@ -4,11 +4,10 @@ use Rattle.std.specs.Prelude.{None, is_some}
 use Rattle.std.proofs.lemmas.Bool.{cases_eq, cond-true, cond-false, eq-eqb, ne_eqb, true≢false}
 use Rattle.std.proofs.lemmas.List.{length-set, length-map, take_all, drop_all}
 use mathlib.Core.Path.{fun_ext}
-use Rattle.oe_rows.specs.declared.keys.Key.{Key}
 use Rattle.oe_theory.specs.World as world
 use Rattle.oe_theory.specs.Undo.{unwind, put_records}
 use Rattle.oe_model.specs.System.{system}
-use Rattle.oe_store.specs.Places.{rows, HasPlace}
+use Rattle.oe_store.specs.Places.{rows}
 use Rattle.oe_store.specs.Places as tables
 use Rattle.oe_log.specs.Records.{Logged}
 use Rattle.oe_log.specs.Log.{SegmentLog, active_at, records_at, count_at, dropped}
@@ -18,24 +17,29 @@ use Rattle.oe_log.proofs.StateFacts.{seen_same}
 use Rattle.oe_locks.specs.Held.{Holdings, OthersKeep, HoldsNothing}
 use Rattle.oe_engine.specs.View.{view_from}
 use Rattle.oe_journal.specs.GoesBack.{HavePlaces, AllHavePlaces}
-use Rattle.oe_journal.proofs.BackFacts.{more_places}
-use Rattle.oe_journal.proofs.PurgeFacts.{all_more_places}
+use Rattle.oe_journal.specs.Named.{AreNeeded}
+use Rattle.oe_journal.proofs.NamedFacts.{active_placed, history_placed}
+use Rattle.oe_theory.proofs.Sets.{set_other}
 use Rattle.oe_engine.specs.Kept.{IsKept}
 use Rattle.oe_engine.specs.Calls.{back_at, rolled_back}
 use Rattle.oe_journal.specs.Unwinds.{TakesBack}
 use Rattle.oe_engine.proofs.LockFacts.{held_of, released_is}
 use Rattle.oe_engine.proofs.LogFacts.{active_set}
-use Rattle.oe_engine.proofs.KeptFacts.{places_set, released_idle}
+use Rattle.oe_engine.proofs.KeptFacts.{released_idle}
 
 -- the engine's promise after records were put back
 pub taken_kept : (ts ts' : tables.Places) (u u' : SegmentLog) (ls : Holdings) (t n : ℕ) → TakesBack ts u t n ts' u' → IsKept ts u ls → IsKept ts' u' ls
 taken_kept ts ts' u u' ls t n h k =
     let w = h.others in
-    let more : (j : Key) → HasPlace ts j → HasPlace ts' j = λ j p. (w.places j).1 p in
+    let g = active_placed ts ts' (undo_of u) (undo_of u') w.places in
     record {
       size = w.size ∙ k.size;
-      active = λ x. subst (λ z. HavePlaces ts' (z.active x)) (sym w.undo) (places_set ts' t ((undo_of u').active t) (undo_of u).active w.own (λ y. more_places ts ts' more ((undo_of u).active y) (k.active y)) x);
-      history = subst (λ z. AllHavePlaces ts' z.history) (sym w.undo) (all_more_places ts ts' more (undo_of u).history k.history);
+      active = λ x. elim (cases_eq x t) [
+        | inl same ↦ subst (λ y. HavePlaces ts' ((undo_of u').active y)) (sym same) w.own
+        | inr ne ↦ g x (subst (HavePlaces ts) (sym (ap (λ z. z.active x) w.undo ∙ set_other t ((undo_of u').active t) (undo_of u).active x ne)) (k.active x))
+      ];
+      history = history_placed ts ts' (undo_of u) (undo_of u') w.places (subst (λ z. AllHavePlaces ts z.history) (sym w.undo) k.history);
+      needed = w.places.needed k.needed;
       idle = λ x e. k.idle x (sym (w.is_open x) ∙ e);
       counted = λ x e. subst (λ m. m < 4_294_967_295) (sym (ap (λ f. f x) w.counts)) (k.counted x (sym (w.is_open x) ∙ e));
     }
@@ -52,6 +56,7 @@ dropped_kept ts u ls ls' t within empty own others k =
       size = length-set u.terminals t _ ∙ k.size;
       active = λ x. subst (λ z. HavePlaces ts (z.active x)) (sym s.undo) (k.active x);
       history = subst (λ z. AllHavePlaces ts z.history) (sym s.undo) k.history;
+      needed = subst (AreNeeded ts) (sym s.undo) k.needed;
       idle = released_idle ls ls' t (λ x. is_some (active_at u x)) (λ x. is_some (active_at (dropped u t) x)) open_is own others k.idle;
       counted = λ x e. elim (cases_eq x t) [
         | inl same ↦ absurd (true≢false (sym e ∙ (open_is x ∙ cond-true (x == t) false (is_some (active_at u x)) (eq-eqb x t same))))

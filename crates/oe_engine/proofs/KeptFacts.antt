@@ -1,12 +1,18 @@
 -- What an engine keeps of its tables, its undo log and its locks, each call keeps.
-use Rattle.std.proofs.Common.{◌≡◌, ◌≢◌, ℕ, suc, ◌<◌, ◌==◌, Bool, true, false, cond, refl, sym, ap, ◌∙◌, subst, inl, inr, replicate, List, [], length, get_or}
-use Rattle.std.specs.Prelude.{None, Some, is_some, Result, Ok, Err, OnOk, OnErr}
+use Rattle.std.proofs.Common.{◌≡◌, ◌≢◌, ℕ, suc, ◌<◌, ◌==◌, Bool, true, false, cond, refl, sym, ap, ◌∙◌, subst, inl, inr, replicate, List, [], ◌∷◌, length, get_or}
+use Rattle.std.specs.Prelude.{◌↔◌, None, Some, IsSome, is_some, Result, Ok, Err, OnOk, OnErr}
 use Rattle.std.proofs.lemmas.Bool.{cases_eq, cond-true, cond-false, eq-eqb, ne_eqb, true≢false}
 use Rattle.std.proofs.lemmas.List.{length-set, length-replicate}
 use Rattle.oe_requests.specs.declared.requests.Request.{Request}
 use Rattle.oe_requests.specs.declared.replies.Reply.{Reply}
 use Rattle.oe_theory.specs.World as world
+use Rattle.oe_rows.specs.declared.keys.Key.{Key}
+use Rattle.oe_theory.specs.Undo.{Undo, HasRecord}
+use Rattle.oe_theory.proofs.Sets.{set_other}
+use Rattle.oe_model.specs.Rows.{row_at}
 use Rattle.oe_model.specs.Changes.{Record}
+use Rattle.oe_model.specs.System.{system}
+use Rattle.oe_store.specs.Places.{rows, HasPlace}
 use Rattle.oe_store.specs.Places as tables
 use Rattle.oe_log.specs.Log.{SegmentLog, TerminalState, idle, active_at, count_at, no_segments, idle_terminals, opened, sealed}
 use Rattle.oe_log.specs.Stands.{undo_of}
@@ -15,6 +21,7 @@ use Rattle.oe_log.proofs.LawFacts.{idle_at}
 use Rattle.oe_log.proofs.StateFacts.{seen_same, some_of}
 use Rattle.oe_locks.specs.Held.{Holdings, OthersKeep, HoldsNothing, IsIdle}
 use Rattle.oe_journal.specs.GoesBack.{HavePlaces, AllHavePlaces}
+use Rattle.oe_journal.specs.Named.{IsUnnamed, AreNeeded}
 use Rattle.oe_engine.specs.Kept.{IsKept}
 use Rattle.oe_engine.proofs.LogFacts.{active_set}
 
@@ -37,14 +44,15 @@ idle_set P f g t b is own others x e =
     ]
 
 -- at the beginning
-pub first_kept : (ts : tables.Places) (n : ℕ) (ls : Holdings) → IsIdle ls → IsKept ts (no_segments n) ls
+pub first_kept : (ts : tables.Places) (n : ℕ) (ls : Holdings) → ((k : Key) → HasPlace ts k ↔ IsSome (row_at (rows ts) k)) → IsIdle ls → IsKept ts (no_segments n) ls
 unfolding idle_terminals
-first_kept ts n ls quiet =
+first_kept ts n ls live quiet =
     let b = stands.begun n in
     record {
       size = length-replicate 65 idle;
       active = λ t. subst (λ u. HavePlaces ts (u.active t)) (sym b.0) tt;
       history = subst (λ u. AllHavePlaces ts u.history) (sym b.0) tt;
+      needed = λ k p none. (live k).0 p;
       idle = λ t e q. quiet t q;
       counted = λ t e.
           let none : is_some (get_or (replicate 65 idle) t idle).active ≡ false = ap (λ (z : TerminalState). is_some z.active) (idle_at 65 t) in
@@ -64,6 +72,7 @@ opened_kept ts u ls t within closed below k =
       size = length-set u.terminals t _ ∙ k.size;
       active = λ x. subst (λ z. HavePlaces ts (z.active x)) (sym s.undo) (k.active x);
       history = subst (λ z. AllHavePlaces ts z.history) (sym s.undo) k.history;
+      needed = subst (AreNeeded ts) (sym s.undo) k.needed;
       idle = idle_set (HoldsNothing ls) (λ y. is_some (active_at u y)) (λ y. is_some (active_at (opened u t) y)) t true open_is (λ e. absurd (true≢false e)) (λ x ne e. k.idle x e);
       counted = λ x e. elim (cases_eq x t) [
         | inl same ↦ subst (λ n. n < 4_294_967_295) (sym (counts x ∙ ap (count_at u) same)) below
@@ -78,6 +87,7 @@ locks_kept ts u ls ls' t is others k =
       size = k.size;
       active = k.active;
       history = k.history;
+      needed = k.needed;
       idle = λ x e q. elim (cases_eq x t) [
         | inl same ↦ absurd (true≢false (sym is ∙ (ap (λ y. is_some (active_at u y)) (sym same) ∙ e)))
         | inr ne ↦ others x ne q ∙ k.idle x e q
@@ -89,6 +99,16 @@ pub released_idle : (ls ls' : Holdings) (t : ℕ) (f g : ℕ → Bool) → ((x :
     → ((x : ℕ) → f x ≡ false → HoldsNothing ls x) → (x : ℕ) → g x ≡ false → HoldsNothing ls' x
 released_idle ls ls' t f g is own others old =
     idle_set (HoldsNothing ls') f g t false is (λ e. own) (λ x ne e q. others x ne q ∙ old x e q)
+
+-- the newest commit's records were its terminal's open ones
+sealed_names : (d : Undo system) (t : ℕ) (k : Key) → IsUnnamed (record { active = world.set t [] d.active; history = d.active t ∷ d.history }) k → IsUnnamed d k
+sealed_names d t k none = (at, λ has. none.1 (inr has))
+  where
+    at : (x : ℕ) → HasRecord system k (d.active x) → ⊥
+    at x has = elim (cases_eq x t) [
+      | inl same ↦ none.1 (inl (subst (λ y. HasRecord system k (d.active y)) same has))
+      | inr ne ↦ none.0 x (subst (HasRecord system k) (sym (set_other t [] d.active x ne)) has)
+    ]
 
 -- a segment was sealed, and its terminal's names were let go of
 pub sealed_kept : (ts : tables.Places) (u : SegmentLog) (ls ls' : Holdings) (t : ℕ) (q : Request) (y : Reply) → t < length u.terminals → is_some (active_at u t) ≡ true
@@ -102,6 +122,7 @@ sealed_kept ts u ls ls' t q y within is own others k =
       size = length-set u.terminals t _ ∙ k.size;
       active = λ x. subst (λ z. HavePlaces ts (z.active x)) (sym s.undo) (places_set ts t [] (undo_of u).active tt k.active x);
       history = subst (λ z. AllHavePlaces ts z.history) (sym s.undo) (k.active t, k.history);
+      needed = subst (AreNeeded ts) (sym s.undo) (λ j p none. k.needed j p (sealed_names (undo_of u) t j none));
       idle = released_idle ls ls' t (λ x. is_some (active_at u x)) (λ x. is_some (active_at (sealed u t q y) x)) open_is own others k.idle;
       counted = λ x e. elim (cases_eq x t) [
         | inl same ↦ absurd (true≢false (sym e ∙ (open_is x ∙ cond-true (x == t) false (is_some (active_at u x)) (eq-eqb x t same))))

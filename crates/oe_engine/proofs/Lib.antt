@@ -4,6 +4,7 @@ pub mod EndFacts
 pub mod LinkFacts
 mod OpenFacts
 mod KeptFacts
+mod NeededFacts
 pub mod LockFacts
 pub mod LogFacts
 pub mod MakeFacts

@@ -16,6 +16,7 @@ use Rattle.oe_undo.specs.Undo.{UndoState}
 use Rattle.oe_journal.specs.Writes.{IsRecorded}
 use Rattle.oe_journal.specs.GoesBack.{HavePlaces, AllHavePlaces}
 use Rattle.oe_journal.proofs.BackFacts.{more_places}
+use Rattle.oe_journal.proofs.ExactFacts.{made_needed}
 use Rattle.oe_journal.proofs.PurgeFacts.{all_more_places}
 use Rattle.oe_locks.specs.Held.{Holdings}
 use Rattle.oe_engine.specs.View.{view_from}
@@ -48,6 +49,7 @@ module _ (ts ts' : tables.Places) (u x : UndoState) (ls : Holdings) (t : ℕ) (c
         size = h.size ∙ k.size;
         active = λ y. subst (λ z. HavePlaces ts' (z.active y)) (sym h.stands.undo) (places_set ts' t _ (undo_of u.log).active own (λ z. more_places ts ts' more _ (k.active z)) y);
         history = subst (λ z. AllHavePlaces ts' z.history) (sym h.stands.undo) (all_more_places ts ts' more _ k.history);
+        needed = made_needed ts ts' (undo_of u.log) (undo_of x.log) t c h.applies.places h.applies.changes h.stands.undo k.needed;
         idle = λ y e. k.idle y (sym (h.is_open y) ∙ e);
         counted = λ y e. subst (λ n. n < 4_294_967_295) (sym (ap (λ f. f y) h.stands.counts)) (k.counted y (sym (h.is_open y) ∙ e));
       }

@@ -11,7 +11,7 @@ use Rattle.oe_theory.specs.Store.{Slot, rewound_to}
 use Rattle.oe_model.specs.Changes.{Record, record_key}
 use Rattle.oe_model.specs.Meets.{Meets}
 use Rattle.oe_model.specs.System.{system, terminal_limit}
-use Rattle.oe_store.specs.Places.{rows, SamePlaces}
+use Rattle.oe_store.specs.Places.{rows}
 use Rattle.oe_store.specs.Places as tables
 use Rattle.oe_log.specs.Log.{SegmentLog, Committed, active_at, open_total, with_newest, records_in}
 use Rattle.oe_journal.specs.Rewinds.{uncounted, without_newest}
@@ -23,11 +23,11 @@ use Rattle.oe_journal.specs.GivesUp.{IsDeletedIn, HasNoRecord, GivesUpThose, Giv
 use Rattle.oe_journal.specs.GoesBack.{CanUnwindAll, HavePlaces, AllHavePlaces}
 use Rattle.oe_log.specs.Moments.{store_with}
 use Rattle.oe_log.specs.Moments as past
-use Rattle.oe_journal.proofs.BackFacts.{more_places}
+use Rattle.oe_journal.specs.Linked.{StayLinked}
+use Rattle.oe_journal.specs.Named.{AreNeeded, GivesUpUnnamed}
+use Rattle.oe_journal.proofs.NamedFacts.{active_placed, history_placed}
 use Rattle.oe_journal.proofs.LeftFacts.{none_in_open, none_in_commits}
-use Rattle.oe_journal.proofs.PurgeFacts.{all_more_places}
 use Rattle.oe_journal.proofs.RewindFacts.{none_open, quiet_still, rewinds}
-use Rattle.oe_undo.specs.Links as links
 use Rattle.oe_undo.specs.Undo.{UndoState}
 use Rattle.oe_locks.specs.Held.{Holdings}
 use Rattle.oe_engine.specs.View.{View, view_from}
@@ -36,7 +36,8 @@ use Rattle.oe_engine.specs.Kept.{IsKept, IsSound}
 use Rattle.oe_engine.specs.Calls.{IsQuiet, CantRewind, purged_to}
 use Rattle.oe_engine.specs.Calls as calls
 use Rattle.oe_engine.proofs.CoveredFacts.{purged_unwinds, all_left, none_unwinds}
-use Rattle.oe_engine.proofs.LinkFacts.{linked_same, linked_less}
+use Rattle.oe_engine.proofs.LinkFacts.{linked_less}
+use Rattle.oe_engine.proofs.NeededFacts.{purged_needed}
 use Rattle.oe_engine.proofs.LockFacts.{held_of}
 
 -- the commits that are kept have places
@@ -65,9 +66,9 @@ all_still_places ts ts' P g (bs ∷ ss) other h =
 
 -- A purge. A record that is kept is of no key whose place went
 purged_kept : (ts ts' : tables.Places) (u : SegmentLog) (ls : Holdings) (n : ℕ) → GivesUpDeleted ts ts' (drop n (undo_of u).history) (with_newest n u)
-    → IsKept ts u ls → IsKept ts' (with_newest n u) ls
+    → AreNeeded ts' (undo_of (with_newest n u)) → IsKept ts u ls → IsKept ts' (with_newest n u) ls
 unfolding terminal_limit
-purged_kept ts ts' u ls n g k =
+purged_kept ts ts' u ls n g needed k =
     let w : SegmentLog = with_newest n u in
     let gone : Key → Type 0 = λ j. IsDeletedIn j (drop n (undo_of u).history) × HasNoRecord w j in
     record {
@@ -75,6 +76,7 @@ purged_kept ts ts' u ls n g k =
       active = λ t. still_places ts ts' gone g ((undo_of u).active t) (λ j p e. none_in_open j w k.size p.1 t e) (k.active t);
       history = all_still_places ts ts' gone g (undo_of w).history (λ j p e. none_in_commits j w p.1 e)
           (subst (λ z. AllHavePlaces ts z.history) (sym (stands.cuts u n).undo) (taken_places ts n (undo_of u).history k.history));
+      needed = needed;
       idle = k.idle;
       counted = k.counted;
     }
@@ -106,8 +108,10 @@ pub purge_sound : {T E : Type 0} (r : Result T E) (ts ts' : tables.Places) (u u'
     → u'.links ≡ u.links → OnErr r ((ts' ≡ ts) × (u' ≡ u)) → IsSound ts u ls → IsSound ts' u' ls
 purge_sound (Ok x) ts ts' u u' ls m is rows_same places links_same same s =
     let gone = drop (past.newest u.log - m) (undo_of u.log).history in
+    let went = subst (GivesUpDeleted ts ts' gone) is places in
     record {
-      kept = subst (λ z. IsKept ts' z ls) (sym is) (purged_kept ts ts' u.log ls (past.newest u.log - m) (subst (GivesUpDeleted ts ts' gone) is places) s.kept);
+      kept = subst (λ z. IsKept ts' z ls) (sym is)
+          (purged_kept ts ts' u.log ls (past.newest u.log - m) went (purged_needed ts ts' u.log ls (past.newest u.log - m) rows_same went s.safe s.kept.needed) s.kept);
       safe = subst (λ z. IsSafe (view_from ts' z ls)) (sym is) (subst IsSafe (sym (purged_view ts ts' u.log ls m rows_same)) (safe_purged m (view_from ts u.log ls) s.safe));
       linked = linked_less ts ts' u.links u'.links (λ k. IsDeletedIn k gone × HasNoRecord u'.log k) places links_same s.linked;
     }
@@ -133,15 +137,16 @@ size_rewound (suc n) v = size_rewound n (uncounted v v.committed) ∙ one v.comm
     one [] = refl
     one (c ∷ cs) = length-set v.terminals c.terminal _
 
-rewound_kept : (ts ts' : tables.Places) (u : SegmentLog) (ls : Holdings) (n : ℕ) → SamePlaces ts ts' → ((t : ℕ) → active_at u t ≡ None)
-    → IsKept ts u ls → IsKept ts' (without_newest n u) ls
-rewound_kept ts ts' u ls n same quiet k =
+rewound_kept : (ts ts' : tables.Places) (u : SegmentLog) (ls : Holdings) (n : ℕ) → GivesUpUnnamed ts ts' (undo_of u) (undo_of (without_newest n u))
+    → ((t : ℕ) → active_at u t ≡ None) → IsKept ts u ls → IsKept ts' (without_newest n u) ls
+rewound_kept ts ts' u ls n gives quiet k =
     let r = rewinds u n in
     record {
       size = size_rewound n u ∙ k.size;
-      active = λ t. subst (λ z. HavePlaces ts' (z.active t)) (sym r.undo) (more_places ts ts' (λ j h. (same j).1 h) ((undo_of u).active t) (k.active t));
-      history = subst (λ z. AllHavePlaces ts' z.history) (sym r.undo)
-          (left_places ts' n (undo_of u).history (all_more_places ts ts' (λ j h. (same j).1 h) (undo_of u).history k.history));
+      active = λ t. active_placed ts ts' (undo_of u) (undo_of (without_newest n u)) gives t (subst (λ z. HavePlaces ts (z.active t)) (sym r.undo) (k.active t));
+      history = history_placed ts ts' (undo_of u) (undo_of (without_newest n u)) gives
+          (subst (λ z. AllHavePlaces ts z.history) (sym r.undo) (left_places ts n (undo_of u).history k.history));
+      needed = gives.needed k.needed;
       idle = λ t e. k.idle t (ap is_some (quiet t));
       counted = λ t e. let no : false ≡ true = sym (ap is_some (quiet_rewound n u quiet t)) ∙ e in cc;
     }
@@ -181,19 +186,19 @@ no_records_of u quiet t = ap (λ a. model_records (records_in a)) (quiet t)
 pub rewind_sound : {T E : Type 0} (r : Result T E) (ts ts' : tables.Places) (u u' : UndoState) (ls : Holdings) (m : ℕ) → OnOk r (open_total u.log ≡ 0)
     → OnOk r (u'.log ≡ without_newest (past.newest u.log - m) u.log)
     → OnOk r ((slots : ℕ → Option (Slot system)) → store_with (rows ts') u'.log slots ≡ rewound_to system m (store_with (rows ts) u.log slots))
-    → SamePlaces ts ts' → links.SamePlaces u.links u'.links → OnErr r (u' ≡ u) → OnErr r (ts' ≡ ts) → Meets (rows ts') → IsSound ts u ls → IsSound ts' u' ls
+    → GivesUpUnnamed ts ts' (undo_of u.log) (undo_of u'.log) → StayLinked ts ts' u.links u'.links → OnErr r (u' ≡ u) → OnErr r (ts' ≡ ts) → Meets (rows ts') → IsSound ts u ls → IsSound ts' u' ls
 unfolding view_from
-rewind_sound (Ok x) ts ts' u u' ls m none log is places same_links same same_tables meets s =
+rewind_sound (Ok x) ts ts' u u' ls m none log is places stay same same_tables meets s =
     let quiet = none_open u.log none in
     let stored = subst (λ z. (slots : ℕ → Option (Slot system)) → store_with (rows ts') z slots ≡ rewound_to system m (store_with (rows ts) u.log slots)) log is in
     let there : rows ts' ≡ (calls.rewound_to m (view_from ts u.log ls)).rows = ap (λ z. z.tables) (stored (λ t. None)) in
     record {
-      kept = subst (λ z. IsKept ts' z ls) (sym log) (rewound_kept ts ts' u.log ls (past.newest u.log - m) places quiet s.kept);
+      kept = subst (λ z. IsKept ts' z ls) (sym log) (rewound_kept ts ts' u.log ls (past.newest u.log - m) (subst (λ z. GivesUpUnnamed ts ts' (undo_of u.log) (undo_of z)) log places) quiet s.kept);
       safe = subst (λ z. IsSafe (view_from ts' z ls)) (sym log)
           (subst IsSafe (sym (rewound_view ts ts' u.log ls m quiet stored)) (safe_rewound m (view_from ts u.log ls) (no_records_of u.log quiet) (subst Meets there meets) s.safe));
-      linked = linked_same ts ts' u.links u'.links places same_links s.linked;
+      linked = stay.linked s.linked;
     }
-rewind_sound (Err e) ts ts' u u' ls m none log is places same_links same same_tables meets s =
+rewind_sound (Err e) ts ts' u u' ls m none log is places stay same same_tables meets s =
     subst (λ z. IsSound z u' ls) (sym same_tables) (subst (λ z. IsSound ts z ls) (sym same) s)
 
 pub rewind_view : {T E : Type 0} (r : Result T E) (ts ts' : tables.Places) (u u' : UndoState) (ls : Holdings) (m : ℕ) → OnOk r (open_total u.log ≡ 0)

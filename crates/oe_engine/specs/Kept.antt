@@ -9,6 +9,7 @@ use Rattle.oe_locks.specs.Held.{Holdings, HoldsNothing}
 use Rattle.oe_undo.specs.Undo.{UndoState}
 use Rattle.oe_journal.specs.GoesBack.{HavePlaces, AllHavePlaces}
 use Rattle.oe_journal.specs.Linked.{AreLinked}
+use Rattle.oe_journal.specs.Named.{AreNeeded}
 use Rattle.oe_engine.specs.View.{view_from}
 use Rattle.oe_engine.specs.Covered.{IsSafe}
 
@@ -17,6 +18,8 @@ pub record IsKept (ts : tables.Places) (u : undo.SegmentLog) (ls : Holdings) : T
   -- the records of open transactions and of commits can be put back
   pub active : (t : ℕ) → HavePlaces ts ((undo_of u).active t)
   pub history : AllHavePlaces ts (undo_of u).history
+  -- a key that no record names has a place only where it has a row
+  pub needed : AreNeeded ts (undo_of u)
   -- a terminal without an open transaction holds no name
   pub idle : (t : ℕ) → is_some (active_at u t) ≡ false → HoldsNothing ls t
   -- the number of an open transaction is in its range

@@ -8,6 +8,7 @@ ghost use Rattle.oe_model.specs.Requests.{number_rejection};
 ghost use Rattle.oe_model.specs.System.{system, terminal_limit};
 ghost use Rattle.oe_store.specs.Places.{rows};
 ghost use Rattle.oe_journal.specs.GoesBack.{CanUnwind};
+ghost use Rattle.oe_journal.specs.Named.{AreExact};
 ghost use Rattle.oe_locks.specs.Held as locks;
 ghost use Rattle.oe_engine.specs.View.{view_of, opened_view, IsOpen};
 ghost use Rattle.oe_engine.specs.Covered.{IsUnused, IsSafe};
@@ -116,18 +117,20 @@ fn is_below(mode: Option<Mode>, held: Option<Mode>) -> bool
 
 impl Engine {
     /// An engine on tables where nothing has begun or committed; its name tells its transactions from other engines'.
-    /// Each key of the tables that are changed gets a place for its link. `NoMemory` where memory was refused.
+    /// A key without a row has no place any more, and each key of the tables that are changed gets a place for its link. `NoMemory` where
+    /// memory was refused.
     pub fn open(
         alloc: Global,
-        tables: Tables,
+        mut tables: Tables,
         extents: ExtentCount,
         name: u32,
     ) -> Result<Engine, NoMemory>
         ensures view { IfOk result (λ e. view_of e ≡ opened_view (rows tables) extents) }
         ensures name { IfOk result (λ e. e.name ≡ name) }
     {
+        tables.sweep();
         let Ok((undo, locks)) = beside(alloc, &tables, extents) else {
-            drop(tables);
+            tables.discard();
             return Err(NoMemory);
         };
         tables.schema_holds();
@@ -245,14 +248,15 @@ impl Engine {
         }
     }
 
-    /// What holds of open work at all times: what a transaction has changed it alone may change, and all of it can be put back, in
-    /// any order of transactions.
+    /// What holds at all times: what an open transaction has changed it alone may change, and all open work can be put back, in
+    /// any order of transactions. The keys with places are exactly those that have a row, and those that a record names.
     #[tactic(auto, unfolding(crate::specs::View::view_of))]
     #[inline(always)]
     pub fn is_safe(&self)
         ensures safe { IsSafe (view_of self.now) }
         ensures unwinds { (t : ℕ) → CanUnwind ((view_of self.now).undo.active t)
             (view_of self.now).rows }
+        ensures exact { AreExact self.now.tables (view_of self.now).undo }
     {
         let _known = &self.tables;
     }
@@ -401,6 +405,15 @@ impl Engine {
         requires { (t : ℕ) → (view_of self).is_open t ≡ false }
         ensures { rows result ≡ (view_of self).rows }
     {
-        self.tables
+        let Engine {
+            tables,
+            undo,
+            locks,
+            name: _,
+            alloc: _,
+        } = self;
+        undo.discard();
+        locks.discard();
+        tables
     }
 }

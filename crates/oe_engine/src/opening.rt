@@ -88,7 +88,7 @@ fn linked_undo(alloc: Global, tables: &Tables, extents: ExtentCount) -> Result<U
         return Err(NoMemory);
     };
     if let Err(refusal) = link_all(tables, &mut undo) {
-        drop(undo);
+        undo.discard();
         return Err(refusal);
     }
     Ok(undo)
@@ -111,7 +111,7 @@ pub(crate) fn beside(
     match linked_undo(alloc, tables, extents) {
         Ok(undo) => Ok((undo, locks)),
         Err(refusal) => {
-            drop(locks);
+            locks.discard();
             Err(refusal)
         }
     }

@@ -32,7 +32,7 @@ impl Engine {
     /// Undoes the commits after a moment, the newest first, while no transaction is open: the moment becomes the newest, and the
     /// next commit the one after it. It takes no memory.
     ///
-    /// `NotQuiet`: so many transactions are open. `TooOld` with the oldest, `Future` with the newest moment: the moment is not
+    /// `NotQuiet` with the number of open transactions. `TooOld` with the oldest, `Future` with the newest moment: the moment is not
     /// between the two. The first of these is named, and nothing has changed then.
     #[tactic(auto, unfolding(crate::specs::View::view_of, crate::specs::View::view_from))]
     pub fn rewind(&mut self, moment: Moment) -> Result<(), Refusal>

@@ -12,7 +12,8 @@ use Rattle.oe_model.specs.Rows.{Rows, is_key, row_at}
 use Rattle.oe_model.specs.System.{system}
 use Rattle.oe_model.proofs.RowFacts.{key_true, record_key_of}
 use Rattle.oe_theory.specs.Undo.{unwind}
-use Rattle.oe_store.specs.Places.{Places, rows, HasPlace, AddsPlace}
+use Rattle.oe_store.specs.Places.{Places, rows, HasPlace}
+use Rattle.std.specs.Prelude.{◌⊎◌}
 use Rattle.oe_change.specs.declared.writes.Write.{Write}
 use Rattle.oe_change.specs.Writes.{key_written, written}
 use Rattle.oe_change.proofs.UndoFacts.{can_at_once, gone_back}
@@ -38,6 +39,7 @@ use Rattle.oe_journal.specs.Unwinds.{TakesBack}
 use Rattle.oe_journal.specs.Writes.{IsRecorded}
 use Rattle.oe_journal.specs.Identity.{led_back, LeadBack, MayTakeBack, IsAsBefore, Write_then_take_back_is_identity}
 use Rattle.oe_journal.proofs.BackFacts.{newest_before, more_places}
+use Rattle.oe_journal.proofs.ExactFacts.{exactly_back}
 use Rattle.oe_journal.proofs.MoreFacts.{there_is}
 use Rattle.oe_journal.proofs.RecordFacts.{write_records}
 use Rattle.oe_journal.proofs.WriteFacts.{record_written}
@@ -80,6 +82,12 @@ one_led old new t r pop back k =
 
 led_same : (h t : ℕ) (rs : List Logged) (f g : Key → Option Link) → ((k : Key) → f k ≡ g k) → (k : Key) → led_back h t rs f k ≡ led_back h t rs g k
 led_same h t rs f g same k = ap (λ z. led_back h t rs z k) (fun_ext same)
+
+-- of two that lead alike
+pub led_alike : (h t n : ℕ) (u w : UndoState) → w.log ≡ u.log → SameLinks u w → (k : Key)
+    → led_back h t (take n (records_at w.log t)) (seen w) k ≡ led_back h t (take n (records_at u.log t)) (seen u) k
+led_alike h t n u w log same k =
+    ap (λ v. led_back h t (take n (records_at v t)) (seen w) k) log ∙ led_same h t (take n (records_at u.log t)) (seen w) (seen u) same k
 
 -- what is left to do makes of this what all of it makes of the first
 pub led_on : (first old new : UndoState) (t left count : ℕ) (b : Record) → is_some (active_at old.log t) ≡ true → horizon old.log ≡ horizon first.log
@@ -158,7 +166,9 @@ module _ (w : Write) (ts ts' : Places) (u u' : UndoState) (t : ℕ) (is : IsSome
       same_rows = same_rows;
       same_links = same_links;
       same_log = same_log;
-      places = subst (AddsPlace ts ts'') own_written (λ k. (λ p. (h.applies.places k).0 ((back.others.places k).0 p), λ p. (back.others.places k).1 ((h.applies.places k).1 p)));
+      fewer = λ k p. subst (λ (j : Key). HasPlace ts k ⊎ (k ≡ j)) own_written ((h.applies.places k).0 (back.others.places.fewer k p));
+      places = λ exact. exactly_back ts ts' ts'' u.log u'.log u''.log t c h.applies.places
+          h.applies.changes h.stands.undo exact back.others.places same_rows (ap undo_of same_log);
       by_name = λ d last. ap (λ (r : Rows). namesakes d last r.customers) same_rows;
       by_customer = λ d. ap (λ (r : Rows). orders_of d r.orders) same_rows;
       by_age = λ d. ap (λ (r : Rows). oldest d r.new_orders) same_rows;

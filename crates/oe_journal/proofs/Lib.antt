@@ -13,3 +13,5 @@ mod UnplacedFacts
 pub mod LedFacts
 pub mod PurgeFacts
 pub mod LeftFacts
+pub mod NamedFacts
+pub mod ExactFacts

@@ -1,6 +1,6 @@
 -- What is known where a terminal's open segment has a record more, and after that is taken off again.
 use Rattle.std.proofs.Common.{◌≡◌, ℕ, refl, sym, ap, ◌∙◌, subst, ◌∷◌, length, Option, None, Some, is_some, true}
-use Rattle.std.specs.Prelude.{option_map}
+use Rattle.std.specs.Prelude.{◌⊎◌, option_map}
 use Rattle.std.specs.Option.{IsSomeAnd}
 use Rattle.oe_theory.proofs.Sets.{some_inj}
 use Rattle.oe_rows.specs.declared.keys.Key.{Key}
@@ -15,7 +15,7 @@ use Rattle.oe_log.specs.Stands.{model_records}
 use Rattle.oe_log.specs.Laws.{StandsWith}
 use Rattle.oe_undo.specs.Held.{horizon}
 use Rattle.oe_undo.specs.Laws.{IsWhole}
-use Rattle.oe_undo.specs.Links.{HasPlace, links_of}
+use Rattle.oe_undo.specs.Links.{HasPlace, links_of, Comes, GivesAtMost}
 use Rattle.oe_undo.specs.Undo.{UndoState, seen, unended, IsGivenBack, GivesBack}
 use Rattle.oe_journal.specs.Linked.{AreLinked, SameLinks}
 use Rattle.oe_journal.specs.Records.{record_in}
@@ -112,6 +112,16 @@ module _ (o : Option Record) (u u' : UndoState) (t : ℕ) (is : is_some (active_
       given_back u u' x (record_key b.0) _ b.2.link b.1.pushed.link b.2.set log
       (b.2.leads ∙ ap (unended (horizon x.log)) b.1.leads ∙ ap (λ v. unended (horizon v) (seen u (record_key b.0))) log
       ∙ followed_unended u.log (links_of u.links (record_key b.0)) (subst IsWhole log whole).commits)
+
+  -- no key has a place more but the record's, and those that come with it
+  pub unpushed_places : (own : Key) → ((b : Record) → o ≡ Some b → record_key b ≡ own) → (x : UndoState) → GivesBack u' x t (records_at u'.log t) → GivesAtMost u.links x.links own
+  unfolding key_given_back there_is
+  unpushed_places own key_is x back k p =
+      let b = key_given_back x back in
+      let found = there_is (λ b. HasMore b u u' t) o push in
+      let same : record_key b.0 ≡ own = key_is b.0 found.1 in
+      let had : HasPlace u'.links k = ((set_leads u'.links x.links (record_key b.0) b.2.link b.2.set).same b.1.pushed.link.placed k).0 p in
+      subst (λ (j : Key). HasPlace u.links k ⊎ Comes j k) same (b.1.pushed.link.given k had)
 
   -- and the keys of the tables have their places
   pub unpushed_linked : (ts : Places) (x : UndoState) → GivesBack u' x t (records_at u'.log t) → AreLinked ts u.links → AreLinked ts x.links

@@ -1,25 +1,23 @@
 -- The newest commits are undone, one after another.
 use Rattle.std.proofs.Common.{◌≡◌, ℕ, zero, suc, ◌-◌, ◌<◌, ◌≤◌, refl, sym, ap, ◌∙◌, subst, arith, List, [], ◌∷◌, length, map, take, drop, Option, None}
 use Rattle.std.proofs.lemmas.List.{length-map}
-use Rattle.oe_rows.specs.declared.keys.Key.{Key}
-use Rattle.oe_theory.specs.Undo.{unwind, unwind_commits}
+use Rattle.oe_theory.specs.World.{set}
+use Rattle.oe_theory.specs.Undo.{Undo, unwind, unwind_commits}
 use Rattle.oe_theory.specs.Store.{Slot, rewound_to}
 use Rattle.oe_model.specs.Changes.{Record}
 use Rattle.oe_model.specs.System.{system}
-use Rattle.oe_store.specs.Places.{rows, HasPlace, SamePlaces}
+use Rattle.oe_store.specs.Places.{rows}
 use Rattle.oe_store.specs.Places as tables
 use Rattle.oe_log.specs.Records.{Logged}
-use Rattle.oe_log.specs.Log.{SegmentLog, Committed, active_at, records_at, reopened}
+use Rattle.oe_log.specs.Log.{SegmentLog, Committed, active_at, records_in, records_at, reopened, dropped}
+use Rattle.oe_log.proofs.LawFacts as stands
 use Rattle.oe_log.specs.Stands.{model_records, undo_of}
 use Rattle.oe_journal.specs.GoesBack.{CanUnwind, CanUnwindAll, HavePlaces, AllHavePlaces}
 use Rattle.oe_log.specs.Moments.{store_with, newest}
 use Rattle.oe_journal.specs.Rewinds.{uncounted, without_newest}
-use Rattle.oe_journal.proofs.BackFacts.{more_places, same_places, then_places}
+use Rattle.oe_journal.specs.Named.{GivesUpUnnamed}
+use Rattle.oe_journal.proofs.NamedFacts.{NamesAlike, reopened_names, alike_before, none_given_up, then_given_up, history_placed}
 use Rattle.oe_journal.proofs.RewindFacts.{rewinds, quiet_still, left_over, IsNewest, newest_records}
-
-all_more_places : (ts ts' : tables.Places) → ((k : Key) → HasPlace ts k → HasPlace ts' k) → (ss : List (List Record)) → AllHavePlaces ts ss → AllHavePlaces ts' ss
-all_more_places ts ts' more [] h = tt
-all_more_places ts ts' more (bs ∷ ss) h = (more_places ts ts' more bs h.0, all_more_places ts ts' more ss h.1)
 
 -- all of some records, counted by the log's
 all_taken : (rs : List Logged) → take (length rs) (model_records rs) ≡ model_records rs
@@ -52,6 +50,29 @@ module _ (ts : tables.Places) (v u : SegmentLog) (t : ℕ) (n : IsNewest v t) (i
       h ∙ ap (λ z. unwind system z (rows ts)) (all_taken (records_at u t) ∙ own_are)
       ∙ ap (λ z. unwind_commits system (take 1 z) (rows ts)) (sym (first_are v t n))
 
+-- opened again, they are named as before, so that places go as they are taken back
+pub newest_given_up : (ts ts' : tables.Places) (v u w x : SegmentLog) (t : ℕ) (n : IsNewest v t) → u ≡ reopened v v.committed → active_at v t ≡ None
+    → GivesUpUnnamed ts ts' (undo_of u) (undo_of w) → x ≡ dropped w t → records_at w t ≡ [] → GivesUpUnnamed ts ts' (undo_of v) (undo_of x)
+newest_given_up ts ts' v u w x t n is quiet given_up gone empty =
+    subst (λ (z : Undo system). GivesUpUnnamed ts ts' (undo_of v) z) (sym (ap undo_of gone ∙ (stands.drops w t empty).undo))
+    (alike_before ts ts' (undo_of v) (undo_of u) (undo_of w) alike given_up)
+  where
+    older : List (List Record)
+    older = map (λ (c : Committed). model_records c.records) n.older
+
+    within : n.newest.terminal < length v.terminals
+    within = subst (λ k. k < length v.terminals) (sym n.own) n.within
+
+    none : (undo_of v).active n.newest.terminal ≡ []
+    none = ap (λ k. (undo_of v).active k) n.own ∙ ap (λ a. model_records (records_in a)) quiet
+
+    undo_is : undo_of u ≡ record { active = set n.newest.terminal (model_records n.newest.records) (undo_of v).active; history = older }
+    undo_is = ap undo_of is ∙ (stands.reopens v n.newest n.older n.are within).undo
+        ∙ (λ i. record { active = set n.newest.terminal (model_records n.newest.records) (undo_of v).active; history = drop 1 (first_are v t n i) })
+
+    alike : NamesAlike (undo_of v) (undo_of u)
+    alike = subst (λ (d : Undo system). NamesAlike (undo_of v) d) (sym undo_is) (reopened_names (undo_of v) n.newest.terminal (model_records n.newest.records) older none (first_are v t n))
+
 -- ---- of the newest commits: of the newest `count` of u on ts, so many are left of u' on ts'
 pub record Undoes (ts ts' : tables.Places) (u u' : SegmentLog) (count left : ℕ) : Type 0 where
   pub log : without_newest left u' ≡ without_newest count u
@@ -60,14 +81,14 @@ pub record Undoes (ts ts' : tables.Places) (u u' : SegmentLog) (count left : ℕ
   pub enough : left ≤ length u'.committed
   pub places : AllHavePlaces ts' (undo_of u').history
   pub can : CanUnwindAll (undo_of u').history (rows ts')
-  pub same : SamePlaces ts ts'
+  pub given_up : GivesUpUnnamed ts ts' (undo_of u) (undo_of u')
 
 pub none_undone : (ts : tables.Places) (u : SegmentLog) (count : ℕ) → ((t : ℕ) → active_at u t ≡ None) → count ≤ length u.committed
     → AllHavePlaces ts (undo_of u).history → CanUnwindAll (undo_of u).history (rows ts) → Undoes ts ts u u count (count - 0)
 none_undone ts u count quiet enough places can =
     let all : count ≡ count - 0 = omega arith in
     subst (Undoes ts ts u u count) all
-    (record { log = refl; put = refl; quiet = quiet; enough = enough; places = places; can = can; same = same_places ts })
+    (record { log = refl; put = refl; quiet = quiet; enough = enough; places = places; can = can; given_up = none_given_up ts (undo_of u) })
 
 -- the first of some lists, and the rest
 parted : (ss : List (List Record)) → 0 < length ss → (bs : List Record) × (ss ≡ bs ∷ drop 1 ss)
@@ -75,11 +96,12 @@ parted [] h = let no : ⊥ = omega arith in absurd no
 parted (bs ∷ ss) h = (bs, refl)
 
 pub one_undone : (ts ts' ts'' : tables.Places) (u u' u'' : SegmentLog) (count left : ℕ) → u'' ≡ without_newest 1 u'
-    → rows ts'' ≡ unwind_commits system (take 1 (undo_of u').history) (rows ts') → SamePlaces ts' ts'' → Undoes ts ts' u u' count (suc left)
+    → rows ts'' ≡ unwind_commits system (take 1 (undo_of u').history) (rows ts') → GivesUpUnnamed ts' ts'' (undo_of u') (undo_of u'') → Undoes ts ts' u u' count (suc left)
     → Undoes ts ts'' u u'' count left
-one_undone ts ts' ts'' u u' u'' count left gone put same h =
+one_undone ts ts' ts'' u u' u'' count left gone put given_up h =
     subst (λ z. Undoes ts ts'' u z count left) (sym gone)
-    (let hist : List (List Record) = (undo_of u').history in
+    (let step = subst (λ z. GivesUpUnnamed ts' ts'' (undo_of u') (undo_of z)) gone given_up in
+    let hist : List (List Record) = (undo_of u').history in
     let many : length hist ≡ length u'.committed = length-map u'.committed (λ (c : Committed). model_records c.records) in
     let enough = h.enough in
     let first = parted hist (omega arith) in
@@ -94,9 +116,9 @@ one_undone ts ts' ts'' u u' u'' count left gone put same h =
           ∙ ap (λ z. unwind_commits system (take (suc left) z) (rows ts')) (sym is) ∙ h.put;
       quiet = quiet_still u' u'.committed h.quiet;
       enough = left_over u' u'.committed left refl h.enough;
-      places = subst (AllHavePlaces ts'') (sym after) (all_more_places ts' ts'' (λ k g. (same k).1 g) (drop 1 hist) places);
+      places = history_placed ts' ts'' (undo_of u') (undo_of (without_newest 1 u')) step (subst (AllHavePlaces ts') (sym after) places);
       can = subst (λ z. CanUnwindAll z (rows ts'')) (sym after) (subst (CanUnwindAll (drop 1 hist)) (sym now) can);
-      same = then_places ts ts' ts'' h.same same;
+      given_up = then_given_up ts ts' ts'' (undo_of u) (undo_of u') (undo_of (without_newest 1 u')) h.given_up step;
     })
 
 -- in the theory's words

@@ -1,5 +1,5 @@
 -- Where keys lead after records were put back, and the law of a write that is taken back.
-use Rattle.std.specs.Prelude.{◌≡◌, ℕ, ◌≤◌, List, [], ◌∷◌, length, take, drop, Option, IsSome}
+use Rattle.std.specs.Prelude.{◌≡◌, ◌⊎◌, ℕ, ◌≤◌, List, [], ◌∷◌, length, take, drop, Option, IsSome}
 use Rattle.oe_rows.specs.declared.keys.Key.{Key}
 use Rattle.oe_rows.specs.declared.keys.DistrictKey.{DistrictKey}
 use Rattle.oe_rows.specs.declared.keys.CustomerKey.{CustomerKey}
@@ -8,7 +8,7 @@ use Rattle.oe_model.specs.Choice.{namesakes}
 use Rattle.oe_model.specs.Delivery.{oldest}
 use Rattle.oe_model.specs.Meets.{Meets}
 use Rattle.oe_model.specs.Queries.{orders_of}
-use Rattle.oe_store.specs.Places.{Places, rows, AddsPlace}
+use Rattle.oe_store.specs.Places.{Places, rows, HasPlace, SamePlaces}
 use Rattle.oe_change.specs.declared.writes.Write.{Write}
 use Rattle.oe_change.specs.Writes.{key_written}
 use Rattle.oe_log.specs.Records.{Logged}
@@ -22,6 +22,7 @@ use Rattle.oe_undo.specs.Laws.{IsWhole}
 use Rattle.oe_undo.specs.Undo.{UndoState, seen, unended}
 use Rattle.oe_journal.specs.GoesBack.{CanUnwind, HavePlaces}
 use Rattle.oe_journal.specs.Linked.{SameLinks}
+use Rattle.oe_journal.specs.Named.{AreExact}
 use Rattle.oe_journal.specs.Unwinds.{TakesBack}
 use Rattle.oe_journal.specs.Writes.{HasRecorded}
 
@@ -42,13 +43,14 @@ pub record MayTakeBack (ts : Places) (u : SegmentLog) (t : ℕ) : Type 0 where
   pub places : HavePlaces ts ((undo_of u).active t)
   pub unwinds : CanUnwind (take 1 ((undo_of u).active t)) (rows ts)
 
--- All is as it was: the rows of the nine tables, each key's link, and the log; and so is what customers and orders are found by. But that
--- one key may have a place that it had not
+-- All is as it was: the rows of the nine tables, each key's link, and the log; and so is what customers and orders are found by. No key
+-- but the write's may have a place that it had not; and where places were kept for rows and records alone, the same keys have them
 pub record IsAsBefore (ts ts' : Places) (u u' : UndoState) (own : Key) : Type 0 where
   pub same_rows : rows ts' ≡ rows ts
   pub same_links : SameLinks u u'
   pub same_log : u'.log ≡ u.log
-  pub places : AddsPlace ts ts' own
+  pub fewer : (k : Key) → HasPlace ts' k → HasPlace ts k ⊎ (k ≡ own)
+  pub places : AreExact ts (undo_of u.log) → SamePlaces ts ts'
   pub by_name : (h : DistrictKey) (last : List ℕ) → namesakes h last (rows ts').customers ≡ namesakes h last (rows ts).customers
   pub by_customer : (c : CustomerKey) → orders_of c (rows ts').orders ≡ orders_of c (rows ts).orders
   pub by_age : (h : DistrictKey) → oldest h (rows ts').new_orders ≡ oldest h (rows ts).new_orders

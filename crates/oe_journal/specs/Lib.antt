@@ -6,4 +6,5 @@ pub mod GoesBack
 pub mod Unwinds
 pub mod Rewinds
 pub mod GivesUp
+pub mod Named
 pub mod Identity

@@ -7,15 +7,16 @@ ghost use Rattle.oe_store.specs.Places.{rows};
 ghost use Rattle.oe_log.specs.Log.{with_newest, committed_records};
 ghost use Rattle.oe_log.specs.Stands.{undo_of, model_records};
 ghost use Rattle.oe_log.specs.Moments.{store_with, newest, IsKeptMoment, IsUnkept};
-ghost use Rattle.oe_undo.specs.Chains.{IsForgotten, IsEnd};
+ghost use Rattle.oe_undo.specs.Chains.{IsEnd};
 ghost use Rattle.oe_undo.specs.Undo.{seen};
 ghost use Rattle.oe_journal.specs.GivesUp.{IsDeleted, GivesUpThose, GivesUpDeleted};
 
+use crate::names::has_ended;
 use oe_requests::Refusal;
 use oe_rows::{Key, NewOrderKey};
 use oe_store::Tables;
+use oe_undo::Undo;
 use oe_undo::laws::{calls_keep_chains, ends_without_records};
-use oe_undo::{Holder, Undo};
 use oe_values::Moment;
 
 /// Gives up the segments of the commits up to a moment, which becomes the horizon, and the places of the NEW-ORDER keys that these
@@ -47,7 +48,7 @@ pub fn purge(tables: &mut Tables, undo: &mut Undo, moment: Moment) -> Result<(),
     }
 }
 
-/// Gives up the segments of the oldest commits, so many, of which the moment is the last, with the places of what they deleted.
+/// Gives up the segments of the `count` oldest commits, of which the moment is the last, with the places of what they deleted.
 fn forget_oldest(tables: &mut Tables, undo: &mut Undo, moment: Moment, count: usize)
     requires kept { count ≤ length undo.old.log.committed }
     requires last { moment
@@ -91,27 +92,14 @@ fn give_up_key(tables: &mut Tables, undo: &Undo, key: NewOrderKey, moment: Momen
     ensures places { GivesUpThose tables.old tables.new
         (λ k. (k ≡ Key.NewOrder key) × IsEnd moment (seen undo.now k)) }
 {
-    if has_ended(undo, &key, moment) {
+    if new_order_has_ended(undo, &key, moment) {
         tables.give_up_new_order(key);
     }
 }
 
-/// Whether a key's link leads to no record of an open transaction, nor of a commit after the moment.
-fn has_ended(undo: &Undo, key: &NewOrderKey, moment: Moment) -> bool
+/// Whether a NEW-ORDER key's link leads to no record of an open transaction, nor of a commit after the moment.
+fn new_order_has_ended(undo: &Undo, key: &NewOrderKey, moment: Moment) -> bool
     ensures { IsTrue result ↔ IsEnd moment (seen undo.now (Key.NewOrder key.now)) }
 {
-    match undo.link(&Key::NewOrder(*key)) {
-        None => true,
-        Some(link) => is_forgotten(&link.holder, moment),
-    }
-}
-
-/// Whether a holder's commit is given up by a purge to the moment.
-fn is_forgotten(holder: &Holder, moment: Moment) -> bool
-    ensures { IsTrue result ↔ IsForgotten moment holder.now }
-{
-    match holder {
-        Holder::Open(_) => false,
-        Holder::At(made) => *made <= moment,
-    }
+    has_ended(undo, &Key::NewOrder(*key), moment)
 }

@@ -3,12 +3,13 @@ ghost use Rattle.std.specs.Prelude.{◌≡◌, ◌-◌, ◌<◌, ◌≤◌, ℕ,
 ghost use Rattle.oe_theory.specs.Undo.{unwind_commits};
 ghost use Rattle.oe_theory.specs.Store.{Slot, rewound_to};
 ghost use Rattle.oe_model.specs.System.{system};
-ghost use Rattle.oe_store.specs.Places.{rows, SamePlaces};
+ghost use Rattle.oe_store.specs.Places.{rows};
 ghost use Rattle.oe_log.specs.Log.{active_at, open_total};
 ghost use Rattle.oe_log.specs.Moments.{store_with, newest, IsKeptMoment};
 ghost use Rattle.oe_log.specs.Stands.{undo_of};
-ghost use Rattle.oe_undo.specs.Links as links;
 ghost use Rattle.oe_journal.specs.GoesBack.{CanUnwindAll, AllHavePlaces};
+ghost use Rattle.oe_journal.specs.Linked.{StayLinked};
+ghost use Rattle.oe_journal.specs.Named.{GivesUpUnnamed};
 ghost use Rattle.oe_journal.specs.Rewinds.{without_newest, CantRewind};
 
 use crate::unwinding::take_back;
@@ -18,9 +19,10 @@ use oe_undo::Undo;
 use oe_values::{Moment, TerminalCount};
 
 /// Undoes the commits after a moment, which becomes the newest: their records are put back, the newest first, and their terminals
-/// no longer count them. It takes no memory, and visits no segment that is kept.
+/// no longer count them. A key without a row that no record names any more has no place any more. It takes no memory, and visits no
+/// segment that is kept.
 ///
-/// `NotQuiet`: so many transactions are open. `TooOld` with the horizon, `Future` with the newest moment: the moment is not
+/// `NotQuiet` with the number of open transactions. `TooOld` with the horizon, `Future` with the newest moment: the moment is not
 /// between the two. The first of these is named, and nothing has changed then.
 #[tactic(auto, using(crate::proofs::RewindFacts::none_open))]
 pub fn rewind(tables: &mut Tables, undo: &mut Undo, moment: Moment) -> Result<(), Refusal>
@@ -35,8 +37,9 @@ pub fn rewind(tables: &mut Tables, undo: &mut Undo, moment: Moment) -> Result<()
         ((slots : ℕ → Option (Slot system))
         → store_with (rows tables.new) undo.new.log slots
         ≡ rewound_to system moment (store_with (rows tables.old) undo.old.log slots)) }
-    ensures places { SamePlaces tables.old tables.new }
-    ensures links { links.SamePlaces undo.old.links undo.new.links }
+    ensures places { GivesUpUnnamed tables.old tables.new
+        (undo_of undo.old.log) (undo_of undo.new.log) }
+    ensures links { StayLinked tables.old tables.new undo.old.links undo.new.links }
     ensures cause { IfErr result (CantRewind undo.old.log moment) }
     ensures err { OnErr result (undo.new ≡ undo.old) }
     ensures err_tables { OnErr result (tables.new ≡ tables.old) }
@@ -53,7 +56,7 @@ pub fn rewind(tables: &mut Tables, undo: &mut Undo, moment: Moment) -> Result<()
     }
 }
 
-/// Undoes the newest commits, so many.
+/// Undoes the `count` newest commits.
 fn take_newest(tables: &mut Tables, undo: &mut Undo, count: usize)
     requires quiet { (t : ℕ) → active_at undo.old.log t ≡ None }
     requires enough { count ≤ length undo.old.log.committed }
@@ -62,8 +65,9 @@ fn take_newest(tables: &mut Tables, undo: &mut Undo, count: usize)
     ensures rows { rows tables.new
         ≡ unwind_commits system (take count (undo_of undo.old.log).history) (rows tables.old) }
     ensures log { undo.new.log ≡ without_newest count undo.old.log }
-    ensures places { SamePlaces tables.old tables.new }
-    ensures links { links.SamePlaces undo.old.links undo.new.links }
+    ensures places { GivesUpUnnamed tables.old tables.new
+        (undo_of undo.old.log) (undo_of undo.new.log) }
+    ensures links { StayLinked tables.old tables.new undo.old.links undo.new.links }
 {
     for _ in 0..count {
         undo_newest(tables, undo);
@@ -79,8 +83,9 @@ fn undo_newest(tables: &mut Tables, undo: &mut Undo)
     ensures rows { rows tables.new
         ≡ unwind_commits system (take 1 (undo_of undo.old.log).history) (rows tables.old) }
     ensures log { undo.new.log ≡ without_newest 1 undo.old.log }
-    ensures places { SamePlaces tables.old tables.new }
-    ensures links { links.SamePlaces undo.old.links undo.new.links }
+    ensures places { GivesUpUnnamed tables.old tables.new
+        (undo_of undo.old.log) (undo_of undo.new.log) }
+    ensures links { StayLinked tables.old tables.new undo.old.links undo.new.links }
 {
     // For the proof: the segment is of one of the log's terminals.
     undo.segments().terminals_are();

@@ -4,7 +4,8 @@ ghost use Rattle.oe_change.specs.Writes.{key_written, written};
 ghost use Rattle.oe_store.specs.Places.{rows};
 ghost use Rattle.oe_log.specs.Log.{active_at};
 ghost use Rattle.oe_undo.specs.Chains.{IsAlone};
-ghost use Rattle.oe_journal.specs.Linked.{AreLinked, SameLinks};
+ghost use Rattle.oe_undo.specs.Links.{GivesAtMost};
+ghost use Rattle.oe_journal.specs.Linked.{AreLinked, SameLinks, StayLinked};
 ghost use Rattle.oe_journal.specs.Writes.{HasRoomFor, HasWritten, HasRecorded, CantWrite};
 
 use crate::lending::lend;
@@ -24,7 +25,7 @@ use oe_undo::{CantPush, Undo};
 /// free one. Else, where the tables refuse the change, `RowExists`: the key of an insert is there; `Reference`: what the new row
 /// refers to is absent (clauses 1.3 and 1.4); `NoSuchRow`: the row to be deleted is absent; `NoMemory`: the tables accept the insert,
 /// but its key takes a new place there and one for its link, and memory for one of them was refused. The first of these is named.
-/// Nothing has changed then, but that the key may have a place for its link, an empty one where it had none.
+/// Nothing has changed then, but that the key, and those that come with it, may have empty places for their links where they had none.
 pub fn write(
     tables: &mut Tables,
     undo: &mut Undo,
@@ -43,6 +44,8 @@ pub fn write(
     ensures err { OnErr result (tables.new ≡ tables.old) }
     ensures err_undo { OnErr result (undo.new.log ≡ undo.old.log) }
     ensures err_links { OnErr result (SameLinks undo.old undo.new) }
+    ensures err_places { OnErr result
+        (GivesAtMost undo.old.links undo.new.links (key_written write.now)) }
 {
     if let Err(refusal) = push(tables, undo, segment, write) {
         return Err(refusal);
@@ -53,8 +56,23 @@ pub fn write(
             undo.pop(segment);
             // For the proof: the log keeps no more commits than were made.
             undo.is_chained();
+            give_up_unplaced(tables, undo, write);
             Err(refusal)
         }
+    }
+}
+
+/// Gives up the empty place for the link of a HISTORY key that has no place in its table.
+fn give_up_unplaced(tables: &Tables, undo: &mut Undo, write: &Write)
+    ensures log { undo.new.log ≡ undo.old.log }
+    ensures links { StayLinked tables.now tables.now undo.old.links undo.new.links }
+    ensures seen { SameLinks undo.old undo.new }
+{
+    let Write::InsertHistory(key, _) = write else {
+        return;
+    };
+    if !tables.history_has_place(key) {
+        undo.give_up_history(key);
     }
 }
 

@@ -100,7 +100,8 @@ impl<'a> StoredRecord<'a> {
     /// The bytes from its key on, which is in its ranges.
     fn contents(&self) -> &[u8]
         ensures key { IsKey (record_key self.now) }
-        ensures bytes { result.now ≡ contents self.now ++ number LENGTH_BYTES (record_length self.now) }
+        ensures bytes { result.now
+            ≡ contents self.now ++ number LENGTH_BYTES (record_length self.now) }
     {
         &self.bytes[CONTENTS_START..]
     }

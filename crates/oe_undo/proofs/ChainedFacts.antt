@@ -30,9 +30,9 @@ use Rattle.oe_undo.proofs.ChainFacts.{own, chain_open, chain-open, seen_again}
 use Rattle.oe_undo.proofs.ChainedLinkFacts.{sees_alone}
 use Rattle.oe_undo.proofs.CallFacts as calls
 use Rattle.oe_undo.specs.declared.links.OwnedLink.{OwnedLink}
-use Rattle.oe_undo.specs.Links.{LinkMaps, place_of, links_of, link_in, no_links, HasPlace, SetsLink, GivesPlaces, LeadsTo}
+use Rattle.oe_undo.specs.Links.{LinkMaps, place_of, links_of, link_in, no_links, HasPlace, SetsLink, GivesPlaces, GivesUpLink, LeadsTo}
 use Rattle.oe_undo.proofs.LinkFacts.{no_link}
-use Rattle.oe_undo.proofs.LeadFacts.{set_leads, given_links}
+use Rattle.oe_undo.proofs.LeadFacts.{set_leads, given_links, given_up_links}
 use Rattle.oe_undo.specs.Owners.{MomentList, no_moments, moments_at, moments_of, holder_of, followed, next_owner, IsOwner, AreOwned, AreIdle, AreMoments, IsLinked, IsMadeBy, IsMade}
 use Rattle.oe_undo.specs.Undo.{UndoState, unended, GivesBack}
 use Rattle.oe_log.proofs.StateFacts.{some_of, known, pushed_popped}
@@ -157,6 +157,12 @@ add_linked (Ok x) u old new ms k given same c =
     let all : links_of new ≡ links_of old = fun_ext (given_links old new k given) in
     subst (λ ls. IsLinked u ls ms) (sym all) c
 add_linked (Err e) u old new ms k given same c = subst (λ maps. IsLinked u (links_of maps) ms) (sym same) c
+
+-- a key gives its empty place up; each keeps its link, if it has one
+pub given_up_linked : (u : SegmentLog) (old new : LinkMaps) (ms : List MomentList) (k : Key) → GivesUpLink old new k → IsLinked u (links_of old) ms → IsLinked u (links_of new) ms
+given_up_linked u old new ms k given_up c =
+    let all : links_of new ≡ links_of old = fun_ext (given_up_links old new k given_up) in
+    subst (λ ls. IsLinked u ls ms) (sym all) c
 
 -- that of each key which has one
 set_owned : (u : SegmentLog) (old new : LinkMaps) (k : Key) (l : Option OwnedLink) → LeadsTo old new k l → ((x : OwnedLink) → l ≡ Some x → IsOwner u x.owner)

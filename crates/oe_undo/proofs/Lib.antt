@@ -6,6 +6,7 @@ mod ChainedLinkFacts
 pub mod ChainWalkFacts
 pub mod LeadFacts
 pub mod LinkFacts
+mod MomentFacts
 mod NumberFacts
 pub mod OwnerFacts
 mod PlaceFacts

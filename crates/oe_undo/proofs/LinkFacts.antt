@@ -4,7 +4,7 @@ use Rattle.std.specs.Option.{OnSome}
 use Rattle.std.specs.Borrow.{MutBor}
 use Rattle.std.specs.Ordering.{eq_by_cmp}
 use Rattle.std.specs.Cmp.{eq_by_cmp_equiv}
-use Rattle.std.specs.FinMap.{FinMap, get, insert, get-empty, get-insert}
+use Rattle.std.specs.FinMap.{FinMap, get, insert, remove, get-empty, get-insert, get-remove}
 use Rattle.std.specs.Prelude.{IsSome}
 use Rattle.oe_rows.specs.Key.{warehouse_cmp, district_cmp, customer_cmp, history_cmp, new_order_cmp, order_cmp, order_line_cmp, item_cmp, stock_cmp}
 use Rattle.oe_rows.specs.KeyShelves.{district_shelf}
@@ -21,11 +21,12 @@ use Rattle.oe_rows.specs.declared.keys.Key.{Key}
 use Rattle.oe_rows.specs.declared.keys.Key.TheVariants as key
 use Rattle.oe_rows.proofs.KeyFacts.{warehouse_total, district_total, customer_total, history_total, new_order_total, order_total, order_line_total, item_total, stock_total, exact_warehouse, exact_district, exact_customer, exact_history, exact_new_order, exact_order, exact_order_line, exact_item, exact_stock}
 use Rattle.oe_model.proofs.MapFacts.{is_same, is_self, same}
+use Rattle.oe_table.specs.Table.{left_of}
 use Rattle.oe_undo.specs.declared.links.OwnedLink.{OwnedLink}
 use Rattle.oe_undo.specs.Numbers.{warehouse_number, district_number, customer_number, new_order_number, order_number, order_line_number, item_number, stock_number}
 use Rattle.oe_undo.specs.NumberLaws.{warehouse_numbered, district_numbered, customer_numbered, new_order_numbered, order_numbered, order_line_numbered, item_numbered, stock_numbered}
 use Rattle.oe_undo.specs.Tables.{LinkTable, link_in, numbered_at, with_number, SetsNumber, GivesNumbers, InsertsNumber}
-use Rattle.oe_undo.specs.Links.{LinkMaps, HasPlace, place_of, with_link, links_of, no_links, comes_with, SetsLink, GivesPlaces, InsertsLink}
+use Rattle.oe_undo.specs.Links.{LinkMaps, HasPlace, place_of, with_link, links_of, no_links, comes_with, SetsLink, GivesPlaces, InsertsLink, GivesUpLink}
 use Rattle.oe_undo.proofs.NumberFacts.{sets_number, number_same, not_above_placed}
 
 -- what holds whether or not something was lent
@@ -79,6 +80,26 @@ history_had old own some k = by (eq_by_cmp history_cmp own k) refl
 -- and that key has a place
 pub history_own : (old : FinMap history_cmp (Option OwnedLink)) (own : HistoryKey) → IsSome (get (insert old own None) own)
 history_own old own = ap is_some (get-insert history_total old own None own ∙ ap (λ b. cond b (Some None) (get old own)) (is_self history_total exact_history own))
+
+-- at this one the place is gone where it was empty, and at each other stands what stood there
+abbrev GivesUpHistory : FinMap history_cmp (Option OwnedLink) → FinMap history_cmp (Option OwnedLink) → HistoryKey → Type 0
+GivesUpHistory old new own = (k : HistoryKey) → get new k ≡ cond (eq_by_cmp history_cmp own k) (left_of (get old k)) (get old k)
+
+pub history_given_up : (old : FinMap history_cmp (Option OwnedLink)) (own : HistoryKey) → get old own ≡ Some None → GivesUpHistory old (remove old own) own
+history_given_up old own empty k =
+    get-remove history_total old own k ∙ ap (λ b. cond b None (get old k)) ((eq_by_cmp_equiv history_total).symm k own) ∙ by (eq_by_cmp history_cmp own k) refl
+  where
+    by : (b : Bool) → eq_by_cmp history_cmp own k ≡ b → cond b None (get old k) ≡ cond b (left_of (get old k)) (get old k)
+    by true e = ap left_of (sym empty ∙ ap (get old) (is_same history_total exact_history own k e))
+    by false e = refl
+
+-- where it was not empty, nothing is given up
+pub history_stays : (old : FinMap history_cmp (Option OwnedLink)) (own : HistoryKey) → left_of (get old own) ≡ get old own → GivesUpHistory old old own
+history_stays old own stays k = by (eq_by_cmp history_cmp own k) refl
+  where
+    by : (b : Bool) → eq_by_cmp history_cmp own k ≡ b → get old k ≡ cond b (left_of (get old k)) (get old k)
+    by true e = subst (λ j. get old j ≡ left_of (get old j)) (is_same history_total exact_history own k e) (sym stays)
+    by false e = refl
 
 twice : {A : Type 0} (b : Bool) (x y z : A) → cond b x z ≡ cond b x (cond b y z)
 twice true x y z = refl
@@ -157,6 +178,11 @@ give_items m new own given _ = refl
 pub give_stocks : (m : LinkMaps) (new : LinkTable) (own : StockKey) → GivesNumbers (λ (k : StockKey). k.warehouse) stock_number m.stocks new own → GivesPlaces m (record m { stocks = new }) (key.Stock own)
 give_stocks m new own given (key.Stock k) = given k
 give_stocks m new own given _ = refl
+
+-- a place is given up
+pub give_up_histories : (m : LinkMaps) (new : FinMap history_cmp (Option OwnedLink)) (own : HistoryKey) → GivesUpHistory m.histories new own → GivesUpLink m (record m { histories = new }) (key.History own)
+give_up_histories m new own given_up (key.History k) = given_up k
+give_up_histories m new own given_up _ = refl
 
 -- a link is inserted in one table
 pub insert_warehouses : (m : LinkMaps) (new : LinkTable) (own : WarehouseKey) (l : Option OwnedLink) → InsertsNumber warehouse_cmp (λ (k : WarehouseKey). 0) warehouse_number m.warehouses new own l → InsertsLink m (record m { warehouses = new }) (key.Warehouse own) l

@@ -1,5 +1,5 @@
 -- What each call of a log makes of the chains, and which keys have no record left.
-use Rattle.std.specs.Prelude.{◌≡◌, ◌≤◌, ◌↔◌, ℕ, suc, List, [], ◌∷◌, length, Option, None, Some}
+use Rattle.std.specs.Prelude.{◌≡◌, ◌≤◌, ◌↔◌, ℕ, suc, true, List, [], ◌∷◌, length, Option, None, Some}
 use Rattle.oe_rows.specs.declared.keys.Key.{Key}
 use Rattle.oe_model.specs.Changes.{record_key}
 use Rattle.oe_model.specs.System.{terminal_limit}
@@ -9,7 +9,12 @@ use Rattle.oe_log.specs.Records.{Logged}
 use Rattle.oe_log.specs.Log.{SegmentLog, Open as OpenSegment, Committed as CommitSegment, count_at, active_at, records_at, total_count, no_segments, opened, pushed, popped, sealed, dropped, with_newest, reopened}
 use Rattle.oe_undo.specs.declared.holders.Link.{Link}
 use Rattle.oe_undo.specs.declared.holders.Holder.TheVariants.{Open}
-use Rattle.oe_undo.specs.Held.{held, of_key, horizon}
+use Rattle.oe_layout.specs.declared.links.RecordAddress.{RecordAddress}
+use Rattle.oe_layout.specs.declared.links.Previous.TheVariants.{Committed}
+use Rattle.oe_undo.specs.declared.links.OwnedLink.{OwnedLink}
+use Rattle.oe_undo.specs.Held.{held, of_key, horizon, is_later}
+use Rattle.oe_undo.specs.Owners.{followed}
+use Rattle.oe_undo.specs.Undo.{unended}
 use Rattle.oe_undo.specs.Chains.{link_from, IsEnd, AreChained, linked, holder_sealed, holder_reopened, with_holder}
 
 -- the log has a state of each terminal, and keeps no more commits than were made
@@ -43,3 +48,10 @@ pub record Calls_keep_chains : Type 0 where
 -- a key's link is an end exactly where it has no record left
 abbrev pub Ends_without_records : Type 0
 Ends_without_records = (u : SegmentLog) (links : Key → Option Link) (k : Key) → IsWhole u → AreChained u links → IsEnd (horizon u) (links k) ↔ (of_key k (held u) ≡ [])
+
+-- Commits begin at moment 1
+pub record Moments_begin_at_one : Type 0 where
+  -- a link with moment 0 is none, whatever the horizon
+  pub none : (h t : ℕ) (a : RecordAddress) → unended h (link_from (Open t) (Committed a 0)) ≡ None
+  -- and no key's link has it
+  pub later : (u : SegmentLog) (l : Option OwnedLink) (x : Link) → IsWhole u → followed u l ≡ Some x → is_later 0 x.holder ≡ true

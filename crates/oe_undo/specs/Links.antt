@@ -1,12 +1,13 @@
 -- Links, and the places that keep them. A key without a link may have a place for one. HISTORY's keys have theirs in a finite map, and
 -- the keys of the other tables by their numbers.
-use Rattle.std.specs.Prelude.{◌≡◌, ◌↔◌, Bool, false, [], cond, Option, Some, IsSome}
+use Rattle.std.specs.Prelude.{◌≡◌, ◌↔◌, ◌⊎◌, Bool, true, false, [], cond, Option, Some, IsSome}
 use Rattle.std.specs.Ordering.{eq_by_cmp}
 use Rattle.std.specs.FinMap.{FinMap, empty, get, insert}
 use Rattle.oe_rows.specs.Key.{history_cmp}
 use Rattle.oe_rows.specs.KeyShelves.{district_shelf}
 use Rattle.oe_rows.specs.declared.keys.Key.{Key}
 use Rattle.oe_rows.specs.declared.keys.Key.TheVariants as key
+use Rattle.oe_table.specs.Table.{left_of}
 use Rattle.oe_model.specs.Rows.{is_key}
 use Rattle.oe_undo.specs.declared.links.OwnedLink.{OwnedLink}
 use Rattle.oe_undo.specs.Numbers.{warehouse_number, district_number, customer_number, new_order_number, order_number, order_line_number, item_number, stock_number}
@@ -97,6 +98,10 @@ abbrev pub InsertsLink : LinkMaps → LinkMaps → Key → Option OwnedLink → 
 InsertsLink old new own l =
     (k : Key) → place_of new k ≡ cond (is_key own k) (Some l) (cond (comes_with own k) (Some (links_of old k)) (place_of old k))
 
+-- the key's place is gone where it was empty, and at each other key stands what stood there
+abbrev pub GivesUpLink : LinkMaps → LinkMaps → Key → Type 0
+GivesUpLink old new own = (k : Key) → place_of new k ≡ cond (is_key own k) (left_of (place_of old k)) (place_of old k)
+
 -- the same keys have places
 abbrev pub SamePlaces : LinkMaps → LinkMaps → Type 0
 SamePlaces old new = (k : Key) → HasPlace new k ↔ HasPlace old k
@@ -105,6 +110,14 @@ SamePlaces old new = (k : Key) → HasPlace new k ↔ HasPlace old k
 abbrev pub KeepsPlaces : LinkMaps → LinkMaps → Type 0
 KeepsPlaces old new = (k : Key) → HasPlace old k → HasPlace new k
 
+-- the second key is the first, or gets a place with it
+abbrev pub Comes : Key → Key → Type 0
+Comes own k = (k ≡ own) ⊎ (comes_with own k ≡ true)
+
+-- no key has a place more but this one, and those that come with it
+abbrev pub GivesAtMost : LinkMaps → LinkMaps → Key → Type 0
+GivesAtMost old new own = (k : Key) → HasPlace new k → HasPlace old k ⊎ Comes own k
+
 -- the key has this link, whether or not it had a place; all other links are as they were, no place is lost, and none is given where
 -- the key had one
 pub record LeadsTo (old new : LinkMaps) (own : Key) (l : Option OwnedLink) : Type 0 where
@@ -112,3 +125,4 @@ pub record LeadsTo (old new : LinkMaps) (own : Key) (l : Option OwnedLink) : Typ
   pub kept : KeepsPlaces old new
   pub placed : HasPlace new own
   pub same : HasPlace old own → SamePlaces old new
+  pub given : GivesAtMost old new own

@@ -26,7 +26,7 @@ impl Undo {
     {
         self.is_chained();
         let moment = self.segments.seal(segment, request, reply);
-        self.moments[segment.terminal().get() as usize].commit(moment);
+        self.moments.at_mut(segment.terminal()).commit(moment);
         moment
     }
 
@@ -44,7 +44,7 @@ impl Undo {
         let Some(owner) = self.segments.drop_oldest() else {
             return None;
         };
-        self.moments[owner.terminal.get() as usize].forget_oldest();
+        self.moments.at_mut(owner.terminal).forget_oldest();
         Some(owner)
     }
 
@@ -63,7 +63,7 @@ impl Undo {
             return None;
         };
         let segment = self.segments.reopen_newest();
-        self.moments[owner.terminal.get() as usize].take_back();
+        self.moments.at_mut(owner.terminal).take_back();
         segment
     }
 }

@@ -7,9 +7,10 @@ ghost use Rattle.std.specs.Prelude.{◌≡◌, Some, None, IsSome, OnOk, OnErr, 
 ghost use Rattle.std.specs.Ordering.{eq_by_cmp};
 ghost use Rattle.std.specs.FinMap.{get};
 ghost use Rattle.oe_rows.specs.Key.{history_cmp};
-ghost use Rattle.oe_table.specs.Table.{rows_of};
+ghost use Rattle.oe_rows.specs.declared.keys.Key.TheVariants.{History};
+ghost use Rattle.oe_table.specs.Table.{rows_of, left_of};
 ghost use Rattle.oe_undo.specs.Tables.{link_in, is_not_above};
-ghost use Rattle.oe_undo.specs.Links.{place_of, links_of, HasPlace, no_links, comes_with, SetsLink, GivesPlaces, InsertsLink};
+ghost use Rattle.oe_undo.specs.Links.{place_of, links_of, HasPlace, no_links, comes_with, SetsLink, GivesPlaces, InsertsLink, GivesUpLink};
 
 use crate::numbers::NumberedKey;
 use crate::places::Places;
@@ -117,6 +118,18 @@ fn set_history(
     *place = link;
 }
 
+// Gives up the place of a HISTORY row's key where it is empty.
+fn give_up_empty(links: &mut Shelves<HistoryKey, Option<OwnedLink>>, key: &HistoryKey)
+    ensures { (k : HistoryKey) → get (rows_of history_cmp links.new) k
+        ≡ cond (eq_by_cmp history_cmp key.now k) (left_of (get (rows_of history_cmp links.old) k))
+        (get (rows_of history_cmp links.old) k) }
+{
+    if matches!(links.get(key), Some(None)) {
+        let _empty = links.blank(key);
+        links.give_up(key);
+    }
+}
+
 // Whether the second key is of the first one's shelf, and not above it.
 fn is_not_above<K: NumberedKey>(own: &K, key: &K) -> bool
     ensures { result ≡ is_not_above (K.shelf_of own.now) (K.number_of own.now)
@@ -220,6 +233,14 @@ impl Links {
             Key::Item(key) => place_in(&mut self.items, key),
             Key::Stock(key) => place_in(&mut self.stocks, key),
         }
+    }
+
+    /// Gives up the place of a HISTORY key's link where it is empty: places of all other keys lie by their numbers, and stay. It takes
+    /// no memory.
+    pub fn give_up_history(&mut self, key: &HistoryKey)
+        ensures { GivesUpLink self.old self.new (History key.now) }
+    {
+        give_up_empty(&mut self.histories, key);
     }
 
     /// Gives a key without a place one with its link, and those that come with it; `NoMemory` where memory for them was refused.

@@ -3,7 +3,7 @@ ghost use Rattle.std.specs.Prelude.{◌≡◌, ◌+◌, ◌-◌, ◌≤◌, ◌�
 ghost use Rattle.oe_undo.specs.Owners.{AreIdle};
 
 use oe_values::numbers::TERMINALS;
-use oe_values::{Moment, NoMemory};
+use oe_values::{Moment, NoMemory, PerTerminal};
 use std::alloc::Global;
 use std::collections::VecDeque;
 use std::marker::Model;
@@ -87,8 +87,8 @@ impl TerminalMoments {
 }
 
 /// The terminals before anything was committed; `NoMemory` where memory was refused.
-pub(crate) fn idle_moments(alloc: Global) -> Result<Vec<TerminalMoments>, NoMemory>
-    ensures { IfOk result (λ v. AreIdle v.items) }
+pub(crate) fn idle_moments(alloc: Global) -> Result<PerTerminal<TerminalMoments>, NoMemory>
+    ensures { IfOk result AreIdle }
 {
     let Ok(mut terminals) = Vec::with_capacity(alloc, TERMINALS as usize + 1) else {
         return Err(NoMemory);
@@ -96,5 +96,5 @@ pub(crate) fn idle_moments(alloc: Global) -> Result<Vec<TerminalMoments>, NoMemo
     for _ in 0..TERMINALS + 1 {
         terminals.push_reserved(TerminalMoments::new(alloc));
     }
-    Ok(terminals)
+    Ok(PerTerminal::of(terminals))
 }

@@ -1,11 +1,13 @@
 //! The undo log beside the links.
 ghost use Rattle.std.specs.Prelude.{◌≡◌, ◌<◌, [], None, IsSome, IfSome, IfOk, OnOk, OnErr};
+ghost use Rattle.oe_rows.specs.declared.keys.Key.{Key};
+ghost use Rattle.oe_rows.specs.declared.keys.Key.TheVariants.{History};
 ghost use Rattle.oe_log.specs.Log.{count_at, active_at, records_at, no_segments, opened, dropped};
 ghost use Rattle.oe_undo.specs.declared.holders.Holder.TheVariants.{Open};
 ghost use Rattle.oe_undo.specs.Held.{horizon};
 ghost use Rattle.oe_undo.specs.Chains.{link_from, AreChained};
 ghost use Rattle.oe_undo.specs.Laws.{IsWhole};
-ghost use Rattle.oe_undo.specs.Links.{place_of, HasPlace, no_links, GivesPlaces};
+ghost use Rattle.oe_undo.specs.Links.{place_of, HasPlace, no_links, GivesPlaces, GivesUpLink};
 ghost use Rattle.oe_undo.specs.Owners.{followed, holder_of, AreMoments, IsMade, IsOwner};
 ghost use Rattle.oe_undo.specs.Undo.{seen, unended};
 
@@ -14,8 +16,8 @@ use crate::links::{Links, OwnedLink};
 use crate::moments::{TerminalMoments, idle_moments};
 use oe_layout::Previous;
 use oe_log::{Log, Segment, SegmentOwner};
-use oe_rows::Key;
-use oe_values::{ExtentCount, NoMemory, Terminal};
+use oe_rows::{HistoryKey, Key};
+use oe_values::{ExtentCount, NoMemory, PerTerminal, Terminal};
 use std::alloc::Global;
 use std::marker::Model;
 
@@ -28,8 +30,7 @@ use std::marker::Model;
 pub struct Undo {
     pub(crate) segments: Log,
     pub(crate) links: Links,
-    // By the terminals' numbers; 0 is nobody's.
-    pub(crate) moments: Vec<TerminalMoments>,
+    pub(crate) moments: PerTerminal<TerminalMoments>,
 }
 
 impl Model for Undo {
@@ -45,12 +46,16 @@ impl Model for Undo {
 
     ghost view = { λ u. record { log = u.segments; links = u.links } };
 
-    ghost invariant = { λ u. IsLinked u.segments (links_of u.links) u.moments.items };
+    ghost invariant = { λ u. IsLinked u.segments (links_of u.links) u.moments };
 }
 
 /// What became of a transaction that has committed or is open; none where its commit was given up.
 #[inline(always)]
-fn holder_in(segments: &Log, moments: &[TerminalMoments], owner: &SegmentOwner) -> Option<Holder>
+fn holder_in(
+    segments: &Log,
+    moments: &PerTerminal<TerminalMoments>,
+    owner: &SegmentOwner,
+) -> Option<Holder>
     requires { AreMoments segments.now moments.now }
     ensures { result ≡ holder_of segments.now owner.now }
 {
@@ -60,7 +65,7 @@ fn holder_in(segments: &Log, moments: &[TerminalMoments], owner: &SegmentOwner) 
     if count < number {
         return Some(Holder::Open(terminal));
     }
-    match moments[terminal.get() as usize].at((count - number) as usize) {
+    match moments.at(terminal).at((count - number) as usize) {
         Some(moment) => Some(Holder::At(moment)),
         None => None,
     }
@@ -70,7 +75,7 @@ fn holder_in(segments: &Log, moments: &[TerminalMoments], owner: &SegmentOwner) 
 #[inline(always)]
 pub(crate) fn followed_in(
     segments: &Log,
-    moments: &[TerminalMoments],
+    moments: &PerTerminal<TerminalMoments>,
     link: Option<OwnedLink>,
 ) -> Option<Link>
     requires { AreMoments segments.now moments.now }
@@ -100,6 +105,11 @@ impl Undo {
             links: Links::new(alloc),
             moments,
         })
+    }
+
+    /// Lets go of the log. A crate above that let it go out of scope would prove the drop of each of its parts again.
+    pub fn discard(self) {
+        drop(self);
     }
 
     /// The segments alone.
@@ -140,6 +150,16 @@ impl Undo {
         self.links.add_place(key)
     }
 
+    /// Gives up the place of a HISTORY key's link where it is empty: places of all other keys lie by their numbers, and stay. It takes
+    /// no memory.
+    pub fn give_up_history(&mut self, key: &HistoryKey)
+        ensures log { self.new.log ≡ self.old.log }
+        ensures links { GivesUpLink self.old.links self.new.links (History key.now) }
+        ensures seen { (k : Key) → seen self.new k ≡ seen self.old k }
+    {
+        self.links.give_up_history(key)
+    }
+
     /// Opens a segment without records for a terminal that has none open and fewer than 4,294,967,295 commits, and takes all memory
     /// that its commit will need; `NoMemory` where that was refused.
     pub fn open_segment(&mut self, terminal: Terminal) -> Result<Segment, NoMemory>
@@ -150,7 +170,7 @@ impl Undo {
         ensures links { self.new.links ≡ self.old.links }
         ensures err { OnErr result (self.new ≡ self.old) }
     {
-        self.moments[terminal.get() as usize].reserve()?;
+        self.moments.at_mut(terminal).reserve()?;
         self.segments.open_segment(terminal)
     }
 

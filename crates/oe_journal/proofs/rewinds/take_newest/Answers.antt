@@ -1,12 +1,12 @@
 use Rattle.std.proofs.Common.{◌≡◌, ◌-◌, ◌+◌, suc, subst, arith}
-use Rattle.oe_journal.proofs.LinkFacts.{then_links}
+use Rattle.oe_journal.proofs.LinkFacts.{none_stay, then_stay}
 use Rattle.oe_journal.proofs.UndoneFacts.{none_undone, one_undone, Undoes}
 use Rattle.oe_journal.proofs.rewinds.take_newest.Goals as goal
 
 pub loop-init : goal.loop-init
 loop-init c = (
   none_undone c.args.tables.now c.args.undo.now.log c.args.count c.requires.quiet c.requires.enough c.requires.places c.requires.unwinds,
-  λ k. (λ h. h, λ h. h),
+  none_stay c.args.tables.now c.args.undo.now.links,
 )
 
 pub loop-preserved : goal.loop-preserved
@@ -15,5 +15,5 @@ loop-preserved c =
       one_undone c.args.tables.now c.loop.tables c.undo_newest.new.tables c.args.undo.now.log c.loop.undo.log c.undo_newest.new.undo.log c.args.count (c.args.count - (c.loop.counter + 1))
           c.undo_newest.ensures.log c.undo_newest.ensures.rows c.undo_newest.ensures.places
           (subst (Undoes c.args.tables.now c.loop.tables c.args.undo.now.log c.loop.undo.log c.args.count) one_less c.loop.invariant.0),
-      then_links c.args.undo.now.links c.loop.undo.links c.undo_newest.new.undo.links c.loop.invariant.1 c.undo_newest.ensures.links,
+      then_stay c.args.tables.now c.loop.tables c.undo_newest.new.tables c.args.undo.now.links c.loop.undo.links c.undo_newest.new.undo.links c.loop.invariant.1 c.undo_newest.ensures.links,
     )

@@ -6,9 +6,9 @@ use Rattle.oe_store.specs.Places.{rows}
 use Rattle.oe_log.specs.Log.{SegmentLog, active_at, records_at, with_records}
 use Rattle.oe_log.specs.Stands.{undo_of}
 use Rattle.oe_journal.specs.GoesBack.{CanUnwind}
-use Rattle.oe_journal.proofs.LinkFacts.{then_links, no_links_set}
+use Rattle.oe_journal.proofs.LinkFacts.{then_stay, links_stay, no_links_set}
 use Rattle.oe_journal.proofs.RewindFacts.{IsNewest, newest_found, newest_open, newest_gone, none_recorded}
-use Rattle.oe_journal.proofs.UndoneFacts.{own_places, own_can, newest_undone}
+use Rattle.oe_journal.proofs.UndoneFacts.{own_places, own_can, newest_undone, newest_given_up}
 use Rattle.oe_journal.proofs.rewinds.undo_newest.Goals.{After-segments-2, After-take_back}
 use Rattle.oe_journal.proofs.rewinds.undo_newest.Goals as goal
 
@@ -72,9 +72,18 @@ returns-clause-log c =
     ∙ newest_gone c.args.undo.now.log c.reopen_newest.new.self.log c.in-Some.segment (found (goal.at.returns-clause-log c).After-segments-2) c.reopen_newest.ensures.reopened
     c.requires.quiet c.take_back.new.undo.log (taken (goal.at.returns-clause-log c).After-take_back)
 
+pub returns-clause-places : goal.returns-clause-places
+returns-clause-places c =
+    let n = found (goal.at.returns-clause-places c).After-segments-2 in
+    newest_given_up c.args.tables.now c.take_back.new.tables c.args.undo.now.log c.reopen_newest.new.self.log c.take_back.new.undo.log c.drop_segment.new.self.log c.in-Some.segment n
+    c.reopen_newest.ensures.reopened (c.requires.quiet c.in-Some.segment) c.take_back.ensures.back.others.places c.drop_segment.ensures.log
+    (none_recorded c.args.undo.now.log c.reopen_newest.new.self.log c.in-Some.segment n c.reopen_newest.ensures.reopened c.take_back.new.undo.log (taken (goal.at.returns-clause-places c).After-take_back))
+
 pub returns-clause-links : goal.returns-clause-links
 returns-clause-links c =
-    then_links c.args.undo.now.links c.reopen_newest.new.self.links c.drop_segment.new.self.links
-    (no_links_set c.args.undo.now.links c.reopen_newest.new.self.links c.reopen_newest.ensures.links)
-    (then_links c.reopen_newest.new.self.links c.take_back.new.undo.links c.drop_segment.new.self.links c.take_back.ensures.links
-    (no_links_set c.take_back.new.undo.links c.drop_segment.new.self.links c.drop_segment.ensures.links))
+    let first = no_links_set c.args.undo.now.links c.reopen_newest.new.self.links c.reopen_newest.ensures.links in
+    let last = no_links_set c.take_back.new.undo.links c.drop_segment.new.self.links c.drop_segment.ensures.links in
+    then_stay c.args.tables.now c.args.tables.now c.take_back.new.tables c.args.undo.now.links c.reopen_newest.new.self.links c.drop_segment.new.self.links
+    (links_stay c.args.tables.now c.args.undo.now.links c.reopen_newest.new.self.links first)
+    (then_stay c.args.tables.now c.take_back.new.tables c.take_back.new.tables c.reopen_newest.new.self.links c.take_back.new.undo.links c.drop_segment.new.self.links
+    c.take_back.ensures.links (links_stay c.take_back.new.tables c.take_back.new.undo.links c.drop_segment.new.self.links last))

@@ -1,11 +1,12 @@
 -- The record first, and then the change.
-use Rattle.std.proofs.Common.{sym, subst}
+use Rattle.std.proofs.Common.{sym, subst, ◌∙◌}
 use Rattle.oe_store.specs.Places.{rows}
 use Rattle.oe_journal.specs.Linked.{AreLinked}
 use Rattle.oe_journal.specs.Records.{record_of_write}
 use Rattle.oe_journal.specs.Writes.{Refused}
-use Rattle.oe_journal.proofs.MoreFacts.{unpushed, pushed_open, links_given_back, unpushed_linked}
-use Rattle.oe_journal.proofs.WriteFacts.{made_recorded, made_linked}
+use Rattle.oe_change.specs.Writes.{key_written}
+use Rattle.oe_journal.proofs.MoreFacts.{unpushed_places, unpushed, pushed_open, links_given_back, unpushed_linked}
+use Rattle.oe_journal.proofs.WriteFacts.{record_written, made_recorded, made_linked}
 use Rattle.oe_journal.proofs.writes.write.Goals as goal
 
 pub pop-requires : goal.pop-requires
@@ -27,16 +28,24 @@ returns-in-Err-set-clause-cause c =
 
 pub returns-in-Err-set-clause-linked : goal.returns-in-Err-set-clause-linked
 returns-in-Err-set-clause-linked c =
-    subst (λ ts. AreLinked ts c.pop.new.self.links) (sym c.in-Err-set.ensures.unchanged)
+    c.give_up_unplaced.ensures.links.linked
+    (subst (λ ts. AreLinked ts c.pop.new.self.links) (sym c.in-Err-set.ensures.unchanged)
     (unpushed_linked (record_of_write c.args.write.now (rows c.args.tables.now)) c.args.undo.now c.push.new.undo c.args.segment c.requires.open c.in_default.ensures.pushed
-    c.args.tables.now c.pop.new.self c.pop.ensures.links c.requires.linked)
+    c.args.tables.now c.pop.new.self c.pop.ensures.links c.requires.linked))
 
 pub returns-in-Err-set-clause-err_undo : goal.returns-in-Err-set-clause-err_undo
 returns-in-Err-set-clause-err_undo c =
-    unpushed (record_of_write c.args.write.now (rows c.args.tables.now)) c.args.undo.now c.push.new.undo c.args.segment c.requires.open c.in_default.ensures.pushed
+    c.give_up_unplaced.ensures.log
+    ∙ unpushed (record_of_write c.args.write.now (rows c.args.tables.now)) c.args.undo.now c.push.new.undo c.args.segment c.requires.open c.in_default.ensures.pushed
     c.pop.new.self.log c.pop.ensures.log
 
 pub returns-in-Err-set-clause-err_links : goal.returns-in-Err-set-clause-err_links
-returns-in-Err-set-clause-err_links c =
-    links_given_back (record_of_write c.args.write.now (rows c.args.tables.now)) c.args.undo.now c.push.new.undo c.args.segment c.requires.open c.in_default.ensures.pushed
-    c.pop.new.self c.is_chained.ensures.whole c.pop.ensures.log c.pop.ensures.links
+returns-in-Err-set-clause-err_links c k =
+    c.give_up_unplaced.ensures.seen k
+    ∙ links_given_back (record_of_write c.args.write.now (rows c.args.tables.now)) c.args.undo.now c.push.new.undo c.args.segment c.requires.open c.in_default.ensures.pushed
+    c.pop.new.self c.is_chained.ensures.whole c.pop.ensures.log c.pop.ensures.links k
+
+pub returns-in-Err-set-clause-err_places : goal.returns-in-Err-set-clause-err_places
+returns-in-Err-set-clause-err_places c k h =
+    unpushed_places (record_of_write c.args.write.now (rows c.args.tables.now)) c.args.undo.now c.push.new.undo c.args.segment c.requires.open c.in_default.ensures.pushed
+    (key_written c.args.write.now) (record_written c.args.write.now (rows c.args.tables.now)) c.pop.new.self c.pop.ensures.links k (c.give_up_unplaced.ensures.links.fewer k h)

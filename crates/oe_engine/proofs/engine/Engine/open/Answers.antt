@@ -1,6 +1,8 @@
 use Rattle.std.proofs.Common.{ap, subst, sym, ◌∙◌}
-use Rattle.oe_engine.specs.View.{view_of, view_from}
-use Rattle.oe_store.specs.Places.{rows}
+use Rattle.oe_engine.specs.View.{view_of, view_from, opened_view}
+use Rattle.std.specs.Prelude.{◌↔◌, IsSome}
+use Rattle.oe_model.specs.Rows.{Rows, row_at}
+use Rattle.oe_store.specs.Places.{rows, HasPlace}
 use Rattle.oe_engine.specs.Kept.{IsKept}
 use Rattle.oe_engine.specs.Covered.{IsSafe}
 use Rattle.oe_engine.proofs.LogFacts.{first_is}
@@ -13,9 +15,9 @@ invariant_of-result c =
     let quiet = rw c.in-Ok.is at c.beside.ensures.locks in
     let first = rw c.in-Ok.is at c.beside.ensures.log in
     record {
-      kept = subst (λ u. IsKept c.args.tables u c.in-Ok.locks) (sym first) (first_kept c.args.tables c.args.extents c.in-Ok.locks quiet);
-      safe = subst IsSafe (sym (ap (λ u. view_from c.args.tables u c.in-Ok.locks) first ∙ first_is c.args.tables c.args.extents c.in-Ok.locks quiet))
-          (safe_first (rows c.args.tables) c.args.extents c.schema_holds.ensures);
+      kept = subst (λ u. IsKept c.sweep.new.self u c.in-Ok.locks) (sym first) (first_kept c.sweep.new.self c.args.extents c.in-Ok.locks (λ k. subst (λ (r : Rows). HasPlace c.sweep.new.self k ↔ IsSome (row_at r k)) (sym c.sweep.ensures.rows) (c.sweep.ensures.places k)) quiet);
+      safe = subst IsSafe (sym (ap (λ u. view_from c.sweep.new.self u c.in-Ok.locks) first ∙ first_is c.sweep.new.self c.args.extents c.in-Ok.locks quiet))
+          (safe_first (rows c.sweep.new.self) c.args.extents c.schema_holds.ensures);
       linked = rw c.in-Ok.is at c.beside.ensures.linked;
     }
 
@@ -24,4 +26,5 @@ unfolding view_of
 returns-clause-view c =
     let quiet = rw c.in-Ok.is at c.beside.ensures.locks in
     let first = rw c.in-Ok.is at c.beside.ensures.log in
-    ap (λ u. view_from c.args.tables u c.in-Ok.locks) first ∙ first_is c.args.tables c.args.extents c.in-Ok.locks quiet
+    ap (λ u. view_from c.sweep.new.self u c.in-Ok.locks) first ∙ first_is c.sweep.new.self c.args.extents c.in-Ok.locks quiet
+    ∙ ap (λ r. opened_view r c.args.extents) c.sweep.ensures.rows

@@ -9,7 +9,6 @@ use Rattle.oe_engine.specs.Covered.{IsSafe}
 use Rattle.oe_engine.proofs.SafeFacts.{safe_rolled_back, newest_unwind}
 use Rattle.oe_engine.proofs.EndFacts.{counted, taken_kept, dropped_kept, none_is_left, rolled_back_is}
 use Rattle.oe_journal.specs.Linked.{AreLinked}
-use Rattle.oe_engine.proofs.LinkFacts.{linked_same}
 use Rattle.oe_engine.proofs.engine.Engine.rollback.Goals as goal
 
 pub mark-count-requires : goal.mark-count-requires
@@ -67,7 +66,7 @@ invariant_of-self c =
           ∙ rolled_back_is c.self.inside.tables c.take_back.new.tables c.self.inside.undo.log c.take_back.new.undo.log c.self.inside.locks c.release_all.new.self c.of-segment.result c.mark-count.result (counted c.self.inside.undo.log c.segments.result.now c.of-segment.result c.mark-count.result c.segments.ensures c.mark-count.ensures) there c.take_back.ensures.back own others))
           (safe_rolled_back c.of-segment.result (view_from c.self.inside.tables c.self.inside.undo.log c.self.inside.locks) c.self.invariant.safe);
       linked = subst (AreLinked c.take_back.new.tables) (sym c.drop_segment.ensures.links)
-          (linked_same c.self.inside.tables c.take_back.new.tables c.self.inside.undo.links c.take_back.new.undo.links c.take_back.ensures.back.others.places c.take_back.ensures.links c.self.invariant.linked);
+          (c.take_back.ensures.links.linked c.self.invariant.linked);
     }
 
 pub returns-clause-rolled_back : goal.returns-clause-rolled_back

@@ -7,7 +7,6 @@ use Rattle.oe_engine.specs.Calls.{back_at}
 use Rattle.oe_engine.specs.Covered.{IsSafe}
 use Rattle.oe_engine.proofs.SafeFacts.{safe_back, newest_unwind}
 use Rattle.oe_engine.proofs.EndFacts.{counted, taken_kept, back_is, since_is, within_mark}
-use Rattle.oe_engine.proofs.LinkFacts.{linked_same}
 use Rattle.oe_engine.proofs.engine.Engine.rollback_to.Goals as goal
 
 pub mark-requires : goal.mark-requires
@@ -48,7 +47,7 @@ invariant_of-self c =
           (sym (back_is c.self.inside.tables c.take_back.new.tables c.self.inside.undo.log c.take_back.new.undo.log c.self.inside.locks c.of-segment.result c.args.savepoint (c.mark.result - c.savepoint.inside.records)
           (n ∙ ap (λ k. k - c.args.savepoint) here) c.take_back.ensures.back))
           (safe_back c.of-segment.result c.args.savepoint (view_from c.self.inside.tables c.self.inside.undo.log c.self.inside.locks) c.self.invariant.safe);
-      linked = linked_same c.self.inside.tables c.take_back.new.tables c.self.inside.undo.links c.take_back.new.undo.links c.take_back.ensures.back.others.places c.take_back.ensures.links c.self.invariant.linked;
+      linked = c.take_back.ensures.links.linked c.self.invariant.linked;
     }
 
 pub returns-clause-back : goal.returns-clause-back

@@ -23,8 +23,8 @@ pub invariant_of-self-in_default-push : goal.invariant_of-self-in_default-push
 invariant_of-self-in_default-push c =
     let set = on_row c.place_mut.result c.in-Some.place c.in-Some.is (c.place_mut.follows.holds c.in-Some.place.now) in
     let same : c.place_mut.follows.lender c.in-Some.place.now ≡ c.self.inside.links = set ∙ with_same c.self.inside.links c.key-key.result c.in-Some.place.now (sym c.in-Some.ensures.place) in
-    subst (λ (u : SegmentLog). IsLinked u (links_of (c.place_mut.follows.lender c.in-Some.place.now)) c.self.inside.moments.items) (sym c.in_default-push.ensures.same)
-    (subst (λ (maps : LinkMaps). IsLinked c.self.inside.segments (links_of maps) c.self.inside.moments.items) (sym same) c.self.invariant)
+    subst (λ (u : SegmentLog). IsLinked u (links_of (c.place_mut.follows.lender c.in-Some.place.now)) c.self.inside.moments) (sym c.in_default-push.ensures.same)
+    (subst (λ (maps : LinkMaps). IsLinked c.self.inside.segments (links_of maps) c.self.inside.moments) (sym same) c.self.invariant)
 
 pub returns-in_default-push-clause-err : goal.returns-in_default-push-clause-err
 returns-in_default-push-clause-err c =
@@ -70,7 +70,7 @@ invariant_of-self-2 c =
     in
     let leads_to = set_leads c.self.inside.links (c.place_mut.follows.lender l) c.key-key.result l sets in
     push_linked c.self.inside.segments c.push.new.self c.args.segment c.in-Ok.address lent.previous (record_of_lent lent.record) some c.in-Ok.ensures.pushed
-    c.self.inside.links (c.place_mut.follows.lender l) c.self.inside.moments.items c.key-key.result c.owner-owner.result whole leads own c.owner-owner.ensures leads_to c.self.invariant
+    c.self.inside.links (c.place_mut.follows.lender l) c.self.inside.moments c.key-key.result c.owner-owner.result whole leads own c.owner-owner.ensures leads_to c.self.invariant
 
 pub returns-clause-pushed : goal.returns-clause-pushed
 returns-clause-pushed c =

@@ -37,7 +37,7 @@ invariant_of-self-in-Ok-insert c =
     let none : place_of c.self.inside.links c.key-key.result ≡ None = ap (place_of c.self.inside.links) (own ∙ was) ∙ no_place in
     let leads_to = insert_leads c.self.inside.links c.insert.new.self c.key-key.result (Some (record { address = c.in-Ok.address; owner = c.owner-owner.result })) none c.in-Ok-insert.ensures.inserted in
     push_linked c.self.inside.segments c.push.new.self c.args.segment c.in-Ok.address lent.previous (record_of_lent lent.record) some c.in-Ok.ensures.pushed
-    c.self.inside.links c.insert.new.self c.self.inside.moments.items c.key-key.result c.owner-owner.result whole leads own c.owner-owner.ensures leads_to c.self.invariant
+    c.self.inside.links c.insert.new.self c.self.inside.moments c.key-key.result c.owner-owner.result whole leads own c.owner-owner.ensures leads_to c.self.invariant
 
 pub returns-in-Ok-insert-clause-pushed : goal.returns-in-Ok-insert-clause-pushed
 returns-in-Ok-insert-clause-pushed c =
@@ -67,8 +67,8 @@ invariant_of-self-in-Err c =
     let some = rw (← c.self.view_is) at c.requires.open in
     let lent = c.shared-linked.result.now in
     let same = push_undone c.self.inside.segments c.push.new.self c.args.segment c.in-Ok.address lent.previous (record_of_lent lent.record) some c.in-Ok.ensures.pushed c.pop.new.self c.pop.ensures in
-    subst (λ (u : SegmentLog). IsLinked u (links_of c.insert.new.self) c.self.inside.moments.items) (sym same)
-    (subst (λ (maps : LinkMaps). IsLinked c.self.inside.segments (links_of maps) c.self.inside.moments.items) (sym c.in-Err.ensures.err) c.self.invariant)
+    subst (λ (u : SegmentLog). IsLinked u (links_of c.insert.new.self) c.self.inside.moments) (sym same)
+    (subst (λ (maps : LinkMaps). IsLinked c.self.inside.segments (links_of maps) c.self.inside.moments) (sym c.in-Err.ensures.err) c.self.invariant)
 
 pub returns-in-Err-clause-err : goal.returns-in-Err-clause-err
 returns-in-Err-clause-err c =

@@ -25,7 +25,7 @@ invariant_of-self c =
     let sets = rw (c.key.ensures) at c.set.ensures in
     let leads = rw (← c.self.view_is) at c.owned-link.ensures.followed in
     let owners = rw (← c.self.view_is) at c.owned-link.ensures.owner in
-    pop_linked c.self.inside.segments c.self.inside.links c.args.segment c.in-Some.previous (record_of_own c.in-Some.before) some c.in-Some.ensures.record c.pop.new.self c.set.new.self c.self.inside.moments.items
+    pop_linked c.self.inside.segments c.self.inside.links c.args.segment c.in-Some.previous (record_of_own c.in-Some.before) some c.in-Some.ensures.record c.pop.new.self c.set.new.self c.self.inside.moments
     c.owned-link.result whole c.pop.ensures sets leads (of_some (λ (l : OwnedLink). IsOwner c.self.inside.segments l.owner) c.owned-link.result owners) c.self.invariant
 
 pub returns-clause-links : goal.returns-clause-links
