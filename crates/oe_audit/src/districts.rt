@@ -123,7 +123,7 @@ pub(crate) fn passes_third<'a>(tables: &'a Tables, when: &AsOf<'a>, key: &Distri
     true
 }
 
-/// Takes rows off the front of a walk until so many of them stood then, and answers whether there were so many.
+/// Takes rows off the front of a walk until `count` of them stood then, and answers whether there were that many.
 fn takes<'a>(
     lines: &mut Rows<'a, OrderLineKey, OrderLine>,
     tables: &'a Tables,

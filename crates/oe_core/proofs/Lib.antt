@@ -1,5 +1,4 @@
 pub mod SlotFacts
-pub mod RejectionFacts
 pub mod MoveFacts
 pub mod BeginFacts
 mod WantFacts
@@ -7,7 +6,6 @@ pub mod AdvanceFacts
 pub mod CloseFacts
 pub mod OpenFacts
 pub mod AuditFacts
-pub mod RunFacts
 pub mod ReadFacts
 pub mod PastFacts
 pub mod CountFacts

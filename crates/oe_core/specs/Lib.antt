@@ -1,5 +1,4 @@
 -- What the clauses of this crate cite.
 pub mod Steps
 pub mod Core
-pub mod Run
 pub mod Works

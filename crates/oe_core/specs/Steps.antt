@@ -5,7 +5,6 @@ use Rattle.oe_theory.specs.Next as theory
 use Rattle.oe_theory.specs.Next.{Next}
 use Rattle.oe_theory.specs.Theorems.{IsReached}
 use Rattle.oe_requests.specs.declared.requests.Request.{Request}
-use Rattle.oe_requests.specs.declared.requests.Request.TheVariants as request
 use Rattle.oe_requests.specs.declared.refusals.Refusal.{Refusal}
 use Rattle.oe_requests.specs.declared.refusals.Refusal.TheVariants as refusal
 use Rattle.oe_requests.specs.declared.replies.Reply.{Reply}
@@ -73,13 +72,6 @@ abbrev pub Advances : World system → ℕ → Advanced → World system → Opt
 Advances w t advanced.More w' last = Carries w (step.Advance t) answer.More w'
 Advances w t (advanced.Committed m) w' last = (y : Reply) × (last ≡ Some y) × Carries w (step.Advance t) (answer.Committed m y) w'
 Advances w t (advanced.Refused e) w' last = Carries w (step.Advance t) (answer.Refused e) w'
-
--- the requests that have a program today: payments, orders, and deliveries of one district
-abbrev pub HasProgram : Request → Type 0
-HasProgram (request.Payment q) = Unit {0}
-HasProgram (request.NewOrder q) = Unit {0}
-HasProgram (request.Delivery q) = Unit {0}
-HasProgram q = ⊥
 
 -- the request that a step begins a transaction with
 abbrev pub begins_with : Step → Option Request

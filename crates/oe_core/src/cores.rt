@@ -10,27 +10,27 @@ ghost use Rattle.oe_store.specs.Places.{rows};
 ghost use Rattle.oe_engine.specs.View.{view_of, IsOpen};
 ghost use Rattle.oe_engine.specs.Calls.{committed, rolled_back};
 ghost use Rattle.oe_engine.specs.Programs.{reply_at};
-ghost use Rattle.oe_core.specs.Steps.{step_in, answer_in, Carries, begin_answer, Advances, begins_with, HasProgram};
+ghost use Rattle.oe_admission.specs.Programs.{HasProgram};
+ghost use Rattle.oe_core.specs.Steps.{step_in, answer_in, Carries, begin_answer, Advances, begins_with};
 ghost use Rattle.oe_core.specs.Core.{world_of, last_reply, keeps_open, IsEndable, IsEnded};
 
 use crate::advances::Advanced;
-use crate::ranges::ranges_hold;
-use crate::rejections::rejection;
-use crate::slots::{begin_work, empty_places, open_tx, put_tx, slot, take_tx};
+use crate::slots::{begin_work, empty_places, open_tx, put_tx, take_tx};
 use crate::works::Work;
+use oe_admission::{ranges_hold, rejection};
 use oe_engine::{Engine, Progress, Tx};
 use oe_requests::{Answer, Condition, Query, Refusal, ReplyRef, Request, Step};
 use oe_store::Tables;
-use oe_values::{ExtentCount, Moment, NoMemory, Terminal};
+use oe_values::{ExtentCount, Moment, NoMemory, PerTerminal, Terminal};
 use std::alloc::Global;
 use std::marker::Model;
 
 /// A core. It can't be dropped: `close` ends it.
 pub struct Core {
     engine: Engine,
-    // By the terminals' numbers; 0 is nobody's. What a transaction carried out lies in its slot until the next begins.
-    txs: Vec<Option<Tx>>,
-    works: Vec<Option<Work>>,
+    // What a transaction carried out lies in its slot until the next begins.
+    txs: PerTerminal<Option<Tx>>,
+    works: PerTerminal<Option<Work>>,
     alloc: Global,
 }
 
@@ -43,10 +43,10 @@ impl Model for Core {
 
     ghost coded = { Prim.hlevel (codes, map_code) };
 
-    ghost view = { λ c. record { engine = c.engine; txs = c.txs.items; works = c.works.items } };
+    ghost view = { λ c. record { engine = c.engine; txs = c.txs; works = c.works } };
 
     ghost invariant = { λ c. IsOrderly
-        (record { engine = c.engine; txs = c.txs.items; works = c.works.items }) };
+        (record { engine = c.engine; txs = c.txs; works = c.works }) };
 }
 
 impl Core {
@@ -57,7 +57,7 @@ impl Core {
     {
         let engine = Engine::open(alloc, tables, extents, 0)?;
         let Ok((works, txs)) = empty_places(alloc) else {
-            drop(engine);
+            engine.close().discard();
             return Err(NoMemory);
         };
         Ok(Core {
@@ -101,7 +101,7 @@ impl Core {
     pub fn is_open(&self, terminal: Terminal) -> bool
         ensures { result ≡ is_some ((world_of self.now).active terminal) }
     {
-        self.txs[slot(terminal)].is_some()
+        self.txs.at(terminal).is_some()
     }
 
     /// The reply of a terminal's last transaction, where that has committed; none where it is open, was rolled back, or there was
@@ -110,10 +110,10 @@ impl Core {
     pub fn last_reply(&self, terminal: Terminal) -> Option<ReplyRef<'_>>
         ensures { option_map told_reply result ≡ last_reply self.now terminal }
     {
-        if let Some(_open) = &self.txs[slot(terminal)] {
+        if let Some(_open) = self.txs.at(terminal) {
             return None;
         }
-        match &self.works[slot(terminal)] {
+        match self.works.at(terminal) {
             Some(work) => work.reply(),
             None => None,
         }
@@ -157,10 +157,11 @@ impl Core {
     {
         let Core {
             mut engine,
-            mut txs,
+            txs,
             works: _,
             alloc: _,
         } = self;
+        let mut txs = txs.into_items();
         while let Some(tx) = txs.pop() {
             end(&mut engine, tx);
         }
@@ -168,8 +169,14 @@ impl Core {
         engine.close()
     }
 
+    /// Rolls back what is open, and lets go of the tables.
+    // Whoever drops tables proves it of each of their parts: here once, and not in each crate above.
+    pub fn discard(self) {
+        self.close().discard();
+    }
+
     /// The allocator of what the core takes.
-    pub(crate) fn allocator(&self) -> Global {
+    pub fn allocator(&self) -> Global {
         self.alloc
     }
 
@@ -259,10 +266,10 @@ impl Core {
     fn save(&mut self, terminal: Terminal) -> Answer
         ensures { Carries (world_of self.old) (Step.Save terminal) result (world_of self.new) }
     {
-        let Some(tx) = &self.txs[slot(terminal)] else {
+        let Some(tx) = self.txs.at(terminal) else {
             return Answer::Refused(Refusal::NotOpen);
         };
-        let Some(work) = &mut self.works[slot(terminal)] else {
+        let Some(work) = self.works.at_mut(terminal) else {
             unreachable!()
         };
         work.save(self.engine.savepoint(tx));
@@ -274,10 +281,10 @@ impl Core {
     fn back(&mut self, terminal: Terminal) -> Answer
         ensures { Carries (world_of self.old) (Step.Back terminal) result (world_of self.new) }
     {
-        let Some(tx) = &self.txs[slot(terminal)] else {
+        let Some(tx) = self.txs.at(terminal) else {
             return Answer::Refused(Refusal::NotOpen);
         };
-        let Some(work) = &mut self.works[slot(terminal)] else {
+        let Some(work) = self.works.at_mut(terminal) else {
             unreachable!()
         };
         self.engine.rollback_to(tx, work.mark_records());
@@ -296,7 +303,7 @@ impl Core {
             return Answer::Refused(Refusal::NotOpen);
         };
         roll_back(&mut self.engine, tx);
-        self.works[slot(terminal)] = None;
+        *self.works.at_mut(terminal) = None;
         Answer::RolledBack
     }
 
@@ -309,10 +316,10 @@ impl Core {
         ensures { Advances (world_of self.old) terminal result (world_of self.new)
             (last_reply self.new terminal) }
     {
-        let Some(tx) = &self.txs[slot(terminal)] else {
+        let Some(tx) = self.txs.at(terminal) else {
             return Advanced::Refused(Refusal::NotOpen);
         };
-        let Some(work) = &mut self.works[slot(terminal)] else {
+        let Some(work) = self.works.at_mut(terminal) else {
             unreachable!()
         };
         match work.next(&mut self.engine, tx) {
@@ -347,8 +354,8 @@ impl Core {
 
     /// Undoes the commits after a moment, which becomes the newest, while no transaction is open.
     ///
-    /// `NotQuiet`: so many are open. `TooOld` with the horizon, `Future` with the newest moment: the moment is not between the two.
-    /// The first of these is named.
+    /// `NotQuiet` with the number of open transactions. `TooOld` with the horizon, `Future` with the newest moment: the moment is not
+    /// between the two. The first of these is named.
     #[inline(never)]
     fn rewind(&mut self, moment: Moment) -> Answer
         ensures { Carries (world_of self.old) (Step.Rewind moment) result (world_of self.new) }

@@ -3,12 +3,8 @@
 
 pub mod advances;
 pub mod cores;
-mod ranges;
-mod rejections;
-pub mod runs;
 mod slots;
 mod works;
 
 pub use advances::Advanced;
 pub use cores::Core;
-pub use runs::run;

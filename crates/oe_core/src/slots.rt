@@ -1,40 +1,23 @@
 //! The slots of terminals, one for each number from 0, which is nobody's, to 64: their open transactions, and what these carry out.
-ghost use Rattle.std.specs.Prelude.{◌≡◌, ◌<◌, ◌≤◌, suc, Some, None, IsSome, IfOk, slice_get, slice_set, vec_len, replicate};
-ghost use Rattle.oe_core.specs.Steps.{HasProgram};
+ghost use Rattle.std.specs.Prelude.{◌≡◌, ◌≤◌, suc, Some, None, IsSome, IfOk, slice_get, slice_set, replicate};
+ghost use Rattle.oe_values.specs.declared.numbers.TheConstants.{TERMINALS};
+ghost use Rattle.oe_admission.specs.Programs.{HasProgram};
 ghost use Rattle.oe_core.specs.Core.{in_slot};
 ghost use Rattle.oe_core.specs.Works.{begun};
 
 use crate::works::Work;
 use oe_engine::Tx;
 use oe_requests::Request;
-use oe_values::{TERMINALS, Terminal};
+use oe_values::{PerTerminal, Terminal, empty_slots};
 use std::alloc::{AllocError, Global};
-
-/// The slot of a terminal.
-#[inline]
-pub fn slot(terminal: Terminal) -> usize
-    ensures value { result ≡ terminal }
-    ensures high { result ≤ TERMINALS }
-{
-    terminal.get() as usize
-}
-
-// Empty slots for the terminals 0 to 64, whatever is to stand in them.
-fn empty_slots<T>(alloc: Global) -> Result<Vec<Option<T>>, AllocError>
-    ensures { IfOk result (λ v. v.items ≡ replicate (suc TERMINALS) None) }
-{
-    let mut slots = Vec::with_capacity(alloc, TERMINALS as usize + 1)?;
-    for _ in 0..TERMINALS + 1 {
-        slots.push(None).unwrap();
-    }
-    Ok(slots)
-}
 
 /// Slots for what terminals carry out, and for their transactions; those of 0 stay empty. Where memory is refused, only the first are
 /// there to be dropped.
-pub fn empty_places(alloc: Global) -> Result<(Vec<Option<Work>>, Vec<Option<Tx>>), AllocError>
-    ensures works { IfOk result (λ p. p.0.items ≡ replicate (suc TERMINALS) None) }
-    ensures txs { IfOk result (λ p. p.1.items ≡ replicate (suc TERMINALS) None) }
+pub fn empty_places(
+    alloc: Global,
+) -> Result<(PerTerminal<Option<Work>>, PerTerminal<Option<Tx>>), AllocError>
+    ensures works { IfOk result (λ p. p.0 ≡ replicate (suc TERMINALS) None) }
+    ensures txs { IfOk result (λ p. p.1 ≡ replicate (suc TERMINALS) None) }
 {
     let works = empty_slots(alloc)?;
     let txs = empty_slots(alloc)?;
@@ -42,21 +25,19 @@ pub fn empty_places(alloc: Global) -> Result<(Vec<Option<Work>>, Vec<Option<Tx>>
 }
 
 /// Takes what stands in a terminal's slot.
-pub fn take_tx(txs: &mut Vec<Option<Tx>>, terminal: Terminal) -> Option<Tx>
-    requires { terminal < vec_len txs.old }
-    ensures value { slice_get txs.old.items terminal ≡ Some result }
-    ensures after { txs.new.items ≡ slice_set txs.old.items terminal None }
+pub fn take_tx(txs: &mut PerTerminal<Option<Tx>>, terminal: Terminal) -> Option<Tx>
+    ensures value { slice_get txs.old terminal ≡ Some result }
+    ensures after { txs.new ≡ slice_set txs.old terminal None }
     ensures high { terminal ≤ TERMINALS }
 {
-    txs[slot(terminal)].take()
+    txs.at_mut(terminal).take()
 }
 
 /// Takes the open transaction of a terminal out of its slot.
-pub fn open_tx(txs: &mut Vec<Option<Tx>>, terminal: Terminal) -> Tx
-    requires at { terminal < vec_len txs.old }
-    requires open { IsSome (in_slot txs.old.items terminal) }
-    ensures value { slice_get txs.old.items terminal ≡ Some (Some result) }
-    ensures after { txs.new.items ≡ slice_set txs.old.items terminal None }
+pub fn open_tx(txs: &mut PerTerminal<Option<Tx>>, terminal: Terminal) -> Tx
+    requires { IsSome (in_slot txs.old terminal) }
+    ensures value { slice_get txs.old terminal ≡ Some (Some result) }
+    ensures after { txs.new ≡ slice_set txs.old terminal None }
 {
     let Some(tx) = take_tx(txs, terminal) else {
         unreachable!()
@@ -65,14 +46,13 @@ pub fn open_tx(txs: &mut Vec<Option<Tx>>, terminal: Terminal) -> Tx
 }
 
 /// Puts a transaction into its terminal's empty slot.
-pub fn put_tx(txs: &mut Vec<Option<Tx>>, terminal: Terminal, tx: Tx)
-    requires at { terminal < vec_len txs.old }
-    requires free { slice_get txs.old.items terminal ≡ Some None }
-    ensures after { txs.new.items ≡ slice_set txs.old.items terminal (Some tx) }
+pub fn put_tx(txs: &mut PerTerminal<Option<Tx>>, terminal: Terminal, tx: Tx)
+    requires { slice_get txs.old terminal ≡ Some None }
+    ensures after { txs.new ≡ slice_set txs.old terminal (Some tx) }
     ensures low { 1 ≤ terminal }
     ensures high { terminal ≤ TERMINALS }
 {
-    let old = txs[slot(terminal)].replace(tx);
+    let old = txs.at_mut(terminal).replace(tx);
     let None = old else { unreachable!() };
 }
 
@@ -100,11 +80,10 @@ fn begin_first(slot: &mut Option<Work>, request: &Request)
 /// Puts into a terminal's slot what a transaction of this request carries out that has just begun. Over what an earlier one left
 /// there it is written part by part, since the whole is long.
 #[inline]
-pub fn begin_work(works: &mut Vec<Option<Work>>, terminal: Terminal, request: &Request)
-    requires at { terminal < vec_len works.old }
-    requires program { HasProgram request.now }
-    ensures after { works.new.items
-        ≡ slice_set works.old.items terminal (Some (begun request.now)) }
+pub fn begin_work(works: &mut PerTerminal<Option<Work>>, terminal: Terminal, request: &Request)
+    requires { HasProgram request.now }
+    ensures { works.new
+        ≡ slice_set works.old terminal (Some (begun request.now)) }
 {
-    begin_slot(&mut works[slot(terminal)], request);
+    begin_slot(works.at_mut(terminal), request);
 }

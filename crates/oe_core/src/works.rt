@@ -6,7 +6,7 @@ ghost use Rattle.std.specs.Prelude.{◌≡◌, option_map, IfSome};
 ghost use Rattle.oe_requests.specs.Reply.{told_reply};
 ghost use Rattle.oe_engine.specs.View.{IsOpen};
 ghost use Rattle.oe_engine.specs.Programs.{Progresses, reply_at};
-ghost use Rattle.oe_core.specs.Steps.{HasProgram};
+ghost use Rattle.oe_admission.specs.Programs.{HasProgram};
 ghost use Rattle.oe_core.specs.Works.{begun, state_of, HoldsTaken};
 
 use oe_engine::{Engine, Progress, Savepoint, Tx};

@@ -11,7 +11,8 @@ use Rattle.oe_model.specs.System.{system}
 use Rattle.oe_model.proofs.SystemLaws.{laws, population_is_good}
 use Rattle.oe_requests.specs.declared.steps.Step.{Step}
 use Rattle.oe_core.specs.Core.{CoreState, world_of}
-use Rattle.oe_core.specs.Steps.{begins_with, HasProgram}
+use Rattle.oe_admission.specs.Programs.{HasProgram}
+use Rattle.oe_core.specs.Steps.{begins_with}
 use Rattle.oe_script.specs.Session.{state_of, IsLive}
 
 pub opened_is_live : (c : CoreState) (r : Rows) (n : ℕ) → world_of c ≡ opened system r n → IsPopulation r → IsLive (state_of (Some c))

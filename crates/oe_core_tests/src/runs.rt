@@ -1,12 +1,14 @@
 //! A list of steps, which no program runs.
 ghost use Rattle.std.specs.Prelude.{IfSome};
 ghost use Rattle.std.specs.List.{All};
-ghost use Rattle.oe_core.specs.Steps.{begins_with, HasProgram};
+ghost use Rattle.oe_admission.specs.Programs.{HasProgram};
+ghost use Rattle.oe_core.specs.Steps.{begins_with};
 
 use crate::populations::populated;
 use crate::sessions::core_on;
-use oe_core::{Core, run};
+use oe_core::Core;
 use oe_requests::{Answer, Refusal, Step};
+use oe_runs::run;
 use oe_values::Terminal;
 
 // Whether the only answer is that nothing is open.

@@ -5,7 +5,7 @@ ghost use Rattle.oe_script.specs.Session.{state_of, IsLive};
 use arrayvec::ArrayVec;
 use oe_audit::is_population;
 use oe_core::Core;
-use oe_script::ports::{Failed, Outlet};
+use oe_ports::ports::{Failed, Outlet};
 use oe_script::session::Session;
 use oe_store::Tables;
 use oe_texts::Pending;

@@ -18,8 +18,8 @@ use Rattle.oe_requests.specs.declared.steps.Step.{Step}
 use Rattle.oe_lines.specs.Grammar.{Says}
 use Rattle.oe_lines.specs.declared.commands.Command.TheVariants as command
 use Rattle.oe_core.specs.Steps.{step_in, answer_in}
-use Rattle.oe_core.specs.Run.{Served, Ran}
-use Rattle.oe_core.proofs.RunFacts.{ran_so}
+use Rattle.oe_runs.specs.Run.{Served, Ran}
+use Rattle.oe_runs.proofs.RunFacts.{ran_so}
 use Rattle.oe_script.specs.Script.{State, RunOfLines}
 use Rattle.oe_headline.specs.Deeds.{Deed, No_form, Opening, Dump, Steps, Entry, Takes, Was, Passed, repeated, steps_in_deed, answers_in_deed, steps_of, answers_of}
 use Rattle.oe_headline.specs.Laws.{IsReachedState, Worlds_are_reached, IsOneRun, Scripts_are_runs}

@@ -19,7 +19,7 @@ use Rattle.oe_lines.specs.declared.commands.Command.TheVariants as command
 use Rattle.oe_lines.specs.declared.commands.MomentChoice.{MomentChoice}
 use Rattle.oe_lines.specs.declared.commands.MomentChoice.TheVariants as moment
 use Rattle.oe_core.specs.Steps.{step_in, answer_in}
-use Rattle.oe_core.specs.Run.{AreWhole}
+use Rattle.oe_runs.specs.Run.{AreWhole}
 use Rattle.oe_script.specs.Script as script
 use Rattle.oe_script.specs.Script.{State, moment_in, Answers, Asks, LineAnswer}
 use Rattle.oe_script.proofs.LineFacts.{one_command}

@@ -21,7 +21,7 @@ use Rattle.oe_lines.specs.declared.commands.Command.{Command}
 use Rattle.oe_lines.specs.declared.commands.Command.TheVariants as command
 use Rattle.oe_rows.specs.declared.keys.Table.{Table}
 use Rattle.oe_core.specs.Steps.{step_in, answer_in}
-use Rattle.oe_script.specs.Dump.{dump_text}
+use Rattle.oe_ports.specs.Dump.{dump_text}
 use Rattle.oe_script.specs.Script.{State, Opens, Answers, IsInLine, ended, last_text, Output}
 use Rattle.oe_script.proofs.LineFacts.{one_command}
 use Rattle.oe_headline.specs.Deeds.{Deed, No_form, Opening, Dump, Steps, Entry, step_of, IsUpTo, Takes, Was, Passed, lines_of, texts_of}

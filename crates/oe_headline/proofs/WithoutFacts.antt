@@ -26,7 +26,7 @@ use Rattle.oe_lines.specs.declared.commands.Command.TheVariants as command
 use Rattle.oe_lines.specs.declared.commands.MomentChoice.{MomentChoice}
 use Rattle.oe_lines.specs.declared.commands.MomentChoice.TheVariants as moment
 use Rattle.oe_core.specs.Steps.{step_in, answer_in}
-use Rattle.oe_script.specs.Dump.{dump_text}
+use Rattle.oe_ports.specs.Dump.{dump_text}
 use Rattle.oe_script.specs.Script.{State, moment_in, IsAllowed, Asks, IsInLine}
 use Rattle.oe_headline.specs.Beside.{gives_way, without_open}
 use Rattle.oe_headline.specs.Deeds.{Deed, No_form, Opening, Dump, Steps, Entry, step_of, IsUpTo, Takes, Stepped, Was, Passed, lines_of, texts_of}

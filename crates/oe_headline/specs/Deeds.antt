@@ -12,7 +12,8 @@ use Rattle.oe_requests.specs.declared.steps.Step.TheVariants as step
 use Rattle.oe_lines.specs.declared.commands.Command.{Command}
 use Rattle.oe_lines.specs.declared.commands.Command.TheVariants as command
 use Rattle.oe_core.specs.Steps.{step_in, answer_in}
-use Rattle.oe_script.specs.Script.{State, moment_in, told, Answers, Asks, bad_line}
+use Rattle.oe_ports.specs.Lines.{bad_line}
+use Rattle.oe_script.specs.Script.{State, moment_in, told, Answers, Asks}
 
 -- what a line was: none of the forms; an opening or a dump, with its text; or a step with its answer, before which so many
 -- times the same step was answered `more`, as a `run` has it

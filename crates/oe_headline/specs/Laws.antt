@@ -27,10 +27,10 @@ use Rattle.oe_lines.specs.Grammar.{Says}
 use Rattle.oe_lines.specs.declared.commands.Command.TheVariants as command
 use Rattle.oe_lines.specs.declared.commands.MomentChoice.{MomentChoice}
 use Rattle.oe_lines.specs.declared.commands.MomentChoice.TheVariants as moment
-use Rattle.oe_core.specs.Run.{Ran}
+use Rattle.oe_runs.specs.Run.{Ran}
 use Rattle.oe_texts.specs.Answer.{answer_line, audit_line}
 use Rattle.oe_script.specs.declared.session.Fault.TheVariants as fault
-use Rattle.oe_script.specs.Ports.{Source, Sink}
+use Rattle.oe_ports.specs.Ports.{Source, Sink}
 use Rattle.oe_script.specs.Session.{ScriptRan}
 use Rattle.oe_script.specs.Script.{State, moment_in, Asks, LineAnswer, RunOfLines, ended, last_text, Output}
 use Rattle.oe_headline.specs.Deeds.{Deed, No_form, Opening, Dump, Steps, Entry, Passed, lines_of, texts_of, steps_of, answers_of}

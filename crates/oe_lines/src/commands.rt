@@ -16,7 +16,7 @@ pub enum MomentChoice {
 /// What a line asks for.
 #[derive(Drop)]
 pub enum Command {
-    /// Opens a population of that scale, with so many extents.
+    /// Opens a population of that scale, with that number of extents.
     Open(Scale, ExtentCount),
     /// The terminal begins a transaction.
     Begin(Terminal, Request),

@@ -1,12 +1,12 @@
 -- How a script starts, goes on by a piece, and ends.
 use Rattle.std.proofs.Common.{◌≡◌, ℕ, ◌+◌, ◌^◌, ◌<◌, ◌≤◌, Bool, false, List, [], ◌++◌, length, take, Option, Some, None, Ok, Err, inl, inr, append_assoc, sym, ap, ◌∙◌, refl, arith}
 use Rattle.std.proofs.lemmas.List.{append-nil, length-append, length-take}
-use Rattle.oe_script.specs.declared.ports.Failed.{Failed}
+use Rattle.oe_ports.specs.declared.ports.Failed.{Failed}
 use Rattle.oe_script.specs.declared.session.Fault.TheVariants.{Read, Write}
-use Rattle.oe_script.specs.Ports.{Source, Sink, Reads, Sent, Cut}
+use Rattle.oe_ports.specs.Ports.{Source, Sink, Reads, Sent, Cut}
 use Rattle.oe_script.specs.Script.{State, Output}
 use Rattle.oe_script.specs.Session.{Standing, Broken, ReadSoFar, Began, Answered, ScriptRan}
-use Rattle.oe_script.proofs.Streaming.{sent_none}
+use Rattle.oe_ports.proofs.Streaming.{sent_none}
 use Rattle.oe_script.proofs.Reaching.{reach_start}
 
 output_as : (input other out : List ℕ) → input ≡ other → Output input out → Output other out

@@ -1,8 +1,6 @@
-pub mod Streaming
 pub mod WorldFacts
 pub mod AnswerFacts
 pub mod LineFacts
-pub mod DumpFacts
 pub mod Reaching
 pub mod Splitting
 pub mod Ending

@@ -29,16 +29,18 @@ use Rattle.oe_model.specs.Population.{IsScale, IsPopulated}
 use Rattle.oe_model.specs.System.{system}
 use Rattle.oe_model.proofs.PopulationFacts.{population_is_one}
 use Rattle.oe_model.proofs.SystemLaws.{laws, population_is_good}
-use Rattle.oe_core.specs.Steps.{step_in, answer_in, Advances, begins_with, HasProgram}
+use Rattle.oe_admission.specs.Programs.{HasProgram}
+use Rattle.oe_core.specs.Steps.{step_in, answer_in, Advances, begins_with}
 use Rattle.oe_core.specs.declared.advances.Advanced.{Advanced}
 use Rattle.oe_core.specs.declared.advances.Advanced.TheVariants as advanced
-use Rattle.oe_script.specs.Dump.{dump_text}
-use Rattle.oe_script.specs.Script.{State, moment_in, told, Stepped, IsAllowed, Answers, Asks, bad_line, LineAnswer, RunOfLines, Holds}
+use Rattle.oe_ports.specs.Dump.{dump_text}
+use Rattle.oe_ports.specs.Lines.{bad_line}
+use Rattle.oe_script.specs.Script.{State, moment_in, told, Stepped, IsAllowed, Answers, Asks, LineAnswer, RunOfLines, Holds}
 use Rattle.oe_script.specs.Session.{IsLive}
-use Rattle.oe_script.specs.Ports.{Sink, Sent, Cut, Streams}
+use Rattle.oe_ports.specs.Ports.{Sink, Sent, Cut, Streams}
 use Rattle.oe_script.specs.Outcome.{IsAnswer, Replies}
 use Rattle.oe_script.proofs.WorldFacts.{live_step, live_runs}
-use Rattle.oe_script.proofs.Streaming.{sent_waits, sent_then, sent_cut, cut_more}
+use Rattle.oe_ports.proofs.Streaming.{sent_waits, sent_then, sent_cut, cut_more}
 use Rattle.oe_script.proofs.AnswerFacts.{IsTold, told_advance, told_save, told_back, told_rollback, told_begin, told_audit, told_read, told_purge, told_rewind, told_run}
 
 -- THE FORMS OF LINES

@@ -6,11 +6,11 @@ use Rattle.std.proofs.lemmas.List.{append-nil, length_push}
 use Rattle.std.proofs.lemmas.List.Elements.{All-push, All-append}
 use Rattle.std.proofs.lemmas.Grind.{flat_map-append}
 use Rattle.std.proofs.lemmas.Bool.{cases_eq}
-use Rattle.oe_script.specs.Ports.{Sink, Sent, Cut, Streams}
+use Rattle.oe_ports.specs.Ports.{Sink, Sent, Cut, Streams}
 use Rattle.oe_script.specs.Outcome.{Replies}
 use Rattle.oe_script.specs.Script.{State, LineAnswer, RunOfLines, IsInLine, ended, last_text, Output, Holds, Reached}
 use Rattle.oe_script.specs.Session.{IsLive, Standing, Broken, Fed, Ended}
-use Rattle.oe_script.proofs.Streaming.{sent_then, sent_cut, sent_as, cut_as, cut_more}
+use Rattle.oe_ports.proofs.Streaming.{sent_then, sent_cut, sent_as, cut_as, cut_more}
 use Rattle.oe_script.proofs.LineFacts.{live_lines, line_answered}
 
 run_more : (s : State) (n : ℕ) (lines : List (List ℕ)) (text : List ℕ) (v u : State) (line last : List ℕ) →

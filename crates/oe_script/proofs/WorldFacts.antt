@@ -32,7 +32,8 @@ use Rattle.oe_model.specs.Delivery.{oldest, lines_of}
 use Rattle.oe_model.specs.System.{system, ask, act, start_of}
 use Rattle.oe_model.proofs.LawFacts.{given_goes, within_goes}
 use Rattle.oe_model.proofs.SystemLaws.{laws}
-use Rattle.oe_core.specs.Steps.{step_in, begins_with, HasProgram}
+use Rattle.oe_admission.specs.Programs.{HasProgram}
+use Rattle.oe_core.specs.Steps.{step_in, begins_with}
 use Rattle.oe_script.specs.Script.{RunsIn}
 use Rattle.oe_script.specs.Session.{IsServed, IsServing, AreServing, IsLive}
 

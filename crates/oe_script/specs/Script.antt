@@ -1,5 +1,5 @@
 -- What a script is answered.
-use Rattle.std.specs.Prelude.{◌≡◌, ◌≢◌, ℕ, zero, suc, ◌+◌, ◌≤◌, ◌<◌, ◌⊎◌, Bool, true, false, All, List, [], ◌∷◌, ◌++◌, length, Option, Some, None, codes, decimal}
+use Rattle.std.specs.Prelude.{◌≡◌, ◌≢◌, ℕ, zero, suc, ◌+◌, ◌≤◌, ◌<◌, ◌⊎◌, Bool, true, false, All, List, [], ◌∷◌, ◌++◌, length, Option, Some, None, codes}
 use Rattle.std.specs.List.{flat_map}
 use Rattle.oe_theory.specs.World.{World, newest, tables}
 use Rattle.oe_theory.specs.Next.{Next}
@@ -21,7 +21,8 @@ use Rattle.oe_lines.specs.declared.commands.MomentChoice.{MomentChoice}
 use Rattle.oe_lines.specs.declared.commands.MomentChoice.TheVariants as moment
 use Rattle.oe_lines.specs.Grammar.{Says}
 use Rattle.oe_core.specs.Steps.{step_in, answer_in}
-use Rattle.oe_script.specs.Dump.{dump_text}
+use Rattle.oe_ports.specs.Dump.{dump_text}
+use Rattle.oe_ports.specs.Lines.{bad_line}
 
 -- nothing is open yet, or the world that a core stands for
 abbrev pub State : Type 0
@@ -90,10 +91,6 @@ pub record Asks (s : State) (line : List ℕ) (c : Command) : Type 0 where
   pub short : length line ≤ 1_024
   pub says : Says line c
   pub allowed : IsAllowed s c
-
--- the refusal of the n-th line, counted from 1
-abbrev pub bad_line : ℕ → List ℕ
-bad_line n = codes "error 1 BadLine " ++ decimal n ++ codes "\n"
 
 -- the n-th line is answered: as its command is, or as no command
 abbrev pub LineAnswer : State → ℕ → List ℕ → List ℕ → State → Type 0

@@ -7,7 +7,7 @@ use Rattle.oe_model.specs.System.{system}
 use Rattle.oe_core.specs.Core.{CoreState, world_of}
 use Rattle.oe_script.specs.declared.session.Fault.{Fault}
 use Rattle.oe_script.specs.declared.session.Fault.TheVariants.{Read, Write}
-use Rattle.oe_script.specs.Ports.{Source, Sink, Sent, Cut}
+use Rattle.oe_ports.specs.Ports.{Source, Sink, Sent, Cut}
 use Rattle.oe_script.specs.Script.{State, Output, Holds, Reached}
 
 -- the state that a session's core stands for

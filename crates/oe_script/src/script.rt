@@ -1,8 +1,8 @@
 //! A script's run from its first byte to its last.
 ghost use Rattle.oe_script.specs.Session.{ScriptRan};
 
-use crate::ports::{Intake, Outlet};
 use crate::session::{Fault, Session};
+use oe_ports::ports::{Intake, Outlet};
 use std::alloc::Global;
 
 /// Answers a script, line by line, to its end.

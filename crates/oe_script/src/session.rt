@@ -1,19 +1,18 @@
 //! One script's run: what is open, the line that is read, and the output that waits.
 ghost use Rattle.std.specs.Prelude.{◌≡◌, ◌<◌, ◌≤◌, ◌+◌, ◌++◌, ◌∷◌, ◌^◌, ℕ, List, [], length, Option, None, true, false, OnOk};
-ghost use Rattle.oe_script.specs.Ports.{Sink, Streams};
+ghost use Rattle.oe_ports.specs.Ports.{Sink, Streams};
 ghost use Rattle.oe_script.specs.Script.{Holds, last_text};
 ghost use Rattle.oe_script.specs.Session.{state_of, IsLive, Fed, Standing, Ended, ScriptRan};
 ghost use Rattle.oe_script.specs.Outcome.{Replies};
 
 use crate::outcome::answer_line;
-use crate::output::{flush, put_bad};
-use crate::ports::{Failed, Intake, Outlet};
 use arrayvec::ArrayVec;
 use memchr::memchr;
 use oe_core::Core;
+use oe_ports::output::{flush, put_bad};
+use oe_ports::ports::{Failed, Intake, Outlet};
 use oe_texts::Pending;
 use std::alloc::Global;
-use thiserror::Error;
 
 /// A line's bytes before its end are at most as many.
 pub const LINE: usize = 1_024;
@@ -34,11 +33,9 @@ pub struct Session {
 }
 
 /// Why a script could not be answered whole.
-#[derive(Clone, Copy, Debug, PartialEq, Eq, Drop, Error)]
+#[derive(Clone, Copy)]
 pub enum Fault {
-    #[error("read")]
     Read,
-    #[error("write")]
     Write,
 }
 
@@ -73,7 +70,7 @@ impl Session {
         } = self;
         match core {
             None => {}
-            Some(core) => drop(core.close()),
+            Some(core) => core.discard(),
         }
     }
 

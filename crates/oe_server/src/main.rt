@@ -5,9 +5,9 @@
 
 use clap::Error;
 use clap::error::ErrorKind;
+use oe_ports::standard::{Printed, Standard};
 use oe_script::script::run_script;
 use oe_script::session::Fault;
-use oe_script::standard::{Printed, Standard};
 use oe_tasks::{Task, job};
 use std::env::Env;
 use std::io::Read;

@@ -1,9 +1,9 @@
 use Rattle.std.proofs.Common.{Some, refl, ap}
 use Rattle.oe_lines.specs.declared.commands.Command.TheVariants as command
 use Rattle.oe_core.specs.Core.{world_of}
-use Rattle.oe_script.specs.Dump.{dump_text}
-use Rattle.oe_script.specs.Script.{bad_line}
-use Rattle.oe_script.proofs.Streaming.{sent_waits}
+use Rattle.oe_ports.specs.Dump.{dump_text}
+use Rattle.oe_ports.specs.Lines.{bad_line}
+use Rattle.oe_ports.proofs.Streaming.{sent_waits}
 use Rattle.oe_script.proofs.LineFacts.{told_here, dumped_here, refused, not_opened}
 use Rattle.oe_script.proofs.outcome.later.Goals as goal
 

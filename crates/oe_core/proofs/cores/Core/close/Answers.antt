@@ -4,7 +4,7 @@ use Rattle.oe_core.proofs.CloseFacts.{before_closing, newest_is_latest, endable,
 use Rattle.oe_core.proofs.cores.Core.close.Goals as goal
 
 pub loop-tx-init : goal.loop-tx-init
-loop-tx-init c = (c.self.inside.works.items, rw (← c.self.view_is) (before_closing _ c.self.invariant))
+loop-tx-init c = (c.self.inside.works, rw (← c.self.view_is, c.into_items-txs.ensures.items) (before_closing _ c.self.invariant))
 
 pub end-requires : goal.end-requires
 end-requires c = endable c.loop-tx.invariant.1 _ _ c.in-Some.ensures.items

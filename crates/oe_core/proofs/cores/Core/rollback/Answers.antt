@@ -1,4 +1,4 @@
-use Rattle.std.proofs.Common.{ℕ, None, refl, ap, slice_set}
+use Rattle.std.proofs.Common.{None, refl, slice_set}
 use Rattle.oe_theory.specs.Next.{Rollback, Rolled_back}
 use Rattle.oe_core.specs.Core.{Moves}
 use Rattle.oe_core.proofs.MoveFacts.{carries, nothing_taken, taken_here, own_work, rolled_back_here}
@@ -16,10 +16,10 @@ pub roll_back-requires : goal.roll_back-requires
 roll_back-requires c = (own_work (taken_here c.self.invariant c.take_tx.ensures.high c.in-Some.ensures.value).1).is_open
 
 -- the transaction is gone
-rolled_back : (c : After-self-1) → Moves (record { engine = c.self.inside.engine; txs = c.self.inside.txs.items; works = c.self.inside.works.items }) (Rollback c.args.terminal) Rolled_back (record { engine = c.roll_back.new.engine; txs = c.take_tx.new.txs.items; works = slice_set c.self.inside.works.items c.slot.result None })
+rolled_back : (c : After-self-1) → Moves (record { engine = c.self.inside.engine; txs = c.self.inside.txs; works = c.self.inside.works }) (Rollback c.args.terminal) Rolled_back (record { engine = c.roll_back.new.engine; txs = c.take_tx.new.txs; works = slice_set c.self.inside.works c.args.terminal None })
 rolled_back c =
     rolled_back_here (taken_here c.self.invariant c.take_tx.ensures.high c.in-Some.ensures.value).1 c.roll_back.new.engine _ _ c.roll_back.ensures.rolled_back c.roll_back.ensures.name c.take_tx.ensures.after
-    (ap (λ (k : ℕ). slice_set c.self.inside.works.items k None) c.slot.ensures.value)
+    refl
 
 pub invariant_of-self-2 : goal.invariant_of-self-2
 invariant_of-self-2 c = (rolled_back c).orderly

@@ -1,7 +1,7 @@
 use Rattle.std.proofs.Common.{◌+◌, ◌++◌, ◌∷◌, [], take, drop, append_assoc, ap, ◌∙◌, Ok, Err, arith}
 use Rattle.std.proofs.lemmas.List.{take_rest, length-append}
 use Rattle.oe_script.specs.Session.{state_of}
-use Rattle.oe_script.specs.declared.ports.Failed.{Failed}
+use Rattle.oe_ports.specs.declared.ports.Failed.{Failed}
 use Rattle.oe_script.proofs.Reaching.{stand_bytes, stand_line, broken_more, broken_as, to_end, past_end, standing_as}
 use Rattle.oe_script.proofs.Splitting.{no_end, before_end, at_end}
 use Rattle.oe_script.proofs.session.Session.feed.Goals as goal

@@ -1,0 +1,8 @@
+//! What is asked of a request before its transaction begins: that its numbers are in their ranges, and that its warehouses are there.
+#![tactic(auto)]
+
+mod ranges;
+mod rejections;
+
+pub use ranges::ranges_hold;
+pub use rejections::rejection;

@@ -1,0 +1,93 @@
+//! What the types of a request say: that its numbers and its name are in their ranges. All are laws, and do nothing.
+ghost use Rattle.std.specs.List.{All};
+ghost use Rattle.oe_model.specs.Requests.{IsDistrict, IsChoice, IsPayment, IsRequestLine, IsNewOrder, IsDelivery, IsRequest};
+ghost use Rattle.oe_admission.specs.Programs.{HasProgram};
+
+use oe_requests::{
+    CustomerChoice, DeliveryRequest, NewOrderRequest, PaymentRequest, Request, RequestLine,
+};
+use oe_rows::DistrictKey;
+
+#[inline]
+fn district_holds(district: &DistrictKey)
+    ensures { IsDistrict district.now }
+{
+    let _warehouse = district.warehouse.get();
+    let _district = district.district.get();
+}
+
+#[inline]
+fn choice_holds(choice: &CustomerChoice)
+    ensures { IsChoice choice.now }
+{
+    match choice {
+        CustomerChoice::Number(number) => {
+            let _number = number.get();
+        }
+        CustomerChoice::LastName(name) => {
+            let _name = name.as_str();
+        }
+    }
+}
+
+#[inline]
+fn payment_holds(payment: &PaymentRequest)
+    ensures { IsPayment payment.now }
+{
+    district_holds(&payment.district);
+    district_holds(&payment.customer_district);
+    choice_holds(&payment.customer);
+    let _amount = payment.amount.get();
+    let _stamp = payment.stamp.seconds();
+}
+
+#[inline]
+fn line_holds(line: &RequestLine)
+    ensures { IsRequestLine line.now }
+{
+    let _supply = line.supply.get();
+    let _item = line.item.get();
+    let _quantity = line.quantity.get();
+}
+
+#[inline]
+fn lines_hold(lines: &[RequestLine])
+    ensures { All IsRequestLine lines.now }
+{
+    for line in lines {
+        line_holds(line);
+    }
+}
+
+#[inline]
+fn order_holds(order: &NewOrderRequest)
+    ensures { IsNewOrder order.now }
+{
+    district_holds(&order.district);
+    let _customer = order.customer.get();
+    let _stamp = order.stamp.seconds();
+    lines_hold(order.lines.as_slice());
+}
+
+#[inline]
+fn delivery_holds(delivery: &DeliveryRequest)
+    ensures { IsDelivery delivery.now }
+{
+    district_holds(&delivery.district);
+    let _carrier = delivery.carrier.get();
+    let _stamp = delivery.stamp.seconds();
+}
+
+/// Says that a request which has a program is in its ranges.
+#[inline]
+pub fn ranges_hold(request: &Request)
+    requires { HasProgram request.now }
+    ensures { IsRequest request.now }
+{
+    match request {
+        Request::Payment(payment) => payment_holds(payment),
+        Request::NewOrder(order) => order_holds(order),
+        Request::Delivery(delivery) => delivery_holds(delivery),
+        _ => unreachable!(),
+    }
+}

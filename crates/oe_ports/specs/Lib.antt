@@ -1,0 +1,4 @@
+-- What the clauses of this crate cite.
+pub mod Ports
+pub mod Dump
+pub mod Lines

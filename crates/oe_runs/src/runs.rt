@@ -1,0 +1,32 @@
+//! Runs of steps.
+ghost use Rattle.std.specs.Prelude.{◌≡◌, IfOk, IfSome, OnErr};
+ghost use Rattle.std.specs.List.{All};
+ghost use Rattle.oe_admission.specs.Programs.{HasProgram};
+ghost use Rattle.oe_core.specs.Steps.{begins_with};
+ghost use Rattle.oe_core.specs.Core.{world_of};
+ghost use Rattle.oe_runs.specs.Run.{Served, Ran};
+
+use oe_core::Core;
+use oe_requests::{Answer, Step};
+use oe_values::NoMemory;
+
+/// Carries out the steps one after another, and gives their answers.
+///
+/// `NoMemory`: memory was refused for the answers; no step was carried out then.
+pub fn run(core: &mut Core, steps: &[Step]) -> Result<Vec<Answer>, NoMemory>
+    requires { All (λ i. IfSome (begins_with i) HasProgram) steps.now }
+    ensures served { IfOk result
+        (λ ys. Served (world_of core.old) steps.now ys.items (world_of core.new)) }
+    ensures ran { IfOk result
+        (λ ys. Ran (world_of core.old) steps.now ys.items (world_of core.new)) }
+    ensures err { OnErr result (core.new ≡ core.old) }
+{
+    core.is_reached();
+    let Ok(mut answers) = Vec::with_capacity(core.allocator(), steps.len()) else {
+        return Err(NoMemory);
+    };
+    for step in steps {
+        answers.push(core.step(step.copied())).unwrap();
+    }
+    Ok(answers)
+}
