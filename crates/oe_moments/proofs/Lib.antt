@@ -1,0 +1,3 @@
+-- The proofs of this crate.
+pub mod KeepFacts
+pub mod StepFacts

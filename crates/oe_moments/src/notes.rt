@@ -1,0 +1,50 @@
+//! What the holder of a seat knows of the words.
+use oe_values::Moment;
+
+/// How far a desk's pin has come.
+#[derive(Clone, Copy)]
+pub enum PinState {
+    /// There is none.
+    Free,
+    /// The desk announced a pin of the moment.
+    Announced(Moment),
+    /// It has since looked at what the keeper claims.
+    Looked(Moment),
+    /// The pin holds: the keeper purges nothing that a read of the moment needs.
+    Sure(Moment),
+}
+
+/// What a desk knows: its number from 0, the newest moment that it has seen or told, the claim that
+/// it looked at last, and its pin.
+#[derive(Clone, Copy)]
+pub struct DeskNotes {
+    pub number: u64,
+    pub seen: Moment,
+    pub claim: Moment,
+    pub pin: PinState,
+}
+
+/// What the keeper knows: whether it scans, how many desks' pins it has passed, the least moment so
+/// far, and its horizon.
+#[derive(Clone, Copy)]
+pub struct KeeperNotes {
+    pub scanning: bool,
+    pub passed: u64,
+    pub least: Moment,
+    pub horizon: Moment,
+}
+
+/// What the dealer knows: how many desks have a seat, and whether the keeper has one.
+#[derive(Clone, Copy)]
+pub struct DealerNotes {
+    pub dealt: u64,
+    pub keeper: bool,
+}
+
+/// What the holder of a seat knows. It is for proofs: no value of it is made.
+pub enum Notes {
+    Gone,
+    Dealer(DealerNotes),
+    Desk(DeskNotes),
+    Keeper(KeeperNotes),
+}
