@@ -1,10 +1,11 @@
 //! What the types of a request say: that its numbers and its name are in their ranges. All are laws, and do nothing.
 ghost use Rattle.std.specs.List.{All};
-ghost use Rattle.oe_model.specs.Requests.{IsDistrict, IsChoice, IsPayment, IsRequestLine, IsNewOrder, IsDelivery, IsRequest};
+ghost use Rattle.oe_model.specs.Requests.{IsDistrict, IsChoice, IsPayment, IsRequestLine, IsNewOrder, IsDelivery, IsDeliveries, IsRequest};
 ghost use Rattle.oe_admission.specs.Programs.{HasProgram};
 
 use oe_requests::{
-    CustomerChoice, DeliveryRequest, NewOrderRequest, PaymentRequest, Request, RequestLine,
+    CustomerChoice, DeliveriesRequest, DeliveryRequest, NewOrderRequest, PaymentRequest, Request,
+    RequestLine,
 };
 use oe_rows::DistrictKey;
 
@@ -78,6 +79,15 @@ fn delivery_holds(delivery: &DeliveryRequest)
     let _stamp = delivery.stamp.seconds();
 }
 
+#[inline]
+fn deliveries_hold(deliveries: &DeliveriesRequest)
+    ensures { IsDeliveries deliveries.now }
+{
+    let _warehouse = deliveries.warehouse.warehouse.get();
+    let _carrier = deliveries.carrier.get();
+    let _stamp = deliveries.stamp.seconds();
+}
+
 /// Says that a request which has a program is in its ranges.
 #[inline]
 pub fn ranges_hold(request: &Request)
@@ -88,6 +98,7 @@ pub fn ranges_hold(request: &Request)
         Request::Payment(payment) => payment_holds(payment),
         Request::NewOrder(order) => order_holds(order),
         Request::Delivery(delivery) => delivery_holds(delivery),
+        Request::Deliveries(deliveries) => deliveries_hold(deliveries),
         _ => unreachable!(),
     }
 }

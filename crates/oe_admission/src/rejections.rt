@@ -62,6 +62,7 @@ pub fn rejection(tables: &Tables, request: &Request) -> Option<Refusal>
             None => absent_supply(tables, order.lines.as_slice()),
         },
         Request::Delivery(delivery) => absent(tables, delivery.district.warehouse),
+        Request::Deliveries(deliveries) => absent(tables, deliveries.warehouse.warehouse),
         _ => unreachable!(),
     }
 }

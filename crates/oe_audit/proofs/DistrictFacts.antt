@@ -21,7 +21,7 @@ use Rattle.oe_model.proofs.MapFacts.{is_same}
 use Rattle.oe_model.proofs.EntryFacts.{EachOf, each_of, kept_at}
 use Rattle.oe_store.specs.Places.{entries_of}
 use Rattle.oe_audit.specs.Tests.{are_counted, lines_agree}
-use Rattle.oe_audit.proofs.GroupFacts.{sum_of_group}
+use Rattle.oe_model.proofs.GroupFacts.{sum_of_group}
 use Rattle.oe_audit.proofs.NumberFacts.{Rises, Rise, has_no_gap, gaps_counted}
 
 left : (a b : Bool) → T (a && b) → T a
@@ -40,7 +40,7 @@ lower x y Greater e h = absurd h
 same_number : (n m : ℕ) → n ≡ m → nat_cmp n m ≡ Equal
 same_number n m e = sym (nat_cmp_is n m Equal e)
 
-ones : {A : Type 0} (xs : List A) → sum_by (λ x. 1) xs ≡ length xs
+pub ones : {A : Type 0} (xs : List A) → sum_by (λ x. 1) xs ≡ length xs
 ones [] = refl
 ones (x ∷ xs) = let s = sum_by-cons (λ y. 1) x xs in let t = ones xs in omega arith
 

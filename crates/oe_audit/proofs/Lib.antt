@@ -1,5 +1,4 @@
 -- What this crate's proofs rest on.
-mod GroupFacts
 mod SumFacts
 mod NumberFacts
 mod DistrictFacts
@@ -8,3 +7,7 @@ mod StoodFacts
 mod PassedFacts
 mod WalkFacts
 mod QuietFacts
+mod PaidFacts
+mod DeliveredFacts
+mod LedgerFacts
+mod AgreeFacts

@@ -11,12 +11,13 @@ use Rattle.oe_rows.specs.declared.keys.WarehouseKey.{WarehouseKey}
 use Rattle.oe_rows.specs.declared.keys.DistrictKey.{DistrictKey}
 use Rattle.oe_rows.specs.declared.keys.OrderKey.{OrderKey}
 use Rattle.oe_rows.specs.declared.keys.NewOrderKey.{NewOrderKey}
-use Rattle.oe_rows.proofs.KeyFacts.{warehouse_total, exact_warehouse, district_total, exact_district, order_total, exact_order, order_line_total, exact_order_line, new_order_total, exact_new_order}
+use Rattle.oe_rows.proofs.KeyFacts.{warehouse_total, exact_warehouse, district_total, exact_district, order_total, exact_order, order_line_total, exact_order_line, new_order_total, exact_new_order, customer_total, exact_customer}
 use Rattle.oe_rows.specs.declared.districts.District.{District}
 use Rattle.oe_rows.specs.declared.orders.Order.{Order}
 use Rattle.oe_model.specs.Keys.{warehouse_of_district, district_of_order, district_of_new_order, order_of_line, order_of_new_order}
 use Rattle.oe_model.specs.Rows.{Rows}
 use Rattle.oe_model.specs.Conditions.{ytd_of, lines_asked, lines_there}
+use Rattle.oe_model.specs.FurtherConditions.{lines_of_order}
 use Rattle.oe_store.specs.Places.{rows, entries_of}
 use Rattle.oe_store.specs.Places as tables
 use Rattle.oe_versions.specs.Versions.{rows_of}
@@ -24,8 +25,8 @@ use Rattle.oe_versions.proofs.ChosenFacts.{rows_at, kept_is, kept_among, all_is}
 use Rattle.oe_audit.specs.AsOf.{rows_then, stood, ArePassed}
 use Rattle.oe_audit.specs.declared.as_of.AsOf.{AsOf}
 use Rattle.oe_audit.specs.declared.as_of.AsOf.TheVariants as when
-use Rattle.oe_audit.proofs.GroupFacts.{sum_of_group}
-use Rattle.oe_audit.proofs.DistrictFacts.{asked_is, there_is}
+use Rattle.oe_model.proofs.GroupFacts.{sum_of_group}
+use Rattle.oe_audit.proofs.DistrictFacts.{asked_is, there_is, ones}
 
 -- the key of an order among those not yet delivered
 abbrev pub new_order_of : OrderKey → NewOrderKey
@@ -76,6 +77,15 @@ module _ (ts : tables.Places) (w : AsOf) (h : ArePassed (rows_then ts w) (rows t
   pub districts_are : entries past.districts ≡ stood w past.districts (entries (rows ts).districts)
   districts_are = all_stood district_total exact_district (λ r. r.districts) ts w h.districts
 
+  pub customers_are : entries past.customers ≡ stood w past.customers (entries (rows ts).customers)
+  customers_are = all_stood customer_total exact_customer (λ r. r.customers) ts w h.customers
+
+  pub all_orders_are : entries past.orders ≡ stood w past.orders (entries (rows ts).orders)
+  all_orders_are = all_stood order_total exact_order (λ r. r.orders) ts w h.orders
+
+  pub all_lines_are : entries past.order_lines ≡ stood w past.order_lines (entries (rows ts).order_lines)
+  all_lines_are = all_stood order_line_total exact_order_line (λ r. r.order_lines) ts w h.order_lines
+
   pub districts_of_are : (g : WarehouseKey) → entries_of warehouse_cmp warehouse_of_district g past.districts ≡ stood w past.districts (entries_of warehouse_cmp warehouse_of_district g (rows ts).districts)
   districts_of_are g = kept_stood district_total exact_district (λ r. r.districts) ts w (λ k. eq_by_cmp warehouse_cmp (warehouse_of_district k) g) h.districts
 
@@ -85,6 +95,15 @@ module _ (ts : tables.Places) (w : AsOf) (h : ArePassed (rows_then ts w) (rows t
   pub lines_are : (g : DistrictKey) → entries_of district_cmp (λ k. district_of_order (order_of_line k)) g past.order_lines ≡ stood w past.order_lines (entries_of district_cmp (λ k. district_of_order (order_of_line k)) g (rows ts).order_lines)
   lines_are g =
       kept_stood order_line_total exact_order_line (λ r. r.order_lines) ts w (λ k. eq_by_cmp district_cmp (district_of_order (order_of_line k)) g) h.order_lines
+
+  pub lines_of_are : (k : OrderKey) → entries_of order_cmp order_of_line k past.order_lines ≡ stood w past.order_lines (entries_of order_cmp order_of_line k (rows ts).order_lines)
+  lines_of_are k = kept_stood order_line_total exact_order_line (λ r. r.order_lines) ts w (λ l. eq_by_cmp order_cmp (order_of_line l) k) h.order_lines
+
+  -- what condition 6 counts
+  pub lines_were : (k : OrderKey) → lines_of_order past k ≡ length (stood w past.order_lines (entries_of order_cmp order_of_line k (rows ts).order_lines))
+  lines_were k =
+      sum_of_group order_line_total exact_order_line past.order_lines (λ l. eq_by_cmp order_cmp (order_of_line l) k) (λ l y. 1)
+      ∙ ones (entries_of order_cmp order_of_line k past.order_lines) ∙ ap length (lines_of_are k)
 
   -- what conditions 1 and 4 sum up
   pub ytd_was : (g : WarehouseKey) → ytd_of past g ≡ sum_by (λ (e : DistrictKey × District). e.1.ytd) (stood w past.districts (entries_of warehouse_cmp warehouse_of_district g (rows ts).districts))

@@ -42,3 +42,14 @@ none_left true zero t = let h : 1 ≤ 0 = t.0 refl in absurd (let z : ⊥ = omeg
 none_left false zero t = refl
 none_left true (suc n) t = sym (ne_eqb 0 (suc n) (λ e. omega arith))
 none_left false (suc n) t = let e : false ≡ true = t.1 (omega arith) in let z : ⊥ = cc in absurd z
+
+-- rows are as many as were asked for: fewer are there, or some are left, or none
+pub few_lines : (b : Bool) (count n total : ℕ) → IsTrue b ↔ (count ≤ n) → b ≡ false → total ≡ n → false ≡ (count == total)
+few_lines true count n total enough e is = let no : ⊥ = cc in absurd no
+few_lines false count n total enough e is = sym (ne_eqb count total (λ s. let t : false ≡ true = enough.1 (omega arith) in let no : ⊥ = cc in no))
+
+pub all_lines : (b m : Bool) (count n rest total : ℕ) → (IsTrue b → rest + count ≡ n) → b ≡ true → IsTrue m ↔ (1 ≤ rest) → total ≡ n → not m ≡ (count == total)
+all_lines true m count n rest total taken e more is =
+    let t = taken refl in
+    none_left m rest more ∙ same_test 0 rest count total (λ s. omega arith) (λ s. omega arith)
+all_lines false m count n rest total taken e more is = let no : ⊥ = cc in absurd no

@@ -2,3 +2,5 @@
 pub mod Verdict
 pub mod Tests
 pub mod AsOf
+pub mod Payments
+pub mod Ledgers

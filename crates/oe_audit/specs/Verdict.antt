@@ -14,6 +14,13 @@ condition_of condition.First = model.First
 condition_of condition.Second = model.Second
 condition_of condition.Third = model.Third
 condition_of condition.Fourth = model.Fourth
+condition_of condition.Fifth = model.Fifth
+condition_of condition.Sixth = model.Sixth
+condition_of condition.Seventh = model.Seventh
+condition_of condition.Eighth = model.Eighth
+condition_of condition.Ninth = model.Ninth
+condition_of condition.Tenth = model.Tenth
+condition_of condition.Twelfth = model.Twelfth
 
 -- what the audit found
 abbrev pub verdict_of : Verdict → model.Verdict

@@ -1,14 +1,16 @@
 //! When an audit looks at the rows: as they stand, or as they stood at a moment. Its walks go over the rows that stand, and ask here what
 //! each key had then.
 //!
-//! Rows of WAREHOUSE, DISTRICT, ORDER and ORDER-LINE stay where they were inserted, and a NEW-ORDER row has its ORDER row at each moment.
-//! So the rows of a moment are found at the keys that have rows now, those of NEW-ORDER at the keys of the orders.
+//! Rows of all tables but NEW-ORDER stay where they were inserted, and a NEW-ORDER row has its ORDER row at each moment. So the rows of a
+//! moment are found at the keys that have rows now, those of NEW-ORDER at the keys of the orders. A HISTORY row is never changed: it is
+//! read as it stands.
 ghost use Rattle.std.specs.Prelude.{◌≡◌, is_some, option_map};
 ghost use Rattle.std.specs.FinMap.{get};
 ghost use Rattle.oe_audit.specs.AsOf.{rows_then, row_then, has_row_then};
 
 use oe_rows::{
-    District, DistrictKey, NewOrderKey, Order, OrderKey, OrderLineKey, Warehouse, WarehouseKey,
+    Account, Customer, CustomerKey, District, DistrictKey, HistoryKey, NewOrderKey, Order,
+    OrderKey, OrderLine, OrderLineKey, Warehouse, WarehouseKey,
 };
 use oe_store::Tables;
 use oe_values::{OrderNumber, YearToDate};
@@ -101,6 +103,59 @@ impl<'a> AsOf<'a> {
         match self {
             AsOf::Now => tables.new_order(*key).is_some(),
             AsOf::Moment(version) => version.has_new_order(key),
+        }
+    }
+
+    /// The money and counts of the CUSTOMER row that a key has then, where it has this one now.
+    pub(crate) fn account(
+        &self,
+        tables: &Tables,
+        key: &CustomerKey,
+        row: &Customer,
+    ) -> Option<Account>
+        ensures { result ≡ option_map (λ x. x.account)
+            (row_then self.now (rows_then tables.now self.now).customers key.now row.now) }
+    {
+        match self {
+            AsOf::Now => Some(row.account),
+            AsOf::Moment(version) => version.customer_account(key),
+        }
+    }
+
+    /// Whether a key has a HISTORY row then, where it has one now.
+    pub(crate) fn has_history(&self, tables: &Tables, key: &HistoryKey) -> bool
+        ensures { result
+            ≡ has_row_then self.now (rows_then tables.now self.now).histories key.now }
+    {
+        match self {
+            AsOf::Now => true,
+            AsOf::Moment(version) => version.has_history(key),
+        }
+    }
+
+    /// The ORDER row that a key has then.
+    pub(crate) fn order_at(&self, tables: &Tables, key: &OrderKey) -> Option<Order>
+        ensures { result ≡ get (rows_then tables.now self.now).orders key.now }
+    {
+        match self {
+            AsOf::Now => Some(*tables.order(*key)?),
+            AsOf::Moment(version) => version.order(key),
+        }
+    }
+
+    /// A copy of the ORDER-LINE row that a key has then, where it has this one now.
+    pub(crate) fn order_line(
+        &self,
+        tables: &Tables,
+        key: &OrderLineKey,
+        row: &OrderLine,
+    ) -> Option<OrderLine>
+        ensures { result
+            ≡ row_then self.now (rows_then tables.now self.now).order_lines key.now row.now }
+    {
+        match self {
+            AsOf::Now => Some(row.copied()),
+            AsOf::Moment(version) => version.order_line(key),
         }
     }
 }

@@ -1,4 +1,5 @@
-//! The verdicts of the consistency conditions (clauses 3.3.2.1 to 3.3.2.4), of the rows as they stand or stood at a moment.
+//! The verdicts of the consistency conditions (clauses 3.3.2.1 to 3.3.2.10 and 3.3.2.12), of the rows as they stand or stood at a
+//! moment.
 ghost use Rattle.std.specs.Prelude.{◌≡◌, IsTrue, IfOk, IfErr, OnOk};
 ghost use Rattle.oe_model.specs.Audits.{First};
 ghost use Rattle.oe_store.specs.Places.{rows};
@@ -9,7 +10,10 @@ ghost use Rattle.oe_audit.specs.AsOf.{rows_then, model_condition, passes, ArePas
 ghost use Rattle.oe_audit.specs.Verdict.{IsVerdict, IsAudited};
 
 use crate::as_of::AsOf;
+use crate::customers::{CustomerCondition, of_customers};
 use crate::districts::{passes_fourth, passes_second, passes_third};
+use crate::orders::{OrderCondition, of_orders, seventh};
+use crate::payments::{eighth, ninth};
 use crate::warehouses::passes_first;
 use oe_requests::{Condition, Refusal, Verdict};
 use oe_rows::{DistrictKey, Key};
@@ -89,13 +93,22 @@ fn found<'a>(number: Condition, tables: &'a Tables, when: &AsOf<'a>) -> Verdict
         Condition::Second => of_districts(&DistrictCondition::Second, tables, when),
         Condition::Third => of_districts(&DistrictCondition::Third, tables, when),
         Condition::Fourth => of_districts(&DistrictCondition::Fourth, tables, when),
+        Condition::Fifth => of_orders(&OrderCondition::Fifth, tables, when),
+        Condition::Sixth => of_orders(&OrderCondition::Sixth, tables, when),
+        Condition::Seventh => seventh(tables, when),
+        Condition::Eighth => eighth(tables, when),
+        Condition::Ninth => ninth(tables, when),
+        Condition::Tenth => of_customers(&CustomerCondition::Tenth, tables, when),
+        Condition::Twelfth => of_customers(&CustomerCondition::Twelfth, tables, when),
     }
 }
 
 /// The verdict of a consistency condition: that it holds, or the first row, in key order, at which it fails. That is a
-/// WAREHOUSE row for the first condition, and a DISTRICT row for the others; a district without an order fails the second.
+/// WAREHOUSE row for conditions 1 and 8, a DISTRICT row for 2, 3, 4 and 9, an ORDER row for 5 and 6, an ORDER-LINE row for 7, and a
+/// CUSTOMER row for 10 and 12; a district without an order fails the second.
 ///
-/// Each audit walks the rows that it concerns once, and takes no memory.
+/// Each audit walks the rows that it concerns once, but for those of HISTORY: it walks them once for each warehouse or district.
+/// It takes no memory.
 pub fn condition(number: Condition, tables: &Tables) -> Verdict
     ensures { IsAudited number (rows tables.now) result }
 {

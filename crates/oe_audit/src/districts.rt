@@ -124,7 +124,7 @@ pub(crate) fn passes_third<'a>(tables: &'a Tables, when: &AsOf<'a>, key: &Distri
 }
 
 /// Takes rows off the front of a walk until `count` of them stood then, and answers whether there were that many.
-fn takes<'a>(
+pub(crate) fn takes<'a>(
     lines: &mut Rows<'a, OrderLineKey, OrderLine>,
     tables: &'a Tables,
     when: &AsOf<'a>,
@@ -149,7 +149,7 @@ fn takes<'a>(
 }
 
 /// Whether a walk has a row yet that stood then.
-fn has_more<'a>(
+pub(crate) fn has_more<'a>(
     lines: &mut Rows<'a, OrderLineKey, OrderLine>,
     tables: &'a Tables,
     when: &AsOf<'a>,

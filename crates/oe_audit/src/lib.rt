@@ -5,7 +5,11 @@
 
 mod as_of;
 pub mod conditions;
+mod customers;
 mod districts;
+mod ledgers;
+mod orders;
+mod payments;
 pub mod populations;
 mod warehouses;
 

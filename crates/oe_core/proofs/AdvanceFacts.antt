@@ -1,5 +1,5 @@
 -- A row of a transaction, and its commit.
-use Rattle.std.proofs.Common.{◌≡◌, ℕ, suc, inl, inr, true, false, List, Option, Some, None, length, slice_get, slice_set, sym, ap, ◌∙◌, subst, refl}
+use Rattle.std.proofs.Common.{◌≡◌, ℕ, suc, inl, inr, true, false, cond, List, Option, Some, None, length, slice_get, slice_set, sym, ap, ◌∙◌, subst, refl}
 use Rattle.std.specs.Prelude.{◌⊎◌}
 use Rattle.std.proofs.lemmas.Bool.{cases_lt}
 use Rattle.oe_theory.specs.Machine.{Mode, Ask, Stop, Plain, Take, Fail, Go, Tx}
@@ -26,7 +26,7 @@ use Rattle.oe_model.specs.Changes.{Change}
 use Rattle.oe_model.specs.Meets.{Accepts}
 use Rattle.oe_model.specs.Positions as model
 use Rattle.oe_model.specs.Requests.{MayRefuse}
-use Rattle.oe_model.specs.System.{system, ask, act, taken, yields, may_allocate, terminal_limit}
+use Rattle.oe_model.specs.System.{system, ask, act, taken, yields, marks, may_allocate, terminal_limit}
 use Rattle.oe_model.proofs.ChangeFacts.{not_both}
 use Rattle.oe_model.proofs.SystemLaws.{laws}
 use Rattle.oe_engine.specs.View.{View, view_of, Handle, IsOpen}
@@ -36,7 +36,7 @@ use Rattle.oe_engine.specs.Programs.{reply_at, tx_of, ask_here, act_here, IsFree
 use Rattle.oe_engine.proofs.ReplyFacts.{ready_at}
 use Rattle.oe_core.specs.Core.{CoreState, in_slot, reply_left, last_reply, work_at, slot_of, open_at, store_with, store_of, world_of, IsOrderly, Moves, keeps_open}
 use Rattle.oe_core.specs.Steps.{refusal_in, Carries}
-use Rattle.oe_core.specs.Works.{WorkState, HoldsTaken}
+use Rattle.oe_core.specs.Works.{WorkState, HoldsTaken, gone_on}
 use Rattle.oe_model.specs.Positions.{Position}
 use Rattle.oe_core.proofs.WantFacts.{allocates}
 use Rattle.oe_core.proofs.SlotFacts.{get_slot, get_set_same}
@@ -185,19 +185,20 @@ lacks s t p (Take k m) g n y = (g, n, y)
 
 -- the row went on
 pub went_on_here : {s : CoreState} {t : ℕ} {x : Handle} {w : WorkState} → HasOpen s t x w → (w' : WorkState) (e' : engine.EngineState) (ws : List (Option WorkState))
-    → GoesOn s.engine x w.request w.position e' w'.position → w' ≡ record w { position = w'.position }
+    → GoesOn s.engine x w.request w.position e' w'.position → w' ≡ gone_on (length ((view_of s.engine).undo.active x.terminal)) w w'.position
     → ws ≡ slice_set s.works t (Some w')
     → Moves s (Advance t) More (record { engine = e'; txs = s.txs; works = ws })
 went_on_here {s} {t} {x} {w} h w' e' ws g same q =
     let v = view_of s.engine in
     let own = own_work h in
     let p = w'.position in
+    let n : ℕ = length (v.undo.active t) in
     let a = ask (tx_in system t (slot_of v t w)) w.position v.rows in
     let now : view_of e' ≡ stage_done t a g.change v =
     g.done
     ∙ (ap (λ (z : Ask Name Refusal). stage_done x.terminal z g.change v) (asked_here s t x w h)
     ∙ ap (λ (z : ℕ). stage_done z a g.change v) own.terminal) in
-    worked h (Advance t) More (record w { position = p }) (Some (slot_after system (slot_of v t w) (length (v.undo.active t)) a p)) e' (stage_done t a g.change v)
+    worked h (Advance t) More (gone_on n w p) (Some (slot_after system (slot_of v t w) (length (v.undo.active t)) a p)) e' (stage_done t a g.change v)
     (the_steps.goes_on (store_of s) t (slot_of v t w) g.change p (standing s h.orderly) (slot_here h) (granted_in s t x w h g.free)
     (sym (acted_here s t x w h) ∙ g.does) (has_room v (work_at s) t g.change (subst (λ (z : ℕ). IsFullForAny v z g.change → ⊥) own.terminal g.room)))
     now g.name (record { counts = λ u n. refl; held = λ u n. set_other t _ v.held u n; is_open = λ u n. refl })
@@ -205,12 +206,12 @@ went_on_here {s} {t} {x} {w} h w' e' ws g same q =
       number = suc (v.counts t);
       request = w.request;
       position = p;
-      mark_position = w.mark;
-      mark_count = w.mark_records;
+      mark_position = cond (marks w.position) w.position w.mark;
+      mark_count = cond (marks w.position) n w.mark_records;
       held = set_same t (held_after system a (v.held t)) v.held t refl i;
     }))
     (tx_still s.engine e' t x own (ap (λ (z : View). z.is_open) now) g.name)
-    ws (q ∙ ap (λ (z : WorkState). slice_set s.works t (Some z)) same)
+    ws (q ∙ ap (λ (z : WorkState). slice_set s.works t (Some z)) (same ∙ ap (λ (k : ℕ). gone_on (length (v.undo.active k)) w p) own.terminal))
 
 -- what is taken out of a slot is the transaction that stood there
 pub taken_is : {s : CoreState} {t : ℕ} {x : Handle} {w : WorkState} → HasOpen s t x w → (out : Handle) → slice_get s.txs t ≡ Some (Some out) → out ≡ x
@@ -323,10 +324,10 @@ ended_lead s t y w o (NotPinned n) kp h = leads_end s t y w o (NotPinned n) h.1
 -- it was refused, and stays open where it stands
 pub kept_here : {s : CoreState} {t : ℕ} {y : Handle} {w : WorkState} → HasOpen s t y w → (w' : WorkState) (e' : engine.EngineState) (ws : List (Option WorkState)) (x : Refusal)
     → keeps_open x ≡ true → IsRefused s.engine y w.request w.position x
-    → view_of e' ≡ view_of s.engine → e'.name ≡ s.engine.name → w' ≡ record w { position = w'.position } → w'.position ≡ w.position
+    → view_of e' ≡ view_of s.engine → e'.name ≡ s.engine.name → w' ≡ w
     → ws ≡ slice_set s.works t (Some w')
     → Moves s (Advance t) (refusal_in (step.Advance t) x) (record { engine = e'; txs = s.txs; works = ws })
-kept_here {s} {t} {y} {w} h w' e' ws x kept why b name same there q =
+kept_here {s} {t} {y} {w} h w' e' ws x kept why b name same q =
     let v = view_of s.engine in
     let own = own_work h in
     worked h (Advance t) (refusal_in (step.Advance t) x) w (Some (slot_of v t w)) e' v
@@ -335,7 +336,7 @@ kept_here {s} {t} {y} {w} h w' e' ws x kept why b name same there q =
     b name (record { counts = λ u n. refl; held = λ u n. refl; is_open = λ u n. refl })
     refl
     (tx_still s.engine e' t y own (ap (λ (z : View). z.is_open) b) name)
-    ws (q ∙ ap (λ (z : WorkState). slice_set s.works t (Some z)) (same ∙ ap (λ (z : Position). record w { position = z }) there))
+    ws (q ∙ ap (λ (z : WorkState). slice_set s.works t (Some z)) same)
 
 -- it was refused, and rolled back
 pub given_up_here : {s : CoreState} {t : ℕ} {y : Handle} {w : WorkState} → HasOpen s t y w → (out : Handle) → out ≡ y → (e' e'' : engine.EngineState) (xs : List (Option Handle)) (ws : List (Option WorkState)) (z : Option WorkState) (x : Refusal)

@@ -7,6 +7,7 @@ use Rattle.oe_requests.specs.declared.requests.Request.{Request}
 use Rattle.oe_requests.specs.declared.requests.PaymentRequest.{PaymentRequest}
 use Rattle.oe_requests.specs.declared.requests.NewOrderRequest.{NewOrderRequest}
 use Rattle.oe_requests.specs.declared.requests.DeliveryRequest.{DeliveryRequest}
+use Rattle.oe_requests.specs.declared.replies.DistrictDelivery.TheVariants.{Skipped}
 use Rattle.oe_requests.specs.declared.refusals.Column.{Column}
 use Rattle.oe_requests.specs.declared.refusals.Refusal.{Refusal}
 use Rattle.oe_requests.specs.declared.refusals.Refusal.TheVariants.{NoSuchRow, NoCustomer, InvalidItem}
@@ -19,7 +20,8 @@ use Rattle.oe_model.specs.Effects.{Doing, given, within}
 use Rattle.oe_model.specs.Positions as model
 use Rattle.oe_model.specs.Payment.{paid_warehouse, paid_warehouse_out, paid_district, paid_district_out, paid_customer, paid_customer_out}
 use Rattle.oe_model.specs.NewOrder.{with_next, next_out, item_at, stock_of, supplied, stock_out}
-use Rattle.oe_model.specs.Delivery.{oldest, delivered_to, delivered_out}
+use Rattle.oe_model.specs.Delivery.{Setting, alone, district_act, oldest, delivered_to, delivered_out}
+use Rattle.oe_model.specs.Deliveries.{at_hand, among_ten}
 use Rattle.oe_model.specs.System.{act, may_allocate}
 
 -- a stage that reads a row first, or looks at the ranges of columns, where it makes a change
@@ -76,30 +78,32 @@ new_order_allocates x q (model.NewOrderStock y before done (l ∷ ls)) r c z e i
 new_order_allocates x q (model.NewOrderLine y before done l f ls) r c z e i = refl
 
 -- the oldest order is deleted, if there is one
-queue_inserts_none : (q : DeliveryRequest) (o : Option ℕ) (c : Change) (z : model.Position)
+queue_inserts_none : (t : Setting) (q : DeliveryRequest) (o : Option ℕ) (c : Change) (z : model.Position)
     → ◌≡◌ {A = Doing} (elim o [
-      | None ↦ Go None (model.InDelivery q model.DeliveryNothing)
-      | Some n ↦ Go (Some (DeleteNewOrder (new_order_in q.district n))) (model.InDelivery q (model.DeliveryOrder n))
+      | None ↦ Go None (t.next Skipped)
+      | Some n ↦ Go (Some (DeleteNewOrder (new_order_in q.district n))) (t.here (model.DeliveryOrder n))
     ]) (Go (Some c) z) → is_insert c ≡ true → ⊥
-queue_inserts_none q None c z e i = only_reads _ c z e
-queue_inserts_none q (Some n) c z e i = no_insert _ _ c z e refl i
+queue_inserts_none t q None c z e i = only_reads _ c z e
+queue_inserts_none t q (Some n) c z e i = no_insert _ _ c z e refl i
 
-delivery_allocates : (x : Tx Request) (q : DeliveryRequest) (p : model.DeliveryPosition) (r : Rows) (c : Change) (z : model.Position)
-    → act x (model.InDelivery q p) r ≡ Go (Some c) z → is_insert c ≡ true → may_allocate (model.InDelivery q p) ≡ true
-delivery_allocates x q model.DeliveryQueue r c z e i = absurd (queue_inserts_none q (oldest q.district r.new_orders) c z e i)
-delivery_allocates x q model.DeliveryNothing r c z e i = let no : ⊥ = cc in absurd no
-delivery_allocates x q (model.DeliveryOrder o) r c z e i =
-    let (y, f) = given_goes (NoSuchRow (key.Order (order_in q.district o))) (get r.orders (order_in q.district o)) _ c z e in absurd (no_insert _ _ c z f refl i)
-delivery_allocates x q (model.DeliveryLine o k (n ∷ ns) sum) r c z e i =
+-- no stage of a district's delivery makes an insert
+district_inserts_none : (t : Setting) (q : DeliveryRequest) (p : model.DeliveryPosition) (r : Rows) (c : Change) (z : model.Position) → district_act t q p r ≡ Go (Some c) z → is_insert c ≡ true → ⊥
+district_inserts_none t q model.DeliveryQueue r c z e i = queue_inserts_none t q (oldest q.district r.new_orders) c z e i
+district_inserts_none t q model.DeliveryNothing r c z e i = cc
+district_inserts_none t q (model.DeliveryOrder o) r c z e i =
+    let (y, f) = given_goes (NoSuchRow (key.Order (order_in q.district o))) (get r.orders (order_in q.district o)) _ c z e in no_insert _ _ c z f refl i
+district_inserts_none t q (model.DeliveryLine o k (n ∷ ns) sum) r c z e i =
     let (y, f) = given_goes (NoSuchRow (key.OrderLine (line_in (order_in q.district o) n))) (get r.order_lines (line_in (order_in q.district o) n)) _ c z e in
-    absurd (no_insert _ _ c z f refl i)
-delivery_allocates x q (model.DeliveryLine o k [] sum) r c z e i =
+    no_insert _ _ c z f refl i
+district_inserts_none t q (model.DeliveryLine o k [] sum) r c z e i =
     let (y, f) = given_goes (NoSuchRow (key.Customer (customer_in q.district k))) (get r.customers (customer_in q.district k)) _ c z e in
-    absurd (no_insert _ _ c z (within_goes (delivered_out (delivered_to sum y)) _ c z f) refl i)
-delivery_allocates x q (model.DeliveryEnd o k sum) r c z e i = let no : ⊥ = cc in absurd no
+    no_insert _ _ c z (within_goes (delivered_out (delivered_to sum y)) _ c z f) refl i
+district_inserts_none t q (model.DeliveryEnd o k sum) r c z e i = cc
 
 pub allocates : (x : Tx Request) (p : model.Position) (r : Rows) (c : Change) (z : model.Position) → act x p r ≡ Go (Some c) z → is_insert c ≡ true → may_allocate p ≡ true
 allocates x (model.InPayment q p) r c z e i = payment_allocates x q p r c z e i
 allocates x (model.InNewOrder q p) r c z e i = new_order_allocates x q p r c z e i
-allocates x (model.InDelivery q p) r c z e i = delivery_allocates x q p r c z e i
+allocates x (model.InDelivery q p) r c z e i = absurd (district_inserts_none (alone q) q p r c z e i)
+allocates x (model.InDeliveries q done p) r c z e i = absurd (district_inserts_none (among_ten q done) (at_hand q done) p r c z e i)
+allocates x (model.DeliveriesEnd done) r c z e i = let no : ⊥ = cc in absurd no
 allocates x model.NoProgram r c z e i = let no : ⊥ = cc in absurd no

@@ -1,13 +1,16 @@
 -- What an open transaction carries out, in the words of the model.
-use Rattle.std.specs.Prelude.{ℕ}
+use Rattle.std.specs.Prelude.{◌≡◌, ℕ, cond}
 use Rattle.oe_requests.specs.declared.requests.Request.{Request}
 use Rattle.oe_requests.specs.declared.requests.Request.TheVariants as request
 use Rattle.oe_model.specs.Positions.{Position, InPayment, InNewOrder, InDelivery}
-use Rattle.oe_model.specs.System.{taken, start_of}
+use Rattle.oe_model.specs.System.{taken, start_of, marks}
 use Rattle.oe_engine.specs.View.{EngineState, view_of, Handle}
 use Rattle.oe_engine.specs.Programs.{tx_of}
+use Rattle.oe_engine.specs.declared.programs.Progress.{Progress}
+use Rattle.oe_engine.specs.declared.programs.Progress.TheVariants as progress
 use Rattle.oe_engine.specs.Stages.{HoldsAll}
 use Rattle.oe_delivery.specs.Program as delivery
+use Rattle.oe_delivery.specs.Deliveries.{place_of}
 use Rattle.oe_neworder.specs.Program as neworder
 use Rattle.oe_core.specs.declared.works.Task.{Task}
 use Rattle.oe_core.specs.declared.works.Task.TheVariants as task
@@ -36,6 +39,8 @@ state_of (task.Delivery q p m) n =
       mark = InDelivery q (delivery.position_of m);
       mark_records = n;
     }
+state_of (task.Deliveries q p m) n =
+    record { request = request.Deliveries q; position = place_of q p; mark = place_of q m; mark_records = n }
 
 -- work for a request whose transaction has just begun: the program and the mark stand at its first row
 abbrev pub begun : Request → WorkState
@@ -44,3 +49,19 @@ begun q = record { request = q; position = start_of q; mark = start_of q; mark_r
 -- the names that are taken on the way to that row are held
 abbrev pub HoldsTaken : EngineState → Handle → Request → Position → Type 0
 HoldsTaken s x q p = HoldsAll (view_of s) x.terminal (taken (tx_of s x q) p)
+
+-- after a stage that went on to this position, where n records stood before it: where the stage moves the mark, the mark is where the
+-- program stood
+abbrev pub gone_on : ℕ → WorkState → Position → WorkState
+gone_on n w p =
+    record w {
+      position = p;
+      mark = cond (marks w.position) w.position w.mark;
+      mark_records = cond (marks w.position) n w.mark_records;
+    }
+
+-- what a stage leaves, where n records stood before it: a refused one leaves all as it was
+abbrev pub Leaves : ℕ → WorkState → Progress → WorkState → Type 0
+Leaves n w progress.More w' = w' ≡ gone_on n w w'.position
+Leaves n w progress.Ready w' = w' ≡ w
+Leaves n w (progress.Refused e) w' = w' ≡ w

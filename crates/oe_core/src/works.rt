@@ -2,15 +2,19 @@
 //!
 //! Program and mark are of the request's kind by type, so that each position is one of the request's own program. What an earlier
 //! transaction left is written over where it lies. Nothing takes memory, and nothing can fail.
-ghost use Rattle.std.specs.Prelude.{◌≡◌, option_map, IfSome};
+ghost use Rattle.std.specs.Prelude.{◌≡◌, option_map, length, IfSome};
+ghost use Rattle.oe_requests.specs.declared.requests.Request.{Request};
 ghost use Rattle.oe_requests.specs.Reply.{told_reply};
-ghost use Rattle.oe_engine.specs.View.{IsOpen};
+ghost use Rattle.oe_engine.specs.View.{IsOpen, view_of};
 ghost use Rattle.oe_engine.specs.Programs.{Progresses, reply_at};
 ghost use Rattle.oe_admission.specs.Programs.{HasProgram};
-ghost use Rattle.oe_core.specs.Works.{begun, state_of, HoldsTaken};
+ghost use Rattle.oe_delivery.specs.Deliveries.{place_of, HoldsNames};
+ghost use Rattle.oe_core.specs.Works.{begun, state_of, HoldsTaken, Leaves};
 
 use oe_engine::{Engine, Progress, Savepoint, Tx};
-use oe_requests::{DeliveryRequest, NewOrderRequest, PaymentRequest, Reply, ReplyRef, Request};
+use oe_requests::{
+    DeliveriesRequest, DeliveryRequest, NewOrderRequest, PaymentRequest, Reply, ReplyRef, Request,
+};
 use std::marker::Model;
 use std::snapshot::Snapshot;
 
@@ -31,6 +35,11 @@ pub(crate) enum Task {
         request: DeliveryRequest,
         program: oe_delivery::Program,
         mark: oe_delivery::Program,
+    },
+    Deliveries {
+        request: DeliveriesRequest,
+        program: oe_delivery::Deliveries,
+        mark: oe_delivery::Deliveries,
     },
 }
 
@@ -71,6 +80,11 @@ impl Task {
                 request: *delivery,
                 program: oe_delivery::Program::new(),
                 mark: oe_delivery::Program::new(),
+            },
+            Request::Deliveries(deliveries) => Task::Deliveries {
+                request: *deliveries,
+                program: oe_delivery::Deliveries::new(),
+                mark: oe_delivery::Deliveries::new(),
             },
             _ => unreachable!(),
         }
@@ -139,6 +153,7 @@ impl Work {
             Task::Payment { program, mark, .. } => *mark = program.copied(),
             Task::NewOrder { program, mark, .. } => *mark = program.copied(),
             Task::Delivery { program, mark, .. } => *mark = program.copied(),
+            Task::Deliveries { program, mark, .. } => *mark = program.copied(),
         }
     }
 
@@ -150,6 +165,7 @@ impl Work {
             Task::Payment { program, mark, .. } => *program = mark.copied(),
             Task::NewOrder { program, mark, .. } => *program = mark.copied(),
             Task::Delivery { program, mark, .. } => *program = mark.copied(),
+            Task::Deliveries { program, mark, .. } => *program = mark.copied(),
         }
     }
 
@@ -170,6 +186,10 @@ impl Work {
             } => program.reply(request),
             Task::Delivery { program, .. } => match program.reply() {
                 Some(reply) => Some(ReplyRef::Delivery(reply)),
+                None => None,
+            },
+            Task::Deliveries { program, .. } => match program.reply() {
+                Some(reply) => Some(ReplyRef::Deliveries(reply)),
                 None => None,
             },
         }
@@ -209,18 +229,21 @@ impl Work {
             Task::Payment { request, .. } => Request::Payment(request.copied()),
             Task::NewOrder { request, .. } => Request::NewOrder(request.copied()),
             Task::Delivery { request, .. } => Request::Delivery(*request),
+            Task::Deliveries { request, .. } => Request::Deliveries(*request),
         };
         Some((Snapshot::of(&request), Snapshot::of(&reply)))
     }
 
-    /// Carries out one stage of the program: its lock and its change. `Refused` leaves all as it was.
+    /// Carries out one stage of the program: its lock and its change. Where the stage moves the
+    /// mark, the mark is then where the program stood. `Refused` leaves all as it was.
     #[inline(always)]
     pub fn next(&mut self, engine: &mut Engine, tx: &Tx) -> Progress
         requires held { IsOpen engine.old tx.now
             → HoldsTaken engine.old tx.now self.old.request self.old.position }
         ensures progresses { Progresses self.old.request tx.now engine.old self.old.position
             result engine.new self.new.position }
-        ensures same { self.new ≡ record self.old { position = self.new.position } }
+        ensures left { Leaves (length ((view_of engine.old).undo.active tx.now.terminal))
+            self.old result self.new }
     {
         match &mut self.task {
             Task::Payment {
@@ -239,7 +262,8 @@ impl Work {
             → HoldsTaken engine.old tx.now self.old.request self.old.position }
         ensures progresses { Progresses self.old.request tx.now engine.old self.old.position
             result engine.new self.new.position }
-        ensures same { self.new ≡ record self.old { position = self.new.position } }
+        ensures left { Leaves (length ((view_of engine.old).undo.active tx.now.terminal))
+            self.old result self.new }
     {
         match &mut self.task {
             Task::Payment {
@@ -257,6 +281,53 @@ impl Work {
                 program,
                 ..
             } => program.next(delivery, engine, tx),
+            Task::Deliveries {
+                request: deliveries,
+                program,
+                mark,
+            } => next_of_ten(
+                deliveries,
+                program,
+                mark,
+                &mut self.mark_records,
+                engine,
+                tx,
+            ),
         }
+    }
+}
+
+// One stage of a delivery of ten districts, which moves the mark before the first stage of each
+// district.
+fn next_of_ten(
+    request: &DeliveriesRequest,
+    program: &mut oe_delivery::Deliveries,
+    mark: &mut oe_delivery::Deliveries,
+    mark_records: &mut Savepoint,
+    engine: &mut Engine,
+    tx: &Tx,
+) -> Progress
+    requires held { IsOpen engine.old tx.now
+        → HoldsNames request.now tx.now engine.old program.old }
+    ensures progresses { Progresses (Request.Deliveries request.now) tx.now
+        engine.old (place_of request.now program.old)
+        result engine.new (place_of request.now program.new) }
+    ensures left { Leaves (length ((view_of engine.old).undo.active tx.now.terminal))
+        (state_of (Task.Deliveries request.now program.old mark.old) mark_records.old)
+        result (state_of (Task.Deliveries request.now program.new mark.new) mark_records.new) }
+{
+    if !program.is_at_mark() {
+        return program.next(request, engine, tx);
+    }
+    let district = program.copied();
+    let records = engine.savepoint(tx);
+    match program.next(request, engine, tx) {
+        Progress::More => {
+            *mark = district;
+            *mark_records = records;
+            Progress::More
+        }
+        Progress::Ready => Progress::Ready,
+        Progress::Refused(refusal) => Progress::Refused(refusal),
     }
 }

@@ -10,7 +10,7 @@ use oe_values::{Number, YearToDate};
 use std::alloc::Global;
 
 /// W_YTD of warehouse 2 is a cent greater than the sum of its districts.
-fn cent(tables: &Tables) -> Option<Change> {
+pub(crate) fn cent(tables: &Tables) -> Option<Change> {
     let key = district_key(2, 1)?.warehouse_key();
     let mut row = tables.warehouse(key)?.copied();
     row.ytd = YearToDate::new(40_001)?;
@@ -26,14 +26,14 @@ fn next_order(tables: &Tables) -> Option<Change> {
 }
 
 /// Order 4, which has O_OL_CNT 9, gets a tenth line.
-fn line(tables: &Tables) -> Option<Change> {
+pub(crate) fn line(tables: &Tables) -> Option<Change> {
     let order = &order_key(2, 10, 4)?;
     let row = tables.order_line(order.line(Number::new(9)?))?.copied();
     Some(Change::InsertOrderLine(order.line(Number::new(10)?), row))
 }
 
 /// A HISTORY row stands there once more, as one of terminal 9.
-fn history(tables: &Tables) -> Option<Change> {
+pub(crate) fn history(tables: &Tables) -> Option<Change> {
     let row = tables.history(history_key(0, 7)?)?.copied();
     Some(Change::InsertHistory(history_key(9, 1)?, row))
 }

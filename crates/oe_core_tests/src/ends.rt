@@ -1,5 +1,5 @@
-//! Orders and payments at the ends of the columns that they raise: the last one that fits, and the one after it, which is refused and
-//! gone.
+//! Orders, payments and deliveries at the ends of the columns that they raise: the last one that
+//! fits, and the one after it, which is refused and gone.
 ghost use Rattle.oe_script.specs.Session.{state_of, IsLive};
 
 use crate::populations::{amend, district_key, populated, stock_key};
@@ -84,8 +84,17 @@ fn end_payment_count(tables: &mut Tables) -> Option<()> {
     amend(tables, Change::UpdateCustomer(key, row))
 }
 
+// C_DELIVERY_CNT of customer 8 in district 4 of warehouse 1 has room for none.
+fn end_delivery_count(tables: &mut Tables) -> Option<()> {
+    let key = district_key(1, 4)?.customer(Number::new(8)?);
+    let mut row = tables.customer(key)?.copied();
+    row.account.delivery_count = Count::new(9_999)?;
+    amend(tables, Change::UpdateCustomer(key, row))
+}
+
 fn end(tables: &mut Tables, column: Column) -> Option<()> {
     match column {
+        Column::DeliveryCount => end_delivery_count(tables),
         Column::StockYtd => end_stock_ytd(tables),
         Column::OrderCount => end_order_count(tables),
         Column::RemoteCount => end_remote_count(tables),
@@ -93,7 +102,7 @@ fn end(tables: &mut Tables, column: Column) -> Option<()> {
     }
 }
 
-// The population in which that column has room for one.
+// The population in which that column has room for one, or for none.
 fn ended(rt: &impl Abort, alloc: Global, column: Column) -> Tables {
     let Some(mut tables) = populated(alloc, 10, 20) else {
         panic!(rt; "no population")
@@ -201,6 +210,49 @@ fn payments_end_with_their_count(rt: HostRuntime) {
     let tables = ended(&rt, rt.alloc(), Column::PaymentCount);
     let refusal = b"error 4 Overflow C_PAYMENT_CNT\n".as_slice();
     assert!(rt; ends(&rt, rt.alloc(), tables, &PAYMENT, 2, refusal));
+}
+
+/// The terminal delivers in all ten districts of warehouse 1.
+const TEN: Said = Said {
+    lines: b"begin 3 delivery 1 3 2001-01-01T00:00:00\n",
+    answers: b"begun\n",
+};
+
+/// Nothing is left of it: in the third district the same order waits again.
+const WAITS: Said = Said {
+    lines: b"next 3\nbegin 3 delivery 1 3 4 2001-01-01T00:00:00\nrun 3\naudit 3 now\n",
+    answers: b"error 10 NotOpen\nbegun\ncommit 1 delivery 8 8 129.22\ncondition 3 holds\n",
+};
+
+// Whether it goes through three districts, and the customer's stage of the fourth rolls it back.
+fn fourth_ends(session: &mut Session, alloc: Global) -> bool
+    requires { IsLive (state_of session.old.core) }
+    ensures { IsLive (state_of session.new.core) }
+{
+    if !is_answered(session, alloc, TEN.lines, TEN.answers) {
+        return false;
+    }
+    if !goes_on(session, alloc, 63) {
+        return false;
+    }
+    if !is_answered(
+        session,
+        alloc,
+        b"next 3\n",
+        b"error 4 Overflow C_DELIVERY_CNT\n",
+    ) {
+        return false;
+    }
+    is_answered(session, alloc, WAITS.lines, WAITS.answers)
+}
+
+#[test]
+fn deliveries_of_ten_end_with_a_count(rt: HostRuntime) {
+    let tables = ended(&rt, rt.alloc(), Column::DeliveryCount);
+    let mut session = session_on(core_on(&rt, rt.alloc(), tables));
+    let is_right = fourth_ends(&mut session, rt.alloc());
+    session.close();
+    assert!(rt; is_right);
 }
 
 /// Where order 9,999,998 is the newest there is room for one, whose lines would take much memory: so it is not carried out.

@@ -1,2 +1,3 @@
 pub mod NumberFacts
 pub mod StageFacts
+pub mod TenFacts

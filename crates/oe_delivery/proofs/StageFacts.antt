@@ -1,6 +1,6 @@
 -- What the stages of a delivery ask for and do, of the rows as they are.
 use Rattle.std.proofs.Common.{◌≡◌, ℕ, zero, suc, ◌+◌, refl, sym, ap, ◌∙◌, subst, inl, List, [], ◌∷◌, drop, map, Option, None, Some, Result, Ok, Err, arith}
-use Rattle.std.specs.Prelude.{IsSome, is_some, option_map}
+use Rattle.std.specs.Prelude.{IsSome, option_map}
 use Rattle.std.specs.FinMap.{get}
 use Rattle.oe_theory.specs.Machine.{Plain, Take, Go, Exclusive}
 use Rattle.oe_theory.specs.Machine as theory
@@ -29,11 +29,11 @@ use Rattle.oe_model.specs.Keys.{customer_in, order_in, new_order_in, line_in}
 use Rattle.oe_model.specs.Changes.{Change, DeleteNewOrder, UpdateOrder, UpdateOrderLine, UpdateCustomer}
 use Rattle.oe_model.specs.Effects.{Doing, given, within}
 use Rattle.oe_model.specs.Positions.{DeliveryPosition, DeliveryQueue, DeliveryNothing, DeliveryOrder, DeliveryLine, DeliveryEnd, InDelivery}
-use Rattle.oe_model.specs.Delivery.{oldest, lines_of, carried, dated, delivered_to, delivered_out, delivered_reply, delivery_ask, delivery_act, delivery_taken}
+use Rattle.oe_model.specs.Delivery.{oldest, lines_of, carried, dated, delivered_to, delivered_out, delivered, delivery_ask, delivery_act, delivery_taken}
 use Rattle.oe_engine.specs.View.{EngineState, View, view_of, Handle, IsOpen}
 use Rattle.oe_engine.specs.Stages.{HoldsAll}
 use Rattle.oe_engine.specs.Writes.{change_written}
-use Rattle.oe_engine.specs.Programs.{ask_here, act_here, IsReady, delivery_reply}
+use Rattle.oe_engine.specs.Programs.{ask_here, act_here, IsReady, district_reply}
 use Rattle.oe_delivery.specs.Remainder.{Left, remainder_of}
 use Rattle.oe_delivery.specs.Program.{line_position}
 
@@ -162,14 +162,10 @@ pub order_held : (v : View) (t : ℕ) (q : DeliveryRequest) (l : Left) → Holds
 order_held v t q l h = alone (v.held t (name.Order (order_in q.district l.order))) (h (name.Order (order_in q.district l.order)) theory.Exclusive (inl (refl, tt)))
 
 -- a program with its reply is ready
-pub is_told : {A B : Type 0} (f : A → B) (o : Option A) (p : Option B) → option_map f o ≡ p → IsSome o → IsSome p
-is_told f None p e h = cc
-is_told f (Some x) p e h = sym (ap is_some e)
-
-pub is_ready : (s : EngineState) (x : Handle) (q : DeliveryRequest) (p : DeliveryPosition) → IsOpen s x → IsSome (delivery_reply p)
+pub is_ready : (s : EngineState) (x : Handle) (q : DeliveryRequest) (p : DeliveryPosition) → IsOpen s x → IsSome (district_reply p)
     → (y : Reply) × IsReady s x (request.Delivery q) (InDelivery q p) y
 is_ready s x q DeliveryNothing o h = (reply.Delivery Skipped, record { is_open = o; free = tt; does = refl })
-is_ready s x q (DeliveryEnd n c sum) o h = (delivered_reply n c sum, record { is_open = o; free = tt; does = refl })
+is_ready s x q (DeliveryEnd n c sum) o h = (reply.Delivery (delivered n c sum), record { is_open = o; free = tt; does = refl })
 is_ready s x q DeliveryQueue o h = let no : ⊥ = cc in absurd no
 is_ready s x q (DeliveryOrder n) o h = let no : ⊥ = cc in absurd no
 is_ready s x q (DeliveryLine n c ns sum) o h = let no : ⊥ = cc in absurd no

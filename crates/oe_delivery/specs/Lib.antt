@@ -2,3 +2,4 @@
 pub mod Remainder
 pub mod Program
 pub mod Stages
+pub mod Deliveries

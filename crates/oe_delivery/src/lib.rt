@@ -1,10 +1,12 @@
-//! The Delivery transaction of one district (clause 2.7), a stage at a time. Clauses of the standard are those of TPC Benchmark C 5.11.
+//! The Delivery transaction of one district and of all ten (clause 2.7), a stage at a time. Clauses of the standard are those of TPC Benchmark C 5.11.
 #![tactic(auto)]
 
+pub mod deliveries;
 pub mod looks;
 pub mod programs;
 pub mod remainders;
 pub mod stages;
 
+pub use deliveries::Deliveries;
 pub use programs::Program;
 pub use remainders::Remainder;

@@ -1,11 +1,10 @@
-//! The program of a delivery: one stage at each call, by its position.
-ghost use Rattle.std.specs.Prelude.{◌≡◌, None, option_map};
+//! The program of a district's delivery: one stage at each call, by its position.
+ghost use Rattle.std.specs.Prelude.{◌≡◌, None};
 ghost use Rattle.std.specs.Option.{MatchOption};
 ghost use Rattle.oe_requests.specs.declared.requests.Request.{Request};
-ghost use Rattle.oe_requests.specs.declared.replies.Reply.{Reply};
 ghost use Rattle.oe_model.specs.Positions.{InDelivery};
 ghost use Rattle.oe_engine.specs.View.{IsOpen};
-ghost use Rattle.oe_engine.specs.Programs.{Progresses, delivery_reply};
+ghost use Rattle.oe_engine.specs.Programs.{Progresses, district_reply};
 ghost use Rattle.oe_delivery.specs.Program.{position_of, HasLine, HasNoLine};
 ghost use Rattle.oe_delivery.specs.Stages.{Advances, HoldsTaken, Steps};
 
@@ -53,7 +52,7 @@ impl Program {
 
     /// The reply, once all stages are done; none before that.
     pub fn reply(&self) -> Option<DistrictDelivery>
-        ensures { option_map Reply.Delivery result ≡ delivery_reply (position_of self.now) }
+        ensures { result ≡ district_reply (position_of self.now) }
     {
         match self {
             Program::Nothing => Some(DistrictDelivery::Skipped),
@@ -100,7 +99,7 @@ impl Program {
         tx: &Tx,
     ) -> Result<Program, Refusal>
         requires line { HasNoLine self.now }
-        requires underway { delivery_reply (position_of self.now) ≡ None }
+        requires underway { district_reply (position_of self.now) ≡ None }
         requires open { IsOpen engine.old tx.now }
         ensures { Steps request.now tx.now engine.old (position_of self.now) result engine.new }
     {

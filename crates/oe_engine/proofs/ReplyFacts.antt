@@ -1,5 +1,6 @@
 -- A program that is ready has its reply in its position.
 use Rattle.std.proofs.Common.{◌≡◌, ℕ, [], ◌∷◌, Option, None, Some}
+use Rattle.std.specs.Prelude.{option_map}
 use Rattle.std.specs.FinMap.{get}
 use Rattle.oe_theory.specs.Machine.{Tx, Go, Ready}
 use Rattle.oe_rows.specs.declared.keys.Key.TheVariants as key
@@ -8,6 +9,7 @@ use Rattle.oe_requests.specs.declared.requests.NewOrderRequest.{NewOrderRequest}
 use Rattle.oe_requests.specs.declared.requests.DeliveryRequest.{DeliveryRequest}
 use Rattle.oe_requests.specs.declared.requests.Request.{Request}
 use Rattle.oe_requests.specs.declared.replies.Reply.{Reply}
+use Rattle.oe_requests.specs.declared.replies.DistrictDelivery.TheVariants.{Skipped}
 use Rattle.oe_requests.specs.declared.refusals.Column.{Column}
 use Rattle.oe_requests.specs.declared.refusals.Refusal.{Refusal}
 use Rattle.oe_requests.specs.declared.refusals.Refusal.TheVariants.{NoSuchRow, InvalidItem, NoCustomer}
@@ -16,12 +18,13 @@ use Rattle.oe_model.specs.Rows.{Rows}
 use Rattle.oe_model.specs.Changes.{Change, DeleteNewOrder}
 use Rattle.oe_model.specs.Effects.{Doing, given, within}
 use Rattle.oe_model.specs.Choice.{chosen}
-use Rattle.oe_model.specs.Positions.{Position, InPayment, InNewOrder, InDelivery, NoProgram, PaymentPosition, PaymentWarehouse, PaymentDistrict, PaymentCustomer, PaymentHistory, PaymentEnd, NewOrderPosition, NewOrderWarehouse, NewOrderDistrict, NewOrderCustomer, NewOrderOrder, NewOrderQueue, NewOrderStock, NewOrderLine, DeliveryPosition, DeliveryQueue, DeliveryNothing, DeliveryOrder, DeliveryLine, DeliveryEnd}
+use Rattle.oe_model.specs.Positions.{Position, InPayment, InNewOrder, InDelivery, InDeliveries, DeliveriesEnd, NoProgram, PaymentPosition, PaymentWarehouse, PaymentDistrict, PaymentCustomer, PaymentHistory, PaymentEnd, NewOrderPosition, NewOrderWarehouse, NewOrderDistrict, NewOrderCustomer, NewOrderOrder, NewOrderQueue, NewOrderStock, NewOrderLine, DeliveryPosition, DeliveryQueue, DeliveryNothing, DeliveryOrder, DeliveryLine, DeliveryEnd}
 use Rattle.oe_model.specs.Payment.{payment_act}
 use Rattle.oe_model.specs.NewOrder.{item_at, stock_of, new_order_act}
-use Rattle.oe_model.specs.Delivery.{delivery_act, oldest}
+use Rattle.oe_model.specs.Delivery.{Setting, alone, district_act, oldest}
+use Rattle.oe_model.specs.Deliveries.{at_hand, among_ten}
 use Rattle.oe_model.specs.System.{act}
-use Rattle.oe_engine.specs.Programs.{payment_reply, new_order_reply, delivery_reply, reply_at}
+use Rattle.oe_engine.specs.Programs.{payment_reply, new_order_reply, district_reply, reply_at}
 
 given_ready : {A : Type 0} (e : Refusal) (o : Option A) (f : A → Doing) (y : Reply) → given e o f ≡ Ready y → (a : A) × (f a ≡ Ready y)
 given_ready e None f y h = let no : ⊥ = cc in absurd no
@@ -62,25 +65,28 @@ new_order_ready q (NewOrderStock s before done (l ∷ ls)) r y h =
     absurd (goes _ _ y (within_ready _ _ y f))
 new_order_ready q (NewOrderLine s before done l f ls) r y h = absurd (goes _ _ y h)
 
--- the first row of a delivery, by the oldest order that waits
-queue_goes : (q : DeliveryRequest) (o : Option ℕ) (y : Reply)
-    → ◌≡◌ {A = Doing} (elim o [ None ↦ Go None (InDelivery q DeliveryNothing) | Some n ↦ Go (Some (DeleteNewOrder (new_order_in q.district n))) (InDelivery q (DeliveryOrder n)) ]) (Ready y) → ⊥
-queue_goes q None y h = goes _ _ y h
-queue_goes q (Some n) y h = goes _ _ y h
+-- the first row of a district's delivery, by the oldest order that waits
+queue_goes : (t : Setting) (q : DeliveryRequest) (o : Option ℕ) (y : Reply)
+    → ◌≡◌ {A = Doing} (elim o [ None ↦ Go None (t.next Skipped) | Some n ↦ Go (Some (DeleteNewOrder (new_order_in q.district n))) (t.here (DeliveryOrder n)) ]) (Ready y) → ⊥
+queue_goes t q None y h = goes _ _ y h
+queue_goes t q (Some n) y h = goes _ _ y h
 
-delivery_ready : (q : DeliveryRequest) (p : DeliveryPosition) (r : Rows) (y : Reply) → delivery_act q p r ≡ Ready y → delivery_reply p ≡ Some y
-delivery_ready q DeliveryQueue r y h = absurd (queue_goes q (oldest q.district r.new_orders) y h)
-delivery_ready q DeliveryNothing r y h = cc
-delivery_ready q (DeliveryOrder o) r y h =
+-- a district, of a transaction of it alone or of ten
+district_ready : (t : Setting) (q : DeliveryRequest) (p : DeliveryPosition) (r : Rows) (y : Reply) → district_act t q p r ≡ Ready y → option_map (t.answer) (district_reply p) ≡ Some y
+district_ready t q DeliveryQueue r y h = absurd (queue_goes t q (oldest q.district r.new_orders) y h)
+district_ready t q DeliveryNothing r y h = cc
+district_ready t q (DeliveryOrder o) r y h =
     let (x, e) = given_ready (NoSuchRow (key.Order (order_in q.district o))) (get r.orders (order_in q.district o)) _ y h in absurd (goes _ _ y e)
-delivery_ready q (DeliveryLine o c [] sum) r y h =
+district_ready t q (DeliveryLine o c [] sum) r y h =
     let (x, e) = given_ready (NoSuchRow (key.Customer (customer_in q.district c))) (get r.customers (customer_in q.district c)) _ y h in absurd (goes _ _ y (within_ready _ _ y e))
-delivery_ready q (DeliveryLine o c (n ∷ ns) sum) r y h =
+district_ready t q (DeliveryLine o c (n ∷ ns) sum) r y h =
     let (x, e) = given_ready (NoSuchRow (key.OrderLine (line_in (order_in q.district o) n))) (get r.order_lines (line_in (order_in q.district o) n)) _ y h in absurd (goes _ _ y e)
-delivery_ready q (DeliveryEnd o c sum) r y h = cc
+district_ready t q (DeliveryEnd o c sum) r y h = cc
 
 pub ready_at : (x : Tx Request) (p : Position) (r : Rows) (y : Reply) → act x p r ≡ Ready y → reply_at p ≡ Some y
 ready_at x (InPayment q p) r y h = payment_ready x.terminal x.number q p r y h
 ready_at x (InNewOrder q p) r y h = new_order_ready q p r y h
-ready_at x (InDelivery q p) r y h = delivery_ready q p r y h
+ready_at x (InDelivery q p) r y h = district_ready (alone q) q p r y h
+ready_at x (InDeliveries q done p) r y h = district_ready (among_ten q done) (at_hand q done) p r y h
+ready_at x (DeliveriesEnd done) r y h = cc
 ready_at x NoProgram r y h = let no : ⊥ = cc in absurd no

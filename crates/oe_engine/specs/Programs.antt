@@ -1,19 +1,21 @@
 -- A stage of a program, in the words of the theory of transactions.
-use Rattle.std.specs.Prelude.{◌≡◌, ◌⊎◌, suc, [], Option, None, Some}
+use Rattle.std.specs.Prelude.{◌≡◌, ◌⊎◌, suc, [], Option, None, Some, option_map}
 use Rattle.oe_theory.specs.Machine.{Tx, Ask, Stop, Take, Act, Fail, Go, Ready}
 use Rattle.oe_theory.specs.Machine as theory
 use Rattle.oe_theory.specs.Next.{IsNew, GivesWay}
 use Rattle.oe_requests.specs.declared.requests.Request.{Request}
 use Rattle.oe_requests.specs.declared.replies.Reply.{Reply}
 use Rattle.oe_requests.specs.declared.replies.Reply.TheVariants as reply
+use Rattle.oe_requests.specs.declared.replies.DistrictDelivery.{DistrictDelivery}
 use Rattle.oe_requests.specs.declared.replies.DistrictDelivery.TheVariants.{Skipped}
 use Rattle.oe_requests.specs.declared.refusals.Refusal.{Refusal}
 use Rattle.oe_requests.specs.declared.refusals.Refusal.TheVariants.{Busy, UndoFull, NotOpen, NoMemory}
 use Rattle.oe_model.specs.Changes.{Change}
 use Rattle.oe_model.specs.Meets.{Cause}
-use Rattle.oe_model.specs.Positions.{Position, InPayment, InNewOrder, InDelivery, NoProgram, PaymentPosition, PaymentEnd, NewOrderPosition, NewOrderStock, DeliveryPosition, DeliveryNothing, DeliveryEnd}
+use Rattle.oe_model.specs.Positions.{Position, InPayment, InNewOrder, InDelivery, InDeliveries, DeliveriesEnd, NoProgram, PaymentPosition, PaymentEnd, NewOrderPosition, NewOrderStock, DeliveryPosition, DeliveryNothing, DeliveryEnd}
 use Rattle.oe_model.specs.NewOrder.{ordered_reply}
-use Rattle.oe_model.specs.Delivery.{delivered_reply}
+use Rattle.oe_model.specs.Delivery.{delivered}
+use Rattle.oe_model.specs.Deliveries.{among_ten}
 use Rattle.oe_model.specs.System.{system, ask, act, yields}
 use Rattle.oe_engine.specs.View.{EngineState, view_of, Handle, IsOpen}
 use Rattle.oe_engine.specs.Calls.{IsFree, IsInTheWay, IsFullFor, IsFullForAny, stage_done, AcceptsAll, WantsPlace}
@@ -55,15 +57,18 @@ abbrev pub new_order_reply : NewOrderPosition → Option Reply
 new_order_reply (NewOrderStock s before done []) = Some (reply.NewOrder (ordered_reply s done))
 new_order_reply _ = None
 
-abbrev pub delivery_reply : DeliveryPosition → Option Reply
-delivery_reply DeliveryNothing = Some (reply.Delivery Skipped)
-delivery_reply (DeliveryEnd o c sum) = Some (delivered_reply o c sum)
-delivery_reply _ = None
+-- what a district answers at its end
+abbrev pub district_reply : DeliveryPosition → Option DistrictDelivery
+district_reply DeliveryNothing = Some Skipped
+district_reply (DeliveryEnd o c sum) = Some (delivered o c sum)
+district_reply _ = None
 
 abbrev pub reply_at : Position → Option Reply
 reply_at (InPayment q p) = payment_reply p
 reply_at (InNewOrder q p) = new_order_reply p
-reply_at (InDelivery q p) = delivery_reply p
+reply_at (InDelivery q p) = option_map reply.Delivery (district_reply p)
+reply_at (InDeliveries q done p) = option_map ((among_ten q done).answer) (district_reply p)
+reply_at (DeliveriesEnd done) = Some (reply.Deliveries done)
 reply_at NoProgram = None
 
 -- the program has come to its end with this reply

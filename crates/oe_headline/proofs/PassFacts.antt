@@ -44,7 +44,7 @@ pub takes_reached : (n : ℕ) (w : World system) (i : Step) (x : Answer) (w' : W
 takes_reached zero w i x w' r h = next_reached w w' (step_in i) (answer_in i x) r h
 takes_reached (suc n) w i x w' r (mid, more, h) = takes_reached n mid i x w' (next_reached w mid (step_in i) (answer_in i answer.More) r more) h
 
-opened_reached : (scale : Scale) (extents : ℕ) (r : Rows) → IsScale scale → IsPopulated scale r → IsReached system (opened system r extents)
+pub opened_reached : (scale : Scale) (extents : ℕ) (r : Rows) → IsScale scale → IsPopulated scale r → IsReached system (opened system r extents)
 opened_reached scale extents r h p = opening_is_reached system laws r extents (population_is_good r (population_is_one.is_population scale r h p))
 
 pub was_reached : (s : State) (line : List ℕ) (d : Deed) (s' : State) → IsReachedState s → Was s line d s' → IsReachedState s'

@@ -14,9 +14,11 @@ use Rattle.oe_requests.specs.declared.requests.Query.{Query}
 use Rattle.oe_requests.specs.declared.requests.Request.{Request}
 use Rattle.oe_requests.specs.declared.answers.Answer.TheVariants as answer
 use Rattle.oe_requests.specs.declared.audits.Condition.{Condition}
+use Rattle.oe_requests.specs.declared.audits.Condition.TheVariants as condition
 use Rattle.oe_requests.specs.declared.audits.Verdict.{Verdict}
 use Rattle.oe_requests.specs.declared.audits.Verdict.TheVariants as verdict
 use Rattle.oe_requests.specs.declared.steps.Step.TheVariants as step
+use Rattle.oe_model.specs.FurtherConditions.{More}
 use Rattle.oe_model.specs.Headline.{Is_consistent}
 use Rattle.oe_model.specs.Population.{IsPopulated}
 use Rattle.oe_model.specs.Rows.{Rows}
@@ -64,6 +66,14 @@ abbrev pub IsConsistentState : State → Type 0
 IsConsistentState None = Unit {0}
 IsConsistentState (Some w) = Is_consistent w
 
+-- conditions 1 to 4
+abbrev pub IsOfFour : Condition → Type 0
+IsOfFour condition.First = Unit {0}
+IsOfFour condition.Second = Unit {0}
+IsOfFour condition.Third = Unit {0}
+IsOfFour condition.Fourth = Unit {0}
+IsOfFour _ = ⊥
+
 -- an audit of a moment that is kept is answered that the condition holds, whatever is open; of any other it is refused
 abbrev pub IsAudited : World system → Condition → ℕ → List ℕ → Type 0
 IsAudited w c m text =
@@ -74,15 +84,35 @@ IsAudited w c m text =
 pub record Audits_hold : Type 0 where
   -- at each place between two lines
   pub conditions : (n : ℕ) (lines : List (List ℕ)) (text : List ℕ) (s : State) → RunOfLines None n lines text s → IsConsistentState s
-  -- each line that asks for an audit
-  pub answered : (w : World system) (n : ℕ) (line text : List ℕ) (s : State) (c : Condition) (m : MomentChoice) → IsReached system w
+  -- each line that asks for an audit of one of the four
+  pub answered : (w : World system) (n : ℕ) (line text : List ℕ) (s : State) (c : Condition) (m : MomentChoice) → IsReached system w → IsOfFour c
       → Asks (Some w) line (command.Audit c m) → LineAnswer (Some w) n line text s → IsAudited w c (moment_in w m) text × (s ≡ Some w)
   -- one of `now` is never refused
-  pub now : (w : World system) (n : ℕ) (line text : List ℕ) (s : State) (c : Condition) → IsReached system w
+  pub now : (w : World system) (n : ℕ) (line text : List ℕ) (s : State) (c : Condition) → IsReached system w → IsOfFour c
       → Asks (Some w) line (command.Audit c moment.Now) → LineAnswer (Some w) n line text s → text ≡ audit_line c verdict.Holds
-  -- in a script no verdict is that a condition fails
-  pub verdicts : (s s' : State) (before after : List Entry) (e : Entry) (n : ℕ) (c : Condition) (m : ℕ) (v : Verdict) → IsReachedState s
+  -- in a script no verdict is that one of them fails
+  pub verdicts : (s s' : State) (before after : List Entry) (e : Entry) (n : ℕ) (c : Condition) (m : ℕ) (v : Verdict) → IsReachedState s → IsOfFour c
       → Passed s (before ++ e ∷ after) s' → e.deed ≡ Steps n (step.Audit c m) (answer.Audited v) → v ≡ verdict.Holds
+
+-- conditions 5 to 10 and 12 (clauses 3.3.2.5 to 3.3.2.10 and 3.3.2.12) hold there of the version of each moment
+abbrev pub HasMore : State → Type 0
+HasMore None = Unit {0}
+HasMore (Some w) = (m : ℕ) → More (at system w m)
+
+-- A script opens a population of the formulas, of which they hold. So each of its audits, of any of the eleven conditions, is
+-- answered that the condition holds
+pub record More_audits_hold : Type 0 where
+  -- at each place between two lines
+  pub conditions : (n : ℕ) (lines : List (List ℕ)) (text : List ℕ) (s : State) → RunOfLines None n lines text s → HasMore s
+  -- each line that asks for an audit, behind any lines
+  pub answered : (es : List Entry) (w : World system) (n : ℕ) (line text : List ℕ) (s : State) (c : Condition) (m : MomentChoice) → Passed None es (Some w)
+      → Asks (Some w) line (command.Audit c m) → LineAnswer (Some w) n line text s → IsAudited w c (moment_in w m) text × (s ≡ Some w)
+  -- one of `now` is never refused
+  pub now : (es : List Entry) (w : World system) (n : ℕ) (line text : List ℕ) (s : State) (c : Condition) → Passed None es (Some w)
+      → Asks (Some w) line (command.Audit c moment.Now) → LineAnswer (Some w) n line text s → text ≡ audit_line c verdict.Holds
+  -- no verdict is that a condition fails
+  pub verdicts : (s : State) (before after : List Entry) (e : Entry) (n : ℕ) (c : Condition) (m : ℕ) (v : Verdict)
+      → Passed None (before ++ e ∷ after) s → e.deed ≡ Steps n (step.Audit c m) (answer.Audited v) → v ≡ verdict.Holds
 
 -- A query of a moment is answered what is found in the version of that moment, which the commits up to it leave, run one at a time, each
 -- with its effect, and nobody's open work; or what is missed there. It is refused where its warehouse is absent, or where the moment is not kept

@@ -3,7 +3,7 @@
 #![tactic(auto)]
 
 ghost use Rattle.oe_headline.specs.Beside.{Others_see_nothing};
-ghost use Rattle.oe_headline.specs.Laws.{Lines_are_deeds, Worlds_are_reached, Audits_hold, Reads_are_of_moments, Scripts_are_runs, Lines_without_rollback, Outputs_without_rollback, Answers_are_determined, Rewinds_restore, Faults_cut_outputs};
+ghost use Rattle.oe_headline.specs.Laws.{Lines_are_deeds, Worlds_are_reached, Audits_hold, More_audits_hold, Reads_are_of_moments, Scripts_are_runs, Lines_without_rollback, Outputs_without_rollback, Answers_are_determined, Rewinds_restore, Faults_cut_outputs};
 ghost use Rattle.oe_model.specs.System.{system};
 
 /// Of each line that is answered it is known what it was: none of the forms, an opening, a dump, or steps of the machine with
@@ -18,9 +18,17 @@ pub fn worlds_are_reached()
 {}
 
 /// Between any two lines conditions 1 to 4 (clauses 3.3.2.1 to 3.3.2.4) hold of the version of each moment, and of the tables
-/// where nothing is open. Each line that asks for an audit of a moment that is kept is answered that the condition holds.
+/// where nothing is open. Each line that asks for an audit of one of them, at a moment that is kept, is answered that the condition
+/// holds.
 pub fn audits_hold()
     ensures { Audits_hold }
+{}
+
+/// Between any two lines conditions 5 to 10 and 12 (clauses 3.3.2.5 to 3.3.2.10 and 3.3.2.12) hold of the version of each moment, since
+/// they hold of the population that the script opened. Each line that asks for an audit of any of the eleven conditions, at a moment
+/// that is kept, is answered that the condition holds.
+pub fn more_audits_hold()
+    ensures { More_audits_hold }
 {}
 
 /// Each line that asks a query of a moment that is kept is answered what is found in the version of that moment, whatever is open:

@@ -1,9 +1,9 @@
 -- What is read is said, and what is said is read.
-use Rattle.std.proofs.Common.{◌≡◌, ℕ, zero, suc, ◌^◌, ◌<◌, ◌≤◌, ◌⊎◌, inl, inr, List, [], ◌∷◌, ◌++◌, map, length, Bool, true, false, cond, Option, Some, None, IfSome, decimal, codes, nat_le, sym, subst, ap, ◌∙◌, refl, append-nil, append_assoc, le-leb, arith, lit<}
+use Rattle.std.proofs.Common.{◌≡◌, ℕ, zero, suc, ◌+◌, ◌==◌, ◌^◌, ◌<◌, ◌≤◌, ◌⊎◌, inl, inr, List, [], ◌∷◌, ◌++◌, map, length, Bool, true, false, cond, Option, Some, None, IfSome, decimal, codes, nat_le, sym, subst, ap, ◌∙◌, refl, append-nil, append_assoc, le-leb, arith, lit<}
 use Rattle.std.specs.Option.{option_map}
 use Rattle.std.specs.Int.{IsInRange}
 use Rattle.std.specs.List.{All, join_with_byte}
-use Rattle.std.proofs.lemmas.Bool.{leb-true}
+use Rattle.std.proofs.lemmas.Bool.{leb-true, eqb-true}
 use Rattle.std.proofs.lemmas.List.Elements.{All-nil, All-cons, All-head, All-tail}
 use Rattle.std.proofs.lemmas.Fmt.{decimal_digit}
 use Rattle.oe_rows.specs.Credit.{money_text}
@@ -17,6 +17,7 @@ use Rattle.oe_requests.specs.declared.requests.PaymentRequest.{PaymentRequest}
 use Rattle.oe_requests.specs.declared.requests.RequestLine.{RequestLine}
 use Rattle.oe_requests.specs.declared.requests.NewOrderRequest.{NewOrderRequest}
 use Rattle.oe_requests.specs.declared.requests.DeliveryRequest.{DeliveryRequest}
+use Rattle.oe_requests.specs.declared.requests.DeliveriesRequest.{DeliveriesRequest}
 use Rattle.oe_requests.specs.declared.requests.Request.{Request}
 use Rattle.oe_requests.specs.declared.requests.Request.TheVariants as request
 use Rattle.oe_requests.specs.declared.requests.StatusQuery.{StatusQuery}
@@ -33,11 +34,11 @@ use Rattle.oe_lines.specs.declared.commands.MomentChoice.{MomentChoice}
 use Rattle.oe_lines.specs.declared.commands.MomentChoice.TheVariants as moment
 use Rattle.oe_rows.specs.declared.scales.Scale.{Scale}
 use Rattle.oe_model.specs.Population.{IsScale}
-use Rattle.oe_model.specs.Requests.{IsDistrict, IsChoice, IsPayment, IsRequestLine, IsNewOrder, IsDelivery}
+use Rattle.oe_model.specs.Requests.{IsDistrict, IsChoice, IsPayment, IsRequestLine, IsNewOrder, IsDelivery, IsDeliveries}
 use Rattle.oe_lines.specs.Grammar.{Says, HasForm, IsRequest, IsQuery, IsMoment, words_of, request_words, query_words, customer_word, line_word, moment_word}
-use Rattle.oe_lines.specs.Reading.{begun, number_or_name, last_number_or_name, table_of, moment_of, moment_before, audit_of, opening_of, district_of, customer_of, last_customer_of, status_of, level_of, query_of, reading_of, payment_of, line_of, line_and, lines_within, lines_of, new_order_of, delivery_of, request_of, beginning_of, terminal_of, rare_command_of, command_of, run_of, begun_payment_of}
+use Rattle.oe_lines.specs.Reading.{begun, number_or_name, last_number_or_name, table_of, moment_of, moment_before, condition_of, audit_of, opening_of, district_of, customer_of, last_customer_of, status_of, level_of, query_of, reading_of, payment_of, line_of, line_and, lines_within, lines_of, new_order_of, delivery_of, deliveries_of, all_or_one, request_of, beginning_of, terminal_of, rare_command_of, command_of, run_of, begun_payment_of}
 use Rattle.oe_lines.specs.Words.{is_word, within, number_of, number_then, number_before, last_number, amount_before, stamp_of, stamp_before, last_name_of, name_before}
-use Rattle.oe_lines.proofs.StampFacts.{stamp_found, stamp_only, stamp_before_found, stamp_before_only}
+use Rattle.oe_lines.proofs.StampFacts.{stamp_found, stamp_only, stamp_of-longer, stamp_before_found, stamp_before_only}
 use Rattle.oe_lines.proofs.NameFacts.{last_name_found, last_name_only, name_found, name_only, name_no_number, name_no_last}
 use Rattle.oe_values.specs.Text.{IsLastName}
 use Rattle.oe_values.specs.Front.{after_of, decimal_of, alone}
@@ -97,18 +98,6 @@ says_at : (s t : List ℕ) (c d : Command) → s ≡ t → d ≡ c → Says t d 
 says_at s t c d e f h = rw (e, ← f) h
 
 -- audits
-
-one : decimal 1 ≡ codes "1"
-one = decimal_digit 1 (lit< tt)
-
-two : decimal 2 ≡ codes "2"
-two = decimal_digit 2 (lit< tt)
-
-three : decimal 3 ≡ codes "3"
-three = decimal_digit 3 (lit< tt)
-
-four : decimal 4 ≡ codes "4"
-four = decimal_digit 4 (lit< tt)
 
 moment_found : (s : List ℕ) (m : MomentChoice) → moment_of s ≡ Some m → (s ≡ moment_word m) × IsMoment m
 unfolding moment_of
@@ -181,36 +170,72 @@ of_moment_found made word s c says e =
     let g = moment_found s m.0 m.1 in
     says_at _ _ c (made m.0) (ap (λ z. word ++ 32 ∷ z) g.0) m.2 (says m.0 g.1)
 
-audited_found : (c : Condition) (w s : List ℕ) (d : Command) → w ≡ decimal (condition_number c) → option_map (λ m. command.Audit c m) (moment_of s) ≡ Some d
-    → Says (codes "audit" ++ 32 ∷ (w ++ 32 ∷ s)) d
-audited_found c w s d e f =
-    let m = map_some (λ m. command.Audit c m) (moment_of s) d f in
-    let g = moment_found s m.0 m.1 in
-    says_at _ _ d (command.Audit c m.0) (ap (λ z. codes "audit" ++ 32 ∷ z) (ap (λ z. z ++ 32 ∷ s) e ∙ ap (λ z. decimal (condition_number c) ++ 32 ∷ z) g.0)) m.2
-    (record { form = g.1; spelled = refl })
+-- the next link of a chain of tests on a number
+numbered : (n k : ℕ) (x c : Condition) (rest : Option Condition) → condition_number x ≡ k → cond (n == k) (Some x) rest ≡ Some c
+    → (rest ≡ Some c → n ≡ condition_number c) → n ≡ condition_number c
+numbered n k x c rest is e later = elim (chosen (n == k) (Some x) rest (Some c) e) [
+  | inl h ↦ eqb-true n k h.0 ∙ sym is ∙ ap condition_number (some_same x c h.1)
+  | inr h ↦ later h.1
+]
+
+condition_found : (n : ℕ) (c : Condition) → condition_of n ≡ Some c → n ≡ condition_number c
+unfolding condition_of
+condition_found n c e =
+    numbered n 1 condition.First c _ refl e
+    (λ e. numbered n 2 condition.Second c _ refl e
+    (λ e. numbered n 3 condition.Third c _ refl e
+    (λ e. numbered n 4 condition.Fourth c _ refl e
+    (λ e. numbered n 5 condition.Fifth c _ refl e
+    (λ e. numbered n 6 condition.Sixth c _ refl e
+    (λ e. numbered n 7 condition.Seventh c _ refl e
+    (λ e. numbered n 8 condition.Eighth c _ refl e
+    (λ e. numbered n 9 condition.Ninth c _ refl e
+    (λ e. numbered n 10 condition.Tenth c _ refl e
+    (λ e. numbered n 12 condition.Twelfth c None refl e (λ e. cc)))))))))))
+
+condition_only : (c : Condition) → condition_of (condition_number c) ≡ Some c
+unfolding condition_of
+condition_only condition.First = refl
+condition_only condition.Second = refl
+condition_only condition.Third = refl
+condition_only condition.Fourth = refl
+condition_only condition.Fifth = refl
+condition_only condition.Sixth = refl
+condition_only condition.Seventh = refl
+condition_only condition.Eighth = refl
+condition_only condition.Ninth = refl
+condition_only condition.Tenth = refl
+condition_only condition.Twelfth = refl
+
+number_small : (c : Condition) → IsInRange 1 12 (condition_number c)
+number_small condition.First = (omega arith, omega arith)
+number_small condition.Second = (omega arith, omega arith)
+number_small condition.Third = (omega arith, omega arith)
+number_small condition.Fourth = (omega arith, omega arith)
+number_small condition.Fifth = (omega arith, omega arith)
+number_small condition.Sixth = (omega arith, omega arith)
+number_small condition.Seventh = (omega arith, omega arith)
+number_small condition.Eighth = (omega arith, omega arith)
+number_small condition.Ninth = (omega arith, omega arith)
+number_small condition.Tenth = (omega arith, omega arith)
+number_small condition.Twelfth = (omega arith, omega arith)
 
 audit_found : (s : List ℕ) (d : Command) → audit_of s ≡ Some d → Says (codes "audit" ++ 32 ∷ s) d
 unfolding audit_of
-audit_found s d e = elim (begun_some (after_of (codes "1 ") s) _ _ d e) [
-  | inl h ↦ rw (after_found (codes "1 ") s h.0 h.1) (audited_found condition.First (codes "1") h.0 d (sym one) h.2)
-  | inr e ↦ elim (begun_some (after_of (codes "2 ") s) _ _ d e) [
-    | inl h ↦ rw (after_found (codes "2 ") s h.0 h.1) (audited_found condition.Second (codes "2") h.0 d (sym two) h.2)
-    | inr e ↦ elim (begun_some (after_of (codes "3 ") s) _ _ d e) [
-      | inl h ↦ rw (after_found (codes "3 ") s h.0 h.1) (audited_found condition.Third (codes "3") h.0 d (sym three) h.2)
-      | inr e ↦ elim (begun_some (after_of (codes "4 ") s) _ None d e) [
-        | inl h ↦ rw (after_found (codes "4 ") s h.0 h.1) (audited_found condition.Fourth (codes "4") h.0 d (sym four) h.2)
-        | inr e ↦ cc
-      ]
-    ]
-  ]
-]
+audit_found s d e =
+    let n = bind_some (number_before 1 12 s) _ d e in
+    let c = bind_some (condition_of n.0.0) _ d n.2 in
+    let m = bind_some (moment_of n.0.1) _ d c.2 in
+    let f = before_found 1 12 s n.0.0 n.0.1 n.1 in
+    let g = moment_found n.0.1 m.0 m.1 in
+    let number = condition_found n.0.0 c.0 c.1 in
+    let spelled = f.0 ∙ ap (λ z. decimal z ++ 32 ∷ n.0.1) number ∙ ap (λ z. decimal (condition_number c.0) ++ 32 ∷ z) g.0 in
+    says_at _ _ d (command.Audit c.0 m.0) (ap (λ z. codes "audit" ++ 32 ∷ z) spelled) (some_same _ d m.2) (record { form = g.1; spelled = refl })
 
 audit_only : (c : Condition) (m : MomentChoice) → IsMoment m → audit_of (decimal (condition_number c) ++ 32 ∷ moment_word m) ≡ Some (command.Audit c m)
 unfolding audit_of
-audit_only condition.First m k = rw (one, moment_only m k) refl
-audit_only condition.Second m k = rw (two, moment_only m k) refl
-audit_only condition.Third m k = rw (three, moment_only m k) refl
-audit_only condition.Fourth m k = rw (four, moment_only m k) refl
+audit_only c m k =
+    rw (before_only 1 12 (condition_number c) (moment_word m) (omega arith) (number_small c), condition_only c, moment_only m k) refl
 
 -- openings
 
@@ -538,6 +563,40 @@ unfolding delivery_of
 delivery_only q h =
     rw (district_only q.district _ h.district, before_only 1 10 q.carrier _ (omega arith) h.carrier, stamp_only q.stamp h.stamp) refl
 
+-- deliveries of all ten districts
+
+abbrev deliveries_words : DeliveriesRequest → List ℕ
+deliveries_words q = decimal q.warehouse.warehouse ++ 32 ∷ (decimal q.carrier ++ 32 ∷ stamp_text q.stamp)
+
+deliveries_found : (s : List ℕ) (q : DeliveriesRequest) → deliveries_of s ≡ Some q → (s ≡ deliveries_words q) × IsDeliveries q
+unfolding deliveries_of
+deliveries_found s q e =
+    let a = bind_some (number_before 1 16 s) _ q e in
+    let b = bind_some (number_before 1 10 a.0.1) _ q a.2 in
+    let t = bind_some (stamp_of b.0.1) _ q b.2 in
+    let f = before_found 1 16 s a.0.0 a.0.1 a.1 in
+    let g = before_found 1 10 a.0.1 b.0.0 b.0.1 b.1 in
+    let h = stamp_found b.0.1 t.0 t.1 in
+    let last = g.0 ∙ ap (λ z. decimal b.0.0 ++ 32 ∷ z) h.0 in
+    let same = some_same (record { warehouse = record { warehouse = a.0.0 }; carrier = b.0.0; stamp = t.0 }) q t.2 in
+    rw (← same) (f.0 ∙ ap (λ z. decimal a.0.0 ++ 32 ∷ z) last, record { warehouse = (f.1, f.2); carrier = (g.1, g.2); stamp = h.1 })
+
+deliveries_only : (q : DeliveriesRequest) → IsDeliveries q → deliveries_of (deliveries_words q) ≡ Some q
+unfolding deliveries_of
+deliveries_only q h =
+    rw (before_only 1 16 q.warehouse.warehouse _ (omega arith) h.warehouse, before_only 1 10 q.carrier _ (omega arith) h.carrier, stamp_only q.stamp h.stamp) refl
+
+-- where one district is named, a carrier stands before the stamp
+no_deliveries : (q : DeliveryRequest) → IsDelivery q → deliveries_of (delivery_words q) ≡ None
+unfolding deliveries_of
+no_deliveries q h =
+    rw (
+      before_only 1 16 q.district.warehouse _ (omega arith) h.district.0,
+      before_only 1 10 q.district.district _ (omega arith) h.district.1,
+      stamp_of-longer (decimal q.carrier) q.stamp h.stamp,
+    )
+    refl
+
 -- requests
 
 -- the words are spelled with a space between each two
@@ -549,6 +608,17 @@ spelled_order q h = by_lines q.lines h
         ≡ codes "neworder" ++ 32 ∷ district_words q.district (decimal q.customer ++ 32 ∷ (stamp_text q.stamp ++ 32 ∷ lines_text ls))
     by_lines [] h = absurd (omega (arith, h))
     by_lines (l ∷ ls) h = refl
+
+-- a delivery, of all ten districts or of one
+carried : (s t : List ℕ) (r : Request) → s ≡ codes "delivery" ++ 32 ∷ t → (o : Option DeliveriesRequest) → deliveries_of t ≡ o
+    → all_or_one o (delivery_of t) ≡ Some r → (s ≡ join_with_byte 32 (request_words r)) × IsRequest r
+carried s t r word (Some q) e h =
+    let f = deliveries_found t q e in
+    rw (← some_same (request.Deliveries q) r h) (word ∙ ap (λ z. codes "delivery" ++ 32 ∷ z) f.0, f.1)
+carried s t r word None e h =
+    let q = map_some (λ q. request.Delivery q) (delivery_of t) r h in
+    let f = delivery_found t q.0 q.1 in
+    rw (← q.2) (word ∙ ap (λ z. codes "delivery" ++ 32 ∷ z) f.0, f.1)
 
 request_found : (s : List ℕ) (r : Request) → request_of s ≡ Some r → (s ≡ join_with_byte 32 (request_words r)) × IsRequest r
 unfolding request_of
@@ -564,10 +634,7 @@ request_found s r e = elim (begun_some (after_of (codes "payment ") s) _ _ r e) 
         let count = f.1.count in
         rw (← q.2) (after_found (codes "neworder ") s h.0 h.1 ∙ ap (λ z. codes "neworder" ++ 32 ∷ z) f.0 ∙ sym (spelled_order q.0 (omega (arith, count.0))), f.1)
     | inr e ↦ elim (begun_some (after_of (codes "delivery ") s) _ None r e) [
-      | inl h ↦
-          let q = map_some (λ q. request.Delivery q) (delivery_of h.0) r h.2 in
-          let f = delivery_found h.0 q.0 q.1 in
-          rw (← q.2) (after_found (codes "delivery ") s h.0 h.1 ∙ ap (λ z. codes "delivery" ++ 32 ∷ z) f.0, f.1)
+      | inl h ↦ carried s h.0 r (after_found (codes "delivery ") s h.0 h.1) (deliveries_of h.0) refl h.2
       | inr e ↦ cc
     ]
   ]
@@ -580,8 +647,8 @@ request_only (request.Payment p) h =
 request_only (request.NewOrder q) h =
     let count = h.count in
     ap request_of (spelled_order q (omega (arith, count.0))) ∙ rw (new_order_only q h) refl
-request_only (request.Delivery q) h = rw (delivery_only q h) refl
-request_only (request.Deliveries q) h = elim h [ ]
+request_only (request.Delivery q) h = rw (no_deliveries q h, delivery_only q h) refl
+request_only (request.Deliveries q) h = rw (deliveries_only q h) refl
 request_only (request.Rename q) h = elim h [ ]
 
 -- a request's words stand behind the terminal
@@ -589,7 +656,7 @@ begun_words : (t : ℕ) (r : Request) → IsRequest r → join_with_byte 32 (wor
 begun_words t (request.Payment p) h = refl
 begun_words t (request.NewOrder q) h = refl
 begun_words t (request.Delivery q) h = refl
-begun_words t (request.Deliveries q) h = elim h [ ]
+begun_words t (request.Deliveries q) h = refl
 begun_words t (request.Rename q) h = elim h [ ]
 
 beginning_found : (s : List ℕ) (c : Command) → beginning_of s ≡ Some c → Says (codes "begin" ++ 32 ∷ s) c

@@ -96,6 +96,13 @@ stamp_before_only n r h =
     let whole = f.1 (32 ∷ r) in
     rw (long (length (stamp_text n ++ 32 ∷ r)) (omega (arith, f.0, length-append (stamp_text n) (32 ∷ r))), whole.0, whole.1, stamp_only n h) refl
 
+-- nor is a stamp's text behind a word
+pub stamp_of-longer : (w : List ℕ) (n : ℕ) → n < 6_342_969_600 → stamp_of (w ++ 32 ∷ stamp_text n) ≡ None
+stamp_of-longer w n h =
+    let f = says_19 (stamp_text n) n (stamp_text_says n h) in
+    stamp_of-none (w ++ 32 ∷ stamp_text n)
+    (λ m r. let g = says_19 _ m r in let z : ⊥ = omega (arith, f.0, g.0, length-append w (32 ∷ stamp_text n)) in z)
+
 -- a text of another length is none
 pub stamp_of-other_length : (s : List ℕ) → (length s ≡ 19 → ⊥) → stamp_of s ≡ None
 stamp_of-other_length s h = stamp_of-none s (λ n r. h (says_19 s n r).0)

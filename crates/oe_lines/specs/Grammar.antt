@@ -36,7 +36,7 @@ moment_word (moment.At m) = decimal m
 abbrev pub line_word : RequestLine → List ℕ
 line_word l = join_with_byte 58 (decimal l.supply ∷ decimal l.item ∷ decimal l.quantity ∷ [])
 
--- the words of a request; requests of other kinds have none yet
+-- the words of a request; renames have none yet
 abbrev pub request_words : Request → List (List ℕ)
 request_words (request.Payment p) =
     codes "payment" ∷ decimal p.district.warehouse ∷ decimal p.district.district
@@ -47,7 +47,8 @@ request_words (request.NewOrder q) =
     ∷ stamp_text q.stamp ∷ map line_word q.lines
 request_words (request.Delivery q) =
     codes "delivery" ∷ decimal q.district.warehouse ∷ decimal q.district.district ∷ decimal q.carrier ∷ stamp_text q.stamp ∷ []
-request_words (request.Deliveries r) = []
+request_words (request.Deliveries q) =
+    codes "delivery" ∷ decimal q.warehouse.warehouse ∷ decimal q.carrier ∷ stamp_text q.stamp ∷ []
 request_words (request.Rename r) = []
 
 -- the words of a query
@@ -73,12 +74,12 @@ words_of (command.Read m q) = codes "read" ∷ moment_word m ∷ query_words q
 words_of (command.Purge m) = codes "purge" ∷ moment_word m ∷ []
 words_of (command.Rewind m) = codes "rewind" ∷ moment_word m ∷ []
 
--- payments, orders and deliveries of one district in the model's ranges; other requests have no form yet
+-- payments, orders, and deliveries of one district or of all ten, in the model's ranges; renames have no form yet
 abbrev pub IsRequest : Request → Type 0
 IsRequest (request.Payment p) = model.IsPayment p
 IsRequest (request.NewOrder q) = model.IsNewOrder q
 IsRequest (request.Delivery q) = model.IsDelivery q
-IsRequest (request.Deliveries r) = ⊥
+IsRequest (request.Deliveries q) = model.IsDeliveries q
 IsRequest (request.Rename r) = ⊥
 
 -- clauses 2.6.1.2 and 2.8.1.2: a customer by number or by last name, and a threshold of 10 to 20

@@ -1,5 +1,5 @@
 -- Reading a line from its front, as functions on lists.
-use Rattle.std.specs.Prelude.{ℕ, zero, suc, nat_le, List, [], ◌∷◌, length, Option, Some, None, codes, if◌then◌else◌}
+use Rattle.std.specs.Prelude.{ℕ, zero, suc, ◌==◌, nat_le, List, [], ◌∷◌, length, Option, Some, None, codes, if◌then◌else◌}
 use Rattle.std.specs.Option.{option_map}
 use Rattle.oe_rows.specs.declared.keys.DistrictKey.{DistrictKey}
 use Rattle.oe_rows.specs.declared.keys.Table.{Table}
@@ -10,12 +10,14 @@ use Rattle.oe_requests.specs.declared.requests.PaymentRequest.{PaymentRequest}
 use Rattle.oe_requests.specs.declared.requests.RequestLine.{RequestLine}
 use Rattle.oe_requests.specs.declared.requests.NewOrderRequest.{NewOrderRequest}
 use Rattle.oe_requests.specs.declared.requests.DeliveryRequest.{DeliveryRequest}
+use Rattle.oe_requests.specs.declared.requests.DeliveriesRequest.{DeliveriesRequest}
 use Rattle.oe_requests.specs.declared.requests.Request.{Request}
 use Rattle.oe_requests.specs.declared.requests.Request.TheVariants as request
 use Rattle.oe_requests.specs.declared.requests.StatusQuery.{StatusQuery}
 use Rattle.oe_requests.specs.declared.requests.LevelQuery.{LevelQuery}
 use Rattle.oe_requests.specs.declared.requests.Query.{Query}
 use Rattle.oe_requests.specs.declared.requests.Query.TheVariants as query
+use Rattle.oe_requests.specs.declared.audits.Condition.{Condition}
 use Rattle.oe_requests.specs.declared.audits.Condition.TheVariants as condition
 use Rattle.oe_lines.specs.declared.commands.Command.{Command}
 use Rattle.oe_lines.specs.declared.commands.Command.TheVariants as command
@@ -61,13 +63,28 @@ moment_before s =
       r ← after_of (codes " ") p.1
       Some (moment.At m, r))
 
+-- the condition of a number, which 11 is not
+unfoldable pub condition_of : ℕ → Option Condition
+condition_of n =
+    if n == 1 then Some condition.First
+    else if n == 2 then Some condition.Second
+    else if n == 3 then Some condition.Third
+    else if n == 4 then Some condition.Fourth
+    else if n == 5 then Some condition.Fifth
+    else if n == 6 then Some condition.Sixth
+    else if n == 7 then Some condition.Seventh
+    else if n == 8 then Some condition.Eighth
+    else if n == 9 then Some condition.Ninth
+    else if n == 10 then Some condition.Tenth
+    else if n == 12 then Some condition.Twelfth
+    else None
+
 unfoldable pub audit_of : List ℕ → Option Command
-audit_of s =
-    begun (after_of (codes "1 ") s) (λ r. option_map (λ m. command.Audit condition.First m) (moment_of r))
-    (begun (after_of (codes "2 ") s) (λ r. option_map (λ m. command.Audit condition.Second m) (moment_of r))
-    (begun (after_of (codes "3 ") s) (λ r. option_map (λ m. command.Audit condition.Third m) (moment_of r))
-    (begun (after_of (codes "4 ") s) (λ r. option_map (λ m. command.Audit condition.Fourth m) (moment_of r))
-    None)))
+audit_of s = do
+  n ← number_before 1 12 s
+  c ← condition_of n.0
+  m ← moment_of n.1
+  Some (command.Audit c m)
 
 unfoldable pub opening_of : List ℕ → Option Command
 opening_of s = do
@@ -158,11 +175,24 @@ delivery_of s = do
   stamp ← stamp_of carrier.1
   Some (record { district = at.0; carrier = carrier.0; stamp = stamp })
 
+-- of all ten districts
+unfoldable pub deliveries_of : List ℕ → Option DeliveriesRequest
+deliveries_of s = do
+  w ← number_before 1 16 s
+  carrier ← number_before 1 10 w.1
+  stamp ← stamp_of carrier.1
+  Some (record { warehouse = record { warehouse = w.0 }; carrier = carrier.0; stamp = stamp })
+
+-- of all ten districts, or else of one
+abbrev pub all_or_one : Option DeliveriesRequest → Option DeliveryRequest → Option Request
+all_or_one (Some q) one = Some (request.Deliveries q)
+all_or_one None one = option_map (λ q. request.Delivery q) one
+
 unfoldable pub request_of : List ℕ → Option Request
 request_of s =
     begun (after_of (codes "payment ") s) (λ r. option_map (λ p. request.Payment p) (payment_of r))
     (begun (after_of (codes "neworder ") s) (λ r. option_map (λ q. request.NewOrder q) (new_order_of r))
-    (begun (after_of (codes "delivery ") s) (λ r. option_map (λ q. request.Delivery q) (delivery_of r))
+    (begun (after_of (codes "delivery ") s) (λ r. all_or_one (deliveries_of r) (delivery_of r))
     None))
 
 unfoldable pub status_of : List ℕ → Option StatusQuery

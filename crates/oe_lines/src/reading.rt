@@ -6,7 +6,7 @@ ghost use Rattle.oe_requests.specs.declared.requests.Request.TheVariants as kind
 ghost use Rattle.oe_lines.specs.declared.commands.Command.{Command};
 ghost use Rattle.oe_lines.specs.declared.commands.Command.TheVariants as asks;
 ghost use Rattle.oe_lines.specs.Grammar.{Says};
-ghost use Rattle.oe_lines.specs.Reading.{command_of, run_of, begun_payment_of, rare_command_of, opening_of, beginning_of, request_of, district_of, customer_of, payment_of, new_order_of, delivery_of, line_of, lines_of, table_of, moment_of, moment_before, audit_of, last_customer_of, status_of, level_of, query_of, reading_of};
+ghost use Rattle.oe_lines.specs.Reading.{command_of, run_of, begun_payment_of, rare_command_of, opening_of, beginning_of, request_of, district_of, customer_of, payment_of, new_order_of, delivery_of, deliveries_of, line_of, lines_of, table_of, moment_of, moment_before, condition_of, audit_of, last_customer_of, status_of, level_of, query_of, reading_of};
 
 use crate::commands::{Command, MomentChoice};
 use crate::words::{
@@ -14,12 +14,12 @@ use crate::words::{
     number_then, stamp, stamp_before,
 };
 use oe_requests::{
-    Condition, CustomerChoice, DeliveryRequest, LevelQuery, NewOrderRequest, PaymentRequest, Query,
-    Request, RequestLine, RequestLines, StatusQuery,
+    Condition, CustomerChoice, DeliveriesRequest, DeliveryRequest, LevelQuery, NewOrderRequest,
+    PaymentRequest, Query, Request, RequestLine, RequestLines, StatusQuery,
 };
-use oe_rows::{DistrictKey, Scale, Table};
+use oe_rows::{DistrictKey, Scale, Table, WarehouseKey};
 use oe_values::fronts::{after, decimal};
-use oe_values::{Lines, Moment, Terminal};
+use oe_values::{Lines, Moment, Number, Terminal};
 
 /// What a line asks for, where it is one of the forms. The line stands without its end, which is byte 10.
 pub fn command(line: &[u8]) -> Option<Command>
@@ -161,7 +161,7 @@ fn beginning(text: &[u8]) -> Option<Command>
     Some(Command::Begin(terminal, request))
 }
 
-/// `payment ..`, `neworder ..` or `delivery ..`.
+/// `payment ..`, `neworder ..`, or `delivery ..` of all ten districts or of one.
 #[inline]
 #[tactic(auto, unfolding(crate::specs::Reading::request_of))]
 fn request(text: &[u8]) -> Option<Request>
@@ -174,6 +174,9 @@ fn request(text: &[u8]) -> Option<Request>
         return Some(Request::NewOrder(new_order(rest)?));
     }
     if let Some(rest) = after(text, b"delivery ") {
+        if let Some(deliveries) = deliveries(rest) {
+            return Some(Request::Deliveries(deliveries));
+        }
         return Some(Request::Delivery(delivery(rest)?));
     }
     None
@@ -282,6 +285,25 @@ fn delivery(text: &[u8]) -> Option<DeliveryRequest>
     })
 }
 
+/// `w carrier stamp`, which asks for all ten districts.
+#[tactic(auto, unfolding(crate::specs::Reading::deliveries_of))]
+fn deliveries(text: &[u8]) -> Option<DeliveriesRequest>
+    ensures { result ≡ deliveries_of text.now }
+{
+    let Some((warehouse, rest)) = number_before(text) else {
+        return None;
+    };
+    let Some((carrier, rest)) = number_before(rest) else {
+        return None;
+    };
+    let stamp = stamp(rest)?;
+    Some(DeliveriesRequest {
+        warehouse: WarehouseKey { warehouse },
+        carrier,
+        stamp,
+    })
+}
+
 /// `sw:i:q`, and what follows it.
 #[inline]
 #[tactic(auto, unfolding(crate::specs::Reading::line_of))]
@@ -355,22 +377,39 @@ fn table(text: &[u8]) -> Option<Table>
     }
 }
 
+/// The condition of a number, which 11 is not.
+#[tactic(auto, unfolding(crate::specs::Reading::condition_of))]
+fn condition(number: u32) -> Option<Condition>
+    ensures { result ≡ condition_of number }
+{
+    match number {
+        1 => Some(Condition::First),
+        2 => Some(Condition::Second),
+        3 => Some(Condition::Third),
+        4 => Some(Condition::Fourth),
+        5 => Some(Condition::Fifth),
+        6 => Some(Condition::Sixth),
+        7 => Some(Condition::Seventh),
+        8 => Some(Condition::Eighth),
+        9 => Some(Condition::Ninth),
+        10 => Some(Condition::Tenth),
+        12 => Some(Condition::Twelfth),
+        _ => None,
+    }
+}
+
 /// `N M`.
 #[tactic(auto, unfolding(crate::specs::Reading::audit_of))]
 fn audit(text: &[u8]) -> Option<Command>
     ensures { result ≡ audit_of text.now }
 {
-    if let Some(rest) = after(text, b"1 ") {
-        Some(Command::Audit(Condition::First, moment(rest)?))
-    } else if let Some(rest) = after(text, b"2 ") {
-        Some(Command::Audit(Condition::Second, moment(rest)?))
-    } else if let Some(rest) = after(text, b"3 ") {
-        Some(Command::Audit(Condition::Third, moment(rest)?))
-    } else if let Some(rest) = after(text, b"4 ") {
-        Some(Command::Audit(Condition::Fourth, moment(rest)?))
-    } else {
-        None
-    }
+    let Some((number, rest)) = number_before(text) else {
+        return None;
+    };
+    let number: Number<1, 12> = number;
+    let condition = condition(number.get())?;
+    let moment = moment(rest)?;
+    Some(Command::Audit(condition, moment))
 }
 
 /// `now`, or the number of a moment.

@@ -1,4 +1,4 @@
--- Delivery keeps conditions 1 to 4.
+-- The delivery of a district keeps conditions 1 to 4.
 use Rattle.std.proofs.Common.{◌≡◌, ℕ, suc, zero, ◌+◌, ◌-◌, ◌<◌, ◌≤◌, refl, sym, ◌∙◌, ap, subst, true, false, cond, Option, Some, None, inl, inr, arith}
 use Rattle.std.specs.Prelude.{◌⊎◌, IsSome}
 use Rattle.std.specs.Ordering.{eq_by_cmp}
@@ -12,15 +12,15 @@ use Rattle.oe_rows.specs.declared.customers.Customer.{Customer}
 use Rattle.oe_rows.specs.declared.orders.NewOrder.{NewOrder}
 use Rattle.oe_rows.specs.declared.orders.Order.{Order}
 use Rattle.oe_requests.specs.declared.requests.DeliveryRequest.{DeliveryRequest}
+use Rattle.oe_requests.specs.declared.replies.DistrictDelivery.{DistrictDelivery}
 use Rattle.oe_requests.specs.declared.replies.DistrictDelivery.TheVariants.{Skipped}
 use Rattle.oe_requests.specs.declared.replies.Reply.{Reply}
-use Rattle.oe_requests.specs.declared.replies.Reply.TheVariants as reply
 use Rattle.oe_rows.proofs.KeyFacts.{district_total, exact_district, new_order_total, exact_new_order, order_total, exact_order, order_line_total, exact_order_line}
 use Rattle.oe_model.specs.Keys.{district_of_new_order, district_of_order, order_of_line, customer_in, order_in, new_order_in}
 use Rattle.oe_model.specs.Rows.{Rows}
 use Rattle.oe_model.specs.Maps.{each, sum_of}
 use Rattle.oe_model.specs.Meets.{Meets}
-use Rattle.oe_model.specs.Delivery.{oldest, lines_of, worth, dated, carried, delivered_to, delivered_out, delivery_of, delivery_effect}
+use Rattle.oe_model.specs.Delivery.{oldest, lines_of, worth, dated, carried, delivered_to, delivered_out, delivery_of, district_effect, delivery_effect}
 use Rattle.oe_model.specs.Conditions.{Good, Condition_2, Condition_3, Condition_4, IsStocked, new_orders_of, lines_asked, lines_there, if_of, IsGreatest, IsLeast, HasNewOrder}
 use Rattle.oe_model.proofs.MapFacts.{is_self}
 use Rattle.oe_model.proofs.SumFacts.{number_at, sum-insert, sum-remove, sum-none, sum-each}
@@ -62,7 +62,7 @@ at_most h low (suc n) m within =
         let z : ⊥ = cc in z in
         (w.0, (let less : i < low + n = omega arith in less))
 
-module _ (f : ℕ → ℕ) (t : ℕ) (q : DeliveryRequest) (r : Rows) (g : Good f r) (o : ℕ) (is_oldest : oldest q.district r.new_orders ≡ Some o)
+module _ (f : ℕ → ℕ) (q : DeliveryRequest) (r : Rows) (g : Good f r) (o : ℕ) (is_oldest : oldest q.district r.new_orders ≡ Some o)
     (order : Order) (order_at : get r.orders (order_in q.district o) ≡ Some order) (u : Customer) (sum : ℕ) where
   abbrev h0 : DistrictKey
   h0 = q.district
@@ -183,7 +183,7 @@ module _ (f : ℕ → ℕ) (t : ℕ) (q : DeliveryRequest) (r : Rows) (g : Good 
       let before : lines_asked r h ≡ lines_there r h = g.condition_4 h there in
       omega arith
 
-  pub delivered_good : Meets delivered_rows → IsStocked delivered_rows → Good (bump t f) delivered_rows
+  pub delivered_good : Meets delivered_rows → IsStocked delivered_rows → Good f delivered_rows
   delivered_good meets stocked = record {
     meets = meets;
     condition_1 = g.condition_1;
@@ -191,32 +191,41 @@ module _ (f : ℕ → ℕ) (t : ℕ) (q : DeliveryRequest) (r : Rows) (g : Good 
     condition_3 = delivered_3;
     condition_4 = delivered_4;
     stocked = stocked;
-    unused = λ i real less. let h = bump_below t f i.terminal in g.unused i real (let z : f i.terminal < i.number = omega arith in z);
+    unused = g.unused;
   }
 
-pub delivery_good : (f : ℕ → ℕ) (t : ℕ) (q : DeliveryRequest) (r after : Rows) (y : Reply) → Good f r → Meets after → IsStocked after → delivery_effect q r ≡ Some (after, y) → Good (bump t f) after
-delivery_good f t q r after y g meets stocked e = by_oldest (oldest q.district r.new_orders) refl e
+pub district_good : (f : ℕ → ℕ) (q : DeliveryRequest) (r after : Rows) (d : DistrictDelivery) → Good f r → Meets after → IsStocked after → district_effect q r ≡ Some (after, d) → Good f after
+district_good f q r after d g meets stocked e = by_oldest (oldest q.district r.new_orders) refl e
   where
     P : Type 0
-    P = Good (bump t f) after
+    P = Good f after
 
-    by_oldest : (v : Option ℕ) → oldest q.district r.new_orders ≡ v → (let w : Option (Rows × Reply) = elim v [ None ↦ Some (r, reply.Delivery Skipped) | Some o ↦ delivery_of q o r ] in w) ≡ Some (after, y) → P
-    by_oldest None _ e =
-        subst (λ (v : Rows). Good (bump t f) v) (made_by r after (reply.Delivery Skipped) y e) (record {
-          meets = g.meets;
-          condition_1 = g.condition_1;
-          condition_2 = g.condition_2;
-          condition_3 = g.condition_3;
-          condition_4 = g.condition_4;
-          stocked = g.stocked;
-          unused = λ i real less. let h = bump_below t f i.terminal in g.unused i real (let z : f i.terminal < i.number = omega arith in z);
-        })
+    by_oldest : (v : Option ℕ) → oldest q.district r.new_orders ≡ v → (let w : Option (Rows × DistrictDelivery) = elim v [ None ↦ Some (r, Skipped) | Some o ↦ delivery_of q o r ] in w) ≡ Some (after, d) → P
+    by_oldest None _ e = subst (λ (v : Rows). Good f v) (made_by r after Skipped d e) g
     by_oldest (Some o) is e =
         let sum : ℕ = worth (lines_of (order_in q.district o) r.order_lines) in
         there P (get r.orders (order_in q.district o)) _ _ e (λ order order_at e.
         there P (get r.customers (customer_in q.district order.customer)) _ _ e (λ u _ e.
         there_in_range P delivered_out (delivered_to sum u) _ _ e (λ _ e.
-        let made : Rows = delivered_rows f t q r g o is order order_at u sum in
-        let same : made ≡ after = made_by made after _ y e in
-        subst (λ (v : Rows). Good (bump t f) v) same
-        (delivered_good f t q r g o is order order_at u sum (subst (λ (v : Rows). Meets v) (sym same) meets) (subst (λ (v : Rows). IsStocked v) (sym same) stocked)))))
+        let made : Rows = delivered_rows f q r g o is order order_at u sum in
+        let same : made ≡ after = made_by made after _ d e in
+        subst (λ (v : Rows). Good f v) same
+        (delivered_good f q r g o is order order_at u sum (subst (λ (v : Rows). Meets v) (sym same) meets) (subst (λ (v : Rows). IsStocked v) (sym same) stocked)))))
+
+-- a commit that changes no row, or after which all holds already
+pub good_bump : (f : ℕ → ℕ) (t : ℕ) (r : Rows) → Good f r → Good (bump t f) r
+good_bump f t r g = record {
+  meets = g.meets;
+  condition_1 = g.condition_1;
+  condition_2 = g.condition_2;
+  condition_3 = g.condition_3;
+  condition_4 = g.condition_4;
+  stocked = g.stocked;
+  unused = λ i real less. let h = bump_below t f i.terminal in g.unused i real (let z : f i.terminal < i.number = omega arith in z);
+}
+
+pub delivery_good : (f : ℕ → ℕ) (t : ℕ) (q : DeliveryRequest) (r after : Rows) (y : Reply) → Good f r → Meets after → IsStocked after → delivery_effect q r ≡ Some (after, y) → Good (bump t f) after
+delivery_good f t q r after y g meets stocked e =
+    there (Good (bump t f) after) (district_effect q r) _ (after, y) e (λ one one_at e.
+    let same : one.0 ≡ after = made_by one.0 after _ y e in
+    good_bump f t after (district_good f q r after one.1 g meets stocked (one_at ∙ ap (λ (s : Rows). Some (s, one.1)) same)))

@@ -12,6 +12,11 @@ pub there : {A B : Type 0} (P : Type 0) (o : Option A) (g : A → Option B) (y :
 there P None g y e h = let no : ⊥ = cc in absurd no
 there P (Some a) g y e h = h a refl e
 
+-- values that are looked for one after another may be looked for in two parts
+pub bind_in : {A B C : Type 0} (o : Option A) (f : A → Option B) (g : B → Option C) → ((o >>= f) >>= g) ≡ (o >>= λ a. f a >>= g)
+bind_in None f g = refl
+bind_in (Some a) f g = refl
+
 pub there_in_range : {A B : Type 0} (P : Type 0) (out : A → Option Column) (x : A) (g : A → Option B) (y : B) → (in_range out x >>= g) ≡ Some y → (out x ≡ None → g x ≡ Some y → P) → P
 there_in_range {A = A} P out x g y e h = by_out (out x) refl e
   where

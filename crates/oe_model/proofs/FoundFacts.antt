@@ -1,5 +1,5 @@
 -- What is found in the tables: whether an order is local, a district's oldest order, a delivery's lines, a customer's last order.
-use Rattle.std.proofs.Common.{◌≡◌, ◌≢◌, ℕ, suc, ◌≤◌, refl, sym, ◌∙◌, ap, Bool, true, false, cond, List, [], ◌∷◌, Option, Some, None, arith}
+use Rattle.std.proofs.Common.{◌≡◌, ◌≢◌, ℕ, suc, ◌≤◌, refl, sym, subst, ◌∙◌, ap, Bool, true, false, cond, List, [], ◌∷◌, Option, Some, None, arith}
 use Rattle.std.specs.Prelude.{◌==◌, option_map, find, not, nat_le}
 use Rattle.std.specs.List.{All, list_all}
 use Rattle.std.specs.Ordering.{eq_by_cmp}
@@ -19,15 +19,14 @@ use Rattle.oe_rows.specs.declared.orders.Order.{Order}
 use Rattle.oe_rows.specs.declared.orders.OrderLine.{OrderLine}
 use Rattle.oe_requests.specs.declared.requests.RequestLine.{RequestLine}
 use Rattle.oe_requests.specs.declared.requests.DeliveryRequest.{DeliveryRequest}
-use Rattle.oe_requests.specs.declared.replies.Reply.{Reply}
+use Rattle.oe_requests.specs.declared.replies.DistrictDelivery.{DistrictDelivery}
 use Rattle.oe_requests.specs.declared.replies.DistrictDelivery.TheVariants.{Skipped}
-use Rattle.oe_requests.specs.declared.replies.Reply.TheVariants as reply
 use Rattle.oe_rows.proofs.KeyFacts.{district_total, exact_district, customer_total, exact_customer, new_order_total, exact_new_order, order_total, exact_order, exact_order_line}
 use Rattle.oe_model.specs.Lists.{IsAmong}
 use Rattle.oe_model.specs.Keys.{customer_in, customer_of_order, district_of_new_order, new_order_in, order_of_line, order_in}
 use Rattle.oe_model.specs.Rows.{Rows}
 use Rattle.oe_model.specs.Conditions.{HasNewOrder}
-use Rattle.oe_model.specs.Delivery.{undelivered, oldest, lines_of, worth, dated, delivered_to, delivered_out, delivery_of}
+use Rattle.oe_model.specs.Delivery.{undelivered, oldest, lines_of, worth, dated, delivered_to, delivered_out, delivery_of, district_effect}
 use Rattle.oe_model.specs.Queries.{orders_of, last_order}
 use Rattle.oe_model.specs.Rules.{Order_is_local, Oldest_is_least, Delivery_is_exact, IsLastOrder, Order_is_last}
 use Rattle.oe_model.proofs.MapFacts.{get-each, is_same, is_self}
@@ -60,7 +59,7 @@ pub oldest_is_least : Oldest_is_least
 oldest_is_least = record { least = λ r h o e. oldest_least h r.new_orders o e; none = none_waits }
 
 -- a delivery's lines
-module _ (q : DeliveryRequest) (r after : Rows) (y : Reply) (o : ℕ) (k : OrderLineKey) (x : OrderLine) (at : get r.order_lines k ≡ Some x) where
+module _ (q : DeliveryRequest) (r after : Rows) (d : DistrictDelivery) (o : ℕ) (k : OrderLineKey) (x : OrderLine) (at : get r.order_lines k ≡ Some x) where
   abbrev j : OrderKey
   j = order_in q.district o
 
@@ -75,13 +74,13 @@ module _ (q : DeliveryRequest) (r after : Rows) (y : Reply) (o : ℕ) (k : Order
   dated_so false t s e =
       ((λ same. let no : true ≡ false = sym (is_self order_total exact_order j) ∙ ap (λ z. eq_by_cmp order_cmp z j) (sym same) ∙ t in absurd (let z : ⊥ = cc in z)), (λ _. e))
 
-  lines_of_effect : delivery_of q o r ≡ Some (after, y) → Dated after
+  lines_of_effect : delivery_of q o r ≡ Some (after, d) → Dated after
   lines_of_effect e =
       there (Dated after) (get r.orders j) _ _ e (λ order _ e.
       there (Dated after) (get r.customers (customer_in q.district order.customer)) _ _ e (λ u _ e.
       there_in_range (Dated after) delivered_out (delivered_to (worth (lines_of j r.order_lines)) u) _ _ e (λ _ e.
       dated_so (eq_by_cmp order_cmp (order_of_line k) j) refl after
-      (sym (ap (λ (s : Rows). get s.order_lines k) (made_by _ after _ y e)) ∙ get-each order_line_cmp dates exact_order_line r.order_lines k ∙ ap (option_map (dates k)) at))))
+      (sym (ap (λ (s : Rows). get s.order_lines k) (made_by _ after _ d e)) ∙ get-each order_line_cmp dates exact_order_line r.order_lines k ∙ ap (option_map (dates k)) at))))
 
 pub delivery_is_exact : Delivery_is_exact
 delivery_is_exact = record {
@@ -89,8 +88,10 @@ delivery_is_exact = record {
   count = λ sum x. refl;
   others = λ sum x. refl;
   lines = λ q r after y o k x is e at.
-      lines_of_effect q r after y o k x at
-      (sym (ap (λ (v : Option ℕ). let w : Option (Rows × Reply) = elim v [ None ↦ Some (r, reply.Delivery Skipped) | Some o ↦ delivery_of q o r ] in w) is) ∙ e);
+      (let all : Type 0 = (order_of_line k ≡ order_in q.district o → get after.order_lines k ≡ Some (dated q.stamp x)) × (order_of_line k ≢ order_in q.district o → get after.order_lines k ≡ Some x) in
+      there all (district_effect q r) _ (after, y) e (λ one one_at e.
+      subst (λ (s : Rows). (order_of_line k ≡ order_in q.district o → get s.order_lines k ≡ Some (dated q.stamp x)) × (order_of_line k ≢ order_in q.district o → get s.order_lines k ≡ Some x)) (made_by one.0 after _ y e)
+      (lines_of_effect q r one.0 one.1 o k x at (sym (ap (λ (v : Option ℕ). let w : Option (Rows × DistrictDelivery) = elim v [ None ↦ Some (r, Skipped) | Some o ↦ delivery_of q o r ] in w) is) ∙ one_at))));
 }
 
 -- Order-Status finds the customer's last order

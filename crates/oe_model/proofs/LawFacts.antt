@@ -55,8 +55,11 @@ abbrev pub IsAskedNow : Tx Request → Position → Rows → Type 0
 IsAskedNow x p r = IsAsked system (all_held system) (ask x p r)
 
 -- the names that are held in a stage of a program
+abbrev pub held_then : Tx Request → Position → Rows → List (Hold Name)
+held_then x p r = with_asked system (ask x p r) (taken x p)
+
 abbrev pub HeldThen : Tx Request → Position → Rows → Name → Mode → Type 0
-HeldThen x p r = Holds system (with_asked system (ask x p r) (taken x p))
+HeldThen x p r = Holds system (held_then x p r)
 
 pub holds_asked : (a : Ask Name Refusal) (hs : List (Hold Name)) (n : Name) (m w : Mode) → a ≡ Take n m → IsEnough (Some m) w → Holds system (with_asked system a hs) n w
 holds_asked a hs n m w e h = subst (λ (b : Ask Name Refusal). Holds system (with_asked system b hs) n w) (sym e) (inl (refl, h))
@@ -111,37 +114,52 @@ abbrev pub Knows : (Name → Mode → Type 0) → Change → Type 0
 Knows P (InsertNewOrder k x) = P (name.Order (order_of_new_order k)) Shared
 Knows P _ = Unit {0}
 
--- what a row may do: it holds what comes next, writes where it may, and only what may change
-pub record IsLawful (x : Tx Request) (p : Position) (r : Rows) (c : Option Change) (q : Position) : Type 0 where
-  pub takes : (n : Name) (m : Mode) → Holds system (taken x q) n m → HeldThen x p r n m
-  pub writes : (d : Change) → c ≡ Some d → MayWrite system (HeldThen x p r) x (governs (key_of d))
-  pub knows : (d : Change) → c ≡ Some d → Knows (HeldThen x p r) d
+-- what a row may do that holds these names: it holds what comes next, writes where it may, and only what may change
+pub record IsLawfulBy (x : Tx Request) (hs : List (Hold Name)) (r : Rows) (c : Option Change) (q : Position) : Type 0 where
+  pub takes : (n : Name) (m : Mode) → Holds system (taken x q) n m → Holds system hs n m
+  pub writes : (d : Change) → c ≡ Some d → MayWrite system (Holds system hs) x (governs (key_of d))
+  pub knows : (d : Change) → c ≡ Some d → Knows (Holds system hs) d
   pub keeps : (d : Change) → c ≡ Some d → Keeps d (row_at r (key_of d))
 
+abbrev pub IsLawful : Tx Request → Position → Rows → Option Change → Position → Type 0
+IsLawful x p r c q = IsLawfulBy x (held_then x p r) r c q
+
+module _ (x : Tx Request) (hs : List (Hold Name)) (r : Rows) where
+  pub lawful_as : (c d : Option Change) (q z : Position) → (let a : Doing = Go d z in a) ≡ Go c q → IsLawfulBy x hs r d z → IsLawfulBy x hs r c q
+  lawful_as c d q z e h =
+      let one : d ≡ c = cc in
+      let two : z ≡ q = cc in
+      subst (λ (v : Option Change). IsLawfulBy x hs r v q) one (subst (λ (v : Position). IsLawfulBy x hs r d v) two h)
+
+  -- a row that makes no change
+  pub changes_none : (q : Position) → ((n : Name) (m : Mode) → Holds system (taken x q) n m → Holds system hs n m) → IsLawfulBy x hs r None q
+  changes_none q h = record {
+    takes = h;
+    writes = λ d e. let no : ⊥ = cc in absurd no;
+    knows = λ d e. let no : ⊥ = cc in absurd no;
+    keeps = λ d e. let no : ⊥ = cc in absurd no;
+  }
+
+  -- a row that makes one change
+  pub changes_one : (d : Change) (q : Position) → ((n : Name) (m : Mode) → Holds system (taken x q) n m → Holds system hs n m)
+      → MayWrite system (Holds system hs) x (governs (key_of d)) → Knows (Holds system hs) d → Keeps d (row_at r (key_of d)) → IsLawfulBy x hs r (Some d) q
+  changes_one d q h w j k = record {
+    takes = h;
+    writes = λ c e. let one : d ≡ c = cc in subst (λ (v : Change). MayWrite system (Holds system hs) x (governs (key_of v))) one w;
+    knows = λ c e. let one : d ≡ c = cc in subst (λ (v : Change). Knows (Holds system hs) v) one j;
+    keeps = λ c e. let one : d ≡ c = cc in subst (λ (v : Change). Keeps v (row_at r (key_of v))) one k;
+  }
+
+-- the same, by the position
 pub lawful_at : (x : Tx Request) (p : Position) (r : Rows) (c d : Option Change) (q z : Position) → (let a : Doing = Go d z in a) ≡ Go c q → IsLawful x p r d z → IsLawful x p r c q
-lawful_at x p r c d q z e h =
-    let one : d ≡ c = cc in
-    let two : z ≡ q = cc in
-    subst (λ (v : Option Change). IsLawful x p r v q) one (subst (λ (v : Position). IsLawful x p r d v) two h)
+lawful_at x p r c d q z e h = lawful_as x (held_then x p r) r c d q z e h
 
--- a row that makes no change
 pub lawful_none : (x : Tx Request) (p : Position) (r : Rows) (q : Position) → ((n : Name) (m : Mode) → Holds system (taken x q) n m → HeldThen x p r n m) → IsLawful x p r None q
-lawful_none x p r q h = record {
-  takes = h;
-  writes = λ d e. let no : ⊥ = cc in absurd no;
-  knows = λ d e. let no : ⊥ = cc in absurd no;
-  keeps = λ d e. let no : ⊥ = cc in absurd no;
-}
+lawful_none x p r q h = changes_none x (held_then x p r) r q h
 
--- a row that makes one change
 pub lawful_one : (x : Tx Request) (p : Position) (r : Rows) (d : Change) (q : Position) → ((n : Name) (m : Mode) → Holds system (taken x q) n m → HeldThen x p r n m)
     → MayWrite system (HeldThen x p r) x (governs (key_of d)) → Knows (HeldThen x p r) d → Keeps d (row_at r (key_of d)) → IsLawful x p r (Some d) q
-lawful_one x p r d q h w j k = record {
-  takes = h;
-  writes = λ c e. let one : d ≡ c = cc in subst (λ (v : Change). MayWrite system (HeldThen x p r) x (governs (key_of v))) one w;
-  knows = λ c e. let one : d ≡ c = cc in subst (λ (v : Change). Knows (HeldThen x p r) v) one j;
-  keeps = λ c e. let one : d ≡ c = cc in subst (λ (v : Change). Keeps v (row_at r (key_of v))) one k;
-}
+lawful_one x p r d q h w j k = changes_one x (held_then x p r) r d q h w j k
 
 -- keys with a facet
 is_faceted : Key → Bool

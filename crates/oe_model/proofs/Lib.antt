@@ -11,6 +11,7 @@ pub mod RowFacts
 pub mod PresenceFacts
 pub mod ChangeFacts
 pub mod EntryFacts
+pub mod GroupFacts
 pub mod SumFacts
 pub mod ListFacts
 pub mod EffectFacts
@@ -31,6 +32,7 @@ pub mod NumberFacts
 pub mod PaymentGood
 pub mod NewOrderGood
 pub mod DeliveryGood
+pub mod DeliveriesFacts
 pub mod SystemLaws
 pub mod MadeFacts
 pub mod ConsistencyFacts

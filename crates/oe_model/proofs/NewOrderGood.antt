@@ -26,6 +26,7 @@ use Rattle.oe_model.specs.Positions.{Filled}
 use Rattle.oe_model.specs.NewOrder.{stock_of, stock_out, next_out, item_at, after_lines, filled, all_filled, order_row, new_order_row, with_next, line_entries, new_order_effect}
 use Rattle.oe_model.specs.Conditions.{Good, Condition_1, Condition_2, Condition_2_at, Condition_3, Condition_4, IsStocked, ytd_of, new_orders_of, lines_asked, lines_there, if_of, if_of_warehouse, IsGreatest, IsLeast, IsAfterGreatest, HasOrder, HasNewOrder}
 use Rattle.oe_model.proofs.MapFacts.{is_self}
+use Rattle.oe_model.proofs.EntryFacts.{EachOf}
 use Rattle.oe_model.proofs.SumFacts.{number_at, sum-insert, sum-none}
 use Rattle.oe_model.proofs.EffectFacts.{made_by, there, there_in_range, bump_below}
 use Rattle.oe_model.proofs.PresenceFacts.{present_before, some_present, key_cases, not_turned, get_other, own_or_old, present_insert, present_own}
@@ -35,12 +36,13 @@ use Rattle.oe_model.proofs.NumberFacts.{own_number, other_number, greatest_other
 
 -- the lines that were filled are numbered from one, and as many as were asked for
 module _ (q : NewOrderRequest) (r : Rows) where
-  record AreLines (before todo : List RequestLine) (fs : List Filled) : Type 0 where
-    numbered : AreNumbered (length before) fs
-    count : length fs ≡ length todo
+  pub record AreLines (before todo : List RequestLine) (fs : List Filled) : Type 0 where
+    pub numbered : AreNumbered (length before) fs
+    pub count : length fs ≡ length todo
+    pub undated : EachOf (λ (f : Filled). f.row.delivery ≡ None) fs
 
-  lines_are : (todo before : List RequestLine) (fs : List Filled) → all_filled q r before todo ≡ Some fs → AreLines before todo fs
-  lines_are [] before [] e = record { numbered = tt; count = refl }
+  pub lines_are : (todo before : List RequestLine) (fs : List Filled) → all_filled q r before todo ≡ Some fs → AreLines before todo fs
+  lines_are [] before [] e = record { numbered = tt; count = refl; undated = tt }
   lines_are [] before (f ∷ fs) e = let no : ⊥ = cc in absurd no
   lines_are (l ∷ ls) before fs e =
       let P : Type 0 = AreLines before (l ∷ ls) fs in
@@ -52,13 +54,14 @@ module _ (q : NewOrderRequest) (r : Rows) where
       let rest = lines_are ls (before ++ l ∷ []) more more_is in
       let number : f.number ≡ length before + 1 = ap (λ (o : Option Filled). let v : ℕ = elim o [ None ↦ 0 | Some g ↦ g.number ] in v) (sym f_is) in
       let numbered : AreNumbered (length before + 1) more = subst (λ (n : ℕ). AreNumbered n more) (length-more before l) rest.numbered in
+      let row_is : f.row.delivery ≡ None = ap (λ (o : Option Filled). let v : Option ℕ = elim o [ None ↦ None | Some g ↦ g.row.delivery ] in v) (sym f_is) in
       let is : f ∷ more ≡ fs = cc in
-      let whole : AreLines before (l ∷ ls) (f ∷ more) = record { numbered = (number, numbered); count = (let h : length more ≡ length ls = rest.count in omega arith) } in
+      let whole : AreLines before (l ∷ ls) (f ∷ more) = record { numbered = (number, numbered); count = (let h : length more ≡ length ls = rest.count in omega arith); undated = (row_is, rest.undated) } in
       subst (λ (gs : List Filled). AreLines before (l ∷ ls) gs) is whole)))))
 
 module _ (k : OrderKey) (F : OrderLineKey → OrderLine → ℕ) (v : ℕ) (is : (n : ℕ) (x : OrderLine) → F (line_in k n) x ≡ v) where
   -- new lines add what each of them counts
-  sum-with_all : (fs : List Filled) (n : ℕ) (m : FinMap order_line_cmp OrderLine) → AreNumbered n fs → ((j : ℕ) → n < j → get m (line_in k j) ≡ None)
+  pub sum-with_all : (fs : List Filled) (n : ℕ) (m : FinMap order_line_cmp OrderLine) → AreNumbered n fs → ((j : ℕ) → n < j → get m (line_in k j) ≡ None)
       → sum_of F (with_all (line_entries k fs) m) ≡ sum_of F m + sum_by (λ f. v) fs
   sum-with_all [] n m a h = omega arith
   sum-with_all (f ∷ fs) n m a h =
@@ -76,11 +79,11 @@ module _ (k : OrderKey) (F : OrderLineKey → OrderLine → ℕ) (v : ℕ) (is :
       by_key i less (inl s) = let t : i ≡ f.number = ap (λ (j : OrderLineKey). j.number) s in let number : f.number ≡ n + 1 = a.0 in absurd (let no : ⊥ = omega arith in no)
       by_key i less (inr t) = get_other order_line_total exact_order_line m (line_in k f.number) f.row (line_in k i) t ∙ h i (omega arith)
 
-ones : (fs : List Filled) → sum_by (λ f. 1) fs ≡ length fs
+pub ones : (fs : List Filled) → sum_by (λ f. 1) fs ≡ length fs
 ones [] = refl
 ones (f ∷ fs) = let a = sum_by-cons (λ (f : Filled). 1) f fs in let h = ones fs in omega arith
 
-zeros : (fs : List Filled) → sum_by (λ f. 0) fs ≡ 0
+pub zeros : (fs : List Filled) → sum_by (λ f. 0) fs ≡ 0
 zeros [] = refl
 zeros (f ∷ fs) = let a = sum_by-cons (λ (f : Filled). 0) f fs in let h = zeros fs in omega arith
 

@@ -40,7 +40,7 @@ use Rattle.oe_model.proofs.SumFacts.{number_at}
 use Rattle.oe_model.proofs.CountFacts.{total, total-same, total-constant, total-add, total-below, sum-listed}
 
 module _ {X : Type 0} where
-  some_there : (b : Bool) (x : X) → is_some (where_there b x) ≡ b
+  pub some_there : (b : Bool) (x : X) → is_some (where_there b x) ≡ b
   some_there true x = refl
   some_there false x = refl
 
@@ -51,55 +51,55 @@ module _ {X : Type 0} where
 pub counts : (most n : ℕ) → counts_to most n ≡ true → (1 ≤ n) × (n ≤ most)
 counts most n e = let p = and_parts (nat_le 1 n) (nat_le n most) e in (leb-true 1 n p.0, leb-true n most p.1)
 
-counted : (most n : ℕ) → 1 ≤ n → n ≤ most → counts_to most n ≡ true
+pub counted : (most n : ℕ) → 1 ≤ n → n ≤ most → counts_to most n ≡ true
 counted most n low high = and_from (nat_le 1 n) (nat_le n most) (le-leb 1 n low) (le-leb n most high)
 
 module _ (s : Scale) (r : Rows) (sc : IsScale s) (p : IsPopulated s r) where
   -- the row of each key
-  warehouse_get : (k : WarehouseKey) → get r.warehouses k ≡ where_there (has_warehouse s k) (warehouse_of s k.warehouse)
+  pub warehouse_get : (k : WarehouseKey) → get r.warehouses k ≡ where_there (has_warehouse s k) (warehouse_of s k.warehouse)
   warehouse_get k = un_warehouse _ _ (p (key.Warehouse k))
 
-  district_get : (k : DistrictKey) → get r.districts k ≡ where_there (has_district s k) (district_of s k.district)
+  pub district_get : (k : DistrictKey) → get r.districts k ≡ where_there (has_district s k) (district_of s k.district)
   district_get k = un_district _ _ (p (key.District k))
 
-  customer_get : (k : CustomerKey) → get r.customers k ≡ where_there (has_customer s k) (customer_of k.customer)
+  pub customer_get : (k : CustomerKey) → get r.customers k ≡ where_there (has_customer s k) (customer_of k.customer)
   customer_get k = un_customer _ _ (p (key.Customer k))
 
-  history_get : (k : HistoryKey) → get r.histories k ≡ where_there (has_history s k) (history_of (counted_customer s k.number))
+  pub history_get : (k : HistoryKey) → get r.histories k ≡ where_there (has_history s k) (history_of (counted_customer s k.number))
   history_get k = un_history _ _ (p (key.History k))
 
-  new_order_get : (k : NewOrderKey) → get r.new_orders k ≡ where_there (has_new_order s k) (record {})
+  pub new_order_get : (k : NewOrderKey) → get r.new_orders k ≡ where_there (has_new_order s k) (record {})
   new_order_get k = un_new_order _ _ (p (key.NewOrder k))
 
-  order_get : (k : OrderKey) → get r.orders k ≡ where_there (has_order s k) (order_of s k.order)
+  pub order_get : (k : OrderKey) → get r.orders k ≡ where_there (has_order s k) (order_of s k.order)
   order_get k = un_order _ _ (p (key.Order k))
 
-  line_get : (k : OrderLineKey) → get r.order_lines k ≡ where_there (has_line s k) (line_of s k)
+  pub line_get : (k : OrderLineKey) → get r.order_lines k ≡ where_there (has_line s k) (line_of s k)
   line_get k = un_order_line _ _ (p (key.OrderLine k))
 
-  stock_get : (k : StockKey) → get r.stocks k ≡ where_there (has_stock s k) (stock_of k.warehouse k.item)
+  pub stock_get : (k : StockKey) → get r.stocks k ≡ where_there (has_stock s k) (stock_of k.warehouse k.item)
   stock_get k = un_stock _ _ (p (key.Stock k))
 
   -- which keys have a row
-  warehouse_is : (k : WarehouseKey) → is_some (get r.warehouses k) ≡ has_warehouse s k
+  pub warehouse_is : (k : WarehouseKey) → is_some (get r.warehouses k) ≡ has_warehouse s k
   warehouse_is k = ap is_some (warehouse_get k) ∙ some_there _ _
 
-  district_is : (k : DistrictKey) → is_some (get r.districts k) ≡ has_district s k
+  pub district_is : (k : DistrictKey) → is_some (get r.districts k) ≡ has_district s k
   district_is k = ap is_some (district_get k) ∙ some_there _ _
 
-  customer_is : (k : CustomerKey) → is_some (get r.customers k) ≡ has_customer s k
+  pub customer_is : (k : CustomerKey) → is_some (get r.customers k) ≡ has_customer s k
   customer_is k = ap is_some (customer_get k) ∙ some_there _ _
 
-  history_is : (k : HistoryKey) → is_some (get r.histories k) ≡ has_history s k
+  pub history_is : (k : HistoryKey) → is_some (get r.histories k) ≡ has_history s k
   history_is k = ap is_some (history_get k) ∙ some_there _ _
 
-  new_order_is : (k : NewOrderKey) → is_some (get r.new_orders k) ≡ has_new_order s k
+  pub new_order_is : (k : NewOrderKey) → is_some (get r.new_orders k) ≡ has_new_order s k
   new_order_is k = ap is_some (new_order_get k) ∙ some_there _ _
 
-  order_is : (k : OrderKey) → is_some (get r.orders k) ≡ has_order s k
+  pub order_is : (k : OrderKey) → is_some (get r.orders k) ≡ has_order s k
   order_is k = ap is_some (order_get k) ∙ some_there _ _
 
-  line_is : (k : OrderLineKey) → is_some (get r.order_lines k) ≡ has_line s k
+  pub line_is : (k : OrderLineKey) → is_some (get r.order_lines k) ≡ has_line s k
   line_is k = ap is_some (line_get k) ∙ some_there _ _
 
   item_is : (k : ItemKey) → is_some (get r.items k) ≡ has_item s k
@@ -109,19 +109,19 @@ module _ (s : Scale) (r : Rows) (sc : IsScale s) (p : IsPopulated s r) where
   stock_is k = ap is_some (stock_get k) ∙ some_there _ _
 
   -- the key of a row has one
-  held : {A : Type 0} {b : Bool} (o : Option A) (x : A) → is_some o ≡ b → o ≡ Some x → b ≡ true
+  pub held : {A : Type 0} {b : Bool} (o : Option A) (x : A) → is_some o ≡ b → o ≡ Some x → b ≡ true
   held o x is e = sym is ∙ ap is_some e
 
   -- parts of what says that a key has a row
-  warehouse_held : (k : DistrictKey) → has_district s k ≡ true → has_warehouse s (warehouse_of_district k) ≡ true
+  pub warehouse_held : (k : DistrictKey) → has_district s k ≡ true → has_warehouse s (warehouse_of_district k) ≡ true
   warehouse_held k t = (and_parts (has_warehouse s (warehouse_of_district k)) (counts_to 10 k.district) t).0
 
-  district_held : (k : OrderKey) → has_order s k ≡ true → (has_district s (district_of_order k) ≡ true) × (1 ≤ k.order) × (k.order ≤ s.customers)
+  pub district_held : (k : OrderKey) → has_order s k ≡ true → (has_district s (district_of_order k) ≡ true) × (1 ≤ k.order) × (k.order ≤ s.customers)
   district_held k t =
       let a = and_parts (has_district s (district_of_order k)) (counts_to s.customers k.order) t in
       let b = counts s.customers k.order a.1 in (a.0, b.0, b.1)
 
-  line_held : (k : OrderLineKey) → has_line s k ≡ true → (has_order s (order_of_line k) ≡ true) × (1 ≤ k.number) × (k.number ≤ lines_of k.order)
+  pub line_held : (k : OrderLineKey) → has_line s k ≡ true → (has_order s (order_of_line k) ≡ true) × (1 ≤ k.number) × (k.number ≤ lines_of k.order)
   line_held k t =
       let a = and_parts (has_order s (order_of_line k)) (counts_to (lines_of k.order) k.number) t in
       let b = counts (lines_of k.order) k.number a.1 in (a.0, b.0, b.1)
@@ -162,7 +162,7 @@ module _ (s : Scale) (r : Rows) (sc : IsScale s) (p : IsPopulated s r) where
   stocked k w i = stock_is k ∙ and_from (has_warehouse s (warehouse_of_stock k)) _ (sym (warehouse_is (warehouse_of_stock k)) ∙ w) (sym (item_is (item_of_stock k)) ∙ i)
 
   -- a row counts for a warehouse or a district only if it is there
-  counts_or : (b : Bool) (n : ℕ) (P : Type 0) → (b ≡ true → P) → (cond b n 0 ≡ 0) ⊎ P
+  pub counts_or : (b : Bool) (n : ℕ) (P : Type 0) → (b ≡ true → P) → (cond b n 0 ≡ 0) ⊎ P
   counts_or true n P f = inr (f refl)
   counts_or false n P f = inl refl
 
@@ -372,7 +372,7 @@ module _ (s : Scale) (r : Rows) (sc : IsScale s) (p : IsPopulated s r) where
   }
 
 -- a HISTORY key's number counts its customer
-counts_customer : (s : Scale) (c : CustomerKey) → has_customer s c ≡ true → counted_customer s (history_key s c).number ≡ c
+pub counts_customer : (s : Scale) (c : CustomerKey) → has_customer s c ≡ true → counted_customer s (history_key s c).number ≡ c
 counts_customer s c t =
     let a = and_parts (has_district s (district_of_customer c)) (counts_to s.customers c.customer) t in
     let b = and_parts (has_warehouse s (warehouse_of_district (district_of_customer c))) (counts_to 10 c.district) a.0 in

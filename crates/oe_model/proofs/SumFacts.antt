@@ -24,11 +24,11 @@ module _ {K X : Type 0} (f : K → X → ℕ) where
   pub sum-cons : (e : K × X) (es : List (K × X)) → sum_in (e ∷ es) ≡ f e.0 e.1 + sum_in es
   sum-cons e es = sum_by-cons (λ e. f e.0 e.1) e es
 
-  sum_none : (es : List (K × X)) → EachOf (λ e. f e.0 e.1 ≡ 0) es → sum_in es ≡ 0
+  pub sum_none : (es : List (K × X)) → EachOf (λ e. f e.0 e.1 ≡ 0) es → sum_in es ≡ 0
   sum_none [] h = refl
   sum_none (e ∷ es) h = let a = sum-cons e es in let b = sum_none es h.1 in let c : f e.0 e.1 ≡ 0 = h.0 in omega arith
 
-  sum_same : (g : K → X → ℕ) (es : List (K × X)) → EachOf (λ e. f e.0 e.1 ≡ g e.0 e.1) es → sum_in es ≡ sum_by (λ e. g e.0 e.1) es
+  pub sum_same : (g : K → X → ℕ) (es : List (K × X)) → EachOf (λ e. f e.0 e.1 ≡ g e.0 e.1) es → sum_in es ≡ sum_by (λ e. g e.0 e.1) es
   sum_same g [] h = refl
   sum_same g (e ∷ es) h = let a = sum-cons e es in let b = sum_by-cons (λ (e : K × X). g e.0 e.1) e es in let c = sum_same g es h.1 in let d : f e.0 e.1 ≡ g e.0 e.1 = h.0 in omega arith
 

@@ -17,14 +17,15 @@ use Rattle.oe_requests.specs.declared.requests.Request.TheVariants as request
 use Rattle.oe_requests.specs.declared.requests.RequestLine.{RequestLine}
 use Rattle.oe_requests.specs.declared.replies.Reply.{Reply}
 use Rattle.oe_rows.proofs.KeyFacts.{warehouse_total, exact_warehouse, district_total, exact_district, customer_total, exact_customer, order_total, exact_order, stock_total, exact_stock}
-use Rattle.oe_model.specs.Keys.{order_in, new_order_in}
 use Rattle.oe_model.specs.Rows.{Rows}
 use Rattle.oe_model.specs.Changes.{Change}
 use Rattle.oe_model.specs.Meets.{Meets}
 use Rattle.oe_model.specs.Locks.{is_name}
-use Rattle.oe_model.specs.Positions.{Position, InPayment, InNewOrder, InDelivery, NoProgram}
+use Rattle.oe_model.specs.Positions.{Position, InPayment, InNewOrder, InDelivery, InDeliveries, DeliveriesEnd, NoProgram}
 use Rattle.oe_model.specs.Payment.{history_key}
 use Rattle.oe_model.specs.NewOrder.{stock_of, item_at}
+use Rattle.oe_model.specs.Delivery.{alone}
+use Rattle.oe_model.specs.Deliveries.{at_hand, among_ten}
 use Rattle.oe_model.specs.Requests.{IsDistrict, IsRequest, MayRefuse, rejection, warehouses_of, warehouse_no}
 use Rattle.oe_model.specs.Conditions.{Good, IsPopulation, IsStocked}
 use Rattle.oe_model.specs.System.{system, start_of, ask, act, taken, effect_of}
@@ -33,7 +34,6 @@ use Rattle.oe_model.proofs.MapFacts.{is_self, is_same}
 use Rattle.oe_model.proofs.EntryFacts.{EachOf}
 use Rattle.oe_model.proofs.RowFacts.{key_true, key_refl, at_changed, record_key_of, before, at_put_back, redoes, same_rows}
 use Rattle.oe_model.proofs.ChangeFacts.{accepted_meets}
-use Rattle.oe_model.proofs.PresenceFacts.{present_some}
 use Rattle.oe_model.proofs.StepFacts.{EndsSo}
 use Rattle.oe_model.proofs.LawFacts.{IsAskedNow, HeldThen, IsLawful, accepts_alike, rejection_same, query_rejection_same, all_there}
 use Rattle.oe_model.proofs.PaymentFacts.{payment_ends}
@@ -42,10 +42,10 @@ use Rattle.oe_model.proofs.PaymentGood.{payment_good}
 use Rattle.oe_model.proofs.NewOrderFacts.{HasStock, new_order_ends}
 use Rattle.oe_model.proofs.NewOrderLaws.{new_order_ask_same, new_order_act_same, new_order_lawful}
 use Rattle.oe_model.proofs.NewOrderGood.{is_fresh, new_order_good}
-use Rattle.oe_model.proofs.QueueFacts.{oldest_least}
 use Rattle.oe_model.proofs.DeliveryFacts.{delivery_ends}
-use Rattle.oe_model.proofs.DeliveryLaws.{delivery_ask_same, delivery_act_same, delivery_lawful}
+use Rattle.oe_model.proofs.DeliveryLaws.{delivery_ask_same, district_act_same, alone_takes, among_takes, district_lawful}
 use Rattle.oe_model.proofs.DeliveryGood.{delivery_good}
+use Rattle.oe_model.proofs.DeliveriesFacts.{deliveries_end, deliveries_good}
 use Rattle.oe_model.proofs.KeptFacts.{ends_kept, accepted_stocked}
 
 pub name_refl : (a : Name) → is_name a a ≡ true
@@ -93,14 +93,8 @@ ends_by t k (request.NewOrder q) r g valid known =
     new_order_ends (record { terminal = t; number = k; request = request.NewOrder q }) q r
     (λ d e. is_fresh r g.meets g.conditions.condition_2 q.district d e) there.0 (district_there r g.meets q.district there.0 valid.district) (have_stock r g.stocked q.lines there.1)
 ends_by t k (request.Delivery q) r g valid known =
-    delivery_ends (record { terminal = t; number = k; request = request.Delivery q }) q r
-    (λ o e.
-    let new = (oldest_least q.district r.new_orders o e).0 in
-    let row = present_some (get r.new_orders (new_order_in q.district o)) new in
-    (new, g.meets.new_orders (new_order_in q.district o) row.0 row.1))
-    (λ o order e. g.meets.orders (order_in q.district o) order e)
-    (λ j y e. (g.meets.order_lines j y e).1)
-ends_by t k (request.Deliveries q) r g valid known = absurd valid
+    delivery_ends (record { terminal = t; number = k; request = request.Delivery q }) q r g.meets
+ends_by t k (request.Deliveries q) r g valid known = deliveries_end (record { terminal = t; number = k; request = request.Deliveries q }) q r g.meets
 ends_by t k (request.Rename q) r g valid known = absurd valid
 
 pub programs_end : Programs_end
@@ -126,7 +120,7 @@ good_by : (f : ℕ → ℕ) (t k : ℕ) (q : Request) (r after : Rows) (y : Repl
 good_by f t k (request.Payment q) r after y g n m s e = payment_good f t k q r after y g n m s e
 good_by f t k (request.NewOrder q) r after y g n m s e = new_order_good f t q r after y g m s e
 good_by f t k (request.Delivery q) r after y g n m s e = delivery_good f t q r after y g m s e
-good_by f t k (request.Deliveries q) r after y g n m s e = let no : ⊥ = cc in absurd no
+good_by f t k (request.Deliveries q) r after y g n m s e = deliveries_good f t q r after y g e
 good_by f t k (request.Rename q) r after y g n m s e = let no : ⊥ = cc in absurd no
 
 pub stays : (f : ℕ → ℕ) (x : Tx Request) (r after : Rows) (y : Reply) → IsGood system f x r → effect_of x.terminal x.number x.request r ≡ Some (after, y) → Good (bump x.terminal f) after
@@ -146,19 +140,25 @@ starts_by x (request.Rename q) = refl
 ask_same : (x : Tx Request) (p : Position) (r s : Rows) → Alike system (Holds system (taken x p)) x r s → ask x p r ≡ ask x p s
 ask_same x (InPayment q p) r s h = payment_ask_same x q p r s h
 ask_same x (InNewOrder q p) r s h = new_order_ask_same x q p r s h
-ask_same x (InDelivery q p) r s h = delivery_ask_same x q p r s
+ask_same x (InDelivery q p) r s h = delivery_ask_same q p r s
+ask_same x (InDeliveries q done p) r s h = delivery_ask_same (at_hand q done) p r s
+ask_same x (DeliveriesEnd done) r s h = refl
 ask_same x NoProgram r s h = refl
 
 act_same : (x : Tx Request) (p : Position) (r s : Rows) → IsAskedNow x p r → Alike system (HeldThen x p r) x r s → act x p r ≡ act x p s
 act_same x (InPayment q p) r s k h = payment_act_same x q p r s k h
 act_same x (InNewOrder q p) r s k h = new_order_act_same x q p r s k h
-act_same x (InDelivery q p) r s k h = delivery_act_same x q p r s k h
+act_same x (InDelivery q p) r s k h = district_act_same x (alone q) q p r s h
+act_same x (InDeliveries q done p) r s k h = district_act_same x (among_ten q done) (at_hand q done) p r s h
+act_same x (DeliveriesEnd done) r s k h = refl
 act_same x NoProgram r s k h = refl
 
 lawful : (x : Tx Request) (p : Position) (r : Rows) → (c : Option Change) (z : Position) → IsAskedNow x p r → act x p r ≡ Go c z → IsLawful x p r c z
 lawful x (InPayment q p) r c z k e = payment_lawful x q p r c z k e
 lawful x (InNewOrder q p) r c z k e = new_order_lawful x q p r c z k e
-lawful x (InDelivery q p) r c z k e = delivery_lawful x q p r c z k e
+lawful x (InDelivery q p) r c z k e = district_lawful x (alone q) q (alone_takes x q) p r c z e
+lawful x (InDeliveries q done p) r c z k e = district_lawful x (among_ten q done) (at_hand q done) (among_takes x q done) p r c z e
+lawful x (DeliveriesEnd done) r c z k e = let no : ⊥ = cc in absurd no
 lawful x NoProgram r c z k e = absurd k
 
 pub laws : Laws system

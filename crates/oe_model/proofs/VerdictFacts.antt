@@ -1,23 +1,30 @@
 -- An audit's test of a row is its condition there, and its verdict is exact.
-use Rattle.std.proofs.Common.{◌≡◌, ℕ, ◌+◌, ◌-◌, ◌↔◌, refl, sym, ◌∙◌, ap, Bool, true, false, List, [], ◌∷◌, map, Option, Some, None, inl, inr, arith}
-use Rattle.std.specs.Prelude.{◌⊎◌, ◌||◌, ◌==◌, IsSome}
+use Rattle.std.proofs.Common.{◌≡◌, ℕ, ◌+◌, ◌-◌, ◌↔◌, refl, sym, ◌∙◌, ap, subst, Bool, true, false, List, [], ◌∷◌, map, Option, Some, None, inl, inr, arith}
+use Rattle.std.specs.Prelude.{◌⊎◌, ◌||◌, ◌==◌, IsSome, is_none}
 use Rattle.std.specs.List.{list_any}
 use Rattle.std.specs.declared.cmp.Ordering.{Ordering}
 use Rattle.std.specs.Cmp.{IsTotalOrder}
 use Rattle.std.specs.Ordering.{eq_by_cmp}
 use Rattle.std.specs.FinMap.{FinMap, IsAntisymmetric, get, entries, retain_keys}
 use Rattle.std.proofs.lemmas.Bool.{eq-eqb, eqb-true, and_parts, and_from}
+use Rattle.std.proofs.lemmas.Bool.Decides.{Decides-int_eq}
 use Rattle.oe_rows.specs.Key.{district_cmp}
 use Rattle.oe_rows.specs.declared.keys.WarehouseKey.{WarehouseKey}
 use Rattle.oe_rows.specs.declared.keys.DistrictKey.{DistrictKey}
+use Rattle.oe_rows.specs.declared.keys.CustomerKey.{CustomerKey}
+use Rattle.oe_rows.specs.declared.keys.OrderKey.{OrderKey}
+use Rattle.oe_rows.specs.declared.keys.OrderLineKey.{OrderLineKey}
 use Rattle.oe_rows.specs.declared.keys.Key.{Key}
 use Rattle.oe_rows.specs.declared.keys.Key.TheVariants as key
 use Rattle.oe_rows.specs.declared.districts.District.{District}
-use Rattle.oe_rows.proofs.KeyFacts.{warehouse_total, exact_warehouse, district_total, exact_district, new_order_total, exact_new_order, order_total, exact_order}
-use Rattle.oe_model.specs.Keys.{district_of_order, district_of_new_order, order_in, new_order_in}
+use Rattle.oe_rows.specs.declared.orders.Order.{Order}
+use Rattle.oe_rows.specs.declared.orders.OrderLine.{OrderLine}
+use Rattle.oe_rows.proofs.KeyFacts.{warehouse_total, exact_warehouse, district_total, exact_district, customer_total, exact_customer, new_order_total, exact_new_order, order_total, exact_order, order_line_total, exact_order_line}
+use Rattle.oe_model.specs.Keys.{district_of_order, district_of_new_order, order_of_line, order_in, new_order_in}
 use Rattle.oe_model.specs.Rows.{Rows}
 use Rattle.oe_model.specs.Conditions.{IsAfterGreatest, HasOrder, HasNewOrder, new_orders_of, Condition_1_at, Condition_2_at, Condition_3_at, Condition_4_at}
-use Rattle.oe_model.specs.Audits.{Condition, First, Second, Third, Fourth, Holds, Fails, first_failing, judged, greatest, least, none_or, some_and, order_numbers, new_order_numbers, passes_1, passes_2, passes_3, passes_4, verdict}
+use Rattle.oe_model.specs.FurtherConditions.{Condition_5_at, Condition_6_at, Condition_7_at, Condition_8_at, Condition_9_at, Condition_10_at, Condition_12_at}
+use Rattle.oe_model.specs.Audits.{Condition, First, Second, Third, Fourth, Fifth, Sixth, Seventh, Eighth, Ninth, Tenth, Twelfth, Holds, Fails, first_failing, judged, greatest, least, none_or, some_and, order_numbers, new_order_numbers, agree, is_dated_as, passes_1, passes_2, passes_3, passes_4, passes_5, passes_6, passes_7, passes_8, passes_9, passes_10, passes_12, verdict}
 use Rattle.oe_model.specs.Verdicts.{IsFirstFailing, IsMet, IsFirstRow, Tests_are_conditions, Verdicts_are_exact}
 use Rattle.oe_model.proofs.MapFacts.{is_same, is_self}
 use Rattle.oe_model.proofs.PresenceFacts.{some_present, present_some}
@@ -125,12 +132,36 @@ module _ (r : Rows) (h : DistrictKey) where
           eq-eqb (n - m + 1) (new_orders_of r h)
           (c n m (greatest_is (HasNewOrder r h) (new_order_numbers h r.new_orders) each_new_order all_new_orders n s) (least_is (HasNewOrder r h) (new_order_numbers h r.new_orders) each_new_order all_new_orders m t))
 
+-- two tests agree exactly where what they test is equivalent
+agree_is : {P Q : Type 0} (a b : Bool) → (a ≡ true) ↔ P → (b ≡ true) ↔ Q → (agree a b ≡ true) ↔ (P ↔ Q)
+agree_is true true p q = (λ _. (λ _. q.0 refl, λ _. p.0 refl), λ _. refl)
+agree_is true false p q = (λ e. let no : ⊥ = cc in absurd no, λ h. q.1 (h.0 (p.0 refl)))
+agree_is false true p q = (λ e. let no : ⊥ = cc in absurd no, λ h. p.1 (h.1 (q.0 refl)))
+agree_is false false p q = (λ _. (λ x. let e = p.1 x in let no : ⊥ = cc in absurd no, λ y. let e = q.1 y in let no : ⊥ = cc in absurd no), λ _. refl)
+
+none_is : {A : Type 0} (o : Option A) → (is_none o ≡ true) ↔ (o ≡ None)
+none_is None = (λ _. refl, λ _. refl)
+none_is (Some x) = (λ e. let no : ⊥ = cc in absurd no, λ e. let no : ⊥ = cc in absurd no)
+
+dated_is : (y : OrderLine) (v : Option Order) → (is_dated_as y v ≡ true) ↔ ((x : Order) → v ≡ Some x → (y.delivery ≡ None) ↔ (x.carrier ≡ None))
+dated_is y None = (λ _ x e. let no : ⊥ = cc in absurd no, λ _. refl)
+dated_is y (Some z) =
+    let t = agree_is (is_none y.delivery) (is_none z.carrier) (none_is y.delivery) (none_is z.carrier) in
+    (λ a x e. let same : z ≡ x = cc in subst (λ (w : Order). (y.delivery ≡ None) ↔ (w.carrier ≡ None)) same (t.0 a), λ h. t.1 (h z refl))
+
 pub tests_are_conditions : Tests_are_conditions
 tests_are_conditions = record {
   first = λ r w x. (λ e. eqb-true _ _ e, λ e. eq-eqb _ _ e);
   second = second;
   third = third;
   fourth = λ r h x. (λ e. eqb-true _ _ e, λ e. eq-eqb _ _ e);
+  fifth = λ r k x. agree_is (is_none x.carrier) _ (none_is x.carrier) (λ e. e, λ e. e);
+  sixth = λ r k x. (λ e. eqb-true _ _ e, λ e. eq-eqb _ _ e);
+  seventh = λ r l y. dated_is y (get r.orders (order_of_line l));
+  eighth = λ r w x. (λ e. eqb-true _ _ e, λ e. eq-eqb _ _ e);
+  ninth = λ r h x. (λ e. eqb-true _ _ e, λ e. eq-eqb _ _ e);
+  tenth = λ r c x. Decides-int_eq _ _;
+  twelfth = λ r c x. Decides-int_eq _ _;
 }
 
 -- a verdict of the first row that fails
@@ -161,6 +192,15 @@ same_warehouse j k e = cc
 same_district : (j k : DistrictKey) → key.District j ≡ key.District k → j ≡ k
 same_district j k e = cc
 
+same_order : (j k : OrderKey) → key.Order j ≡ key.Order k → j ≡ k
+same_order j k e = cc
+
+same_line : (j k : OrderLineKey) → key.OrderLine j ≡ key.OrderLine k → j ≡ k
+same_line j k e = cc
+
+same_customer : (j k : CustomerKey) → key.Customer j ≡ key.Customer k → j ≡ k
+same_customer j k e = cc
+
 -- of each row, or of each key that has one
 pub with_row : {K X : Type 0} {R : K → K → Ordering} {Q : Type 0} (P : K → Type 0) (m : FinMap R X) → (Q ↔ ((k : K) (x : X) → get m k ≡ Some x → P k)) → Q ↔ ((k : K) → IsSome (get m k) → P k)
 with_row P m t = (λ q k i. let row = present_some (get m k) i in t.0 q k row.0 row.1, λ h. t.1 (λ k x e. h k (some_present (get m k) x e)))
@@ -170,6 +210,13 @@ verdicts_hold First r = rows_hold warehouse_total exact_warehouse key.Warehouse 
 verdicts_hold Second r = rows_hold district_total exact_district key.District same_district (passes_2 r) (Condition_2_at r) (second r) r.districts
 verdicts_hold Third r = with_row (Condition_3_at r) r.districts (rows_hold district_total exact_district key.District same_district (passes_3 r) (λ h x. Condition_3_at r h) (third r) r.districts)
 verdicts_hold Fourth r = with_row (Condition_4_at r) r.districts (rows_hold district_total exact_district key.District same_district (passes_4 r) (λ h x. Condition_4_at r h) (tests_are_conditions.fourth r) r.districts)
+verdicts_hold Fifth r = rows_hold order_total exact_order key.Order same_order (passes_5 r) (Condition_5_at r) (tests_are_conditions.fifth r) r.orders
+verdicts_hold Sixth r = rows_hold order_total exact_order key.Order same_order (passes_6 r) (Condition_6_at r) (tests_are_conditions.sixth r) r.orders
+verdicts_hold Seventh r = rows_hold order_line_total exact_order_line key.OrderLine same_line (passes_7 r) (Condition_7_at r) (tests_are_conditions.seventh r) r.order_lines
+verdicts_hold Eighth r = rows_hold warehouse_total exact_warehouse key.Warehouse same_warehouse (passes_8 r) (Condition_8_at r) (tests_are_conditions.eighth r) r.warehouses
+verdicts_hold Ninth r = rows_hold district_total exact_district key.District same_district (passes_9 r) (Condition_9_at r) (tests_are_conditions.ninth r) r.districts
+verdicts_hold Tenth r = rows_hold customer_total exact_customer key.Customer same_customer (passes_10 r) (Condition_10_at r) (tests_are_conditions.tenth r) r.customers
+verdicts_hold Twelfth r = rows_hold customer_total exact_customer key.Customer same_customer (passes_12 r) (Condition_12_at r) (tests_are_conditions.twelfth r) r.customers
 
 verdicts_fail : (c : Condition) (r : Rows) (q : Key) → (verdict c r ≡ Fails q) ↔ IsFirstRow c r q
 verdicts_fail First r (key.Warehouse w) = row_fails warehouse_total exact_warehouse key.Warehouse same_warehouse (passes_1 r) (Condition_1_at r) (tests_are_conditions.first r) r.warehouses w
@@ -180,6 +227,20 @@ verdicts_fail Third r (key.District h) = row_fails district_total exact_district
 verdicts_fail Third r q = (λ e. let t = judged_fails key.District (first_failing (passes_3 r) r.districts) q e in let z = t.1 in let no : ⊥ = cc in no, λ f. absurd f)
 verdicts_fail Fourth r (key.District h) = row_fails district_total exact_district key.District same_district (passes_4 r) (λ h x. Condition_4_at r h) (tests_are_conditions.fourth r) r.districts h
 verdicts_fail Fourth r q = (λ e. let t = judged_fails key.District (first_failing (passes_4 r) r.districts) q e in let z = t.1 in let no : ⊥ = cc in no, λ f. absurd f)
+verdicts_fail Fifth r (key.Order k) = row_fails order_total exact_order key.Order same_order (passes_5 r) (Condition_5_at r) (tests_are_conditions.fifth r) r.orders k
+verdicts_fail Fifth r q = (λ e. let t = judged_fails key.Order (first_failing (passes_5 r) r.orders) q e in let z = t.1 in let no : ⊥ = cc in no, λ f. absurd f)
+verdicts_fail Sixth r (key.Order k) = row_fails order_total exact_order key.Order same_order (passes_6 r) (Condition_6_at r) (tests_are_conditions.sixth r) r.orders k
+verdicts_fail Sixth r q = (λ e. let t = judged_fails key.Order (first_failing (passes_6 r) r.orders) q e in let z = t.1 in let no : ⊥ = cc in no, λ f. absurd f)
+verdicts_fail Seventh r (key.OrderLine l) = row_fails order_line_total exact_order_line key.OrderLine same_line (passes_7 r) (Condition_7_at r) (tests_are_conditions.seventh r) r.order_lines l
+verdicts_fail Seventh r q = (λ e. let t = judged_fails key.OrderLine (first_failing (passes_7 r) r.order_lines) q e in let z = t.1 in let no : ⊥ = cc in no, λ f. absurd f)
+verdicts_fail Eighth r (key.Warehouse w) = row_fails warehouse_total exact_warehouse key.Warehouse same_warehouse (passes_8 r) (Condition_8_at r) (tests_are_conditions.eighth r) r.warehouses w
+verdicts_fail Eighth r q = (λ e. let t = judged_fails key.Warehouse (first_failing (passes_8 r) r.warehouses) q e in let z = t.1 in let no : ⊥ = cc in no, λ f. absurd f)
+verdicts_fail Ninth r (key.District h) = row_fails district_total exact_district key.District same_district (passes_9 r) (Condition_9_at r) (tests_are_conditions.ninth r) r.districts h
+verdicts_fail Ninth r q = (λ e. let t = judged_fails key.District (first_failing (passes_9 r) r.districts) q e in let z = t.1 in let no : ⊥ = cc in no, λ f. absurd f)
+verdicts_fail Tenth r (key.Customer c) = row_fails customer_total exact_customer key.Customer same_customer (passes_10 r) (Condition_10_at r) (tests_are_conditions.tenth r) r.customers c
+verdicts_fail Tenth r q = (λ e. let t = judged_fails key.Customer (first_failing (passes_10 r) r.customers) q e in let z = t.1 in let no : ⊥ = cc in no, λ f. absurd f)
+verdicts_fail Twelfth r (key.Customer c) = row_fails customer_total exact_customer key.Customer same_customer (passes_12 r) (Condition_12_at r) (tests_are_conditions.twelfth r) r.customers c
+verdicts_fail Twelfth r q = (λ e. let t = judged_fails key.Customer (first_failing (passes_12 r) r.customers) q e in let z = t.1 in let no : ⊥ = cc in no, λ f. absurd f)
 
 pub verdicts_are_exact : Verdicts_are_exact
 verdicts_are_exact = record { holds = verdicts_hold; fails = verdicts_fail }

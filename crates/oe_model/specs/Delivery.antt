@@ -1,4 +1,5 @@
--- Delivery of one district (clause 2.7): its whole effect, and its program, a stage at a time.
+-- Delivery of one district (clause 2.7): its whole effect, and its program, a stage at a time. The program serves a transaction of that
+-- district alone and one of all ten districts.
 use Rattle.std.specs.Prelude.{ℕ, ◌+◌, pos, ◌+ℤ◌, cond, List, [], ◌∷◌, map, sum_by, Option, None, Some}
 use Rattle.std.specs.Ordering.{eq_by_cmp}
 use Rattle.std.specs.FinMap.{FinMap, get, insert, remove, entries, retain_keys}
@@ -15,6 +16,7 @@ use Rattle.oe_rows.specs.declared.orders.OrderLine.{OrderLine}
 use Rattle.oe_rows.specs.declared.locks.Name.{Name}
 use Rattle.oe_rows.specs.declared.locks.Name.TheVariants as name
 use Rattle.oe_requests.specs.declared.requests.DeliveryRequest.{DeliveryRequest}
+use Rattle.oe_requests.specs.declared.replies.DistrictDelivery.{DistrictDelivery}
 use Rattle.oe_requests.specs.declared.replies.DistrictDelivery.TheVariants.{Delivered, Skipped}
 use Rattle.oe_requests.specs.declared.replies.Reply.{Reply}
 use Rattle.oe_requests.specs.declared.replies.Reply.TheVariants as reply
@@ -27,7 +29,7 @@ use Rattle.oe_model.specs.Rows.{Rows}
 use Rattle.oe_model.specs.Maps.{each}
 use Rattle.oe_model.specs.Changes.{DeleteNewOrder, UpdateOrder, UpdateOrderLine, UpdateCustomer}
 use Rattle.oe_model.specs.Locks.{hold}
-use Rattle.oe_model.specs.Positions.{DeliveryPosition, DeliveryQueue, DeliveryNothing, DeliveryOrder, DeliveryLine, DeliveryEnd, InDelivery}
+use Rattle.oe_model.specs.Positions.{Position, DeliveryPosition, DeliveryQueue, DeliveryNothing, DeliveryOrder, DeliveryLine, DeliveryEnd, InDelivery}
 use Rattle.oe_model.specs.Effects.{◌>>=◌, first_out, in_range, Doing, given, within}
 use Rattle.oe_model.specs.Payment.{is_balance, is_count}
 
@@ -63,11 +65,12 @@ delivered_to sum x = record x {
 abbrev pub delivered_out : Customer → Option Column
 delivered_out x = first_out ((column.Balance, is_balance x.account.balance) ∷ (column.DeliveryCount, is_count x.account.delivery_count) ∷ [])
 
-abbrev pub delivered_reply : ℕ → ℕ → ℕ → Reply
-delivered_reply o c sum = reply.Delivery (Delivered (record { order = o; customer = c; sum = sum }))
+-- what a district answers of an order that was delivered
+abbrev pub delivered : ℕ → ℕ → ℕ → DistrictDelivery
+delivered o c sum = Delivered (record { order = o; customer = c; sum = sum })
 
--- the whole effect on an order that is in the queue
-abbrev pub delivery_of : DeliveryRequest → ℕ → Rows → Option (Rows × Reply)
+-- the whole effect on an order that is in the queue, with what the district answers
+abbrev pub delivery_of : DeliveryRequest → ℕ → Rows → Option (Rows × DistrictDelivery)
 delivery_of q o r = do
   order ← get r.orders (order_in q.district o)
   customer ← get r.customers (customer_in q.district order.customer)
@@ -79,12 +82,32 @@ delivery_of q o r = do
       order_lines = each (λ k x. cond (eq_by_cmp order_cmp (order_of_line k) (order_in q.district o)) (dated q.stamp x) x) r.order_lines;
       customers = insert r.customers (customer_in q.district order.customer) customer';
     },
-    delivered_reply o order.customer (worth (lines_of (order_in q.district o) r.order_lines)),
+    delivered o order.customer (worth (lines_of (order_in q.district o) r.order_lines)),
   )
 
--- the whole effect
+-- the whole effect in a district
+abbrev pub district_effect : DeliveryRequest → Rows → Option (Rows × DistrictDelivery)
+district_effect q r = elim (oldest q.district r.new_orders) [ None ↦ Some (r, Skipped) | Some o ↦ delivery_of q o r ]
+
+-- the whole effect of a transaction of this district alone
 abbrev pub delivery_effect : DeliveryRequest → Rows → Option (Rows × Reply)
-delivery_effect q r = elim (oldest q.district r.new_orders) [ None ↦ Some (r, reply.Delivery Skipped) | Some o ↦ delivery_of q o r ]
+delivery_effect q r = district_effect q r >>= λ e. Some (e.0, reply.Delivery e.1)
+
+-- the transaction that a district's delivery is part of: its position where the district's is known, the one that it goes on to once
+-- the district is done, and the reply that it is ready with at the district's end
+pub record Setting : Type 0 where
+  pub here : DeliveryPosition → Position
+  pub next : DistrictDelivery → Position
+  pub answer : DistrictDelivery → Reply
+
+-- the end of a district
+abbrev pub end_of : DistrictDelivery → DeliveryPosition
+end_of Skipped = DeliveryNothing
+end_of (Delivered y) = DeliveryEnd y.order y.customer y.sum
+
+-- a transaction of this district alone
+abbrev pub alone : DeliveryRequest → Setting
+alone q = record { here = InDelivery q; next = λ d. InDelivery q (end_of d); answer = reply.Delivery }
 
 -- the program: the lock of each stage
 abbrev pub delivery_ask : DeliveryRequest → DeliveryPosition → Rows → Ask Name Refusal
@@ -96,25 +119,27 @@ delivery_ask q (DeliveryLine o c [] sum) r = Take (name.Customer (customer_in q.
 delivery_ask q (DeliveryEnd o c sum) r = Plain
 
 -- the work of each stage
-abbrev pub delivery_act : DeliveryRequest → DeliveryPosition → Rows → Doing
-delivery_act q DeliveryQueue r =
+abbrev pub district_act : Setting → DeliveryRequest → DeliveryPosition → Rows → Doing
+district_act t q DeliveryQueue r =
     elim (oldest q.district r.new_orders) [
-      | None ↦ Go None (InDelivery q DeliveryNothing)
-      | Some o ↦ Go (Some (DeleteNewOrder (new_order_in q.district o))) (InDelivery q (DeliveryOrder o))
+      | None ↦ Go None (t.next Skipped)
+      | Some o ↦ Go (Some (DeleteNewOrder (new_order_in q.district o))) (t.here (DeliveryOrder o))
     ]
-delivery_act q DeliveryNothing r = Ready (reply.Delivery Skipped)
-delivery_act q (DeliveryOrder o) r =
+district_act t q DeliveryNothing r = Ready (t.answer Skipped)
+district_act t q (DeliveryOrder o) r =
     given (NoSuchRow (key.Order (order_in q.district o))) (get r.orders (order_in q.district o)) (λ x.
     Go (Some (UpdateOrder (order_in q.district o) (carried q.carrier x)))
-    (InDelivery q (DeliveryLine o x.customer (map (λ e. e.0.number) (lines_of (order_in q.district o) r.order_lines)) 0)))
-delivery_act q (DeliveryLine o c (n ∷ ns) sum) r =
+    (t.here (DeliveryLine o x.customer (map (λ e. e.0.number) (lines_of (order_in q.district o) r.order_lines)) 0)))
+district_act t q (DeliveryLine o c (n ∷ ns) sum) r =
     given (NoSuchRow (key.OrderLine (line_in (order_in q.district o) n))) (get r.order_lines (line_in (order_in q.district o) n)) (λ x.
-    Go (Some (UpdateOrderLine (line_in (order_in q.district o) n) (dated q.stamp x))) (InDelivery q (DeliveryLine o c ns (sum + x.amount))))
-delivery_act q (DeliveryLine o c [] sum) r =
+    Go (Some (UpdateOrderLine (line_in (order_in q.district o) n) (dated q.stamp x))) (t.here (DeliveryLine o c ns (sum + x.amount))))
+district_act t q (DeliveryLine o c [] sum) r =
     given (NoSuchRow (key.Customer (customer_in q.district c))) (get r.customers (customer_in q.district c)) (λ x.
-    within (delivered_out (delivered_to sum x))
-    (Go (Some (UpdateCustomer (customer_in q.district c) (delivered_to sum x))) (InDelivery q (DeliveryEnd o c sum))))
-delivery_act q (DeliveryEnd o c sum) r = Ready (delivered_reply o c sum)
+    within (delivered_out (delivered_to sum x)) (Go (Some (UpdateCustomer (customer_in q.district c) (delivered_to sum x))) (t.next (delivered o c sum))))
+district_act t q (DeliveryEnd o c sum) r = Ready (t.answer (delivered o c sum))
+
+abbrev pub delivery_act : DeliveryRequest → DeliveryPosition → Rows → Doing
+delivery_act q p r = district_act (alone q) q p r
 
 -- the locks that were taken before each stage
 abbrev pub delivery_taken : DeliveryRequest → DeliveryPosition → List (Hold Name)

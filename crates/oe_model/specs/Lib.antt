@@ -18,7 +18,9 @@ pub mod Choice
 pub mod Payment
 pub mod NewOrder
 pub mod Delivery
+pub mod Deliveries
 pub mod Conditions
+pub mod FurtherConditions
 pub mod Queries
 pub mod Audits
 pub mod Requests

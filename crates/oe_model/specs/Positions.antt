@@ -6,8 +6,10 @@ use Rattle.oe_requests.specs.declared.requests.PaymentRequest.{PaymentRequest}
 use Rattle.oe_requests.specs.declared.requests.RequestLine.{RequestLine}
 use Rattle.oe_requests.specs.declared.requests.NewOrderRequest.{NewOrderRequest}
 use Rattle.oe_requests.specs.declared.requests.DeliveryRequest.{DeliveryRequest}
+use Rattle.oe_requests.specs.declared.requests.DeliveriesRequest.{DeliveriesRequest}
 use Rattle.oe_requests.specs.declared.replies.PaymentReply.{PaymentReply}
 use Rattle.oe_requests.specs.declared.replies.LineReply.{LineReply}
+use Rattle.oe_requests.specs.declared.replies.DistrictDelivery.{DistrictDelivery}
 
 pub data PaymentPosition : Type 0 where
   PaymentWarehouse : PaymentPosition
@@ -61,5 +63,9 @@ pub data Position : Type 0 where
   InPayment : PaymentRequest → PaymentPosition → Position
   InNewOrder : NewOrderRequest → NewOrderPosition → Position
   InDelivery : DeliveryRequest → DeliveryPosition → Position
+  -- what was done in each district that is done, from the first on, and where the district at hand stands
+  InDeliveries : DeliveriesRequest → List DistrictDelivery → DeliveryPosition → Position
+  -- each of the ten districts is done
+  DeliveriesEnd : List DistrictDelivery → Position
   -- of a request that has no program yet
   NoProgram : Position

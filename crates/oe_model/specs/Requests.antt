@@ -13,6 +13,7 @@ use Rattle.oe_requests.specs.declared.requests.PaymentRequest.{PaymentRequest}
 use Rattle.oe_requests.specs.declared.requests.RequestLine.{RequestLine}
 use Rattle.oe_requests.specs.declared.requests.NewOrderRequest.{NewOrderRequest}
 use Rattle.oe_requests.specs.declared.requests.DeliveryRequest.{DeliveryRequest}
+use Rattle.oe_requests.specs.declared.requests.DeliveriesRequest.{DeliveriesRequest}
 use Rattle.oe_requests.specs.declared.requests.Request.{Request}
 use Rattle.oe_requests.specs.declared.requests.Request.TheVariants as request
 use Rattle.oe_requests.specs.declared.requests.Query.{Query}
@@ -61,12 +62,18 @@ pub record IsDelivery (q : DeliveryRequest) : Type 0 where
   pub carrier : IsInRange 1 10 q.carrier
   pub stamp : IsStamp q.stamp
 
--- the deliveries of all ten districts and the renames have no program yet, so no run has one
+-- clause 2.7.1, of all ten districts
+pub record IsDeliveries (q : DeliveriesRequest) : Type 0 where
+  pub warehouse : IsInRange 1 16 q.warehouse.warehouse
+  pub carrier : IsInRange 1 10 q.carrier
+  pub stamp : IsStamp q.stamp
+
+-- the renames have no program yet, so no run has one
 abbrev pub IsRequest : Request → Type 0
 IsRequest (request.Payment q) = IsPayment q
 IsRequest (request.NewOrder q) = IsNewOrder q
 IsRequest (request.Delivery q) = IsDelivery q
-IsRequest (request.Deliveries q) = ⊥
+IsRequest (request.Deliveries q) = IsDeliveries q
 IsRequest (request.Rename q) = ⊥
 
 -- the warehouses that a request names, from the left
@@ -137,5 +144,5 @@ abbrev pub MayRefuse : Request → Refusal → Type 0
 MayRefuse (request.Payment q) e = PaymentMayRefuse e
 MayRefuse (request.NewOrder q) e = NewOrderMayRefuse e
 MayRefuse (request.Delivery q) e = DeliveryMayRefuse e
-MayRefuse (request.Deliveries q) e = ⊥
+MayRefuse (request.Deliveries q) e = DeliveryMayRefuse e
 MayRefuse (request.Rename q) e = ⊥

@@ -1,6 +1,6 @@
 -- The server's machine: tables, locks, programs and whole effects, as the theory of transactions takes them.
 use Rattle.std.specs.Prelude.{ℕ, suc, Bool, true, false, List, [], Option, None}
-use Rattle.oe_theory.specs.Machine.{Machine, Ask, Stop, Fail, Tx, Hold}
+use Rattle.oe_theory.specs.Machine.{Machine, Ask, Stop, Plain, Fail, Ready, Tx, Hold}
 use Rattle.oe_values.specs.declared.numbers.TheConstants.{TERMINALS}
 use Rattle.oe_rows.specs.declared.keys.Key.{Key}
 use Rattle.oe_rows.specs.declared.rows.Row.{Row}
@@ -11,6 +11,7 @@ use Rattle.oe_requests.specs.declared.requests.Request.{Request}
 use Rattle.oe_requests.specs.declared.requests.Request.TheVariants as request
 use Rattle.oe_requests.specs.declared.requests.Query.{Query}
 use Rattle.oe_requests.specs.declared.replies.Reply.{Reply}
+use Rattle.oe_requests.specs.declared.replies.Reply.TheVariants as reply
 use Rattle.oe_requests.specs.declared.replies.QueryReply.{QueryReply}
 use Rattle.oe_requests.specs.declared.refusals.Refusal.{Refusal}
 use Rattle.oe_requests.specs.declared.refusals.Refusal.TheVariants.{NoCustomer, Overflow, NotOpen}
@@ -19,11 +20,12 @@ use Rattle.oe_model.specs.Changes.{Change, key_of, row_of, changed, Record, reco
 use Rattle.oe_model.specs.Lengths.{record_length}
 use Rattle.oe_model.specs.Meets.{Accepts}
 use Rattle.oe_model.specs.Locks.{is_name, governs, Facet, Part, facet_key, part, governs_part}
-use Rattle.oe_model.specs.Positions.{Position, InPayment, InNewOrder, InDelivery, NoProgram, PaymentWarehouse, PaymentHistory, NewOrderWarehouse, NewOrderOrder, NewOrderQueue, NewOrderLine, DeliveryQueue}
+use Rattle.oe_model.specs.Positions.{Position, InPayment, InNewOrder, InDelivery, InDeliveries, DeliveriesEnd, NoProgram, PaymentWarehouse, PaymentHistory, NewOrderWarehouse, NewOrderOrder, NewOrderQueue, NewOrderLine, DeliveryQueue}
 use Rattle.oe_model.specs.Effects.{Doing}
 use Rattle.oe_model.specs.Payment.{payment_effect, payment_ask, payment_act, payment_taken}
 use Rattle.oe_model.specs.NewOrder.{new_order_effect, new_order_ask, new_order_act, new_order_taken}
-use Rattle.oe_model.specs.Delivery.{delivery_effect, delivery_ask, delivery_act, delivery_taken}
+use Rattle.oe_model.specs.Delivery.{delivery_effect, delivery_ask, district_act, delivery_act, delivery_taken}
+use Rattle.oe_model.specs.Deliveries.{at_hand, among_ten, deliveries_effect}
 use Rattle.oe_model.specs.Requests.{IsRequest, MayRefuse, rejection, query_rejection, number_rejection}
 use Rattle.oe_model.specs.Conditions.{Good}
 use Rattle.oe_model.specs.Queries.{answer_of}
@@ -34,25 +36,33 @@ abbrev pub start_of : Request → Position
 start_of (request.Payment q) = InPayment q PaymentWarehouse
 start_of (request.NewOrder q) = InNewOrder q NewOrderWarehouse
 start_of (request.Delivery q) = InDelivery q DeliveryQueue
-start_of (request.Deliveries q) = NoProgram
+start_of (request.Deliveries q) = InDeliveries q [] DeliveryQueue
 start_of (request.Rename q) = NoProgram
 
 abbrev pub ask : Tx Request → Position → Rows → Ask Name Refusal
 ask x (InPayment q p) r = payment_ask q p r
 ask x (InNewOrder q p) r = new_order_ask q p r
 ask x (InDelivery q p) r = delivery_ask q p r
+ask x (InDeliveries q done p) r = delivery_ask (at_hand q done) p r
+ask x (DeliveriesEnd done) r = Plain
 ask x NoProgram r = Stop NotOpen
 
 abbrev pub act : Tx Request → Position → Rows → Doing
 act x (InPayment q p) r = payment_act x.terminal x.number q p r
 act x (InNewOrder q p) r = new_order_act q p r
 act x (InDelivery q p) r = delivery_act q p r
+act x (InDeliveries q done p) r = district_act (among_ten q done) (at_hand q done) p r
+act x (DeliveriesEnd done) r = Ready (reply.Deliveries done)
 act x NoProgram r = Fail NotOpen
 
+-- the locks that were taken on the way to a position; of ten districts, at the district at hand: the others stay held, and no stage needs
+-- them
 abbrev pub taken : Tx Request → Position → List (Hold Name)
 taken x (InPayment q p) = payment_taken q p
 taken x (InNewOrder q p) = new_order_taken q p
 taken x (InDelivery q p) = delivery_taken q p
+taken x (InDeliveries q done p) = delivery_taken (at_hand q done) p
+taken x (DeliveriesEnd done) = []
 taken x NoProgram = []
 
 -- the whole effect of a request, for transaction k of terminal t
@@ -60,12 +70,13 @@ abbrev pub effect_of : ℕ → ℕ → Request → Rows → Option (Rows × Repl
 effect_of t k (request.Payment q) r = payment_effect t k q r
 effect_of t k (request.NewOrder q) r = new_order_effect q r
 effect_of t k (request.Delivery q) r = delivery_effect q r
-effect_of t k (request.Deliveries q) r = None
+effect_of t k (request.Deliveries q) r = deliveries_effect q r
 effect_of t k (request.Rename q) r = None
 
--- no program of today moves its mark
+-- a delivery of ten districts moves its mark before the first stage of each district
 abbrev pub marks : Position → Bool
-marks p = false
+marks (InDeliveries q done DeliveryQueue) = true
+marks _ = false
 
 -- The stages that insert a row may need memory for its place in a table. No other stage takes any but for a name that is new: the memory for
 -- undo records is taken with their ring.

@@ -9,3 +9,4 @@ told_reply (lent.Payment r) = reply.Payment r.now
 told_reply (lent.NewOrder o last c total lines) =
     reply.NewOrder (record { order = o; last = last.now; credit = c; total = total; lines = lines.now })
 told_reply (lent.Delivery d) = reply.Delivery d
+told_reply (lent.Deliveries ds) = reply.Deliveries ds.now

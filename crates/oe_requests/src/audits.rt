@@ -4,17 +4,24 @@ ghost use Rattle.oe_requests.specs.Condition.{condition_number};
 
 use oe_rows::Key;
 
-/// The consistency conditions of clauses 3.3.2.1 to 3.3.2.4.
+/// The consistency conditions of clauses 3.3.2.1 to 3.3.2.10 and 3.3.2.12.
 #[derive(Clone, Copy, PartialEq, Eq)]
 pub enum Condition {
     First,
     Second,
     Third,
     Fourth,
+    Fifth,
+    Sixth,
+    Seventh,
+    Eighth,
+    Ninth,
+    Tenth,
+    Twelfth,
 }
 
 impl Condition {
-    /// The condition's number, from 1 to 4: the last number of its clause.
+    /// The condition's number, from 1 to 10 or 12: the last number of its clause.
     pub fn number(self) -> u8
         ensures { result ≡ condition_number self }
     {
@@ -23,6 +30,13 @@ impl Condition {
             Condition::Second => 2,
             Condition::Third => 3,
             Condition::Fourth => 4,
+            Condition::Fifth => 5,
+            Condition::Sixth => 6,
+            Condition::Seventh => 7,
+            Condition::Eighth => 8,
+            Condition::Ninth => 9,
+            Condition::Tenth => 10,
+            Condition::Twelfth => 12,
         }
     }
 }

@@ -73,8 +73,8 @@ pub struct RenameReply {
     pub first: FirstName,
 }
 
-/// What a delivery did in a warehouse's districts 1 to 10, in their order.
-pub type DistrictDeliveries = Lines<DistrictDelivery, 10, 10>;
+/// What a delivery did in a warehouse's districts from 1 on, in their order: in all ten of them once it has committed.
+pub type DistrictDeliveries = Lines<DistrictDelivery, 0, 10>;
 
 /// What a transaction answers when it has committed.
 #[derive(Drop, PartialEq, Eq)]
@@ -99,6 +99,7 @@ pub enum ReplyRef<'a> {
         lines: &'a LineReplies,
     },
     Delivery(DistrictDelivery),
+    Deliveries(&'a DistrictDeliveries),
 }
 
 /// A line of a customer's newest order (clause 2.6.3).
@@ -217,6 +218,7 @@ impl<'a> ReplyRef<'a> {
                 lines: lines.copied(),
             }),
             ReplyRef::Delivery(delivery) => Reply::Delivery(*delivery),
+            ReplyRef::Deliveries(deliveries) => Reply::Deliveries(deliveries.copied()),
         }
     }
 }

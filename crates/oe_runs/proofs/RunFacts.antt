@@ -4,13 +4,15 @@ use Rattle.oe_theory.specs.World.{World}
 use Rattle.oe_theory.specs.Next as theory
 use Rattle.oe_theory.specs.Next.{Next, Runs, Begun, begins, goes_on, commits, saves, goes_back, rolls_back, reads, audits, purges, rewinds, stops, fails, is_busy, is_full, is_rejected, is_open, number_is_rejected, query_is_rejected, misses, not_open, too_old, future, not_quiet, lacks_memory_at_begin, lacks_memory}
 use Rattle.oe_theory.specs.Theorems.{IsReached}
-use Rattle.oe_theory.proofs.Theorems.{run_is_reached, history_is_serial, rollback_leaves_no_trace, rewind_restores, purge_leaves_later}
+use Rattle.oe_theory.proofs.Theorems.{run_is_reached, history_is_serial, rollback_leaves_no_trace, rewind_restores, purge_leaves_later, holds_from_base}
 use Rattle.oe_theory.proofs.StepTheorems.{endings_are_whole}
 use Rattle.oe_requests.specs.declared.steps.Step.{Step}
 use Rattle.oe_requests.specs.declared.answers.Answer.{Answer}
+use Rattle.oe_model.specs.FurtherConditions.{More}
 use Rattle.oe_model.specs.System.{system}
 use Rattle.oe_model.proofs.SystemLaws.{laws}
 use Rattle.oe_model.proofs.ConsistencyFacts.{consistent}
+use Rattle.oe_consistency.proofs.KeptMore.{kept, base_more}
 use Rattle.oe_core.specs.Steps.{step_in, answer_in}
 use Rattle.oe_runs.specs.Run.{Served, steps_in, answers_in, PastBy, AreWhole, Ran}
 
@@ -92,6 +94,14 @@ are_whole w w' (i ∷ is) (a ∷ ys) r h = (
   (h.0, h.1, endings_are_whole system laws w h.0 (step_in i) (answer_in i a) r h.1, past_by w h.0 (step_in i) (answer_in i a) r h.1, are_whole h.0 w' is ys (still_reached w h.0 (step_in i) (answer_in i a) r h.1) h.2),
 )
 
+-- the base that a run leaves
+more_along : (w w' : World system) (is : List Step) (ys : List Answer) → IsReached system w → More w.base → Served w is ys w' → More w'.base
+more_along w w' [] [] r more h = subst (λ (z : World system). More z.base) h more
+more_along w w' [] (a ∷ ys) r more h = absurd h
+more_along w w' (i ∷ is) [] r more h = absurd h
+more_along w w' (i ∷ is) (a ∷ ys) r more h =
+    more_along h.0 w' is ys (still_reached w h.0 (step_in i) (answer_in i a) r h.1) (base_more w h.0 (step_in i) (answer_in i a) r more h.1) h.2
+
 pub ran_so : (w w' : World system) (is : List Step) (ys : List Answer) → IsReached system w → Served w is ys w' → Ran w is ys w'
 ran_so w w' is ys r h =
     let runs = runs_of w w' is ys h in
@@ -106,4 +116,5 @@ ran_so w w' is ys r h =
       serial = history_is_serial system laws w' reached;
       conditions = (consistent w' reached).of_versions;
       when_quiet = (consistent w' reached).when_quiet;
+      more = λ more m. holds_from_base system laws More kept w' reached (more_along w w' is ys r more h) m;
     }

@@ -10,6 +10,7 @@ use Rattle.oe_requests.specs.declared.requests.Request.{Request}
 use Rattle.oe_requests.specs.declared.steps.Step.{Step}
 use Rattle.oe_requests.specs.declared.answers.Answer.{Answer}
 use Rattle.oe_model.specs.Headline.{Conditions, Is_consistent}
+use Rattle.oe_model.specs.FurtherConditions.{More}
 use Rattle.oe_model.specs.System.{system}
 use Rattle.oe_core.specs.Steps.{step_in, answer_in}
 
@@ -66,3 +67,6 @@ pub record Ran (w : World system) (is : List Step) (ys : List Answer) (w' : Worl
   -- conditions 1 to 4 (clauses 3.3.2.1 to 3.3.2.4) hold of the version of each moment, and of the tables when none is open
   pub conditions : (m : ℕ) → Conditions (at system w' m)
   pub when_quiet : IsQuiet system w' → Conditions (tables system w')
+  -- conditions 5 to 10 and 12 (clauses 3.3.2.5 to 3.3.2.10 and 3.3.2.12) hold of the version of each moment, where they held of the
+  -- base that the run began on
+  pub more : More w.base → (m : ℕ) → More (at system w' m)

@@ -83,7 +83,7 @@ own_cause : (q : Request) (e : Refusal) → MayRefuse q e → IsOwn e
 own_cause (request.Payment q) e h = of_payment e h
 own_cause (request.NewOrder q) e h = of_new_order e h
 own_cause (request.Delivery q) e h = of_delivery e h
-own_cause (request.Deliveries q) e h = absurd h
+own_cause (request.Deliveries q) e h = of_delivery e h
 own_cause (request.Rename q) e h = absurd h
 
 own_absent : (ws : List ℕ) (r : Rows) (e : Refusal) → first_absent ws r ≡ Some e → IsOwn e

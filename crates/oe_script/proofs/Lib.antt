@@ -1,3 +1,4 @@
+pub mod RankFacts
 pub mod WorldFacts
 pub mod AnswerFacts
 pub mod LineFacts

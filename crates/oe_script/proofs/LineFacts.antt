@@ -50,14 +50,14 @@ pub has_program : (q : Request) → grammar.IsRequest q → HasProgram q
 has_program (request.Payment q) h = tt
 has_program (request.NewOrder q) h = tt
 has_program (request.Delivery q) h = tt
-has_program (request.Deliveries q) h = absurd h
+has_program (request.Deliveries q) h = tt
 has_program (request.Rename q) h = absurd h
 
 is_request : (q : Request) → grammar.IsRequest q → model.IsRequest q
 is_request (request.Payment q) h = h
 is_request (request.NewOrder q) h = h
 is_request (request.Delivery q) h = h
-is_request (request.Deliveries q) h = absurd h
+is_request (request.Deliveries q) h = h
 is_request (request.Rename q) h = absurd h
 
 -- a line says one thing

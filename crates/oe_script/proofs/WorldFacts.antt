@@ -1,65 +1,30 @@
 -- What the steps of today keep of a world, that each of them is answered, and that a run of them ends.
-use Rattle.std.proofs.Common.{◌≡◌, ℕ, zero, suc, ◌+◌, ◌*◌, ◌<◌, ◌==◌, cond, Bool, true, false, Option, None, Some, [], ◌∷◌, map, length, refl, ap, ◌∙◌, subst, arith}
+use Rattle.std.proofs.Common.{◌≡◌, ℕ, zero, suc, ◌<◌, ◌==◌, cond, Bool, true, false, Option, None, Some, [], ◌∷◌, refl, ap, ◌∙◌, subst, arith}
 use Rattle.std.specs.Prelude.{IfSome}
-use Rattle.std.specs.FinMap.{get}
-use Rattle.std.proofs.lemmas.List.{length-map}
-use Rattle.oe_theory.specs.Machine.{Go, Tx}
-use Rattle.oe_theory.specs.World.{World, Open, set, tx_of, tables}
+use Rattle.oe_theory.specs.Machine.{Go}
+use Rattle.oe_theory.specs.World.{World, State, Open, set, tx_of, tables}
 use Rattle.oe_theory.specs.Theorems.{IsReached}
 use Rattle.oe_theory.specs.Next as theory
 use Rattle.oe_theory.specs.Next.{Next, begun, moved, Begin, Advance, More, begins, goes_on, commits, saves, goes_back, rolls_back, reads, audits, purges, rewinds, stops, fails, is_busy, is_full, is_rejected, is_open, number_is_rejected, query_is_rejected, misses, not_open, too_old, future, not_quiet, lacks_memory_at_begin, lacks_memory}
 use Rattle.oe_theory.specs.Undo.{with_change, changed}
 use Rattle.oe_theory.proofs.Sets.{set_same}
 use Rattle.oe_theory.proofs.Theorems.{run_is_reached, world_has_records, tables_follow}
-use Rattle.oe_rows.specs.declared.keys.Key.TheVariants as key
-use Rattle.oe_requests.specs.declared.requests.PaymentRequest.{PaymentRequest}
-use Rattle.oe_requests.specs.declared.requests.NewOrderRequest.{NewOrderRequest}
-use Rattle.oe_requests.specs.declared.requests.DeliveryRequest.{DeliveryRequest}
 use Rattle.oe_requests.specs.declared.requests.Request.{Request}
 use Rattle.oe_requests.specs.declared.requests.Request.TheVariants as request
-use Rattle.oe_requests.specs.declared.refusals.Refusal.TheVariants as refusal
 use Rattle.oe_requests.specs.declared.steps.Step.{Step}
 use Rattle.oe_requests.specs.declared.steps.Step.TheVariants as step
 use Rattle.oe_requests.specs.declared.answers.Answer.{Answer}
-use Rattle.oe_model.specs.Keys.{warehouse_of_district, customer_in, order_in, new_order_in, line_in}
 use Rattle.oe_model.specs.Rows.{Rows}
-use Rattle.oe_model.specs.Changes.{Change, DeleteNewOrder}
-use Rattle.oe_model.specs.Choice.{chosen}
+use Rattle.oe_model.specs.Changes.{Change}
 use Rattle.oe_model.specs.Effects.{Doing}
-use Rattle.oe_model.specs.Positions.{Position, InPayment, InNewOrder, InDelivery, NoProgram, PaymentPosition, PaymentWarehouse, PaymentDistrict, PaymentCustomer, PaymentHistory, PaymentEnd, NewOrderPosition, NewOrderWarehouse, NewOrderDistrict, NewOrderCustomer, NewOrderOrder, NewOrderQueue, NewOrderStock, NewOrderLine, DeliveryPosition, DeliveryQueue, DeliveryNothing, DeliveryOrder, DeliveryLine, DeliveryEnd}
-use Rattle.oe_model.specs.NewOrder.{item_at, stock_of}
-use Rattle.oe_model.specs.Delivery.{oldest, lines_of}
-use Rattle.oe_model.specs.System.{system, ask, act, start_of}
-use Rattle.oe_model.proofs.LawFacts.{given_goes, within_goes}
+use Rattle.oe_model.specs.Positions.{Position}
+use Rattle.oe_model.specs.System.{system, ask, act, marks, start_of}
 use Rattle.oe_model.proofs.SystemLaws.{laws}
 use Rattle.oe_admission.specs.Programs.{HasProgram}
 use Rattle.oe_core.specs.Steps.{step_in, begins_with}
 use Rattle.oe_script.specs.Script.{RunsIn}
 use Rattle.oe_script.specs.Session.{IsServed, IsServing, AreServing, IsLive}
-
--- as many rows as a delivery of the oldest order still has, from its queue on
-abbrev pub rank_waiting : DeliveryRequest → Rows → Option ℕ → ℕ
-rank_waiting q r None = 1
-rank_waiting q r (Some o) = 3 + length (lines_of (order_in q.district o) r.order_lines)
-
--- how many rows of its program a payment, an order or a delivery has left before its commit, with these tables
-abbrev pub rank : Rows → Position → ℕ
-rank r (InPayment q PaymentWarehouse) = 4
-rank r (InPayment q (PaymentDistrict w)) = 3
-rank r (InPayment q (PaymentCustomer w d)) = 2
-rank r (InPayment q (PaymentHistory d y)) = 1
-rank r (InPayment q (PaymentEnd y)) = 0
-rank r (InNewOrder q NewOrderWarehouse) = 5 + 2 * length q.lines
-rank r (InNewOrder q (NewOrderDistrict w)) = 4 + 2 * length q.lines
-rank r (InNewOrder q (NewOrderCustomer o w d)) = 3 + 2 * length q.lines
-rank r (InNewOrder q (NewOrderOrder s)) = 2 + 2 * length q.lines
-rank r (InNewOrder q (NewOrderQueue s)) = 1 + 2 * length q.lines
-rank r (InNewOrder q (NewOrderStock s before done ls)) = 2 * length ls
-rank r (InNewOrder q (NewOrderLine s before done l f ls)) = 1 + 2 * length ls
-rank r (InDelivery q DeliveryQueue) = rank_waiting q r (oldest q.district r.new_orders)
-rank r (InDelivery q (DeliveryOrder o)) = 2 + length (lines_of (order_in q.district o) r.order_lines)
-rank r (InDelivery q (DeliveryLine o c ns sum)) = 1 + length ns
-rank r p = 0
+use Rattle.oe_script.proofs.RankFacts.{rank, goes}
 
 abbrev pub rank_of : Rows → Option (Open system) → ℕ
 rank_of r None = 0
@@ -67,105 +32,6 @@ rank_of r (Some o) = rank r o.now.position
 
 abbrev pub left : World system → ℕ → ℕ
 left w t = rank_of (tables system w) (w.active t)
-
--- a row that goes on leads to such a position, with fewer rows left in the tables after it
-abbrev Falls : Rows → ℕ → Doing → Type 0
-Falls r n (Go c z) = IsServed z × (rank (with_change system (Go c z) r) z < n)
-Falls r n d = Unit {0}
-
-lands : (r : Rows) (d c : Option Change) (p z : Position) (n : ℕ) → ◌≡◌ {A = Doing} (Go d p) (Go c z) → IsServed p → rank (with_change system (Go d p) r) p < n → Falls r n (Go c z)
-lands r d c p z n e a b = subst (Falls r n) e (a, b)
-
-payment_goes : (x : Tx Request) (q : PaymentRequest) (p : PaymentPosition) (r : Rows) (c : Option Change) (z : Position) → act x (InPayment q p) r ≡ Go c z
-    → Falls r (rank r (InPayment q p)) (Go c z)
-payment_goes x q PaymentWarehouse r c z e =
-    let (y, here, e1) = given_goes (refusal.NoSuchRow (key.Warehouse (warehouse_of_district q.district))) (get r.warehouses (warehouse_of_district q.district)) _ c z e in
-    let less : 3 < 4 = omega arith in
-    lands r _ c _ z 4 (within_goes _ _ c z e1) tt less
-payment_goes x q (PaymentDistrict w) r c z e =
-    let (y, here, e1) = given_goes (refusal.NoSuchRow (key.District q.district)) (get r.districts q.district) _ c z e in
-    let less : 2 < 3 = omega arith in
-    lands r _ c _ z 3 (within_goes _ _ c z e1) tt less
-payment_goes x q (PaymentCustomer w d) r c z e =
-    let (b, found, e1) = given_goes refusal.NoCustomer (chosen q.customer_district q.customer r.customers) _ c z e in
-    let (y, here, e2) = given_goes refusal.NoCustomer (get r.customers (customer_in q.customer_district b)) _ c z e1 in
-    let less : 1 < 2 = omega arith in
-    lands r _ c _ z 2 (within_goes _ _ c z e2) tt less
-payment_goes x q (PaymentHistory d y) r c z e =
-    let less : 0 < 1 = omega arith in
-    lands r _ c _ z 1 e tt less
-payment_goes x q (PaymentEnd y) r c z e = let no : ⊥ = cc in absurd no
-
-new_order_goes : (x : Tx Request) (q : NewOrderRequest) (p : NewOrderPosition) (r : Rows) (c : Option Change) (z : Position) → act x (InNewOrder q p) r ≡ Go c z
-    → Falls r (rank r (InNewOrder q p)) (Go c z)
-new_order_goes x q NewOrderWarehouse r c z e =
-    let (y, here, e1) = given_goes (refusal.NoSuchRow (key.Warehouse (warehouse_of_district q.district))) (get r.warehouses (warehouse_of_district q.district)) _ c z e in
-    let less : 4 + 2 * length q.lines < 5 + 2 * length q.lines = omega arith in
-    lands r _ c _ z (5 + 2 * length q.lines) e1 tt less
-new_order_goes x q (NewOrderDistrict w) r c z e =
-    let (y, here, e1) = given_goes (refusal.NoSuchRow (key.District q.district)) (get r.districts q.district) _ c z e in
-    let less : 3 + 2 * length q.lines < 4 + 2 * length q.lines = omega arith in
-    lands r _ c _ z (4 + 2 * length q.lines) (within_goes _ _ c z e1) tt less
-new_order_goes x q (NewOrderCustomer o w d) r c z e =
-    let (y, here, e1) = given_goes refusal.NoCustomer (get r.customers (customer_in q.district q.customer)) _ c z e in
-    let less : 2 + 2 * length q.lines < 3 + 2 * length q.lines = omega arith in
-    lands r _ c _ z (3 + 2 * length q.lines) e1 tt less
-new_order_goes x q (NewOrderOrder s) r c z e =
-    let less : 1 + 2 * length q.lines < 2 + 2 * length q.lines = omega arith in
-    lands r _ c _ z (2 + 2 * length q.lines) e tt less
-new_order_goes x q (NewOrderQueue s) r c z e =
-    let less : 2 * length q.lines < 1 + 2 * length q.lines = omega arith in
-    lands r _ c _ z (1 + 2 * length q.lines) e tt less
-new_order_goes x q (NewOrderStock s before done []) r c z e = let no : ⊥ = cc in absurd no
-new_order_goes x q (NewOrderStock s before done (l ∷ ls)) r c z e =
-    let (item, found, e1) = given_goes refusal.InvalidItem (item_at l.item r.items) _ c z e in
-    let (y, here, e2) = given_goes (refusal.NoSuchRow (key.Stock (stock_of l))) (get r.stocks (stock_of l)) _ c z e1 in
-    let less : 1 + 2 * length ls < 2 * length (l ∷ ls) = omega arith in
-    lands r _ c _ z (2 * length (l ∷ ls)) (within_goes _ _ c z e2) tt less
-new_order_goes x q (NewOrderLine s before done l f ls) r c z e =
-    let less : 2 * length ls < 1 + 2 * length ls = omega arith in
-    lands r _ c _ z (1 + 2 * length ls) e tt less
-
--- the first row of a delivery deletes a NEW-ORDER row, which leaves the lines of the order
-abbrev on_oldest : DeliveryRequest → Option ℕ → Doing
-on_oldest q o =
-    elim o [
-      | None ↦ Go None (InDelivery q DeliveryNothing)
-      | Some o ↦ Go (Some (DeleteNewOrder (new_order_in q.district o))) (InDelivery q (DeliveryOrder o))
-    ]
-
-queue_goes : (q : DeliveryRequest) (r : Rows) (o : Option ℕ) → Falls r (rank_waiting q r o) (on_oldest q o)
-queue_goes q r None = let less : 0 < 1 = omega arith in (tt, less)
-queue_goes q r (Some o) =
-    let n : ℕ = length (lines_of (order_in q.district o) r.order_lines) in
-    let less : 2 + n < 3 + n = omega arith in
-    (tt, less)
-
-delivery_goes : (x : Tx Request) (q : DeliveryRequest) (p : DeliveryPosition) (r : Rows) (c : Option Change) (z : Position) → act x (InDelivery q p) r ≡ Go c z
-    → Falls r (rank r (InDelivery q p)) (Go c z)
-delivery_goes x q DeliveryQueue r c z e = subst (Falls r (rank r (InDelivery q DeliveryQueue))) e (queue_goes q r (oldest q.district r.new_orders))
-delivery_goes x q DeliveryNothing r c z e = let no : ⊥ = cc in absurd no
-delivery_goes x q (DeliveryOrder o) r c z e =
-    let (y, here, e1) = given_goes (refusal.NoSuchRow (key.Order (order_in q.district o))) (get r.orders (order_in q.district o)) _ c z e in
-    let ls = lines_of (order_in q.district o) r.order_lines in
-    let numbers : length (map (λ e. e.0.number) ls) ≡ length ls = length-map ls (λ e. e.0.number) in
-    let less : 1 + length (map (λ e. e.0.number) ls) < 2 + length ls = omega (arith, numbers) in
-    lands r _ c _ z (2 + length ls) e1 tt less
-delivery_goes x q (DeliveryLine o k [] sum) r c z e =
-    let (y, here, e1) = given_goes (refusal.NoSuchRow (key.Customer (customer_in q.district k))) (get r.customers (customer_in q.district k)) _ c z e in
-    let less : 0 < 1 = omega arith in
-    lands r _ c _ z 1 (within_goes _ _ c z e1) tt less
-delivery_goes x q (DeliveryLine o k (n ∷ ns) sum) r c z e =
-    let (y, here, e1) = given_goes (refusal.NoSuchRow (key.OrderLine (line_in (order_in q.district o) n))) (get r.order_lines (line_in (order_in q.district o) n)) _ c z e in
-    let less : 1 + length ns < 1 + length (n ∷ ns) = omega arith in
-    lands r _ c _ z (1 + length (n ∷ ns)) e1 tt less
-delivery_goes x q (DeliveryEnd o k sum) r c z e = let no : ⊥ = cc in absurd no
-
-goes : (x : Tx Request) (p : Position) (r : Rows) (c : Option Change) (z : Position) → IsServed p → act x p r ≡ Go c z → Falls r (rank r p) (Go c z)
-goes x (InPayment q p) r c z h e = payment_goes x q p r c z e
-goes x (InNewOrder q p) r c z h e = new_order_goes x q p r c z e
-goes x (InDelivery q p) r c z h e = delivery_goes x q p r c z e
-goes x NoProgram r c z h e = absurd h
 
 -- WHAT IS SERVED STAYS SO
 
@@ -188,13 +54,18 @@ starts : (q : Request) → HasProgram q → IsServed (start_of q)
 starts (request.Payment q) h = tt
 starts (request.NewOrder q) h = tt
 starts (request.Delivery q) h = tt
-starts (request.Deliveries q) h = absurd h
+starts (request.Deliveries q) h = let less : 0 < 10 = omega arith in less
 starts (request.Rename q) h = absurd h
+
+-- a stage that moves the mark puts it where the program stands
+marked : (b : Bool) (now mark : State system) → IsServed now.position → IsServed mark.position → IsServed (cond b now mark).position
+marked true now mark h k = h
+marked false now mark h k = k
 
 served_stay : (w : World system) (i : theory.Step system) (a : theory.Answer system) (w' : World system) → IsBegun i → AreServing w → Next system w i a w' → AreServing w'
 served_stay w _ _ _ b h (begins t q m) = placed t (Some (begun system w t q)) w.active h (starts q b, starts q b)
 served_stay w _ _ _ b h (goes_on t o c p e g r room) =
-    placed t (Some (moved system o _ c p (tables system w))) w.active h ((goes (tx_of system t o) o.now.position (tables system w) c p (here w h t o e).0 r).0, (here w h t o e).1)
+    placed t (Some (moved system o _ c p (tables system w))) w.active h ((goes (tx_of system t o) o.now.position (tables system w) c p (here w h t o e).0 r).0, marked (marks o.now.position) o.now o.mark (here w h t o e).0 (here w h t o e).1)
 served_stay w _ _ _ b h (commits t o reply e g r) = placed t None w.active h tt
 served_stay w _ _ _ b h (saves t o e) = placed t (Some (record o { mark = o.now; mark_lengths = o.lengths })) w.active h ((here w h t o e).0, (here w h t o e).0)
 served_stay w _ _ _ b h (goes_back t o e) = placed t (Some (record o { now = o.mark; lengths = o.mark_lengths })) w.active h ((here w h t o e).1, (here w h t o e).1)

@@ -1,8 +1,8 @@
 -- A session between two bytes of its input, and how a script ends.
-use Rattle.std.specs.Prelude.{◌≡◌, ℕ, ◌+◌, ◌^◌, ◌≤◌, ◌⊎◌, Bool, List, [], ◌++◌, length, ⊤, Option, Some, None, Result, Ok, Err, MatchResult}
+use Rattle.std.specs.Prelude.{◌≡◌, ℕ, ◌+◌, ◌^◌, ◌<◌, ◌≤◌, ◌⊎◌, Bool, List, [], ◌++◌, length, ⊤, Option, Some, None, Result, Ok, Err, MatchResult}
 use Rattle.oe_theory.specs.World.{Open, World}
 use Rattle.oe_theory.specs.Theorems.{IsReached}
-use Rattle.oe_model.specs.Positions.{Position, InPayment, InNewOrder, InDelivery}
+use Rattle.oe_model.specs.Positions.{Position, InPayment, InNewOrder, InDelivery, InDeliveries, DeliveriesEnd, NoProgram}
 use Rattle.oe_model.specs.System.{system}
 use Rattle.oe_core.specs.Core.{CoreState, world_of}
 use Rattle.oe_script.specs.declared.session.Fault.{Fault}
@@ -15,12 +15,15 @@ abbrev pub state_of : Option CoreState → State
 state_of None = None
 state_of (Some c) = Some (world_of c)
 
--- a position of a program that steps of today run: a payment's, an order's, or a delivery's
+-- a position of a program that steps of today run: a payment's, an order's, or a delivery's, of one district or of ten; while a district
+-- of ten is at hand, others are not done
 abbrev pub IsServed : Position → Type 0
 IsServed (InPayment q p) = Unit {0}
 IsServed (InNewOrder q p) = Unit {0}
 IsServed (InDelivery q p) = Unit {0}
-IsServed p = ⊥
+IsServed (InDeliveries q done p) = length done < 10
+IsServed (DeliveriesEnd done) = Unit {0}
+IsServed NoProgram = ⊥
 
 -- an open transaction runs one of them, here and at its mark
 abbrev pub IsServing : Option (Open system) → Type 0

@@ -48,13 +48,18 @@ to 64. What stands behind the colon is the answer:
   begin T delivery WAREHOUSE DISTRICT CARRIER STAMP
                      terminal T begins the delivery of the oldest order of the district that
                      is not delivered: carriers are 1 to 10: begun
+  begin T delivery WAREHOUSE CARRIER STAMP
+                     the same in each of the warehouse's ten districts, as one transaction,
+                     whose mark moves before each district: begun
   next T             carries out the next stage of T's transaction: more, or, at its end,
                      commit MOMENT payment CUSTOMER LAST_NAME CREDIT BALANCE, or
                      commit MOMENT neworder ORDER LAST_NAME CREDIT TOTAL and for each item
                      B:STOCK:AMOUNT (B where item and stock are both original) or
                      G:STOCK:AMOUNT, or
                      commit MOMENT delivery ORDER CUSTOMER SUM, or
-                     commit MOMENT delivery skipped, where no order waits
+                     commit MOMENT delivery skipped, where no order waits, or
+                     commit MOMENT deliveries and for each district
+                     DISTRICT:ORDER:CUSTOMER:SUM or DISTRICT:skipped
   run T              carries out its stages up to the first that is not answered more: that
                      stage's answer alone
   save T             marks where T's transaction stands: saved

@@ -1,5 +1,5 @@
 //! Replies to requests and queries.
-ghost use Rattle.std.specs.Prelude.{◌≡◌, ◌≤◌, ◌+◌, ◌*◌, ◌++◌, length, Some};
+ghost use Rattle.std.specs.Prelude.{◌≡◌, ◌≤◌, ◌+◌, ◌*◌, ◌++◌, length, codes, Some};
 ghost use Rattle.std.specs.List.{flat_map};
 ghost use Rattle.arrayvec.specs.ArrayVec.{array_vec_len};
 ghost use Rattle.oe_requests.specs.Reply.{told_reply};
@@ -11,8 +11,8 @@ use crate::columns::{
 };
 use crate::pending::{Pending, SIZE, text};
 use oe_requests::{
-    Brand, DistrictDelivery, LineReplies, LineReply, OrderStatus, PaymentReply, QueryReply,
-    RenameReply, Reply, ReplyRef, StatusLine, StatusReply,
+    Brand, DistrictDeliveries, DistrictDelivery, LineReplies, LineReply, OrderStatus, PaymentReply,
+    QueryReply, RenameReply, Reply, ReplyRef, StatusLine, StatusReply,
 };
 use oe_rows::Credit;
 use oe_values::{Cents, OrderNumber, Text};
@@ -139,6 +139,17 @@ fn districts(out: &mut Pending, deliveries: &[DistrictDelivery])
     }
 }
 
+/// `deliveries`, and what was done in each district.
+fn deliveries(out: &mut Pending, reply: &DistrictDeliveries)
+    requires { array_vec_len out.old + 580 ≤ SIZE }
+    ensures items { out.new.items
+        ≡ out.old.items ++ codes "deliveries" ++ districts_text 1 reply.now }
+    ensures len { array_vec_len out.new ≤ array_vec_len out.old + 580 }
+{
+    text(out, b"deliveries");
+    districts(out, reply.as_slice());
+}
+
 /// `rename <C_ID> <C_LAST> <C_FIRST>`.
 fn rename(out: &mut Pending, reply: &RenameReply)
     requires { array_vec_len out.old + 51 ≤ SIZE }
@@ -168,10 +179,7 @@ pub(crate) fn reply(out: &mut Pending, reply: &Reply)
             &reply.lines,
         ),
         Reply::Delivery(reply) => delivery(out, *reply),
-        Reply::Deliveries(deliveries) => {
-            text(out, b"deliveries");
-            districts(out, deliveries.as_slice());
-        }
+        Reply::Deliveries(reply) => deliveries(out, reply),
         Reply::Rename(reply) => rename(out, reply),
     }
 }
@@ -192,6 +200,7 @@ pub(crate) fn lent_reply(out: &mut Pending, reply: &ReplyRef)
             lines: done,
         } => new_order(out, *order, last, *credit, *total, done),
         ReplyRef::Delivery(reply) => delivery(out, *reply),
+        ReplyRef::Deliveries(reply) => deliveries(out, reply),
     }
 }
 

@@ -9,6 +9,7 @@ use Rattle.oe_rows.specs.declared.keys.CustomerKey.{CustomerKey}
 use Rattle.oe_rows.specs.declared.keys.Key.{Key}
 use Rattle.oe_rows.specs.declared.keys.Key.TheVariants as key
 use Rattle.oe_rows.specs.declared.customers.Customer.{Customer}
+use Rattle.oe_rows.specs.declared.histories.History.{History}
 use Rattle.oe_rows.specs.declared.orders.Order.{Order}
 use Rattle.oe_rows.specs.declared.rows.Row.{Row}
 use Rattle.oe_rows.specs.declared.rows.Row.TheVariants as row
@@ -35,7 +36,7 @@ itself : (k : Key) (v : Option Row) → Lasts k v v
 itself (key.Warehouse k) v = refl
 itself (key.District k) v = refl
 itself (key.Customer k) v = refl
-itself (key.History k) v = λ h. h
+itself (key.History k) v = λ h. refl
 itself (key.NewOrder k) v = tt
 itself (key.Order k) v = λ x e. (x, e, refl)
 itself (key.OrderLine k) v = λ h. h
@@ -46,7 +47,7 @@ join : (k : Key) (u v w : Option Row) → Lasts k u v → Lasts k v w → Lasts 
 join (key.Warehouse k) u v w a b = a ∙ b
 join (key.District k) u v w a b = a ∙ b
 join (key.Customer k) u v w a b = a ∙ b
-join (key.History k) u v w a b = λ h. b (a h)
+join (key.History k) u v w a b = λ h. let e : v ≡ u = a h in b (ap is_some e ∙ h) ∙ e
 join (key.NewOrder k) u v w a b = tt
 join (key.Order k) u v w a b = λ x e. let p = a x e in let q = b p.0 p.1 in (q.0, q.1, q.2 ∙ p.2)
 join (key.OrderLine k) u v w a b = λ h. b (a h)
@@ -57,12 +58,16 @@ absent_order : (o : Option Order) (x : Order) → o ≡ None → option_map row.
 absent_order None x e f = cc
 absent_order (Some y) x e f = cc
 
+absent_history : (o : Option History) → o ≡ None → is_some (option_map row.History o) ≡ true → ⊥
+absent_history None e h = let no : ⊥ = cc in no
+absent_history (Some y) e h = let no : ⊥ = cc in no
+
 pub order_is : (y x : Order) → ◌≡◌ {A = Option Row} (Some (row.Order y)) (Some (row.Order x)) → y ≡ x
 order_is y x e = cc
 
 -- a change that is accepted leaves a row which has kept it
 by_change : (c : Change) (on : Rows) → Accepts c on → Lasts (key_of c) (row_at on (key_of c)) (row_of c)
-by_change (InsertHistory k x) on a = λ h. refl
+by_change (InsertHistory k x) on a = λ h. absurd (absent_history (get on.histories k) a.0 h)
 by_change (InsertNewOrder k x) on a = tt
 by_change (InsertOrder k x) on a = λ y e. absurd (absent_order (get on.orders k) y a.0 e)
 by_change (InsertOrderLine k x) on a = λ h. refl

@@ -2,6 +2,7 @@
 use Rattle.std.specs.Prelude.{ℕ, ℤ, Option, option_map}
 use Rattle.oe_rows.specs.declared.warehouses.Warehouse.{Warehouse}
 use Rattle.oe_rows.specs.declared.districts.District.{District}
+use Rattle.oe_rows.specs.declared.customers.Account.{Account}
 use Rattle.oe_rows.specs.declared.customers.Customer.{Customer}
 use Rattle.oe_rows.specs.declared.items.Stock.{Stock}
 
@@ -20,6 +21,10 @@ next_order_of row = option_map (λ x. x.next_order) row
 -- C_BALANCE
 abbrev pub balance_of : Option Customer → Option ℤ
 balance_of row = option_map (λ x. x.account.balance) row
+
+-- C_BALANCE, C_YTD_PAYMENT and the other money and counts of a customer
+abbrev pub account_of : Option Customer → Option Account
+account_of row = option_map (λ x. x.account) row
 
 -- S_QUANTITY
 abbrev pub quantity_of : Option Stock → Option ℕ

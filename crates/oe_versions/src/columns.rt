@@ -6,11 +6,11 @@ ghost use Rattle.oe_model.specs.Rows.{row_at, as_warehouse, as_district, as_cust
 ghost use Rattle.oe_store.specs.Places.{rows};
 ghost use Rattle.oe_versions.specs.Versions.{rows_of};
 ghost use Rattle.oe_versions.specs.Found.{row_found};
-ghost use Rattle.oe_versions.specs.Columns.{ytd_of_warehouse, ytd_of_district, next_order_of, balance_of, quantity_of};
+ghost use Rattle.oe_versions.specs.Columns.{ytd_of_warehouse, ytd_of_district, next_order_of, balance_of, account_of, quantity_of};
 
 use crate::moments::Version;
 use oe_layout::{OwnRecord, StoredRecord};
-use oe_rows::{CustomerKey, DistrictKey, Key, StockKey, WarehouseKey};
+use oe_rows::{Account, CustomerKey, DistrictKey, Key, StockKey, WarehouseKey};
 use oe_store::Tables;
 use oe_values::{Balance, Count, OrderNumber, YearToDate};
 
@@ -86,6 +86,24 @@ fn balance_of(
     }
 }
 
+/// The money and counts of the row that a record has, or of the one that stands where there is no record.
+fn account_of(
+    tables: &Tables,
+    key: &CustomerKey,
+    found: Option<StoredRecord<'_>>,
+) -> Option<Account>
+    ensures { result ≡ account_of (option_and_then as_customer
+        (row_found found.entry (row_at (rows tables.now) (keys.Customer key.now)))) }
+{
+    match found {
+        Some(before) => match before.read() {
+            OwnRecord::UpdatedCustomer(_, row) => Some(row.account),
+            _ => None,
+        },
+        None => Some(tables.customer(*key)?.account),
+    }
+}
+
 /// S_QUANTITY of the row that a record has, or of the one that stands where there is no record.
 fn quantity_of(tables: &Tables, key: &StockKey, found: Option<StoredRecord<'_>>) -> Option<Count>
     ensures { result ≡ quantity_of (option_and_then as_stock
@@ -131,6 +149,14 @@ impl<'a> Version<'a> {
     {
         let found = self.found(&Key::Customer(*key));
         balance_of(self.tables(), key, found)
+    }
+
+    /// C_BALANCE, C_YTD_PAYMENT and the other money and counts of a customer, if it was there.
+    pub fn customer_account(&self, key: &CustomerKey) -> Option<Account>
+        ensures { result ≡ account_of (get (rows_of self.now).customers key.now) }
+    {
+        let found = self.found(&Key::Customer(*key));
+        account_of(self.tables(), key, found)
     }
 
     /// S_QUANTITY of a stock, if it was there.

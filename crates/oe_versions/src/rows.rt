@@ -2,7 +2,7 @@
 ghost use Rattle.std.specs.Prelude.{◌≡◌, is_some, option_and_then};
 ghost use Rattle.std.specs.FinMap.{get};
 ghost use Rattle.oe_rows.specs.declared.keys.Key.TheVariants as keys;
-ghost use Rattle.oe_model.specs.Rows.{row_at, as_new_order, as_order, as_order_line};
+ghost use Rattle.oe_model.specs.Rows.{row_at, as_history, as_new_order, as_order, as_order_line};
 ghost use Rattle.oe_model.specs.Changes.{row_before};
 ghost use Rattle.oe_layout.specs.Records.{record_of_own};
 ghost use Rattle.oe_store.specs.Places.{rows};
@@ -13,7 +13,9 @@ ghost use Rattle.oe_versions.specs.Found.{row_found};
 
 use crate::moments::Version;
 use oe_layout::{OwnRecord, StoredRecord};
-use oe_rows::{Key, NewOrder, NewOrderKey, Order, OrderKey, OrderLine, OrderLineKey, Row};
+use oe_rows::{
+    HistoryKey, Key, NewOrder, NewOrderKey, Order, OrderKey, OrderLine, OrderLineKey, Row,
+};
 use oe_store::Tables;
 use oe_undo::Ticks;
 
@@ -50,6 +52,18 @@ fn row_before(before: OwnRecord) -> Option<Row>
         | OwnRecord::InsertedNewOrder(_)
         | OwnRecord::InsertedOrder(_)
         | OwnRecord::InsertedOrderLine(_) => None,
+    }
+}
+
+/// Whether the row that a record has, or the one that stands where there is no record, is one of HISTORY. No record has one, since
+/// such a row is neither changed nor deleted.
+fn is_history(tables: &Tables, key: &HistoryKey, found: Option<StoredRecord<'_>>) -> bool
+    ensures { result ≡ is_some (option_and_then as_history
+        (row_found found.entry (row_at (rows tables.now) (keys.History key.now)))) }
+{
+    match found {
+        Some(before) => matches!(row_before(before.read()), Some(Row::History(_))),
+        None => tables.history(*key).is_some(),
     }
 }
 
@@ -116,6 +130,14 @@ impl<'a> Version<'a> {
             Some(before) => row_before(before.read()),
             None => row_now(self.tables(), key),
         }
+    }
+
+    /// Whether a key had a HISTORY row.
+    pub fn has_history(&self, key: &HistoryKey) -> bool
+        ensures { result ≡ is_some (get (rows_of self.now).histories key.now) }
+    {
+        let found = self.found(&Key::History(*key));
+        is_history(self.tables(), key, found)
     }
 
     /// Whether a key had a NEW-ORDER row.

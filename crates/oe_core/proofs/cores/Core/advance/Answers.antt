@@ -33,7 +33,7 @@ next-requires c = record { held = λ o. holds_taken (is_there (goal.at.next-requ
 went_on : (c : After-self-in-More-1) → Moves (record { engine = c.self.inside.engine; txs = c.self.inside.txs; works = c.self.inside.works }) (Advance c.args.terminal) More
     (record { engine = c.next.new.engine; txs = c.self.inside.txs; works = slice_set c.self.inside.works c.args.terminal (Some c.next.new.self) })
 went_on c =
-    went_on_here (is_there (goal.at.returns-in-More c).In-Some-at_mut) c.next.new.self c.next.new.engine _ c.in-More.ensures.progresses c.next.ensures.same
+    went_on_here (is_there (goal.at.returns-in-More c).In-Some-at_mut) c.next.new.self c.next.new.engine _ c.in-More.ensures.progresses c.in-More.ensures.left
     refl
 
 pub invariant_of-self : goal.invariant_of-self
@@ -70,7 +70,7 @@ committed_now c =
     ready.0.1 ready.1 c.commit.ensures.moment
     (subst (λ o. IfSome o (λ y. view_of c.commit.new.engine ≡ committed c.open_tx-open.result.terminal c.in-Some-at_mut.work.request y (view_of c.next.new.engine))) reply
     (subst (λ (q : Request). IfSome (reply_at c.next.new.self.position) (λ y. view_of c.commit.new.engine ≡ committed c.open_tx-open.result.terminal q y (view_of c.next.new.engine)))
-    (ap (λ (w : WorkState). w.request) c.next.ensures.same) c.commit.ensures.committed))
+    (ap (λ (w : WorkState). w.request) c.in-Ready.ensures.left) c.commit.ensures.committed))
     c.commit.ensures.name c.open_tx-open.ensures.after
     refl
 
@@ -92,7 +92,7 @@ kept : (c : Then-keeps_open) → Moves (record { engine = c.self.inside.engine; 
 kept c =
     let refused = c.in-Refused.ensures.progresses in
     kept_here (is_there (goal.at.returns-then-keeps_open c).In-Some-at_mut) c.next.new.self c.next.new.engine _ c.in-Refused.refusal
-    (sym c.keeps_open.ensures ∙ c.if-keeps_open.true) refused.0 refused.1 refused.2 c.next.ensures.same refused.3
+    (sym c.keeps_open.ensures ∙ c.if-keeps_open.true) refused.0 refused.1 refused.2 c.in-Refused.ensures.left
     refl
 
 pub invariant_of-self-then-keeps_open : goal.invariant_of-self-then-keeps_open

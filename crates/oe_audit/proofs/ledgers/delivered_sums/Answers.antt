@@ -1,0 +1,23 @@
+use Rattle.std.proofs.Common.{ℕ, sym, ◌∙◌, ap, List}
+use Rattle.std.specs.Prelude.{sum_by}
+use Rattle.oe_rows.specs.declared.keys.OrderLineKey.{OrderLineKey}
+use Rattle.oe_rows.specs.declared.orders.OrderLine.{OrderLine}
+use Rattle.oe_model.specs.Rows.{Rows}
+use Rattle.oe_audit.specs.AsOf.{rows_then, row_then}
+use Rattle.oe_audit.specs.Ledgers.{line_then_adds}
+use Rattle.oe_audit.specs.declared.as_of.AsOf.{AsOf}
+use Rattle.oe_audit.proofs.DeliveredFacts.{delivered_was}
+use Rattle.oe_audit.proofs.LedgerFacts.{leads_first, leads_on}
+use Rattle.oe_audit.proofs.ledgers.delivered_sums.Goals as goal
+
+abbrev all_add : Rows → AsOf → ℕ → List (OrderLineKey × OrderLine) → ℕ
+all_add r w n es = sum_by (λ e. line_then_adds r e.0 (row_then w r.order_lines e.0 e.1) n) es
+
+pub loop-key-init : goal.loop-key-init
+loop-key-init c =
+    leads_first _ _ c.zeros-sums.result _ c.zeros-sums.ensures (λ n.
+    delivered_was c.args.tables.now c.args.when.now c.requires c.args.district.now n
+    ∙ ap (all_add (rows_then c.args.tables.now c.args.when.now) c.args.when.now n) (sym (c.into_iter-key-iterator.ensures.into_iter_gives ∙ c.order_lines_of_district-key-items.ensures)))
+
+pub loop-key-preserved : goal.loop-key-preserved
+loop-key-preserved c = leads_on _ _ c.loop-key.sums _ _ _ _ c.in-Some.ensures.steps c.loop-key.invariant c.add_line_then.ensures

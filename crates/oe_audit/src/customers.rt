@@ -1,0 +1,90 @@
+//! The tenth and twelfth consistency conditions, of customers.
+ghost use Rattle.std.specs.Prelude.{◌≡◌, ◌≤◌, IsTrue, Some};
+ghost use Rattle.oe_store.specs.Places.{rows};
+ghost use Rattle.oe_audit.specs.AsOf.{rows_then, row_then, ArePassed};
+ghost use Rattle.oe_audit.specs.Ledgers.{sum_for, customer_condition, passes_then, agrees, IsAccount, IsLedger};
+ghost use Rattle.oe_audit.specs.Verdict.{IsVerdict};
+
+use crate::as_of::AsOf;
+use crate::ledgers::Ledger;
+use oe_requests::Verdict;
+use oe_rows::{Account, Customer, CustomerKey, Key};
+use oe_store::Tables;
+use oe_values::CustomerNumber;
+
+/// The conditions that are asked of each customer.
+pub(crate) enum CustomerCondition {
+    Tenth,
+    Twelfth,
+}
+
+/// Whether an account agrees with what was delivered to the customer and with what the customer has paid (clauses 3.3.2.10 and
+/// 3.3.2.12).
+fn agrees(condition: &CustomerCondition, account: &Account, delivered: u64, paid: u64) -> bool
+    ensures value { result ≡ agrees condition.now account.now delivered paid }
+    ensures ranges { IsAccount account.now }
+{
+    let balance = i128::from(account.balance.cents());
+    let ytd_payment = account.ytd_payment.cents();
+    match condition {
+        CustomerCondition::Tenth => balance + i128::from(paid) == i128::from(delivered),
+        CustomerCondition::Twelfth => balance + i128::from(ytd_payment) == i128::from(delivered),
+    }
+}
+
+/// Whether an account agrees with the ledger's sums of its customer.
+fn agrees_with(
+    condition: &CustomerCondition,
+    ledger: &Ledger,
+    customer: CustomerNumber,
+    account: &Account,
+) -> bool
+    ensures value { result ≡ agrees condition.now account.now
+        (sum_for ledger.now.delivered customer) (sum_for ledger.now.paid customer) }
+    ensures ranges { IsAccount account.now }
+    ensures low { 1 ≤ customer }
+    ensures high { customer ≤ 3_000 }
+{
+    let at = customer.get() as usize - 1;
+    agrees(condition, account, ledger.delivered[at], ledger.paid[at])
+}
+
+/// Whether the CUSTOMER row that a key has then, where it has this one now, passes a condition.
+fn passes<'a>(
+    condition: &CustomerCondition,
+    tables: &'a Tables,
+    when: &AsOf<'a>,
+    key: &CustomerKey,
+    row: &Customer,
+    ledger: &mut Ledger,
+) -> bool
+    requires passed { ArePassed (rows_then tables.now when.now) (rows tables.now) }
+    requires ledger { IsLedger (rows_then tables.now when.now) ledger.old }
+    ensures ledger { IsLedger (rows_then tables.now when.now) ledger.new }
+    ensures value { result ≡ passes_then condition.now (rows_then tables.now when.now) key.now
+        (row_then when.now (rows_then tables.now when.now).customers key.now row.now) }
+{
+    ledger.turn_to(tables, when, &key.district_key());
+    match when.account(tables, key, row) {
+        Some(account) => agrees_with(condition, ledger, key.customer, &account),
+        None => true,
+    }
+}
+
+/// The verdict of a condition of customers (clauses 3.3.2.10 and 3.3.2.12).
+pub(crate) fn of_customers<'a>(
+    condition: &CustomerCondition,
+    tables: &'a Tables,
+    when: &AsOf<'a>,
+) -> Verdict
+    requires { ArePassed (rows_then tables.now when.now) (rows tables.now) }
+    ensures { IsVerdict (customer_condition condition.now) (rows_then tables.now when.now) result }
+{
+    let mut ledger = Ledger::new(tables, when);
+    for (key, row) in tables.customers() {
+        if !passes(condition, tables, when, key, row, &mut ledger) {
+            return Verdict::Fails(Key::Customer(*key));
+        }
+    }
+    Verdict::Holds
+}

@@ -1,0 +1,196 @@
+//! The sums of a district's customers: what was delivered to each, and what each has paid.
+//!
+//! A ledger has one sum for each C_ID, 3,000 in all, which lie in the value: it takes no memory. By `IsLedger` its sums are those of the
+//! district that it names. The sums of another district replace them; nothing can fail.
+ghost use Rattle.std.specs.Prelude.{◌≡◌, ℕ, ◌≤◌, ◌==◌, ◌&&◌, cond, IsTrue, Some};
+ghost use Rattle.std.specs.Ordering.{eq_by_cmp};
+ghost use Rattle.oe_rows.specs.Key.{customer_cmp};
+ghost use Rattle.oe_model.specs.Keys.{customer_in};
+ghost use Rattle.oe_store.specs.Places.{rows};
+ghost use Rattle.oe_audit.specs.AsOf.{rows_then, row_then, has_row_then, ArePassed};
+ghost use Rattle.oe_audit.specs.Ledgers.{sum_for, HaveGrown, IsPayment, line_adds, line_then_adds, payment_adds, AreDelivered, ArePaid, IsLedger};
+
+use crate::as_of::AsOf;
+use oe_rows::{CustomerKey, DistrictKey, History, HistoryKey, OrderLine, OrderLineKey};
+use oe_store::Tables;
+use oe_values::CustomerNumber;
+use std::cmp::Ordering;
+
+/// The sums of the customers of one district, or of none yet.
+#[derive(Drop)]
+pub(crate) struct Ledger {
+    pub(crate) district: Option<DistrictKey>,
+    pub(crate) delivered: [u64; 3_000],
+    pub(crate) paid: [u64; 3_000],
+}
+
+/// A sum of 0 for each C_ID.
+fn zeros() -> [u64; 3_000]
+    ensures { (c : ℕ) → 1 ≤ c → c ≤ 3_000 → sum_for result c ≡ 0 }
+{
+    [0; 3_000]
+}
+
+/// Adds an amount to the sum of a customer, as far as it can grow.
+fn add(sums: &mut [u64; 3_000], customer: CustomerNumber, amount: u64)
+    ensures { HaveGrown (λ c. cond (customer == c) amount 0) sums.old sums.new }
+{
+    let at = customer.get() as usize - 1;
+    let sum = sums[at];
+    sums[at] = sum.saturating_add(amount);
+}
+
+/// Adds OL_AMOUNT of a line that stood then, where it has a delivery date, to the sum of its order's customer.
+fn add_line<'a>(
+    tables: &'a Tables,
+    when: &AsOf<'a>,
+    key: &OrderLineKey,
+    line: &OrderLine,
+    sums: &mut [u64; 3_000],
+)
+    ensures { HaveGrown (line_adds (rows_then tables.now when.now) key.now line.now)
+        sums.old sums.new }
+{
+    let amount = line.amount.cents();
+    if line.delivery.is_none() {
+        return;
+    }
+    match when.order_at(tables, &key.order_key()) {
+        Some(order) => add(sums, order.customer, amount),
+        None => {}
+    }
+}
+
+/// Adds what the ORDER-LINE row that a key has then adds, where it has this one now.
+fn add_line_then<'a>(
+    tables: &'a Tables,
+    when: &AsOf<'a>,
+    key: &OrderLineKey,
+    row: &OrderLine,
+    sums: &mut [u64; 3_000],
+)
+    ensures { HaveGrown (line_then_adds (rows_then tables.now when.now) key.now
+        (row_then when.now (rows_then tables.now when.now).order_lines key.now row.now))
+        sums.old sums.new }
+{
+    match when.order_line(tables, key, row) {
+        Some(line) => add_line(tables, when, key, &line, sums),
+        None => {}
+    }
+}
+
+/// The sums of OL_AMOUNT with a delivery date, by the O_C_ID of the district's orders.
+fn delivered_sums<'a>(tables: &'a Tables, when: &AsOf<'a>, district: &DistrictKey) -> [u64; 3_000]
+    requires { ArePassed (rows_then tables.now when.now) (rows tables.now) }
+    ensures { AreDelivered (rows_then tables.now when.now) district.now result }
+{
+    let mut sums = zeros();
+    for (key, row) in tables.order_lines_of_district(*district) {
+        add_line_then(tables, when, key, row, &mut sums);
+    }
+    sums
+}
+
+/// Whether a HISTORY row stood then, and is of a payment of a customer of the district.
+fn counts<'a>(
+    tables: &'a Tables,
+    when: &AsOf<'a>,
+    district: &DistrictKey,
+    key: &HistoryKey,
+    row: &History,
+) -> bool
+    ensures { result ≡ (eq_by_cmp customer_cmp row.now.customer
+        (customer_in district.now row.now.customer.customer)
+        && has_row_then when.now (rows_then tables.now when.now).histories key.now) }
+{
+    let own = district.customer(row.customer.customer);
+    row.customer.cmp(&own) == Ordering::Equal && when.has_history(tables, key)
+}
+
+/// Adds H_AMOUNT of a HISTORY row that counts to the sum of the customer who paid.
+fn add_payment<'a>(
+    tables: &'a Tables,
+    when: &AsOf<'a>,
+    district: &DistrictKey,
+    key: &HistoryKey,
+    row: &History,
+    sums: &mut [u64; 3_000],
+)
+    ensures sums { HaveGrown (payment_adds when.now (rows_then tables.now when.now).histories
+        district.now (key.now, row.now)) sums.old sums.new }
+    ensures ranges { IsPayment key.now row.now }
+{
+    let _terminal = key.terminal.get();
+    let _number = key.number.get();
+    let _ordinal = key.ordinal.get();
+    let amount = row.amount.cents();
+    if !counts(tables, when, district, key, row) {
+        return;
+    }
+    add(sums, row.customer.customer, amount);
+}
+
+/// The sums of H_AMOUNT, by the H_C_ID of the district's customers.
+fn paid_sums<'a>(tables: &'a Tables, when: &AsOf<'a>, district: &DistrictKey) -> [u64; 3_000]
+    requires { ArePassed (rows_then tables.now when.now) (rows tables.now) }
+    ensures { ArePaid (rows_then tables.now when.now) district.now result }
+{
+    let mut sums = zeros();
+    for (key, row) in tables.histories() {
+        add_payment(tables, when, district, key, row, &mut sums);
+    }
+    sums
+}
+
+impl Ledger {
+    /// The ledger of no district.
+    pub(crate) fn new<'a>(tables: &'a Tables, when: &AsOf<'a>) -> Self
+        ensures { IsLedger (rows_then tables.now when.now) result }
+    {
+        Ledger {
+            district: None,
+            delivered: zeros(),
+            paid: zeros(),
+        }
+    }
+
+    /// Whether the sums are those of the district.
+    fn is_of(&self, district: &DistrictKey) -> bool
+        ensures { IsTrue result → self.now.district ≡ Some district.now }
+    {
+        match &self.district {
+            Some(own) => own == district,
+            None => false,
+        }
+    }
+
+    /// Takes the sums of a district, unless they are there.
+    pub(crate) fn turn_to<'a>(
+        &mut self,
+        tables: &'a Tables,
+        when: &AsOf<'a>,
+        district: &DistrictKey,
+    )
+        requires passed { ArePassed (rows_then tables.now when.now) (rows tables.now) }
+        requires ledger { IsLedger (rows_then tables.now when.now) self.old }
+        ensures ledger { IsLedger (rows_then tables.now when.now) self.new }
+        ensures district { self.new.district ≡ Some district.now }
+    {
+        if self.is_of(district) {
+            return;
+        }
+        self.take_sums(tables, when, district);
+    }
+
+    /// Takes the sums of a district. It has room of its own for them, which a call that finds them there does not pay for.
+    #[inline(never)]
+    fn take_sums<'a>(&mut self, tables: &'a Tables, when: &AsOf<'a>, district: &DistrictKey)
+        requires { ArePassed (rows_then tables.now when.now) (rows tables.now) }
+        ensures ledger { IsLedger (rows_then tables.now when.now) self.new }
+        ensures district { self.new.district ≡ Some district.now }
+    {
+        self.delivered = delivered_sums(tables, when, district);
+        self.paid = paid_sums(tables, when, district);
+        self.district = Some(*district);
+    }
+}

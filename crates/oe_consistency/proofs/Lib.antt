@@ -1,0 +1,7 @@
+-- What this crate's proofs rest on.
+mod RowSums
+mod PaymentMore
+mod NewOrderMore
+mod DeliveryMore
+pub mod KeptMore
+pub mod PopulationMore

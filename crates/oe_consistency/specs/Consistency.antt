@@ -1,0 +1,19 @@
+-- That conditions 5 to 10 and 12 hold from a population on.
+use Rattle.oe_theory.specs.Theorems.{IsKept, Holds_from_base}
+use Rattle.oe_rows.specs.declared.scales.Scale.{Scale}
+use Rattle.oe_model.specs.Rows.{Rows}
+use Rattle.oe_model.specs.FurtherConditions.{More}
+use Rattle.oe_model.specs.Population.{IsScale, IsPopulated}
+use Rattle.oe_model.specs.System.{system}
+
+-- a whole effect, on tables between transactions of which they hold, leaves tables of which they hold
+abbrev pub Further_conditions_are_kept : Type 0
+Further_conditions_are_kept = IsKept system More
+
+-- so they hold of each version where they hold of the base as it is now
+abbrev pub More_holds_from_base : Type 0
+More_holds_from_base = Holds_from_base system More
+
+-- and of the population by formula
+abbrev pub Population_has_more : Type 0
+Population_has_more = (s : Scale) (r : Rows) → IsScale s → IsPopulated s r → More r
