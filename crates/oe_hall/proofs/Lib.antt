@@ -1,0 +1,4 @@
+-- The proofs of this crate.
+pub mod TurnFacts
+pub mod SeatFacts
+pub mod OpenFacts

@@ -1,0 +1,56 @@
+-- How many transactions were begun, committed and rolled back: in all, and as far as one hand was told.
+use Rattle.std.specs.Prelude.{◌≡◌, ℕ, ◌+◌, ◌≤◌}
+use Rattle.oe_hall.specs.declared.counts.Counted.{Counted}
+
+-- in all
+pub record Counts : Type 0 where
+  pub begun : ℕ
+  pub committed : ℕ
+  pub rolled_back : ℕ
+
+-- what one hand was told of these, and its parts of the ledgers
+pub record Tally : Type 0 where
+  pub parts : ℕ
+  pub begun : ℕ
+  pub committed : ℕ
+  pub rolled_back : ℕ
+
+abbrev pub none : Counts
+none = record { begun = 0; committed = 0; rolled_back = 0 }
+
+abbrev pub untold : ℕ → Tally
+untold n = record { parts = n; begun = 0; committed = 0; rolled_back = 0 }
+
+abbrev pub begun_once : Counts → Counts
+begun_once c = record c { begun = c.begun + 1 }
+
+abbrev pub committed_once : Counts → Counts
+committed_once c = record c { committed = c.committed + 1 }
+
+abbrev pub rolled_back_once : Counts → Counts
+rolled_back_once c = record c { rolled_back = c.rolled_back + 1 }
+
+abbrev pub told_begun : Tally → Tally
+told_begun c = record c { begun = c.begun + 1 }
+
+abbrev pub told_committed : Tally → Tally
+told_committed c = record c { committed = c.committed + 1 }
+
+abbrev pub told_rolled_back : Tally → Tally
+told_rolled_back c = record c { rolled_back = c.rolled_back + 1 }
+
+-- a hand with these parts that was told so
+abbrev pub tally : ℕ → Counted → Tally
+tally n c = record { parts = n; begun = c.begun; committed = c.committed; rolled_back = c.rolled_back }
+
+-- a hand with one part more, that was told so
+abbrev pub with_one_more : Counted → Tally → Tally
+with_one_more c t = record { parts = t.parts + 1; begun = t.begun + c.begun; committed = t.committed + c.committed; rolled_back = t.rolled_back + c.rolled_back }
+
+-- a hand was told no more than the totals
+abbrev pub IsAtMost : Tally → Counts → Type 0
+IsAtMost t c = (t.begun ≤ c.begun) × (t.committed ≤ c.committed) × (t.rolled_back ≤ c.rolled_back)
+
+-- or all of them
+abbrev pub AreTotals : Tally → Counts → Type 0
+AreTotals t c = (t.begun ≡ c.begun) × (t.committed ≡ c.committed) × (t.rolled_back ≡ c.rolled_back)

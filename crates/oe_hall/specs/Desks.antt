@@ -1,0 +1,115 @@
+-- What desks are told: by its own contract each call is the answer of one turn of some hall.
+use Rattle.std.specs.Prelude.{◌≡◌, ◌⊎◌, ℕ, ◌+◌, ◌-◌, Option, Result, Ok, Err, List, sum_by, slice_get}
+use Rattle.atomic_table.specs.Seated.{TableId}
+use Rattle.oe_moments.specs.Rule.{pin_word}
+use Rattle.oe_moments.specs.Pins.{TheSeat, ThePin, Holds}
+use Rattle.oe_requests.specs.declared.requests.Request.{Request}
+use Rattle.oe_requests.specs.declared.requests.Query.{Query}
+use Rattle.oe_requests.specs.declared.replies.QueryReply.{QueryReply}
+use Rattle.oe_requests.specs.declared.refusals.Refusal.{Refusal}
+use Rattle.oe_requests.specs.declared.refusals.Refusal.TheVariants as refusal
+use Rattle.oe_hall.specs.Counts.{Tally}
+use Rattle.oe_hall.specs.Turns.{TheHall, IsHall, IsTold, BeginTurn, AdvanceTurn, EndTurn, ReadTurn, PurgeTurn, begin_told, told_of, end_told}
+use Rattle.oe_hall.specs.declared.calls.Ended.{Ended}
+use Rattle.oe_hall.specs.declared.calls.Ended.TheVariants as ended
+use Rattle.oe_hall.specs.declared.counts.Counted.{Counted}
+use Rattle.oe_hall.specs.declared.shop.Open.{Open}
+use Rattle.oe_hall.specs.declared.shop.Turn.{Turn}
+use Rattle.oe_hall.specs.declared.shop.Turn.TheVariants as turn
+
+-- what a clause sees of a shop: its words and name, how many desks it gave, and the seats of the other terminals
+pub record TheShop : Type 0 where
+  pub words : TableId
+  pub name : ℕ
+  pub given : ℕ
+  pub seats : List (Option TheSeat)
+
+-- and of a desk: its seat, and what it was told
+pub record TheDesk : Type 0 where
+  pub seat : TheSeat
+  pub told : Tally
+
+-- the words and seats of a shop that is not opened yet
+pub record TheSeats : Type 0 where
+  pub words : TableId
+  pub shop : ℕ
+
+-- the seat of a terminal that has no desk yet
+abbrev pub seat_for : TheShop → ℕ → Option (Option TheSeat)
+seat_for s t = slice_get s.seats (t - 1)
+
+abbrev pub with_told : Tally → TheDesk → TheDesk
+with_told c d = record d { told = c }
+
+abbrev pub with_seat : TheSeat → TheDesk → TheDesk
+with_seat s d = record d { seat = s }
+
+-- the desk began it
+abbrev pub IsOwn : TheDesk → Open → Type 0
+IsOwn d o = (o.shop ≡ d.seat.shop) × (o.terminal ≡ d.seat.terminal)
+
+-- WHAT THE HALL ANSWERED
+
+abbrev pub begins : Result Open Refusal → Result (Unit {0}) Refusal
+begins (Ok o) = Ok tt
+begins (Err r) = Err r
+
+abbrev pub advances : Turn → Ended
+advances (turn.More o) = ended.More
+advances (turn.Kept o e) = ended.Kept e
+advances (turn.Committed m y) = ended.Committed m y
+advances (turn.RolledBack e) = ended.RolledBack e
+
+abbrev pub ends : Result (Unit {0}) (Refusal × Open) → Result (Unit {0}) Refusal
+ends (Ok u) = Ok tt
+ends (Err e) = Err e.0
+
+-- IN ONE TURN OF SOME HALL
+
+abbrev pub ABegin : TheDesk → Request → Result Open Refusal → Type 0
+ABegin d q r =
+    (h : TheHall) × (h' : TheHall) × IsHall h × IsHall h' × IsTold d.told h × IsTold (begin_told (begins r) d.told) h'
+    × BeginTurn h d.seat.terminal q (begins r) h'
+
+-- of the desk's own transaction; any other is handed back
+abbrev pub AnAdvance : TheDesk → Open → Turn → Type 0
+AnAdvance d o r =
+    ((h : TheHall) × (h' : TheHall) × IsHall h × IsHall h' × IsTold d.told h × IsTold (told_of (advances r) d.told) h'
+    × AdvanceTurn h d.seat.terminal (advances r) h')
+    ⊎ (r ≡ turn.Kept o refusal.NotOpen) × (IsOwn d o → ⊥)
+
+abbrev pub AnEnd : TheDesk → Open → Result (Unit {0}) (Refusal × Open) → Type 0
+AnEnd d o r =
+    ((h : TheHall) × (h' : TheHall) × IsHall h × IsHall h' × IsTold d.told h × IsTold (end_told (ends r) d.told) h'
+    × EndTurn h d.seat.terminal (ends r) h')
+    ⊎ (r ≡ Err (refusal.NotOpen, o)) × (IsOwn d o → ⊥)
+
+-- at the pin's moment; another desk's pin is refused with this desk's pin word
+abbrev pub ARead : TheDesk → ThePin → Query → Result QueryReply Refusal → Type 0
+ARead d p q r =
+    ((h : TheHall) × (h' : TheHall) × IsHall h × IsHall h' × ReadTurn h p.moment q r h')
+    ⊎ (r ≡ Err (refusal.NotPinned (pin_word d.seat.notes.pin))) × (Holds d.seat p → ⊥)
+
+abbrev pub APurge : ℕ → ℕ → Type 0
+APurge asked m = (h : TheHall) × (h' : TheHall) × IsHall h × IsHall h' × PurgeTurn h asked m h'
+
+-- WHAT DESKS WERE TOLD IN ALL
+
+abbrev pub begun_by : TheDesk → ℕ
+begun_by d = d.told.begun
+
+abbrev pub committed_by : TheDesk → ℕ
+committed_by d = d.told.committed
+
+abbrev pub rolled_back_by : TheDesk → ℕ
+rolled_back_by d = d.told.rolled_back
+
+-- the counts are the sums of what the desks were told
+abbrev pub AreSums : List TheDesk → Counted → Type 0
+AreSums desks c =
+    (c.begun ≡ sum_by begun_by desks) × (c.committed ≡ sum_by committed_by desks)
+    × (c.rolled_back ≡ sum_by rolled_back_by desks)
+
+-- that many were told to begin and not to end
+abbrev pub AreOpen : List TheDesk → ℕ → Type 0
+AreOpen desks n = n + sum_by committed_by desks + sum_by rolled_back_by desks ≡ sum_by begun_by desks

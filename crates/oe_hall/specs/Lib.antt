@@ -1,0 +1,5 @@
+-- What the clauses of this crate cite.
+pub mod Counts
+pub mod Turns
+pub mod Seats
+pub mod Desks

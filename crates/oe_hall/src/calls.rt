@@ -1,0 +1,118 @@
+//! The core's calls, each one step of the machine, with what the step counts: the newest moment,
+//! the open transactions, and the horizon. A refusal is the step's own answer.
+ghost use Rattle.std.specs.Prelude.{◌≡◌, ℕ, ◌≤◌, true, false};
+ghost use Rattle.oe_theory.specs.World.{newest, horizon};
+ghost use Rattle.oe_model.specs.System.{system};
+ghost use Rattle.oe_admission.specs.Programs.{HasProgram};
+ghost use Rattle.oe_core.specs.Core.{world_of};
+ghost use Rattle.oe_core.specs.Steps.{Carries, begin_answer};
+ghost use Rattle.oe_hall.specs.Turns.{keeps, answer_of, end_answer, read_answer, IsYoung, IsSorted, HasMoved, BeginMoves, EndMoves, HasPurged};
+
+use oe_core::{Advanced, Core};
+use oe_requests::{Answer, Query, QueryReply, Refusal, Reply, Request, Step};
+use oe_values::{Moment, Terminal};
+
+/// How an advance ends.
+#[derive(Drop)]
+pub enum Ended {
+    /// The transaction is open, and has a stage left.
+    More,
+    /// Nothing has changed: the transaction is open where it was, or the terminal has none.
+    Kept(Refusal),
+    /// The transaction committed and made that moment.
+    Committed(Moment, Reply),
+    /// The transaction is rolled back.
+    RolledBack(Refusal),
+}
+
+// Tells whether a refusal of an advance has changed nothing.
+fn keeps(refusal: &Refusal) -> bool
+    ensures { result ≡ keeps refusal.now }
+{
+    matches!(
+        refusal,
+        Refusal::Busy(_, _) | Refusal::UndoFull | Refusal::NoMemory | Refusal::NotOpen
+    )
+}
+
+/// Begins the terminal's transaction. A refusal has changed nothing.
+#[tactic(auto, using(crate::proofs::TurnFacts::after_begin, crate::proofs::TurnFacts::after_refused_begin))]
+pub fn begin(core: &mut Core, terminal: Terminal, request: &Request) -> Result<(), Refusal>
+    requires { HasProgram request.now }
+    ensures step { Carries (world_of core.old) (Step.Begin terminal request.now)
+        (begin_answer result) (world_of core.new) }
+    ensures counts { BeginMoves result (world_of core.old) (world_of core.new) }
+{
+    core.is_reached();
+    core.begin(terminal, request)
+}
+
+/// Carries out the next stage of the terminal's transaction, which commits after the last.
+#[tactic(auto, using(crate::proofs::TurnFacts::after_more, crate::proofs::TurnFacts::after_commit, crate::proofs::TurnFacts::after_kept, crate::proofs::TurnFacts::after_ended))]
+pub fn advance(core: &mut Core, terminal: Terminal) -> Ended
+    ensures step { Carries (world_of core.old) (Step.Advance terminal)
+        (answer_of result) (world_of core.new) }
+    ensures sorted { IsSorted result }
+    ensures counts { HasMoved result (world_of core.old) (world_of core.new) }
+{
+    core.is_reached();
+    match core.advance(terminal) {
+        Advanced::More => Ended::More,
+        Advanced::Committed(moment) => match core.last_reply(terminal) {
+            Some(reply) => Ended::Committed(moment, reply.copied()),
+            None => unreachable!(),
+        },
+        Advanced::Refused(refusal) => {
+            if keeps(&refusal) {
+                Ended::Kept(refusal)
+            } else {
+                Ended::RolledBack(refusal)
+            }
+        }
+    }
+}
+
+/// Rolls the terminal's transaction back. `NotOpen` where it has none; nothing has changed then.
+#[tactic(auto, using(crate::proofs::TurnFacts::after_rollback, crate::proofs::TurnFacts::after_refused_rollback, crate::proofs::TurnFacts::fits))]
+pub fn end(core: &mut Core, terminal: Terminal) -> Result<(), Refusal>
+    ensures step { Carries (world_of core.old) (Step.Rollback terminal)
+        (end_answer result) (world_of core.new) }
+    ensures counts { EndMoves result (world_of core.old) (world_of core.new) }
+{
+    core.is_reached();
+    match core.rollback(terminal) {
+        Answer::RolledBack => Ok(()),
+        Answer::Refused(refusal) => Err(refusal),
+        _ => unreachable!(),
+    }
+}
+
+/// Answers a query of a moment from the horizon on. A refusal is never `TooOld`.
+#[tactic(auto, using(crate::proofs::TurnFacts::fits, crate::proofs::TurnFacts::is_not_too_old))]
+pub fn read(core: &Core, moment: Moment, query: &Query) -> Result<QueryReply, Refusal>
+    requires { horizon system (world_of core.now) ≤ moment }
+    ensures step { Carries (world_of core.now) (Step.Read moment query.now)
+        (read_answer result) (world_of core.now) }
+    ensures young { IsYoung result }
+{
+    match core.read(moment, query) {
+        Answer::Replied(reply) => Ok(reply),
+        Answer::Refused(refusal) => Err(refusal),
+        _ => unreachable!(),
+    }
+}
+
+/// Makes a moment between the horizon and the newest the horizon.
+#[tactic(auto, using(crate::proofs::TurnFacts::after_purge, crate::proofs::TurnFacts::purge_is_not_refused, crate::proofs::TurnFacts::fits))]
+pub fn purge(core: &mut Core, moment: Moment)
+    requires old { horizon system (world_of core.old) ≤ moment }
+    requires new { moment ≤ newest system (world_of core.old) }
+    ensures step { Carries (world_of core.old) (Step.Purge moment) (Answer.Purged moment)
+        (world_of core.new) }
+    ensures counts { HasPurged moment (world_of core.old) (world_of core.new) }
+{
+    core.is_reached();
+    let Answer::Purged(_) = core.purge(moment) else {
+        unreachable!()
+    };
+}

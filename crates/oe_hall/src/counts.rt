@@ -1,0 +1,196 @@
+//! What desks were told, as shares of three ledgers: how many transactions were begun, were
+//! committed and were rolled back.
+//!
+//! A `Told` has as many parts of each ledger, by its invariant. What one desk was told is at most
+//! the total in the `Books`, and what all parts were told is the total. Nothing can fail, and
+//! nothing takes memory or room.
+ghost use Rattle.std.specs.Prelude.{◌≡◌, ◌+◌, ◌<◌, ◌≤◌};
+ghost use Rattle.oe_hall.specs.Counts.{Counts, Tally, none, untold, tally, with_one_more, IsAtMost, AreTotals, begun_once, committed_once, rolled_back_once, told_begun, told_committed, told_rolled_back};
+
+use std::marker::Model;
+use std::sync::ledger::{Blank, Book, Ledger, Share};
+
+/// What a hand was told: how many transactions it began, and how many of them ended either way.
+#[derive(Drop)]
+pub struct Told<B: Ledger, C: Ledger, R: Ledger> {
+    begun: Share<B>,
+    committed: Share<C>,
+    rolled_back: Share<R>,
+}
+
+impl<B: Ledger, C: Ledger, R: Ledger> Model for Told<B, C, R> {
+    ghost Value = { Tally };
+
+    ghost view = { λ t. record {
+      parts = t.begun.parts;
+      begun = t.begun.amount;
+      committed = t.committed.amount;
+      rolled_back = t.rolled_back.amount;
+    } };
+
+    ghost invariant = { λ t. (t.committed.parts ≡ t.begun.parts)
+        × (t.rolled_back.parts ≡ t.begun.parts) };
+}
+
+/// How many transactions were begun, committed and rolled back.
+#[derive(Clone, Copy)]
+pub struct Counted {
+    pub begun: u64,
+    pub committed: u64,
+    pub rolled_back: u64,
+}
+
+/// The totals of what all hands were told.
+#[derive(Drop)]
+pub struct Books<B: Ledger, C: Ledger, R: Ledger> {
+    begun: Book<B>,
+    committed: Book<C>,
+    rolled_back: Book<R>,
+}
+
+impl<B: Ledger, C: Ledger, R: Ledger> Model for Books<B, C, R> {
+    ghost Value = { Counts };
+
+    ghost view = { λ b. record {
+      begun = b.begun.total;
+      committed = b.committed.total;
+      rolled_back = b.rolled_back.total;
+    } };
+
+    ghost invariant = { λ b. Unit {0} };
+}
+
+/// Ledgers that are not opened, for 64 desks and the shop.
+#[derive(Drop)]
+pub struct Blanks {
+    pub begun: Blank,
+    pub committed: Blank,
+    pub rolled_back: Blank,
+}
+
+impl Blanks {
+    /// Makes blank ledgers of 65 parts.
+    pub fn new() -> Blanks
+        ensures { (result.begun.parts ≡ 65) × (result.committed.parts ≡ 65)
+            × (result.rolled_back.parts ≡ 65) }
+    {
+        Blanks {
+            begun: Blank::new(65),
+            committed: Blank::new(65),
+            rolled_back: Blank::new(65),
+        }
+    }
+}
+
+/// Opens the ledgers: no total yet, and all parts in one hand.
+pub(crate) fn open_books<B: Ledger, C: Ledger, R: Ledger>(
+    blanks: Blanks,
+) -> (Books<B, C, R>, Told<B, C, R>)
+    requires names { (blanks.begun.name ≡ B.name) × (blanks.committed.name ≡ C.name)
+        × (blanks.rolled_back.name ≡ R.name) }
+    requires parts { (blanks.begun.parts ≡ B.parts) × (blanks.committed.parts ≡ C.parts)
+        × (blanks.rolled_back.parts ≡ R.parts) }
+    requires same { (C.parts ≡ B.parts) × (R.parts ≡ B.parts) }
+    ensures { (result.0 ≡ none) × (result.1 ≡ untold B.parts) }
+{
+    let Blanks {
+        begun,
+        committed,
+        rolled_back,
+    } = blanks;
+    let (begun_book, begun) = begun.open::<B>();
+    let (committed_book, committed) = committed.open::<C>();
+    let (rolled_back_book, rolled_back) = rolled_back.open::<R>();
+    let books = Books {
+        begun: begun_book,
+        committed: committed_book,
+        rolled_back: rolled_back_book,
+    };
+    let told = Told {
+        begun,
+        committed,
+        rolled_back,
+    };
+    (books, told)
+}
+
+impl<B: Ledger, C: Ledger, R: Ledger> Told<B, C, R> {
+    /// Gives one part away, with nothing told.
+    pub(crate) fn split_one(&mut self) -> Told<B, C, R>
+        requires { 1 < self.old.parts }
+        ensures one { result ≡ untold 1 }
+        ensures rest { self.old ≡ record self.new { parts = self.new.parts + 1 } }
+    {
+        Told {
+            begun: self.begun.split_off(1, 0),
+            committed: self.committed.split_off(1, 0),
+            rolled_back: self.rolled_back.split_off(1, 0),
+        }
+    }
+
+    /// Gives one part to another hand, and what it was told.
+    pub(crate) fn give(&mut self, to: &mut Told<B, C, R>, told: Counted)
+        requires part { 0 < self.old.parts }
+        requires enough { (told.begun ≤ self.old.begun) × (told.committed ≤ self.old.committed)
+            × (told.rolled_back ≤ self.old.rolled_back) }
+        requires last { self.old.parts ≡ 1 → self.old ≡ tally 1 told }
+        ensures left { self.old ≡ with_one_more told self.new }
+        ensures given { to.new ≡ with_one_more told to.old }
+    {
+        self.begun.give(&mut to.begun, 1, told.begun);
+        self.committed.give(&mut to.committed, 1, told.committed);
+        self.rolled_back
+            .give(&mut to.rolled_back, 1, told.rolled_back);
+    }
+}
+
+impl<B: Ledger, C: Ledger, R: Ledger> Books<B, C, R> {
+    /// Counts a transaction that was begun, and that this hand is told of it.
+    pub(crate) fn add_begun(&mut self, told: &mut Told<B, C, R>)
+        requires { 0 < told.old.parts }
+        ensures total { self.new ≡ begun_once self.old }
+        ensures told { told.new ≡ told_begun told.old }
+    {
+        self.begun.add(&mut told.begun, 1);
+    }
+
+    /// Counts a commit, and that this hand is told of it.
+    pub(crate) fn add_committed(&mut self, told: &mut Told<B, C, R>)
+        requires { 0 < told.old.parts }
+        ensures total { self.new ≡ committed_once self.old }
+        ensures told { told.new ≡ told_committed told.old }
+    {
+        self.committed.add(&mut told.committed, 1);
+    }
+
+    /// Counts a transaction that was rolled back, and that this hand is told of it.
+    pub(crate) fn add_rolled_back(&mut self, told: &mut Told<B, C, R>)
+        requires { 0 < told.old.parts }
+        ensures total { self.new ≡ rolled_back_once self.old }
+        ensures told { told.new ≡ told_rolled_back told.old }
+    {
+        self.rolled_back.add(&mut told.rolled_back, 1);
+    }
+
+    /// Shows that what one hand was told is at most the totals. This does nothing: it is a law.
+    pub(crate) fn bound(&mut self, told: &mut Told<B, C, R>)
+        ensures same { (self.new ≡ self.old) × (told.new ≡ told.old) }
+        ensures bound { IsAtMost told.old self.old }
+    {
+        self.begun.audit(&mut told.begun);
+        self.committed.audit(&mut told.committed);
+        self.rolled_back.audit(&mut told.rolled_back);
+    }
+
+    /// Shows that what all parts were told is the totals. This does nothing: it is a law.
+    pub(crate) fn audit(&mut self, told: &mut Told<B, C, R>)
+        requires same { (C.parts ≡ B.parts) × (R.parts ≡ B.parts) }
+        requires whole { told.old.parts ≡ B.parts }
+        ensures same { (self.new ≡ self.old) × (told.new ≡ told.old) }
+        ensures whole { AreTotals told.old self.old }
+    {
+        self.begun.audit(&mut told.begun);
+        self.committed.audit(&mut told.committed);
+        self.rolled_back.audit(&mut told.rolled_back);
+    }
+}

@@ -1,0 +1,622 @@
+//! The shop, which gives each terminal a desk, and the desks, which threads own.
+//!
+//! Each call of a desk that asks the core is one turn of the hall's lock; it may wait for it. What
+//! a desk knows of moments and pins stands in its seat, and those calls never wait. By the
+//! invariants a desk has one part of each ledger with what it was told, the shop has the others
+//! with nothing told, and the seats that no desk has are as they were dealt. An `Open`, like a
+//! `Pin`, can't be dropped: the desk that began it ends it.
+ghost use Rattle.std.specs.Prelude.{◌≡◌, ◌≢◌, ◌↔◌, ℕ, ◌+◌, ◌-◌, ◌<◌, ◌≤◌, length, [], vec_capacity, slice_get, slice_set, sum_by, IfOk, IfErr, OnOk, OnErr, Some, None, IsTrue, false};
+ghost use Rattle.std.specs.Arc.{arc_value};
+ghost use Rattle.atomic_table.specs.Seated.{TableId};
+ghost use Rattle.oe_theory.specs.World.{newest, horizon};
+ghost use Rattle.oe_model.specs.Conditions.{IsPopulation};
+ghost use Rattle.oe_model.specs.System.{system};
+ghost use Rattle.oe_store.specs.Places.{rows};
+ghost use Rattle.oe_admission.specs.Programs.{HasProgram};
+ghost use Rattle.oe_core.specs.Core.{world_of};
+ghost use Rattle.oe_moments.specs.Rule.{saw, with_pin, at_start, pin_word};
+ghost use Rattle.oe_moments.specs.Pins.{AreOfDesks, with_notes, is_pinned, Holds};
+ghost use Rattle.oe_moments.specs.declared.notes.PinState.TheVariants.{Free};
+ghost use Rattle.oe_hall.specs.Counts.{untold, tally, with_one_more, AreTotals};
+ghost use Rattle.oe_hall.specs.Turns.{TheHall, IsHall, open_count, begin_told, told_of, end_told, IsYoung};
+ghost use Rattle.oe_hall.specs.Seats.{fresh_seat, AreFresh, waiting};
+ghost use Rattle.oe_hall.specs.Desks.{TheDesk, TheShop, TheSeats, AreSums, AreOpen, begun_by, committed_by, rolled_back_by, with_told, with_seat, seat_for, IsOwn, begins, advances, ends, ABegin, AnAdvance, AnEnd, ARead, APurge};
+
+use crate::calls::Ended;
+use crate::counts::{Blanks, Counted, Told, open_books};
+use crate::hall::{Hall, Naming};
+use oe_core::Core;
+use oe_moments::{DealerSeat, DeskSeat, KeeperSeat, Moments, NotPinned, Pin, TooOld};
+use oe_requests::{Query, QueryReply, Refusal, Reply, Request};
+use oe_store::Tables;
+use oe_values::{ExtentCount, Moment, NoMemory, Number, Terminal};
+use std::alloc::{AllocError, Global};
+use std::hint;
+use std::marker::{Model, PhantomData};
+use std::sync::ledger::Ledger;
+use std::sync::{Arc, Mutex, MutexGuard, Wait};
+
+/// A transaction that a desk began.
+pub struct Open {
+    shop: u32,
+    terminal: Terminal,
+}
+
+/// What an advance answers at a desk.
+pub enum Turn {
+    /// The transaction is open, and has a stage left.
+    More(Open),
+    /// Nothing has changed.
+    Kept(Open, Refusal),
+    /// The transaction committed and made that moment.
+    Committed(Moment, Reply),
+    /// The transaction is rolled back.
+    RolledBack(Refusal),
+}
+
+/// What a shop lends to its desks: the locked hall, and the words.
+pub struct Front<J: Naming, B: Ledger, C: Ledger, R: Ledger> {
+    hall: Mutex<Hall<J, B, C, R>>,
+    moments: Arc<Moments>,
+}
+
+impl<J: Naming, B: Ledger, C: Ledger, R: Ledger> Model for Front<J, B, C, R> {
+    ghost Value = { TableId };
+
+    ghost view = { λ f. arc_value f.moments };
+
+    ghost invariant = { λ f. AreOfDesks (arc_value f.moments) 64
+        × (arc_value f.moments ≡ J.words) };
+}
+
+/// The words of a shop, the keeper's seat, and a seat for each terminal.
+#[derive(Drop)]
+pub struct Seats {
+    moments: Arc<Moments>,
+    other: Arc<Moments>,
+    keeper: KeeperSeat,
+    desks: Vec<Option<DeskSeat>>,
+    shop: u32,
+}
+
+impl Model for Seats {
+    ghost Value = { TheSeats };
+
+    ghost view = { λ s. record { words = arc_value s.moments; shop = s.shop } };
+
+    ghost invariant = { λ s. AreOfDesks (arc_value s.moments) 64
+        × (arc_value s.other ≡ arc_value s.moments)
+        × (s.keeper ≡ record { words = arc_value s.moments; notes = at_start })
+        × (length s.desks.items ≡ 64) × (waiting s.desks.items ≡ 64)
+        × AreFresh (arc_value s.moments) s.shop s.desks.items };
+}
+
+/// A shop: what it lends, and what gives the desks.
+pub struct Shop<J: Naming, B: Ledger, C: Ledger, R: Ledger> {
+    front: Front<J, B, C, R>,
+    seats: Vec<Option<DeskSeat>>,
+    rest: Told<B, C, R>,
+    given: u64,
+    name: u32,
+}
+
+impl<J: Naming, B: Ledger, C: Ledger, R: Ledger> Model for Shop<J, B, C, R> {
+    ghost Value = { TheShop };
+
+    ghost view = { λ s. record {
+      words = s.front;
+      name = s.name;
+      given = s.given;
+      seats = s.seats.items;
+    } };
+
+    ghost invariant = { λ s. AreOfDesks s.front 64 × (length s.seats.items ≡ 64)
+        × AreFresh s.front s.name s.seats.items × (s.rest.parts + s.given ≡ 65)
+        × (waiting s.seats.items + s.given ≡ 64) × (s.rest ≡ untold s.rest.parts)
+        × (s.front ≡ J.words) };
+}
+
+/// A terminal's desk.
+#[derive(Drop)]
+pub struct Desk<J: Naming, B: Ledger, C: Ledger, R: Ledger> {
+    seat: DeskSeat,
+    told: Told<B, C, R>,
+    begun: u64,
+    committed: u64,
+    rolled_back: u64,
+    of: PhantomData<J>,
+}
+
+impl<J: Naming, B: Ledger, C: Ledger, R: Ledger> Model for Desk<J, B, C, R> {
+    ghost Value = { TheDesk };
+
+    ghost view = { λ d. record { seat = d.seat; told = d.told } };
+
+    ghost invariant = { λ d. (d.seat.words ≡ J.words) × (d.told ≡ record {
+      parts = 1;
+      begun = d.begun;
+      committed = d.committed;
+      rolled_back = d.rolled_back;
+    }) };
+}
+
+/// Why a shop can't be closed: its desks were told that many more begins than ends. It comes back
+/// with its desks.
+pub struct NotQuiet<J: Naming, B: Ledger, C: Ledger, R: Ledger> {
+    pub open: u64,
+    pub shop: Shop<J, B, C, R>,
+    pub desks: Vec<Desk<J, B, C, R>>,
+}
+
+/// How often a turn asks for the lock before it waits. A turn is shorter than a sleep.
+const TRIES: u32 = 200;
+
+// Enters the hall, once nobody else is in it.
+fn enter<'h, J: Naming, B: Ledger, C: Ledger, R: Ledger, W: Wait>(
+    rt: &W,
+    hall: &'h Mutex<Hall<J, B, C, R>>,
+) -> MutexGuard<'h, Hall<J, B, C, R>> {
+    for _ in 0..TRIES {
+        if let Some(guard) = hall.try_lock() {
+            return guard;
+        }
+        hint::spin_loop();
+    }
+    hall.lock(rt)
+}
+
+// Deals each terminal's seat.
+#[tactic(auto, using(crate::proofs::SeatFacts::fresh_snoc, crate::proofs::SeatFacts::waiting_snoc, crate::proofs::SeatFacts::fresh_none))]
+fn deal_all(moments: &Moments, dealer: &mut DealerSeat, seats: &mut Vec<Option<DeskSeat>>)
+    requires words { (dealer.old.words ≡ moments.now) × AreOfDesks moments.now 64 }
+    requires first { dealer.old.notes.dealt ≡ 0 }
+    requires room { (seats.old.items ≡ []) × (64 ≤ vec_capacity seats.old) }
+    ensures count { (length seats.new.items ≡ 64) × (waiting seats.new.items ≡ 64) }
+    ensures fresh { AreFresh moments.now dealer.old.shop seats.new.items }
+{
+    for _k in 0..64u64 {
+        seats.push_reserved(Some(moments.deal(dealer)));
+    }
+}
+
+// Takes what stands in a slot.
+fn take_seat(seats: &mut Vec<Option<DeskSeat>>, slot: usize) -> Option<DeskSeat>
+    requires { slot < length seats.old.items }
+    ensures value { slice_get seats.old.items slot ≡ Some result }
+    ensures after { seats.new.items ≡ slice_set seats.old.items slot None }
+{
+    seats[slot].take()
+}
+
+impl Seats {
+    /// Makes the words of a shop of that name, and deals all seats. Memory is the only refusal.
+    pub fn new(alloc: Global, shop: u32) -> Result<Seats, AllocError>
+        ensures { IfOk result (λ s. s.shop ≡ shop) }
+    {
+        let desks = Number::new(64).unwrap();
+        let (moments, mut dealer) = Moments::open(alloc, shop, desks)?;
+        let keeper = moments.deal_keeper(&mut dealer);
+        let moments = Arc::new(alloc, moments)?;
+        let other = Arc::try_clone(&moments)?;
+        let mut desks = Vec::with_capacity(alloc, 64)?;
+        deal_all(&moments, &mut dealer, &mut desks);
+        Ok(Seats {
+            moments,
+            other,
+            keeper,
+            desks,
+            shop,
+        })
+    }
+}
+
+impl<J: Naming, B: Ledger, C: Ledger, R: Ledger> Shop<J, B, C, R> {
+    /// Opens a shop on a population. Memory is the only refusal; seats and ledgers have theirs.
+    pub fn open(
+        alloc: Global,
+        tables: Tables,
+        extents: ExtentCount,
+        seats: Seats,
+        blanks: Blanks,
+    ) -> Result<Shop<J, B, C, R>, NoMemory>
+        requires population { IsPopulation (rows tables) }
+        requires words { seats.words ≡ J.words }
+        requires names { (blanks.begun.name ≡ B.name) × (blanks.committed.name ≡ C.name)
+            × (blanks.rolled_back.name ≡ R.name) }
+        requires parts { (blanks.begun.parts ≡ B.parts) × (blanks.committed.parts ≡ C.parts)
+            × (blanks.rolled_back.parts ≡ R.parts) }
+        requires same { (B.parts ≡ 65) × (C.parts ≡ 65) × (R.parts ≡ 65) }
+        ensures new { IfOk result (λ s. (s.name ≡ seats.shop) × (s.given ≡ 0)) }
+        ensures free { IfOk result (λ s. (t : ℕ) → seat_for s t ≢ Some None) }
+    {
+        let core = Core::open(alloc, tables, extents)?;
+        Ok(Shop::over(core, seats, blanks))
+    }
+
+    // Opens a shop on a core that has begun nothing.
+    fn over(core: Core, seats: Seats, blanks: Blanks) -> Shop<J, B, C, R>
+        requires newest { newest system (world_of core) ≡ 0 }
+        requires quiet { open_count (world_of core) ≡ 0 }
+        requires horizon { horizon system (world_of core) ≡ 0 }
+        requires words { seats.words ≡ J.words }
+        requires names { (blanks.begun.name ≡ B.name) × (blanks.committed.name ≡ C.name)
+            × (blanks.rolled_back.name ≡ R.name) }
+        requires parts { (blanks.begun.parts ≡ B.parts) × (blanks.committed.parts ≡ C.parts)
+            × (blanks.rolled_back.parts ≡ R.parts) }
+        requires same { (B.parts ≡ 65) × (C.parts ≡ 65) × (R.parts ≡ 65) }
+        ensures new { (result.name ≡ seats.shop) × (result.given ≡ 0) }
+        ensures free { (t : ℕ) → seat_for result t ≢ Some None }
+    {
+        let Seats {
+            moments,
+            other,
+            keeper,
+            desks,
+            shop,
+        } = seats;
+        let (books, rest) = open_books::<B, C, R>(blanks);
+        let hall = Hall::new(core, books, other, keeper);
+        Shop {
+            front: Front {
+                hall: Mutex::new(hall),
+                moments,
+            },
+            seats: desks,
+            rest,
+            given: 0,
+            name: shop,
+        }
+    }
+
+    /// Gives a terminal its desk. `AlreadyOpen` where it has one, and nothing has changed then.
+    #[tactic(auto, using(crate::proofs::SeatFacts::fresh_set, crate::proofs::SeatFacts::waiting_set, crate::proofs::SeatFacts::set_idle, crate::proofs::SeatFacts::get_set))]
+    pub fn desk(&mut self, terminal: Terminal) -> Result<Desk<J, B, C, R>, Refusal>
+        ensures ok { IfOk result (λ d.
+            d ≡ record {
+              seat = fresh_seat self.old.words self.old.name (terminal - 1);
+              told = untold 1;
+            }) }
+        ensures given { OnOk result ((self.new.given ≡ self.old.given + 1)
+            × (self.new.words ≡ self.old.words) × (self.new.name ≡ self.old.name)
+            × (self.new.seats ≡ slice_set self.old.seats (terminal - 1) None)) }
+        ensures err { IfErr result (λ e. e ≡ Refusal.AlreadyOpen) }
+        ensures same { OnErr result ((self.new ≡ self.old)
+            × (seat_for self.old terminal ≡ Some None)) }
+    {
+        let slot = terminal.get() as usize - 1;
+        let given = self.given;
+        let Some(seat) = take_seat(&mut self.seats, slot) else {
+            return Err(Refusal::AlreadyOpen);
+        };
+        let told = self.rest.split_one();
+        self.given = given + 1;
+        Ok(Desk {
+            seat,
+            told,
+            begun: 0,
+            committed: 0,
+            rolled_back: 0,
+            of: PhantomData,
+        })
+    }
+
+    /// Lends what the calls of its desks take.
+    pub fn front(&self) -> &Front<J, B, C, R>
+        ensures { result.now ≡ self.now.words }
+    {
+        let _name = self.name;
+        &self.front
+    }
+
+    /// Purges up to a moment, no further than the newest and each pin, and gives the horizon.
+    pub fn purge<W: Wait>(&self, rt: &W, moment: Moment) -> Moment
+        ensures { APurge moment result }
+    {
+        self.front().purge(rt, moment)
+    }
+
+    /// Closes the shop, where all that its desks began has ended: gives the core, and how much each
+    /// desk was told in sum. `NotQuiet` where a transaction is open; shop and desks come back.
+    pub fn close(
+        self,
+        mut desks: Vec<Desk<J, B, C, R>>,
+    ) -> Result<(Core, Counted), NotQuiet<J, B, C, R>>
+        requires all { length desks.items ≡ self.given }
+        requires same { (B.parts ≡ 65) × (C.parts ≡ 65) × (R.parts ≡ 65) }
+        ensures sums { IfOk result (λ r. AreSums desks.items r.1) }
+        ensures ended { IfOk result (λ r. r.1.begun ≡ r.1.committed + r.1.rolled_back) }
+        ensures quiet { IfOk result (λ r. open_count (world_of r.0) ≡ 0) }
+        ensures newest { IfOk result (λ r. newest system (world_of r.0) ≡ r.1.committed) }
+        ensures back { IfErr result (λ e. (e.shop ≡ self) × (e.desks.items ≡ desks.items)) }
+        ensures open { IfErr result (λ e. (1 ≤ e.open) × AreOpen desks.items e.open) }
+    {
+        let Shop {
+            front,
+            seats,
+            mut rest,
+            given,
+            name,
+        } = self;
+        let Front { hall, moments } = front;
+        let mut hall = hall.into_inner();
+        let counted = audit_list(&mut hall, &mut rest, &mut desks);
+        let open = counted.begun - counted.committed - counted.rolled_back;
+        if open == 0 {
+            return Ok((hall.into_core(), counted));
+        }
+        let shop = Shop {
+            front: Front {
+                hall: Mutex::new(hall),
+                moments,
+            },
+            seats,
+            rest,
+            given,
+            name,
+        };
+        Err(NotQuiet { open, shop, desks })
+    }
+}
+
+// Counts what the desks of a list were told.
+fn audit_list<J: Naming, B: Ledger, C: Ledger, R: Ledger>(
+    hall: &mut Hall<J, B, C, R>,
+    all: &mut Told<B, C, R>,
+    desks: &mut Vec<Desk<J, B, C, R>>,
+) -> Counted
+    requires same { (C.parts ≡ B.parts) × (R.parts ≡ B.parts) }
+    requires parts { all.old.parts + length desks.old.items ≡ B.parts }
+    requires some { 0 < all.old.parts }
+    ensures same { (hall.new ≡ hall.old) × (all.new ≡ all.old) }
+    ensures desks { desks.new.items ≡ desks.old.items }
+    ensures hall { IsHall hall.old }
+    ensures counts { AreTotals (tally 1 result) hall.old.counts }
+    ensures told { (result.begun ≡ all.old.begun + sum_by begun_by desks.old.items)
+        × (result.committed ≡ all.old.committed + sum_by committed_by desks.old.items)
+        × (result.rolled_back ≡ all.old.rolled_back + sum_by rolled_back_by desks.old.items) }
+{
+    audit_desks(hall, all, desks.as_mut_slice())
+}
+
+// Counts what the desks were told: lends it to one hand, and looks at the totals.
+#[cycle(audit)]
+fn audit_desks<J: Naming, B: Ledger, C: Ledger, R: Ledger>(
+    hall: &mut Hall<J, B, C, R>,
+    all: &mut Told<B, C, R>,
+    desks: &mut [Desk<J, B, C, R>],
+) -> Counted
+    requires same { (C.parts ≡ B.parts) × (R.parts ≡ B.parts) }
+    requires parts { all.old.parts + length desks.old ≡ B.parts }
+    requires some { 0 < all.old.parts }
+    ensures same { (hall.new ≡ hall.old) × (all.new ≡ all.old) × (desks.new ≡ desks.old) }
+    ensures hall { IsHall hall.old }
+    ensures counts { AreTotals (tally 1 result) hall.old.counts }
+    ensures told { (result.begun ≡ all.old.begun + sum_by begun_by desks.old)
+        × (result.committed ≡ all.old.committed + sum_by committed_by desks.old)
+        × (result.rolled_back ≡ all.old.rolled_back + sum_by rolled_back_by desks.old) }
+{
+    let Some((first, others)) = desks.split_first_mut() else {
+        return hall.audit(all);
+    };
+    audit_first(hall, all, first, others)
+}
+
+#[cycle(audit)]
+fn audit_first<J: Naming, B: Ledger, C: Ledger, R: Ledger>(
+    hall: &mut Hall<J, B, C, R>,
+    all: &mut Told<B, C, R>,
+    first: &mut Desk<J, B, C, R>,
+    others: &mut [Desk<J, B, C, R>],
+) -> Counted
+    requires same { (C.parts ≡ B.parts) × (R.parts ≡ B.parts) }
+    requires parts { all.old.parts + length others.old + 1 ≡ B.parts }
+    requires some { 0 < all.old.parts }
+    ensures same { (hall.new ≡ hall.old) × (all.new ≡ all.old) × (first.new ≡ first.old)
+        × (others.new ≡ others.old) }
+    ensures hall { IsHall hall.old }
+    ensures counts { AreTotals (tally 1 result) hall.old.counts }
+    ensures told { (result.begun
+        ≡ all.old.begun + (begun_by first.old + sum_by begun_by others.old))
+        × (result.committed
+        ≡ all.old.committed + (committed_by first.old + sum_by committed_by others.old))
+        × (result.rolled_back
+        ≡ all.old.rolled_back + (rolled_back_by first.old + sum_by rolled_back_by others.old)) }
+{
+    let told = Counted {
+        begun: first.begun,
+        committed: first.committed,
+        rolled_back: first.rolled_back,
+    };
+    first.told.give(all, told);
+    let counted = audit_desks(hall, all, others);
+    all.give(&mut first.told, told);
+    counted
+}
+
+impl<J: Naming, B: Ledger, C: Ledger, R: Ledger> Front<J, B, C, R> {
+    /// Purges up to a moment, no further than the newest and each pin, and gives the horizon.
+    pub fn purge<W: Wait>(&self, rt: &W, moment: Moment) -> Moment
+        ensures { APurge moment result }
+    {
+        enter(rt, &self.hall).purge(moment)
+    }
+}
+
+impl<J: Naming, B: Ledger, C: Ledger, R: Ledger> Desk<J, B, C, R> {
+    /// Gives the terminal whose desk it is.
+    pub fn terminal(&self) -> Terminal
+        ensures { result ≡ self.now.seat.terminal }
+    {
+        self.seat.terminal()
+    }
+
+    /// Begins a transaction. `AlreadyOpen` where the terminal has one open. A refusal has changed
+    /// nothing.
+    pub fn begin<W: Wait>(
+        &mut self,
+        rt: &W,
+        front: &Front<J, B, C, R>,
+        request: &Request,
+    ) -> Result<Open, Refusal>
+        requires { HasProgram request.now }
+        ensures turn { ABegin self.old request.now result }
+        ensures told { self.new ≡ with_told (begin_told (begins result) self.old.told) self.old }
+        ensures open { IfOk result (λ o. (o.shop ≡ self.old.seat.shop)
+            × (o.terminal ≡ self.old.seat.terminal)) }
+    {
+        let terminal = self.seat.terminal();
+        match enter(rt, &front.hall).begin(&mut self.told, terminal, request) {
+            Ok(()) => {
+                self.begun += 1;
+                Ok(Open {
+                    shop: self.seat.shop(),
+                    terminal,
+                })
+            }
+            Err(refusal) => Err(refusal),
+        }
+    }
+
+    /// Carries out the next stage of a transaction that the desk began, which commits after the
+    /// last. `NotOpen` of any other.
+    pub fn advance<W: Wait>(&mut self, rt: &W, front: &Front<J, B, C, R>, work: Open) -> Turn
+        ensures turn { AnAdvance self.old work result }
+        ensures told { self.new ≡ with_told (told_of (advances result) self.old.told) self.old }
+    {
+        if !self.began(&work) {
+            return Turn::Kept(work, Refusal::NotOpen);
+        }
+        let terminal = self.seat.terminal();
+        match enter(rt, &front.hall).advance(&mut self.told, terminal) {
+            Ended::More => Turn::More(work),
+            Ended::Kept(refusal) => Turn::Kept(work, refusal),
+            Ended::Committed(moment, reply) => {
+                self.committed += 1;
+                work.spend();
+                Turn::Committed(moment, reply)
+            }
+            Ended::RolledBack(refusal) => {
+                self.rolled_back += 1;
+                work.spend();
+                Turn::RolledBack(refusal)
+            }
+        }
+    }
+
+    /// Rolls a transaction back that the desk began. `NotOpen` of any other, which comes back.
+    pub fn end<W: Wait>(
+        &mut self,
+        rt: &W,
+        front: &Front<J, B, C, R>,
+        work: Open,
+    ) -> Result<(), (Refusal, Open)>
+        ensures turn { AnEnd self.old work result }
+        ensures told { self.new ≡ with_told (end_told (ends result) self.old.told) self.old }
+    {
+        if !self.began(&work) {
+            return Err((Refusal::NotOpen, work));
+        }
+        let terminal = self.seat.terminal();
+        match enter(rt, &front.hall).end(&mut self.told, terminal) {
+            Ok(()) => {
+                self.rolled_back += 1;
+                work.spend();
+                Ok(())
+            }
+            Err(refusal) => Err((refusal, work)),
+        }
+    }
+
+    /// Answers a query of the moment that the desk's pin holds: never `TooOld`. `NotPinned` with
+    /// the desk's pin word, where the pin is another desk's.
+    pub fn read<W: Wait>(
+        &self,
+        rt: &W,
+        front: &Front<J, B, C, R>,
+        pin: &Pin,
+        query: &Query,
+    ) -> Result<QueryReply, Refusal>
+        ensures turn { ARead self.now pin.now query.now result }
+        ensures young { IsYoung result }
+    {
+        if !self.seat.holds(pin) {
+            return Err(Refusal::NotPinned(self.seat.word()));
+        }
+        enter(rt, &front.hall).read(pin, query)
+    }
+
+    /// Loads the newest moment, which is at least each that this desk saw or told.
+    pub fn newest(&mut self, front: &Front<J, B, C, R>) -> Moment
+        ensures desk { self.new ≡
+            with_seat (with_notes (saw result self.old.seat.notes) self.old.seat) self.old }
+        ensures rises { self.old.seat.notes.seen ≤ result }
+    {
+        let moments = &*front.moments;
+        moments.newest(&mut self.seat)
+    }
+
+    /// Tells a moment: from then on this desk sees no earlier one as the newest.
+    pub fn told(&mut self, front: &Front<J, B, C, R>, moment: Moment)
+        ensures desk { self.new ≡ with_seat (with_notes
+            (saw self.new.seat.notes.seen self.old.seat.notes) self.old.seat) self.old }
+        ensures rises { self.old.seat.notes.seen ≤ self.new.seat.notes.seen }
+        ensures told { moment ≤ self.new.seat.notes.seen }
+    {
+        let moments = &*front.moments;
+        moments.told(&mut self.seat, moment);
+    }
+
+    /// Tells whether the desk has a pin out.
+    pub fn is_pinned(&self) -> bool
+        ensures { result ≡ is_pinned self.now.seat.notes.pin }
+    {
+        self.seat.is_pinned()
+    }
+
+    /// Pins the newest moment. `TooOld` with the keeper's claim, where that is above it.
+    pub fn pin(&mut self, front: &Front<J, B, C, R>) -> Result<Pin, TooOld>
+        requires { is_pinned self.old.seat.notes.pin ≡ false }
+        ensures desk { self.new ≡
+            with_seat (with_notes self.new.seat.notes self.old.seat) self.old }
+        ensures rises { self.old.seat.notes.seen ≤ self.new.seat.notes.seen }
+        ensures ok { IfOk result (λ p. Holds self.new.seat p
+            × (p.moment ≡ self.new.seat.notes.seen)) }
+        ensures err { IfErr result (λ e. (self.new.seat.notes.pin ≡ Free)
+            × (e.claim ≡ self.new.seat.notes.claim) × (self.new.seat.notes.seen < e.claim)) }
+    {
+        let moments = &*front.moments;
+        moments.pin(&mut self.seat)
+    }
+
+    /// Ends a pin of this desk. Any other is handed back with this desk's pin word, and nothing has
+    /// changed.
+    pub fn unpin(&mut self, front: &Front<J, B, C, R>, pin: Pin) -> Result<(), (NotPinned, Pin)>
+        ensures ok { OnOk result (self.new ≡ with_seat
+            (with_notes (with_pin Free self.old.seat.notes) self.old.seat) self.old) }
+        ensures own { OnOk result (Holds self.old.seat pin) }
+        ensures err { IfErr result (λ e. (e.0.word ≡ pin_word self.old.seat.notes.pin)
+            × (e.1 ≡ pin) × (self.new ≡ self.old)) }
+        ensures other { OnErr result (Holds self.old.seat pin → ⊥) }
+    {
+        let moments = &*front.moments;
+        moments.unpin(&mut self.seat, pin)
+    }
+
+    // Tells whether the desk began a transaction.
+    fn began(&self, work: &Open) -> bool
+        ensures { IsTrue result ↔ IsOwn self.now work.now }
+    {
+        let seat = &self.seat;
+        work.shop == seat.shop() && work.terminal.get() == seat.terminal().get()
+    }
+}
+
+impl Open {
+    // Spends a transaction that has ended.
+    fn spend(self) {
+        let Open {
+            shop: _,
+            terminal: _,
+        } = self;
+    }
+}
