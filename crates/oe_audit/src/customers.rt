@@ -1,4 +1,5 @@
-//! The tenth and twelfth consistency conditions, of customers.
+//! Consistency conditions 10 and 12 (clauses 3.3.2.10 and 3.3.2.12) at the customers of a district,
+//! against the ledgers of what was delivered and paid.
 ghost use Rattle.std.specs.Prelude.{◌≡◌, ◌≤◌, IsTrue, Some};
 ghost use Rattle.oe_store.specs.Places.{rows};
 ghost use Rattle.oe_audit.specs.AsOf.{rows_then, row_then, ArePassed};

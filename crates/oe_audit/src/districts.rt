@@ -1,4 +1,5 @@
-//! The second, third and fourth consistency conditions, at a district.
+//! Consistency conditions 2 to 4 (clauses 3.3.2.2 to 3.3.2.4) at a district, in the tables or in a
+//! version. A walk of its orders and lines gathers what they compare, and takes no memory.
 ghost use Rattle.std.specs.Prelude.{◌≡◌, ◌≤◌, ◌+◌, ◌↔◌, ◌==◌, IsTrue};
 ghost use Rattle.oe_model.specs.Audits.{greatest, some_and, none_or, order_numbers, new_order_numbers};
 ghost use Rattle.oe_store.specs.Places.{rows};

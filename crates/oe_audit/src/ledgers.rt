@@ -154,7 +154,7 @@ impl Ledger {
         }
     }
 
-    /// Whether the sums are those of the district.
+    /// Tells whether the sums are the district's.
     fn is_of(&self, district: &DistrictKey) -> bool
         ensures { IsTrue result → self.now.district ≡ Some district.now }
     {

@@ -1,4 +1,5 @@
-//! The test of a population.
+//! The test of a population: whether a core may be opened on these tables. Each table is walked
+//! once for each of the conditions that it asks.
 ghost use Rattle.std.specs.Prelude.{◌≡◌, ◌↔◌, ◌==◌, IsTrue, is_some};
 ghost use Rattle.std.specs.FinMap.{get};
 ghost use Rattle.oe_model.specs.Conditions.{IsPopulation};

@@ -1,4 +1,4 @@
-//! The first consistency condition, at a warehouse.
+//! Consistency condition 1 (clause 3.3.2.1) at a warehouse, in the tables or in a version.
 ghost use Rattle.std.specs.Prelude.{◌≡◌};
 ghost use Rattle.oe_store.specs.Places.{rows};
 ghost use Rattle.oe_audit.specs.AsOf.{rows_then, ArePassed};

@@ -1,4 +1,5 @@
-//! A change of one row.
+//! One change of a row, for callers that use the tables alone. It either stands whole and gives the
+//! record that undoes it, or is refused with its cause and changes nothing.
 ghost use Rattle.std.specs.Prelude.{◌≡◌, IfOk, IfErr, OnErr};
 ghost use Rattle.oe_model.specs.Meets.{Accepts};
 ghost use Rattle.oe_change.specs.Changes.{change_of};

@@ -1,4 +1,5 @@
-//! The undo of changes by their records.
+//! The undo of changes by their records: applied to the tables that a change left, it gives back
+//! all nine tables. It takes no memory and is never refused.
 ghost use Rattle.std.specs.Prelude.{◌≡◌};
 ghost use Rattle.oe_model.specs.Changes.{put_back};
 ghost use Rattle.oe_layout.specs.Records.{record_of_own};

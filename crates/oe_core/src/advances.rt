@@ -1,9 +1,10 @@
-//! How an advance ends.
+//! How an advance ends. The core lends the reply of a commit until its terminal begins again, so
+//! that no answer carries one.
 
 use oe_requests::Refusal;
 use oe_values::Moment;
 
-/// How an advance ends. The reply of a commit is told by the core, until its terminal begins again.
+/// How an advance ends. `Core::last_reply` lends the reply of a commit until its terminal begins again.
 #[derive(Drop)]
 pub enum Advanced {
     /// A row is done, and there is a further one.

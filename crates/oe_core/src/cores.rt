@@ -1,4 +1,7 @@
-//! The core.
+//! The core: an engine, and in a slot for each terminal its open transaction's request, program and
+//! mark. By its invariant it stands for a world that steps of the machine led to; each public call
+//! is one such step, or is refused with its cause and changes nothing. Memory may be refused to
+//! `open` and `begin`, and to an advance.
 ghost use Rattle.std.specs.Prelude.{◌≡◌, ◌↔◌, IfOk, IfSome, IsSome, is_some, suc, option_map};
 ghost use Rattle.oe_theory.specs.World.{horizon, latest, newest, tables, total};
 ghost use Rattle.oe_theory.specs.Next.{Next, IsQuiet, count_open};

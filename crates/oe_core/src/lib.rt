@@ -1,4 +1,4 @@
-//! The core: overlapping transactions as the machine.
+//! The core: overlapping transactions. Each call is one step of the model's machine.
 #![tactic(auto)]
 
 pub mod advances;

@@ -195,7 +195,7 @@ impl Work {
         }
     }
 
-    /// What a commit keeps, once the program is at its end: request and reply, of which there is no byte; none before that.
+    /// Gives what a commit keeps once the program is at its end, request and reply without a byte; none before.
     #[inline]
     pub fn ended(&self) -> Option<(Snapshot<Request>, Snapshot<Reply>)>
         ensures request { IfSome result (λ s. s.0.value ≡ self.now.request) }

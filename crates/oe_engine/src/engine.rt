@@ -1,4 +1,7 @@
-//! The engine.
+//! The engine: tables, undo log and locks as one, and what names a transaction of it. By its
+//! invariant each key with a place in the tables has one for its link, and open work can be put
+//! back in any order of terminals. Programs in crates above use it through the calls of this
+//! crate's other files.
 ghost use Rattle.std.specs.Prelude.{◌≡◌, ◌≤◌, ◌<◌, ◌-◌, ◌↔◌, ◌⊎◌, ℕ, IsTrue, suc, true, false, [], length, Option, None, Some, is_some, option_map, IfOk, IfErr, OnOk, OnErr};
 ghost use Rattle.oe_theory.specs.Machine.{Take};
 ghost use Rattle.oe_theory.specs.World.{total};
@@ -339,7 +342,7 @@ impl Engine {
         oe_journal::take_back(&mut self.tables, &mut self.undo, segment, count);
     }
 
-    /// Commits a transaction with its request and reply, of which no byte is kept, and answers the moment of the commit. It takes no
+    /// Commits a transaction with its request and reply, keeps no byte of either, and answers the moment of the commit. It takes no
     /// memory. A transaction that is not open in this engine is handed back, and nothing has changed.
     pub fn commit(
         &mut self,

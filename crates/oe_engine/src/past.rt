@@ -1,4 +1,5 @@
-//! Commits that are forgotten or undone.
+//! Commits that a purge forgets or a rewind undoes. Neither takes memory; refused, either changes
+//! nothing.
 ghost use Rattle.std.specs.Prelude.{◌≡◌, IfErr, OnOk, OnErr};
 ghost use Rattle.oe_log.specs.Moments.{IsOutside};
 ghost use Rattle.oe_journal.specs.GivesUp.{GivesUpDeleted};
@@ -11,7 +12,7 @@ use oe_values::Moment;
 
 impl Engine {
     /// Forgets the commits up to a moment, which becomes the oldest that can be read. All rows, open work and the later commits
-    /// stay as they are; the NEW-ORDER keys that the forgotten commits deleted, that have no row, and of which no record is left, have
+    /// stay as they are; the NEW-ORDER keys that the forgotten commits deleted, that have no row and no record left, have
     /// no place any more. It takes no memory.
     ///
     /// `TooOld` with the oldest, `Future` with the newest moment: the moment is not between the two. Nothing has changed then.

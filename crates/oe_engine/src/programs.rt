@@ -1,4 +1,4 @@
-//! What a stage of a program asks for, and how it ends.
+//! What a stage of a program asks for, and how a stage ends.
 
 use oe_requests::Refusal;
 use oe_rows::{Mode, Name};

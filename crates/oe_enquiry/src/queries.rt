@@ -1,4 +1,4 @@
-//! A query of a moment, of either kind.
+//! A query of a moment, of either kind, with the refusals that come before its answer.
 ghost use Rattle.std.specs.Prelude.{◌≡◌, IfOk, IfErr};
 ghost use Rattle.oe_theory.specs.Machine.{Here, Missing};
 ghost use Rattle.oe_model.specs.Requests.{query_rejection};

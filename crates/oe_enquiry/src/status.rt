@@ -1,4 +1,4 @@
-//! Order-Status (clause 2.6): a customer's newest order.
+//! Order-Status (clause 2.6): a customer's newest order and its lines, as they stood at a moment.
 ghost use Rattle.std.specs.Prelude.{◌≡◌, IfOk, IfErr};
 ghost use Rattle.oe_theory.specs.Machine.{Here, Missing};
 ghost use Rattle.oe_requests.specs.declared.replies.QueryReply.TheVariants as told;

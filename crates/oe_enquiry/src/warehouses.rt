@@ -1,4 +1,4 @@
-//! Whether the warehouse of a query is there.
+//! Whether the warehouse of a query is there; a query of another is refused.
 ghost use Rattle.std.specs.Prelude.{◌≡◌, [], ◌∷◌};
 ghost use Rattle.oe_model.specs.Requests.{first_absent};
 ghost use Rattle.oe_store.specs.Places.{rows};

@@ -1,4 +1,4 @@
-//! What has one image as bytes.
+//! What has one image as bytes, which a writer puts at an offset.
 ghost use Rattle.std.specs.Prelude.{◌≡◌, ◌≤◌, ◌+◌, ℕ, List, length};
 ghost use Rattle.oe_extent.specs.Images.{Writes};
 

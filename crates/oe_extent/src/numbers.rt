@@ -1,4 +1,5 @@
-//! Numbers, most significant byte first.
+//! Numbers as bytes, the most significant byte first. Writing needs room; reading answers none
+//! where the bytes are too few.
 ghost use Rattle.std.specs.Prelude.{◌≡◌, ◌≤◌, ◌<◌, ◌+◌, ◌^◌, length, IfSome};
 ghost use Rattle.std.specs.Option.{option_map};
 ghost use Rattle.oe_extent.specs.Images.{Writes, number, number_at};

@@ -1,4 +1,6 @@
-//! The bytes of an extent, as strings.
+//! The bytes of one extent, packed with strings from byte 0 on. By its invariant they are exactly
+//! the images of its strings, and no string leaves the extent; a string that does not fit is
+//! refused.
 ghost use Rattle.std.specs.Prelude.{◌≡◌, ◌<◌, ◌≤◌, ◌+◌, [], ◌∷◌, length, drop};
 ghost use Rattle.oe_extent.specs.declared.sizes.TheConstants.{EXTENT_BYTES, LENGTH_BYTES};
 ghost use Rattle.oe_extent.specs.Strings.{last_length, joined, IsFramed, HasOffset, IsStringFrom};

@@ -1,4 +1,4 @@
-//! Runs of bytes.
+//! Runs of bytes, copied to an offset and read from the front.
 ghost use Rattle.std.specs.Prelude.{◌≡◌, ◌≤◌, ◌+◌, length};
 ghost use Rattle.std.specs.Option.{option_map};
 ghost use Rattle.oe_extent.specs.Images.{Writes, run_at};

@@ -1,4 +1,4 @@
-//! Customers read from the front of bytes.
+//! Customers read from the front of bytes, exactly where a customer's image stands there.
 ghost use Rattle.std.specs.Prelude.{◌≡◌};
 ghost use Rattle.std.specs.Option.{option_map};
 ghost use Rattle.oe_fronts.specs.RowFronts.{customer_name_at, account_at, customer_at};

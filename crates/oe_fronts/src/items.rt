@@ -1,4 +1,4 @@
-//! Items and their stock read from the front of bytes.
+//! Items and stock read from the front of bytes, exactly where their images stand there.
 ghost use Rattle.std.specs.Prelude.{◌≡◌};
 ghost use Rattle.std.specs.Option.{option_map};
 ghost use Rattle.oe_fronts.specs.ColumnFronts.{ten_texts_at};

@@ -1,4 +1,4 @@
-//! Keys read from the front of bytes.
+//! Keys read from the front of bytes, exactly where a key's image stands there.
 ghost use Rattle.std.specs.Prelude.{◌≡◌};
 ghost use Rattle.std.specs.Option.{option_map};
 ghost use Rattle.oe_fronts.specs.Fronts.{Reads};

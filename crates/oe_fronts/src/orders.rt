@@ -1,4 +1,5 @@
-//! Histories, orders and their lines read from the front of bytes.
+//! Histories, orders and lines read from the front of bytes, exactly where their images stand
+//! there.
 ghost use Rattle.std.specs.Prelude.{◌≡◌};
 ghost use Rattle.std.specs.Option.{option_map};
 ghost use Rattle.oe_fronts.specs.RowFronts.{history_at, order_at, order_line_at};

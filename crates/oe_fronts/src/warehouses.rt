@@ -1,4 +1,5 @@
-//! Addresses, warehouses and districts read from the front of bytes.
+//! Addresses, warehouses and districts read from the front of bytes, exactly where their images
+//! stand there.
 ghost use Rattle.std.specs.Prelude.{◌≡◌};
 ghost use Rattle.std.specs.Option.{option_map};
 ghost use Rattle.oe_fronts.specs.RowFronts.{address_at, warehouse_at, district_at};

@@ -50,8 +50,8 @@ pub fn rewinds_restore()
     ensures { Rewinds_restore }
 {}
 
-/// Beside an open transaction each step of others is answered as it is without that transaction, unless it gives way to it: it
-/// is told `Busy` with that terminal, a full ring, that the terminal is open already, or that nothing may be open.
+/// Beside an open transaction each step of others is answered as it is without that transaction, unless it gives way to it:
+/// its answer is `Busy` with that terminal, `UndoFull`, `AlreadyOpen` or `NotQuiet`.
 pub fn others_see_nothing()
     ensures { Others_see_nothing system }
 {}

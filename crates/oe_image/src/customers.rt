@@ -1,4 +1,4 @@
-//! Images of customers.
+//! Images of customers: names, accounts, and rows with an address and data.
 ghost use Rattle.std.specs.Prelude.{◌≡◌, ◌≤◌, ◌+◌, length};
 ghost use Rattle.oe_extent.specs.Images.{Writes};
 ghost use Rattle.oe_image.specs.Rows.{customer_name, account, customer};

@@ -1,4 +1,4 @@
-//! Images of items and their stock.
+//! Images of items and of their stock, by the order of their columns.
 ghost use Rattle.std.specs.Prelude.{◌≡◌, ◌≤◌, ◌+◌, length};
 ghost use Rattle.oe_extent.specs.Images.{Writes};
 ghost use Rattle.oe_image.specs.Columns.{ten_texts};

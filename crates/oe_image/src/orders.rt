@@ -1,4 +1,4 @@
-//! Images of histories, orders and their lines.
+//! Images of histories, orders and order lines, by the order of their columns.
 ghost use Rattle.std.specs.Prelude.{◌≡◌, ◌≤◌, ◌+◌, length};
 ghost use Rattle.oe_extent.specs.Images.{Writes};
 ghost use Rattle.oe_image.specs.Rows.{history, new_order, order, order_line};

@@ -1,4 +1,4 @@
-//! Images of rows of any table, and of a row with its key.
+//! Images of rows of any table, and of a row behind its key.
 ghost use Rattle.std.specs.Prelude.{◌≡◌, ◌≤◌, ◌+◌, length};
 ghost use Rattle.oe_extent.specs.Images.{Writes};
 ghost use Rattle.oe_image.specs.Rows.{row_image, image_of};

@@ -1,4 +1,4 @@
-//! Images of addresses, warehouses and districts.
+//! Images of addresses, warehouses and districts, by the order of their columns.
 ghost use Rattle.std.specs.Prelude.{◌≡◌, ◌≤◌, ◌+◌, length};
 ghost use Rattle.oe_extent.specs.Images.{Writes};
 ghost use Rattle.oe_image.specs.Rows.{address, warehouse, district};

@@ -141,7 +141,7 @@ impl Customers {
         customer.account = *account;
     }
 
-    /// Sets the account of the row at a key that has a row, and puts an entry before C_DATA, of which what passes 500 bytes is
+    /// Sets the account of the row at a key that has a row, and puts an entry before C_DATA, where what passes 500 bytes is
     /// discarded (clause 2.5.2.2).
     pub fn set_bad_credit(&mut self, key: &CustomerKey, account: &Account, entry: &Text<0, 90>)
         requires { IsSome (map.get (rows_of customer_cmp self.old) key.now) }

@@ -1,4 +1,4 @@
-//! Whether two things are so. Nothing can fail.
+//! Two truths as one value, by which a walk stops. Nothing can fail.
 ghost use Rattle.std.specs.Prelude.{◌≡◌, ◌&&◌};
 
 /// Whether both are so.

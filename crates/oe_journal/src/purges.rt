@@ -1,4 +1,6 @@
-//! A purge: the oldest commits are forgotten.
+//! A purge: the log drops its oldest commits, and the tables give up the places of NEW-ORDER keys
+//! that these deleted and that nothing names any more. The cost grows with the commits that go
+//! alone.
 ghost use Rattle.std.specs.Prelude.{◌≡◌, ◌-◌, ◌<◌, ◌≤◌, ◌↔◌, [], ℕ, Option, length, drop, get_or, IsTrue, IfErr, OnOk, OnErr};
 ghost use Rattle.oe_theory.specs.Store.{Slot, purged_to};
 ghost use Rattle.oe_model.specs.Rows.{Rows};
@@ -20,7 +22,7 @@ use oe_undo::laws::{calls_keep_chains, ends_without_records};
 use oe_values::Moment;
 
 /// Gives up the segments of the commits up to a moment, which becomes the horizon, and the places of the NEW-ORDER keys that these
-/// commits deleted, that have no row, and of which no record is left. Rows, counts of commits and open segments stay as they are, and
+/// commits deleted, that have no row and no record left. Rows, counts of commits and open segments stay as they are, and
 /// so do all later versions. It takes no memory, and visits no segment that is kept.
 ///
 /// `TooOld` with the horizon, `Future` with the newest moment: the moment is not between the two. Nothing has changed then.
@@ -48,7 +50,7 @@ pub fn purge(tables: &mut Tables, undo: &mut Undo, moment: Moment) -> Result<(),
     }
 }
 
-/// Gives up the segments of the `count` oldest commits, of which the moment is the last, with the places of what they deleted.
+/// Drops the segments of the `count` oldest commits, the last of which made `moment`, with the places of what they deleted.
 fn forget_oldest(tables: &mut Tables, undo: &mut Undo, moment: Moment, count: usize)
     requires kept { count ≤ length undo.old.log.committed }
     requires last { moment

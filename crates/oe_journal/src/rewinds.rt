@@ -1,4 +1,5 @@
-//! A rewind: the newest commits are undone.
+//! A rewind: the records of the newest commits are put back, the newest first, while nothing is
+//! open. It takes no memory, and refused it changes nothing.
 ghost use Rattle.std.specs.Prelude.{◌≡◌, ◌-◌, ◌<◌, ◌≤◌, ℕ, Option, None, length, take, IfErr, OnOk, OnErr};
 ghost use Rattle.oe_theory.specs.Undo.{unwind_commits};
 ghost use Rattle.oe_theory.specs.Store.{Slot, rewound_to};

@@ -1,4 +1,4 @@
-//! Rows changed in their place, without a record.
+//! Rows changed where they lie, once their records are pushed. Nothing can fail.
 ghost use Rattle.std.specs.Prelude.{◌≡◌, IsSome, IfErr, OnOk, OnErr};
 ghost use Rattle.oe_change.specs.Writes.{written};
 ghost use Rattle.oe_store.specs.Places.{rows};

@@ -1,4 +1,4 @@
-//! What is told where memory was refused for the place of a key's link, and the key has no place in its table either: what the tables
+//! Which refusal a write answers where memory was refused for the place of a key's link, and the key has no place in its table either: what the tables
 //! would say.
 ghost use Rattle.std.specs.Prelude.{IsSome};
 ghost use Rattle.oe_model.specs.Changes.{key_of, InsertHistory, InsertNewOrder, InsertOrder, InsertOrderLine};

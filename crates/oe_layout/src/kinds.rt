@@ -1,4 +1,5 @@
-//! What was done, and in which table.
+//! What a record says was done, inserted, updated or deleted, and in which table. Only pairs that a
+//! change makes are kinds.
 ghost use Rattle.std.specs.Prelude.{◌≡◌};
 ghost use Rattle.std.specs.Option.{option_map};
 ghost use Rattle.oe_layout.specs.declared.parts.TheConstants.{KIND_BYTES};

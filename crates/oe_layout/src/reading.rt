@@ -1,4 +1,5 @@
-//! Undo records read from bytes.
+//! Undo records read from bytes: exactly the bytes that some record is written as are read, and
+//! give that record.
 ghost use Rattle.std.specs.Prelude.{◌≡◌, ◌==◌, length};
 ghost use Rattle.std.specs.Option.{option_map};
 ghost use Rattle.oe_layout.specs.RecordFronts.{contents_at, body_at, record_at, ReadsRecord};

@@ -1,4 +1,4 @@
-//! Undo records with their rows.
+//! Undo records with rows of their own, as reading gives them and as `oe_change` undoes them.
 ghost use Rattle.std.specs.Prelude.{◌≡◌};
 ghost use Rattle.oe_model.specs.Changes.{record_key};
 ghost use Rattle.oe_layout.specs.Records.{record_of_own};

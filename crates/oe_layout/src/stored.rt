@@ -1,4 +1,4 @@
-//! Undo records where they lie as bytes.
+//! Undo records where they lie as bytes. A part, as its kind or its key, is read without the row.
 ghost use Rattle.std.specs.Prelude.{◌≡◌, ◌++◌};
 ghost use Rattle.oe_extent.specs.declared.sizes.TheConstants.{LENGTH_BYTES};
 ghost use Rattle.oe_extent.specs.Images.{number};

@@ -1,4 +1,5 @@
-//! Reading a line.
+//! A line's one meaning, or none: each function reads one form of the grammar, exactly. The forms
+//! that most lines of a script have come first and are read by themselves.
 ghost use Rattle.std.specs.Prelude.{◌≡◌, ℕ, IfSome, Some};
 ghost use Rattle.std.specs.Option.{option_map};
 ghost use Rattle.oe_requests.specs.declared.requests.PaymentRequest.{PaymentRequest};
@@ -80,7 +81,7 @@ fn read_begun_payment(line: &[u8]) -> Option<(Terminal, PaymentRequest)>
     Some((terminal, payment(rest)?))
 }
 
-/// The lines of which a script has most come first.
+/// The forms that most lines of a script have come first.
 #[tactic(auto, unfolding(crate::specs::Reading::command_of))]
 fn read_command(line: &[u8]) -> Option<Command>
     ensures { result ≡ command_of line.now }

@@ -1,4 +1,5 @@
-//! The terminals that hold one name: one alone, or some together.
+//! The terminals that hold one name, one alone or some together, and who of them is in another's
+//! way.
 ghost use Rattle.std.specs.Prelude.{◌≡◌, ◌≢◌, ◌==◌, ℕ, Some, None, MatchOption, if◌then◌else◌};
 ghost use Rattle.oe_locks.specs.Held.{risen, IsFree, IsFirstInTheWay};
 ghost use Rattle.oe_locks.specs.Holders.{mode_among, mode_by};

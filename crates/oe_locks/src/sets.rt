@@ -1,4 +1,4 @@
-//! Sets of terminals.
+//! Sets of terminals, a bit for each, so that they are copied and take no memory.
 ghost use Rattle.std.specs.Prelude.{◌≡◌, ◌==◌, ℕ, true, false, MatchOption, if◌then◌else◌};
 ghost use Rattle.oe_locks.specs.Holders.{has, IsLeast};
 

@@ -1,4 +1,4 @@
-//! Which moments are kept, and how many commits came after one.
+//! Which moments the log keeps, and how many commits came after one of them.
 ghost use Rattle.std.specs.Prelude.{◌≡◌, ◌-◌, ◌≤◌, length, IfOk, IfErr, OnOk};
 ghost use Rattle.oe_log.specs.Moments.{newest, IsKeptMoment, IsUnkept};
 

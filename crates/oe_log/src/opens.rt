@@ -1,4 +1,5 @@
-//! Open segments.
+//! Open segments: opened for a terminal, filled with records, marked, cut back, and dropped. Only
+//! `open_segment` takes memory, and `push` alone is refused for want of an extent.
 ghost use Rattle.std.specs.Prelude.{◌≡◌, ◌<◌, ◌↔◌, suc, false, [], length, option_map, None, IsSome, IsErr, IfOk, OnOk, OnErr};
 ghost use Rattle.oe_extent.specs.declared.sizes.TheConstants.{EXTENT_BYTES};
 ghost use Rattle.oe_model.specs.Lengths.{record_length};

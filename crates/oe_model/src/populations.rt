@@ -1,4 +1,5 @@
-//! The population that a database begins with.
+//! Laws of the population that a database begins with: there is one and only one of each scale, and
+//! it meets what `Core::open` asks.
 ghost use Rattle.oe_model.specs.PopulationRanges.{Population_exists, Population_is_in_range};
 ghost use Rattle.oe_model.specs.PopulationTest.{Population_is_tested};
 ghost use Rattle.oe_model.specs.PopulationLaws.{Population_is_one, Worked_population};

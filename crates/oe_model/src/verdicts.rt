@@ -1,4 +1,5 @@
-//! The verdicts of audits.
+//! Laws of audits: the tests that verdicts are computed by are the standard's conditions, both
+//! ways.
 ghost use Rattle.oe_model.specs.Verdicts.{Tests_are_conditions, Verdicts_are_exact};
 
 /// Each audit's test of a row is its condition at that row.

@@ -1,4 +1,5 @@
-//! What the holder of a seat knows of the words.
+//! What the holder of a seat knows of the words: what a desk saw and told, how far its pin has
+//! come, and how far the keeper's scan has.
 use oe_values::Moment;
 
 /// How far a desk's pin has come.

@@ -1,4 +1,5 @@
-//! The program of a new order: one stage at each call, by its position.
+//! The program of a new order (clause 2.4): one stage at each call, by its position, under the lock
+//! that governs the stage's row.
 ghost use Rattle.std.specs.Prelude.{◌≡◌, option_map};
 ghost use Rattle.oe_requests.specs.declared.requests.Request.{Request};
 ghost use Rattle.oe_requests.specs.Reply.{told_reply};
@@ -95,7 +96,7 @@ impl Program {
     ///
     /// The order of refusals is `NoCustomer` or `InvalidItem`, which stop before the lock, `Busy`, `Overflow`, `UndoFull` where the
     /// change's record has no room, and `NoMemory` where memory was refused for a new name or an inserted row. A refused stage leaves
-    /// the program, the tables and the locks as they were. Each stage of an order is told the same request.
+    /// the program, the tables and the locks as they were. Each stage of an order takes the same request.
     pub fn next(&mut self, request: &NewOrderRequest, engine: &mut Engine, tx: &Tx) -> Progress
         requires { IsOpen engine.old tx.now →
             HoldsTaken request.now tx.now engine.old (position_of request.now self.old) }

@@ -69,7 +69,7 @@ fn answers_that_no_script_gets(rt: HostRuntime) {
     assert!(rt; is_told(purged(), "purged 999999999999\n"));
 }
 
-/// Whether an audit that fails at a district is told so.
+/// Tells whether the answer of an audit names the district at which it fails.
 fn is_failure_told() -> bool {
     let Some(district) = district_key(1, 3) else {
         return false;

@@ -37,7 +37,7 @@ fn with_customer(digest: u32, customer: &CustomerChoice) -> u32 {
     }
 }
 
-// The seconds of a stamp, of which a digest has the last 32 bits.
+// The last 32 bits of a stamp's seconds, as a digest has them.
 fn short(seconds: u64) -> u32 {
     (seconds & 0xffff_ffff) as u32
 }

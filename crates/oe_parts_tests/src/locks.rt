@@ -1,4 +1,4 @@
-//! Who is told of whom among several holders, one of whom wants the name alone.
+//! Whom `Busy` names among several holders of a name, one of whom wants it alone.
 use oe_locks::Locks;
 use oe_requests::Refusal;
 use oe_rows::{Mode, Name, StockKey};

@@ -24,7 +24,7 @@ fn warehouse_address() -> Option<Address> {
     })
 }
 
-/// Warehouse 1 with a year to date of so many cents: 1,000.00 as it is populated at 10 customers a district. Its record has 77 bytes.
+/// Makes warehouse 1 with `cents` as its year to date: 1,000.00 as it is populated at 10 customers a district. Its record has 77 bytes.
 pub(crate) fn warehouse(year_to_date: u64) -> Option<(WarehouseKey, Warehouse)> {
     let key = WarehouseKey {
         warehouse: Number::new(1)?,
@@ -82,7 +82,7 @@ fn ten_texts() -> Option<[Text<24, 24>; 10]> {
     ])
 }
 
-/// Stock (1, 1), of which ten were sold since it was populated.
+/// Makes stock (1, 1) after a sale of ten.
 pub(crate) fn stock() -> Option<(StockKey, Stock)> {
     let key = StockKey {
         warehouse: Number::new(1)?,

@@ -44,7 +44,7 @@ fn in_short(message: &Message) -> u32 {
     }
 }
 
-// What is taken next, in short; 0 where nothing is told.
+// Takes the next message, in short; 0 where there is none.
 fn next(rt: &impl Wait, taker: &mut Taker) -> u32 {
     match taker.take(rt) {
         Some(message) => in_short(&message),

@@ -8,8 +8,8 @@ use oe_rows::DistrictKey;
 use oe_store::Tables;
 use oe_values::CustomerNumber;
 
-/// C_ID of the customer that is meant: the one that is given, whether or not there is such a row, or that of the customer in the
-/// middle of those of the last name; none where nobody in the district has that name.
+/// Gives the C_ID that a request means: the number that it gives, whether or not there is such a row, or the customer's in the
+/// middle of all with that last name; none where nobody in the district has the name.
 pub fn selected_customer(
     district: &DistrictKey,
     choice: &CustomerChoice,

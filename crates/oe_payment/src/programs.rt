@@ -1,4 +1,5 @@
-//! The program of a payment: one stage at each call, by its position.
+//! The program of a payment (clause 2.5): one stage at each call, by its position, under the lock
+//! that governs the stage's row.
 ghost use Rattle.std.specs.Prelude.{◌≡◌, option_map};
 ghost use Rattle.std.specs.Option.{option_copied};
 ghost use Rattle.oe_requests.specs.declared.requests.Request.{Request};
@@ -68,7 +69,7 @@ impl Program {
 
     /// One stage of the payment: its lock and its one change. The order of refusals is `NoCustomer`, `Busy`, `Overflow`, `UndoFull`
     /// where the change's record has no room, and `NoMemory` where memory was refused for a new name or the inserted row. A refused
-    /// stage leaves the program, the tables and the locks as they were. Each stage of a payment is told the same request.
+    /// stage leaves the program, the tables and the locks as they were. Each stage of a payment takes the same request.
     #[inline(always)]
     pub fn next(&mut self, request: &PaymentRequest, engine: &mut Engine, tx: &Tx) -> Progress
         ensures { Progresses (Request.Payment request.now) tx.now

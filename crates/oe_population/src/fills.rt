@@ -1,4 +1,5 @@
-//! The tables of the population, filled key after key.
+//! The tables of the population, filled key after key in their order; each public function fills
+//! one table, or is refused memory.
 ghost use Rattle.std.specs.Prelude.{◌≡◌, ◌≤◌, ◌<◌, ◌+◌, ◌*◌, ◌/◌, ◌%◌, OnOk, IfOk};
 ghost use Rattle.std.specs.FinMap.{empty};
 ghost use Rattle.oe_rows.specs.Key.{warehouse_cmp, district_cmp, customer_cmp, history_cmp, new_order_cmp, order_cmp, order_line_cmp, item_cmp, stock_cmp};

@@ -1,4 +1,4 @@
-//! The rows that the population's formulas give.
+//! The rows that the population's formulas give, each equal to the model's row of that key.
 ghost use Rattle.std.specs.Prelude.{◌≡◌, ◌≤◌};
 ghost use Rattle.oe_model.specs.Population.{address_of, warehouse_of, district_of, customer_of, history_of, history_key, order_of, line_of, item_of, stock_of, last_delivered, lines_of, start};
 

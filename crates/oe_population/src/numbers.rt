@@ -1,4 +1,4 @@
-//! Numbers and sums of money that are known to be in their ranges.
+//! Numbers and sums of money that are known to be in their ranges, made without a refusal.
 ghost use Rattle.std.specs.Prelude.{◌≡◌, ◌≤◌};
 
 use oe_values::{Amount, Number};

@@ -1,4 +1,5 @@
-//! The texts that the population's formulas give.
+//! The texts that the population's formulas give: numbers with leading zeros, syllables, letters in
+//! turn.
 ghost use Rattle.std.specs.Prelude.{◌≡◌, ◌≤◌, ◌<◌, ◌+◌, ◌++◌, true, length, codes};
 ghost use Rattle.std.specs.List.{list_all};
 ghost use Rattle.std.specs.Int.{IsInRange};

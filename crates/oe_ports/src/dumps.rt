@@ -153,7 +153,7 @@ fn total<W: Outlet>(count: u64, out: &mut Pending, to: &mut W) -> Result<(), Fai
     Ok(())
 }
 
-/// Writes the lines of rows, and that of their count.
+/// Writes the lines of rows, and the line with their count.
 fn dump_rows<K, R: DumpedRow<K>, W: Outlet>(
     walk: Rows<'_, K, R>,
     out: &mut Pending,

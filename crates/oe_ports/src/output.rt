@@ -1,4 +1,5 @@
-//! Output that waits in a buffer of fixed size.
+//! Output that waits in a buffer of fixed size until it is written whole. Where a write fails, what
+//! waited is not written again.
 ghost use Rattle.std.specs.Prelude.{◌≡◌, ◌<◌, ◌≤◌, ◌+◌, ◌++◌, ℕ, [], length, decimal, codes, MatchResult, IfOk};
 ghost use Rattle.arrayvec.specs.ArrayVec.{array_vec_len};
 ghost use Rattle.oe_ports.specs.Ports.{Streams, Cut};

@@ -1,4 +1,5 @@
-//! Where a script comes from and where its answers go.
+//! Where a script comes from and where its answers go: what a reader and a writer have to tell of
+//! the bytes that they move, and of calls that failed.
 ghost use Rattle.std.specs.Prelude.{◌≡◌, ◌<◌, ◌≤◌, ◌+◌, ℕ, List, length, Option, Some, None, IfOk};
 ghost use Rattle.oe_ports.specs.Ports.{Source, Sink, Reads, Writes};
 

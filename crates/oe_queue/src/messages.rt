@@ -1,4 +1,4 @@
-//! What is put into the queue.
+//! What senders put into the queue: deliveries, and an end mark behind the last.
 use oe_requests::DeliveriesRequest;
 use oe_values::Terminal;
 

@@ -70,7 +70,7 @@ impl Split<Knowledge> for Making {
     ghost right = { next_sender };
 }
 
-/// The taker's step: it is told what a sender submitted, which is then gone.
+/// The taker's step: it takes what a sender submitted, which is then gone.
 pub struct Telling;
 
 impl Join<Knowledge> for Telling {

@@ -113,7 +113,7 @@ impl Sender {
         }
     }
 
-    /// Compares what was taken with what was submitted, of which it is a beginning. This does nothing: it is a law.
+    /// Compares what was taken with what was submitted: it is a beginning. This does nothing: it is a law.
     pub fn compare(self, taker: &mut Taker)
         requires { self.queue ≡ taker.old.queue }
         ensures same { taker.new ≡ taker.old }

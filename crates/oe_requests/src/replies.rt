@@ -86,8 +86,8 @@ pub enum Reply {
     Rename(RenameReply),
 }
 
-/// A reply that a program has come to its end with, lent where its parts lie. So it is told without room for a whole `Reply`, of which
-/// a payment's fills an eighth. Clauses see the reply that it is, by `told_reply`.
+/// A reply that a program has come to its end with, lent where its parts lie: a whole `Reply` takes eight times
+/// the room of a payment's. Clauses see the reply that it is, by `told_reply`.
 #[derive(Drop)]
 pub enum ReplyRef<'a> {
     Payment(&'a PaymentReply),

@@ -90,7 +90,7 @@ pub struct StatusQuery {
     pub customer: CustomerChoice,
 }
 
-/// The number of a district's recent items of which less than the threshold is in stock (clause 2.8.1).
+/// Asks how many of a district's recent items are in stock below the threshold (clause 2.8.1).
 #[derive(Clone, Copy)]
 pub struct LevelQuery {
     pub district: DistrictKey,

@@ -1,4 +1,4 @@
-//! The total of an order, and the data of customers with bad credit.
+//! The total of an order, rounded to cents, and the data of customers with bad credit.
 ghost use Rattle.std.specs.Prelude.{◌≡◌, ◌+◌, ◌*◌, ◌≤◌, ◌∷◌, ◌++◌, [], length, decimal};
 ghost use Rattle.std.specs.List.{All};
 ghost use Rattle.arrayvec.specs.ArrayString.{array_string_len};

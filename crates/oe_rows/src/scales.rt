@@ -1,4 +1,4 @@
-//! How large a database is.
+//! How large a database is: warehouses, customers a district, and items.
 use oe_values::numbers::{CustomerNumber, ItemNumber, WarehouseNumber};
 
 /// The number of warehouses, of customers in each district, and of items.

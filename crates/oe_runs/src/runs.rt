@@ -1,4 +1,5 @@
-//! Runs of steps.
+//! Runs of steps: a list answered one step after another, or refused before its first. The contract
+//! of `run` carries what follows for any list, and for any population.
 ghost use Rattle.std.specs.Prelude.{◌≡◌, IfOk, IfSome, OnErr};
 ghost use Rattle.std.specs.List.{All};
 ghost use Rattle.oe_admission.specs.Programs.{HasProgram};

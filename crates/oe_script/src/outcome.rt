@@ -91,7 +91,7 @@ fn first_line(core: &mut Option<Core>, alloc: Global, line: &[u8], number: u128,
     }
 }
 
-/// The same where something is open. A run is told by the terminal alone, since a command is long.
+/// The same where something is open. A run has the terminal alone, since a command is long.
 fn run_or_later<W: Outlet>(
     core: &mut Core,
     line: &[u8],
@@ -276,7 +276,7 @@ fn tell_next(core: &mut Core, terminal: Terminal, out: &mut Pending)
     tell_advanced(core, terminal, &ended, out);
 }
 
-/// Takes rows up to the first whose answer is not `more`, which alone is told.
+/// Runs stages until one does not answer `more`, and writes only that answer.
 fn tell_run(core: &mut Core, terminal: Terminal, out: &mut Pending)
     requires room { array_vec_len out.old + LONGEST ≤ SIZE }
     requires live { IsLive (Some (world_of core.old)) }
@@ -301,7 +301,7 @@ fn run(core: &mut Core, terminal: Terminal) -> Advanced
     }
 }
 
-/// Appends the answer of a terminal's advance that ended so. The reply of a commit is told by the core.
+/// Appends the answer of a terminal's advance that ended so. The core lends the reply of a commit.
 #[inline(always)]
 fn tell_advanced(core: &Core, terminal: Terminal, ended: &Advanced, out: &mut Pending)
     requires room { array_vec_len out.old + LONGEST ≤ SIZE }

@@ -1,4 +1,5 @@
-//! A script's run from its first byte to its last.
+//! A script's run from its first byte to its last: lines are found in what the reader gives,
+//! answered in turn, and written at the latest before the next read.
 ghost use Rattle.oe_script.specs.Session.{ScriptRan};
 
 use crate::session::{Fault, Session};

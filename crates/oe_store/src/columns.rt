@@ -68,7 +68,7 @@ impl Tables {
         self.customers.set_account(key, account);
     }
 
-    /// Sets the account of the CUSTOMER row of a key, and puts an entry before C_DATA, of which what passes 500 bytes is
+    /// Sets the account of the CUSTOMER row of a key, and puts an entry before C_DATA, where what passes 500 bytes is
     /// discarded (clause 2.5.2.2).
     pub fn set_bad_credit(&mut self, key: &CustomerKey, account: &Account, entry: &Text<0, 90>)
         requires { IsSome (get (rows self.old).customers key.now) }

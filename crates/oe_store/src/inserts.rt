@@ -1,4 +1,5 @@
-//! Inserts of rows.
+//! Inserts of rows that the schema accepts, as each call's `requires` says. A refused growth leaves
+//! the tables as they were; a blanked key's place takes no memory.
 ghost use Rattle.std.specs.Prelude.{◌≡◌, OnOk, OnErr};
 ghost use Rattle.oe_model.specs.Changes.{changed, InsertHistory, InsertNewOrder, InsertOrder, InsertOrderLine};
 ghost use Rattle.oe_model.specs.Meets.{Accepts};

@@ -1,4 +1,4 @@
-//! Walks over the tables in the keys' order, which take no memory.
+//! Walks over the tables in the keys' order, whole or of one parent's rows. They take no memory.
 ghost use Rattle.std.specs.Prelude.{◌≡◌, ◌≤◌};
 ghost use Rattle.std.specs.FinMap.{entries};
 ghost use Rattle.oe_model.specs.Keys.{warehouse_of_district, district_of_customer, district_of_new_order, district_of_order, order_of_line};

@@ -91,7 +91,7 @@ fn no_shelves<'a, K, R>() -> &'a [Shelf<K, R>]
     &[]
 }
 
-// The slots of a shelf, of which there are none where there is no such shelf.
+// The slots of a shelf; none where there is no such shelf.
 fn slots_on<K, R>(shelves: &[Shelf<K, R>], number: usize) -> &[Slot<K, R>]
     ensures { result.now ≡ slice_index_or shelves.now number [] }
 {

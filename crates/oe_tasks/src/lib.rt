@@ -91,7 +91,7 @@ standard error names (fault: read, fault: write, fault: output closed, fault: no
 and for a FILE that can't be opened; and 2 where the command line is none of these.
 docs/SCRIPTS.md is the manual: stages, locks, refusals, columns and worked scripts.";
 
-/// What these words ask for, of which the first is the program's name.
+/// Finds what these words ask for; the first is the program's name.
 ///
 /// An error is a command line that is none of the forms, a request for help, or a want of memory.
 pub fn job<'a, S: AsStr>(alloc: Global, words: &'a [S]) -> Result<Task<'a>, Error>

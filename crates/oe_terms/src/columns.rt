@@ -1,4 +1,5 @@
-//! The parts of requests.
+//! The parts of requests: which warehouse, district, customer and item a terminal names, each drawn
+//! from its generator or told by its number.
 ghost use Rattle.std.specs.Prelude.{◌≡◌, ◌<◌, ◌≤◌};
 ghost use Rattle.oe_terms.specs.Columns.{home, other, stamp_of, district_in, customer_number, name_number, name_drawn, item_number, choice, residence};
 

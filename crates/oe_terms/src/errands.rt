@@ -64,7 +64,7 @@ fn drawn(scale: &Scale, terminal: Terminal, r: RequestNumber, words: &mut Lcg64X
     }
 }
 
-/// Draws the r-th errand of a terminal from its generator, of which the earlier ones were drawn.
+/// Draws the r-th errand of a terminal from its generator, which has drawn the earlier ones.
 pub fn errand(scale: &Scale, terminal: Terminal, r: RequestNumber, words: &mut Lcg64Xsh32) -> Errand
     ensures drawn { (result, words.new) ≡ errand_of scale.now terminal r words.old }
     ensures ranges { IsErrandOf scale.now result }

@@ -1,4 +1,4 @@
-//! Orders (clause 2.4.1).
+//! Orders (clause 2.4.1): how many lines, and each line's item, supplier and quantity.
 ghost use Rattle.std.specs.Prelude.{◌≡◌, ◌<◌, length};
 ghost use Rattle.oe_terms.specs.Errands.{line, used_lines, lines, new_order};
 
@@ -38,7 +38,7 @@ fn line(
     }
 }
 
-/// Draws so many lines, each of an item that is there.
+/// Draws `count` lines, each of an item that is there.
 fn used_lines(
     scale: &Scale,
     warehouse: WarehouseNumber,
@@ -56,7 +56,7 @@ fn used_lines(
     drawn
 }
 
-/// Draws so many lines, of which the last one's item may be unused (clause 2.4.1.5).
+/// Draws `count` lines; the item of the last may be unused (clause 2.4.1.5).
 fn lines(
     scale: &Scale,
     warehouse: WarehouseNumber,

@@ -1,4 +1,4 @@
-//! Answers.
+//! The texts of answers, appended to a buffer in which the longest has room.
 ghost use Rattle.std.specs.Prelude.{◌≡◌, ◌≤◌, ◌+◌, ◌++◌, codes, decimal};
 ghost use Rattle.arrayvec.specs.ArrayVec.{array_vec_len};
 ghost use Rattle.oe_requests.specs.declared.answers.Answer.{Answer};

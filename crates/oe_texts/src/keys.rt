@@ -1,4 +1,4 @@
-//! Keys, as their columns parted by one byte, and the names of locks.
+//! Keys as their columns parted by one byte, and the names of locks, as answers print them.
 ghost use Rattle.std.specs.Prelude.{◌≡◌, ◌≤◌, ◌+◌, ◌++◌};
 ghost use Rattle.std.specs.List.{join_with_byte};
 ghost use Rattle.arrayvec.specs.ArrayVec.{array_vec_len};

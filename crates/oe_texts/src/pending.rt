@@ -1,4 +1,4 @@
-//! The buffer that texts are appended to.
+//! The buffer that texts are appended to, and whether the longest answer has room in it.
 ghost use Rattle.std.specs.Prelude.{◌≡◌, ◌≤◌, ◌+◌, ◌++◌, ◌↔◌, length, IsTrue};
 ghost use Rattle.arrayvec.specs.ArrayVec.{array_vec_len};
 

@@ -1,4 +1,4 @@
-//! Refusals.
+//! The texts of refusals: a number and a name, and what was refused.
 ghost use Rattle.std.specs.Prelude.{◌≡◌, ◌≤◌, ◌+◌, ◌++◌};
 ghost use Rattle.arrayvec.specs.ArrayVec.{array_vec_len};
 ghost use Rattle.oe_texts.specs.Refusal.{refusal_text, error_text};

@@ -1,4 +1,5 @@
-//! The moments of terminals' commits.
+//! The moments at which each terminal's kept commits were made, the newest first, by which a
+//! record's owner is dated. Room for the next commit is taken as its transaction begins.
 ghost use Rattle.std.specs.Prelude.{◌≡◌, ◌+◌, ◌-◌, ◌≤◌, ◌∷◌, [], length, take, drop, slice_get, IfOk, OnOk};
 ghost use Rattle.oe_undo.specs.Owners.{AreIdle};
 

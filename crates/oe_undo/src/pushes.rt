@@ -1,4 +1,5 @@
-//! Records pushed and taken off, each with its key's link.
+//! Records pushed and taken off, each with its key's link: the record is written with the link that
+//! stands, then the link leads to it. A refused push changes nothing.
 ghost use Rattle.std.specs.Prelude.{◌≡◌, None, option_map, IsSome, IfErr, OnOk, OnErr};
 ghost use Rattle.std.specs.Borrow.{sem};
 ghost use Rattle.std.specs.Io.BufRead.{Rests};

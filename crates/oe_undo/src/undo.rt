@@ -1,4 +1,5 @@
-//! The undo log beside the links.
+//! The undo log beside the links: the newest record of each key is found by the key's link, and
+//! each record leads to the one before it. By its invariant links and records agree.
 ghost use Rattle.std.specs.Prelude.{◌≡◌, ◌<◌, [], None, IsSome, IfSome, IfOk, OnOk, OnErr};
 ghost use Rattle.oe_rows.specs.declared.keys.Key.{Key};
 ghost use Rattle.oe_rows.specs.declared.keys.Key.TheVariants.{History};

@@ -1,4 +1,4 @@
-//! What a growth may be refused.
+//! The one error of a growth that was refused memory.
 
 /// There was no memory.
 #[derive(Clone, Copy)]

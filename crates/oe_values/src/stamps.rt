@@ -223,7 +223,7 @@ impl Stamp {
         spelled(moment.date, moment.time)
     }
 
-    /// The seconds after 1900-01-01T00:00:00, where a stamp has so many: to 2100-12-31T23:59:59.
+    /// Gives the stamp at these seconds after 1900-01-01T00:00:00; none past 2100-12-31T23:59:59.
     #[inline]
     pub fn from_seconds(seconds: u64) -> Option<Stamp>
         ensures variant { IsSome result ↔ (seconds < SECONDS) }

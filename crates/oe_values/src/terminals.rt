@@ -27,7 +27,7 @@ impl<T> Model for PerTerminal<T> {
 impl<T> PerTerminal<T> {
     ghost use Rattle.oe_values.specs.TerminalsLend.{lends_at};
 
-    /// Keeps these elements, of which there are 65.
+    /// Keeps these 65 elements.
     #[inline(always)]
     pub fn of(items: Vec<T>) -> Self
         requires { vec_len items ≡ suc TERMINALS }

@@ -95,7 +95,7 @@ impl<const LEAST: usize, const MOST: usize> Text<LEAST, MOST> {
         self.held.as_str()
     }
 
-    /// This text before `rest`, of which what passes `MOST` bytes is discarded.
+    /// Puts this text before `rest`, and discards what passes `MOST` bytes.
     pub fn before<const REST: usize>(&self, rest: &Text<LEAST, REST>) -> Text<LEAST, REST>
         requires { MOST ≤ REST }
         ensures { result ≡ take REST (self.now ++ rest.now) }

@@ -1,4 +1,5 @@
-//! The last order of a customer as it stood at a moment.
+//! The last order of a customer as it stood at a moment, found by a walk over the orders listed for
+//! the customer.
 ghost use Rattle.std.specs.Prelude.{◌≡◌};
 ghost use Rattle.std.specs.Ordering.{eq_by_cmp};
 ghost use Rattle.oe_rows.specs.Key.{customer_cmp};

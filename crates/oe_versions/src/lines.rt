@@ -1,4 +1,4 @@
-//! The lines of an order as they stood at a moment.
+//! The lines of an order as they stood at a moment, by their numbers, at most 15.
 ghost use Rattle.std.specs.Prelude.{◌≡◌, map};
 ghost use Rattle.oe_model.specs.Delivery.{lines_of};
 ghost use Rattle.oe_model.specs.Queries.{status_line};

@@ -1,4 +1,5 @@
-//! The customer that a last name meant at a moment.
+//! The customer that a last name meant at a moment, by first name and number as the standard counts
+//! (clause 2.5.2.2).
 ghost use Rattle.std.specs.Prelude.{◌≡◌};
 ghost use Rattle.oe_model.specs.Choice.{namesakes, middle};
 ghost use Rattle.oe_versions.specs.Versions.{rows_of, Stand};

@@ -1,4 +1,5 @@
-//! Rows as they stood at a moment.
+//! Rows as they stood at a moment: the row that stands now, or the one in the key's oldest record
+//! after the moment.
 ghost use Rattle.std.specs.Prelude.{◌≡◌, is_some, option_and_then};
 ghost use Rattle.std.specs.FinMap.{get};
 ghost use Rattle.oe_rows.specs.declared.keys.Key.TheVariants as keys;
