@@ -9,6 +9,8 @@ mod ends;
 #[cfg(test)]
 mod engines;
 #[cfg(test)]
+mod first_calls;
+#[cfg(test)]
 mod further_audits;
 #[cfg(test)]
 mod populations;

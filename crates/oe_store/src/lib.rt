@@ -1,4 +1,15 @@
-//! The nine tables, which keep the schema. Clauses of the standard are those of TPC Benchmark C 5.11.
+//! The nine tables as one value, whose type keeps the schema. Clauses of the standard are those of
+//! TPC Benchmark C 5.11. A test asks and sets them so:
+//!
+//! ```
+//! let oldest = tables.oldest(district)?.get();
+//! let customer = tables.middle(district, &last.as_text())?.get();
+//! let warehouse = district.warehouse_key();
+//! let before = tables.warehouse(warehouse)?.ytd.cents();
+//! tables.set_warehouse_ytd(&warehouse, YearToDate::new(before + 1)?);
+//! let after = tables.warehouse(warehouse)?.ytd.cents();
+//! Some((oldest, customer) == (8, 7) && after == before + 1)
+//! ```
 #![tactic(auto)]
 
 pub mod choices;
