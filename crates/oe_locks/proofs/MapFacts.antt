@@ -3,8 +3,6 @@ use Rattle.std.proofs.Common.{◌≡◌, ℕ, zero, suc, ◌<◌, ◌≤◌, Boo
 use Rattle.std.proofs.lemmas.Bool.{false≢true}
 use Rattle.std.proofs.lemmas.List.{take_all}
 use Rattle.std.specs.Map.{lookup}
-use Rattle.std.specs.List.{filter}
-use Rattle.std.proofs.lemmas.Map.Entries.{lookup-filter-keys}
 use Rattle.oe_rows.specs.declared.locks.Name.{Name}
 use Rattle.oe_rows.specs.contracts.locks.NamePartialEq.TheImpl.{ghosts}
 use Rattle.oe_locks.specs.declared.holders.Holders.{Holders}
@@ -116,15 +114,6 @@ changes-last es xs (Some x) n is none some = λ q. go q (ghosts.eq n q) refl ∙
     go q false e =
         other (lookup (ghosts.eq q) xs) (ghosts.eq q x.0) (ap (ghosts.eq q) (sym this) ∙ (same_sym q n ∙ e)) ∙ sym (lookup-append q xs (x ∷ []))
 
--- entries without a name
-pub changes-filter : (xs : Holdings) (n : Name) → Changes xs (filter (λ x. not (ghosts.eq n x.0)) xs) n None
-changes-filter xs n q =
-    lookup-filter-keys (ghosts.eq q) (λ k. not (ghosts.eq n k)) (not (ghosts.eq n q)) (λ k e. ap (λ z. not (ghosts.eq n z)) (sym (same_true q k e))) xs ∙ go (ghosts.eq n q)
-  where
-    go : (b : Bool) → cond (not b) (lookup (ghosts.eq q) xs) None ≡ cond b None (lookup (ghosts.eq q) xs)
-    go true = refl
-    go false = refl
-
 -- where nothing is, nothing goes
 pub changes-none : (r : Holdings) (n : Name) → r ≡ [] → Changes r r n None
 changes-none r n e q = go (ghosts.eq n q) (ap (lookup (ghosts.eq q)) e)
@@ -155,17 +144,6 @@ found_next n (e ∷ es) (suc i) x within at this = go (ghosts.eq n e.0) (found_n
     go : (b : Bool) → IsSome (lookup (ghosts.eq n) (take (suc i) es)) → IsSome (cond b (Some e.1) (lookup (ghosts.eq n) (take (suc i) es)))
     go true s = refl
     go false s = s
-
--- the entry has the name where those before it have not, and it is found with it
-pub named_at : (n : Name) (es : Holdings) (i : ℕ) (x : Name × Holders) → i < length es → x ≡ get_or es i x → lookup (ghosts.eq n) (take i es) ≡ None
-    → IsSome (lookup (ghosts.eq n) (take (i + 1) es)) → ghosts.eq n x.0 ≡ true
-named_at n es i x within at none some = go (ghosts.eq n x.0) refl
-  where
-    go : (b : Bool) → ghosts.eq n x.0 ≡ b → ghosts.eq n x.0 ≡ true
-    go true e = e
-    go false e =
-        let gone : lookup (ghosts.eq n) (take (i + 1) es) ≡ None = subst (λ (k : ℕ). lookup (ghosts.eq n) (take k es) ≡ None) (sym (add-one i)) (none_next n es i x within at e none) in
-        absurd (false≢true (sym (ap is_some gone) ∙ some))
 
 -- the first entry with the name
 pub found_at : (n : Name) (es : Holdings) (i : ℕ) (x : Name × Holders) → i < length es → x ≡ get_or es i x → ghosts.eq n x.0 ≡ true → lookup (ghosts.eq n) (take i es) ≡ None → Some x.1 ≡ lookup (ghosts.eq n) es

@@ -1,11 +1,12 @@
-//! Which names are held, and by whom. The first few lie on a short list, where a name is found by comparing it with each, and only
-//! those beyond it in a map: so the names of a few transactions are never hashed. Nothing is moved from one to the other. Only
+//! Which names are held, and by whom. The first few lie on a short list, where a name is found by
+//! comparing it with each, and only those beyond it in a map: so the names of a few transactions, or
+//! of a delivery of ten districts, are never hashed. Nothing is moved from one to the other. Only
 //! `insert` takes memory, and only it can fail.
 ghost use Rattle.std.specs.Prelude.{◌≡◌, ◌<◌, ◌+◌, [], length, take, IfSome, IfNone, IsSome, None, Some, OnOk, OnErr, true, false};
 ghost use Rattle.std.specs.Map.{lookup};
 ghost use Rattle.oe_rows.specs.contracts.locks.NamePartialEq.TheImpl.{ghosts};
 ghost use Rattle.oe_locks.specs.declared.holders.Holders.TheVariants.{Alone};
-ghost use Rattle.oe_locks.specs.Names.{Changes};
+ghost use Rattle.oe_locks.specs.Names.{Changes, AreOnce};
 
 use crate::holders::Holders;
 use oe_rows::Name;
@@ -15,7 +16,7 @@ use std::collections::HashMap;
 use std::marker::Model;
 
 /// How many names lie on the list at most.
-const FEW: usize = 8;
+const FEW: usize = 32;
 
 /// The names that are held, each with its holders, which clauses see as a list.
 #[derive(Drop)]
@@ -28,10 +29,13 @@ pub(crate) struct NameMap {
 impl Model for NameMap {
     ghost use Rattle.std.specs.Prelude.{◌++◌};
     ghost use Rattle.oe_locks.specs.Held.{Holdings};
+    ghost use Rattle.oe_locks.specs.Names.{AreOnce};
 
     ghost Value = { Holdings };
 
     ghost view = { λ m. m.few.items ++ m.rest.entries };
+
+    ghost invariant = { λ m. AreOnce m.few.items };
 }
 
 // The holders of the first entry with the name.
@@ -83,6 +87,7 @@ fn put(entries: &mut Vec<(Name, Holders)>, name: &Name, after: &Holders) -> bool
         Changes entries.old.items entries.new.items name.now (Some after.now) }
     ensures absent { result ≡ false → lookup (ghosts.eq name.now) entries.old.items ≡ None }
     ensures same { result ≡ false → entries.new.items ≡ entries.old.items }
+    ensures once { AreOnce entries.old.items → AreOnce entries.new.items }
 {
     for i in 0..entries.len() {
         if *name == entries[i].0 {
@@ -93,30 +98,39 @@ fn put(entries: &mut Vec<(Name, Holders)>, name: &Name, after: &Holders) -> bool
     false
 }
 
-// Takes all entries with the name off the list.
+// Takes the entry with the name off the list, if there is one.
 #[inline]
 fn strike_listed(entries: &mut Vec<(Name, Holders)>, name: &Name)
-    ensures { Changes entries.old.items entries.new.items name.now None }
+    requires { AreOnce entries.old.items }
+    ensures changes { Changes entries.old.items entries.new.items name.now None }
+    ensures once { AreOnce entries.new.items }
 {
-    entries.retain(|entry| *name != entry.0);
+    let Some(at) = place(entries, name) else {
+        return;
+    };
+    entries.remove(at);
 }
 
-// Takes the last entry off the list where it alone has the name and the terminal alone holds it, and answers whether it was so.
+// Takes the last entry off the list where it has the name and the terminal alone holds it, and
+// answers whether it was so.
 #[inline(always)]
 fn strike_last(entries: &mut Vec<(Name, Holders)>, name: &Name, terminal: Terminal) -> bool
+    requires { AreOnce entries.old.items }
     ensures alone { result ≡ true →
         lookup (ghosts.eq name.now) entries.old.items ≡ Some (Alone terminal) }
     ensures left { result ≡ true →
         Changes entries.old.items entries.new.items name.now None }
     ensures same { result ≡ false → entries.new.items ≡ entries.old.items }
+    ensures once { AreOnce entries.new.items }
 {
-    let Some(at) = place(entries, name) else {
-        return false;
-    };
-    if at + 1 != entries.len() {
+    let count = entries.len();
+    if count == 0 {
         return false;
     }
-    match entries[at].1 {
+    if *name != entries[count - 1].0 {
+        return false;
+    }
+    match entries[count - 1].1 {
         Holders::Alone(holder) if holder == terminal => {
             entries.pop();
             true

@@ -1,7 +1,9 @@
 use Rattle.std.proofs.Common.{rules, ◌≡◌, ℕ, ◌<◌, ◌≤◌, true, false, Some, None, length, cond, take, sym, ap, ◌∙◌, subst, add-one, arith}
 use Rattle.std.specs.Map.{lookup}
 use Rattle.oe_rows.specs.contracts.locks.NamePartialEq.TheImpl.{ghosts}
+use Rattle.oe_locks.specs.Names.{AreOnce}
 use Rattle.oe_locks.proofs.MapFacts.{changes_set, none_next, none_all}
+use Rattle.oe_locks.proofs.OnceFacts.{once-set}
 use Rattle.oe_locks.proofs.name_map.put.Goals as goal
 
 pub returns-then-eq-clause-put : goal.returns-then-eq-clause-put
@@ -10,6 +12,12 @@ returns-then-eq-clause-put c t q =
     let this : ghosts.eq c.args.name.now c.index.result.now.0 ≡ true = search (rules, c.if-eq.ensures, c.eq.ensures, c.if-eq.true) in
     changes_set c.args.name.now c.loop-i.entries.items c.loop-i.i c.index.result.now c.args.after.now within c.index.ensures this c.loop-i.invariant.passed q
     ∙ ap (λ es. cond (ghosts.eq c.args.name.now q) (Some c.args.after.now) (lookup (ghosts.eq q) es)) c.loop-i.invariant.same
+
+pub returns-then-eq-clause-once : goal.returns-then-eq-clause-once
+returns-then-eq-clause-once c o =
+    let within : c.loop-i.i < length c.loop-i.entries.items = omega (arith, c.loop-i-test.true, c.len-i-end.ensures, c.args.entries.now.ok.0, ap length c.loop-i.invariant.same) in
+    let this : ghosts.eq c.args.name.now c.index.result.now.0 ≡ true = search (rules, c.if-eq.ensures, c.eq.ensures, c.if-eq.true) in
+    once-set c.args.name.now c.loop-i.entries.items c.loop-i.i c.index.result.now c.args.after.now within c.index.ensures this (subst AreOnce (sym c.loop-i.invariant.same) o)
 
 pub loop-i-preserved : goal.loop-i-preserved
 loop-i-preserved c =
