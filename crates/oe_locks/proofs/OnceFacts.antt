@@ -1,5 +1,5 @@
 -- Lists of entries on which no name stands twice.
-use Rattle.std.proofs.Common.{◌≡◌, ℕ, zero, suc, ◌<◌, Bool, true, false, cond, [], ◌∷◌, ◌++◌, length, take, set, get_or, Option, None, Some, IsSome, refl, sym, ap, ◌∙◌, subst, arith}
+use Rattle.std.proofs.Common.{◌≡◌, ℕ, zero, suc, ◌<◌, ◌≤◌, Bool, true, false, cond, [], ◌∷◌, ◌++◌, length, take, drop, set, get_or, Option, None, Some, IsSome, refl, sym, ap, ◌∙◌, subst, arith}
 use Rattle.std.proofs.lemmas.Bool.{false≢true}
 use Rattle.std.specs.Map.{lookup}
 use Rattle.std.specs.List.{remove}
@@ -77,6 +77,20 @@ once_before [] i x within at o = absurd (omega (arith, within))
 once_before (e ∷ es) zero x within at o = refl
 once_before (e ∷ es) (suc i) x within at o =
     together x.0 e (take i es) (same_sym x.0 e.0 ∙ none_at e.0 es i x (omega (arith, within)) at o.0) (once_before es i x (omega (arith, within)) at o.1)
+
+-- from an entry of another name on, the name is not there where it is not behind the entry
+pub none_from : (n : Name) (es : Holdings) (i : ℕ) (x : Name × Holders) → i < length es → x ≡ get_or es i x → ghosts.eq n x.0 ≡ false → lookup (ghosts.eq n) (drop (suc i) es) ≡ None
+    → lookup (ghosts.eq n) (drop i es) ≡ None
+none_from n [] i x within at other none = absurd (omega (arith, within))
+none_from n (e ∷ es) zero x within at other none = together n e es (ap (λ (z : Name × Holders). ghosts.eq n z.0) (sym at) ∙ other) none
+none_from n (e ∷ es) (suc i) x within at other none = none_from n es i x (omega (arith, within)) at other none
+
+-- behind the last entry it is not
+pub none_behind : (n : Name) (es : Holdings) (i : ℕ) → length es ≤ i → lookup (ghosts.eq n) (drop i es) ≡ None
+none_behind n [] zero past = refl
+none_behind n [] (suc i) past = refl
+none_behind n (e ∷ es) zero past = absurd (omega (arith, past))
+none_behind n (e ∷ es) (suc i) past = none_behind n es i (omega (arith, past))
 
 -- an entry has gone
 none-removed : (q : Name) (es : Holdings) (i : ℕ) → lookup (ghosts.eq q) es ≡ None → lookup (ghosts.eq q) (remove es i) ≡ None

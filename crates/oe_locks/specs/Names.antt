@@ -1,5 +1,5 @@
 -- Names that are held, as a list of entries.
-use Rattle.std.specs.Prelude.{◌≡◌, Option, None, List, [], ◌∷◌, cond}
+use Rattle.std.specs.Prelude.{◌≡◌, Option, None, [], ◌∷◌, cond}
 use Rattle.std.specs.Map.{lookup}
 use Rattle.oe_rows.specs.declared.locks.Name.{Name}
 use Rattle.oe_rows.specs.contracts.locks.NamePartialEq.TheImpl.{ghosts}

@@ -6,12 +6,12 @@
 //! only for a name that a terminal does not hold yet.
 #![tactic(auto)]
 
-ghost use Rattle.std.specs.Prelude.{◌≡◌, ◌≢◌, [], ◌++◌, ◌∷◌, ℕ, not, MatchOption, OnOk, OnErr, IfOk, IfErr, IfNone, IsSome, Some, None};
+ghost use Rattle.std.specs.Prelude.{◌≡◌, ◌≢◌, [], ◌++◌, ◌∷◌, ℕ, not, MatchOption, OnOk, OnErr, IfOk, IfErr, IfNone, IsSome, Some, None, true};
 ghost use Rattle.std.specs.List.{filter};
 ghost use Rattle.std.specs.Map.{lookup};
 ghost use Rattle.oe_rows.specs.contracts.locks.NamePartialEq.TheImpl.{ghosts};
 ghost use Rattle.oe_requests.specs.declared.refusals.Refusal.TheVariants.{NoMemory};
-ghost use Rattle.oe_locks.specs.Held.{held, is_name, IsIdle, IsFreeFor, IsInTheWay, Takes, GivesBack, HoldsNothing, OthersKeep, IsCause, IsBelow};
+ghost use Rattle.oe_locks.specs.Held.{held, is_name, risen, IsIdle, IsFreeFor, IsInTheWay, Takes, GivesBack, HoldsNothing, OthersKeep, IsCause, IsBelow};
 ghost use Rattle.oe_locks.specs.Holders.{mode_among, mode_by};
 ghost use Rattle.oe_locks.specs.Listed.{IsListed, Enters};
 ghost use Rattle.oe_locks.specs.Names.{Changes};
@@ -153,6 +153,17 @@ fn join(
     Ok(())
 }
 
+// Whether a mode in which a name is held stays as it is where that mode is asked for.
+#[inline(always)]
+fn covers(was: Mode, mode: Mode) -> bool
+    ensures { result ≡ true → risen mode (Some was) ≡ was }
+{
+    match was {
+        Mode::Exclusive => true,
+        Mode::Shared => matches!(mode, Mode::Shared),
+    }
+}
+
 // Takes a name off a terminal's list.
 fn strike(names: &mut Vec<Name>, name: &Name)
     ensures { names.new.items ≡ filter (λ q. not (is_name q name.now)) names.old.items }
@@ -277,6 +288,9 @@ impl Locks {
                 Ok(None)
             }
             Some(was) => {
+                if covers(was, mode) {
+                    return Ok(Some(was));
+                }
                 self.change(name, terminal, after);
                 Ok(Some(was))
             }
@@ -285,7 +299,7 @@ impl Locks {
 
     /// Takes the name for the terminal, or raises the mode in which the terminal holds it, where nobody is in the way, and
     /// answers the mode in which the terminal held it before, or `None` where it did not hold it. A mode is never lowered. A
-    /// name that nobody holds is looked up once, and any other twice, however many names are held.
+    /// name that nobody holds is looked up once, and so is one that the terminal holds in that mode or a greater one.
     ///
     /// `Busy` names the least other terminal that holds the name in a mode that conflicts. `NoMemory` comes only where
     /// nobody does, and the terminal does not hold the name yet in any mode. After an error nothing has changed.

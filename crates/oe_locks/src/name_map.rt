@@ -38,14 +38,17 @@ impl Model for NameMap {
     ghost invariant = { λ m. AreOnce m.few.items };
 }
 
-// The holders of the first entry with the name.
+// The holders of the entry with the name. The newest are looked at first: they are asked for again.
 #[inline(always)]
 fn listed(entries: &[(Name, Holders)], name: &Name) -> Option<Holders>
+    requires { AreOnce entries.now }
     ensures { result ≡ lookup (ghosts.eq name.now) entries.now }
 {
-    for entry in entries {
-        if *name == entry.0 {
-            return Some(entry.1);
+    let mut left = entries.len();
+    while left > 0 {
+        left -= 1;
+        if *name == entries[left].0 {
+            return Some(entries[left].1);
         }
     }
     None

@@ -1,19 +1,23 @@
-use Rattle.std.proofs.Common.{rules, ◌≡◌, ℕ, true, false, None, take, sym, subst, add-one}
+use Rattle.std.proofs.Common.{rules, ◌≡◌, ◌-◌, ◌<◌, true, Some, None, length, take, sym, ap, ◌∙◌, subst, arith}
 use Rattle.std.specs.Map.{lookup}
+use Rattle.oe_rows.specs.declared.locks.Name.{Name}
 use Rattle.oe_rows.specs.contracts.locks.NamePartialEq.TheImpl.{ghosts}
-use Rattle.oe_locks.proofs.MapFacts.{found_at, none_next, none_all}
+use Rattle.oe_locks.specs.declared.holders.Holders.{Holders}
+use Rattle.oe_locks.proofs.MapFacts.{same_true, found_at}
+use Rattle.oe_locks.proofs.OnceFacts.{same_entry, once_before}
 use Rattle.oe_locks.proofs.name_map.listed.Goals as goal
 
 pub returns-then-eq : goal.returns-then-eq
 returns-then-eq c =
-    let this : ghosts.eq c.args.name.now c.entry-item.result.0 ≡ true = search (rules, c.if-eq.ensures, c.eq.ensures, c.if-eq.true) in
-    found_at c.args.name.now c.args.entries.now c.loop-entry.entry-index c.entry-item.result c.loop-entry-test.true c.entry-item.is this c.loop-entry.invariant
-
-pub loop-entry-preserved : goal.loop-entry-preserved
-loop-entry-preserved c =
-    let other : ghosts.eq c.args.name.now c.entry-item.result.0 ≡ false = search (rules, c.if-eq.ensures, c.eq.ensures, c.if-eq.false) in
-    subst (λ (k : ℕ). lookup (ghosts.eq c.args.name.now) (take k c.args.entries.now) ≡ None) (sym (add-one c.loop-entry.entry-index))
-    (none_next c.args.name.now c.args.entries.now c.loop-entry.entry-index c.entry-item.result c.loop-entry-test.true c.entry-item.is other c.loop-entry.invariant)
-
-pub returns : goal.returns
-returns c = sym (none_all c.args.name.now c.args.entries.now c.loop-entry.entry-index c.loop-entry-test.false c.loop-entry.invariant)
+    let within : c.loop-left.left - 1 < length c.args.entries.now = omega (arith, c.loop-left-test.true, c.loop-left.invariant.within) in
+    let first : ghosts.eq c.args.name.now c.index-entries-left.result.0 ≡ true = search (rules, c.if-eq.ensures, c.eq.ensures, c.if-eq.true) in
+    let same =
+    same_entry c.args.entries.now (c.loop-left.left - 1) c.index-entries-left-then-eq.result c.index-entries-left.result within c.index-entries-left-then-eq.is c.index-entries-left.is
+    in
+    let this : ghosts.eq c.args.name.now c.index-entries-left-then-eq.result.0 ≡ true = ap (λ (x : Name × Holders). ghosts.eq c.args.name.now x.0) same ∙ first in
+    let before : lookup (ghosts.eq c.args.name.now) (take (c.loop-left.left - 1) c.args.entries.now) ≡ None =
+    subst (λ n. lookup (ghosts.eq n) (take (c.loop-left.left - 1) c.args.entries.now) ≡ None) (sym (same_true c.args.name.now c.index-entries-left-then-eq.result.0 this))
+    (once_before c.args.entries.now (c.loop-left.left - 1) c.index-entries-left-then-eq.result within c.index-entries-left-then-eq.is c.requires)
+    in
+    ap (λ (z : Name × Holders). Some z.1) (sym c.index-entries-left-then-eq.is)
+    ∙ found_at c.args.name.now c.args.entries.now (c.loop-left.left - 1) c.index-entries-left-then-eq.result within c.index-entries-left-then-eq.is this before

@@ -1,6 +1,5 @@
-use Rattle.std.proofs.Common.{rules, ◌≡◌, ℕ, ◌+◌, ◌<◌, ◌≤◌, ◌-◌, true, None, Some, IsSome, length, take, suc, sym, ap, ◌∙◌, subst, arith, eqb-true}
+use Rattle.std.proofs.Common.{rules, ◌≡◌, ℕ, ◌<◌, ◌≤◌, ◌-◌, true, None, Some, IsSome, length, take, suc, sym, ap, ◌∙◌, subst, arith, eqb-true}
 use Rattle.std.proofs.lemmas.List.{take_all}
-use Rattle.std.specs.Prelude.{vec_len}
 use Rattle.std.specs.Map.{lookup}
 use Rattle.oe_rows.specs.contracts.locks.NamePartialEq.TheImpl.{ghosts}
 use Rattle.oe_rows.specs.declared.locks.Name.{Name}
