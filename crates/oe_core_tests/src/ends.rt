@@ -135,7 +135,7 @@ const PAYMENT: Said = Said {
 };
 
 // So many stages are carried out.
-fn goes_on(session: &mut Session, alloc: Global, stages: u32) -> bool
+pub(crate) fn goes_on(session: &mut Session, alloc: Global, stages: u32) -> bool
     requires { IsLive (state_of session.old.core) }
     ensures { IsLive (state_of session.new.core) }
 {

@@ -13,6 +13,8 @@ mod first_calls;
 #[cfg(test)]
 mod further_audits;
 #[cfg(test)]
+mod open_audits;
+#[cfg(test)]
 mod populations;
 #[cfg(test)]
 mod runs;
