@@ -1,17 +1,16 @@
-//! The first calls of a library, as the head of its crate quotes them: of tables, an engine, a core,
-//! and a script's session.
+//! The first calls of a library, as the head of its crate quotes them: of tables, a core, and a
+//! script's session.
 ghost use Rattle.std.specs.Prelude.{IfSome};
 ghost use Rattle.oe_admission.specs.Programs.{HasProgram};
 
 use crate::populations::{district_key, populated};
 use crate::sessions::{Nowhere, core_on};
 use oe_core::{Advanced, Core};
-use oe_engine::Engine;
 use oe_requests::{Answer, CustomerChoice, PaymentRequest, Request};
-use oe_rows::{DistrictKey, Key, Mode, Name, Row};
+use oe_rows::DistrictKey;
 use oe_script::session::Session;
 use oe_store::Tables;
-use oe_values::{ExtentCount, LastName, Number, Stamp, Terminal, YearToDate};
+use oe_values::{LastName, Number, Stamp, Terminal, YearToDate};
 use std::alloc::Global;
 use std::process::Abort;
 
@@ -24,20 +23,6 @@ fn tables_answer(tables: &mut Tables, district: &DistrictKey, last: &LastName) -
     tables.set_warehouse_ytd(&warehouse, YearToDate::new(before + 1)?);
     let after = tables.warehouse(warehouse)?.ytd.cents();
     Some((oldest, customer) == (8, 7) && after == before + 1)
-}
-
-// A transaction reads a row under its lock, and is rolled back.
-fn engine_reads(engine: &mut Engine, terminal: Terminal, key: DistrictKey) -> Option<bool> {
-    let Ok(tx) = engine.begin(terminal) else {
-        return None;
-    };
-    let is_locked = engine.lock(&tx, Name::District(key), Mode::Shared).is_ok();
-    let is_read = is_locked
-        && matches!(engine.read(&tx, Key::District(key)), Some(Row::District(_)));
-    match engine.rollback(tx) {
-        Ok(()) => Some(is_read),
-        Err(_) => unreachable!(),
-    }
 }
 
 // A payment takes one of its five stages, and is rolled back.
@@ -96,22 +81,6 @@ fn tables_are_asked_and_set(rt: HostRuntime) {
     let mut tables = tables(&rt, rt.alloc());
     assert!(rt; are_found(&mut tables) == Some(true));
     drop(tables);
-}
-
-fn is_read(engine: &mut Engine, terminal: Terminal) -> Option<bool> {
-    engine_reads(engine, terminal, district_key(2, 4)?)
-}
-
-#[test]
-fn a_transaction_reads_and_is_rolled_back(rt: HostRuntime) {
-    let terminal = Terminal::new(17).expect(&rt, "a terminal");
-    let extents = ExtentCount::new(2).expect(&rt, "extents");
-    let tables = tables(&rt, rt.alloc());
-    let Ok(mut engine) = Engine::open(rt.alloc(), tables, extents, 5) else {
-        panic!(rt; "no memory")
-    };
-    assert!(rt; is_read(&mut engine, terminal) == Some(true));
-    drop(engine);
 }
 
 fn is_paid_back(core: &mut Core) -> Option<bool> {

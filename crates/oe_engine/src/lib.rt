@@ -1,16 +1,14 @@
 //! The engine: tables, undo log and locks as one. A transaction's changes stand at its commit or are
-//! forgotten. A test reads a row under its lock, and rolls the transaction back:
+//! forgotten. A test begins one, which takes locks and reads under them, and rolls it back:
 //!
 //! ```
 //! let Ok(tx) = engine.begin(terminal) else {
-//!     return None;
+//!     return false;
 //! };
-//! let is_locked = engine.lock(&tx, Name::District(key), Mode::Shared).is_ok();
-//! let is_read = is_locked
-//!     && matches!(engine.read(&tx, Key::District(key)), Some(Row::District(_)));
+//! let are_right = are_answered(engine, &tx) == Some(true);
 //! match engine.rollback(tx) {
-//!     Ok(()) => Some(is_read),
-//!     Err(_) => unreachable!(),
+//!     Ok(()) => are_right,
+//!     Err(_) => panic!(rt; "not open"),
 //! }
 //! ```
 #![tactic(auto)]
