@@ -8,4 +8,5 @@ pub mod OpenFacts
 pub mod AuditFacts
 pub mod ReadFacts
 pub mod PastFacts
+mod SendFacts
 pub mod CountFacts

@@ -14,6 +14,7 @@
 
 pub mod advances;
 pub mod cores;
+pub mod crossing;
 mod slots;
 mod works;
 

@@ -15,3 +15,4 @@ mod WriteFacts
 pub mod ReplyFacts
 pub mod PartFacts
 pub mod SafeFacts
+mod SendFacts

@@ -15,6 +15,7 @@
 
 pub mod access;
 pub mod choices;
+pub mod crossing;
 pub mod engine;
 mod opening;
 pub mod past;

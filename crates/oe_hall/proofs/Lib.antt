@@ -2,3 +2,4 @@
 pub mod TurnFacts
 pub mod SeatFacts
 pub mod OpenFacts
+mod SendFacts

@@ -5,6 +5,7 @@
 
 pub mod calls;
 pub mod counts;
+pub mod crossing;
 pub mod hall;
 pub mod shop;
 

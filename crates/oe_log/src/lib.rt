@@ -5,6 +5,7 @@
 #![tactic(auto)]
 
 pub mod commits;
+pub mod crossing;
 pub mod heads;
 pub mod laws;
 pub mod log;

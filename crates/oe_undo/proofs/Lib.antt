@@ -10,5 +10,6 @@ mod MomentFacts
 mod NumberFacts
 pub mod OwnerFacts
 mod PlaceFacts
+mod SendFacts
 mod SpreadFacts
 mod WalkFacts

@@ -23,6 +23,7 @@
 #![tactic(auto)]
 
 pub mod commits;
+pub mod crossing;
 pub mod holders;
 pub mod laws;
 pub mod links;
