@@ -1,18 +1,27 @@
 #![tactic(auto)]
-//! An order-entry server that answers scripts. Clauses of the standard are those of TPC Benchmark C 5.11.
+//! An order-entry server that answers scripts and runs drives. Clauses of the standard are those of TPC Benchmark C 5.11.
 //!
-//! This file is trusted: it has no contract, and hands the script's bytes to `run_script`, whose contract tells all that is answered.
+//! This file is trusted: it has no contract, and hands the script's bytes to `run_script`, whose contract tells all that is answered,
+//! or the numbers of a drive to `run_drive`, whose contract tells the two lines. What a drive says on standard error is for a person.
 
 use clap::Error;
 use clap::error::ErrorKind;
+use oe_drive::Gate;
+use oe_numbers::DriveNumbers;
 use oe_ports::standard::{Printed, Standard};
+use oe_run_drive::{Fault as DriveFault, Ran, run_drive};
 use oe_script::script::run_script;
 use oe_script::session::Fault;
 use oe_tasks::{Task, job};
+use oe_values::Terminal;
 use std::env::Env;
-use std::io::Read;
+use std::io::{IsTerminal, Read};
 use std::process::ExitCode;
 use std::rt::Files;
+use std::sync::Wait;
+use std::sync::atomic::{AtomicU64, Ordering};
+use std::thread::Threads;
+use std::time::{Clock, Duration, Instant};
 use std::{env, fs, io};
 
 fn main(rt: HostRuntime) -> io::Result<ExitCode> {
@@ -23,6 +32,7 @@ fn main(rt: HostRuntime) -> io::Result<ExitCode> {
     match job(rt.alloc(), words.as_slice()) {
         Ok(Task::Script) => answer(&rt, rt.reader()),
         Ok(Task::File(name)) => answer_file(&rt, name),
+        Ok(Task::Drive(numbers)) => answer_drive(&rt, &numbers, rt.stderr().is_terminal()),
         Err(error) => tell(&rt, error),
     }
 }
@@ -93,4 +103,99 @@ fn answer<R: Print + Eprint + AllocGlobal, T: Read + Drop>(
         Err(Fault::Read) => fail(rt, "read"),
         Err(Fault::Write) => fail(rt, write_fault(writer.is_closed())),
     }
+}
+
+/// Tells a person how far a drive is, once a second from its second second on.
+#[derive(Drop)]
+struct Progress<'r, R> {
+    rt: &'r R,
+    begun: Instant,
+    is_shown: bool,
+    requests: u32,
+    done: AtomicU64,
+    second_told: AtomicU64,
+}
+
+impl<R: Clock + Eprint> Gate for Progress<'_, R> {
+    fn before(&self, _terminal: Terminal, _call: u64) {}
+
+    fn after(&self, _terminal: Terminal, _call: u64) {}
+
+    fn done(&self, _terminal: Terminal) {
+        let before = self.done.fetch_add(1, Ordering::SeqCst);
+        if !self.is_shown {
+            return;
+        }
+        let Ok(took) = self.begun.elapsed(self.rt) else {
+            return;
+        };
+        let second = took.as_secs();
+        if second < 2 || self.second_told.fetch_max(second, Ordering::SeqCst) >= second {
+            return;
+        }
+        let done = before.saturating_add(1);
+        let _told = eprintln!(self.rt; "{done} of {} requests", self.requests);
+    }
+}
+
+/// Runs a drive, and tells a person how it went; how it goes too, where the person is there.
+fn answer_drive<R: Threads + Wait + Clock + Print + Eprint + AllocGlobal + Sync>(
+    rt: &R,
+    numbers: &DriveNumbers,
+    is_shown: bool,
+) -> io::Result<ExitCode> {
+    let begun = Instant::now(rt)?;
+    let progress = Progress {
+        rt,
+        begun,
+        is_shown,
+        requests: numbers.terminals.get() * numbers.requests.get(),
+        done: AtomicU64::new(0),
+        second_told: AtomicU64::new(0),
+    };
+    let mut writer = Printed::new(rt);
+    match run_drive(rt, rt.alloc(), &progress, numbers, &mut writer) {
+        Ok(ran) => {
+            tell_drive(rt, numbers, &ran, begun.elapsed(rt)?)?;
+            Ok(ExitCode::from(ran.status))
+        }
+        Err(DriveFault::NoMemory) => fail(rt, "no memory"),
+        Err(DriveFault::Write) => fail(rt, write_fault(writer.is_closed())),
+    }
+}
+
+/// Gives the ending of a word for that many.
+fn ending(count: u32) -> &'static str {
+    if count == 1 { "" } else { "s" }
+}
+
+/// Tells a person how a drive went.
+fn tell_drive<R: Eprint>(
+    rt: &R,
+    numbers: &DriveNumbers,
+    ran: &Ran,
+    took: Duration,
+) -> io::Result<()> {
+    let terminals = numbers.terminals.get();
+    let requests = terminals * numbers.requests.get();
+    let seconds = took.as_secs();
+    let hundredths = took.subsec_millis() / 10;
+    let counted = &ran.counted;
+    let deeds = &ran.deeds;
+    eprintln!(rt;
+        "{terminals} terminal{}, {requests} request{} in {seconds}.{hundredths:02} s: {} committed, {} rolled back, {} given up; {} times busy, {} reads, {} deliveries",
+        ending(terminals),
+        ending(requests),
+        counted.committed,
+        counted.rolled_back,
+        deeds.given_up,
+        deeds.busy,
+        deeds.reads,
+        deeds.deliveries
+    )?;
+    if deeds.full > 0 {
+        let extents = numbers.extents.get();
+        eprintln!(rt; "{} given up: all {extents} extents are in use", deeds.full)?;
+    }
+    Ok(())
 }

@@ -1,5 +1,6 @@
 -- Which words of a command line ask for which task.
 use Rattle.std.specs.Prelude.{◌≡◌, ◌≢◌, ℕ, List, [], ◌∷◌, ◌⊎◌, slice_index, codes}
+use Rattle.oe_numbers.specs.Words.{AreInRange, words_of}
 use Rattle.oe_tasks.specs.declared.Task.{Task}
 use Rattle.oe_tasks.specs.declared.Task.TheVariants as task
 
@@ -12,7 +13,15 @@ abbrev pub Names : List (List ℕ) → List ℕ → Type 0
 Names words file = ((words ≡ file ∷ []) × IsPlain file) ⊎ (words ≡ codes "--" ∷ file ∷ [])
 
 -- the program's name, `script`, and no more for standard input, or a file
+abbrev pub AsksScript : List (List ℕ) → Task → Type 0
+AsksScript (program ∷ verb ∷ rest) task.Script = (verb ≡ codes "script") × (rest ≡ [])
+AsksScript (program ∷ verb ∷ rest) (task.File file) = (verb ≡ codes "script") × Names rest file.now
+AsksScript words task = ⊥
+
+-- the program's name, `drive`, and its seven numbers in order, each in its range
+abbrev pub AsksDrive : List (List ℕ) → Task → Type 0
+AsksDrive (program ∷ verb ∷ rest) (task.Drive d) = (verb ≡ codes "drive") × AreInRange d × (rest ≡ words_of d)
+AsksDrive words task = ⊥
+
 abbrev pub Asks : List (List ℕ) → Task → Type 0
-Asks (program ∷ verb ∷ rest) task.Script = (verb ≡ codes "script") × (rest ≡ [])
-Asks (program ∷ verb ∷ rest) (task.File file) = (verb ≡ codes "script") × Names rest file.now
-Asks words task = ⊥
+Asks words task = AsksScript words task ⊎ AsksDrive words task

@@ -1,11 +1,12 @@
 #![tactic(auto)]
 //! The words of the command line.
 ghost use Rattle.std.specs.Prelude.{◌≡◌, ◌↔◌, ◌==◌, IsFalse, codes, map, slice_index, MatchOption, MatchResult};
-ghost use Rattle.oe_tasks.specs.Words.{Asks};
+ghost use Rattle.oe_tasks.specs.Words.{Asks, AsksScript, AsksDrive};
 ghost use Rattle.oe_tasks.specs.declared.Task.{Task};
 
 use clap::error::ErrorKind;
-use clap::{Arg, Command, Error};
+use clap::{Arg, Command, Error, value_parser};
+use oe_numbers::DriveNumbers;
 use std::alloc::Global;
 use std::convert::AsStr;
 
@@ -16,6 +17,8 @@ pub enum Task<'a> {
     Script,
     /// To answer the script in the file of that name.
     File(&'a str),
+    /// To run terminals in threads of their own.
+    Drive(DriveNumbers),
 }
 
 const ABOUT: &str =
@@ -25,8 +28,11 @@ const SCRIPT: &str = "Answers the script in FILE, or on standard input";
 
 const VERSION: &str = "0.1.0";
 
+const DRIVE: &str = "Runs terminals in threads of their own, and tells what they left";
+
 const USAGE: &str = "oe_server script < FILE
        oe_server script FILE
+       oe_server drive W C I E T N SEED
        oe_server --help | --version";
 
 const FORMS: &str = "\
@@ -65,7 +71,7 @@ to 64. What stands behind the colon is the answer:
   save T             marks where T's transaction stands: saved
   back T             undoes its stages since the mark: back
   rollback T         undoes all its stages, and ends it: rolled back
-  audit N M          audits condition N (1 to 4) at moment M: now, which is the number of
+  audit N M          audits condition N (1 to 10, or 12) at moment M: now, which is the number of
                      commits, or a lesser number; what is open is not seen: condition N holds,
                      or condition N fails at, and the key of the first row at which it does
   read M status WAREHOUSE DISTRICT CUSTOMER
@@ -86,9 +92,18 @@ stage Overflow, NoCustomer and an item that is not valid roll the transaction ba
 the next line is answered as ever. Any other line is answered error 1 BadLine and its
 number from 1.
 
-The status is 0 at the end of the input, whatever the answers; 1 after a fault, which
-standard error names (fault: read, fault: write, fault: output closed, fault: no memory),
-and for a FILE that can't be opened; and 2 where the command line is none of these.
+A drive has W warehouses, C customers in each district, I items and E undo extents, as a
+script's open; T terminals (1 to 63) send N requests each (1 to 1000), which SEED
+(0 to 4294967295) makes. Each terminal has a thread, and one more thread carries the
+deliveries out. At the end it audits conditions 1 to 4, rewinds to moment 0 and compares
+the tables with a new population. It writes two lines:
+  conditions 1 2 3 4 hold, or condition N fails
+  population restored, or population differs
+
+The status is 0 at the end of a script's input, whatever the answers, and for a drive whose
+conditions hold and whose population is restored; 1 for any other drive, after a fault,
+which standard error names (fault: read, fault: write, fault: output closed, fault: no
+memory), and for a FILE that can't be opened; and 2 where the command line is none of these.
 docs/SCRIPTS.md is the manual: stages, locks, refusals, columns and worked scripts.";
 
 /// Finds what these words ask for; the first is the program's name.
@@ -105,11 +120,23 @@ pub fn job<'a, S: AsStr>(alloc: Global, words: &'a [S]) -> Result<Task<'a>, Erro
     }
 }
 
-/// The task that these words ask for.
+// Finds the task that these words ask for.
 fn asked<'a, S: AsStr>(words: &'a [S]) -> Option<Task<'a>>
     ensures { MatchOption result
         ((task : Task) → Asks (map S.text words.now) task → ⊥)
         (Asks (map S.text words.now)) }
+{
+    match script_of(words) {
+        Some(task) => Some(task),
+        None => drive_of(words),
+    }
+}
+
+// Finds the script that these words ask for.
+fn script_of<'a, S: AsStr>(words: &'a [S]) -> Option<Task<'a>>
+    ensures { MatchOption result
+        ((task : Task) → AsksScript (map S.text words.now) task → ⊥)
+        (AsksScript (map S.text words.now)) }
 {
     if words.len() < 2 || words[1].as_str() != "script" {
         return None;
@@ -134,21 +161,36 @@ fn asked<'a, S: AsStr>(words: &'a [S]) -> Option<Task<'a>>
     }
 }
 
-/// A word that is taken for an option.
+// Finds the drive that these words ask for.
+fn drive_of<'a, S: AsStr>(words: &'a [S]) -> Option<Task<'a>>
+    ensures { MatchOption result
+        ((task : Task) → AsksDrive (map S.text words.now) task → ⊥)
+        (AsksDrive (map S.text words.now)) }
+{
+    if words.len() < 2 || words[1].as_str() != "drive" {
+        return None;
+    }
+    match DriveNumbers::read(&words[2..]) {
+        Some(numbers) => Some(Task::Drive(numbers)),
+        None => None,
+    }
+}
+
+/// Tells whether a word is taken for an option.
 fn is_option(word: &str) -> bool
     ensures { result ≡ (slice_index word.now 0 == 45) }
 {
     word.starts_with('-')
 }
 
-/// Not the mark behind which no word is an option.
+/// Tells whether a word is not the mark behind which no word is an option.
 fn is_no_mark(word: &str) -> bool
     ensures { IsFalse result ↔ (word.now ≡ codes "--") }
 {
     word != "--"
 }
 
-/// Why they ask for none.
+/// Says why the words ask for no task.
 fn refusal<S: AsStr>(alloc: Global, words: &[S]) -> Error {
     match explained(alloc, words) {
         Ok(error) => error,
@@ -156,16 +198,24 @@ fn refusal<S: AsStr>(alloc: Global, words: &[S]) -> Error {
     }
 }
 
-/// The same, or a want of memory.
+/// Says why the words ask for no task, or that memory was refused.
 fn explained<S: AsStr>(alloc: Global, words: &[S]) -> Result<Error, Error> {
     let mut command = grammar(alloc)?;
     match command.try_get_matches_from_mut(words) {
-        Ok(_) => Ok(command.error(ErrorKind::UnknownArgument, "FILE is missing")?),
+        Ok(_) => Ok(command.error(ErrorKind::ValueValidation, what_else(words))?),
         Err(error) => Ok(error),
     }
 }
 
-/// The command line's grammar.
+/// Says what is wrong with words that the command line's grammar has.
+fn what_else<S: AsStr>(words: &[S]) -> &'static str {
+    if words.len() > 1 && words[1].as_str() == "drive" {
+        return "a number is digits alone, and no 0 stands before another digit";
+    }
+    "FILE is missing"
+}
+
+/// Makes the command line's grammar.
 fn grammar<'a>(alloc: Global) -> Result<Command<'a>, Error> {
     let script = Command::new(alloc, "script")
         .about(SCRIPT)
@@ -178,6 +228,31 @@ fn grammar<'a>(alloc: Global) -> Result<Command<'a>, Error> {
         .override_usage(USAGE)
         .after_help(FORMS)
         .subcommand_required(true)
-        .subcommand(script)?;
+        .subcommand(script)?
+        .subcommand(drive_grammar(alloc)?)?;
     Ok(command)
+}
+
+/// Makes the grammar of a drive.
+fn drive_grammar<'a>(alloc: Global) -> Result<Command<'a>, Error> {
+    let command = Command::new(alloc, "drive")
+        .about(DRIVE)
+        .override_usage(USAGE)
+        .after_help(FORMS)
+        .arg(number(alloc, "W", 1, 16).help("Warehouses, 1 to 16"))?
+        .arg(number(alloc, "C", 1, 3_000).help("Customers in each district, 1 to 3000"))?
+        .arg(number(alloc, "I", 1, 100_000).help("Items, 1 to 100000"))?
+        .arg(number(alloc, "E", 2, 4_096).help("Undo extents, 2 to 4096"))?
+        .arg(number(alloc, "T", 1, 63).help("Terminals, 1 to 63"))?
+        .arg(number(alloc, "N", 1, 1_000).help("Requests of each terminal, 1 to 1000"))?
+        .arg(number(alloc, "SEED", 0, 4_294_967_295).help("Makes all requests, 0 to 4294967295"))?;
+    Ok(command)
+}
+
+/// Makes an argument that is a number from `low` to `high`.
+fn number<'a>(alloc: Global, name: &'a str, low: i64, high: i64) -> Arg<'a> {
+    Arg::new(alloc, name)
+        .required(true)
+        .allow_negative_numbers(true)
+        .value_parser(value_parser!(u32).range(low..=high))
 }

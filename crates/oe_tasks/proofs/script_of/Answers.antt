@@ -1,6 +1,6 @@
 use Rattle.std.proofs.Common.{◌≡◌, ◌==◌, slice_index, codes, false, sym, ◌∙◌, rules, arith}
 use Rattle.oe_tasks.proofs.WordFacts.{plain, two, three, four}
-use Rattle.oe_tasks.proofs.asked.Goals as goal
+use Rattle.oe_tasks.proofs.script_of.Goals as goal
 
 pub returns-in-2 : goal.returns-in-2
 returns-in-2 g c =

@@ -1,0 +1,247 @@
+//! All terminals and the worker at once, each in a thread of its own.
+ghost use Rattle.std.specs.Prelude.{◌≡◌, ◌≢◌, ◌+◌, ◌-◌, ◌≤◌, ℕ, length, vec_len, vec_capacity, slice_set, [], IfOk, OnOk, Some, None, false};
+ghost use Rattle.oe_theory.specs.World.{newest};
+ghost use Rattle.oe_model.specs.System.{system};
+ghost use Rattle.oe_core.specs.Core.{world_of};
+ghost use Rattle.oe_hall.specs.Turns.{open_count};
+ghost use Rattle.oe_hall.specs.Counts.{untold};
+ghost use Rattle.oe_hall.specs.Desks.{TheDesk, seat_for};
+ghost use Rattle.oe_moments.specs.Pins.{is_pinned};
+ghost use Rattle.oe_drive.specs.Ends.{AreFree, HaveEnded};
+
+use crate::deeds::Deeds;
+use crate::gates::Gate;
+use crate::stations::{Bench, Plan, Station};
+use oe_core::Core;
+use oe_hall::crossing::front_crosses;
+use oe_hall::{Counted, Desk, Front, Naming, Shop};
+use oe_queue::{Sender, Taker};
+use oe_values::{NoMemory, Number, Terminal};
+use std::alloc::Global;
+use std::sync::Wait;
+use std::sync::atomic::{AtomicBool, Ordering};
+use std::sync::ledger::Ledger;
+use std::thread;
+use std::thread::Threads;
+
+/// What a drive leaves: the core of the closed shop, how much its desks were told, and what its
+/// terminals did.
+pub struct Driven {
+    pub core: Core,
+    pub counted: Counted,
+    pub deeds: Deeds,
+}
+
+/// Runs each terminal's plan in a thread of its own, the first plan terminal 1's, and the worker as
+/// the terminal after the last. Each commit is told at once, and what is left in the queue is
+/// carried out before the end.
+///
+/// The worker's thread is made first, and without it no other; where a terminal's can't be made, it
+/// submits its end mark alone. Both, and any want of memory before, are `NoMemory` once all threads
+/// have ended and the shop is closed.
+pub fn drive<
+    J: Naming + Send + Sync,
+    B: Ledger + Send + Sync,
+    C: Ledger + Send + Sync,
+    R: Ledger + Send + Sync,
+    H: Threads + Wait + Sync,
+    G: Gate + Sync,
+>(
+    rt: &H,
+    alloc: Global,
+    gate: &G,
+    shop: Shop<J, B, C, R>,
+    plans: Vec<Plan>,
+) -> Result<Driven, NoMemory>
+    requires plans { (1 ≤ vec_len plans) × (vec_len plans ≤ 63) }
+    requires new { shop.given ≡ 0 }
+    requires free { (t : ℕ) → seat_for shop t ≢ Some None }
+    requires same { (B.parts ≡ 65) × (C.parts ≡ 65) × (R.parts ≡ 65) }
+    ensures ended { IfOk result (λ d.
+        d.counted.begun ≡ d.counted.committed + d.counted.rolled_back) }
+    ensures quiet { IfOk result (λ d. open_count (world_of d.core) ≡ 0) }
+    ensures newest { IfOk result (λ d. newest system (world_of d.core) ≡ d.counted.committed) }
+{
+    let count = plans.len();
+    let terminals = Number::new(count as u32).unwrap();
+    let Ok((senders, taker)) = oe_queue::open(alloc, terminals) else {
+        return give_up(alloc, shop);
+    };
+    let Ok(desks) = Vec::with_capacity(alloc, count + 1) else {
+        return give_up(alloc, shop);
+    };
+    let Ok(stations) = Vec::with_capacity(alloc, count) else {
+        return give_up(alloc, shop);
+    };
+    drive_all(rt, gate, shop, plans, (senders, taker), desks, stations)
+}
+
+// Closes a shop that gave no desk.
+fn give_up<J: Naming, B: Ledger, C: Ledger, R: Ledger>(
+    alloc: Global,
+    shop: Shop<J, B, C, R>,
+) -> Result<Driven, NoMemory>
+    requires new { shop.given ≡ 0 }
+    requires same { (B.parts ≡ 65) × (C.parts ≡ 65) × (R.parts ≡ 65) }
+    ensures { OnOk result ⊥ }
+{
+    match shop.close(Vec::new(alloc)) {
+        Ok((core, _)) => core.discard(),
+        Err(_) => unreachable!(),
+    }
+    Err(NoMemory)
+}
+
+// Drives, once all memory is there.
+fn drive_all<
+    J: Naming + Send + Sync,
+    B: Ledger + Send + Sync,
+    C: Ledger + Send + Sync,
+    R: Ledger + Send + Sync,
+    H: Threads + Wait + Sync,
+    G: Gate + Sync,
+>(
+    rt: &H,
+    gate: &G,
+    mut shop: Shop<J, B, C, R>,
+    plans: Vec<Plan>,
+    ends: (Vec<Sender>, Taker),
+    desks: Vec<Desk<J, B, C, R>>,
+    mut stations: Vec<Station<J, B, C, R>>,
+) -> Result<Driven, NoMemory>
+    requires plans { (1 ≤ vec_len plans) × (vec_len plans ≤ 63) }
+    requires senders { vec_len ends.0 ≡ vec_len plans }
+    requires new { shop.given ≡ 0 }
+    requires free { (t : ℕ) → seat_for shop t ≢ Some None }
+    requires same { (B.parts ≡ 65) × (C.parts ≡ 65) × (R.parts ≡ 65) }
+    requires stations { (stations.items ≡ []) × (vec_len plans ≤ vec_capacity stations) }
+    requires desks { (desks.items ≡ []) × (vec_len plans + 1 ≤ vec_capacity desks) }
+    ensures ended { IfOk result (λ d.
+        d.counted.begun ≡ d.counted.committed + d.counted.rolled_back) }
+    ensures quiet { IfOk result (λ d. open_count (world_of d.core) ≡ 0) }
+    ensures newest { IfOk result (λ d. newest system (world_of d.core) ≡ d.counted.committed) }
+{
+    let count = plans.len();
+    let (senders, taker) = ends;
+    let desk = take_desk(&mut shop, Number::new(count as u32 + 1).unwrap());
+    let mut bench = Bench::new(desk, taker, count as u32);
+    sit_down(&mut shop, senders, &mut stations, plans);
+    let is_whole = run_all(rt, shop.front(), gate, &mut bench, stations.as_mut_slice());
+    let (desks, deeds) = rise(bench, stations, desks);
+    match shop.close(desks) {
+        Ok((core, counted)) => {
+            if is_whole {
+                return Ok(Driven {
+                    core,
+                    counted,
+                    deeds,
+                });
+            }
+            core.discard();
+        }
+        Err(_) => unreachable!(),
+    }
+    Err(NoMemory)
+}
+
+// Takes the desk of a terminal that has none.
+fn take_desk<J: Naming, B: Ledger, C: Ledger, R: Ledger>(
+    shop: &mut Shop<J, B, C, R>,
+    terminal: Terminal,
+) -> Desk<J, B, C, R>
+    requires { seat_for shop.old terminal ≢ Some None }
+    ensures told { result.told ≡ untold 1 }
+    ensures free { is_pinned result.seat.notes.pin ≡ false }
+    ensures given { shop.new.given ≡ shop.old.given + 1 }
+    ensures seats { shop.new.seats ≡ slice_set shop.old.seats (terminal - 1) None }
+{
+    match shop.desk(terminal) {
+        Ok(desk) => desk,
+        Err(_) => unreachable!(),
+    }
+}
+
+// Gives each sender's terminal its desk, the last terminal first.
+#[tactic(auto, using(crate::proofs::SlotFacts::still_free))]
+fn sit_down<J: Naming, B: Ledger, C: Ledger, R: Ledger>(
+    shop: &mut Shop<J, B, C, R>,
+    senders: Vec<Sender>,
+    stations: &mut Vec<Station<J, B, C, R>>,
+    plans: Vec<Plan>,
+)
+    requires senders { vec_len senders ≡ vec_len plans }
+    requires few { vec_len plans ≤ 63 }
+    requires free { AreFree shop.old.seats (vec_len senders) }
+    requires room { (stations.old.items ≡ []) × (vec_len plans ≤ vec_capacity stations.old) }
+    ensures stations { length stations.new.items ≡ vec_len senders }
+    ensures given { shop.new.given ≡ shop.old.given + vec_len senders }
+{
+    let mut senders = senders;
+    let mut plans = plans;
+    while let Some(sender) = senders.pop() {
+        let Some(plan) = plans.pop() else {
+            unreachable!()
+        };
+        let slot = senders.len();
+        let desk = take_desk(shop, Number::new(slot as u32 + 1).unwrap());
+        stations.push_reserved(Station::new(desk, sender, plan));
+    }
+}
+
+// Runs the worker and all terminals to their ends. Tells whether each had a thread.
+fn run_all<
+    J: Naming + Send + Sync,
+    B: Ledger + Send + Sync,
+    C: Ledger + Send + Sync,
+    R: Ledger + Send + Sync,
+    H: Threads + Wait + Sync,
+    G: Gate + Sync,
+>(
+    rt: &H,
+    front: &Front<J, B, C, R>,
+    gate: &G,
+    bench: &mut Bench<J, B, C, R>,
+    stations: &mut [Station<J, B, C, R>],
+) -> bool {
+    let stop = AtomicBool::new(false);
+    let stop = &stop;
+    let walk = stations.iter_mut();
+    thread::scope(thread::scope_env(), rt, move |scope| {
+        front_crosses::<J, B, C, R>();
+        let work = move || bench.run(rt, front, gate);
+        if let Err(_refused) = scope.spawn(work) {
+            return false;
+        }
+        for station in walk {
+            let job = move || station.run(rt, front, gate, stop);
+            if let Err(refused) = scope.spawn(job) {
+                stop.store(true, Ordering::SeqCst);
+                let thread::SpawnError { mut value } = refused;
+                value();
+            }
+        }
+        !stop.load(Ordering::SeqCst)
+    })
+}
+
+// Takes all desks back, with what was done at them.
+fn rise<J: Naming, B: Ledger, C: Ledger, R: Ledger>(
+    bench: Bench<J, B, C, R>,
+    stations: Vec<Station<J, B, C, R>>,
+    desks: Vec<Desk<J, B, C, R>>,
+) -> (Vec<Desk<J, B, C, R>>, Deeds)
+    requires { (desks.items ≡ []) × (length stations.items + 1 ≤ vec_capacity desks) }
+    ensures count { length result.0.items ≡ length stations.items + 1 }
+    ensures ended { HaveEnded result.0.items }
+{
+    let mut stations = stations;
+    let mut desks = desks;
+    let (desk, mut deeds) = bench.into_parts();
+    desks.push_reserved(desk);
+    while let Some(station) = stations.pop() {
+        let (desk, done) = station.into_parts();
+        desks.push_reserved(desk);
+        deeds.add(&done);
+    }
+    (desks, deeds)
+}

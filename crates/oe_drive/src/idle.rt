@@ -1,0 +1,207 @@
+//! A desk between two errands.
+//!
+//! By its invariant all that an idle desk was told to begin has ended, and it has no pin out. So a
+//! thread hands its desk back with that fact, and a shop whose desks are idle can be closed. A call
+//! may wait for the hall's lock; none takes memory.
+ghost use Rattle.std.specs.Prelude.{◌≡◌, ◌+◌, false};
+ghost use Rattle.oe_admission.specs.Programs.{HasProgram};
+ghost use Rattle.oe_moments.specs.Pins.{is_pinned};
+ghost use Rattle.oe_hall.specs.Counts.{untold, told_rolled_back};
+ghost use Rattle.oe_hall.specs.Desks.{TheDesk, with_told};
+
+use crate::deeds::Deeds;
+use crate::gates::{Calls, Gate};
+use oe_hall::{Desk, Front, Naming, Open, Turn};
+use oe_requests::{Query, Refusal, Request};
+use oe_values::Moment;
+use std::marker::Model;
+use std::sync::Wait;
+use std::sync::ledger::Ledger;
+use std::thread;
+
+/// How often a transaction is answered `Busy` before it is given up.
+const MOST_BUSY: u32 = 100;
+
+/// A desk whose transactions have ended, and that has no pin out.
+#[derive(Drop)]
+pub struct Idle<J: Naming, B: Ledger, C: Ledger, R: Ledger> {
+    desk: Desk<J, B, C, R>,
+}
+
+impl<J: Naming, B: Ledger, C: Ledger, R: Ledger> Model for Idle<J, B, C, R> {
+    ghost Value = { TheDesk };
+
+    ghost view = { λ i. i.desk };
+
+    ghost invariant = { λ i.
+        (i.desk.told.begun ≡ i.desk.told.committed + i.desk.told.rolled_back)
+        × (is_pinned i.desk.seat.notes.pin ≡ false) };
+}
+
+impl<J: Naming, B: Ledger, C: Ledger, R: Ledger> Idle<J, B, C, R> {
+    /// Makes an idle desk of one that was told nothing.
+    pub fn new(desk: Desk<J, B, C, R>) -> Idle<J, B, C, R>
+        requires told { desk.told ≡ untold 1 }
+        requires free { is_pinned desk.seat.notes.pin ≡ false }
+        ensures { result ≡ desk }
+    {
+        Idle { desk }
+    }
+
+    /// Gives the desk, whose transactions have ended.
+    pub fn into_desk(self) -> Desk<J, B, C, R>
+        ensures same { result ≡ self }
+        ensures ended { self.told.begun ≡ self.told.committed + self.told.rolled_back }
+    {
+        let Idle { desk } = self;
+        desk
+    }
+
+    /// Carries a transaction out, and tells its commit. It is given up after 100 answers `Busy`, or
+    /// one refusal of another cause.
+    pub fn carry_out<W: Wait, G: Gate>(
+        &mut self,
+        rt: &W,
+        front: &Front<J, B, C, R>,
+        request: &Request,
+        calls: &mut Calls<'_, G>,
+        deeds: &mut Deeds,
+    )
+        requires { HasProgram request.now }
+    {
+        if let Some(moment) = carry_one_out(rt, front, &mut self.desk, request, calls, deeds) {
+            self.desk.told(front, moment);
+        }
+    }
+
+    /// Reads a query at the newest moment that the desk can pin.
+    pub fn read<W: Wait, G: Gate>(
+        &mut self,
+        rt: &W,
+        front: &Front<J, B, C, R>,
+        query: &Query,
+        calls: &mut Calls<'_, G>,
+        deeds: &mut Deeds,
+    ) {
+        for _ in rt.forever() {
+            match self.desk.pin(front) {
+                Ok(pin) => {
+                    calls.before();
+                    let _read = self.desk.read(rt, front, &pin, query);
+                    calls.after();
+                    match self.desk.unpin(front, pin) {
+                        Ok(()) => {}
+                        Err(_) => unreachable!(),
+                    }
+                    deeds.reads = deeds.reads.saturating_add(1);
+                    return;
+                }
+                Err(old) => self.desk.told(front, old.claim),
+            }
+        }
+    }
+}
+
+// Tells whether a refusal says that another holds the lock.
+fn is_busy(refusal: &Refusal) -> bool {
+    matches!(refusal, Refusal::Busy(_, _))
+}
+
+// Notes why a transaction is given up.
+fn note(refusal: &Refusal, deeds: &mut Deeds) {
+    deeds.given_up = deeds.given_up.saturating_add(1);
+    if matches!(refusal, Refusal::UndoFull) {
+        deeds.full = deeds.full.saturating_add(1);
+    }
+}
+
+// Carries a transaction out, and gives the moment that it made, if it committed.
+fn carry_one_out<J: Naming, B: Ledger, C: Ledger, R: Ledger, W: Wait, G: Gate>(
+    rt: &W,
+    front: &Front<J, B, C, R>,
+    desk: &mut Desk<J, B, C, R>,
+    request: &Request,
+    calls: &mut Calls<'_, G>,
+    deeds: &mut Deeds,
+) -> Option<Moment>
+    requires program { HasProgram request.now }
+    requires ended { desk.old.told.begun ≡ desk.old.told.committed + desk.old.told.rolled_back }
+    ensures ended { desk.new.told.begun ≡ desk.new.told.committed + desk.new.told.rolled_back }
+    ensures seat { desk.new.seat ≡ desk.old.seat }
+{
+    calls.before();
+    let begun = desk.begin(rt, front, request);
+    calls.after();
+    let work = match begun {
+        Ok(work) => work,
+        Err(refusal) => {
+            note(&refusal, deeds);
+            return None;
+        }
+    };
+    advance_to_end(rt, front, desk, work, calls, deeds)
+}
+
+// Advances a transaction to its end, or gives it up.
+fn advance_to_end<J: Naming, B: Ledger, C: Ledger, R: Ledger, W: Wait, G: Gate>(
+    rt: &W,
+    front: &Front<J, B, C, R>,
+    desk: &mut Desk<J, B, C, R>,
+    work: Open,
+    calls: &mut Calls<'_, G>,
+    deeds: &mut Deeds,
+) -> Option<Moment>
+    requires { desk.old.told.begun
+        ≡ desk.old.told.committed + desk.old.told.rolled_back + 1 }
+    ensures ended { desk.new.told.begun ≡ desk.new.told.committed + desk.new.told.rolled_back }
+    ensures seat { desk.new.seat ≡ desk.old.seat }
+{
+    let mut left = MOST_BUSY;
+    let mut work = work;
+    for _ in rt.forever() {
+        calls.before();
+        let turn = desk.advance(rt, front, work);
+        calls.after();
+        match turn {
+            Turn::More(next) => work = next,
+            Turn::Kept(next, refusal) => {
+                if left <= 1 || !is_busy(&refusal) {
+                    note(&refusal, deeds);
+                    give_up(rt, front, desk, next, calls);
+                    return None;
+                }
+                left -= 1;
+                deeds.busy = deeds.busy.saturating_add(1);
+                work = next;
+                thread::yield_now();
+            }
+            Turn::Committed(moment, _) => return Some(moment),
+            Turn::RolledBack(_) => return None,
+        }
+    }
+    unreachable!()
+}
+
+// Ends a transaction. It asks until the transaction has ended, which is for ever where it is none
+// of this desk's: no clause ties what lies under the lock to it.
+fn give_up<J: Naming, B: Ledger, C: Ledger, R: Ledger, W: Wait, G: Gate>(
+    rt: &W,
+    front: &Front<J, B, C, R>,
+    desk: &mut Desk<J, B, C, R>,
+    work: Open,
+    calls: &mut Calls<'_, G>,
+)
+    ensures { desk.new ≡ with_told (told_rolled_back desk.old.told) desk.old }
+{
+    let mut left = work;
+    for _ in rt.forever() {
+        calls.before();
+        let ended = desk.end(rt, front, left);
+        calls.after();
+        match ended {
+            Ok(()) => return,
+            Err((_, back)) => left = back,
+        }
+    }
+    unreachable!()
+}

@@ -1,0 +1,3 @@
+-- The proofs of this crate.
+mod EndFacts
+mod PlanFacts
