@@ -104,7 +104,7 @@ The status is 0 at the end of a script's input, whatever the answers, and for a 
 conditions hold and whose population is restored; 1 for any other drive, after a fault,
 which standard error names (fault: read, fault: write, fault: output closed, fault: no
 memory), and for a FILE that can't be opened; and 2 where the command line is none of these.
-docs/SCRIPTS.md is the manual: stages, locks, refusals, columns and worked scripts.";
+docs/SCRIPTS.md is the manual: stages, locks, refusals and columns; examples/ has scripts.";
 
 /// Finds what these words ask for; the first is the program's name.
 ///
