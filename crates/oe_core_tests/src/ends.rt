@@ -3,7 +3,7 @@
 ghost use Rattle.oe_script.specs.Session.{state_of, IsLive};
 
 use crate::populations::{amend, district_key, populated, stock_key};
-use crate::sessions::{core_on, is_answered, session_on};
+use crate::sessions::{core_on, goes_on, is_answered, session_on};
 use oe_change::Change;
 use oe_requests::Column;
 use oe_rows::{OrderKey, Stock, StockKey};
@@ -133,19 +133,6 @@ const PAYMENT: Said = Said {
     lines: b"begin 3 payment 2 3 1 1 2 250.00 2001-01-01T00:00:00\nrun 3\nbegin 3 payment 2 3 1 1 2 250.00 2001-01-01T00:00:00\n",
     answers: b"begun\ncommit 1 payment 2 BARBAROUGHT GC -260.00\nbegun\n",
 };
-
-// So many stages are carried out.
-pub(crate) fn goes_on(session: &mut Session, alloc: Global, stages: u32) -> bool
-    requires { IsLive (state_of session.old.core) }
-    ensures { IsLive (state_of session.new.core) }
-{
-    for _ in 0..stages {
-        if !is_answered(session, alloc, b"next 3\n", b"more\n") {
-            return false;
-        }
-    }
-    true
-}
 
 /// Nothing is left of it.
 const GONE: Said = Said {

@@ -1,7 +1,7 @@
 //! Keys, and small populations.
 use oe_change::{Change, apply};
 use oe_population::populate;
-use oe_rows::{DistrictKey, HistoryKey, OrderKey, Scale, StockKey};
+use oe_rows::{DistrictKey, Scale, StockKey};
 use oe_store::Tables;
 use oe_values::Number;
 use std::alloc::Global;
@@ -13,22 +13,10 @@ pub(crate) fn district_key(warehouse: u32, district: u32) -> Option<DistrictKey>
     })
 }
 
-pub(crate) fn order_key(warehouse: u32, district: u32, order: u32) -> Option<OrderKey> {
-    Some(district_key(warehouse, district)?.order(Number::new(order)?))
-}
-
 pub(crate) fn stock_key(warehouse: u32, item: u32) -> Option<StockKey> {
     Some(StockKey {
         warehouse: Number::new(warehouse)?,
         item: Number::new(item)?,
-    })
-}
-
-pub(crate) fn history_key(terminal: u32, number: u32) -> Option<HistoryKey> {
-    Some(HistoryKey {
-        terminal: Number::new(terminal)?,
-        number: Number::new(number)?,
-        ordinal: Number::new(1)?,
     })
 }
 

@@ -70,3 +70,17 @@ pub(crate) fn is_answered(
     }
     session.out.as_slice() == answers
 }
+
+/// Carries out that many stages of terminal 3's transaction, and tells whether each is answered
+/// `more`.
+pub(crate) fn goes_on(session: &mut Session, alloc: Global, stages: u32) -> bool
+    requires { IsLive (state_of session.old.core) }
+    ensures { IsLive (state_of session.new.core) }
+{
+    for _ in 0..stages {
+        if !is_answered(session, alloc, b"next 3\n", b"more\n") {
+            return false;
+        }
+    }
+    true
+}

@@ -1,10 +1,10 @@
-//! Audits of conditions 5 to 10 and 12 of a population with a row changed: each condition that the change breaks fails, at the row
-//! that it breaks it at, and the others hold.
-use crate::audits::{cent, history, line};
+//! Audits of conditions 5 to 10 and 12 of a population with a row changed: each condition that the
+//! change breaks fails, at the row that it breaks it at, and the others hold.
+use crate::audits::{cent, history, line, verdict, wait};
 use crate::populations::{amend, district_key, order_key, populated};
 use oe_audit::condition;
 use oe_change::Change;
-use oe_requests::{Condition, Verdict};
+use oe_requests::Condition;
 use oe_rows::{CustomerKey, Key};
 use oe_store::Tables;
 use oe_values::{Balance, Number, YearToDate};
@@ -15,56 +15,57 @@ fn customer_key(warehouse: u32, district: u32, customer: u32) -> Option<Customer
 }
 
 /// Order 4, which has no carrier, waits no more.
-fn no_wait() -> Option<Change> {
-    Some(Change::DeleteNewOrder(order_key(1, 1, 4)?.new_order_key()))
+fn no_wait(tables: &mut Tables) -> Option<()> {
+    let key = order_key(1, 1, 4)?.new_order_key();
+    amend(tables, Change::DeleteNewOrder(key))
 }
 
 /// The first line of order 1, which was delivered, has no date.
-fn no_date(tables: &Tables) -> Option<Change> {
+fn no_date(tables: &mut Tables) -> Option<()> {
     let key = order_key(1, 2, 1)?.line(Number::new(1)?);
     let mut row = tables.order_line(key)?.copied();
     row.delivery = None;
-    Some(Change::UpdateOrderLine(key, row))
+    amend(tables, Change::UpdateOrderLine(key, row))
 }
 
 /// The third line of order 4, which waits, has a date.
-fn date(tables: &Tables) -> Option<Change> {
+fn date(tables: &mut Tables) -> Option<()> {
     let order = order_key(1, 2, 4)?;
     let key = order.line(Number::new(3)?);
     let mut row = tables.order_line(key)?.copied();
     row.delivery = Some(tables.order(order)?.entry);
-    Some(Change::UpdateOrderLine(key, row))
+    amend(tables, Change::UpdateOrderLine(key, row))
 }
 
 /// D_YTD is a cent greater than what was paid.
-fn district_cent(tables: &Tables) -> Option<Change> {
+fn district_cent(tables: &mut Tables) -> Option<()> {
     let key = district_key(1, 3)?;
     let mut row = tables.district(key)?.copied();
     row.ytd = YearToDate::new(4_001)?;
-    Some(Change::UpdateDistrict(key, row))
+    amend(tables, Change::UpdateDistrict(key, row))
 }
 
 /// C_BALANCE is 0.00, where 10.00 was paid.
-fn balance(tables: &Tables) -> Option<Change> {
+fn balance(tables: &mut Tables) -> Option<()> {
     let key = customer_key(1, 1, 3)?;
     let mut row = tables.customer(key)?.copied();
     row.account.balance = Balance::new(0)?;
-    Some(Change::UpdateCustomer(key, row))
+    amend(tables, Change::UpdateCustomer(key, row))
 }
 
 /// C_YTD_PAYMENT is a cent greater than what was paid.
-fn payment_cent(tables: &Tables) -> Option<Change> {
+fn payment_cent(tables: &mut Tables) -> Option<()> {
     let key = customer_key(1, 1, 3)?;
     let mut row = tables.customer(key)?.copied();
     row.account.ytd_payment = YearToDate::new(1_001)?;
-    Some(Change::UpdateCustomer(key, row))
+    amend(tables, Change::UpdateCustomer(key, row))
 }
 
-/// The change of that number, from 0 to 9.
-fn fault(tables: &Tables, number: u32) -> Option<Change> {
+/// Makes the change of that number, from 0 to 9.
+fn plant(tables: &mut Tables, number: u32) -> Option<()> {
     match number {
-        0 => Some(Change::InsertNewOrder(order_key(2, 7, 2)?.new_order_key())),
-        1 => no_wait(),
+        0 => wait(tables),
+        1 => no_wait(tables),
         2 => line(tables),
         3 => no_date(tables),
         4 => date(tables),
@@ -76,99 +77,87 @@ fn fault(tables: &Tables, number: u32) -> Option<Change> {
     }
 }
 
-/// Where condition 5 fails after it, if it does.
-fn fifth(number: u32) -> Option<Option<Key>> {
-    Some(match number {
+/// Tells where condition 5 fails behind it, if it does.
+fn fifth(number: u32) -> Option<Key> {
+    match number {
         0 => Some(Key::Order(order_key(2, 7, 2)?)),
         1 => Some(Key::Order(order_key(1, 1, 4)?)),
         _ => None,
-    })
+    }
 }
 
-fn sixth(number: u32) -> Option<Option<Key>> {
-    Some(match number {
+fn sixth(number: u32) -> Option<Key> {
+    match number {
         2 => Some(Key::Order(order_key(2, 10, 4)?)),
         _ => None,
-    })
+    }
 }
 
-fn seventh(number: u32) -> Option<Option<Key>> {
-    Some(match number {
+fn seventh(number: u32) -> Option<Key> {
+    match number {
         3 => Some(Key::OrderLine(order_key(1, 2, 1)?.line(Number::new(1)?))),
         4 => Some(Key::OrderLine(order_key(1, 2, 4)?.line(Number::new(3)?))),
         _ => None,
-    })
+    }
 }
 
-/// The seventh HISTORY row of the population, which the last change repeats, is of customer 3 of district 2 of warehouse 1.
-fn eighth(number: u32) -> Option<Option<Key>> {
-    Some(match number {
+/// The seventh HISTORY row of the population, which the last change repeats, is of customer 3 of
+/// district 2 of warehouse 1.
+fn eighth(number: u32) -> Option<Key> {
+    match number {
         5 => Some(Key::Warehouse(district_key(2, 1)?.warehouse_key())),
         9 => Some(Key::Warehouse(district_key(1, 2)?.warehouse_key())),
         _ => None,
-    })
+    }
 }
 
-fn ninth(number: u32) -> Option<Option<Key>> {
-    Some(match number {
+fn ninth(number: u32) -> Option<Key> {
+    match number {
         6 => Some(Key::District(district_key(1, 3)?)),
         9 => Some(Key::District(district_key(1, 2)?)),
         _ => None,
-    })
+    }
 }
 
-fn tenth(number: u32) -> Option<Option<Key>> {
-    Some(match number {
+fn tenth(number: u32) -> Option<Key> {
+    match number {
         4 => Some(Key::Customer(customer_key(1, 2, 4)?)),
         7 => Some(Key::Customer(customer_key(1, 1, 3)?)),
         9 => Some(Key::Customer(customer_key(1, 2, 3)?)),
         _ => None,
-    })
-}
-
-fn twelfth(number: u32) -> Option<Option<Key>> {
-    Some(match number {
-        4 => Some(Key::Customer(customer_key(1, 2, 4)?)),
-        7 | 8 => Some(Key::Customer(customer_key(1, 1, 3)?)),
-        _ => None,
-    })
-}
-
-/// The verdict that fails at this row, or holds.
-fn verdict(failing: Option<Key>) -> Verdict {
-    match failing {
-        Some(key) => Verdict::Fails(key),
-        None => Verdict::Holds,
     }
 }
 
-/// Whether the seven verdicts are those that the change deserves.
-fn are_deserved(tables: &Tables, number: u32) -> Option<bool> {
-    Some(
-        condition(Condition::Fifth, tables) == verdict(fifth(number)?)
-            && condition(Condition::Sixth, tables) == verdict(sixth(number)?)
-            && condition(Condition::Seventh, tables) == verdict(seventh(number)?)
-            && condition(Condition::Eighth, tables) == verdict(eighth(number)?)
-            && condition(Condition::Ninth, tables) == verdict(ninth(number)?)
-            && condition(Condition::Tenth, tables) == verdict(tenth(number)?)
-            && condition(Condition::Twelfth, tables) == verdict(twelfth(number)?),
-    )
+fn twelfth(number: u32) -> Option<Key> {
+    match number {
+        4 => Some(Key::Customer(customer_key(1, 2, 4)?)),
+        7 | 8 => Some(Key::Customer(customer_key(1, 1, 3)?)),
+        _ => None,
+    }
 }
 
-/// Makes the change of that number, and looks at the verdicts.
-fn is_found_in(tables: &mut Tables, number: u32) -> Option<bool> {
-    let change = fault(tables, number)?;
-    let copied = change.copied();
-    drop(change);
-    amend(tables, copied)?;
-    are_deserved(tables, number)
+/// Tells whether a condition fails at this row, or holds where none is given.
+fn is_found_at(tables: &Tables, audited: Condition, failing: Option<Key>) -> bool {
+    condition(audited, tables) == verdict(failing)
+}
+
+/// Tells whether the seven verdicts are those that the change deserves.
+fn are_deserved(tables: &Tables, number: u32) -> bool {
+    is_found_at(tables, Condition::Fifth, fifth(number))
+        && is_found_at(tables, Condition::Sixth, sixth(number))
+        && is_found_at(tables, Condition::Seventh, seventh(number))
+        && is_found_at(tables, Condition::Eighth, eighth(number))
+        && is_found_at(tables, Condition::Ninth, ninth(number))
+        && is_found_at(tables, Condition::Tenth, tenth(number))
+        && is_found_at(tables, Condition::Twelfth, twelfth(number))
 }
 
 fn is_found(alloc: Global, number: u32) -> Option<bool> {
     let mut tables = populated(alloc, 4, 7)?;
-    let found = is_found_in(&mut tables, number);
-    drop(tables);
-    found
+    let is_made = plant(&mut tables, number).is_some();
+    let are_right = are_deserved(&tables, number);
+    tables.discard();
+    Some(is_made && are_right)
 }
 
 #[test]

@@ -3,9 +3,8 @@
 //! it, or adds what would make the condition hold.
 ghost use Rattle.oe_script.specs.Session.{state_of, IsLive};
 
-use crate::ends::goes_on;
 use crate::populations::{amend, district_key, order_key, populated};
-use crate::sessions::{core_on, is_answered, session_on};
+use crate::sessions::{core_on, goes_on, is_answered, session_on};
 use oe_audit::condition;
 use oe_change::Change;
 use oe_requests::{Condition, Verdict};
