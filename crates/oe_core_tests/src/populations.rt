@@ -1,7 +1,7 @@
 //! Keys, and small populations.
 use oe_change::{Change, apply};
 use oe_population::populate;
-use oe_rows::{DistrictKey, Scale, StockKey};
+use oe_rows::{DistrictKey, HistoryKey, Scale, StockKey};
 use oe_store::Tables;
 use oe_values::Number;
 use std::alloc::Global;
@@ -17,6 +17,14 @@ pub(crate) fn stock_key(warehouse: u32, item: u32) -> Option<StockKey> {
     Some(StockKey {
         warehouse: Number::new(warehouse)?,
         item: Number::new(item)?,
+    })
+}
+
+pub(crate) fn history_key(terminal: u32, number: u32) -> Option<HistoryKey> {
+    Some(HistoryKey {
+        terminal: Number::new(terminal)?,
+        number: Number::new(number)?,
+        ordinal: Number::new(1)?,
     })
 }
 

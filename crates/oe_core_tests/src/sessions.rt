@@ -5,7 +5,10 @@ ghost use Rattle.oe_script.specs.Session.{state_of, IsLive};
 use arrayvec::ArrayVec;
 use oe_audit::is_population;
 use oe_core::Core;
+use oe_ports::dumps::dump;
+use oe_ports::output::flush;
 use oe_ports::ports::{Failed, Outlet};
+use oe_rows::Table;
 use oe_script::session::Session;
 use oe_store::Tables;
 use oe_texts::Pending;
@@ -83,4 +86,48 @@ pub(crate) fn goes_on(session: &mut Session, alloc: Global, stages: u32) -> bool
         }
     }
     true
+}
+
+/// A sum of all that is written, which takes no memory.
+#[derive(Drop)]
+pub struct Sum {
+    sum: u64,
+}
+
+impl Outlet for Sum {
+    ghost sink = { λ _. None };
+
+    fn write(&mut self, bytes: &[u8]) -> Result<usize, Failed> {
+        for byte in bytes {
+            self.sum = (self.sum ^ u64::from(*byte)).wrapping_mul(1_099_511_628_211);
+        }
+        Ok(bytes.len())
+    }
+}
+
+const EACH_TABLE: [Table; 9] = [
+    Table::Warehouse,
+    Table::District,
+    Table::Customer,
+    Table::History,
+    Table::NewOrder,
+    Table::Order,
+    Table::OrderLine,
+    Table::Item,
+    Table::Stock,
+];
+
+/// The sum of all dumps.
+pub(crate) fn sum_of(tables: &Tables) -> u64 {
+    let mut sum = Sum { sum: 1 };
+    let mut out = ArrayVec::new();
+    for table in EACH_TABLE {
+        if dump(tables, table, &mut out, &mut sum).is_err() {
+            return 0;
+        }
+    }
+    if flush(&mut out, &mut sum).is_err() {
+        return 0;
+    }
+    sum.sum
 }
