@@ -1,10 +1,13 @@
-//! The engine's calls that no program makes, by a transaction that changes nothing, in district 4 of warehouse 2.
-use crate::populations::{district_key, populated};
+//! The engine's calls that no program makes, by a transaction that changes nothing, in district 4
+//! of warehouse 2; and a transaction of another engine, which comes back.
+use crate::populations::{district_key, payment, populated};
 use oe_engine::{Engine, Savepoint, Tx};
+use oe_requests::{DistrictDelivery, Refusal, Reply, Request};
 use oe_rows::{CustomerKey, DistrictKey, Key, Mode, Name, Row};
 use oe_values::{ExtentCount, LastName, Terminal};
 use std::alloc::Global;
 use std::process::Abort;
+use std::snapshot::Snapshot;
 
 // The mode in which a transaction holds a name that it has asked for in that mode.
 fn taken(engine: &mut Engine, tx: &Tx, name: &Name, mode: Mode) -> Option<Mode> {
@@ -90,13 +93,13 @@ fn are_answered(engine: &mut Engine, tx: &Tx) -> Option<bool> {
     )
 }
 
-// An engine on a population.
-fn engine_on(rt: &impl Abort, alloc: Global) -> Engine {
+// An engine of that name on a population.
+fn engine_on(rt: &impl Abort, alloc: Global, name: u32) -> Engine {
     let extents = ExtentCount::new(2).expect(rt, "extents");
     let Some(tables) = populated(alloc, 10, 20) else {
         panic!(rt; "no population")
     };
-    match Engine::open(alloc, tables, extents, 5) {
+    match Engine::open(alloc, tables, extents, name) {
         Ok(engine) => engine,
         Err(_) => panic!(rt; "no memory"),
     }
@@ -114,10 +117,88 @@ fn are_answered_at(rt: &impl Abort, engine: &mut Engine, terminal: Terminal) -> 
     }
 }
 
+/// Lets go of an engine, whose drop is so proved here once, part by part.
+fn leave(engine: Engine) {
+    drop(engine);
+}
+
 #[test]
 fn an_engine_is_asked(rt: HostRuntime) {
     let terminal = Terminal::new(17).expect(&rt, "a terminal");
-    let mut engine = engine_on(&rt, rt.alloc());
+    let mut engine = engine_on(&rt, rt.alloc(), 5);
     assert!(rt; are_answered_at(&rt, &mut engine, terminal));
-    drop(engine);
+    leave(engine);
+}
+
+/// Commits another engine's transaction, and tells what comes back.
+fn by_commit(rt: &impl Abort, engine: &mut Engine, tx: Tx, request: &Request) -> Tx {
+    let reply = Reply::Delivery(DistrictDelivery::Skipped);
+    match engine.commit(tx, Snapshot::of(request), Snapshot::of(&reply)) {
+        Ok(_) => panic!(rt; "committed"),
+        Err(tx) => tx,
+    }
+}
+
+/// Rolls another engine's transaction back, and tells what comes back.
+fn by_rollback(rt: &impl Abort, engine: &mut Engine, tx: Tx) -> Tx {
+    match engine.rollback(tx) {
+        Ok(()) => panic!(rt; "rolled back"),
+        Err(tx) => tx,
+    }
+}
+
+fn end(rt: &impl Abort, engine: &mut Engine, tx: Tx) {
+    match engine.rollback(tx) {
+        Ok(()) => {}
+        Err(_) => panic!(rt; "not open"),
+    }
+}
+
+fn begun(rt: &impl Abort, engine: &mut Engine, terminal: Terminal) -> Tx {
+    match engine.begin(terminal) {
+        Ok(tx) => tx,
+        Err(_) => panic!(rt; "not begun"),
+    }
+}
+
+/// Tells whether an engine refuses a lock to a transaction as not open.
+fn is_stranger(engine: &mut Engine, tx: &Tx) -> Option<bool> {
+    let name = Name::Queue(district_key(2, 4)?);
+    match engine.lock(tx, name, Mode::Shared) {
+        Ok(_) => Some(false),
+        Err(refusal) => Some(refusal == Refusal::NotOpen),
+    }
+}
+
+/// Begins a transaction of one terminal in each of two engines. The one comes to the other engine
+/// and back, and each is ended at home.
+fn stray(
+    rt: &impl Abort,
+    home: &mut Engine,
+    abroad: &mut Engine,
+    terminal: Terminal,
+    request: &Request,
+) -> bool {
+    let own = begun(rt, home, terminal);
+    let foreign = begun(rt, abroad, terminal);
+    let is_refused = is_stranger(home, &foreign) == Some(true);
+    let foreign = by_commit(rt, home, foreign, request);
+    let foreign = by_rollback(rt, home, foreign);
+    end(rt, abroad, foreign);
+    end(rt, home, own);
+    is_refused
+}
+
+#[test]
+fn a_foreign_transaction_comes_back(rt: HostRuntime) {
+    let terminal = Terminal::new(17).expect(&rt, "a terminal");
+    let Some(request) = payment(6, 4_321) else {
+        panic!(rt; "no request")
+    };
+    let mut home = engine_on(&rt, rt.alloc(), 5);
+    let mut abroad = engine_on(&rt, rt.alloc(), 6);
+    let is_refused = stray(&rt, &mut home, &mut abroad, terminal, &request);
+    leave(home);
+    leave(abroad);
+    assert!(rt; is_refused);
 }

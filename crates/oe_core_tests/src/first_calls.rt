@@ -1,16 +1,15 @@
 //! The first calls of a library, as the head of its crate quotes them: of tables, a core, and a
 //! script's session.
-ghost use Rattle.std.specs.Prelude.{IfSome};
 ghost use Rattle.oe_admission.specs.Programs.{HasProgram};
 
-use crate::populations::{district_key, populated};
+use crate::populations::{district_key, payment, populated};
 use crate::sessions::{Nowhere, core_on};
 use oe_core::{Advanced, Core};
-use oe_requests::{Answer, CustomerChoice, PaymentRequest, Request};
+use oe_requests::{Answer, Request};
 use oe_rows::DistrictKey;
 use oe_script::session::Session;
 use oe_store::Tables;
-use oe_values::{LastName, Number, Stamp, Terminal, YearToDate};
+use oe_values::{LastName, Terminal, YearToDate};
 use std::alloc::Global;
 use std::process::Abort;
 
@@ -49,19 +48,6 @@ fn session_answers(alloc: Global) -> bool {
     is_written && are_answers
 }
 
-// The payment of that script.
-fn payment() -> Option<Request>
-    ensures { IfSome result HasProgram }
-{
-    Some(Request::Payment(PaymentRequest {
-        district: district_key(2, 7)?,
-        customer_district: district_key(1, 3)?,
-        customer: CustomerChoice::Number(Number::new(9)?),
-        amount: Number::new(25_000)?,
-        stamp: Stamp::from_seconds(3_187_296_000)?,
-    }))
-}
-
 // Two warehouses, ten customers in each district, and 20 items.
 fn tables(rt: &impl Abort, alloc: Global) -> Tables {
     let Some(tables) = populated(alloc, 10, 20) else {
@@ -80,12 +66,12 @@ fn are_found(tables: &mut Tables) -> Option<bool> {
 fn tables_are_asked_and_set(rt: HostRuntime) {
     let mut tables = tables(&rt, rt.alloc());
     assert!(rt; are_found(&mut tables) == Some(true));
-    drop(tables);
+    tables.discard();
 }
 
 fn is_paid_back(core: &mut Core) -> Option<bool> {
     let terminal = Terminal::new(5)?;
-    let Some(request) = payment() else {
+    let Some(request) = payment(9, 25_000) else {
         return None;
     };
     Some(core_goes_back(core, terminal, &request))
@@ -95,7 +81,7 @@ fn is_paid_back(core: &mut Core) -> Option<bool> {
 fn a_payment_goes_a_stage_and_back(rt: HostRuntime) {
     let mut core = core_on(&rt, rt.alloc(), tables(&rt, rt.alloc()));
     assert!(rt; is_paid_back(&mut core) == Some(true));
-    drop(core.close());
+    core.discard();
 }
 
 #[test]

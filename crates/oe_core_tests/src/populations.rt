@@ -1,9 +1,13 @@
-//! Keys, and small populations.
+//! Keys, a payment, and small populations.
+ghost use Rattle.std.specs.Prelude.{IfSome};
+ghost use Rattle.oe_admission.specs.Programs.{HasProgram};
+
 use oe_change::{Change, apply};
 use oe_population::populate;
+use oe_requests::{CustomerChoice, PaymentRequest, Request};
 use oe_rows::{DistrictKey, HistoryKey, Scale, StockKey};
 use oe_store::Tables;
-use oe_values::Number;
+use oe_values::{Number, Stamp};
 use std::alloc::Global;
 
 pub(crate) fn district_key(warehouse: u32, district: u32) -> Option<DistrictKey> {
@@ -26,6 +30,20 @@ pub(crate) fn history_key(terminal: u32, number: u32) -> Option<HistoryKey> {
         number: Number::new(number)?,
         ordinal: Number::new(1)?,
     })
+}
+
+/// Makes the payment of a customer of district 3 of warehouse 1, in cents, in district 7 of
+/// warehouse 2.
+pub(crate) fn payment(customer: u32, cents: u32) -> Option<Request>
+    ensures { IfSome result HasProgram }
+{
+    Some(Request::Payment(PaymentRequest {
+        district: district_key(2, 7)?,
+        customer_district: district_key(1, 3)?,
+        customer: CustomerChoice::Number(Number::new(customer)?),
+        amount: Number::new(cents)?,
+        stamp: Stamp::from_seconds(3_187_296_000)?,
+    }))
 }
 
 /// Two warehouses.

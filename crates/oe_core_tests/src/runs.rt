@@ -43,5 +43,5 @@ fn a_list_of_steps_is_run(rt: HostRuntime) {
     };
     let mut core = core_on(&rt, rt.alloc(), tables);
     assert!(rt; rolls_nothing_back(&mut core, terminal));
-    drop(core.close());
+    core.discard();
 }
