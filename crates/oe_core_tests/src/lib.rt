@@ -1,6 +1,6 @@
 //! The tests of engine, core and script that need calls of the libraries: tables that no script
-//! comes to, lists of steps, and readers and writers that fail. What a clause says is not tested
-//! again, and neither is what the program's examples show.
+//! comes to, lists of steps, refused memory, and readers and writers that fail. What a clause says
+//! is not tested again, and neither is what the program's examples show.
 #![tactic(auto)]
 
 #[cfg(test)]
@@ -11,6 +11,8 @@ mod engines;
 mod faults;
 #[cfg(test)]
 mod first_calls;
+#[cfg(test)]
+mod growths;
 #[cfg(test)]
 mod populations;
 #[cfg(test)]

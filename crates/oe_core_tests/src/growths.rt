@@ -1,0 +1,169 @@
+//! A population, a core and a list of steps, each asked for again where it was refused memory: what
+//! was refused has changed nothing, and goes on. With ample memory nothing is refused:
+//! `rt try --test --fail-alloc N` refuses the Nth growth.
+ghost use Rattle.std.specs.Prelude.{IfSome};
+ghost use Rattle.std.specs.List.{All};
+ghost use Rattle.oe_admission.specs.Programs.{HasProgram};
+ghost use Rattle.oe_core.specs.Steps.{begins_with};
+
+use crate::populations::{payment, populated};
+use crate::sessions::sum_of;
+use oe_audit::is_population;
+use oe_core::Core;
+use oe_requests::{Answer, Condition, Refusal, Request, Step};
+use oe_runs::run;
+use oe_values::{ExtentCount, Moment, Terminal};
+use std::alloc::Global;
+use std::process::Abort;
+
+/// Opens a core on a population. `None` where memory was refused.
+fn opened_once(rt: &impl Abort, alloc: Global) -> Option<Core> {
+    let extents = ExtentCount::new(64).expect(rt, "extents");
+    let tables = populated(alloc, 4, 7)?;
+    if !is_population(&tables) {
+        panic!(rt; "no population");
+    }
+    match Core::open(alloc, tables, extents) {
+        Ok(core) => Some(core),
+        Err(_) => None,
+    }
+}
+
+/// Opens one, and again where memory was refused.
+fn opened(rt: &impl Abort, alloc: Global) -> Core {
+    if let Some(core) = opened_once(rt, alloc) {
+        return core;
+    }
+    match opened_once(rt, alloc) {
+        Some(core) => core,
+        None => panic!(rt; "no core"),
+    }
+}
+
+/// Tells what a core shows: the sum of its dumps, its newest moment, and how many transactions are
+/// open.
+fn shown(core: &Core) -> (u64, u64, u32) {
+    (
+        sum_of(core.tables()),
+        core.newest().get(),
+        core.open_count(),
+    )
+}
+
+/// Runs these steps, and again where memory was refused. `None` where the refused run has changed
+/// what the core shows, or the second is refused too.
+fn run_at_last(core: &mut Core, steps: &[Step]) -> Option<Vec<Answer>>
+    requires { All (λ i. IfSome (begins_with i) HasProgram) steps.now }
+{
+    let before = shown(core);
+    if let Ok(answers) = run(core, steps) {
+        return Some(answers);
+    }
+    if shown(core) != before {
+        return None;
+    }
+    match run(core, steps) {
+        Ok(answers) => Some(answers),
+        Err(_) => None,
+    }
+}
+
+fn is_no_memory(answer: &Answer) -> bool {
+    match answer {
+        Answer::Refused(refusal) => *refusal == Refusal::NoMemory,
+        _ => false,
+    }
+}
+
+/// Carries out a step, and again where it was refused memory, and tells whether it is then answered
+/// so.
+fn is_stepped(core: &mut Core, step: &Step, answer: &Answer) -> bool
+    requires { IfSome (begins_with step.now) HasProgram }
+{
+    let first = core.step(step.copied());
+    if !is_no_memory(&first) {
+        return first == *answer;
+    }
+    core.step(step.copied()) == *answer
+}
+
+/// Carries out the steps one after another, and tells whether they are answered as the run was.
+/// From a step of the run on that was refused memory, its answers are those of other stages.
+fn are_stepped(core: &mut Core, steps: &[Step], answers: &[Answer]) -> bool
+    requires { All (λ i. IfSome (begins_with i) HasProgram) steps.now }
+{
+    let mut rest = answers;
+    let mut is_refused = false;
+    for step in steps {
+        let Some((answer, behind)) = rest.split_first() else {
+            return false;
+        };
+        is_refused = is_refused || is_no_memory(answer);
+        if !is_stepped(core, step, answer) && !is_refused {
+            return false;
+        }
+        rest = behind;
+    }
+    rest.is_empty()
+}
+
+/// Tells whether a run of these steps is answered as the same steps one after another on another
+/// core.
+fn runs_as_steps(running: &mut Core, stepping: &mut Core, steps: &[Step]) -> bool
+    requires { All (λ i. IfSome (begins_with i) HasProgram) steps.now }
+{
+    let Some(answers) = run_at_last(running, steps) else {
+        return false;
+    };
+    are_stepped(stepping, steps, answers.as_slice())
+}
+
+/// The same of a payment that goes back to its mark, beside a rewind and an audit, and is purged.
+#[tactic(auto, using(crate::proofs::LiveFacts::all_behind_begin))]
+fn payment_runs_as_steps(
+    running: &mut Core,
+    stepping: &mut Core,
+    terminal: Terminal,
+    payment: Request,
+    moments: (Moment, Moment),
+) -> bool
+    requires { HasProgram payment }
+{
+    let steps = [
+        Step::Begin(terminal, payment),
+        Step::Advance(terminal),
+        Step::Save(terminal),
+        Step::Advance(terminal),
+        Step::Rewind(moments.0),
+        Step::Back(terminal),
+        Step::Advance(terminal),
+        Step::Advance(terminal),
+        Step::Advance(terminal),
+        Step::Advance(terminal),
+        Step::Audit(Condition::Second, moments.1),
+        Step::Purge(moments.1),
+    ];
+    runs_as_steps(running, stepping, &steps)
+}
+
+/// The same of customer 3, who pays 123.45 at terminal 9.
+fn are_alike(running: &mut Core, stepping: &mut Core) -> Option<bool> {
+    let terminal = Terminal::new(9)?;
+    let moments = (Moment::new(0)?, Moment::new(1)?);
+    let Some(payment) = payment(3, 12_345) else {
+        return None;
+    };
+    Some(payment_runs_as_steps(running, stepping, terminal, payment, moments))
+}
+
+#[test]
+fn a_refused_run_has_taken_no_step(rt: HostRuntime) {
+    let mut running = opened(&rt, rt.alloc());
+    let mut stepping = opened(&rt, rt.alloc());
+    let are_alike = are_alike(&mut running, &mut stepping) == Some(true);
+    let newest = stepping.newest().get();
+    running.discard();
+    stepping.discard();
+    assert!(rt; are_alike);
+    assert!(rt; newest == 1);
+}
