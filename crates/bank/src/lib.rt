@@ -27,12 +27,14 @@ pub fn commit_is_whole()
     ensures { Commit_is_whole bank }
 {}
 
-/// Where a step is refused and rolls its transaction back, the request has no whole effect on the newest version.
+/// Where a step is refused and rolls its transaction back, the request has no whole effect on the
+/// newest version.
 pub fn abort_has_no_effect()
     ensures { Abort_has_no_effect bank }
 {}
 
-/// The commits are those of their transactions run one at a time, each on the version before it, with its reply.
+/// The commits are those of their transactions run one at a time, each on the version before it,
+/// with its reply.
 pub fn history_is_serial()
     ensures { History_is_serial bank }
 {}
@@ -62,7 +64,8 @@ pub fn undo_forgets()
     ensures { Undo_forgets bank }
 {}
 
-/// To undo an open transaction's records since its mark in place is to be back at the mark, whatever others have done since.
+/// To undo an open transaction's records since its mark in place is to be back at the mark,
+/// whatever others have done since.
 pub fn undo_goes_back()
     ensures { Undo_goes_back bank }
 {}
@@ -97,7 +100,8 @@ pub fn opening_stands()
     ensures { Opening_stands bank }
 {}
 
-/// Each step, with each of its answers, is one change of the store, under conditions on the store alone.
+/// Each step, with each of its answers, is one change of the store, under conditions on the store
+/// alone.
 pub fn steps_of_the_store()
     ensures { Steps_of_the_store bank }
 {}
@@ -112,7 +116,8 @@ pub fn base_is_unwound()
     ensures { Base_is_unwound bank }
 {}
 
-/// The tables with the records of open work and of the commits after a moment put back are its version.
+/// The tables with the records of open work and of the commits after a moment put back are its
+/// version.
 pub fn version_is_unwound()
     ensures { Version_is_unwound bank }
 {}
@@ -152,7 +157,8 @@ pub fn run_is_reached()
     ensures { Run_is_reached bank }
 {}
 
-/// A refusal that rolls back is that of the program alone on the newest version, and one of those that it may end with.
+/// A refusal that rolls back is that of the program alone on the newest version, and one of those
+/// that it may end with.
 pub fn abort_is_its_own()
     ensures { Abort_is_its_own bank }
 {}
@@ -207,7 +213,8 @@ pub fn tests_hold_from_base()
     ensures { Tests_hold_from_base bank }
 {}
 
-/// Without a want of memory a script's answers, and the world that it leaves, are a function of the world and the script.
+/// Without a want of memory a script's answers, and the world that it leaves, are a function of the
+/// world and the script.
 pub fn scripts_are_answered()
     ensures { Scripts_are_answered bank }
 {}

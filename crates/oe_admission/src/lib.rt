@@ -1,4 +1,5 @@
-//! What is asked of a request before its transaction begins: that its numbers are in their ranges, and that its warehouses are there.
+//! What is asked of a request before its transaction begins: that its numbers are in their ranges,
+//! and that its warehouses are there.
 #![tactic(auto)]
 
 mod ranges;

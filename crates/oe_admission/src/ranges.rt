@@ -1,4 +1,5 @@
-//! What the types of a request say: that its numbers and its name are in their ranges. All are laws, and do nothing.
+//! What the types of a request say: that its numbers and its name are in their ranges. All are
+//! laws, and do nothing.
 ghost use Rattle.std.specs.List.{All};
 ghost use Rattle.oe_model.specs.Requests.{IsDistrict, IsChoice, IsPayment, IsRequestLine, IsNewOrder, IsDelivery, IsDeliveries, IsRequest};
 ghost use Rattle.oe_admission.specs.Programs.{HasProgram};

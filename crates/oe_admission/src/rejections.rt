@@ -1,4 +1,5 @@
-//! Why a request is turned away before anything else is looked at (clause 2.1.1 has warehouses 1 to W).
+//! Why a request is turned away before anything else is looked at (clause 2.1.1 has warehouses 1 to
+//! W).
 ghost use Rattle.std.specs.Prelude.{◌≡◌, [], ◌∷◌, map};
 ghost use Rattle.oe_model.specs.Requests.{first_absent};
 ghost use Rattle.oe_model.specs.Requests as model;
@@ -21,7 +22,8 @@ fn absent(tables: &Tables, warehouse: WarehouseNumber) -> Option<Refusal>
     }
 }
 
-/// `NoSuchRow` of the first of a payment's two warehouses that isn't there. They are mostly one, which is then looked up once.
+/// `NoSuchRow` of the first of a payment's two warehouses that isn't there. They are mostly one,
+/// which is then looked up once.
 #[inline]
 fn absent_of_payment(tables: &Tables, payment: &PaymentRequest) -> Option<Refusal>
     ensures { result ≡ first_absent (payment.now.district.warehouse

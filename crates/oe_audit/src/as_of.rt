@@ -1,9 +1,10 @@
-//! When an audit looks at the rows: as they stand, or as they stood at a moment. Its walks go over the rows that stand, and ask here what
-//! each key had then.
+//! When an audit looks at the rows: as they stand, or as they stood at a moment. Its walks go over
+//! the rows that stand, and ask here what each key had then.
 //!
-//! Rows of all tables but NEW-ORDER stay where they were inserted, and a NEW-ORDER row has its ORDER row at each moment. So the rows of a
-//! moment are found at the keys that have rows now, those of NEW-ORDER at the keys of the orders. A HISTORY row is never changed: it is
-//! read as it stands.
+//! Rows of all tables but NEW-ORDER stay where they were inserted, and a NEW-ORDER row has its
+//! ORDER row at each moment. So the rows of a moment are found at the keys that have rows now,
+//! those of NEW-ORDER at the keys of the orders. A HISTORY row is never changed: it is read as it
+//! stands.
 ghost use Rattle.std.specs.Prelude.{◌≡◌, is_some, option_map};
 ghost use Rattle.std.specs.FinMap.{get};
 ghost use Rattle.oe_audit.specs.AsOf.{rows_then, row_then, has_row_then};

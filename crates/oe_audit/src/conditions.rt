@@ -1,5 +1,5 @@
-//! The verdicts of the consistency conditions (clauses 3.3.2.1 to 3.3.2.10 and 3.3.2.12), of the rows as they stand or stood at a
-//! moment.
+//! The verdicts of the consistency conditions (clauses 3.3.2.1 to 3.3.2.10 and 3.3.2.12), of the
+//! rows as they stand or stood at a moment.
 ghost use Rattle.std.specs.Prelude.{◌≡◌, IsTrue, IfOk, IfErr, OnOk};
 ghost use Rattle.oe_model.specs.Audits.{First};
 ghost use Rattle.oe_store.specs.Places.{rows};
@@ -103,12 +103,13 @@ fn found<'a>(number: Condition, tables: &'a Tables, when: &AsOf<'a>) -> Verdict
     }
 }
 
-/// The verdict of a consistency condition: that it holds, or the first row, in key order, at which it fails. That is a
-/// WAREHOUSE row for conditions 1 and 8, a DISTRICT row for 2, 3, 4 and 9, an ORDER row for 5 and 6, an ORDER-LINE row for 7, and a
-/// CUSTOMER row for 10 and 12; a district without an order fails the second.
+/// The verdict of a consistency condition: that it holds, or the first row, in key order, at which
+/// it fails. That is a WAREHOUSE row for conditions 1 and 8, a DISTRICT row for 2, 3, 4 and 9, an
+/// ORDER row for 5 and 6, an ORDER-LINE row for 7, and a CUSTOMER row for 10 and 12; a district
+/// without an order fails the second.
 ///
-/// Each audit walks the rows that it concerns once, but for those of HISTORY: it walks them once for each warehouse or district.
-/// It takes no memory.
+/// Each audit walks the rows that it concerns once, but for those of HISTORY: it walks them once
+/// for each warehouse or district. It takes no memory.
 pub fn condition(number: Condition, tables: &Tables) -> Verdict
     ensures { IsAudited number (rows tables.now) result }
 {
@@ -116,7 +117,8 @@ pub fn condition(number: Condition, tables: &Tables) -> Verdict
     found(number, tables, &AsOf::Now)
 }
 
-/// Whether there is nothing to put back: no commit is later than the moment, and no transaction is open.
+/// Whether there is nothing to put back: no commit is later than the moment, and no transaction is
+/// open.
 fn is_settled(undo: &Undo, moment: Moment) -> bool
     ensures commits { IsTrue result → newest undo.now.log ≡ moment }
     ensures open { IsTrue result → open_total undo.now.log ≡ 0 }
@@ -124,12 +126,14 @@ fn is_settled(undo: &Undo, moment: Moment) -> bool
     undo.segments().newest().get() == moment.get() && undo.segments().open_count() == 0
 }
 
-/// The verdict of a consistency condition at a moment, as `condition` would have given it when that moment was the newest, whatever
-/// has been open or committed since: that it held, or the first row, in key order, at which it failed.
+/// The verdict of a consistency condition at a moment, as `condition` would have given it when that
+/// moment was the newest, whatever has been open or committed since: that it held, or the first
+/// row, in key order, at which it failed.
 ///
-/// `TooOld` with the horizon and `Future` with the newest moment, exactly where the moment is not between the two. It takes no
-/// memory. It walks the rows that it concerns once, and goes for each along its key's records that are open or of commits after the
-/// moment; where nothing is open and no commit is later, it is `condition`.
+/// `TooOld` with the horizon and `Future` with the newest moment, exactly where the moment is not
+/// between the two. It takes no memory. It walks the rows that it concerns once, and goes for each
+/// along its key's records that are open or of commits after the moment; where nothing is open and
+/// no commit is later, it is `condition`.
 pub fn condition_at(
     number: Condition,
     tables: &Tables,

@@ -19,8 +19,8 @@ pub(crate) enum CustomerCondition {
     Twelfth,
 }
 
-/// Whether an account agrees with what was delivered to the customer and with what the customer has paid (clauses 3.3.2.10 and
-/// 3.3.2.12).
+/// Whether an account agrees with what was delivered to the customer and with what the customer has
+/// paid (clauses 3.3.2.10 and 3.3.2.12).
 fn agrees(condition: &CustomerCondition, account: &Account, delivered: u64, paid: u64) -> bool
     ensures value { result ≡ agrees condition.now account.now delivered paid }
     ensures ranges { IsAccount account.now }

@@ -73,7 +73,8 @@ fn is_last_or_none(number: Option<u32>, last: u32) -> bool
     }
 }
 
-/// Whether D_NEXT_O_ID - 1 is the greatest O_ID, and the greatest NO_O_ID where there is one (clause 3.3.2.2).
+/// Whether D_NEXT_O_ID - 1 is the greatest O_ID, and the greatest NO_O_ID where there is one
+/// (clause 3.3.2.2).
 pub(crate) fn passes_second<'a>(
     tables: &'a Tables,
     when: &AsOf<'a>,
@@ -104,8 +105,8 @@ fn follows_number(before: Option<u32>, number: u32) -> bool
     }
 }
 
-/// Whether the greatest NO_O_ID less the least, and 1, is the number of NEW-ORDER rows (clause 3.3.2.3): in their order
-/// each has the number after the one before.
+/// Whether the greatest NO_O_ID less the least, and 1, is the number of NEW-ORDER rows (clause
+/// 3.3.2.3): in their order each has the number after the one before.
 pub(crate) fn passes_third<'a>(tables: &'a Tables, when: &AsOf<'a>, key: &DistrictKey) -> bool
     requires { ArePassed (rows_then tables.now when.now) (rows tables.now) }
     ensures { result ≡ are_counted (rows_then tables.now when.now) key.now }
@@ -124,7 +125,8 @@ pub(crate) fn passes_third<'a>(tables: &'a Tables, when: &AsOf<'a>, key: &Distri
     true
 }
 
-/// Takes rows off the front of a walk until `count` of them stood then, and answers whether there were that many.
+/// Takes rows off the front of a walk until `count` of them stood then, and answers whether there
+/// were that many.
 pub(crate) fn takes<'a>(
     lines: &mut Rows<'a, OrderLineKey, OrderLine>,
     tables: &'a Tables,
@@ -160,8 +162,8 @@ pub(crate) fn has_more<'a>(
     takes(lines, tables, when, 1)
 }
 
-/// Whether the sum of O_OL_CNT is the number of ORDER-LINE rows (clause 3.3.2.4): the orders take their numbers of rows
-/// off the walk of the lines, and none is left.
+/// Whether the sum of O_OL_CNT is the number of ORDER-LINE rows (clause 3.3.2.4): the orders take
+/// their numbers of rows off the walk of the lines, and none is left.
 pub(crate) fn passes_fourth<'a>(tables: &'a Tables, when: &AsOf<'a>, key: &DistrictKey) -> bool
     requires { ArePassed (rows_then tables.now when.now) (rows tables.now) }
     ensures { result ≡ lines_agree (rows_then tables.now when.now) key.now }

@@ -1,7 +1,8 @@
 //! The sums of a district's customers: what was delivered to each, and what each has paid.
 //!
-//! A ledger has one sum for each C_ID, 3,000 in all, which lie in the value: it takes no memory. By `IsLedger` its sums are those of the
-//! district that it names. The sums of another district replace them; nothing can fail.
+//! A ledger has one sum for each C_ID, 3,000 in all, which lie in the value: it takes no memory. By
+//! `IsLedger` its sums are those of the district that it names. The sums of another district
+//! replace them; nothing can fail.
 ghost use Rattle.std.specs.Prelude.{◌≡◌, ℕ, ◌≤◌, ◌==◌, ◌&&◌, cond, IsTrue, Some};
 ghost use Rattle.std.specs.Ordering.{eq_by_cmp};
 ghost use Rattle.oe_rows.specs.Key.{customer_cmp};
@@ -40,7 +41,8 @@ fn add(sums: &mut [u64; 3_000], customer: CustomerNumber, amount: u64)
     sums[at] = sum.saturating_add(amount);
 }
 
-/// Adds OL_AMOUNT of a line that stood then, where it has a delivery date, to the sum of its order's customer.
+/// Adds OL_AMOUNT of a line that stood then, where it has a delivery date, to the sum of its
+/// order's customer.
 fn add_line<'a>(
     tables: &'a Tables,
     when: &AsOf<'a>,
@@ -182,7 +184,8 @@ impl Ledger {
         self.take_sums(tables, when, district);
     }
 
-    /// Takes the sums of a district. It has room of its own for them, which a call that finds them there does not pay for.
+    /// Takes the sums of a district. It has room of its own for them, which a call that finds them
+    /// there does not pay for.
     #[inline(never)]
     fn take_sums<'a>(&mut self, tables: &'a Tables, when: &AsOf<'a>, district: &DistrictKey)
         requires { ArePassed (rows_then tables.now when.now) (rows tables.now) }

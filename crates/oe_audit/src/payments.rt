@@ -1,6 +1,7 @@
 //! The eighth and ninth consistency conditions: what was paid in a warehouse, and in a district.
 //!
-//! HISTORY has no order by place, so each warehouse and each district is a walk of its own over all of its rows.
+//! HISTORY has no order by place, so each warehouse and each district is a walk of its own over all
+//! of its rows.
 ghost use Rattle.std.specs.Prelude.{◌≡◌, ◌==◌, ◌&&◌};
 ghost use Rattle.oe_model.specs.Audits.{Eighth, Ninth};
 ghost use Rattle.oe_store.specs.Places.{rows};

@@ -1,4 +1,5 @@
-//! Which rows the tables accept to be inserted: the key is absent, and what the row refers to is there. Nothing is changed.
+//! Which rows the tables accept to be inserted: the key is absent, and what the row refers to is
+//! there. Nothing is changed.
 ghost use Rattle.std.specs.Prelude.{◌≡◌, IfErr, OnOk};
 ghost use Rattle.oe_model.specs.Keys.{supply_of_line};
 ghost use Rattle.oe_model.specs.Changes.{InsertHistory, InsertNewOrder, InsertOrder, InsertOrderLine};
@@ -14,7 +15,8 @@ use oe_store::Tables;
 
 /// Whether the tables accept a HISTORY row, which refers to a customer and a district.
 ///
-/// `RowExists`: the key is there. `Reference`: the customer is absent, or else the district (clause 1.4).
+/// `RowExists`: the key is there. `Reference`: the customer is absent, or else the district (clause
+/// 1.4).
 #[inline(always)]
 pub fn accept_history(tables: &Tables, key: &HistoryKey, row: &History) -> Result<(), Refusal>
     ensures accepted { OnOk result (Accepts (InsertHistory key.now row.now) (rows tables.now)) }
@@ -74,7 +76,8 @@ pub fn accept_order(tables: &Tables, key: &OrderKey, row: &Order) -> Result<(), 
     Ok(())
 }
 
-/// Whether the tables accept an ORDER-LINE row, which refers to its order and to the stock that it is supplied from.
+/// Whether the tables accept an ORDER-LINE row, which refers to its order and to the stock that it
+/// is supplied from.
 ///
 /// `RowExists`: the key is there. `Reference`: its order is absent, or else the stock (clause 1.4).
 #[inline(always)]

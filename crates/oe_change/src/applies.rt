@@ -18,10 +18,11 @@ use oe_store::Tables;
 
 /// Makes a change of one row and answers its undo record, or says why not.
 ///
-/// `NoSuchRow`: the key of an update or a delete is absent. `RowExists`: the key of an insert is there. `Reference`: what
-/// the new row refers to is absent (clauses 1.3 and 1.4). `KeyColumn`: an update changes C_LAST, C_FIRST or O_C_ID.
-/// `NoMemory`: the tables accept the insert, but its key takes a new place, and its memory was refused. A column can't
-/// leave its range, since rows are in their ranges by type.
+/// `NoSuchRow`: the key of an update or a delete is absent. `RowExists`: the key of an insert is
+/// there. `Reference`: what the new row refers to is absent (clauses 1.3 and 1.4). `KeyColumn`: an
+/// update changes C_LAST, C_FIRST or O_C_ID. `NoMemory`: the tables accept the insert, but its key
+/// takes a new place, and its memory was refused. A column can't leave its range, since rows are in
+/// their ranges by type.
 pub fn apply(tables: &mut Tables, change: Change) -> Result<OwnRecord, Refusal>
     ensures applied { IfOk result (HasApplied (change_of change) tables.old tables.new) }
 

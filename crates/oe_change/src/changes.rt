@@ -1,5 +1,5 @@
-//! Changes of one whole row, for those who have the tables alone. A change owns its row and is spent by `apply`; a program writes by
-//! `Write`.
+//! Changes of one whole row, for those who have the tables alone. A change owns its row and is
+//! spent by `apply`; a program writes by `Write`.
 ghost use Rattle.std.specs.Prelude.{◌≡◌};
 ghost use Rattle.oe_model.specs.Changes.{key_of};
 
@@ -14,8 +14,9 @@ use oe_rows::keys::{
 use oe_rows::orders::{Order, OrderLine};
 use oe_rows::warehouses::Warehouse;
 
-/// A change of one row, of those that the standard's transactions make (clauses 2.4.2, 2.5.2 and 2.7.4): the row that is
-/// inserted or takes another's place, under its key, or the key whose row is deleted.
+/// A change of one row, of those that the standard's transactions make (clauses 2.4.2, 2.5.2 and
+/// 2.7.4): the row that is inserted or takes another's place, under its key, or the key whose row
+/// is deleted.
 #[derive(Drop)]
 pub enum Change {
     InsertHistory(HistoryKey, History),

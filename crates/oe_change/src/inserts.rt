@@ -14,8 +14,9 @@ use oe_store::Tables;
 
 /// Inserts a HISTORY row, which refers to a customer and a district, and answers its undo record.
 ///
-/// `RowExists`: the key is there. `Reference`: the customer is absent, or else the district (clause 1.4). `NoMemory`: the tables accept
-/// the row, but its key takes a new place, and its memory was refused. Nothing has changed then.
+/// `RowExists`: the key is there. `Reference`: the customer is absent, or else the district (clause
+/// 1.4). `NoMemory`: the tables accept the row, but its key takes a new place, and its memory was
+/// refused. Nothing has changed then.
 #[inline(always)]
 pub fn insert_history(
     tables: &mut Tables,
@@ -38,8 +39,9 @@ pub fn insert_history(
 
 /// Inserts a NEW-ORDER row, which refers to its order, and answers its undo record.
 ///
-/// `RowExists`: the key is there. `Reference`: its order is absent (clause 1.4). `NoMemory`: the tables accept the row, but its key takes
-/// a new place, and its memory was refused. Nothing has changed then.
+/// `RowExists`: the key is there. `Reference`: its order is absent (clause 1.4). `NoMemory`: the
+/// tables accept the row, but its key takes a new place, and its memory was refused. Nothing has
+/// changed then.
 #[inline(always)]
 pub fn insert_new_order(tables: &mut Tables, key: &NewOrderKey) -> Result<OwnRecord, Refusal>
     ensures applied { IfOk result (
@@ -59,8 +61,9 @@ pub fn insert_new_order(tables: &mut Tables, key: &NewOrderKey) -> Result<OwnRec
 
 /// Inserts an ORDER row, which refers to its customer, and answers its undo record.
 ///
-/// `RowExists`: the key is there. `Reference`: its customer is absent (clause 1.4). `NoMemory`: the tables accept the row, but its key
-/// takes a new place, and its memory was refused. Nothing has changed then.
+/// `RowExists`: the key is there. `Reference`: its customer is absent (clause 1.4). `NoMemory`: the
+/// tables accept the row, but its key takes a new place, and its memory was refused. Nothing has
+/// changed then.
 #[inline(always)]
 pub fn insert_order(tables: &mut Tables, key: &OrderKey, row: Order) -> Result<OwnRecord, Refusal>
     ensures applied { IfOk result (HasApplied (InsertOrder key.now row) tables.old tables.new) }
@@ -77,10 +80,12 @@ pub fn insert_order(tables: &mut Tables, key: &OrderKey, row: Order) -> Result<O
     }
 }
 
-/// Inserts an ORDER-LINE row, which refers to its order and to the stock that it is supplied from, and answers its undo record.
+/// Inserts an ORDER-LINE row, which refers to its order and to the stock that it is supplied from,
+/// and answers its undo record.
 ///
-/// `RowExists`: the key is there. `Reference`: its order is absent, or else the stock (clause 1.4). `NoMemory`: the tables accept the
-/// row, but its key takes a new place, and its memory was refused. Nothing has changed then.
+/// `RowExists`: the key is there. `Reference`: its order is absent, or else the stock (clause 1.4).
+/// `NoMemory`: the tables accept the row, but its key takes a new place, and its memory was
+/// refused. Nothing has changed then.
 #[inline(always)]
 pub fn insert_order_line(
     tables: &mut Tables,

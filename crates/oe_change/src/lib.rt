@@ -1,5 +1,6 @@
-//! Changes of one row of the tables, and their undo, for whoever has the tables alone; and writes, by which transactions set columns
-//! where they lie. Clauses of the standard are those of TPC Benchmark C 5.11.
+//! Changes of one row of the tables, and their undo, for whoever has the tables alone; and writes,
+//! by which transactions set columns where they lie. Clauses of the standard are those of TPC
+//! Benchmark C 5.11.
 #![tactic(auto)]
 
 pub mod accepts;

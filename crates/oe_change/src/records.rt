@@ -10,8 +10,8 @@ use oe_layout::OwnRecord;
 use oe_rows::NewOrder;
 use oe_store::Tables;
 
-/// Puts the row before a change back: an inserted row goes, the row before an update comes back whole, and so does a deleted
-/// row. It takes no memory and can't fail.
+/// Puts the row before a change back: an inserted row goes, the row before an update comes back
+/// whole, and so does a deleted row. It takes no memory and can't fail.
 pub fn undo(tables: &mut Tables, before: OwnRecord)
     requires { CanPutBack tables.old (record_of_own before) }
     ensures rows { rows tables.new ≡ put_back (record_of_own before) (rows tables.old) }
@@ -32,8 +32,8 @@ pub fn undo(tables: &mut Tables, before: OwnRecord)
     }
 }
 
-/// Puts the row before a change back as `undo`, where no older change of the key is to be put back: an inserted row goes with its
-/// key's place. It takes no memory and can't fail.
+/// Puts the row before a change back as `undo`, where no older change of the key is to be put back:
+/// an inserted row goes with its key's place. It takes no memory and can't fail.
 pub fn undo_and_give_up(tables: &mut Tables, before: OwnRecord)
     requires { CanPutBack tables.old (record_of_own before) }
     ensures rows { rows tables.new ≡ put_back (record_of_own before) (rows tables.old) }

@@ -1,5 +1,5 @@
-//! Updates and deletes, which take no memory: the key is there, columns that other rows are found by stay, and what the
-//! row refers to is there.
+//! Updates and deletes, which take no memory: the key is there, columns that other rows are found
+//! by stay, and what the row refers to is there.
 ghost use Rattle.std.specs.Prelude.{◌≡◌, IfOk, IfErr, OnErr};
 ghost use Rattle.oe_model.specs.Changes.{UpdateWarehouse, UpdateDistrict, UpdateCustomer, UpdateOrder, UpdateOrderLine, UpdateStock, DeleteNewOrder};
 ghost use Rattle.oe_store.specs.Places.{rows};
@@ -137,7 +137,8 @@ pub(crate) fn update_stock(
     Ok(OwnRecord::UpdatedStock(*key, before))
 }
 
-/// Takes a NEW-ORDER row away and answers its undo record. Its key keeps its place, and it takes no memory.
+/// Takes a NEW-ORDER row away and answers its undo record. Its key keeps its place, and it takes no
+/// memory.
 ///
 /// `NoSuchRow`: the row is absent. Nothing has changed then.
 #[inline(always)]

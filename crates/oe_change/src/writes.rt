@@ -1,4 +1,5 @@
-//! Writes, which a program makes of the columns that it sets. A write is lent to the engine, and owns no row but one that is inserted.
+//! Writes, which a program makes of the columns that it sets. A write is lent to the engine, and
+//! owns no row but one that is inserted.
 ghost use Rattle.std.specs.Prelude.{◌≡◌};
 
 use oe_rows::customers::Account;
@@ -13,9 +14,9 @@ use oe_values::numbers::{Carrier, OrderNumber, YearToDate};
 use oe_values::stamps::Stamp;
 use oe_values::texts::Text;
 
-/// What a transaction writes to one row (clauses 2.4.2, 2.5.2 and 2.7.4): under its key the columns that an update sets, the
-/// row that is inserted, or nothing but the key of a row that is deleted. An update has no column that it does not set, so that
-/// it is short; it is passed by reference.
+/// What a transaction writes to one row (clauses 2.4.2, 2.5.2 and 2.7.4): under its key the columns
+/// that an update sets, the row that is inserted, or nothing but the key of a row that is deleted.
+/// An update has no column that it does not set, so that it is short; it is passed by reference.
 #[derive(Drop)]
 pub enum Write {
     /// W_YTD.

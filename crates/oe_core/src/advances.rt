@@ -4,7 +4,8 @@
 use oe_requests::Refusal;
 use oe_values::Moment;
 
-/// How an advance ends. `Core::last_reply` lends the reply of a commit until its terminal begins again.
+/// How an advance ends. `Core::last_reply` lends the reply of a commit until its terminal begins
+/// again.
 #[derive(Drop)]
 pub enum Advanced {
     /// A row is done, and there is a further one.

@@ -1,4 +1,5 @@
-//! The slots of terminals, one for each number from 0, which is nobody's, to 64: their open transactions, and what these carry out.
+//! The slots of terminals, one for each number from 0, which is nobody's, to 64: their open
+//! transactions, and what these carry out.
 ghost use Rattle.std.specs.Prelude.{◌≡◌, ◌≤◌, suc, Some, None, IsSome, IfOk, slice_get, slice_set, replicate};
 ghost use Rattle.oe_values.specs.declared.numbers.TheConstants.{TERMINALS};
 ghost use Rattle.oe_admission.specs.Programs.{HasProgram};
@@ -11,8 +12,8 @@ use oe_requests::Request;
 use oe_values::{PerTerminal, Terminal, empty_slots};
 use std::alloc::{AllocError, Global};
 
-/// Slots for what terminals carry out, and for their transactions; those of 0 stay empty. Where memory is refused, only the first are
-/// there to be dropped.
+/// Slots for what terminals carry out, and for their transactions; those of 0 stay empty. Where
+/// memory is refused, only the first are there to be dropped.
 pub fn empty_places(
     alloc: Global,
 ) -> Result<(PerTerminal<Option<Work>>, PerTerminal<Option<Tx>>), AllocError>
@@ -77,8 +78,8 @@ fn begin_first(slot: &mut Option<Work>, request: &Request)
     *slot = Some(Work::new(request));
 }
 
-/// Puts into a terminal's slot what a transaction of this request carries out that has just begun. Over what an earlier one left
-/// there it is written part by part, since the whole is long.
+/// Puts into a terminal's slot what a transaction of this request carries out that has just begun.
+/// Over what an earlier one left there it is written part by part, since the whole is long.
 #[inline]
 pub fn begin_work(works: &mut PerTerminal<Option<Work>>, terminal: Terminal, request: &Request)
     requires { HasProgram request.now }

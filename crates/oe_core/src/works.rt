@@ -1,7 +1,8 @@
 //! What an open transaction carries out: its request, where its program stands, and its mark.
 //!
-//! Program and mark are of the request's kind by type, so that each position is one of the request's own program. What an earlier
-//! transaction left is written over where it lies. Nothing takes memory, and nothing can fail.
+//! Program and mark are of the request's kind by type, so that each position is one of the
+//! request's own program. What an earlier transaction left is written over where it lies. Nothing
+//! takes memory, and nothing can fail.
 ghost use Rattle.std.specs.Prelude.{◌≡◌, option_map, length, IfSome};
 ghost use Rattle.oe_requests.specs.declared.requests.Request.{Request};
 ghost use Rattle.oe_requests.specs.Reply.{told_reply};
@@ -43,8 +44,8 @@ pub(crate) enum Task {
     },
 }
 
-/// What an open transaction carries out. Clauses see it as its request, the positions of its program and of its mark, and the number
-/// of records that it had made at the mark.
+/// What an open transaction carries out. Clauses see it as its request, the positions of its
+/// program and of its mark, and the number of records that it had made at the mark.
 #[derive(Drop)]
 pub struct Work {
     task: Task,
@@ -127,7 +128,8 @@ impl Work {
         }
     }
 
-    // The same where a payment does not follow a payment. It has room for the whole, which a payment's start does without.
+    // The same where a payment does not follow a payment. It has room for the whole, which a
+    // payment's start does without.
     #[inline(never)]
     fn start_other(&mut self, request: &Request)
         requires { HasProgram request.now }
@@ -195,7 +197,8 @@ impl Work {
         }
     }
 
-    /// Gives what a commit keeps once the program is at its end, request and reply without a byte; none before.
+    /// Gives what a commit keeps once the program is at its end, request and reply without a byte;
+    /// none before.
     #[inline]
     pub fn ended(&self) -> Option<(Snapshot<Request>, Snapshot<Reply>)>
         ensures request { IfSome result (λ s. s.0.value ≡ self.now.request) }
@@ -255,7 +258,8 @@ impl Work {
         }
     }
 
-    // The same of any program. It has room for what orders and deliveries write, which a payment's stage does without.
+    // The same of any program. It has room for what orders and deliveries write, which a payment's
+    // stage does without.
     #[inline(never)]
     fn next_other(&mut self, engine: &mut Engine, tx: &Tx) -> Progress
         requires held { IsOpen engine.old tx.now

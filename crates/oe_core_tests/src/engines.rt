@@ -80,7 +80,8 @@ fn found(engine: &Engine, tx: &Tx, district: &DistrictKey) -> Option<(u32, u32, 
     Some((order, next, customer))
 }
 
-// Whether all calls answer as they should: of ten orders the last three wait, and customer 7 has that name.
+// Whether all calls answer as they should: of ten orders the last three wait, and customer 7 has
+// that name.
 fn are_answered(engine: &mut Engine, tx: &Tx) -> Option<bool> {
     let district = &district_key(2, 4)?;
     let queue = &Name::Queue(*district);

@@ -13,7 +13,8 @@ use oe_values::{LastName, Terminal, YearToDate};
 use std::alloc::Global;
 use std::process::Abort;
 
-// Of ten orders the last three wait, customer 7 alone has that name, and a column is set in its row.
+// Of ten orders the last three wait, customer 7 alone has that name, and a column is set in its
+// row.
 fn tables_answer(tables: &mut Tables, district: &DistrictKey, last: &LastName) -> Option<bool> {
     let oldest = tables.oldest(district)?.get();
     let customer = tables.middle(district, &last.as_text())?.get();

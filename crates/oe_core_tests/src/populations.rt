@@ -55,7 +55,8 @@ fn scale(customers: u32, items: u32) -> Option<Scale> {
     })
 }
 
-/// Makes the population of two warehouses with that number of customers in each district, and of items.
+/// Makes the population of two warehouses with that number of customers in each district, and of
+/// items.
 pub(crate) fn populated(alloc: Global, customers: u32, items: u32) -> Option<Tables> {
     let scale = scale(customers, items)?;
     match populate(alloc, scale) {

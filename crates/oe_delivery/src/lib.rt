@@ -1,4 +1,5 @@
-//! The Delivery transaction of one district and of all ten (clause 2.7), a stage at a time. Clauses of the standard are those of TPC Benchmark C 5.11.
+//! The Delivery transaction of one district and of all ten (clause 2.7), a stage at a time. Clauses
+//! of the standard are those of TPC Benchmark C 5.11.
 #![tactic(auto)]
 
 pub mod deliveries;

@@ -14,8 +14,9 @@ use oe_engine::{Engine, Progress, Tx};
 use oe_requests::{DeliveredOrder, DeliveryRequest, DistrictDelivery, Refusal};
 use oe_values::{LineNumber, OrderNumber};
 
-/// Where the delivery of a district stands: the stage that it comes to next, with what the stages before have read. Its request lies
-/// with whoever carries it out. It is of fixed size, and any value of it is a position of any request.
+/// Where the delivery of a district stands: the stage that it comes to next, with what the stages
+/// before have read. Its request lies with whoever carries it out. It is of fixed size, and any
+/// value of it is a position of any request.
 #[derive(Drop)]
 pub enum Program {
     Queue,
@@ -111,13 +112,14 @@ impl Program {
         }
     }
 
-    /// One stage of the delivery: its lock and its one change. The names that the stages before have taken are held: the order's for
-    /// its lines.
+    /// One stage of the delivery: its lock and its one change. The names that the stages before
+    /// have taken are held: the order's for its lines.
     ///
-    /// A district in which no order waits has two stages: the first takes the name of its queue, the second is ready. The order of
-    /// refusals is `Busy`, `Overflow`, `UndoFull` where the change's record has no room, and `NoMemory` where memory was refused for a
-    /// new name. A refused stage leaves the program, the tables and the locks as they were. Each stage of a delivery is told the same
-    /// request.
+    /// A district in which no order waits has two stages: the first takes the name of its queue,
+    /// the second is ready. The order of refusals is `Busy`, `Overflow`, `UndoFull` where the
+    /// change's record has no room, and `NoMemory` where memory was refused for a new name. A
+    /// refused stage leaves the program, the tables and the locks as they were. Each stage of a
+    /// delivery is told the same request.
     pub fn next(&mut self, request: &DeliveryRequest, engine: &mut Engine, tx: &Tx) -> Progress
         requires { IsOpen engine.old tx.now
             → HoldsTaken request.now tx.now engine.old (position_of self.old) }

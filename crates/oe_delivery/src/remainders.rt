@@ -1,6 +1,6 @@
-//! What is left of the delivery of an order, once the order has its carrier: the lines that are still to be dated, and the sum of
-//! the amounts of those that are done. An order has at most 15 lines, so that the sum stays far below what its type holds. Nothing
-//! here takes memory.
+//! What is left of the delivery of an order, once the order has its carrier: the lines that are
+//! still to be dated, and the sum of the amounts of those that are done. An order has at most 15
+//! lines, so that the sum stays far below what its type holds. Nothing here takes memory.
 ghost use Rattle.std.specs.Prelude.{◌≡◌, ◌+◌, ◌<◌, ℕ, [], ◌∷◌, drop, length};
 ghost use Rattle.std.specs.Option.{MatchOption};
 
@@ -45,7 +45,8 @@ impl Default for Listed {
 /// The numbers of an order's lines.
 pub type LineNumbers = Lines<Listed, 0, 15>;
 
-/// An order that has its carrier, with the numbers of its lines, how many of them are dated, and the sum of their OL_AMOUNTs.
+/// An order that has its carrier, with the numbers of its lines, how many of them are dated, and
+/// the sum of their OL_AMOUNTs.
 #[derive(Drop)]
 pub struct Remainder {
     order: OrderNumber,

@@ -16,7 +16,8 @@ use oe_requests::{DeliveryRequest, Refusal};
 use oe_rows::{Key, Mode, Name};
 use oe_values::{LineNumber, OrderNumber};
 
-/// NEW-ORDER: the name of the district's queue is taken alone, and the row of the oldest order is deleted, if one waits.
+/// NEW-ORDER: the name of the district's queue is taken alone, and the row of the oldest order is
+/// deleted, if one waits.
 pub fn take_oldest(
     request: &DeliveryRequest,
     engine: &mut Engine,
@@ -67,7 +68,8 @@ pub fn set_carrier(
     }
 }
 
-/// ORDER-LINE of the first line to come: OL_DELIVERY_D is set, under the order's name, which is held. `NoSuchRow` where it is absent.
+/// ORDER-LINE of the first line to come: OL_DELIVERY_D is set, under the order's name, which is
+/// held. `NoSuchRow` where it is absent.
 pub fn date_line(
     request: &DeliveryRequest,
     remainder: &mut Remainder,
@@ -96,8 +98,9 @@ pub fn date_line(
     }
 }
 
-/// CUSTOMER: its name is taken alone, C_BALANCE rises by the sum of the OL_AMOUNTs, and C_DELIVERY_CNT by 1. `NoSuchRow` where it is
-/// absent, `Overflow` where one of these would leave its range: the first of them.
+/// CUSTOMER: its name is taken alone, C_BALANCE rises by the sum of the OL_AMOUNTs, and
+/// C_DELIVERY_CNT by 1. `NoSuchRow` where it is absent, `Overflow` where one of these would leave
+/// its range: the first of them.
 pub fn credit_customer(
     request: &DeliveryRequest,
     remainder: &Remainder,

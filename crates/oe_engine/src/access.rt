@@ -67,10 +67,12 @@ fn row_at(tables: &Tables, key: Key) -> Option<Row>
 }
 
 impl Engine {
-    /// Takes a name for a transaction, or raises the mode in which it holds it. A mode is never lowered.
+    /// Takes a name for a transaction, or raises the mode in which it holds it. A mode is never
+    /// lowered.
     ///
-    /// `NotOpen`: the transaction is not one of this engine. `Busy`: the least terminal that holds the name in a mode that
-    /// conflicts. `NoMemory`: memory was refused for a name that was not held. After an error nothing has changed.
+    /// `NotOpen`: the transaction is not one of this engine. `Busy`: the least terminal that holds
+    /// the name in a mode that conflicts. `NoMemory`: memory was refused for a name that was not
+    /// held. After an error nothing has changed.
     pub fn lock(&mut self, tx: &Tx, name: Name, mode: Mode) -> Result<(), Refusal>
         ensures open { OnOk result (IsOpen self.old tx.now) }
         ensures free { OnOk result
@@ -91,7 +93,8 @@ impl Engine {
         }
     }
 
-    /// The mode in which a transaction holds a name; none where it does not hold it, or is not open in this engine.
+    /// The mode in which a transaction holds a name; none where it does not hold it, or is not open
+    /// in this engine.
     #[tactic(auto, unfolding(crate::specs::View::view_of, crate::specs::View::view_from))]
     pub fn held(&self, tx: &Tx, name: &Name) -> Option<Mode>
         ensures open { IsOpen self.now tx.now
@@ -104,8 +107,8 @@ impl Engine {
         self.locks.holds(name, tx.terminal())
     }
 
-    /// A copy of the row of a key, if it has one, for an open transaction that holds the row's name, if the row lies under one.
-    /// It takes no memory.
+    /// A copy of the row of a key, if it has one, for an open transaction that holds the row's
+    /// name, if the row lies under one. It takes no memory.
     #[tactic(auto, unfolding(crate::specs::View::view_of, crate::specs::View::view_from))]
     pub fn read(&self, tx: &Tx, key: Key) -> Option<Row>
         requires open { IsOpen self.now tx.now }
@@ -115,8 +118,8 @@ impl Engine {
         row_at(&self.tables, key)
     }
 
-    /// Lowers the mode in which an open transaction holds a name, or with `None` lets go of the name. None of its changes is of a
-    /// row under that name. It takes no memory.
+    /// Lowers the mode in which an open transaction holds a name, or with `None` lets go of the
+    /// name. None of its changes is of a row under that name. It takes no memory.
     pub fn give_back(&mut self, tx: &Tx, name: Name, mode: Option<Mode>)
         requires open { IsOpen self.old tx.now }
         requires below { IsBelow (option_map mode_of mode)

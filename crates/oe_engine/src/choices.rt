@@ -14,8 +14,8 @@ use oe_rows::{CustomerKey, DistrictKey};
 use oe_values::{LastName, OrderNumber};
 
 impl Engine {
-    /// The least NO_O_ID of a district's orders that are not delivered (clause 2.7.4.2), for an open transaction that holds the
-    /// name of the district's queue. It takes no memory.
+    /// The least NO_O_ID of a district's orders that are not delivered (clause 2.7.4.2), for an
+    /// open transaction that holds the name of the district's queue. It takes no memory.
     #[tactic(auto, unfolding(crate::specs::View::view_of, crate::specs::View::view_from))]
     pub fn oldest(&self, tx: &Tx, district: &DistrictKey) -> Option<OrderNumber>
         requires open { IsOpen self.now tx.now }
@@ -25,8 +25,9 @@ impl Engine {
         self.tables.oldest(district)
     }
 
-    /// Finds the customer of a district and last name in position n / 2, rounded up, of n, by C_FIRST and where that ties by C_ID
-    /// (clauses 2.5.2.2 and 2.6.2.2), for an open transaction that holds what governs who has that name. It takes no memory.
+    /// Finds the customer of a district and last name in position n / 2, rounded up, of n, by
+    /// C_FIRST and where that ties by C_ID (clauses 2.5.2.2 and 2.6.2.2), for an open transaction
+    /// that holds what governs who has that name. It takes no memory.
     #[tactic(auto, unfolding(crate::specs::View::view_of, crate::specs::View::view_from))]
     pub fn middle(&self, tx: &Tx, district: &DistrictKey, last: &LastName) -> Option<CustomerKey>
         requires open { IsOpen self.now tx.now }

@@ -1,5 +1,5 @@
-//! The engine: tables, undo log and locks as one. A transaction's changes stand at its commit or are
-//! forgotten. A test begins one, which takes locks and reads under them, and rolls it back:
+//! The engine: tables, undo log and locks as one. A transaction's changes stand at its commit or
+//! are forgotten. A test begins one, which takes locks and reads under them, and rolls it back:
 //!
 //! ```
 //! let Ok(tx) = engine.begin(terminal) else {

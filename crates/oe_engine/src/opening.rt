@@ -1,5 +1,5 @@
-//! The undo log of an engine that is opened. Each key that has a place in a table that is changed has one for its link, so that no
-//! later change of its row takes memory for that.
+//! The undo log of an engine that is opened. Each key that has a place in a table that is changed
+//! has one for its link, so that no later change of its row takes memory for that.
 ghost use Rattle.std.specs.Prelude.{◌≡◌, IfOk, OnOk};
 ghost use Rattle.oe_log.specs.Log.{no_segments};
 ghost use Rattle.oe_journal.specs.Linked.{AreLinked};
@@ -53,8 +53,8 @@ fn link_last(undo: &mut Undo, waiting: &Option<Key>) -> Result<(), NoMemory>
     }
 }
 
-// Gives each key that has a place in a table one for its link. A key waits until the next is known: where it gets its place with that,
-// memory is asked for once.
+// Gives each key that has a place in a table one for its link. A key waits until the next is known:
+// where it gets its place with that, memory is asked for once.
 fn link_table(tables: &Tables, undo: &mut Undo, table: Table) -> Result<(), NoMemory>
     ensures log { undo.new.log ≡ undo.old.log }
     ensures linked { OnOk result (IsLinked tables.now undo.new.links table) }
@@ -79,7 +79,8 @@ fn link_all(tables: &Tables, undo: &mut Undo) -> Result<(), NoMemory>
     Ok(())
 }
 
-// An undo log in which nothing has begun, beside tables: each key that has a place in one that is changed has one for its link.
+// An undo log in which nothing has begun, beside tables: each key that has a place in one that is
+// changed has one for its link.
 fn linked_undo(alloc: Global, tables: &Tables, extents: ExtentCount) -> Result<Undo, NoMemory>
     ensures log { IfOk result (λ u. u.log ≡ no_segments extents) }
     ensures linked { IfOk result (λ u. AreLinked tables.now u.links) }
@@ -94,8 +95,8 @@ fn linked_undo(alloc: Global, tables: &Tables, extents: ExtentCount) -> Result<U
     Ok(undo)
 }
 
-/// What an engine has beside its tables, where nothing has begun: its undo log, and locks that nobody holds. `NoMemory` where memory was
-/// refused; then the locks alone are there to be dropped.
+/// What an engine has beside its tables, where nothing has begun: its undo log, and locks that
+/// nobody holds. `NoMemory` where memory was refused; then the locks alone are there to be dropped.
 pub(crate) fn beside(
     alloc: Global,
     tables: &Tables,

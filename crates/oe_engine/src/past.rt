@@ -11,11 +11,13 @@ use oe_requests::Refusal;
 use oe_values::Moment;
 
 impl Engine {
-    /// Forgets the commits up to a moment, which becomes the oldest that can be read. All rows, open work and the later commits
-    /// stay as they are; the NEW-ORDER keys that the forgotten commits deleted, that have no row and no record left, have
-    /// no place any more. It takes no memory.
+    /// Forgets the commits up to a moment, which becomes the oldest that can be read. All rows,
+    /// open work and the later commits stay as they are; the NEW-ORDER keys that the forgotten
+    /// commits deleted, that have no row and no record left, have no place any more. It takes no
+    /// memory.
     ///
-    /// `TooOld` with the oldest, `Future` with the newest moment: the moment is not between the two. Nothing has changed then.
+    /// `TooOld` with the oldest, `Future` with the newest moment: the moment is not between the
+    /// two. Nothing has changed then.
     #[tactic(auto, unfolding(crate::specs::View::view_of, crate::specs::View::view_from))]
     pub fn purge(&mut self, moment: Moment) -> Result<(), Refusal>
         ensures kept { OnOk result (IsKeptMoment (view_of self.old) moment) }
@@ -30,11 +32,12 @@ impl Engine {
         oe_journal::purge(&mut self.tables, &mut self.undo, moment)
     }
 
-    /// Undoes the commits after a moment, the newest first, while no transaction is open: the moment becomes the newest, and the
-    /// next commit the one after it. It takes no memory.
+    /// Undoes the commits after a moment, the newest first, while no transaction is open: the
+    /// moment becomes the newest, and the next commit the one after it. It takes no memory.
     ///
-    /// `NotQuiet` with the number of open transactions. `TooOld` with the oldest, `Future` with the newest moment: the moment is not
-    /// between the two. The first of these is named, and nothing has changed then.
+    /// `NotQuiet` with the number of open transactions. `TooOld` with the oldest, `Future` with the
+    /// newest moment: the moment is not between the two. The first of these is named, and nothing
+    /// has changed then.
     #[tactic(auto, unfolding(crate::specs::View::view_of, crate::specs::View::view_from))]
     pub fn rewind(&mut self, moment: Moment) -> Result<(), Refusal>
         ensures quiet { OnOk result (IsQuiet (view_of self.old)) }

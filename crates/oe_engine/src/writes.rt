@@ -50,8 +50,8 @@ impl Engine {
         oe_journal::write(&mut self.tables, &mut self.undo, segment, write)
     }
 
-    // Takes a lock and writes; where the write is refused, the name is held as it was. Where the name was held before, memory is
-    // wanted for a place in the tables alone.
+    // Takes a lock and writes; where the write is refused, the name is held as it was. Where the
+    // name was held before, memory is wanted for a place in the tables alone.
     #[inline(always)]
     fn take_and_put(
         &mut self,
@@ -105,15 +105,18 @@ impl Engine {
         Ok(())
     }
 
-    /// Writes to one row in its place for a transaction, with its undo record. Where the row lies under a name, that is taken for
-    /// the transaction alone, if it does not hold it so: an order's for its lines, a queue's for its NEW-ORDER rows, none for a
-    /// HISTORY row. A HISTORY row is the transaction's own, and the order's name of a new NEW-ORDER row it holds already.
+    /// Writes to one row in its place for a transaction, with its undo record. Where the row lies
+    /// under a name, that is taken for the transaction alone, if it does not hold it so: an order's
+    /// for its lines, a queue's for its NEW-ORDER rows, none for a HISTORY row. A HISTORY row is
+    /// the transaction's own, and the order's name of a new NEW-ORDER row it holds already.
     ///
-    /// `NotOpen`: the transaction is not one of this engine. `Busy`: the least terminal that holds the name in a mode that
-    /// conflicts. `NoSuchRow`: the row to be changed or deleted is absent. `UndoFull`: the record fits neither the rest of the
-    /// transaction's last extent nor a free one. `NoMemory`: memory was refused for a name that was not held, or for an insert that
-    /// the tables accept, at a key without a place. Else the tables don't accept the insert. After an error nothing has changed: a
-    /// lock that was gained is given back, and a mode that rose has fallen again.
+    /// `NotOpen`: the transaction is not one of this engine. `Busy`: the least terminal that holds
+    /// the name in a mode that conflicts. `NoSuchRow`: the row to be changed or deleted is absent.
+    /// `UndoFull`: the record fits neither the rest of the transaction's last extent nor a free
+    /// one. `NoMemory`: memory was refused for a name that was not held, or for an insert that the
+    /// tables accept, at a key without a place. Else the tables don't accept the insert. After an
+    /// error nothing has changed: a lock that was gained is given back, and a mode that rose has
+    /// fallen again.
     pub fn change(&mut self, tx: &Tx, write: &Write) -> Result<(), Refusal>
         requires own { IsOpen self.old tx.now
             → IsOwn tx.now.terminal (suc ((view_of self.old).counts tx.now.terminal))

@@ -1,6 +1,7 @@
 //! Lists of items.
 //!
-//! An item in a list is seen as its number, and a list as its numbers; nothing can fail, and nothing takes memory.
+//! An item in a list is seen as its number, and a list as its numbers; nothing can fail, and
+//! nothing takes memory.
 ghost use Rattle.std.specs.Prelude.{◌≡◌, ◌==◌, ℕ};
 ghost use Rattle.oe_enquiry.specs.Level.{is_listed};
 

@@ -1,4 +1,5 @@
-//! Stock-Level (clause 2.8): how many items of a district's last 20 orders are low in its warehouse.
+//! Stock-Level (clause 2.8): how many items of a district's last 20 orders are low in its
+//! warehouse.
 ghost use Rattle.std.specs.Prelude.{◌≡◌, ◌≤◌, ◌<◌, ◌+◌, ℕ, [], ◌∷◌, length, map, IfOk, IfErr};
 ghost use Rattle.oe_theory.specs.Machine.{Here, Missing};
 ghost use Rattle.oe_requests.specs.declared.replies.QueryReply.TheVariants as told;
@@ -45,7 +46,8 @@ fn list_if_short(version: &Version<'_>, query: &LevelQuery, item: ItemNumber, it
     items.push(Listed::new(item));
 }
 
-/// Lists the items of these lines that were short and are not listed yet. There must be room for all.
+/// Lists the items of these lines that were short and are not listed yet. There must be room for
+/// all.
 #[tactic(auto, using(crate::proofs::ShortFacts::line_listed))]
 fn list_short(version: &Version<'_>, query: &LevelQuery, lines: &[StatusLine], items: &mut Items)
     requires { length items.old + length lines.now ≤ 300 }
@@ -59,7 +61,8 @@ fn list_short(version: &Version<'_>, query: &LevelQuery, lines: &[StatusLine], i
     }
 }
 
-/// Lists the items of an order's lines that were short and are not listed yet. There must be room for 15.
+/// Lists the items of an order's lines that were short and are not listed yet. There must be room
+/// for 15.
 #[tactic(auto, using(crate::proofs::ShortFacts::order_listed))]
 fn list_order(version: &Version<'_>, query: &LevelQuery, number: OrderNumber, items: &mut Items)
     requires stand { Stand version.now.tables version.now.log }
@@ -73,7 +76,8 @@ fn list_order(version: &Version<'_>, query: &LevelQuery, number: OrderNumber, it
     list_short(version, query, lines.as_slice(), items)
 }
 
-/// The least number that one of a district's last 20 orders may have, where the next order has that one.
+/// The least number that one of a district's last 20 orders may have, where the next order has that
+/// one.
 fn first_recent(next: OrderNumber) -> u32
     ensures least { 1 ≤ result }
     ensures span { next ≤ result + 20 }
@@ -94,7 +98,8 @@ fn order_number(number: u32) -> OrderNumber
     }
 }
 
-/// Lists the distinct items of the district's last 20 orders before the next one that were short (clause 2.8.2.2).
+/// Lists the distinct items of the district's last 20 orders before the next one that were short
+/// (clause 2.8.2.2).
 fn short_items(version: &Version<'_>, query: &LevelQuery, next: OrderNumber) -> Items
     requires { Stand version.now.tables version.now.log }
     ensures { AreLow query.now (rows_of version.now) next result }
@@ -119,8 +124,9 @@ fn count_of(items: &Items) -> LowStock
     }
 }
 
-/// Answers Stock-Level of a version: how many distinct items on the lines of the district's last 20 orders had a stock below the
-/// threshold in the district's warehouse (clause 2.8.2.2). `NoSuchRow` with the district where there was none.
+/// Answers Stock-Level of a version: how many distinct items on the lines of the district's last 20
+/// orders had a stock below the threshold in the district's warehouse (clause 2.8.2.2). `NoSuchRow`
+/// with the district where there was none.
 #[tactic(auto, using(crate::proofs::AnswerFacts::level_counted, crate::proofs::AnswerFacts::no_district))]
 pub fn stock_level(version: &Version<'_>, query: &LevelQuery) -> Result<LowStock, Refusal>
     requires { Stand version.now.tables version.now.log }

@@ -45,11 +45,12 @@ fn answer_of(version: &Version<'_>, query: &Query) -> Result<QueryReply, Refusal
     }
 }
 
-/// What a query is answered of a moment, as all commits up to it have left the rows, without anybody's open work: what `order_status`
-/// or `stock_level` answers of that version.
+/// What a query is answered of a moment, as all commits up to it have left the rows, without
+/// anybody's open work: what `order_status` or `stock_level` answers of that version.
 ///
-/// `NoSuchRow` with the warehouse where that is absent; otherwise `TooOld` with the horizon and `Future` with the newest moment,
-/// exactly where the moment is not between the two; otherwise as `order_status` and `stock_level` refuse it.
+/// `NoSuchRow` with the warehouse where that is absent; otherwise `TooOld` with the horizon and
+/// `Future` with the newest moment, exactly where the moment is not between the two; otherwise as
+/// `order_status` and `stock_level` refuse it.
 #[tactic(auto, using(crate::proofs::AnswerFacts::is_reply, crate::proofs::AnswerFacts::is_rejected, crate::proofs::AnswerFacts::is_outside, crate::proofs::AnswerFacts::is_missing))]
 pub fn answer(
     tables: &Tables,

@@ -1,5 +1,5 @@
-//! Runs of bytes whose length lies in a range that is known where they are written. A short one is copied by moves of 1 to 16 bytes,
-//! since a call of the C library costs more than the copy.
+//! Runs of bytes whose length lies in a range that is known where they are written. A short one is
+//! copied by moves of 1 to 16 bytes, since a call of the C library costs more than the copy.
 ghost use Rattle.std.specs.Prelude.{◌≡◌, ◌≤◌, ◌+◌, length, take, drop};
 ghost use Rattle.oe_extent.specs.Images.{Writes};
 
@@ -17,7 +17,8 @@ fn chunk_at<const CHUNK: usize>(run: &[u8], at: usize) -> [u8; CHUNK]
     *run[at..].first_chunk::<CHUNK>().unwrap()
 }
 
-/// Writes the first and the last `CHUNK` bytes of a run, which are all of it, and overlap where it is shorter than two chunks.
+/// Writes the first and the last `CHUNK` bytes of a run, which are all of it, and overlap where it
+/// is shorter than two chunks.
 #[inline(always)]
 fn write_ends<const CHUNK: usize>(bytes: &mut [u8], start: usize, run: &[u8]) -> usize
     requires least { CHUNK ≤ length run.now }
@@ -54,8 +55,8 @@ fn write_short_run(bytes: &mut [u8], start: usize, run: &[u8]) -> usize
     }
 }
 
-/// Writes a run of `LEAST` to `MOST` bytes from offset `start` on, and answers the offset behind it. Where `MOST` is at most 32, it
-/// is copied by moves.
+/// Writes a run of `LEAST` to `MOST` bytes from offset `start` on, and answers the offset behind
+/// it. Where `MOST` is at most 32, it is copied by moves.
 #[inline(always)]
 pub fn write_bounded_run<const LEAST: usize, const MOST: usize>(
     bytes: &mut [u8],

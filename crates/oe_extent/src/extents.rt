@@ -1,8 +1,9 @@
 //! Lists of extents, and the strings that they hold.
 //!
-//! A list owns its extents, which are linked from the newest to the oldest: so no two lists have an extent in common, and a change
-//! of one leaves all others as they are. Only the newest extent gets strings, behind those that are there. Nothing can be refused,
-//! and no call but the making of an extent takes memory.
+//! A list owns its extents, which are linked from the newest to the oldest: so no two lists have an
+//! extent in common, and a change of one leaves all others as they are. Only the newest extent gets
+//! strings, behind those that are there. Nothing can be refused, and no call but the making of an
+//! extent takes memory.
 ghost use Rattle.std.specs.Prelude.{◌≡◌, ◌<◌, ◌≤◌, ◌+◌, [], ◌∷◌, length, drop, IfSome, IfNone};
 ghost use Rattle.oe_extent.specs.declared.sizes.TheConstants.{EXTENT_BYTES};
 ghost use Rattle.oe_extent.specs.Strings.{IsFramed, HasOffset, IsStringFrom};
@@ -64,7 +65,8 @@ impl Extent {
         self.number
     }
 
-    /// The string at that offset of the extent with that number, which is this one or one before it.
+    /// The string at that offset of the extent with that number, which is this one or one before
+    /// it.
     fn at(&self, number: usize, offset: usize) -> &[u8]
         requires { HasOffset (strings_at number (contents_in self.now)) offset }
         ensures { IsStringFrom (strings_at number (contents_in self.now)) offset result.now }

@@ -6,7 +6,8 @@ ghost use Rattle.oe_extent.specs.Images.{Writes, number, number_at};
 
 use byteorder::{BigEndian, ByteOrder};
 
-/// Writes a number of 1 to 8 bytes, `width`, from offset `start` on, and answers the offset behind it.
+/// Writes a number of 1 to 8 bytes, `width`, from offset `start` on, and answers the offset behind
+/// it.
 #[inline]
 pub fn write_number(bytes: &mut [u8], start: usize, value: u64, width: usize) -> usize
     requires low { 1 ≤ width }
@@ -19,7 +20,8 @@ pub fn write_number(bytes: &mut [u8], start: usize, value: u64, width: usize) ->
     start + width
 }
 
-/// The number in the first `width` bytes, 1 to 8, and the bytes behind them; `None` where there are fewer bytes.
+/// The number in the first `width` bytes, 1 to 8, and the bytes behind them; `None` where there are
+/// fewer bytes.
 #[inline]
 pub fn read_number(bytes: &[u8], width: usize) -> Option<(u64, &[u8])>
     requires low { 1 ≤ width }

@@ -17,8 +17,9 @@ const LINE: usize = 64;
 /// How many lines of an extent are touched: about as many as a payment fills.
 const TOUCHED_LINES: usize = 12;
 
-/// Byte strings packed from byte 0 of an extent on, which clauses see as their list, the newest first. Each string is framed: its
-/// length stands in its first two bytes and in its last two. No call takes memory.
+/// Byte strings packed from byte 0 of an extent on, which clauses see as their list, the newest
+/// first. Each string is framed: its length stands in its first two bytes and in its last two. No
+/// call takes memory.
 #[derive(Drop)]
 pub(crate) struct PackedStrings {
     bytes: [u8; EXTENT_BYTES],
@@ -69,8 +70,8 @@ impl PackedStrings {
 
     /// Touches the first lines: reads a byte of each, and answers them joined, which means nothing.
     ///
-    /// It is for speed alone. Reads wait for memory together, and writes one behind the other; so where the lines were read first,
-    /// strings are written without waiting.
+    /// It is for speed alone. Reads wait for memory together, and writes one behind the other; so
+    /// where the lines were read first, strings are written without waiting.
     #[inline(always)]
     pub(crate) fn touch(&self) -> u8 {
         let mut joined = 0;

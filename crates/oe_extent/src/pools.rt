@@ -1,8 +1,9 @@
 //! The extents that no list has.
 //!
-//! All extents are made with the pool. A free one lies at its number, and one that was taken leaves `None` there; by the invariant
-//! they are counted, so that a pool without a free one is seen at once. Only `new` takes memory, and may be refused it; that no
-//! extent is free is no error, and changes nothing.
+//! All extents are made with the pool. A free one lies at its number, and one that was taken leaves
+//! `None` there; by the invariant they are counted, so that a pool without a free one is seen at
+//! once. Only `new` takes memory, and may be refused it; that no extent is free is no error, and
+//! changes nothing.
 ghost use Rattle.std.specs.Prelude.{◌≡◌, ◌<◌, ◌≤◌, ℕ, true, length, map, is_some, replicate, set, IfOk, IfSome, IfNone};
 ghost use Rattle.std.specs.List.{AllByRecursion};
 ghost use Rattle.oe_extent.specs.Free.{AllTaken, IsFirstFree, IsNextFree, taken_at, given_at, all_given};
@@ -18,7 +19,8 @@ pub(crate) struct Pool {
     extents: Vec<Option<Box<Extent>>>,
     free_count: usize,
     cursor: usize,
-    // What the touch of the last extent taken answered: it means nothing, and is kept so that no compiler leaves the touch out.
+    // What the touch of the last extent taken answered: it means nothing, and is kept so that no
+    // compiler leaves the touch out.
     touched: u8,
 }
 
@@ -48,7 +50,8 @@ fn first_free(extents: &[Option<Box<Extent>>], from: usize, to: usize) -> Option
     None
 }
 
-/// The number of the next free extent from the cursor on, and behind the last from 0 on; `None` where none is free.
+/// The number of the next free extent from the cursor on, and behind the last from 0 on; `None`
+/// where none is free.
 fn next_free(extents: &[Option<Box<Extent>>], cursor: usize) -> Option<usize>
     requires { cursor ≤ length extents.now }
     ensures next { IfSome result (IsNextFree (map is_some extents.now) cursor) }
@@ -87,8 +90,8 @@ impl Pool {
         self.extents.len()
     }
 
-    /// Takes the next free extent from the cursor on, and behind the last from 0 on, and answers it with its number. `None` where
-    /// none is free.
+    /// Takes the next free extent from the cursor on, and behind the last from 0 on, and answers it
+    /// with its number. `None` where none is free.
     #[inline(never)]
     pub(crate) fn take(&mut self) -> Option<(usize, Box<Extent>)>
         ensures next { IfSome result (λ e. IsNextFree self.old.is_free self.old.cursor e.0) }

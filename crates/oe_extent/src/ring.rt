@@ -1,10 +1,12 @@
-//! The ring: a pool of extents, and the lists of extents that were filled from it, one for each slot and each commit.
+//! The ring: a pool of extents, and the lists of extents that were filled from it, one for each
+//! slot and each commit.
 //!
-//! Strings are packed: each stands behind the one before it, or, where the rest of its extent is too short, begins another extent.
-//! By the invariant each extent is free or in one list, and the extents of a list are as many as its strings fill in order; so
-//! whether a string has room follows from the lengths of strings alone. All memory for strings is taken by `new`, and room for the
-//! strings of commits by `reserve`; these two may be refused memory. `push` is refused exactly where the ring is full, and changes
-//! nothing then. No other call can be refused.
+//! Strings are packed: each stands behind the one before it, or, where the rest of its extent is
+//! too short, begins another extent. By the invariant each extent is free or in one list, and the
+//! extents of a list are as many as its strings fill in order; so whether a string has room follows
+//! from the lengths of strings alone. All memory for strings is taken by `new`, and room for the
+//! strings of commits by `reserve`; these two may be refused memory. `push` is refused exactly
+//! where the ring is full, and changes nothing then. No other call can be refused.
 ghost use Rattle.std.specs.Prelude.{◌≡◌, ◌<◌, ◌≤◌, ◌+◌, ◌↔◌, [], length, get_or, replicate, IsErr, IfOk, OnOk, OnErr};
 ghost use Rattle.oe_extent.specs.declared.sizes.TheConstants.{EXTENT_BYTES};
 ghost use Rattle.oe_extent.specs.Strings.{IsFramed};
@@ -63,7 +65,8 @@ fn empty_lists(alloc: Global, count: usize) -> Result<Vec<ExtentList>, AllocErro
 }
 
 impl Ring {
-    /// Makes a ring of `extents` extents and `slots` slots without strings; an error where memory is refused.
+    /// Makes a ring of `extents` extents and `slots` slots without strings; an error where memory
+    /// is refused.
     pub fn new(alloc: Global, extents: usize, slots: usize) -> Result<Ring, AllocError>
         ensures { IfOk result (λ r. r ≡ record (no_strings extents slots) { room = r.room }) }
     {
@@ -104,7 +107,8 @@ impl Ring {
         self.committed.push_front_reserved(list);
     }
 
-    /// Makes the newest commit's strings those of a slot that has none. There is room for a commit more.
+    /// Makes the newest commit's strings those of a slot that has none. There is room for a commit
+    /// more.
     pub fn reopen_newest(&mut self, slot: usize)
         requires slot { slot < length self.old.active }
         requires empty { get_or self.old.active slot [] ≡ [] }
@@ -117,8 +121,9 @@ impl Ring {
         self.active[slot] = list;
     }
 
-    /// Appends a string of 4 to 4,096 bytes to a slot's strings, and answers its address, where no other string is. Where the rest of
-    /// the slot's newest extent is too short, it takes the next free extent from the cursor on, and behind the last from 0 on.
+    /// Appends a string of 4 to 4,096 bytes to a slot's strings, and answers its address, where no
+    /// other string is. Where the rest of the slot's newest extent is too short, it takes the next
+    /// free extent from the cursor on, and behind the last from 0 on.
     pub fn push<S: Written>(&mut self, slot: usize, string: &S) -> Result<Address, Full>
         requires slot { slot < length self.old.active }
         requires framed { IsFramed (S.image string.now) }
@@ -165,7 +170,8 @@ impl Ring {
         self.active[slot].at(address)
     }
 
-    /// The string at that address of a commit, where it stands. The newest commit has number 0, and each older one the next number.
+    /// The string at that address of a commit, where it stands. The newest commit has number 0, and
+    /// each older one the next number.
     pub fn committed_at(&self, commit: usize, address: Address) -> &[u8]
         requires commit { commit < length self.now.committed }
         requires some { HasAddress (get_or self.now.committed commit []) address }
@@ -182,8 +188,8 @@ impl Ring {
         self.active[slot].strings()
     }
 
-    /// The strings of a commit, the newest first, where they stand. The newest commit has number 0, and each older one the next
-    /// number. It takes no memory.
+    /// The strings of a commit, the newest first, where they stand. The newest commit has number 0,
+    /// and each older one the next number. It takes no memory.
     pub fn committed_strings(&self, commit: usize) -> Strings<'_>
         requires { commit < length self.now.committed }
         ensures { result ≡ strings_of (get_or self.now.committed commit []) }
@@ -191,7 +197,8 @@ impl Ring {
         self.committed[commit].strings()
     }
 
-    /// Takes the newest string of a slot off. Where it was the only one of its extent, that is free again.
+    /// Takes the newest string of a slot off. Where it was the only one of its extent, that is free
+    /// again.
     pub fn pop(&mut self, slot: usize)
         requires slot { slot < length self.old.active }
         requires some { 0 < length (get_or self.old.active slot []) }
@@ -203,7 +210,8 @@ impl Ring {
         }
     }
 
-    /// Gives up the oldest commit's strings, where there is one. Its extents are free again, and there is room for a commit more.
+    /// Gives up the oldest commit's strings, where there is one. Its extents are free again, and
+    /// there is room for a commit more.
     pub fn drop_oldest(&mut self)
         ensures left { self.new ≡ without_oldest self.old self.new.room }
         ensures room { capacity_of self.new ≡ capacity_of self.old }

@@ -1,8 +1,9 @@
 //! Walks over strings, the newest first, where they lie.
 //!
-//! A walk over one extent keeps the front of its bytes that older strings fill, and how many these are; by its invariant they are
-//! framed, so that the last two bytes tell where the newest begins. A walk over a list of extents has the walk over one extent, and
-//! the extents before that. No call takes memory, and nothing can fail.
+//! A walk over one extent keeps the front of its bytes that older strings fill, and how many these
+//! are; by its invariant they are framed, so that the last two bytes tell where the newest begins.
+//! A walk over a list of extents has the walk over one extent, and the extents before that. No call
+//! takes memory, and nothing can fail.
 ghost use Rattle.std.specs.Prelude.{◌≡◌, []};
 ghost use Rattle.std.specs.Iterator.{YieldsFirstRef, item_count};
 ghost use Rattle.oe_extent.specs.Extents.{all_strings};

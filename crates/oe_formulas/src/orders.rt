@@ -35,7 +35,8 @@ fn is_local(lines: &[RequestLine], home: WarehouseNumber) -> bool
     lines.iter().all(|line| line.supply == home)
 }
 
-/// The ORDER row of a new order: no carrier yet, and O_ALL_LOCAL where its own warehouse supplies every line.
+/// The ORDER row of a new order: no carrier yet, and O_ALL_LOCAL where its own warehouse supplies
+/// every line.
 pub fn order_row(request: &NewOrderRequest) -> Order
     ensures { result ≡ order_row request.now }
 {
@@ -65,7 +66,8 @@ pub fn stock_key(line: RequestLine) -> Option<StockKey>
     })
 }
 
-/// The least that a line leaves of a stock, and what comes in where it would leave less (clause 2.4.2.2).
+/// The least that a line leaves of a stock, and what comes in where it would leave less (clause
+/// 2.4.2.2).
 const LEAST_LEFT: u32 = 10;
 
 const RESTOCK: u32 = 91;
@@ -88,7 +90,8 @@ fn quantity_after(row: &Stock, quantity: Quantity) -> Count
     }
 }
 
-/// S_REMOTE_CNT after a line for a district of the home warehouse: it rises by 1 where the stock is another warehouse's.
+/// S_REMOTE_CNT after a line for a district of the home warehouse: it rises by 1 where the stock is
+/// another warehouse's.
 fn remote_count_after(home: WarehouseNumber, key: StockKey, row: &Stock) -> u32
     ensures { result
         ≡ cond (key.warehouse == home) row.now.remote_count (row.now.remote_count + 1) }
@@ -100,9 +103,10 @@ fn remote_count_after(home: WarehouseNumber, key: StockKey, row: &Stock) -> u32
     }
 }
 
-/// The columns that a line of that quantity for a district of the home warehouse sets in the stock of a key: S_QUANTITY by the
-/// stock rule, S_YTD rises by the quantity, S_ORDER_CNT by 1, and S_REMOTE_CNT by 1 where the stock is another warehouse's.
-/// Else the first of S_YTD, S_ORDER_CNT and S_REMOTE_CNT that would leave its range.
+/// The columns that a line of that quantity for a district of the home warehouse sets in the stock
+/// of a key: S_QUANTITY by the stock rule, S_YTD rises by the quantity, S_ORDER_CNT by 1, and
+/// S_REMOTE_CNT by 1 where the stock is another warehouse's. Else the first of S_YTD, S_ORDER_CNT
+/// and S_REMOTE_CNT that would leave its range.
 pub fn counters_after_line(
     home: WarehouseNumber,
     key: StockKey,
@@ -157,7 +161,8 @@ fn amount(line: RequestLine, item: &Item) -> LineAmount
     }
 }
 
-/// The ORDER-LINE row of a line, of its item and stock: not delivered yet, with the stock's text for the district.
+/// The ORDER-LINE row of a line, of its item and stock: not delivered yet, with the stock's text
+/// for the district.
 pub fn order_line(
     request: &NewOrderRequest,
     line: RequestLine,
@@ -251,7 +256,8 @@ impl Seen {
         )
     }
 
-    /// What a new order answers, of the replies to its lines. C_LAST and the lines are lent where they lie.
+    /// What a new order answers, of the replies to its lines. C_LAST and the lines are lent where
+    /// they lie.
     pub fn reply<'a>(&'a self, lines: &'a LineReplies) -> ReplyRef<'a>
         ensures { told_reply result ≡ Reply.NewOrder (ordered_reply (seen_by self.now) lines.now) }
     {

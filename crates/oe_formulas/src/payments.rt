@@ -54,8 +54,8 @@ pub fn bad_credit_entry(number: CustomerNumber, request: &PaymentRequest) -> Tex
     credit_entry(credit_ids(number, request), request.amount)
 }
 
-/// A customer's account after a payment: C_BALANCE falls and C_YTD_PAYMENT rises by the amount, C_PAYMENT_CNT rises by 1. Else the
-/// first of these columns that would leave its range.
+/// A customer's account after a payment: C_BALANCE falls and C_YTD_PAYMENT rises by the amount,
+/// C_PAYMENT_CNT rises by 1. Else the first of these columns that would leave its range.
 pub fn account_after(row: &Customer, request: &PaymentRequest) -> Result<Account, Column>
     ensures { (c : ℕ) → row_with (paid_with c request.now row.now) result
         ≡ checked paid_customer_out (paid_customer c request.now row.now) }

@@ -1,5 +1,5 @@
-//! Columns read from the front of bytes: each answers the value and the bytes behind it, or `None` where no front of the bytes is
-//! the image of a value in the column's range.
+//! Columns read from the front of bytes: each answers the value and the bytes behind it, or `None`
+//! where no front of the bytes is the image of a value in the column's range.
 ghost use Rattle.std.specs.Prelude.{◌≡◌, ◌≤◌, ◌^◌};
 ghost use Rattle.std.specs.Option.{option_map};
 ghost use Rattle.oe_fronts.specs.Fronts.{ranged_at};

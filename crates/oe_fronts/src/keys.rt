@@ -226,8 +226,8 @@ fn front_key(table: Table, bytes: &[u8]) -> Option<(Key, &[u8])>
     }
 }
 
-/// The key of that table at the front of the bytes, and those behind it; `None` exactly where no front of the bytes is the
-/// image of a key of that table.
+/// The key of that table at the front of the bytes, and those behind it; `None` exactly where no
+/// front of the bytes is the image of a key of that table.
 pub fn read_key(table: Table, bytes: &[u8]) -> Option<(Key, &[u8])>
     ensures { Reads (IsKeyOf table) key_image bytes.now (option_map (λ x. (x.0, x.1.now)) result) }
 {

@@ -1,5 +1,5 @@
-//! Keys and rows read from the front of bytes: each reading finds exactly the value whose image stands there. Bytes that are no
-//! image are refused. No call takes memory.
+//! Keys and rows read from the front of bytes: each reading finds exactly the value whose image
+//! stands there. Bytes that are no image are refused. No call takes memory.
 #![tactic(auto)]
 
 pub mod customers;

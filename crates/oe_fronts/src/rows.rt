@@ -56,16 +56,16 @@ fn front_row(table: Table, bytes: &[u8]) -> Option<(Row, &[u8])>
     }
 }
 
-/// The row of that table at the front of the bytes, and those behind it; `None` exactly where no front of the bytes is the
-/// image of a row of that table.
+/// The row of that table at the front of the bytes, and those behind it; `None` exactly where no
+/// front of the bytes is the image of a row of that table.
 pub fn read_row(table: Table, bytes: &[u8]) -> Option<(Row, &[u8])>
     ensures { Reads (IsRowOf table) row_image bytes.now (option_map (λ x. (x.0, x.1.now)) result) }
 {
     front_row(table, bytes)
 }
 
-/// The key and the row of that table at the front of the bytes, and how many bytes their image has; `None` exactly where no
-/// front of the bytes is the image of a row of that table with its key.
+/// The key and the row of that table at the front of the bytes, and how many bytes their image has;
+/// `None` exactly where no front of the bytes is the image of a row of that table with its key.
 pub fn read_image(table: Table, bytes: &[u8]) -> Option<(Key, Row, usize)>
     ensures { ReadsImage table bytes.now result }
 {

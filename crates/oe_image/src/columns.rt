@@ -1,5 +1,5 @@
-//! What has an image: columns, and columns one after another. A column writes its image at its offset, so that no buffer lies
-//! between.
+//! What has an image: columns, and columns one after another. A column writes its image at its
+//! offset, so that no buffer lies between.
 ghost use Rattle.std.specs.Prelude.{◌≡◌, ◌≤◌, ◌+◌, ◌++◌, ℕ, List, length};
 ghost use Rattle.oe_extent.specs.Images.{Writes, number};
 ghost use Rattle.oe_image.specs.Columns.{text, optional, flag, credit};
@@ -209,7 +209,8 @@ impl<A: Imaged, B: Imaged> Imaged for (A, B) {
     }
 }
 
-/// Writes the image of a text of `LEAST` to `MOST` bytes from offset `start` on, and answers the offset behind it.
+/// Writes the image of a text of `LEAST` to `MOST` bytes from offset `start` on, and answers the
+/// offset behind it.
 #[inline(always)]
 pub(crate) fn write_text<const LEAST: usize, const MOST: usize>(
     string: &str,

@@ -1,5 +1,6 @@
-//! Images: keys and rows as bytes, column after column. Numbers have their most significant byte first, and each value has one
-//! image. No call takes memory. Clauses of the standard are those of TPC Benchmark C 5.11.
+//! Images: keys and rows as bytes, column after column. Numbers have their most significant byte
+//! first, and each value has one image. No call takes memory. Clauses of the standard are those of
+//! TPC Benchmark C 5.11.
 #![tactic(auto)]
 
 pub mod columns;

@@ -1,9 +1,10 @@
 //! The customers, which are found by last name too.
 //!
-//! Beside the rows each customer's key is listed under a number of district and last name, so that a walk over those of one name
-//! meets few others. By the invariant each row's key is in the list of its last name, unless the lists were given up: that is done
-//! where a row takes the place of one of another name, since to list it could take memory. Walks then go over all rows that they are
-//! given. Only `put_new` takes memory; where that is refused the table is as before.
+//! Beside the rows each customer's key is listed under a number of district and last name, so that
+//! a walk over those of one name meets few others. By the invariant each row's key is in the list
+//! of its last name, unless the lists were given up: that is done where a row takes the place of
+//! one of another name, since to list it could take memory. Walks then go over all rows that they
+//! are given. Only `put_new` takes memory; where that is refused the table is as before.
 ghost use Rattle.std.specs.Prelude.{◌≡◌, Some, None, OnOk, OnErr, IsSome, []};
 ghost use Rattle.std.specs.Option.{option_copied};
 ghost use Rattle.std.specs.FinMap.{entries};
@@ -91,8 +92,8 @@ impl Customers {
         self.rows.get(key)
     }
 
-    /// Puts a row at a key that has none. `NoMemory` comes where there was none for the key's place or for its list; the table
-    /// is then as before, and the row is dropped.
+    /// Puts a row at a key that has none. `NoMemory` comes where there was none for the key's place
+    /// or for its list; the table is then as before, and the row is dropped.
     pub fn put_new(&mut self, key: CustomerKey, row: Customer) -> Result<(), NoMemory>
         requires { map.get (rows_of customer_cmp self.old) key ≡ None }
         ensures ok { OnOk result (SetsPlace customer_cmp self.old self.new key (Some row)) }
@@ -106,8 +107,8 @@ impl Customers {
         self.rows.put_new(key, row)
     }
 
-    /// Puts another row in the place of the one at a key that has a row, and answers that one. Where its C_LAST is another, all
-    /// lists are given up.
+    /// Puts another row in the place of the one at a key that has a row, and answers that one.
+    /// Where its C_LAST is another, all lists are given up.
     pub fn swap(&mut self, key: &CustomerKey, row: Customer) -> Customer
         requires { IsSome (map.get (rows_of customer_cmp self.old) key.now) }
         ensures before { map.get (rows_of customer_cmp self.old) key.now ≡ Some result }
@@ -141,8 +142,8 @@ impl Customers {
         customer.account = *account;
     }
 
-    /// Sets the account of the row at a key that has a row, and puts an entry before C_DATA, where what passes 500 bytes is
-    /// discarded (clause 2.5.2.2).
+    /// Sets the account of the row at a key that has a row, and puts an entry before C_DATA, where
+    /// what passes 500 bytes is discarded (clause 2.5.2.2).
     pub fn set_bad_credit(&mut self, key: &CustomerKey, account: &Account, entry: &Text<0, 90>)
         requires { IsSome (map.get (rows_of customer_cmp self.old) key.now) }
         ensures { (c : Customer) → map.get (rows_of customer_cmp self.old) key.now ≡ Some c
@@ -169,7 +170,8 @@ impl Customers {
         self.rows.iter()
     }
 
-    /// The keys that have a place, in their order, each with its row or, where it was blanked, `None`.
+    /// The keys that have a place, in their order, each with its row or, where it was blanked,
+    /// `None`.
     pub fn places(&self) -> Candidates<'_, CustomerKey, Customer>
         ensures { result ≡ self.now }
     {
@@ -190,13 +192,15 @@ impl Customers {
         self.rows.range_inclusive(from, to)
     }
 
-    /// Whether the lists stand, so that a walk over namesakes is not the other walk. It is a hint, on which no answer rests.
+    /// Whether the lists stand, so that a walk over namesakes is not the other walk. It is a hint,
+    /// on which no answer rests.
     pub fn is_listed(&self) -> bool {
         self.is_listed
     }
 
-    /// A walk that meets the customers of a district with that C_LAST in their keys' order, and others (clause 2.5.2.2). Where the
-    /// lists were given up it is the other walk, which has to meet them too.
+    /// A walk that meets the customers of a district with that C_LAST in their keys' order, and
+    /// others (clause 2.5.2.2). Where the lists were given up it is the other walk, which has to
+    /// meet them too.
     pub fn namesakes<'a>(
         &'a self,
         district: &DistrictKey,

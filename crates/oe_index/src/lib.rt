@@ -1,5 +1,5 @@
-//! Tables whose rows are found by something other than their key: customers by last name, and orders by customer. Clauses of the
-//! standard are those of TPC Benchmark C 5.11.
+//! Tables whose rows are found by something other than their key: customers by last name, and
+//! orders by customer. Clauses of the standard are those of TPC Benchmark C 5.11.
 #![tactic(auto)]
 
 pub mod customers;

@@ -1,7 +1,8 @@
 //! Keys that are listed under numbers, each list in the keys' order.
 //!
-//! By the invariant the keys of each list ascend. A key is listed once under a number, until it is taken off. Only `add` takes
-//! memory, for a key that is not listed; where that is refused each key is listed as before.
+//! By the invariant the keys of each list ascend. A key is listed once under a number, until it is
+//! taken off. Only `add` takes memory, for a key that is not listed; where that is refused each key
+//! is listed as before.
 ghost use Rattle.std.specs.Prelude.{◌≡◌, ◌<◌, [], OnOk, OnErr, slice_index_or};
 ghost use Rattle.oe_table.specs.Shelf.{IsAscending};
 ghost use Rattle.oe_index.specs.Listed.{IsListed, ListsMore, Unlists};

@@ -1,5 +1,5 @@
-//! The number of the list that a customer is in, by the last name, and of that of a customer's orders: each district has 1,009.
-//! Nothing can fail.
+//! The number of the list that a customer is in, by the last name, and of that of a customer's
+//! orders: each district has 1,009. Nothing can fail.
 ghost use Rattle.std.specs.Prelude.{◌≡◌, ◌<◌};
 ghost use Rattle.oe_index.specs.Numbers.{name_number, number_in, list_number, owner_number};
 
@@ -29,7 +29,8 @@ fn number_in(district: &DistrictKey, own: u32) -> usize
     (before * 1_009 + own) as usize
 }
 
-/// The number of the list of a district's customers with a last name. Customers of other names may be in it too.
+/// The number of the list of a district's customers with a last name. Customers of other names may
+/// be in it too.
 pub(crate) fn list_number(district: &DistrictKey, last: &Text<0, 16>) -> usize
     ensures value { result ≡ list_number district.now last.now }
     ensures few { result < 1_000_000 }

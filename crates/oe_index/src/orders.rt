@@ -1,12 +1,14 @@
 //! The orders, which are found by customer too.
 //!
-//! Beside the rows each order's key is listed under a number of its customer, so that a walk over a customer's orders meets few
-//! others. By the invariant each row's key is in the list of its customer, unless the lists were given up: that is done where a
-//! row takes the place of another customer's, or a blanked place is filled for a customer under whom there is no memory to list
-//! it. Walks then go over all rows that they are given. A key that was blanked stays listed, so that an order of the same
-//! customer fills its place again without memory; one that is removed is off its list. Only `put_new` takes memory, for a key's
-//! place and for its customer's list, where it has none or is not in that list; it is refused only for a key without a place, and
-//! the table is then as before.
+//! Beside the rows each order's key is listed under a number of its customer, so that a walk over a
+//! customer's orders meets few others. By the invariant each row's key is in the list of its
+//! customer, unless the lists were given up: that is done where a row takes the place of another
+//! customer's, or a blanked place is filled for a customer under whom there is no memory to list
+//! it. Walks then go over all rows that they are given. A key that was blanked stays listed, so
+//! that an order of the same customer fills its place again without memory; one that is removed is
+//! off its list. Only `put_new` takes memory, for a key's place and for its customer's list, where
+//! it has none or is not in that list; it is refused only for a key without a place, and the table
+//! is then as before.
 ghost use Rattle.std.specs.Prelude.{◌≡◌, true, Some, None, Ok, OnOk, OnErr, IsSome, []};
 ghost use Rattle.std.specs.Option.{option_copied};
 ghost use Rattle.std.specs.FinMap.{entries};
@@ -58,8 +60,9 @@ impl Model for Orders {
         AreListed order_cmp list_of_owner t.is_listed t.lists (rows_of order_cmp t.rows) };
 }
 
-// Lists an order under its customer. A key that is listed there already takes no memory, and nothing is given up. Where there is no
-// memory for another key, that is refused, or if it was blanked the lists are given up, since its place has to be filled.
+// Lists an order under its customer. A key that is listed there already takes no memory, and
+// nothing is given up. Where there is no memory for another key, that is refused, or if it was
+// blanked the lists are given up, since its place has to be filled.
 fn list(
     lists: &mut Lists<OrderKey>,
     is_listed: &mut bool,
@@ -115,9 +118,9 @@ impl Orders {
         self.rows.get(key)
     }
 
-    /// Puts a row at a key that has none. `NoMemory` comes only for a key without a place, where there was none for the place or for
-    /// the customer's list; the table is then as before. A blanked key that is listed under the customer takes no memory, and no
-    /// list is given up.
+    /// Puts a row at a key that has none. `NoMemory` comes only for a key without a place, where
+    /// there was none for the place or for the customer's list; the table is then as before. A
+    /// blanked key that is listed under the customer takes no memory, and no list is given up.
     pub fn put_new(&mut self, key: OrderKey, row: Order) -> Result<(), NoMemory>
         requires { map.get (rows_of order_cmp self.old) key ≡ None }
         ensures ok { OnOk result (SetsPlace order_cmp self.old self.new key (Some row)) }
@@ -133,8 +136,8 @@ impl Orders {
         self.rows.put_new(key, row)
     }
 
-    /// Puts another row in the place of the one at a key that has a row, and answers that one. Where it is another customer's, all
-    /// lists are given up.
+    /// Puts another row in the place of the one at a key that has a row, and answers that one.
+    /// Where it is another customer's, all lists are given up.
     pub fn swap(&mut self, key: &OrderKey, row: Order) -> Order
         requires { IsSome (map.get (rows_of order_cmp self.old) key.now) }
         ensures before { map.get (rows_of order_cmp self.old) key.now ≡ Some result }
@@ -180,7 +183,8 @@ impl Orders {
         self.rows.blank(key)
     }
 
-    /// Takes the row at a key that has one, and the key's place. The key is off its customer's list: no walk meets it again.
+    /// Takes the row at a key that has one, and the key's place. The key is off its customer's
+    /// list: no walk meets it again.
     pub fn remove(&mut self, key: &OrderKey) -> Order
         requires { IsSome (map.get (rows_of order_cmp self.old) key.now) }
         ensures before { map.get (rows_of order_cmp self.old) key.now ≡ Some result }
@@ -208,7 +212,8 @@ impl Orders {
         self.rows.iter()
     }
 
-    /// The keys that have a place, in their order, each with its row or, where it was blanked, `None`.
+    /// The keys that have a place, in their order, each with its row or, where it was blanked,
+    /// `None`.
     pub fn places(&self) -> Candidates<'_, OrderKey, Order>
         ensures { result ≡ self.now }
     {
@@ -225,8 +230,8 @@ impl Orders {
         self.rows.range_inclusive(from, to)
     }
 
-    /// A walk that meets a customer's orders in their keys' order, and others. Where the lists were given up it is the other walk,
-    /// which has to meet them too.
+    /// A walk that meets a customer's orders in their keys' order, and others. Where the lists were
+    /// given up it is the other walk, which has to meet them too.
     pub fn of_customer<'a>(
         &'a self,
         customer: &CustomerKey,

@@ -1,5 +1,5 @@
-//! Rows inserted and deleted, without a record. Each has a function of its own, which stands in no caller, so that its row is copied
-//! there alone.
+//! Rows inserted and deleted, without a record. Each has a function of its own, which stands in no
+//! caller, so that its row is copied there alone.
 ghost use Rattle.std.specs.Prelude.{◌≡◌, IfErr, OnOk, OnErr};
 ghost use Rattle.oe_model.specs.Changes.{InsertHistory, InsertNewOrder, InsertOrder, InsertOrderLine, DeleteNewOrder};
 ghost use Rattle.oe_journal.specs.Writes.{IsApplied, IsRefused};

@@ -13,7 +13,8 @@ use oe_requests::Refusal;
 use oe_rows::{CustomerKey, DistrictKey, OrderKey, OrderLineKey, StockKey, WarehouseKey};
 use oe_store::Tables;
 
-/// The record of a write to rows as they stand: of an insert or a delete its key, of an update the row, lent from where it lies.
+/// The record of a write to rows as they stand: of an insert or a delete its key, of an update the
+/// row, lent from where it lies.
 ///
 /// `NoSuchRow`: the row to be updated is absent.
 #[inline(always)]

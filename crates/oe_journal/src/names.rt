@@ -1,4 +1,5 @@
-//! Whether records name a key. A key that no record names, and that has no row, has no use for a place.
+//! Whether records name a key. A key that no record names, and that has no row, has no use for a
+//! place.
 ghost use Rattle.std.specs.Prelude.{◌≡◌, ◌↔◌, IsTrue};
 ghost use Rattle.oe_undo.specs.Chains.{IsForgotten, IsEnd};
 ghost use Rattle.oe_undo.specs.Undo.{seen};
@@ -18,7 +19,8 @@ pub(crate) fn is_unnamed(undo: &Undo, key: &Key) -> bool
     has_ended(undo, key, undo.segments().horizon())
 }
 
-/// Whether a key's link leads to no record of an open transaction, nor of a commit after the moment.
+/// Whether a key's link leads to no record of an open transaction, nor of a commit after the
+/// moment.
 pub(crate) fn has_ended(undo: &Undo, key: &Key, moment: Moment) -> bool
     ensures { IsTrue result ↔ IsEnd moment (seen undo.now key.now) }
 {

@@ -21,11 +21,13 @@ use oe_undo::Undo;
 use oe_undo::laws::{calls_keep_chains, ends_without_records};
 use oe_values::Moment;
 
-/// Gives up the segments of the commits up to a moment, which becomes the horizon, and the places of the NEW-ORDER keys that these
-/// commits deleted, that have no row and no record left. Rows, counts of commits and open segments stay as they are, and
-/// so do all later versions. It takes no memory, and visits no segment that is kept.
+/// Gives up the segments of the commits up to a moment, which becomes the horizon, and the places
+/// of the NEW-ORDER keys that these commits deleted, that have no row and no record left. Rows,
+/// counts of commits and open segments stay as they are, and so do all later versions. It takes no
+/// memory, and visits no segment that is kept.
 ///
-/// `TooOld` with the horizon, `Future` with the newest moment: the moment is not between the two. Nothing has changed then.
+/// `TooOld` with the horizon, `Future` with the newest moment: the moment is not between the two.
+/// Nothing has changed then.
 pub fn purge(tables: &mut Tables, undo: &mut Undo, moment: Moment) -> Result<(), Refusal>
     ensures kept { OnOk result (IsKeptMoment undo.old.log moment) }
     ensures log { OnOk result
@@ -50,7 +52,8 @@ pub fn purge(tables: &mut Tables, undo: &mut Undo, moment: Moment) -> Result<(),
     }
 }
 
-/// Drops the segments of the `count` oldest commits, the last of which made `moment`, with the places of what they deleted.
+/// Drops the segments of the `count` oldest commits, the last of which made `moment`, with the
+/// places of what they deleted.
 fn forget_oldest(tables: &mut Tables, undo: &mut Undo, moment: Moment, count: usize)
     requires kept { count ≤ length undo.old.log.committed }
     requires last { moment
@@ -74,8 +77,8 @@ fn forget_oldest(tables: &mut Tables, undo: &mut Undo, moment: Moment, count: us
     }
 }
 
-/// Gives up the places of the NEW-ORDER keys that a commit deleted, that have no row, and whose links end at the moment. The commit is
-/// given by the number of later ones.
+/// Gives up the places of the NEW-ORDER keys that a commit deleted, that have no row, and whose
+/// links end at the moment. The commit is given by the number of later ones.
 fn give_up_deleted(tables: &mut Tables, undo: &Undo, later: usize, moment: Moment)
     requires { later < length undo.now.log.committed }
     ensures rows { rows tables.new ≡ rows tables.old }
@@ -99,7 +102,8 @@ fn give_up_key(tables: &mut Tables, undo: &Undo, key: NewOrderKey, moment: Momen
     }
 }
 
-/// Whether a NEW-ORDER key's link leads to no record of an open transaction, nor of a commit after the moment.
+/// Whether a NEW-ORDER key's link leads to no record of an open transaction, nor of a commit after
+/// the moment.
 fn new_order_has_ended(undo: &Undo, key: &NewOrderKey, moment: Moment) -> bool
     ensures { IsTrue result ↔ IsEnd moment (seen undo.now (Key.NewOrder key.now)) }
 {

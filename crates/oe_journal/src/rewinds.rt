@@ -19,12 +19,13 @@ use oe_store::Tables;
 use oe_undo::Undo;
 use oe_values::{Moment, TerminalCount};
 
-/// Undoes the commits after a moment, which becomes the newest: their records are put back, the newest first, and their terminals
-/// no longer count them. A key without a row that no record names any more has no place any more. It takes no memory, and visits no
-/// segment that is kept.
+/// Undoes the commits after a moment, which becomes the newest: their records are put back, the
+/// newest first, and their terminals no longer count them. A key without a row that no record names
+/// any more has no place any more. It takes no memory, and visits no segment that is kept.
 ///
-/// `NotQuiet` with the number of open transactions. `TooOld` with the horizon, `Future` with the newest moment: the moment is not
-/// between the two. The first of these is named, and nothing has changed then.
+/// `NotQuiet` with the number of open transactions. `TooOld` with the horizon, `Future` with the
+/// newest moment: the moment is not between the two. The first of these is named, and nothing has
+/// changed then.
 #[tactic(auto, using(crate::proofs::RewindFacts::none_open))]
 pub fn rewind(tables: &mut Tables, undo: &mut Undo, moment: Moment) -> Result<(), Refusal>
     requires places { AllHavePlaces tables.old (undo_of undo.old.log).history }

@@ -11,12 +11,13 @@ use oe_change::Write;
 use oe_requests::Refusal;
 use oe_store::Tables;
 
-/// Sets the columns of a write in their row's place, or inserts or deletes its row. A row to be updated is there. No update takes
-/// memory.
+/// Sets the columns of a write in their row's place, or inserts or deletes its row. A row to be
+/// updated is there. No update takes memory.
 ///
-/// `RowExists`: the key of an insert is there. `Reference`: what the new row refers to is absent (clauses 1.3 and 1.4). `NoSuchRow`:
-/// the row to be deleted is absent. `NoMemory`: the tables accept the insert, but its key takes a new place, and its memory was
-/// refused. The tables are as before then.
+/// `RowExists`: the key of an insert is there. `Reference`: what the new row refers to is absent
+/// (clauses 1.3 and 1.4). `NoSuchRow`: the row to be deleted is absent. `NoMemory`: the tables
+/// accept the insert, but its key takes a new place, and its memory was refused. The tables are as
+/// before then.
 #[inline(always)]
 pub(crate) fn set(tables: &mut Tables, write: &Write) -> Result<(), Refusal>
     requires { IsSome (written write.now (rows tables.old)) }

@@ -1,5 +1,5 @@
-//! Which refusal a write answers where memory was refused for the place of a key's link, and the key has no place in its table either: what the tables
-//! would say.
+//! Which refusal a write answers where memory was refused for the place of a key's link, and the
+//! key has no place in its table either: what the tables would say.
 ghost use Rattle.std.specs.Prelude.{IsSome};
 ghost use Rattle.oe_model.specs.Changes.{key_of, InsertHistory, InsertNewOrder, InsertOrder, InsertOrderLine};
 ghost use Rattle.oe_change.specs.Writes.{key_written, written};
@@ -11,8 +11,8 @@ use oe_requests::Refusal;
 use oe_rows::{History, HistoryKey, NewOrderKey, Order, OrderKey, OrderLine, OrderLineKey};
 use oe_store::Tables;
 
-/// Why a write at a key without a place is refused: a deleted row is absent, and so is what an inserted row refers to, or there is no
-/// memory. A row to be updated would have a place.
+/// Why a write at a key without a place is refused: a deleted row is absent, and so is what an
+/// inserted row refers to, or there is no memory. A row to be updated would have a place.
 #[inline(never)]
 pub(crate) fn unplaced(tables: &Tables, write: &Write) -> Refusal
     requires there { IsSome (written write.now (rows tables.now)) }

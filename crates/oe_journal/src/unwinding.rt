@@ -1,7 +1,8 @@
 //! Undoing the changes of the newest records of an open segment.
 //!
-//! A key that loses its row keeps its place as long as a record names it, so that to put the row back takes no memory. With its last record
-//! the place goes, and that of its link where it is of HISTORY. Nothing can fail.
+//! A key that loses its row keeps its place as long as a record names it, so that to put the row
+//! back takes no memory. With its last record the place goes, and that of its link where it is of
+//! HISTORY. Nothing can fail.
 ghost use Rattle.std.specs.Prelude.{◌≡◌, ◌≤◌, length, take, drop, IsSome};
 ghost use Rattle.oe_model.specs.Changes.{put_back, record_key};
 ghost use Rattle.oe_layout.specs.Records.{record_of_own};
@@ -21,9 +22,9 @@ use oe_log::Segment;
 use oe_store::Tables;
 use oe_undo::Undo;
 
-/// Undoes the changes of the `count` newest records of an open segment, and drops these records. Their keys lead again where they
-/// led before each of them was made. An inserted row's key keeps its place where a record still names it, and else has none any more.
-/// It takes no memory.
+/// Undoes the changes of the `count` newest records of an open segment, and drops these records.
+/// Their keys lead again where they led before each of them was made. An inserted row's key keeps
+/// its place where a record still names it, and else has none any more. It takes no memory.
 pub fn take_back(tables: &mut Tables, undo: &mut Undo, segment: Segment, count: usize)
     requires open { IsSome (active_at undo.old.log segment) }
     requires enough { count ≤ length (records_at undo.old.log segment) }

@@ -18,14 +18,16 @@ use oe_requests::Refusal;
 use oe_store::Tables;
 use oe_undo::{CantPush, Undo};
 
-/// Writes to one row in its place, with its record in an open segment, or says why not. The record goes first, straight from where
-/// the row lies.
+/// Writes to one row in its place, with its record in an open segment, or says why not. The record
+/// goes first, straight from where the row lies.
 ///
-/// `NoSuchRow`: the row to be updated is absent. `UndoFull`: its record fits neither the rest of the segment's newest extent nor a
-/// free one. Else, where the tables refuse the change, `RowExists`: the key of an insert is there; `Reference`: what the new row
-/// refers to is absent (clauses 1.3 and 1.4); `NoSuchRow`: the row to be deleted is absent; `NoMemory`: the tables accept the insert,
-/// but its key takes a new place there and one for its link, and memory for one of them was refused. The first of these is named.
-/// Nothing has changed then, but that the key, and those that come with it, may have empty places for their links where they had none.
+/// `NoSuchRow`: the row to be updated is absent. `UndoFull`: its record fits neither the rest of
+/// the segment's newest extent nor a free one. Else, where the tables refuse the change,
+/// `RowExists`: the key of an insert is there; `Reference`: what the new row refers to is absent
+/// (clauses 1.3 and 1.4); `NoSuchRow`: the row to be deleted is absent; `NoMemory`: the tables
+/// accept the insert, but its key takes a new place there and one for its link, and memory for one
+/// of them was refused. The first of these is named. Nothing has changed then, but that the key,
+/// and those that come with it, may have empty places for their links where they had none.
 pub fn write(
     tables: &mut Tables,
     undo: &mut Undo,
@@ -76,8 +78,9 @@ fn give_up_unplaced(tables: &Tables, undo: &mut Undo, write: &Write)
     }
 }
 
-/// Appends the record of a write to rows as they stand to an open segment, with its key's link; refused as `write`, where the row to be
-/// updated is absent, the record has no room, or memory was refused for the place of its key's link. Nothing has changed then.
+/// Appends the record of a write to rows as they stand to an open segment, with its key's link;
+/// refused as `write`, where the row to be updated is absent, the record has no room, or memory was
+/// refused for the place of its key's link. Nothing has changed then.
 #[inline(always)]
 fn push(tables: &Tables, undo: &mut Undo, segment: Segment, write: &Write) -> Result<(), Refusal>
     requires open { IsSome (active_at undo.old.log segment) }

@@ -9,7 +9,8 @@ use crate::parts::KIND_BYTES;
 use oe_extent::numbers::read_number;
 use oe_image::Imaged;
 
-/// What was done, and in which table: one of the changes that the standard's transactions make (clauses 2.4.2, 2.5.2 and 2.7.4).
+/// What was done, and in which table: one of the changes that the standard's transactions make
+/// (clauses 2.4.2, 2.5.2 and 2.7.4).
 #[derive(Clone, Copy)]
 pub enum RecordKind {
     InsertedHistory,

@@ -9,8 +9,8 @@ use oe_extent::numbers::read_number;
 use oe_image::Imaged;
 use oe_values::numbers::{Moment, Number};
 
-/// Where a record lies in the ring: the number of an extent, from 0 to 4,095, and the offset of the record's first byte there,
-/// from 0 to 4,095.
+/// Where a record lies in the ring: the number of an extent, from 0 to 4,095, and the offset of the
+/// record's first byte there, from 0 to 4,095.
 #[derive(Clone, Copy, PartialEq, Eq)]
 pub struct RecordAddress {
     pub extent: Number<0, 4_095>,
@@ -99,7 +99,8 @@ fn previous_of(extent: u64, offset: u64, moment: u64) -> Option<Previous>
     at_address(RecordAddress { extent, offset }, moment)
 }
 
-/// Reads the link to the previous record at the front of the bytes, and answers the bytes behind it too.
+/// Reads the link to the previous record at the front of the bytes, and answers the bytes behind it
+/// too.
 #[tactic(auto, unfolding(crate::specs::Links::previous_at))]
 pub(crate) fn read_previous(bytes: &[u8]) -> Option<(Previous, &[u8])>
     ensures { option_map (λ x. (x.0, x.1.now)) result ≡ previous_at bytes.now }

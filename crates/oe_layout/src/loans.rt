@@ -23,7 +23,8 @@ use oe_rows::{
     WarehouseKey,
 };
 
-/// The undo record of a change, as it is written: its key, with the row before an update where that lies.
+/// The undo record of a change, as it is written: its key, with the row before an update where that
+/// lies.
 #[derive(Drop)]
 pub enum LentRecord<'a> {
     InsertedHistory(HistoryKey),

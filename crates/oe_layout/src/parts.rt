@@ -1,10 +1,12 @@
-//! The parts of a record's bytes: how many each has, and where it begins. The length comes first, and once more at the end.
+//! The parts of a record's bytes: how many each has, and where it begins. The length comes first,
+//! and once more at the end.
 use oe_extent::LENGTH_BYTES;
 
 /// How many bytes the kind has: one for what was done, and one for the table.
 pub const KIND_BYTES: usize = 2;
 
-/// How many bytes the link to the previous record has: two for its extent, two for the offset in it, and eight for the moment.
+/// How many bytes the link to the previous record has: two for its extent, two for the offset in
+/// it, and eight for the moment.
 pub const LINK_BYTES: usize = 12;
 
 /// Where the kind begins.

@@ -1,5 +1,5 @@
-//! The ranges of a record's columns, which the types keep. The functions change nothing: each tells proofs above, which see no
-//! type's range, what holds of its values.
+//! The ranges of a record's columns, which the types keep. The functions change nothing: each tells
+//! proofs above, which see no type's range, what holds of its values.
 ghost use Rattle.oe_rows.specs.Warehouse.{IsWarehouse};
 ghost use Rattle.oe_rows.specs.District.{IsDistrict};
 ghost use Rattle.oe_rows.specs.Customer.{IsCustomer};

@@ -174,7 +174,8 @@ fn whole_record(bytes: &[u8]) -> Option<(Previous, OwnRecord)>
     }
 }
 
-/// The record that the bytes are, with what leads to the previous one of its row; `None` exactly where the bytes are no record's.
+/// The record that the bytes are, with what leads to the previous one of its row; `None` exactly
+/// where the bytes are no record's.
 pub fn read_record(bytes: &[u8]) -> Option<(Previous, OwnRecord)>
     ensures { ReadsRecord bytes.now result }
 {

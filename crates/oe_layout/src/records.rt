@@ -13,8 +13,9 @@ use oe_rows::{
     WarehouseKey,
 };
 
-/// The undo record of a change, as it is read: its key, with the row before an update. Before an insert there is no row, and the
-/// row before a delete has no column but its key. It has no memory of its own.
+/// The undo record of a change, as it is read: its key, with the row before an update. Before an
+/// insert there is no row, and the row before a delete has no column but its key. It has no memory
+/// of its own.
 #[derive(Drop)]
 pub enum OwnRecord {
     InsertedHistory(HistoryKey),

@@ -18,8 +18,8 @@ use oe_fronts::keys::read_key;
 use oe_rows::{Key, NewOrderKey, Table};
 use std::marker::Model;
 
-/// An undo record where it lies in the ring, which clauses see as the model's record. Key and row are read only where they are asked
-/// for. No call takes memory.
+/// An undo record where it lies in the ring, which clauses see as the model's record. Key and row
+/// are read only where they are asked for. No call takes memory.
 #[derive(Drop)]
 pub struct StoredRecord<'a> {
     bytes: &'a [u8],
@@ -68,8 +68,8 @@ fn deleted_key(kind: RecordKind, key: Key) -> Option<NewOrderKey>
     }
 }
 
-/// The record that these bytes are, where it lies, with what leads to the previous one of its row. Neither key nor row is read, and
-/// no memory is taken.
+/// The record that these bytes are, where it lies, with what leads to the previous one of its row.
+/// Neither key nor row is read, and no memory is taken.
 pub fn linked_record(bytes: &[u8]) -> (Previous, StoredRecord<'_>)
     requires { IsStoredRecord bytes.now }
     ensures { IsToldLinked bytes.now (result.0, result.1) }
@@ -117,7 +117,8 @@ impl<'a> StoredRecord<'a> {
         key
     }
 
-    /// The key of the queue entry that was deleted; none exactly where the record is not of a delete. No row is read.
+    /// The key of the queue entry that was deleted; none exactly where the record is not of a
+    /// delete. No row is read.
     pub fn deleted_new_order(&self) -> Option<NewOrderKey>
         ensures { result ≡ deleted_new_order self.now }
     {

@@ -1,6 +1,7 @@
 //! What a line of a script asks for.
 //!
-//! A `Command` keeps its parts as plain values, in their ranges by type. A line has at most one meaning.
+//! A `Command` keeps its parts as plain values, in their ranges by type. A line has at most one
+//! meaning.
 
 use oe_requests::{Condition, Query, Request};
 use oe_rows::{Scale, Table};
@@ -22,7 +23,8 @@ pub enum Command {
     Begin(Terminal, Request),
     /// The terminal's transaction advances by one stage.
     Next(Terminal),
-    /// The terminal's transaction advances until it is answered something else than that a stage is left.
+    /// The terminal's transaction advances until it is answered something else than that a stage is
+    /// left.
     Run(Terminal),
     /// The terminal's transaction moves its mark here.
     Save(Terminal),

@@ -22,7 +22,8 @@ use oe_rows::{DistrictKey, Scale, Table, WarehouseKey};
 use oe_values::fronts::{after, decimal};
 use oe_values::{Lines, Moment, Number, Terminal};
 
-/// What a line asks for, where it is one of the forms. The line stands without its end, which is byte 10.
+/// What a line asks for, where it is one of the forms. The line stands without its end, which is
+/// byte 10.
 pub fn command(line: &[u8]) -> Option<Command>
     // What is read is said.
     ensures found { IfSome result (λ c. Says line.now c) }
@@ -32,8 +33,9 @@ pub fn command(line: &[u8]) -> Option<Command>
     read_command(line)
 }
 
-/// The terminal whose transaction the line `run T` runs; none where the line is another. The line stands without its end, which
-/// is byte 10. It says what `command` says of such a line, without a command's length.
+/// The terminal whose transaction the line `run T` runs; none where the line is another. The line
+/// stands without its end, which is byte 10. It says what `command` says of such a line, without a
+/// command's length.
 #[inline]
 pub fn terminal_to_run(line: &[u8]) -> Option<Terminal>
     // What is read is said.
@@ -44,8 +46,9 @@ pub fn terminal_to_run(line: &[u8]) -> Option<Terminal>
     read_run(line)
 }
 
-/// The payment that the line `begin T payment ..` begins, and its terminal before it; none where the line is another. The line
-/// stands without its end, which is byte 10. It says what `command` says of such a line, without a command's length.
+/// The payment that the line `begin T payment ..` begins, and its terminal before it; none where
+/// the line is another. The line stands without its end, which is byte 10. It says what `command`
+/// says of such a line, without a command's length.
 #[inline]
 pub fn payment_to_begin(line: &[u8]) -> Option<(Terminal, PaymentRequest)>
     // What is read is said.

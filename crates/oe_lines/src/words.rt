@@ -73,7 +73,8 @@ pub(crate) fn last_number<const LOW: u32, const HIGH: u32>(text: &[u8]) -> Optio
     if rest.is_empty() { Some(number) } else { None }
 }
 
-/// Money with two decimals before a space, in cents in the range of its type, and what follows the space.
+/// Money with two decimals before a space, in cents in the range of its type, and what follows the
+/// space.
 #[inline]
 #[tactic(auto, unfolding(crate::specs::Words::amount_before))]
 pub(crate) fn amount_before<const LOW: u32, const HIGH: u32>(

@@ -8,7 +8,8 @@ use crate::sets::TerminalSet;
 use oe_rows::Mode;
 use oe_values::Terminal;
 
-/// Who holds a name, and so in which mode: one terminal alone, exclusively, or some terminals, each as shared.
+/// Who holds a name, and so in which mode: one terminal alone, exclusively, or some terminals, each
+/// as shared.
 #[derive(Clone, Copy)]
 pub enum Holders {
     Alone(Terminal),
@@ -54,8 +55,8 @@ impl Holders {
         }
     }
 
-    /// The holders once the terminal holds the name in the greater of the mode held and the mode asked for, where nobody is in
-    /// the way.
+    /// The holders once the terminal holds the name in the greater of the mode held and the mode
+    /// asked for, where nobody is in the way.
     #[inline]
     pub fn risen(&self, terminal: Terminal, mode: Mode) -> Holders
         requires { IsFree (mode_among self.now) terminal mode }

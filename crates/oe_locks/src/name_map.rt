@@ -1,7 +1,7 @@
 //! Which names are held, and by whom. The first few lie on a short list, where a name is found by
-//! comparing it with each, and only those beyond it in a map: so the names of a few transactions, or
-//! of a delivery of ten districts, are never hashed. Nothing is moved from one to the other. Only
-//! `insert` takes memory, and only it can fail.
+//! comparing it with each, and only those beyond it in a map: so the names of a few transactions,
+//! or of a delivery of ten districts, are never hashed. Nothing is moved from one to the other.
+//! Only `insert` takes memory, and only it can fail.
 ghost use Rattle.std.specs.Prelude.{◌≡◌, ◌<◌, ◌+◌, [], length, take, IfSome, IfNone, IsSome, None, Some, OnOk, OnErr, true, false};
 ghost use Rattle.std.specs.Map.{lookup};
 ghost use Rattle.oe_rows.specs.contracts.locks.NamePartialEq.TheImpl.{ghosts};
@@ -83,7 +83,8 @@ fn place(entries: &[(Name, Holders)], name: &Name) -> Option<usize>
     None
 }
 
-// Puts other holders into the first entry with the name, if there is one, and answers whether there is.
+// Puts other holders into the first entry with the name, if there is one, and answers whether there
+// is.
 #[inline]
 fn put(entries: &mut Vec<(Name, Holders)>, name: &Name, after: &Holders) -> bool
     ensures put { result ≡ true →
@@ -219,7 +220,8 @@ impl NameMap {
         insert_mapped(&mut self.rest, name, holders)
     }
 
-    /// Gives a name other holders. Takes no memory for a name that somebody holds, and after an error nothing has changed.
+    /// Gives a name other holders. Takes no memory for a name that somebody holds, and after an
+    /// error nothing has changed.
     #[inline]
     pub(crate) fn set(&mut self, name: &Name, after: &Holders) -> Result<(), AllocError>
         ensures changes { OnOk result (Changes self.old self.new name.now (Some after.now)) }
@@ -243,8 +245,8 @@ impl NameMap {
         replace_mapped(&mut self.rest, name, after);
     }
 
-    /// Lets go of a name where the terminal alone holds it and it is the last on the list, as the newest of few names is, and
-    /// answers whether it was so.
+    /// Lets go of a name where the terminal alone holds it and it is the last on the list, as the
+    /// newest of few names is, and answers whether it was so.
     #[inline(always)]
     pub(crate) fn leave_last(&mut self, name: &Name, terminal: Terminal) -> bool
         ensures alone { result ≡ true →

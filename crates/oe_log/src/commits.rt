@@ -1,4 +1,5 @@
-//! Commits: how an open segment becomes that of one, and how their segments are given up, or opened again.
+//! Commits: how an open segment becomes that of one, and how their segments are given up, or opened
+//! again.
 ghost use Rattle.std.specs.Prelude.{◌≡◌, ◌+◌, ◌-◌, ℕ, length, slice_get, option_map, None, IsSome};
 ghost use Rattle.oe_log.specs.Log.{active_at, total_count, owner_of, sealed, with_newest, reopened};
 ghost use Rattle.oe_log.specs.Moments.{newest, horizon};
@@ -28,8 +29,8 @@ impl Log {
         Moment::new(self.newest.get() - kept).unwrap()
     }
 
-    /// Seals an open segment, which the newest commit has from then on, and answers the commit's moment. It takes no memory, and
-    /// keeps no byte of request and reply.
+    /// Seals an open segment, which the newest commit has from then on, and answers the commit's
+    /// moment. It takes no memory, and keeps no byte of request and reply.
     pub fn seal(
         &mut self,
         segment: Segment,
@@ -63,8 +64,9 @@ impl Log {
         moment
     }
 
-    /// Gives up the segment of the oldest commit that is kept, and answers whose it was; none exactly where none is. Its terminal
-    /// counts it still. The extents of its records are free again. It takes no memory.
+    /// Gives up the segment of the oldest commit that is kept, and answers whose it was; none
+    /// exactly where none is. Its terminal counts it still. The extents of its records are free
+    /// again. It takes no memory.
     pub fn drop_oldest(&mut self) -> Option<SegmentOwner>
         ensures oldest { result
             ≡ option_map owner_of
@@ -78,8 +80,9 @@ impl Log {
         }
     }
 
-    /// Opens the segment of the newest commit again, where no segment is open, and answers it; none exactly where no commit is kept.
-    /// Its terminal no longer counts it, and the moment before it is the newest. It takes no memory.
+    /// Opens the segment of the newest commit again, where no segment is open, and answers it; none
+    /// exactly where no commit is kept. Its terminal no longer counts it, and the moment before it
+    /// is the newest. It takes no memory.
     pub fn reopen_newest(&mut self) -> Option<Segment>
         requires { (t : ℕ) → active_at self.old t ≡ None }
         ensures segment { result

@@ -26,7 +26,8 @@ pub struct TerminalHead {
     pub(crate) len: usize,
 }
 
-/// A transaction that has committed. What it was begun with and what it answered are for clauses alone: no byte is kept of either.
+/// A transaction that has committed. What it was begun with and what it answered are for clauses
+/// alone: no byte is kept of either.
 #[derive(Drop)]
 pub struct CommitHead {
     pub(crate) owner: SegmentOwner,

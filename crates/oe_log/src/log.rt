@@ -1,9 +1,11 @@
 //! The undo log: the segments of undo records of one transaction each.
 //!
-//! Records lie in the ring as byte strings, those of each terminal's open transaction in its slot, those of a commit in its place. Heads
-//! stand beside them: whose a segment is, and how many records it has. By the invariant each string is a record's, heads and strings
-//! are as many, and the ring and the list of commits have room for the commit of each open segment. `new` and `open_segment` may be
-//! refused memory, `push` is refused where the ring is full, and no other call is refused.
+//! Records lie in the ring as byte strings, those of each terminal's open transaction in its slot,
+//! those of a commit in its place. Heads stand beside them: whose a segment is, and how many
+//! records it has. By the invariant each string is a record's, heads and strings are as many, and
+//! the ring and the list of commits have room for the commit of each open segment. `new` and
+//! `open_segment` may be refused memory, `push` is refused where the ring is full, and no other
+//! call is refused.
 ghost use Rattle.std.specs.Prelude.{◌≡◌, ℕ, replicate, IfOk};
 ghost use Rattle.oe_log.specs.Log.{no_segments};
 ghost use Rattle.oe_log.specs.Kept.{idle_heads};
@@ -46,18 +48,21 @@ impl Segment {
     }
 }
 
-/// The segments of undo records: the open one of each terminal, and those of commits, the newest first; and the terminals' counts of
-/// commits. Moment `newest` less k is that before the k newest commits.
+/// The segments of undo records: the open one of each terminal, and those of commits, the newest
+/// first; and the terminals' counts of commits. Moment `newest` less k is that before the k newest
+/// commits.
 ///
-/// All memory for records is taken by `new`, and that for a segment's later commit by `open_segment`; no other call takes any. A
-/// push is refused exactly where the ring of extents has no room for the record. A commit's segment stays until it is the oldest and
-/// is given up, for a purge, or the newest and is opened again, for a rewind.
+/// All memory for records is taken by `new`, and that for a segment's later commit by
+/// `open_segment`; no other call takes any. A push is refused exactly where the ring of extents has
+/// no room for the record. A commit's segment stays until it is the oldest and is given up, for a
+/// purge, or the newest and is opened again, for a rewind.
 #[derive(Drop)]
 pub struct Log {
     // The records. Its slots are the terminals' numbers; 0 is nobody's.
     pub(crate) ring: Ring,
     pub(crate) terminals: PerTerminal<TerminalHead>,
-    // The newest first, each beside its records in the ring. It has room for the commit of each open segment.
+    // The newest first, each beside its records in the ring. It has room for the commit of each
+    // open segment.
     pub(crate) commits: VecDeque<CommitHead>,
     pub(crate) open_count: usize,
     pub(crate) newest: Moment,
@@ -95,7 +100,8 @@ fn idle_heads(alloc: Global) -> Result<PerTerminal<TerminalHead>, NoMemory>
 }
 
 impl Log {
-    /// Makes a log without a segment or a commit, on a ring of `extents` extents; `NoMemory` where memory was refused.
+    /// Makes a log without a segment or a commit, on a ring of `extents` extents; `NoMemory` where
+    /// memory was refused.
     pub fn new(alloc: Global, extents: ExtentCount) -> Result<Log, NoMemory>
         ensures { IfOk result (λ s. s ≡ no_segments extents) }
     {

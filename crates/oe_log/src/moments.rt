@@ -14,8 +14,8 @@ impl Log {
         self.commits.len()
     }
 
-    /// How many commits came after a moment; `TooOld` with the horizon, or `Future` with the newest moment, exactly where it is not
-    /// between the two.
+    /// How many commits came after a moment; `TooOld` with the horizon, or `Future` with the newest
+    /// moment, exactly where it is not between the two.
     pub fn commits_after(&self, moment: Moment) -> Result<usize, Refusal>
         ensures count { IfOk result (λ n. n ≡ newest self.now - moment) }
         ensures within { IfOk result (λ n. n ≤ length self.now.committed) }

@@ -41,8 +41,9 @@ fn may_delete(before: bool, record: &LentRecord<'_>) -> bool
 }
 
 impl Log {
-    /// Opens a segment without records for a terminal that has none open and fewer than 4,294,967,295 commits, and takes all memory
-    /// that its commit will need; `NoMemory` where that was refused.
+    /// Opens a segment without records for a terminal that has none open and fewer than
+    /// 4,294,967,295 commits, and takes all memory that its commit will need; `NoMemory` where that
+    /// was refused.
     pub fn open_segment(&mut self, terminal: Terminal) -> Result<Segment, NoMemory>
         requires closed { active_at self.old terminal ≡ None }
         requires counted { count_at self.old terminal < 4_294_967_295 }
@@ -77,9 +78,9 @@ impl Log {
         self.open_count -= 1;
     }
 
-    /// Appends a record to an open segment, and answers its address, where no other record is. The row before an update is written
-    /// from where it lies. `Full` exactly where the record fits neither the rest of the segment's newest extent nor a free one. It
-    /// takes no memory.
+    /// Appends a record to an open segment, and answers its address, where no other record is. The
+    /// row before an update is written from where it lies. `Full` exactly where the record fits
+    /// neither the rest of the segment's newest extent nor a free one. It takes no memory.
     pub fn push(&mut self, segment: Segment, lent: &LinkedRecord<'_>) -> Result<RecordAddress, Full>
         requires { IsSome (active_at self.old segment) }
         ensures pushed { IfOk result (λ a. self.new
@@ -125,8 +126,8 @@ impl Log {
         self.terminals.at(segment.terminal()).len
     }
 
-    /// The newest record of an open segment, with what leads to the previous one of its row; none exactly where it has none. It ticks
-    /// once.
+    /// The newest record of an open segment, with what leads to the previous one of its row; none
+    /// exactly where it has none. It ticks once.
     pub fn newest_record(
         &self,
         segment: Segment,
@@ -146,7 +147,8 @@ impl Log {
         read_record(self.ring.newest(slot))
     }
 
-    /// Takes the newest record of an open segment off, where it has one. An extent without records is free again.
+    /// Takes the newest record of an open segment off, where it has one. An extent without records
+    /// is free again.
     pub fn pop(&mut self, segment: Segment)
         requires { IsSome (active_at self.old segment) }
         ensures { self.new ≡ popped self.old segment }

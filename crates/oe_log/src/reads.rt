@@ -1,4 +1,5 @@
-//! Terminals and records as they are read: whose they are, and the records by their addresses or one after another.
+//! Terminals and records as they are read: whose they are, and the records by their addresses or
+//! one after another.
 ghost use Rattle.std.specs.Prelude.{◌≡◌, ◌<◌, ◌≤◌, ◌+◌, ◌↔◌, ℕ, suc, false, [], length, get_or, take, slice_get, option_map, Option, is_some, IsTrue, IsSome, IfSome};
 ghost use Rattle.oe_log.specs.Records.{HasAddress, IsRecordAt};
 ghost use Rattle.oe_model.specs.System.{system, terminal_limit};
@@ -33,7 +34,8 @@ impl Log {
         self.ring.extents()
     }
 
-    /// The log has a state of each terminal, and one of nobody. It does nothing: it is for proofs above, which see no invariant.
+    /// The log has a state of each terminal, and one of nobody. It does nothing: it is for proofs
+    /// above, which see no invariant.
     pub fn terminals_are(&self)
         ensures { length self.now.terminals ≡ suc TERMINALS }
     {
@@ -73,8 +75,9 @@ impl Log {
         self.open_count as u32
     }
 
-    /// Answers whose a commit was, by the number of later ones; none exactly where that commit is not kept. Its number is its
-    /// terminal's count less the terminal's later commits, and 1 at least.
+    /// Answers whose a commit was, by the number of later ones; none exactly where that commit is
+    /// not kept. Its number is its terminal's count less the terminal's later commits, and 1 at
+    /// least.
     pub fn committed(&self, later: usize) -> Option<SegmentOwner>
         ensures commit { result ≡ option_map owner_of (slice_get self.now.committed later) }
         ensures number { IfSome result
@@ -88,8 +91,8 @@ impl Log {
         }
     }
 
-    /// Whether a commit may have deleted a NEW-ORDER row, by the number of later ones. One that has recorded no delete has not, so
-    /// that its records need not be looked at.
+    /// Whether a commit may have deleted a NEW-ORDER row, by the number of later ones. One that has
+    /// recorded no delete has not, so that its records need not be looked at.
     fn may_delete(&self, later: usize) -> bool
         ensures { result ≡ false
             → DeletesNothing (model_records (get_or (committed_records self.now) later [])) }
@@ -100,8 +103,8 @@ impl Log {
         }
     }
 
-    /// The record at that address of a terminal's open segment, where it lies, with what leads to the previous one of its row. It ticks
-    /// once. No row is read, and no memory is taken.
+    /// The record at that address of a terminal's open segment, where it lies, with what leads to
+    /// the previous one of its row. It ticks once. No row is read, and no memory is taken.
     pub fn linked_at(
         &self,
         terminal: Terminal,
@@ -119,8 +122,9 @@ impl Log {
         linked_record(self.ring.at(slot, place))
     }
 
-    /// The record at that address of a commit's segment, where it lies, with what leads to the previous one of its row. The commit is
-    /// given by the number of later ones. It ticks once. No row is read, and no memory is taken.
+    /// The record at that address of a commit's segment, where it lies, with what leads to the
+    /// previous one of its row. The commit is given by the number of later ones. It ticks once. No
+    /// row is read, and no memory is taken.
     pub fn committed_linked_at(
         &self,
         later: usize,
@@ -138,8 +142,9 @@ impl Log {
         linked_record(self.ring.committed_at(later, place))
     }
 
-    /// The keys of the NEW-ORDER rows that a commit deleted, the newest delete first. The commit is given by the number of later ones.
-    /// Its records are not looked at where its head says that it deleted nothing. It takes no memory.
+    /// The keys of the NEW-ORDER rows that a commit deleted, the newest delete first. The commit is
+    /// given by the number of later ones. Its records are not looked at where its head says that it
+    /// deleted nothing. It takes no memory.
     pub fn deleted(&self, later: usize) -> Deleted<'_>
         requires { later < length self.now.committed }
         ensures { result

@@ -1,7 +1,7 @@
 //! Walks over the records of a segment, the newest first.
 //!
-//! `Records` goes over strings of the ring; by its invariant each is a record's. `Deleted` lends no record, but the keys that records say
-//! were deleted. No call takes memory, and nothing can fail.
+//! `Records` goes over strings of the ring; by its invariant each is a record's. `Deleted` lends no
+//! record, but the keys that records say were deleted. No call takes memory, and nothing can fail.
 ghost use Rattle.std.specs.Iterator.{YieldsFirst, item_count};
 
 use oe_extent::Strings;

@@ -1,5 +1,6 @@
-//! The tables, transactions and consistency conditions of an order-entry server, as definitions, and their laws. Each
-//! public function has an empty body and carries one law; clauses of the standard are those of TPC Benchmark C 5.11.
+//! The tables, transactions and consistency conditions of an order-entry server, as definitions,
+//! and their laws. Each public function has an empty body and carries one law; clauses of the
+//! standard are those of TPC Benchmark C 5.11.
 #![tactic(auto)]
 
 pub mod populations;
@@ -19,19 +20,21 @@ pub fn records_undo()
     ensures { Records_undo }
 {}
 
-/// A change is accepted or has a cause of refusal, never both, and one that is accepted keeps the schema.
+/// A change is accepted or has a cause of refusal, never both, and one that is accepted keeps the
+/// schema.
 pub fn changes_are_judged()
     ensures { Changes_are_judged }
 {}
 
-/// The machine of each layout meets the local laws of the theory of transactions: among them that each program, run alone a row
-/// at a time, has exactly its whole effect or none, and that this effect keeps what holds between transactions.
+/// The machine of each layout meets the local laws of the theory of transactions: among them that
+/// each program, run alone a row at a time, has exactly its whole effect or none, and that this
+/// effect keeps what holds between transactions.
 pub fn system_is_lawful()
     ensures { System_is_lawful }
 {}
 
-/// A program alone has its whole effect wherever the schema, conditions 1 to 4 and the stock are there, and no HISTORY row of
-/// its own transaction is.
+/// A program alone has its whole effect wherever the schema, conditions 1 to 4 and the stock are
+/// there, and no HISTORY row of its own transaction is.
 pub fn programs_end()
     ensures { Programs_end }
 {}
@@ -41,12 +44,14 @@ pub fn runs_begin()
     ensures { Runs_begin }
 {}
 
-/// A transaction that is rolled back leaves no trace, and one that commits is whole, whatever others do meanwhile.
+/// A transaction that is rolled back leaves no trace, and one that commits is whole, whatever
+/// others do meanwhile.
 pub fn transactions_are_atomic()
     ensures { Transactions_are_atomic }
 {}
 
-/// The commits are those of transactions run one at a time; a rewind restores each moment's version.
+/// The commits are those of transactions run one at a time; a rewind restores each moment's
+/// version.
 pub fn versions_are_serial()
     ensures { Versions_are_serial }
 {}
@@ -71,14 +76,14 @@ pub fn schema_always_holds()
     ensures { Schema_always_holds }
 {}
 
-/// Consistency conditions 1 to 4 (clauses 3.3.2.1 to 3.3.2.4) hold of each version, and of the tables whenever no
-/// transaction is open.
+/// Consistency conditions 1 to 4 (clauses 3.3.2.1 to 3.3.2.4) hold of each version, and of the
+/// tables whenever no transaction is open.
 pub fn conditions_hold()
     ensures { Conditions_hold }
 {}
 
-/// A payment takes its amount from the balance, adds it to the year-to-date columns, and goes into the data of a
-/// customer with bad credit (clause 2.5.2.2).
+/// A payment takes its amount from the balance, adds it to the year-to-date columns, and goes into
+/// the data of a customer with bad credit (clause 2.5.2.2).
 pub fn payment_is_exact()
     ensures { Payment_is_exact }
 {}

@@ -7,7 +7,8 @@ pub fn tests_are_conditions()
     ensures { Tests_are_conditions }
 {}
 
-/// An audit's verdict is that its condition holds, or the first row in key order at which it fails, exactly.
+/// An audit's verdict is that its condition holds, or the first row in key order at which it fails,
+/// exactly.
 pub fn verdicts_are_exact()
     ensures { Verdicts_are_exact }
 {}

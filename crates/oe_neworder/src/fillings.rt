@@ -1,7 +1,7 @@
 //! The lines of an order, two stages a line.
 //!
-//! A `Filling` keeps the replies of the lines that are done, and a `Filled` line between its two stages. A stage that the engine refuses
-//! leaves both as they were.
+//! A `Filling` keeps the replies of the lines that are done, and a `Filled` line between its two
+//! stages. A stage that the engine refuses leaves both as they were.
 ghost use Rattle.std.specs.Prelude.{◌≡◌, ◌+◌, ◌<◌, length, slice_get, Some, None, IsSome, OnErr, option_map};
 ghost use Rattle.oe_theory.specs.Machine.{Plain};
 ghost use Rattle.oe_theory.specs.Machine as theory;
@@ -24,7 +24,8 @@ use oe_requests::{LineReplies, LineReply, NewOrderRequest, Refusal, ReplyRef, Re
 use oe_rows::{Mode, Name, OrderLine};
 use oe_values::{LineNumber, OrderNumber};
 
-/// A line whose stock has been taken: its OL_NUMBER, its ORDER-LINE row, which is still to be inserted, and its reply.
+/// A line whose stock has been taken: its OL_NUMBER, its ORDER-LINE row, which is still to be
+/// inserted, and its reply.
 #[derive(Drop)]
 pub struct Filled {
     pub number: LineNumber,
@@ -32,8 +33,8 @@ pub struct Filled {
     pub reply: LineReply,
 }
 
-/// The lines of an order while they are filled: the replies of those that are done, and the next one, once its stock has been
-/// taken. The lines themselves lie in the request.
+/// The lines of an order while they are filled: the replies of those that are done, and the next
+/// one, once its stock has been taken. The lines themselves lie in the request.
 #[derive(Drop)]
 pub struct Filling {
     pub seen: Seen,
@@ -216,7 +217,8 @@ impl Filling {
         }
     }
 
-    /// The reply, once all lines of the request are done; none before that. It is lent where it lies.
+    /// The reply, once all lines of the request are done; none before that. It is lent where it
+    /// lies.
     pub fn reply(&self, request: &NewOrderRequest) -> Option<ReplyRef<'_>>
         ensures { option_map told_reply result
             ≡ new_order_reply (line_position request.now self.now) }

@@ -1,7 +1,7 @@
 //! What the stages of a New-Order read, and what they come to (clause 2.4.2.2).
 //!
-//! A look answers the columns that its stage needs, or the refusal of a row that is absent or of a column that would leave its range.
-//! Nothing is changed or kept.
+//! A look answers the columns that its stage needs, or the refusal of a row that is absent or of a
+//! column that would leave its range. Nothing is changed or kept.
 ghost use Rattle.std.specs.Prelude.{◌≡◌};
 ghost use Rattle.oe_store.specs.Places.{rows};
 ghost use Rattle.oe_model.specs.Positions.{NewOrderCustomer};
@@ -35,7 +35,8 @@ pub struct Numbered {
     pub tax: Rate,
 }
 
-/// The order's number. `NoSuchRow` where the district is absent, `Overflow` where D_NEXT_O_ID would leave its range.
+/// The order's number. `NoSuchRow` where the district is absent, `Overflow` where D_NEXT_O_ID would
+/// leave its range.
 pub fn next_number(request: &NewOrderRequest, tables: &Tables) -> Result<Numbered, Refusal>
     ensures { TakesNumber request.now (rows tables.now) result }
 {
@@ -87,8 +88,9 @@ pub enum Supply {
     Fills(StockKey, StockCounters, Filled),
 }
 
-/// What the stock row of a request's line with that number comes to. `NoSuchRow` where the warehouse has no such stock, `Overflow`
-/// where S_YTD, S_ORDER_CNT or S_REMOTE_CNT would leave its range: the first of them.
+/// What the stock row of a request's line with that number comes to. `NoSuchRow` where the
+/// warehouse has no such stock, `Overflow` where S_YTD, S_ORDER_CNT or S_REMOTE_CNT would leave its
+/// range: the first of them.
 pub fn supply_of(
     request: &NewOrderRequest,
     line: &RequestLine,

@@ -16,8 +16,9 @@ use oe_formulas::orders::Seen;
 use oe_requests::{NewOrderRequest, Refusal, ReplyRef};
 use oe_values::{OrderNumber, Rate};
 
-/// Where a New-Order stands: the stage that it comes to next, with what the stages before have read. Its request lies with whoever
-/// carries it out. It is of fixed size, and any value of it is a position of any request.
+/// Where a New-Order stands: the stage that it comes to next, with what the stages before have
+/// read. Its request lies with whoever carries it out. It is of fixed size, and any value of it is
+/// a position of any request.
 #[derive(Drop)]
 pub enum Program {
     Warehouse,
@@ -54,7 +55,8 @@ impl Program {
         }
     }
 
-    /// The reply, once all stages of the request are done; none before that. It is lent where it lies.
+    /// The reply, once all stages of the request are done; none before that. It is lent where it
+    /// lies.
     pub fn reply(&self, request: &NewOrderRequest) -> Option<ReplyRef<'_>>
         ensures { option_map told_reply result
             ≡ new_order_reply (position_of request.now self.now) }
@@ -91,12 +93,13 @@ impl Program {
         }
     }
 
-    /// One stage of the order: its lock and its one change. The names that the stages before have taken are held: the order's for
-    /// its NEW-ORDER row and its lines.
+    /// One stage of the order: its lock and its one change. The names that the stages before have
+    /// taken are held: the order's for its NEW-ORDER row and its lines.
     ///
-    /// The order of refusals is `NoCustomer` or `InvalidItem`, which stop before the lock, `Busy`, `Overflow`, `UndoFull` where the
-    /// change's record has no room, and `NoMemory` where memory was refused for a new name or an inserted row. A refused stage leaves
-    /// the program, the tables and the locks as they were. Each stage of an order takes the same request.
+    /// The order of refusals is `NoCustomer` or `InvalidItem`, which stop before the lock, `Busy`,
+    /// `Overflow`, `UndoFull` where the change's record has no room, and `NoMemory` where memory
+    /// was refused for a new name or an inserted row. A refused stage leaves the program, the
+    /// tables and the locks as they were. Each stage of an order takes the same request.
     pub fn next(&mut self, request: &NewOrderRequest, engine: &mut Engine, tx: &Tx) -> Progress
         requires { IsOpen engine.old tx.now →
             HoldsTaken request.now tx.now engine.old (position_of request.now self.old) }

@@ -29,7 +29,8 @@ fn delivered() -> Option<DistrictDelivery> {
     }))
 }
 
-/// The replies to deliveries of the second and the tenth district, of ten, where nothing waits in the others.
+/// The replies to deliveries of the second and the tenth district, of ten, where nothing waits in
+/// the others.
 fn ten_deliveries() -> Option<Answer> {
     let mut ten = [DistrictDelivery::Skipped; 10];
     ten[1] = delivered()?;

@@ -1,5 +1,5 @@
-//! Errands beside those of a program in another language, which draws by the same rules: a digest of each column of 10,000
-//! errands, and how many were of what happens 1, 15 or 60 times in 100.
+//! Errands beside those of a program in another language, which draws by the same rules: a digest
+//! of each column of 10,000 errands, and how many were of what happens 1, 15 or 60 times in 100.
 use oe_requests::{CustomerChoice, Errand, NewOrderRequest, PaymentRequest, Query, Request};
 use oe_rows::{DistrictKey, Scale};
 use oe_terms::{RequestNumber, errand, request, words};

@@ -1,6 +1,7 @@
-//! The tests of what the engine is made of: tables, values, locks and texts; undo records, their bytes, at which addresses they come to
-//! stand, and where links lead; queues, pins, and errands of seeded terminals. They stand alone, so that each library is proved once. What a
-//! clause says is not tested again, and neither is what the program's examples show.
+//! The tests of what the engine is made of: tables, values, locks and texts; undo records, their
+//! bytes, at which addresses they come to stand, and where links lead; queues, pins, and errands of
+//! seeded terminals. They stand alone, so that each library is proved once. What a clause says is
+//! not tested again, and neither is what the program's examples show.
 #![tactic(auto)]
 
 #[cfg(test)]

@@ -87,7 +87,8 @@ fn reopen(undo: &mut Undo) -> Option<u32> {
     Some(undo.reopen_newest()?.terminal().get())
 }
 
-/// The newest commit is terminal 5's again, and then a commit; then both commits are given up, and the link leads nowhere.
+/// The newest commit is terminal 5's again, and then a commit; then both commits are given up, and
+/// the link leads nowhere.
 fn given_up(undo: &mut Undo, key: &OrderKey) -> Option<bool> {
     let terminal = Terminal::new(5)?;
     let reopened = reopen(undo)?;

@@ -11,7 +11,8 @@ fn stock() -> Option<Name> {
     }))
 }
 
-// Asks for the name, and answers the number of the terminal in the way, 0 for none, and 100 for another refusal.
+// Asks for the name, and answers the number of the terminal in the way, 0 for none, and 100 for
+// another refusal.
 fn ask(locks: &mut Locks, name: &Name, terminal: &Terminal, mode: Mode) -> u32 {
     let Err(refusal) = locks.acquire(*name, *terminal, mode) else {
         return 0;
@@ -22,7 +23,8 @@ fn ask(locks: &mut Locks, name: &Name, terminal: &Terminal, mode: Mode) -> u32 {
     }
 }
 
-// Three terminals share a name; the middle one asks for it alone, and then the lowest one does, while the others leave.
+// Three terminals share a name; the middle one asks for it alone, and then the lowest one does,
+// while the others leave.
 fn share(locks: &mut Locks, name: &Name) -> Option<[u32; 9]> {
     let low = Terminal::new(5)?;
     let middle = Terminal::new(23)?;

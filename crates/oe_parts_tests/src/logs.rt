@@ -1,4 +1,5 @@
-//! A log of two extents that is filled, and filled again around its end: at which addresses records come to stand.
+//! A log of two extents that is filled, and filled again around its end: at which addresses records
+//! come to stand.
 use crate::made::{queue_entry, warehouse};
 use crate::opened::request;
 use oe_layout::{LentRecord, LinkedRecord, Previous, RecordAddress};
@@ -77,8 +78,8 @@ fn push_deletes(log: &mut Log, terminal: Terminal, key: &NewOrderKey) -> Place {
     last
 }
 
-/// Of 4,096 bytes, 23 updates and 92 deletes leave 25, into which one delete more fits exactly. Then the first terminal's extent is full,
-/// and the second's has room.
+/// Of 4,096 bytes, 23 updates and 92 deletes leave 25, into which one delete more fits exactly.
+/// Then the first terminal's extent is full, and the second's has room.
 fn filled(log: &mut Log, first: Terminal, second: Terminal) -> Option<[Place; 6]> {
     begin(log, first)?;
     begin(log, second)?;

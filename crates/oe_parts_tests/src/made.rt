@@ -24,7 +24,8 @@ fn warehouse_address() -> Option<Address> {
     })
 }
 
-/// Makes warehouse 1 with `cents` as its year to date: 1,000.00 as it is populated at 10 customers a district. Its record has 77 bytes.
+/// Makes warehouse 1 with `cents` as its year to date: 1,000.00 as it is populated at 10 customers
+/// a district. Its record has 77 bytes.
 pub(crate) fn warehouse(year_to_date: u64) -> Option<(WarehouseKey, Warehouse)> {
     let key = WarehouseKey {
         warehouse: Number::new(1)?,

@@ -1,4 +1,5 @@
-//! An undo log with segments that are opened, pushed to and committed. `None` where a call was refused.
+//! An undo log with segments that are opened, pushed to and committed. `None` where a call was
+//! refused.
 ghost use Rattle.std.specs.Prelude.{IfSome, IsSome};
 ghost use Rattle.oe_rows.specs.declared.keys.Key.{Key};
 ghost use Rattle.oe_log.specs.Log.{active_at};
@@ -58,8 +59,8 @@ pub(crate) fn only_segment(undo: &Undo, terminal: Terminal) -> Option<Segment>
     Some(Segment::of(terminal))
 }
 
-/// Pushes an update of an order by a terminal that alone has a segment open, and tells what it was pushed with as what leads to the
-/// order's previous record.
+/// Pushes an update of an order by a terminal that alone has a segment open, and tells what it was
+/// pushed with as what leads to the order's previous record.
 pub(crate) fn push_order(
     undo: &mut Undo,
     terminal: Terminal,

@@ -1,4 +1,5 @@
-//! A queue that one thread fills and empties: that its calls come back, with what was submitted, or with nothing.
+//! A queue that one thread fills and empties: that its calls come back, with what was submitted, or
+//! with nothing.
 use oe_queue::{Message, Sender, Taker, open};
 use oe_requests::DeliveriesRequest;
 use oe_rows::WarehouseKey;

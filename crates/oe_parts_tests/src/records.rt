@@ -1,5 +1,5 @@
-//! Worked records, there and back, and bytes that are none. The records of a warehouse, of a queue entry and of a stock are worked
-//! examples of the layout, and not this program's output.
+//! Worked records, there and back, and bytes that are none. The records of a warehouse, of a queue
+//! entry and of a stock are worked examples of the layout, and not this program's output.
 ghost use Rattle.std.specs.Prelude.{◌≡◌, length};
 
 use crate::made::{address, order, order_key, queue_entry, stock, warehouse};
@@ -10,7 +10,8 @@ use oe_values::numbers::Moment;
 const WAREHOUSE: &[u8] =
     b"\x00\x4d\x02\x01\xff\xff\xff\xff\x00\x00\x00\x00\x00\x00\x00\x00\x00\x01\x00\x06WARE01\x00\x07STREET1\x00\x07STREET2\x00\x04CITY\x00\x02ST\x00\x09000111111\x00\x64\x00\x00\x00\x00\x00\x01\x86\xa0\x00\x4d";
 
-// The second payment of 1.00 to the warehouse; the record of the first begins the ring, and its commit made moment 1.
+// The second payment of 1.00 to the warehouse; the record of the first begins the ring, and its
+// commit made moment 1.
 const SECOND_PAYMENT: &[u8] =
     b"\x00\x4d\x02\x01\x00\x00\x00\x00\x00\x00\x00\x00\x00\x00\x00\x01\x00\x01\x00\x06WARE01\x00\x07STREET1\x00\x07STREET2\x00\x04CITY\x00\x02ST\x00\x09000111111\x00\x64\x00\x00\x00\x00\x00\x01\x87\x04\x00\x4d";
 

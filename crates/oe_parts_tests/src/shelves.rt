@@ -1,4 +1,5 @@
-//! That a row is put on its shelf where there is memory, and what calls leave of it at keys that lie far apart.
+//! That a row is put on its shelf where there is memory, and what calls leave of it at keys that
+//! lie far apart.
 use oe_rows::{DistrictKey, OrderKey};
 use oe_table::shelf_walks::Candidates;
 use oe_table::shelves::Shelves;
@@ -13,7 +14,8 @@ fn order(district: u32, number: u32) -> Option<OrderKey> {
     Some(district.order(OrderNumber::new(number)?))
 }
 
-/// Puts these orders on two shelves of a table, far apart and not in their order; each row is its index in the list.
+/// Puts these orders on two shelves of a table, far apart and not in their order; each row is its
+/// index in the list.
 fn fill(table: &mut Shelves<OrderKey, u32>) -> Option<()> {
     let mut row = 0u32;
     for (district, number) in [(1, 2), (1, 9_000_000), (3, 5), (1, 7), (3, 4), (1, 8u32)] {
@@ -36,8 +38,8 @@ fn digits(places: Candidates<'_, OrderKey, u32>) -> u32 {
     all
 }
 
-/// The places before and after the row of an order was taken, and after its place was given up; and the row of the next order that is
-/// then found.
+/// The places before and after the row of an order was taken, and after its place was given up; and
+/// the row of the next order that is then found.
 fn taken(
     table: &mut Shelves<OrderKey, u32>,
     key: &OrderKey,
@@ -71,7 +73,8 @@ fn places_on_shelves_are_kept_until_given_up(rt: HostRuntime) {
     drop(table);
 }
 
-/// Puts the orders 1 to 100 of district 1 on a table, each row its number, and blanks 1 to 60, 81 and 100.
+/// Puts the orders 1 to 100 of district 1 on a table, each row its number, and blanks 1 to 60, 81
+/// and 100.
 fn blank_much(table: &mut Shelves<OrderKey, u32>) -> Option<()> {
     for number in 1..101u32 {
         let key = order(1, number)?;

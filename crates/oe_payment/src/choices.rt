@@ -1,4 +1,5 @@
-//! The customer that a payment is of (clause 2.5.2.2). Nothing is changed, and nothing takes memory.
+//! The customer that a payment is of (clause 2.5.2.2). Nothing is changed, and nothing takes
+//! memory.
 ghost use Rattle.std.specs.Prelude.{◌≡◌};
 ghost use Rattle.oe_store.specs.Places.{rows};
 ghost use Rattle.oe_payment.specs.Choice.{meant};
@@ -8,8 +9,9 @@ use oe_rows::DistrictKey;
 use oe_store::Tables;
 use oe_values::CustomerNumber;
 
-/// Gives the C_ID that a request means: the number that it gives, whether or not there is such a row, or the customer's in the
-/// middle of all with that last name; none where nobody in the district has the name.
+/// Gives the C_ID that a request means: the number that it gives, whether or not there is such a
+/// row, or the customer's in the middle of all with that last name; none where nobody in the
+/// district has the name.
 pub fn selected_customer(
     district: &DistrictKey,
     choice: &CustomerChoice,

@@ -1,7 +1,7 @@
 //! Where a payment stands.
 //!
-//! A `Position` keeps its `Stage` and what the stages before it have read. What later ones read may be anything yet, so that a payment
-//! begins by setting its stage alone. Nothing can fail.
+//! A `Position` keeps its `Stage` and what the stages before it have read. What later ones read may
+//! be anything yet, so that a payment begins by setting its stage alone. Nothing can fail.
 ghost use Rattle.std.specs.Prelude.{◌≡◌};
 
 use oe_requests::PaymentReply;
@@ -18,7 +18,8 @@ pub enum Stage {
     End,
 }
 
-/// The stage that a payment comes to next, and what the stages before it have read; what the later ones read is anything yet.
+/// The stage that a payment comes to next, and what the stages before it have read; what the later
+/// ones read is anything yet.
 #[derive(Drop)]
 pub struct Position {
     pub stage: Stage,

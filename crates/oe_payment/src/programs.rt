@@ -13,8 +13,8 @@ use oe_engine::{Engine, Progress, Tx};
 use oe_requests::{PaymentReply, PaymentRequest, Refusal};
 use std::marker::Model;
 
-/// Where a payment stands: the stage that it comes to next, with what the stages before have read. Its request lies
-/// with whoever carries it out. It is of fixed size.
+/// Where a payment stands: the stage that it comes to next, with what the stages before have read.
+/// Its request lies with whoever carries it out. It is of fixed size.
 #[derive(Drop)]
 pub struct Program {
     position: Position,
@@ -67,9 +67,11 @@ impl Program {
         }
     }
 
-    /// One stage of the payment: its lock and its one change. The order of refusals is `NoCustomer`, `Busy`, `Overflow`, `UndoFull`
-    /// where the change's record has no room, and `NoMemory` where memory was refused for a new name or the inserted row. A refused
-    /// stage leaves the program, the tables and the locks as they were. Each stage of a payment takes the same request.
+    /// One stage of the payment: its lock and its one change. The order of refusals is
+    /// `NoCustomer`, `Busy`, `Overflow`, `UndoFull` where the change's record has no room, and
+    /// `NoMemory` where memory was refused for a new name or the inserted row. A refused stage
+    /// leaves the program, the tables and the locks as they were. Each stage of a payment takes the
+    /// same request.
     #[inline(always)]
     pub fn next(&mut self, request: &PaymentRequest, engine: &mut Engine, tx: &Tx) -> Progress
         ensures { Progresses (Request.Payment request.now) tx.now

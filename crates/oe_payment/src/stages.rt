@@ -1,4 +1,5 @@
-//! The stages of a payment (clause 2.5.2.2): each takes its lock and writes, and keeps what the payment reads there.
+//! The stages of a payment (clause 2.5.2.2): each takes its lock and writes, and keeps what the
+//! payment reads there.
 ghost use Rattle.std.specs.Prelude.{◌≡◌, suc, true, List, ℕ};
 ghost use Rattle.oe_theory.specs.Machine.{Take, Fail, Exclusive};
 ghost use Rattle.oe_requests.specs.declared.requests.Request.{Request};
@@ -141,8 +142,9 @@ fn keep_reply(reply: &mut PaymentReply, number: CustomerNumber, row: &Customer, 
     reply.balance = account.balance;
 }
 
-// C_BALANCE falls and C_YTD_PAYMENT rises by the amount, C_PAYMENT_CNT rises by 1, and a bad credit's C_DATA begins with the
-// payment. The customer is chosen before its name is taken, so that `NoCustomer` comes before `Busy`.
+// C_BALANCE falls and C_YTD_PAYMENT rises by the amount, C_PAYMENT_CNT rises by 1, and a bad
+// credit's C_DATA begins with the payment. The customer is chosen before its name is taken, so that
+// `NoCustomer` comes before `Busy`.
 #[inline(always)]
 fn pay_customer(
     request: &PaymentRequest,
@@ -204,8 +206,9 @@ fn note(request: &PaymentRequest, position: &mut Position, engine: &mut Engine, 
     go(engine, tx, &write, &mut position.stage, Stage::End)
 }
 
-/// Carries out the stage at a position, after which the payment stands at the one after it; at the end it is ready. A refused stage
-/// leaves the payment where it stood, and the engine standing for what it did.
+/// Carries out the stage at a position, after which the payment stands at the one after it; at the
+/// end it is ready. A refused stage leaves the payment where it stood, and the engine standing for
+/// what it did.
 #[inline(always)]
 pub fn carry_out(
     request: &PaymentRequest,

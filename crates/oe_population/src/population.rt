@@ -1,7 +1,9 @@
-//! The population by formula (clause 4.3.3.1, with values of this project's own where that draws them at random).
+//! The population by formula (clause 4.3.3.1, with values of this project's own where that draws
+//! them at random).
 //!
-//! The tables are filled three by three, so that no function has more than two behind it where memory is refused. What is there then is
-//! dropped by name: a scope that ends would drop it part by part.
+//! The tables are filled three by three, so that no function has more than two behind it where
+//! memory is refused. What is there then is dropped by name: a scope that ends would drop it part
+//! by part.
 ghost use Rattle.std.specs.Prelude.{IfOk};
 ghost use Rattle.std.specs.FinMap.{empty};
 ghost use Rattle.oe_rows.specs.Key.{warehouse_cmp, district_cmp, customer_cmp, history_cmp, new_order_cmp, order_cmp, order_line_cmp, item_cmp, stock_cmp};

@@ -1,7 +1,7 @@
 //! A reader of the system and the standard output, for `main` alone.
 //!
-//! This file is trusted. Clauses see no byte of what the system reads and prints, so that nothing says whether these calls hand the
-//! system's bytes on: whoever relies on the program reads them.
+//! This file is trusted. Clauses see no byte of what the system reads and prints, so that nothing
+//! says whether these calls hand the system's bytes on: whoever relies on the program reads them.
 ghost use Rattle.std.specs.Prelude.{None};
 
 use crate::ports::{Failed, Intake, Outlet};

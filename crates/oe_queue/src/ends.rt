@@ -1,7 +1,8 @@
 //! The taker, and the end of a queue that a sender has.
 //!
-//! Each end keeps its channel's end and its pass, which knows what was submitted or taken there; by the invariants the pass sits on the
-//! seat of that end. To submit may wait for a place, and to take for a message.
+//! Each end keeps its channel's end and its pass, which knows what was submitted or taken there; by
+//! the invariants the pass sits on the seat of that end. To submit may wait for a place, and to
+//! take for a message.
 ghost use Rattle.std.specs.Prelude.{◌≡◌, ◌+◌, ◌<◌, ◌++◌, [], ◌∷◌, OnOk, OnErr, IfOk, IfSome, IfNone};
 ghost use Rattle.crossbeam_channel.specs.Claims.{view as known, IsSeatAt};
 ghost use Rattle.crossbeam_channel.specs.Ends.{sends_on, receives_on};
@@ -93,8 +94,8 @@ impl SendingEnd {
         self.terminal
     }
 
-    /// Submits a message of the terminal, once fewer than 16 messages are queued. An error says that the taker is gone; the
-    /// message is not queued then.
+    /// Submits a message of the terminal, once fewer than 16 messages are queued. An error says
+    /// that the taker is gone; the message is not queued then.
     pub(crate) fn submit<W: Wait>(&mut self, rt: &W, message: Message) -> Result<(), ()>
         requires { sender_of message ≡ self.old.terminal }
         ensures ok { OnOk result
@@ -124,7 +125,8 @@ impl Taker {
         Taker { end, pass }
     }
 
-    /// Takes the oldest message, once there is one. There is none where nothing is queued and all senders are gone.
+    /// Takes the oldest message, once there is one. There is none where nothing is queued and all
+    /// senders are gone.
     pub fn take<W: Wait>(&mut self, rt: &W) -> Option<Message>
         ensures some { IfSome result (λ m.
             self.new ≡ record self.old { taken = self.old.taken ++ m ∷ [] }) }

@@ -1,5 +1,5 @@
-//! The rule of the queue, and what each step of a sender or of the taker makes of what it knows. All of it is for proofs: no
-//! value of these types is made.
+//! The rule of the queue, and what each step of a sender or of the taker makes of what it knows.
+//! All of it is for proofs: no value of these types is made.
 ghost use Rattle.std.specs.Prelude.{⊤};
 ghost use Rattle.oe_queue.specs.Rule.{Kept, Submits, Takes, Tells, nothing_taken, with_next, next_sender, told_by};
 ghost use Rattle.oe_queue.specs.declared.rules.Knowledge.TheVariants.{Gone, Taking};
@@ -16,7 +16,8 @@ pub struct Submitted {
     pub messages: LinkedList<Message>,
 }
 
-/// What the taker knows: what it took, how many senders were made, and what the sender submitted that was compared last.
+/// What the taker knows: what it took, how many senders were made, and what the sender submitted
+/// that was compared last.
 pub struct Taken {
     pub messages: LinkedList<Message>,
     pub senders: u32,

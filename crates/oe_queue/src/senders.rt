@@ -1,7 +1,7 @@
 //! Senders, which submit deliveries and end by a mark.
 //!
-//! By its invariant a `Sender` has submitted no end mark, and a `Finished` one has submitted it last. So a sender that has ended can
-//! submit nothing more.
+//! By its invariant a `Sender` has submitted no end mark, and a `Finished` one has submitted it
+//! last. So a sender that has ended can submit nothing more.
 ghost use Rattle.std.specs.Prelude.{◌≡◌, ◌+◌, ◌++◌, ℕ, [], ◌∷◌, Some, false, vec_len, slice_get, OnOk, OnErr, IfOk, IfErr};
 ghost use Rattle.std.specs.List.{Contains};
 ghost use Rattle.oe_queue.specs.Ends.{TheSender, unused};
@@ -45,7 +45,8 @@ impl Model for Finished {
     ghost invariant = { λ f. IsEnded f.end.terminal f.end.sent };
 }
 
-/// Makes a queue for terminals 1 to that number: their senders in order, and the taker. Memory is the only refusal.
+/// Makes a queue for terminals 1 to that number: their senders in order, and the taker. Memory is
+/// the only refusal.
 pub fn open(alloc: Global, terminals: TerminalCount) -> Result<(Vec<Sender>, Taker), AllocError>
     ensures count { IfOk result (λ r. vec_len r.0 ≡ terminals) }
     ensures senders { IfOk result (λ r. (k : ℕ) (s : TheSender) → slice_get r.0.items k ≡ Some s
@@ -77,7 +78,8 @@ impl Sender {
         Message::Delivery(self.terminal(), *delivery)
     }
 
-    /// Submits a delivery, once fewer than 16 messages are queued. Where the taker is gone, it is handed back and not queued.
+    /// Submits a delivery, once fewer than 16 messages are queued. Where the taker is gone, it is
+    /// handed back and not queued.
     #[tactic(auto, using(crate::proofs::EndFacts::no_end_more))]
     pub fn submit<W: Wait>(
         &mut self,
@@ -97,8 +99,8 @@ impl Sender {
         }
     }
 
-    /// Submits the end mark, once fewer than 16 messages are queued. Where the taker is gone, the sender is handed back, and
-    /// nothing is queued.
+    /// Submits the end mark, once fewer than 16 messages are queued. Where the taker is gone, the
+    /// sender is handed back, and nothing is queued.
     #[tactic(auto, using(crate::proofs::EndFacts::ended))]
     pub fn finish<W: Wait>(self, rt: &W) -> Result<Finished, Sender>
         ensures ok { IfOk result (λ f.
@@ -113,7 +115,8 @@ impl Sender {
         }
     }
 
-    /// Compares what was taken with what was submitted: it is a beginning. This does nothing: it is a law.
+    /// Compares what was taken with what was submitted: it is a beginning. This does nothing: it is
+    /// a law.
     pub fn compare(self, taker: &mut Taker)
         requires { self.queue ≡ taker.old.queue }
         ensures same { taker.new ≡ taker.old }
@@ -125,8 +128,8 @@ impl Sender {
 }
 
 impl Finished {
-    /// Compares what was taken with what was submitted: it is a beginning, and with the end mark the whole. This does nothing:
-    /// it is a law.
+    /// Compares what was taken with what was submitted: it is a beginning, and with the end mark
+    /// the whole. This does nothing: it is a law.
     #[tactic(auto, using(crate::proofs::EndFacts::is_whole))]
     pub fn compare(self, taker: &mut Taker)
         requires { self.queue ≡ taker.old.queue }

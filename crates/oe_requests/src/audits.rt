@@ -1,4 +1,5 @@
-//! Audits of the consistency conditions: which one is asked for, and what is found. Both are plain values, and nothing can fail.
+//! Audits of the consistency conditions: which one is asked for, and what is found. Both are plain
+//! values, and nothing can fail.
 ghost use Rattle.std.specs.Prelude.{◌≡◌};
 ghost use Rattle.oe_requests.specs.Condition.{condition_number};
 
@@ -41,7 +42,8 @@ impl Condition {
     }
 }
 
-/// What an audit finds: that the condition holds, or the first row, in key order, at which it fails.
+/// What an audit finds: that the condition holds, or the first row, in key order, at which it
+/// fails.
 #[derive(Clone, Copy, PartialEq, Eq)]
 pub enum Verdict {
     Holds,

@@ -1,6 +1,7 @@
 //! Replies to requests and queries (clauses 2.4.3 to 2.8.3).
 //!
-//! A reply is a plain value whose parts are in their ranges by type. Nothing can fail, and nothing takes memory.
+//! A reply is a plain value whose parts are in their ranges by type. Nothing can fail, and nothing
+//! takes memory.
 ghost use Rattle.std.specs.Prelude.{◌≡◌};
 ghost use Rattle.oe_requests.specs.Reply.{told_reply};
 
@@ -13,7 +14,8 @@ use oe_values::numbers::{
 use oe_values::stamps::Stamp;
 use oe_values::texts::{FirstName, LastName, Text};
 
-/// Whether an item and its stock are both original, printed as B, or not, printed as G (clause 2.4.2.2).
+/// Whether an item and its stock are both original, printed as B, or not, printed as G (clause
+/// 2.4.2.2).
 #[derive(Clone, Copy, PartialEq, Eq)]
 pub enum Brand {
     Original,
@@ -50,7 +52,8 @@ pub struct NewOrderReply {
     pub lines: LineReplies,
 }
 
-/// The order that a delivery delivered, its customer, and the sum of its lines' amounts (clause 2.7.4).
+/// The order that a delivery delivered, its customer, and the sum of its lines' amounts (clause
+/// 2.7.4).
 #[derive(Clone, Copy, PartialEq, Eq)]
 pub struct DeliveredOrder {
     pub order: OrderNumber,
@@ -73,7 +76,8 @@ pub struct RenameReply {
     pub first: FirstName,
 }
 
-/// What a delivery did in a warehouse's districts from 1 on, in their order: in all ten of them once it has committed.
+/// What a delivery did in a warehouse's districts from 1 on, in their order: in all ten of them
+/// once it has committed.
 pub type DistrictDeliveries = Lines<DistrictDelivery, 0, 10>;
 
 /// What a transaction answers when it has committed.
@@ -86,8 +90,8 @@ pub enum Reply {
     Rename(RenameReply),
 }
 
-/// A reply that a program has come to its end with, lent where its parts lie: a whole `Reply` takes eight times
-/// the room of a payment's. Clauses see the reply that it is, by `told_reply`.
+/// A reply that a program has come to its end with, lent where its parts lie: a whole `Reply` takes
+/// eight times the room of a payment's. Clauses see the reply that it is, by `told_reply`.
 #[derive(Drop)]
 pub enum ReplyRef<'a> {
     Payment(&'a PaymentReply),

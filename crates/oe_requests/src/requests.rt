@@ -1,7 +1,7 @@
 //! Requests, queries and errands (clauses 2.4.1 to 2.8.1).
 //!
-//! A request is a plain value whose parts are in their ranges by type; whether its rows are there is tested where it is begun.
-//! Nothing can fail, and nothing takes memory.
+//! A request is a plain value whose parts are in their ranges by type; whether its rows are there
+//! is tested where it is begun. Nothing can fail, and nothing takes memory.
 ghost use Rattle.std.specs.Prelude.{◌≡◌};
 
 use oe_rows::keys::{CustomerKey, DistrictKey, WarehouseKey};

@@ -10,7 +10,8 @@ use oe_values::{Moment, Terminal};
 pub enum Step {
     /// The terminal begins a transaction.
     Begin(Terminal, Request),
-    /// The terminal's transaction carries out the next stage of its program, or commits where none is left.
+    /// The terminal's transaction carries out the next stage of its program, or commits where none
+    /// is left.
     Advance(Terminal),
     /// The terminal's transaction moves its mark here.
     Save(Terminal),

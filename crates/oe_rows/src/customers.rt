@@ -1,7 +1,8 @@
 //! Customers.
 //!
-//! A row's columns are in their ranges by type. Columns that are written or told together stand in a group of their own: the name,
-//! the address, the account. Nothing can fail, and nothing takes memory.
+//! A row's columns are in their ranges by type. Columns that are written or told together stand in
+//! a group of their own: the name, the address, the account. Nothing can fail, and nothing takes
+//! memory.
 ghost use Rattle.std.specs.Prelude.{◌≡◌, ◌↔◌, ◌∷◌, [], map, IsTrue};
 
 use crate::warehouses::Address;
@@ -24,8 +25,8 @@ pub enum Credit {
     Bad,
 }
 
-/// A customer's money and counts: C_CREDIT_LIM, C_DISCOUNT, C_BALANCE, C_YTD_PAYMENT, C_PAYMENT_CNT and C_DELIVERY_CNT
-/// (clause 1.3.1).
+/// A customer's money and counts: C_CREDIT_LIM, C_DISCOUNT, C_BALANCE, C_YTD_PAYMENT, C_PAYMENT_CNT
+/// and C_DELIVERY_CNT (clause 1.3.1).
 #[derive(Clone, Copy)]
 pub struct Account {
     pub credit_limit: YearToDate,

@@ -28,7 +28,8 @@ pub struct Stock {
     pub data: Text<0, 50>,
 }
 
-/// The columns of a STOCK row that orders change: S_QUANTITY, S_YTD, S_ORDER_CNT and S_REMOTE_CNT (clause 2.4.2.2).
+/// The columns of a STOCK row that orders change: S_QUANTITY, S_YTD, S_ORDER_CNT and S_REMOTE_CNT
+/// (clause 2.4.2.2).
 #[derive(Clone, Copy)]
 pub struct StockCounters {
     pub quantity: Count,

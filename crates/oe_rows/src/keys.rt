@@ -1,7 +1,7 @@
 //! Keys of rows, and the names of tables (clause 1.3.1).
 //!
-//! A key has the columns of its table's primary key, in their order, each in its range by its type; its order is theirs from the
-//! left. Nothing can fail, and nothing takes memory.
+//! A key has the columns of its table's primary key, in their order, each in its range by its type;
+//! its order is theirs from the left. Nothing can fail, and nothing takes memory.
 ghost use Rattle.std.specs.Prelude.{◌≡◌};
 ghost use Rattle.oe_rows.specs.Key.{table_of, table_name, IsDistrictKey, IsCustomerKey};
 
@@ -31,8 +31,8 @@ pub struct CustomerKey {
     pub customer: CustomerNumber,
 }
 
-/// The key of a HISTORY row, which the standard leaves without one: the terminal, the number of the transaction among
-/// the terminal's, and the row's ordinal in the transaction.
+/// The key of a HISTORY row, which the standard leaves without one: the terminal, the number of the
+/// transaction among the terminal's, and the row's ordinal in the transaction.
 #[derive(Clone, Copy, PartialEq, Eq, PartialOrd, Ord)]
 pub struct HistoryKey {
     pub terminal: HistoryTerminal,

@@ -23,7 +23,8 @@ pub struct Order {
     pub all_local: bool,
 }
 
-/// An ORDER-LINE row without its key (clause 1.3.1). The delivery date is null until the order is delivered.
+/// An ORDER-LINE row without its key (clause 1.3.1). The delivery date is null until the order is
+/// delivered.
 #[derive(Drop)]
 pub struct OrderLine {
     pub item: ItemNumber,

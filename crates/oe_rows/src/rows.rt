@@ -1,4 +1,5 @@
-//! Rows of any table, for those who read a row by a key of any table. Nothing can fail, and nothing takes memory.
+//! Rows of any table, for those who read a row by a key of any table. Nothing can fail, and nothing
+//! takes memory.
 ghost use Rattle.std.specs.Prelude.{◌≡◌, ◌↔◌, IsTrue};
 ghost use Rattle.oe_rows.specs.Row.{table_of_row};
 

@@ -1,4 +1,5 @@
-//! The nine keys as keys of tables: the order of each tells any two keys apart, and its numbers say where its row lies.
+//! The nine keys as keys of tables: the order of each tells any two keys apart, and its numbers say
+//! where its row lies.
 ghost use Rattle.std.specs.Prelude.{◌≡◌, ◌<◌};
 ghost use Rattle.oe_rows.specs.KeyShelves.{district_shelf};
 

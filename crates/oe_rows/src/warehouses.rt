@@ -6,7 +6,8 @@ ghost use Rattle.std.specs.Prelude.{◌≡◌, ◌↔◌, ◌∷◌, [], map, Is
 use oe_values::numbers::{Rate, YearToDate};
 use oe_values::texts::Text;
 
-/// An address: the columns _STREET_1, _STREET_2, _CITY, _STATE and _ZIP of three tables (clause 1.3.1).
+/// An address: the columns _STREET_1, _STREET_2, _CITY, _STATE and _ZIP of three tables (clause
+/// 1.3.1).
 #[derive(Drop)]
 pub struct Address {
     pub street_1: Text<0, 20>,

@@ -30,8 +30,8 @@ use oe_texts::{LONGEST, Pending, SIZE, answer, audited, begun, committed, more, 
 use oe_values::{ExtentCount, Moment, NoMemory, Terminal};
 use std::alloc::Global;
 
-/// Answers a line, which stands without its end and has this number. What waits is written first where the longest line has no room
-/// behind it; where that failed, no step was taken.
+/// Answers a line, which stands without its end and has this number. What waits is written first
+/// where the longest line has no room behind it; where that failed, no step was taken.
 pub fn answer_line<W: Outlet>(
     core: &mut Option<Core>,
     alloc: Global,

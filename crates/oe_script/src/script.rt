@@ -8,10 +8,11 @@ use std::alloc::Global;
 
 /// Answers a script, line by line, to its end.
 ///
-/// What waits is written before each read. A fault comes only where one call of the reader or of the writer failed in this
-/// run, which it names, or the input has 2^64 - 1 bytes or more. After one of the reader each whole line that was read is
-/// answered, and no more is written; after one of the writer what was written is a beginning of an output of all that was
-/// read. Want of memory inside a step is that line's answer, and the run goes on.
+/// What waits is written before each read. A fault comes only where one call of the reader or of
+/// the writer failed in this run, which it names, or the input has 2^64 - 1 bytes or more. After
+/// one of the reader each whole line that was read is answered, and no more is written; after one
+/// of the writer what was written is a beginning of an output of all that was read. Want of memory
+/// inside a step is that line's answer, and the run goes on.
 pub fn run_script<R: Intake, W: Outlet>(
     alloc: Global,
     reader: &mut R,

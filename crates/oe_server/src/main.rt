@@ -1,8 +1,10 @@
 #![tactic(auto)]
-//! An order-entry server that answers scripts and runs drives. Clauses of the standard are those of TPC Benchmark C 5.11.
+//! An order-entry server that answers scripts and runs drives. Clauses of the standard are those of
+//! TPC Benchmark C 5.11.
 //!
-//! This file is trusted: it has no contract, and hands the script's bytes to `run_script`, whose contract tells all that is answered,
-//! or the numbers of a drive to `run_drive`, whose contract tells the two lines. What a drive says on standard error is for a person.
+//! This file is trusted: it has no contract, and hands the script's bytes to `run_script`, whose
+//! contract tells all that is answered, or the numbers of a drive to `run_drive`, whose contract
+//! tells the two lines. What a drive says on standard error is for a person.
 
 use clap::Error;
 use clap::error::ErrorKind;

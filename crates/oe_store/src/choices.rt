@@ -1,5 +1,5 @@
-//! Rows that a transaction chooses by more than their key: the oldest order that is not delivered, a customer by last name, and a
-//! customer's last order. None takes memory.
+//! Rows that a transaction chooses by more than their key: the oldest order that is not delivered,
+//! a customer by last name, and a customer's last order. None takes memory.
 ghost use Rattle.std.specs.Prelude.{◌≡◌, ◌==◌, ◌≤◌, ◌&&◌, ◌+◌, ◌/◌, option_map, count_by, length};
 ghost use Rattle.std.specs.Ordering.{eq_by_cmp, nat_cmp};
 ghost use Rattle.std.specs.Cmp.Lexicographic.{slice_cmp};
@@ -72,7 +72,8 @@ impl Tables {
         self.orders.of_customer(customer, others)
     }
 
-    /// A walk that meets the customers of a district with that C_LAST in their keys' order, and few others.
+    /// A walk that meets the customers of a district with that C_LAST in their keys' order, and few
+    /// others.
     fn namesakes_of(
         &self,
         district: &DistrictKey,
@@ -144,8 +145,8 @@ impl Tables {
         standing.before + 1 == (standing.count + 1) / 2
     }
 
-    /// C_ID of the customer of a district and last name in position n / 2, rounded up, of n, by C_FIRST and where that ties
-    /// by C_ID (clauses 2.5.2.2 and 2.6.2.2).
+    /// C_ID of the customer of a district and last name in position n / 2, rounded up, of n, by
+    /// C_FIRST and where that ties by C_ID (clauses 2.5.2.2 and 2.6.2.2).
     pub fn middle(&self, district: &DistrictKey, last: &Text<0, 16>) -> Option<CustomerNumber>
         ensures { result ≡ middle (namesakes district.now last.now (rows self.now).customers) }
     {

@@ -1,5 +1,5 @@
-//! Columns that transactions write, set in their rows' places. It takes no memory, each column is in its range by type, and
-//! none is part of a key or refers to another row.
+//! Columns that transactions write, set in their rows' places. It takes no memory, each column is
+//! in its range by type, and none is part of a key or refers to another row.
 ghost use Rattle.std.specs.Prelude.{◌≡◌, Some, IsSome};
 ghost use Rattle.std.specs.FinMap.{get};
 ghost use Rattle.oe_rows.specs.Credit.{with_entry};
@@ -68,8 +68,8 @@ impl Tables {
         self.customers.set_account(key, account);
     }
 
-    /// Sets the account of the CUSTOMER row of a key, and puts an entry before C_DATA, where what passes 500 bytes is
-    /// discarded (clause 2.5.2.2).
+    /// Sets the account of the CUSTOMER row of a key, and puts an entry before C_DATA, where what
+    /// passes 500 bytes is discarded (clause 2.5.2.2).
     pub fn set_bad_credit(&mut self, key: &CustomerKey, account: &Account, entry: &Text<0, 90>)
         requires { IsSome (get (rows self.old).customers key.now) }
         ensures rows { (c : Customer) → get (rows self.old).customers key.now ≡ Some c

@@ -50,7 +50,8 @@ impl Tables {
         self.orders.put_new(key, row)
     }
 
-    /// Inserts an ORDER-LINE row at a key that has none, where the rows that it refers to are there.
+    /// Inserts an ORDER-LINE row at a key that has none, where the rows that it refers to are
+    /// there.
     pub fn insert_order_line(&mut self, key: OrderLineKey, row: OrderLine) -> Result<(), NoMemory>
         requires { Accepts (InsertOrderLine key row) (rows self.old) }
         ensures rows { OnOk result

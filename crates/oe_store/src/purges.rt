@@ -1,4 +1,5 @@
-//! What a purge of old commits gives up of the tables: places of rows that nobody puts back any more.
+//! What a purge of old commits gives up of the tables: places of rows that nobody puts back any
+//! more.
 ghost use Rattle.std.specs.Prelude.{◌≡◌};
 ghost use Rattle.oe_store.specs.Places.{rows, GivesUp, IsSwept};
 
@@ -6,8 +7,8 @@ use crate::tables::Tables;
 use oe_rows::{Key, NewOrderKey};
 
 impl Tables {
-    /// Gives up the place of a NEW-ORDER key without a row. Where the key has a row, or no place, nothing
-    /// changes. It takes no memory.
+    /// Gives up the place of a NEW-ORDER key without a row. Where the key has a row, or no place,
+    /// nothing changes. It takes no memory.
     pub fn give_up_new_order(&mut self, key: NewOrderKey)
         ensures rows { rows self.new ≡ rows self.old }
         ensures places { GivesUp self.old self.new (Key.NewOrder key) }

@@ -1,7 +1,8 @@
 //! The nine tables (clause 1.2.1).
 //!
-//! `NineTables` keeps any rows. `Tables` keeps rows that meet the schema, by its invariant: each reference leads to a row (clause
-//! 1.3). So there is no call that sets a row of `Tables` without looking at what refers to it. Only an insert takes memory.
+//! `NineTables` keeps any rows. `Tables` keeps rows that meet the schema, by its invariant: each
+//! reference leads to a row (clause 1.3). So there is no call that sets a row of `Tables` without
+//! looking at what refers to it. Only an insert takes memory.
 ghost use Rattle.std.specs.Prelude.{◌≡◌, ◌↔◌, IsTrue};
 ghost use Rattle.std.specs.Option.{option_copied};
 ghost use Rattle.std.specs.FinMap.{get, empty};
@@ -51,9 +52,9 @@ impl Model for NineTables {
     } };
 }
 
-/// The nine tables, whose rows meet the schema (clauses 1.3 and 1.4): each reference finds its row, each warehouse has
-/// ten districts, and each column is in its range. A key that lost its row keeps its place until that is given up, so that to put
-/// a row back takes no memory.
+/// The nine tables, whose rows meet the schema (clauses 1.3 and 1.4): each reference finds its row,
+/// each warehouse has ten districts, and each column is in its range. A key that lost its row keeps
+/// its place until that is given up, so that to put a row back takes no memory.
 ///
 /// The customers are found by last name too, and the orders by customer.
 #[derive(Drop)]
@@ -103,7 +104,8 @@ impl Model for Tables {
 impl Tables {
     ghost use Rattle.oe_store.specs.Places.{no_rows};
 
-    /// Lets go of the tables. A crate above that let them go out of scope would prove the drop of each of their parts again.
+    /// Lets go of the tables. A crate above that let them go out of scope would prove the drop of
+    /// each of their parts again.
     pub fn discard(self) {
         drop(self);
     }
@@ -213,14 +215,16 @@ impl Tables {
         self.stocks.get(&key)
     }
 
-    /// The rows meet the schema (clauses 1.3 and 1.4). It does nothing: it is for proofs above, which see the rows alone.
+    /// The rows meet the schema (clauses 1.3 and 1.4). It does nothing: it is for proofs above,
+    /// which see the rows alone.
     pub fn schema_holds(&self)
         ensures { Meets (rows self.now) }
     {
         let _known = &self.warehouses;
     }
 
-    /// The numbers in the keys of rows are in their ranges (clause 1.3.1). It does nothing, as `schema_holds`.
+    /// The numbers in the keys of rows are in their ranges (clause 1.3.1). It does nothing, as
+    /// `schema_holds`.
     pub fn numbers_hold(&self)
         ensures { AreNumbered (rows self.now) }
     {

@@ -1,5 +1,5 @@
-//! The undo of changes: an insert's row is taken back, or removed with its key's place; an update's row before is put back, and a
-//! deleted row refilled. None takes memory.
+//! The undo of changes: an insert's row is taken back, or removed with its key's place; an update's
+//! row before is put back, and a deleted row refilled. None takes memory.
 ghost use Rattle.std.specs.Prelude.{◌≡◌, Some, None, IsSome};
 ghost use Rattle.std.specs.FinMap.{get};
 ghost use Rattle.oe_model.specs.Changes.{put_back, InsertedHistory, InsertedNewOrder, InsertedOrder, InsertedOrderLine, UpdatedWarehouse, UpdatedDistrict, UpdatedCustomer, UpdatedOrder, UpdatedOrderLine, UpdatedStock, DeletedNewOrder};
@@ -13,7 +13,8 @@ use oe_rows::{
 };
 
 impl Tables {
-    /// Takes an inserted HISTORY row back, where nothing refers to it, and answers it. Its key keeps its place.
+    /// Takes an inserted HISTORY row back, where nothing refers to it, and answers it. Its key
+    /// keeps its place.
     pub fn take_back_history(&mut self, key: HistoryKey) -> History
         requires there { IsSome (get (rows self.old).histories key) }
         requires schema { Meets (put_back (InsertedHistory key None) (rows self.old)) }
@@ -24,7 +25,8 @@ impl Tables {
         self.histories.blank(&key)
     }
 
-    /// Takes an inserted NEW-ORDER row back, where nothing refers to it, and answers it. Its key keeps its place.
+    /// Takes an inserted NEW-ORDER row back, where nothing refers to it, and answers it. Its key
+    /// keeps its place.
     pub fn take_back_new_order(&mut self, key: NewOrderKey) -> NewOrder
         requires there { IsSome (get (rows self.old).new_orders key) }
         requires schema { Meets (put_back (InsertedNewOrder key None) (rows self.old)) }
@@ -35,7 +37,8 @@ impl Tables {
         self.new_orders.blank(&key)
     }
 
-    /// Takes an inserted ORDER row back, where nothing refers to it, and answers it. Its key keeps its place.
+    /// Takes an inserted ORDER row back, where nothing refers to it, and answers it. Its key keeps
+    /// its place.
     pub fn take_back_order(&mut self, key: OrderKey) -> Order
         requires there { IsSome (get (rows self.old).orders key) }
         requires schema { Meets (put_back (InsertedOrder key None) (rows self.old)) }
@@ -46,7 +49,8 @@ impl Tables {
         self.orders.blank(&key)
     }
 
-    /// Takes an inserted ORDER-LINE row back, where nothing refers to it, and answers it. Its key keeps its place.
+    /// Takes an inserted ORDER-LINE row back, where nothing refers to it, and answers it. Its key
+    /// keeps its place.
     pub fn take_back_order_line(&mut self, key: OrderLineKey) -> OrderLine
         requires there { IsSome (get (rows self.old).order_lines key) }
         requires schema { Meets (put_back (InsertedOrderLine key None) (rows self.old)) }
@@ -57,7 +61,8 @@ impl Tables {
         self.order_lines.blank(&key)
     }
 
-    /// Removes an inserted HISTORY row and its key's place, where nothing refers to the row, and answers it.
+    /// Removes an inserted HISTORY row and its key's place, where nothing refers to the row, and
+    /// answers it.
     pub fn remove_history(&mut self, key: HistoryKey) -> History
         requires there { IsSome (get (rows self.old).histories key) }
         requires schema { Meets (put_back (InsertedHistory key None) (rows self.old)) }
@@ -68,7 +73,8 @@ impl Tables {
         self.histories.remove(&key)
     }
 
-    /// Removes an inserted NEW-ORDER row and its key's place, where nothing refers to the row, and answers it.
+    /// Removes an inserted NEW-ORDER row and its key's place, where nothing refers to the row, and
+    /// answers it.
     pub fn remove_new_order(&mut self, key: NewOrderKey) -> NewOrder
         requires there { IsSome (get (rows self.old).new_orders key) }
         requires schema { Meets (put_back (InsertedNewOrder key None) (rows self.old)) }
@@ -79,7 +85,8 @@ impl Tables {
         self.new_orders.remove(&key)
     }
 
-    /// Removes an inserted ORDER row and its key's place, where nothing refers to the row, and answers it.
+    /// Removes an inserted ORDER row and its key's place, where nothing refers to the row, and
+    /// answers it.
     pub fn remove_order(&mut self, key: OrderKey) -> Order
         requires there { IsSome (get (rows self.old).orders key) }
         requires schema { Meets (put_back (InsertedOrder key None) (rows self.old)) }
@@ -90,7 +97,8 @@ impl Tables {
         self.orders.remove(&key)
     }
 
-    /// Removes an inserted ORDER-LINE row and its key's place, where nothing refers to the row, and answers it.
+    /// Removes an inserted ORDER-LINE row and its key's place, where nothing refers to the row, and
+    /// answers it.
     pub fn remove_order_line(&mut self, key: OrderLineKey) -> OrderLine
         requires there { IsSome (get (rows self.old).order_lines key) }
         requires schema { Meets (put_back (InsertedOrderLine key None) (rows self.old)) }
@@ -101,7 +109,8 @@ impl Tables {
         self.order_lines.remove(&key)
     }
 
-    /// Puts the WAREHOUSE row before an update back in its place, and answers the row that stood there.
+    /// Puts the WAREHOUSE row before an update back in its place, and answers the row that stood
+    /// there.
     pub fn put_back_warehouse(&mut self, key: WarehouseKey, row: Warehouse) -> Warehouse
         requires there { IsSome (get (rows self.old).warehouses key) }
         requires schema { Meets (put_back (UpdatedWarehouse key (Some row)) (rows self.old)) }
@@ -112,7 +121,8 @@ impl Tables {
         self.warehouses.swap(&key, row)
     }
 
-    /// Puts the DISTRICT row before an update back in its place, and answers the row that stood there.
+    /// Puts the DISTRICT row before an update back in its place, and answers the row that stood
+    /// there.
     pub fn put_back_district(&mut self, key: DistrictKey, row: District) -> District
         requires there { IsSome (get (rows self.old).districts key) }
         requires schema { Meets (put_back (UpdatedDistrict key (Some row)) (rows self.old)) }
@@ -123,7 +133,8 @@ impl Tables {
         self.districts.swap(&key, row)
     }
 
-    /// Puts the CUSTOMER row before an update back in its place, and answers the row that stood there.
+    /// Puts the CUSTOMER row before an update back in its place, and answers the row that stood
+    /// there.
     pub fn put_back_customer(&mut self, key: CustomerKey, row: Customer) -> Customer
         requires there { IsSome (get (rows self.old).customers key) }
         requires schema { Meets (put_back (UpdatedCustomer key (Some row)) (rows self.old)) }
@@ -147,7 +158,8 @@ impl Tables {
         self.orders.swap(&key, row)
     }
 
-    /// Puts the ORDER-LINE row before an update back in its place, and answers the row that stood there.
+    /// Puts the ORDER-LINE row before an update back in its place, and answers the row that stood
+    /// there.
     pub fn put_back_order_line(&mut self, key: OrderLineKey, row: OrderLine) -> OrderLine
         requires there { IsSome (get (rows self.old).order_lines key) }
         requires schema { Meets (put_back (UpdatedOrderLine key (Some row)) (rows self.old)) }

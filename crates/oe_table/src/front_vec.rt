@@ -1,7 +1,8 @@
 //! A list whose first elements are taken out in constant time.
 //!
-//! A first element that is taken out is only counted, and stays in memory. When those are half of all, one pass takes them away;
-//! so to take out n first elements costs in proportion to n. Only `insert` and `push` take memory.
+//! A first element that is taken out is only counted, and stays in memory. When those are half of
+//! all, one pass takes them away; so to take out n first elements costs in proportion to n. Only
+//! `insert` and `push` take memory.
 ghost use Rattle.std.specs.Prelude.{◌≡◌, ◌<◌, ◌≤◌, List, [], ◌∷◌, ◌++◌, OnOk, OnErr, length, drop, slice_index_or};
 ghost use Rattle.std.specs.List.{insert, remove};
 ghost use Rattle.std.specs.List.Retain.{IsFiltered};

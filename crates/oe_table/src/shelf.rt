@@ -1,8 +1,9 @@
 //! One shelf of a table: its keys ascend, each with its row or, where it was blanked, none.
 //!
-//! That the keys ascend is asked of each call and is the invariant of the table that has the shelf. By its own invariant a shelf
-//! knows of some slots at its beginning that they are blanked, so that a walk over rows can pass them. Only `put` takes memory, for
-//! a key without a place; where that is refused the shelf is as before.
+//! That the keys ascend is asked of each call and is the invariant of the table that has the shelf.
+//! By its own invariant a shelf knows of some slots at its beginning that they are blanked, so that
+//! a walk over rows can pass them. Only `put` takes memory, for a key without a place; where that
+//! is refused the shelf is as before.
 ghost use Rattle.std.specs.Prelude.{◌≡◌, ◌+◌, ◌<◌, ◌≤◌, ◌↔◌, Some, None, List, Option, [], Err, IsTrue, OnOk, OnErr, is_some, length, take};
 ghost use Rattle.std.specs.List.{insert, list_all, remove};
 ghost use Rattle.std.specs.Option.{option_copied, option_copied_mut, ForSome};
@@ -48,7 +49,8 @@ impl<K, R> Slot<K, R> {
     }
 }
 
-/// The slots of a shelf, in their keys' order. That the keys ascend is kept by the table that has the shelf.
+/// The slots of a shelf, in their keys' order. That the keys ascend is kept by the table that has
+/// the shelf.
 #[derive(Drop)]
 pub struct Shelf<K, R> {
     slots: FrontVec<Slot<K, R>>,
@@ -113,7 +115,8 @@ impl<K, R> Shelf<K, R> {
         self.slots().iter().all(|slot| slot.content.is_some())
     }
 
-    /// Passes the slots at the beginning that have no row, so that no walk over rows meets them again.
+    /// Passes the slots at the beginning that have no row, so that no walk over rows meets them
+    /// again.
     pub(crate) fn pass_blanked(&mut self)
         ensures { self.new ≡ self.old }
     {
@@ -152,7 +155,8 @@ fn search<K: ShelvedKey, R>(slots: &[Slot<K, R>], key: &K) -> Result<usize, usiz
     )
 }
 
-// Where a key stands, or would stand, if 1,024 slots from one on tell: it is among them, or between two of them.
+// Where a key stands, or would stand, if 1,024 slots from one on tell: it is among them, or between
+// two of them.
 fn search_from<K: ShelvedKey, R>(
     slots: &[Slot<K, R>],
     from: usize,
@@ -226,7 +230,8 @@ impl<K: ShelvedKey, R> Shelf<K, R> {
         }
     }
 
-    // About where the key may stand, if keys lie between the first and the last one as evenly as their numbers.
+    // About where the key may stand, if keys lie between the first and the last one as evenly as
+    // their numbers.
     fn guess(&self, key: &K) -> Option<usize> {
         let slots = self.slots();
         let (Some(first), Some(last)) = (slots.first(), slots.last()) else {

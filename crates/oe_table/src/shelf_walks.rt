@@ -1,7 +1,7 @@
 //! Walks over a table of shelves in the keys' order, which take no memory.
 //!
-//! A walk is seen as the list of what is left of it: `Slots` of all places, `Rows` of those that have a row, `Candidates` of all
-//! places with their rows. Nothing can fail.
+//! A walk is seen as the list of what is left of it: `Slots` of all places, `Rows` of those that
+//! have a row, `Candidates` of all places with their rows. Nothing can fail.
 ghost use Rattle.std.specs.Prelude.{Option, List, ◌++◌};
 ghost use Rattle.std.specs.Iterator.{YieldsFirstBy, item_count};
 ghost use Rattle.std.specs.Slice.Iter.{iter_rest};
@@ -13,8 +13,8 @@ use crate::shelf::{Shelf, Slot};
 use std::marker::Model;
 use std::slice::Iter;
 
-/// The keys between two places of a table, with what stands at each: what is left of the first shelf, the shelves
-/// after it, and the beginning of the last.
+/// The keys between two places of a table, with what stands at each: what is left of the first
+/// shelf, the shelves after it, and the beginning of the last.
 #[derive(Drop)]
 pub(crate) struct Slots<'a, K, R> {
     pub(crate) front: Iter<'a, Slot<K, R>>,
@@ -82,7 +82,8 @@ impl<'a, K, R> Iterator for Rows<'a, K, R> {
     }
 }
 
-/// The keys of a range that have a place, in their order, each with its row or, where it was blanked, `None`.
+/// The keys of a range that have a place, in their order, each with its row or, where it was
+/// blanked, `None`.
 #[derive(Drop)]
 pub struct Candidates<'a, K, R> {
     pub(crate) slots: Slots<'a, K, R>,

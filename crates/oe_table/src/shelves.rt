@@ -1,9 +1,11 @@
-//! A table whose keys lie by number: shelf by shelf, and on its shelf each key after those that are less.
+//! A table whose keys lie by number: shelf by shelf, and on its shelf each key after those that are
+//! less.
 //!
-//! By the invariant the keys of the n-th shelf are those that name it, and ascend; so all keys ascend from shelf to shelf. A `Cut`
-//! is a place between two slots, from which walks begin and at which they end. A walk over rows passes what is blanked at the
-//! beginning of its first shelf, and so goes over no row that was taken before all others. Only `put_new` takes memory, for a key without a
-//! place and for the shelves up to its own; where that is refused the table is as before.
+//! By the invariant the keys of the n-th shelf are those that name it, and ascend; so all keys
+//! ascend from shelf to shelf. A `Cut` is a place between two slots, from which walks begin and at
+//! which they end. A walk over rows passes what is blanked at the beginning of its first shelf, and
+//! so goes over no row that was taken before all others. Only `put_new` takes memory, for a key
+//! without a place and for the shelves up to its own; where that is refused the table is as before.
 ghost use Rattle.std.specs.Prelude.{◌≡◌, ◌+◌, ◌<◌, ◌≤◌, ℕ, Some, None, OnOk, OnErr, IsSome, IsTrue, ◌↔◌, List, [], ◌++◌, Option, map as each, vec_len, replicate, length, slice_index_or, take, drop};
 ghost use Rattle.std.specs.List.Sorted.{IsStrictlySortedBy};
 ghost use Rattle.std.specs.Map.{keys_of};
@@ -22,11 +24,12 @@ use oe_values::{NoMemory, ShelvedKey};
 use std::alloc::Global;
 use std::marker::Model;
 
-/// A map from keys to rows, in which a key whose row was taken keeps its place, blanked, until that is given up.
+/// A map from keys to rows, in which a key whose row was taken keeps its place, blanked, until that
+/// is given up.
 ///
 /// Only `put_new` may take memory, and only for a key without a place: so each change of a row, and
-/// what undoes it, can be done without memory. Contracts see a table as the list of its places, and its
-/// rows, `rows_of`, as a finite map.
+/// what undoes it, can be done without memory. Contracts see a table as the list of its places, and
+/// its rows, `rows_of`, as a finite map.
 #[derive(Drop)]
 pub struct Shelves<K: ShelvedKey, R> {
     shelves: Vec<Shelf<K, R>>,
@@ -218,7 +221,8 @@ fn blanked_on<K, R>(shelves: &[Shelf<K, R>], number: usize) -> usize
     }
 }
 
-// How far a walk from one cut to another may begin later than at the first: at what is blanked of the first's shelf.
+// How far a walk from one cut to another may begin later than at the first: at what is blanked of
+// the first's shelf.
 fn row_cut<K, R>(shelves: &[Shelf<K, R>], from: Cut, to: Cut) -> usize
     requires within { from.slot ≤ length (slice_index_or shelves.now from.shelf []) }
     requires ends { to.slot ≤ length (slice_index_or shelves.now to.shelf []) }
@@ -314,8 +318,8 @@ impl<K: ShelvedKey, R> Shelves<K, R> {
 
     /// Puts a row at a key that has none.
     ///
-    /// A blanked key takes its old place, and the answer is then always `Ok`. `NoMemory` comes only for a
-    /// key without a place; the table is then as before, and the row is dropped.
+    /// A blanked key takes its old place, and the answer is then always `Ok`. `NoMemory` comes only
+    /// for a key without a place; the table is then as before, and the row is dropped.
     pub fn put_new(&mut self, key: K, row: R) -> Result<(), NoMemory>
     where
         K: Drop,
@@ -346,7 +350,8 @@ impl<K: ShelvedKey, R> Shelves<K, R> {
         slot.replace(row).unwrap()
     }
 
-    /// The row at a key, to be changed where it stands; a blanked key and one without a place have none.
+    /// The row at a key, to be changed where it stands; a blanked key and one without a place have
+    /// none.
     pub fn row_mut(&mut self, key: &K) -> Option<&mut R>
         ensures* writes_back { sem 𝓛
             (lends_row K.row R.row K.ShelvedKey self.entry key.now result) }
@@ -421,7 +426,8 @@ impl<K: ShelvedKey, R> Shelves<K, R> {
         taken
     }
 
-    /// Gives up the places of all blanked keys. It takes no memory, and writes none of a shelf on which no key is blanked.
+    /// Gives up the places of all blanked keys. It takes no memory, and writes none of a shelf on
+    /// which no key is blanked.
     pub fn sweep(&mut self)
     where
         K: Drop,
@@ -455,7 +461,8 @@ impl<K: ShelvedKey, R> Shelves<K, R> {
         rows_between(&self.shelves, start, end)
     }
 
-    /// The keys that have a place, in their order, each with its row or, where it was blanked, `None`.
+    /// The keys that have a place, in their order, each with its row or, where it was blanked,
+    /// `None`.
     pub fn places(&self) -> Candidates<'_, K, R>
         ensures { result ≡ self.now }
     {

@@ -11,7 +11,8 @@ use oe_rows::{DistrictKey, Scale};
 use oe_values::{CustomerNumber, ItemNumber, LastName, Stamp, Terminal, WarehouseNumber};
 use rand_pcg::Lcg64Xsh32;
 
-/// The customers of a district in the standard's population (clause 1.2.1), and how many of them have different last names.
+/// The customers of a district in the standard's population (clause 1.2.1), and how many of them
+/// have different last names.
 const CUSTOMERS: u32 = 3_000;
 
 const NAMES: u32 = 1_000;
@@ -82,8 +83,8 @@ pub fn customer_number(customers: CustomerNumber, words: &mut Lcg64Xsh32) -> Cus
     number(random(words, 1, count))
 }
 
-/// Draws the number of a last name that some customer has (clause 4.3.2.3), evenly where a district has other than 3,000
-/// customers.
+/// Draws the number of a last name that some customer has (clause 4.3.2.3), evenly where a district
+/// has other than 3,000 customers.
 pub fn name_number(customers: CustomerNumber, words: &mut Lcg64Xsh32) -> u32
     ensures drawn { (result, words.new) ≡ name_number customers words.old }
     ensures within { result < 1_000 }
@@ -123,8 +124,8 @@ pub fn choice(customers: CustomerNumber, words: &mut Lcg64Xsh32) -> CustomerChoi
     CustomerChoice::Number(customer_number(customers, words))
 }
 
-/// Draws the district of a payment's customer (clause 2.5.1.2): in 85 of 100 the payment's own, else one of the other
-/// warehouse.
+/// Draws the district of a payment's customer (clause 2.5.1.2): in 85 of 100 the payment's own,
+/// else one of the other warehouse.
 pub fn residence(scale: &Scale, at: &DistrictKey, words: &mut Lcg64Xsh32) -> DistrictKey
     ensures { (result, words.new) ≡ residence scale.now at.now words.old }
 {

@@ -23,7 +23,8 @@ pub fn random(words: &mut Lcg64Xsh32, low: u32, high: u32) -> u32
     low + words.next_word() % (high - low + 1)
 }
 
-/// Draws a number from `low` to `high`, some more often than others: `NURand(most, low, high)` with the constant C.
+/// Draws a number from `low` to `high`, some more often than others: `NURand(most, low, high)` with
+/// the constant C.
 pub fn nurand(words: &mut Lcg64Xsh32, most: u32, constant: u32, low: u32, high: u32) -> u32
     requires order { low ≤ high }
     requires fits { (high + 1 < 2 ^ 32) × (most + 1 < 2 ^ 32) }

@@ -26,7 +26,8 @@ pub enum Kind {
 }
 
 impl Kind {
-    /// Gives the kind of a terminal's r-th request: the kinds come in turn, in place of the mix of clause 5.2.3.
+    /// Gives the kind of a terminal's r-th request: the kinds come in turn, in place of the mix of
+    /// clause 5.2.3.
     pub fn at(r: RequestNumber) -> Kind
         ensures { result ≡ kind_of r }
     {

@@ -10,8 +10,8 @@ use oe_rows::Scale;
 use oe_values::{LineCount, Lines, Terminal, WarehouseNumber};
 use rand_pcg::Lcg64Xsh32;
 
-/// Draws a line (clause 2.4.1.5): in 1 of 100 the other warehouse supplies it. An item past the last one is unused; another
-/// is drawn in its place all the same.
+/// Draws a line (clause 2.4.1.5): in 1 of 100 the other warehouse supplies it. An item past the
+/// last one is unused; another is drawn in its place all the same.
 fn line(
     scale: &Scale,
     warehouse: WarehouseNumber,

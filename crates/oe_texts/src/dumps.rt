@@ -1,4 +1,5 @@
-//! The rows of dumped tables, one a line: the columns of clause 1.3.1 parted by one tab byte, the key's columns first.
+//! The rows of dumped tables, one a line: the columns of clause 1.3.1 parted by one tab byte, the
+//! key's columns first.
 ghost use Rattle.std.specs.Prelude.{◌≡◌, ◌≤◌, ◌+◌, ◌++◌, length};
 ghost use Rattle.arrayvec.specs.ArrayVec.{array_vec_len};
 ghost use Rattle.oe_texts.specs.Column.{line_of, tabbed};

@@ -1,5 +1,5 @@
-//! The texts of answers and of dumped rows, appended to a buffer of fixed size. Nothing here takes memory. Clauses of
-//! the standard are those of TPC Benchmark C 5.11.
+//! The texts of answers and of dumped rows, appended to a buffer of fixed size. Nothing here takes
+//! memory. Clauses of the standard are those of TPC Benchmark C 5.11.
 #![tactic(auto)]
 
 pub mod answers;

@@ -10,8 +10,9 @@ use oe_values::Moment;
 use std::snapshot::Snapshot;
 
 impl Undo {
-    /// Seals an open segment, which the newest commit has from then on, and answers the commit's moment. Links to its records lead
-    /// to that commit then. It takes no memory, and keeps no byte of request and reply.
+    /// Seals an open segment, which the newest commit has from then on, and answers the commit's
+    /// moment. Links to its records lead to that commit then. It takes no memory, and keeps no byte
+    /// of request and reply.
     pub fn seal(
         &mut self,
         segment: Segment,
@@ -30,8 +31,9 @@ impl Undo {
         moment
     }
 
-    /// Gives up the segment of the oldest commit that is kept, and answers whose it was; none exactly where none is. Its terminal
-    /// counts it still, and a link to one of its records leads nowhere. It takes no memory.
+    /// Gives up the segment of the oldest commit that is kept, and answers whose it was; none
+    /// exactly where none is. Its terminal counts it still, and a link to one of its records leads
+    /// nowhere. It takes no memory.
     pub fn drop_oldest(&mut self) -> Option<SegmentOwner>
         ensures oldest { result
             ≡ option_map owner_of
@@ -48,9 +50,9 @@ impl Undo {
         Some(owner)
     }
 
-    /// Opens the segment of the newest commit again, where no segment is open, and answers it; none exactly where no commit is kept.
-    /// Its terminal no longer counts it, the moment before it is the newest, and the links to its records are its terminal's. It
-    /// takes no memory.
+    /// Opens the segment of the newest commit again, where no segment is open, and answers it; none
+    /// exactly where no commit is kept. Its terminal no longer counts it, the moment before it is
+    /// the newest, and the links to its records are its terminal's. It takes no memory.
     pub fn reopen_newest(&mut self) -> Option<Segment>
         requires { (t : ℕ) → active_at self.old.log t ≡ None }
         ensures segment { result

@@ -1,5 +1,5 @@
-//! Links as they are followed: where a key's newest record lies, and whose it is by now. An `OwnedLink` is kept of each.
-//! Nothing here takes memory or can fail.
+//! Links as they are followed: where a key's newest record lies, and whose it is by now. An
+//! `OwnedLink` is kept of each. Nothing here takes memory or can fail.
 ghost use Rattle.std.specs.Prelude.{◌≡◌};
 ghost use Rattle.oe_undo.specs.Chains.{link_from, previous_by, previous_of};
 

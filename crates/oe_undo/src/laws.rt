@@ -1,4 +1,5 @@
-//! What keeps chains, and what a key without records is known by. Each function has an empty body and carries one law.
+//! What keeps chains, and what a key without records is known by. Each function has an empty body
+//! and carries one law.
 ghost use Rattle.oe_undo.specs.Laws.{Calls_keep_chains, Ends_without_records, Moments_begin_at_one};
 
 /// Each call of a log keeps the chains, where the links of keys are set so.

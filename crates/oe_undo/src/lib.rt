@@ -1,11 +1,12 @@
 //! The undo log on the ring, with what leads from each key to its records there.
 //!
-//! The crate keeps the links of keys to their newest records (`links`, in places by the keys' numbers),
-//! chains, which are all records of a key from its link on (`holders`, `laws`), walks along a chain, by
-//! which reads of a moment find its rows (`walks`), and log and links as one (`undo`, `pushes`,
-//! `commits`): each record is pushed with its key's link, and the link leads to it then. By the
-//! invariant of `Undo` all records of each key are such a chain. A call that is refused memory has
-//! changed nothing. A test pushes a record, takes it off, and pushes it again for a commit:
+//! The crate keeps the links of keys to their newest records (`links`, in places by the keys'
+//! numbers), chains, which are all records of a key from its link on (`holders`, `laws`), walks
+//! along a chain, by which reads of a moment find its rows (`walks`), and log and links as one
+//! (`undo`, `pushes`, `commits`): each record is pushed with its key's link, and the link leads to
+//! it then. By the invariant of `Undo` all records of each key are such a chain. A call that is
+//! refused memory has changed nothing. A test pushes a record, takes it off, and pushes it again
+//! for a commit:
 //!
 //! ```
 //! push_order(undo, terminal, key, &row)?;

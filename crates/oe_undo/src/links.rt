@@ -1,8 +1,9 @@
 //! Links by key.
 //!
-//! A key of HISTORY has its place in a table of keys, and one of the other tables by its numbers, so that a place takes no memory that is
-//! touched before the key has its first record. Only `add_place` and `insert` take memory, for a key without a place; where that is refused
-//! the links are as before.
+//! A key of HISTORY has its place in a table of keys, and one of the other tables by its numbers,
+//! so that a place takes no memory that is touched before the key has its first record. Only
+//! `add_place` and `insert` take memory, for a key without a place; where that is refused the links
+//! are as before.
 ghost use Rattle.std.specs.Prelude.{◌≡◌, Some, None, IsSome, OnOk, OnErr, cond};
 ghost use Rattle.std.specs.Ordering.{eq_by_cmp};
 ghost use Rattle.std.specs.FinMap.{get};
@@ -23,8 +24,8 @@ use oe_values::NoMemory;
 use std::alloc::Global;
 use std::marker::Model;
 
-/// Where a key's newest record lies, and which transaction's it is. Whether that is open, or at which moment it committed, is the log's
-/// to know, so that no commit changes a link.
+/// Where a key's newest record lies, and which transaction's it is. Whether that is open, or at
+/// which moment it committed, is the log's to know, so that no commit changes a link.
 #[derive(Clone, Copy, PartialEq, Eq)]
 pub struct OwnedLink {
     pub address: RecordAddress,
@@ -138,7 +139,8 @@ fn is_not_above<K: NumberedKey>(own: &K, key: &K) -> bool
     own.shelf() == key.shelf() && key.number() <= own.number()
 }
 
-/// Whether the second key gets a place where the first does: it is that key, or one before it on its shelf.
+/// Whether the second key gets a place where the first does: it is that key, or one before it on
+/// its shelf.
 pub fn comes_with(own: &Key, key: &Key) -> bool
     ensures { result ≡ comes_with own.now key.now }
 {
@@ -195,8 +197,8 @@ impl Links {
         }
     }
 
-    /// Gives a key without a place an empty one, and those that come with it; `NoMemory` where memory for them was refused. A key that has
-    /// a place keeps it.
+    /// Gives a key without a place an empty one, and those that come with it; `NoMemory` where
+    /// memory for them was refused. A key that has a place keeps it.
     pub fn add_place(&mut self, key: &Key) -> Result<(), NoMemory>
         ensures given { OnOk result (GivesPlaces self.old self.new key.now) }
         ensures own { OnOk result (HasPlace self.new key.now) }
@@ -216,7 +218,8 @@ impl Links {
         }
     }
 
-    /// The place of a key that has one, with the key's link in it, to be set there. It takes no memory.
+    /// The place of a key that has one, with the key's link in it, to be set there. It takes no
+    /// memory.
     #[inline(always)]
     pub fn place_mut(&mut self, key: &Key) -> Option<&mut Option<OwnedLink>>
         ensures* writes_back { sem 𝓛 (lends_link self.entry key.now result) }
@@ -235,15 +238,16 @@ impl Links {
         }
     }
 
-    /// Gives up the place of a HISTORY key's link where it is empty: places of all other keys lie by their numbers, and stay. It takes
-    /// no memory.
+    /// Gives up the place of a HISTORY key's link where it is empty: places of all other keys lie
+    /// by their numbers, and stay. It takes no memory.
     pub fn give_up_history(&mut self, key: &HistoryKey)
         ensures { GivesUpLink self.old self.new (History key.now) }
     {
         give_up_empty(&mut self.histories, key);
     }
 
-    /// Gives a key without a place one with its link, and those that come with it; `NoMemory` where memory for them was refused.
+    /// Gives a key without a place one with its link, and those that come with it; `NoMemory` where
+    /// memory for them was refused.
     pub fn insert(&mut self, key: &Key, link: OwnedLink) -> Result<(), NoMemory>
         requires { place_of self.old key.now ≡ None }
         ensures inserted { OnOk result (InsertsLink self.old self.new key.now (Some link)) }

@@ -9,7 +9,8 @@ use std::alloc::Global;
 use std::collections::VecDeque;
 use std::marker::Model;
 
-/// The moments of a terminal's commits that are kept, the newest first, and for how many more there is room.
+/// The moments of a terminal's commits that are kept, the newest first, and for how many more there
+/// is room.
 #[derive(Drop)]
 pub(crate) struct TerminalMoments {
     newest_first: VecDeque<Moment>,
@@ -75,7 +76,8 @@ impl TerminalMoments {
         let _oldest = self.newest_first.pop_back();
     }
 
-    /// Answers the moment of the commit with `later` later ones; none where that commit is not kept.
+    /// Answers the moment of the commit with `later` later ones; none where that commit is not
+    /// kept.
     #[inline(always)]
     pub(crate) fn at(&self, later: usize) -> Option<Moment>
         ensures { result ≡ slice_get self.now.moments later }

@@ -1,6 +1,7 @@
 //! Places shelf by shelf.
 //!
-//! A place is named by its shelf and its number there. Only `reach` takes memory, and may be refused it.
+//! A place is named by its shelf and its number there. Only `reach` takes memory, and may be
+//! refused it.
 ghost use Rattle.std.specs.Prelude.{◌≡◌, ◌<◌, ◌≤◌, ◌++◌, ℕ, [], None, vec_len, replicate, OnOk, OnErr};
 ghost use Rattle.std.specs.Borrow.{sem};
 ghost use Rattle.std.specs.Option.{option_copied_mut};
@@ -47,7 +48,8 @@ fn reach_shelf<T: Drop>(
     Ok(())
 }
 
-// Makes places up to that number of a shelf; where memory for them was refused there may be shelves more, without a place.
+// Makes places up to that number of a shelf; where memory for them was refused there may be shelves
+// more, without a place.
 fn reach_in<T: Drop>(
     shelves: &mut Vec<PlaceShelf<T>>,
     alloc: Global,
@@ -102,7 +104,8 @@ impl<T> Places<T> {
         self.shelves.get_mut(shelf)?.place_mut(number)
     }
 
-    /// Makes places, which are empty, up to that number of a shelf, where there are fewer; `NoMemory` where memory for them was refused.
+    /// Makes places, which are empty, up to that number of a shelf, where there are fewer;
+    /// `NoMemory` where memory for them was refused.
     pub(crate) fn reach(&mut self, shelf: usize, number: usize) -> Result<(), NoMemory>
     where
         T: Drop,

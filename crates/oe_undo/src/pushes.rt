@@ -29,7 +29,8 @@ pub enum CantPush {
     NoMemory,
 }
 
-// Lends the value behind a `&mut`. To read it without a call is more than the borrow checker's proof can do here.
+// Lends the value behind a `&mut`. To read it without a call is more than the borrow checker's
+// proof can do here.
 #[inline(always)]
 fn shared<T>(lent: &mut T) -> &T
     ensures* stays { sem 𝓛 (Rests T.row lent.entry (λ v. v ≡ lent.entry.now)) }
@@ -48,12 +49,15 @@ fn lead_from(lent: &mut LinkedRecord<'_>, link: Option<Link>)
 }
 
 impl Undo {
-    /// Appends a record to an open segment, and has its key's link lead to it. What leads to the previous record of its row is written
-    /// into it first: its key's link as it was. No other open transaction has a record of the key, and no other record is at its address.
-    /// The row before an update is written from where it lies. A key that has a place for its link takes no memory.
+    /// Appends a record to an open segment, and has its key's link lead to it. What leads to the
+    /// previous record of its row is written into it first: its key's link as it was. No other open
+    /// transaction has a record of the key, and no other record is at its address. The row before
+    /// an update is written from where it lies. A key that has a place for its link takes no
+    /// memory.
     ///
-    /// `Full` exactly where the record fits neither the rest of the segment's newest extent nor a free one. `NoMemory`: the record fits, its key
-    /// has no place for a link, and memory for that was refused. The log and the links are as before then.
+    /// `Full` exactly where the record fits neither the rest of the segment's newest extent nor a
+    /// free one. `NoMemory`: the record fits, its key has no place for a link, and memory for that
+    /// was refused. The log and the links are as before then.
     #[inline(always)]
     pub fn push(&mut self, segment: Segment, lent: &mut LinkedRecord<'_>) -> Result<(), CantPush>
         requires open { IsSome (active_at self.old.log segment) }
@@ -122,8 +126,8 @@ impl Undo {
         }
     }
 
-    /// Takes the newest record of an open segment off, where it has one, and gives the record's key its previous link back. It takes
-    /// no memory.
+    /// Takes the newest record of an open segment off, where it has one, and gives the record's key
+    /// its previous link back. It takes no memory.
     #[inline(never)]
     pub fn pop(&mut self, segment: Segment)
         requires { IsSome (active_at self.old.log segment) }
@@ -133,7 +137,8 @@ impl Undo {
         let _taken = self.take_newest(segment);
     }
 
-    /// The newest record of an open segment, which is taken off as by `pop`; none exactly where it has none.
+    /// The newest record of an open segment, which is taken off as by `pop`; none exactly where it
+    /// has none.
     pub fn take_newest(&mut self, segment: Segment) -> Option<OwnRecord>
         requires { IsSome (active_at self.old.log segment) }
         ensures newest { option_map record_of_own result

@@ -1,7 +1,7 @@
 //! The places of one shelf.
 //!
-//! By the invariant there is room in memory for as many as there are. Those behind the last that was met are empty, and stand in no
-//! memory yet. Only `reach` takes memory, and may be refused it.
+//! By the invariant there is room in memory for as many as there are. Those behind the last that
+//! was met are empty, and stand in no memory yet. Only `reach` takes memory, and may be refused it.
 ghost use Rattle.std.specs.Prelude.{◌≡◌, ◌<◌, ◌≤◌, ◌+◌, [], length, slice_get, vec_capacity, OnOk, OnErr};
 ghost use Rattle.std.specs.Borrow.{sem};
 ghost use Rattle.std.specs.Option.{option_copied_mut};
@@ -69,7 +69,8 @@ impl<T> PlaceShelf<T> {
         }
     }
 
-    /// Answers the content of the place of that number; none where it is empty, or there is no such place.
+    /// Answers the content of the place of that number; none where it is empty, or there is no such
+    /// place.
     #[inline(always)]
     pub(crate) fn content(&self, number: usize) -> Option<T>
     where
@@ -97,7 +98,8 @@ impl<T> PlaceShelf<T> {
         Some(&mut self.met[number])
     }
 
-    /// Makes places, which are empty, up to that number, where there are fewer; `NoMemory` where memory for them was refused.
+    /// Makes places, which are empty, up to that number, where there are fewer; `NoMemory` where
+    /// memory for them was refused.
     #[inline(never)]
     pub(crate) fn reach(&mut self, number: usize) -> Result<(), NoMemory>
         requires { number < 4_294_967_296 }

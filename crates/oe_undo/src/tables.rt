@@ -1,4 +1,5 @@
-//! The links of one table, whose keys have their places by their numbers. Only `reach` and `insert` take memory, and may be refused it.
+//! The links of one table, whose keys have their places by their numbers. Only `reach` and `insert`
+//! take memory, and may be refused it.
 ghost use Rattle.std.specs.Prelude.{◌≡◌, None, IsSome, Option, OnOk, OnErr};
 ghost use Rattle.std.specs.Borrow.{sem};
 ghost use Rattle.std.specs.Option.{option_copied_mut};

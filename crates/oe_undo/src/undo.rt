@@ -24,9 +24,11 @@ use std::marker::Model;
 
 /// The segments of undo records, with the link of each key to its newest record.
 ///
-/// A link keeps the transaction of its record, and what became of that is looked up, so that no commit changes a link. By the invariant
-/// each key's link, looked up so, leads along all records of the key, from the newest on. All memory for records is taken by `new`, that
-/// for a segment's later commit by `open_segment`, and that for a key's link by `add_place`, or by `push` where the key has no place.
+/// A link keeps the transaction of its record, and what became of that is looked up, so that no
+/// commit changes a link. By the invariant each key's link, looked up so, leads along all records
+/// of the key, from the newest on. All memory for records is taken by `new`, that for a segment's
+/// later commit by `open_segment`, and that for a key's link by `add_place`, or by `push` where the
+/// key has no place.
 #[derive(Drop)]
 pub struct Undo {
     pub(crate) segments: Log,
@@ -91,7 +93,8 @@ pub(crate) fn followed_in(
 }
 
 impl Undo {
-    /// Makes a log without a segment, a commit or a link, on a ring of `extents` extents; `NoMemory` where memory was refused.
+    /// Makes a log without a segment, a commit or a link, on a ring of `extents` extents;
+    /// `NoMemory` where memory was refused.
     pub fn new(alloc: Global, extents: ExtentCount) -> Result<Undo, NoMemory>
         ensures log { IfOk result (λ u. u.log ≡ no_segments extents) }
         ensures links { IfOk result (λ u. u.links ≡ no_links) }
@@ -108,7 +111,8 @@ impl Undo {
         })
     }
 
-    /// Lets go of the log. A crate above that let it go out of scope would prove the drop of each of its parts again.
+    /// Lets go of the log. A crate above that let it go out of scope would prove the drop of each
+    /// of its parts again.
     pub fn discard(self) {
         drop(self);
     }
@@ -129,7 +133,8 @@ impl Undo {
         followed_in(&self.segments, &self.moments, self.links.link(key))
     }
 
-    /// Each key's link leads along the key's records. It does nothing: it is for proofs above, which see no invariant.
+    /// Each key's link leads along the key's records. It does nothing: it is for proofs above,
+    /// which see no invariant.
     #[inline(always)]
     pub fn is_chained(&self)
         ensures whole { IsWhole self.now.log }
@@ -139,8 +144,8 @@ impl Undo {
         let _horizon = self.segments.horizon();
     }
 
-    /// Gives a key without a place for its link an empty one, and those that come with it; `NoMemory` where memory for them was refused.
-    /// A key that has one keeps it.
+    /// Gives a key without a place for its link an empty one, and those that come with it;
+    /// `NoMemory` where memory for them was refused. A key that has one keeps it.
     pub fn add_place(&mut self, key: &Key) -> Result<(), NoMemory>
         ensures log { self.new.log ≡ self.old.log }
         ensures given { OnOk result (GivesPlaces self.old.links self.new.links key.now) }
@@ -151,8 +156,8 @@ impl Undo {
         self.links.add_place(key)
     }
 
-    /// Gives up the place of a HISTORY key's link where it is empty: places of all other keys lie by their numbers, and stay. It takes
-    /// no memory.
+    /// Gives up the place of a HISTORY key's link where it is empty: places of all other keys lie
+    /// by their numbers, and stay. It takes no memory.
     pub fn give_up_history(&mut self, key: &HistoryKey)
         ensures log { self.new.log ≡ self.old.log }
         ensures links { GivesUpLink self.old.links self.new.links (History key.now) }
@@ -161,8 +166,9 @@ impl Undo {
         self.links.give_up_history(key)
     }
 
-    /// Opens a segment without records for a terminal that has none open and fewer than 4,294,967,295 commits, and takes all memory
-    /// that its commit will need; `NoMemory` where that was refused.
+    /// Opens a segment without records for a terminal that has none open and fewer than
+    /// 4,294,967,295 commits, and takes all memory that its commit will need; `NoMemory` where that
+    /// was refused.
     pub fn open_segment(&mut self, terminal: Terminal) -> Result<Segment, NoMemory>
         requires closed { active_at self.old.log terminal ≡ None }
         requires counted { count_at self.old.log terminal < 4_294_967_295 }
@@ -185,7 +191,8 @@ impl Undo {
         self.segments.drop_segment(segment)
     }
 
-    /// The link to where a previous one leads, which a record of an open segment has; none where its commit was given up.
+    /// The link to where a previous one leads, which a record of an open segment has; none where
+    /// its commit was given up.
     pub(crate) fn owned(&self, segment: Segment, previous: Previous) -> Option<OwnedLink>
         requires open { IsSome (active_at self.now.log segment) }
         requires made { IsMade self.now.log (link_from (Open segment) previous) }

@@ -1,5 +1,5 @@
-//! Walks along a key's records, the newest first. A record is read at its address in its holder's segment, and tells where the next
-//! one lies. No row is read, and nothing takes memory.
+//! Walks along a key's records, the newest first. A record is read at its address in its holder's
+//! segment, and tells where the next one lies. No row is read, and nothing takes memory.
 ghost use Rattle.std.specs.Prelude.{◌≡◌, ◌-◌, ◌≤◌};
 ghost use Rattle.oe_log.specs.Records.{HasAddress, IsRecordAt};
 ghost use Rattle.oe_log.specs.Log.{total_count};
@@ -15,7 +15,8 @@ use oe_log::Ticks;
 use oe_rows::Key;
 use oe_values::Moment;
 
-/// Whether a record of this holder is put back on the way to the moment: it is open, or of a later commit.
+/// Whether a record of this holder is put back on the way to the moment: it is open, or of a later
+/// commit.
 fn is_later(holder: &Holder, moment: Moment) -> bool
     ensures { result ≡ is_later moment holder.now }
 {
@@ -26,8 +27,8 @@ fn is_later(holder: &Holder, moment: Moment) -> bool
 }
 
 impl Undo {
-    /// The record where a link leads, as it lies in its holder's segment, with what leads to the previous one of its key. It ticks once.
-    /// No row is read, and no memory is taken.
+    /// The record where a link leads, as it lies in its holder's segment, with what leads to the
+    /// previous one of its key. It ticks once. No row is read, and no memory is taken.
     pub fn read_record(&self, link: &Link, ticks: &mut Ticks) -> (Previous, StoredRecord<'_>)
         requires { HasAddress (records_by self.now.log link.now.holder) link.now.address }
         ensures record { IsRecordAt (records_by self.now.log link.now.holder) link.now.address
@@ -45,9 +46,10 @@ impl Undo {
         }
     }
 
-    /// Answers the record that has the row which a key had at a moment that is kept: the oldest of the key's records that are open or of
-    /// a later commit; none where the row of that moment still stands. It reads these records from the key's link on, ticks once for
-    /// each, and reads no other.
+    /// Answers the record that has the row which a key had at a moment that is kept: the oldest of
+    /// the key's records that are open or of a later commit; none where the row of that moment
+    /// still stands. It reads these records from the key's link on, ticks once for each, and reads
+    /// no other.
     pub fn oldest_after(
         &self,
         key: &Key,

@@ -54,8 +54,8 @@ fn digits_from(start: u64, text: &[u8]) -> Option<(u64, &[u8])>
     Some((value, &text[text.len()..]))
 }
 
-/// The number of at most 15 digits, without a leading zero, at the front, and what follows its digits. After a 0 that may be
-/// a digit.
+/// The number of at most 15 digits, without a leading zero, at the front, and what follows its
+/// digits. After a 0 that may be a digit.
 #[inline]
 #[tactic(auto, unfolding(crate::specs::Front::decimal_of))]
 pub fn decimal(text: &[u8]) -> Option<(u64, &[u8])>

@@ -1,7 +1,7 @@
 //! Short lists, which lie in the value itself.
 //!
-//! By its invariant a list has `LEAST` to `MOST` values. Nothing takes memory; `read` gives `None` for a
-//! list of another length.
+//! By its invariant a list has `LEAST` to `MOST` values. Nothing takes memory; `read` gives `None`
+//! for a list of another length.
 ghost use Rattle.std.specs.Prelude.{◌≡◌, ◌+◌, ◌<◌, ◌≤◌, ◌↔◌, List, [], ◌∷◌, ◌++◌, length, IsSome, IfSome};
 ghost use Rattle.std.specs.Cmp.{partial_equiv_from_equiv};
 ghost use Rattle.std.specs.Cmp.Lexicographic.{pointwise, lists_equiv, lists_per};

@@ -1,8 +1,9 @@
 //! Numbers, money and moments in their ranges.
 //!
-//! Each type keeps its range by its invariant, and is seen as its number: money as cents, a rate as ten-thousandths. `new` gives
-//! `None` exactly where the number is out of the range. Nothing else can fail, and nothing takes memory. A clause beside a type
-//! says which column or input is meant; which of the ranges are the standard's is in docs/MODEL.md.
+//! Each type keeps its range by its invariant, and is seen as its number: money as cents, a rate as
+//! ten-thousandths. `new` gives `None` exactly where the number is out of the range. Nothing else
+//! can fail, and nothing takes memory. A clause beside a type says which column or input is meant;
+//! which of the ranges are the standard's is in docs/MODEL.md.
 ghost use Rattle.std.specs.Prelude.{◌≡◌, ◌↔◌, ◌≤◌, ℕ, ℤ, IsSome, IfSome};
 ghost use Rattle.oe_values.specs.Number.{IsWithin};
 
@@ -48,7 +49,8 @@ impl<const LOW: u32, const HIGH: u32> Number<LOW, HIGH> {
     }
 }
 
-/// A tax or a discount in ten-thousandths, from 0.0000 to 0.9999 (W_TAX, D_TAX, C_DISCOUNT; clause 1.3.1).
+/// A tax or a discount in ten-thousandths, from 0.0000 to 0.9999 (W_TAX, D_TAX, C_DISCOUNT; clause
+/// 1.3.1).
 pub type Rate = Number<0, 9_999>;
 
 /// W_ID (clause 1.3.1).
@@ -105,7 +107,8 @@ pub type HistoryTerminal = Number<0, TERMINALS>;
 /// How many extents of 4,096 bytes the undo log has.
 pub type ExtentCount = Number<2, 4_096>;
 
-/// The number of a transaction among its terminal's, from 1 on, in a history row's key. The population's begin at 1 too.
+/// The number of a transaction among its terminal's, from 1 on, in a history row's key. The
+/// population's begin at 1 too.
 pub type TransactionNumber = Number<0, 4_294_967_295>;
 
 /// The ordinal of a history row in its transaction, which inserts one.
@@ -117,7 +120,8 @@ pub type RequestedItem = Number<1, 999_999>;
 /// The threshold of a stock level (clause 2.8.1.2).
 pub type Threshold = Number<10, 20>;
 
-/// The number of items below a threshold, among those of at most 20 orders of at most 15 lines (clause 2.8.2.2).
+/// The number of items below a threshold, among those of at most 20 orders of at most 15 lines
+/// (clause 2.8.2.2).
 pub type LowStock = Number<0, 300>;
 
 /// H_AMOUNT in cents as a payment asks for it, from 1.00 to 5,000.00 (clause 2.5.1.3).

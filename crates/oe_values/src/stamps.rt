@@ -1,7 +1,7 @@
 //! Stamps.
 //!
-//! A stamp is seen as its seconds since 1900-01-01T00:00:00; by the invariant it lies before 2101. `read` gives `None` exactly for a text
-//! that is no stamp. Nothing takes memory.
+//! A stamp is seen as its seconds since 1900-01-01T00:00:00; by the invariant it lies before 2101.
+//! `read` gives `None` exactly for a text that is no stamp. Nothing takes memory.
 ghost use Rattle.std.specs.Prelude.{◌≡◌, ◌+◌, ◌*◌, ◌<◌, ◌≤◌, ◌∷◌, ◌++◌, ◌↔◌, ℕ, List, IsSome, IsNone, IfSome, Some, pos, ◌+ℤ◌, ◌≤ℤ◌, unsigned_abs};
 ghost use Rattle.std.specs.List.{All};
 ghost use Rattle.std.specs.Option.{option_map};
@@ -100,7 +100,8 @@ fn seconds_at(time: (u8, u8, u8)) -> Option<u32>
     Some(u32::from(hour) * 3600 + u32::from(minute) * 60 + u32::from(second))
 }
 
-/// The seconds after 1900-01-01T00:00:00 at which the calendar and the clock have these numbers, before 2101.
+/// The seconds after 1900-01-01T00:00:00 at which the calendar and the clock have these numbers,
+/// before 2101.
 #[inline]
 fn count(date: (u16, u8, u8), time: (u8, u8, u8)) -> Option<u64>
     ensures some { IfSome result (IsCounted date.0 date.1 date.2 time.0 time.1 time.2) }
@@ -183,7 +184,8 @@ impl Model for Stamp {
 }
 
 impl Stamp {
-    /// Reads `YYYY-MM-DDTHH:MM:SS`: a date of the calendar from 1900 to 2100, and a time with seconds 00 to 59.
+    /// Reads `YYYY-MM-DDTHH:MM:SS`: a date of the calendar from 1900 to 2100, and a time with
+    /// seconds 00 to 59.
     pub fn read(text: &str) -> Option<Stamp>
         ensures some { IfSome result (SaysStamp text.now) }
         ensures reads { (n : ℕ) → SaysStamp text.now n → result ≡ Some n }

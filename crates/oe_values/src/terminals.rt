@@ -1,4 +1,5 @@
-//! What is kept for each terminal, by its number. Only `empty_slots` takes memory, and may be refused it.
+//! What is kept for each terminal, by its number. Only `empty_slots` takes memory, and may be
+//! refused it.
 ghost use Rattle.std.specs.Prelude.{◌≡◌, ◌≤◌, suc, None, IfOk, length, replicate, vec_len, slice_index_or};
 ghost use Rattle.std.specs.Borrow.{sem};
 ghost use Rattle.oe_values.specs.declared.numbers.TheConstants.{TERMINALS};
@@ -69,7 +70,8 @@ impl<T> PerTerminal<T> {
     }
 }
 
-/// Makes an empty slot for each number from 0 to 64, whatever is to stand there; an error where memory is refused.
+/// Makes an empty slot for each number from 0 to 64, whatever is to stand there; an error where
+/// memory is refused.
 pub fn empty_slots<T>(alloc: Global) -> Result<PerTerminal<Option<T>>, AllocError>
     ensures { IfOk result (λ p. p ≡ replicate (suc TERMINALS) None) }
 {

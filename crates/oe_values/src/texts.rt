@@ -1,8 +1,8 @@
 //! Texts of printable ASCII.
 //!
-//! A text lies in the value itself and is seen as its bytes, 32 to 126 each. By the invariants of the types its length is in the
-//! range, and a name of a request has letters (and digits) alone. `read` gives `None` exactly for other bytes. Nothing else can
-//! fail, and nothing takes memory.
+//! A text lies in the value itself and is seen as its bytes, 32 to 126 each. By the invariants of
+//! the types its length is in the range, and a name of a request has letters (and digits) alone.
+//! `read` gives `None` exactly for other bytes. Nothing else can fail, and nothing takes memory.
 ghost use Rattle.std.specs.Prelude.{◌≡◌, ◌↔◌, ◌≤◌, List, ℕ, length, IsTrue, IsSome, IfSome, nat_eq, take, ◌++◌};
 ghost use Rattle.std.specs.List.{All};
 ghost use Rattle.std.specs.Cmp.{partial_equiv_from_equiv};

@@ -86,7 +86,8 @@ fn balance_of(
     }
 }
 
-/// The money and counts of the row that a record has, or of the one that stands where there is no record.
+/// The money and counts of the row that a record has, or of the one that stands where there is no
+/// record.
 fn account_of(
     tables: &Tables,
     key: &CustomerKey,

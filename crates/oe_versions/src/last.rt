@@ -21,7 +21,8 @@ fn is_own(key: &OrderKey, order: &Order, customer: &CustomerKey) -> bool
 }
 
 impl<'a> Version<'a> {
-    /// The order with the largest O_ID that a customer had, with its key, if there was any (clause 2.6.2.2).
+    /// The order with the largest O_ID that a customer had, with its key, if there was any (clause
+    /// 2.6.2.2).
     pub fn last_order(&self, customer: CustomerKey) -> Option<(OrderKey, Order)>
         requires { Stand self.now.tables self.now.log }
         ensures { result ≡ last_order customer (rows_of self.now).orders }

@@ -1,8 +1,9 @@
-//! What of a row never changes, and what holds at each moment. Each function has an empty body and carries one law.
+//! What of a row never changes, and what holds at each moment. Each function has an empty body and
+//! carries one law.
 ghost use Rattle.oe_versions.specs.Lasting.{Rows_last, Names_last, Versions_meet};
 
-/// What a row keeps at all moments: it stays where it was inserted, but for one of NEW-ORDER, and one of HISTORY stays as it is; a
-/// customer has its names, and an order its customer.
+/// What a row keeps at all moments: it stays where it was inserted, but for one of NEW-ORDER, and
+/// one of HISTORY stays as it is; a customer has its names, and an order its customer.
 pub fn rows_last()
     ensures { Rows_last }
 {}

@@ -1,5 +1,6 @@
-//! The record that has a row of a version: the oldest of its key that is put back on the way to the moment. It is looked for along the
-//! key's own records, from the newest on: no row is read, and nothing takes memory.
+//! The record that has a row of a version: the oldest of its key that is put back on the way to the
+//! moment. It is looked for along the key's own records, from the newest on: no row is read, and
+//! nothing takes memory.
 ghost use Rattle.std.specs.Prelude.{◌≡◌};
 ghost use Rattle.oe_undo.specs.Held.{held, of_key, count_later};
 ghost use Rattle.oe_log.specs.Ticks.{ticked};
@@ -12,8 +13,8 @@ use oe_rows::Key;
 use oe_undo::{Ticks, Undo};
 use oe_values::Moment;
 
-/// The record that has the row which the key had at a moment that is kept, or none where that row stands. Each record that is read
-/// ticks: the key's own that are open or of later commits.
+/// The record that has the row which the key had at a moment that is kept, or none where that row
+/// stands. Each record that is read ticks: the key's own that are open or of later commits.
 #[tactic(auto, using(crate::proofs::FoundFacts::is_kept, crate::proofs::FoundFacts::is_made, crate::proofs::FoundFacts::is_found))]
 fn found_since<'a>(
     undo: &'a Undo,
@@ -31,7 +32,8 @@ fn found_since<'a>(
 }
 
 impl<'a> Version<'a> {
-    /// The record that has the key's row, or none where that row stands. Each record that is read ticks.
+    /// The record that has the key's row, or none where that row stands. Each record that is read
+    /// ticks.
     pub(crate) fn found_counted(&self, key: &Key, ticks: &mut Ticks) -> Option<StoredRecord<'a>>
         ensures found { HasRow self.now.log self.now.moment key.now result }
         ensures ticks { ticks.new

@@ -56,8 +56,8 @@ fn row_before(before: OwnRecord) -> Option<Row>
     }
 }
 
-/// Whether the row that a record has, or the one that stands where there is no record, is one of HISTORY. No record has one, since
-/// such a row is neither changed nor deleted.
+/// Whether the row that a record has, or the one that stands where there is no record, is one of
+/// HISTORY. No record has one, since such a row is neither changed nor deleted.
 fn is_history(tables: &Tables, key: &HistoryKey, found: Option<StoredRecord<'_>>) -> bool
     ensures { result ≡ is_some (option_and_then as_history
         (row_found found.entry (row_at (rows tables.now) (keys.History key.now)))) }
@@ -68,8 +68,8 @@ fn is_history(tables: &Tables, key: &HistoryKey, found: Option<StoredRecord<'_>>
     }
 }
 
-/// Whether the row that a record has, or the one that stands where there is no record, is one of NEW-ORDER: that has no column but its
-/// key's.
+/// Whether the row that a record has, or the one that stands where there is no record, is one of
+/// NEW-ORDER: that has no column but its key's.
 fn is_new_order(tables: &Tables, key: &NewOrderKey, found: Option<StoredRecord<'_>>) -> bool
     ensures { result ≡ is_some (option_and_then as_new_order
         (row_found found.entry (row_at (rows tables.now) (keys.NewOrder key.now)))) }
@@ -121,7 +121,8 @@ impl<'a> Version<'a> {
         self.row_counted(key, &mut ticks)
     }
 
-    /// `row`, and each record that is read ticks: the key's own that are open or of commits after the moment, each once.
+    /// `row`, and each record that is read ticks: the key's own that are open or of commits after
+    /// the moment, each once.
     pub fn row_counted(&self, key: &Key, ticks: &mut Ticks) -> Option<Row>
         ensures row { result ≡ row_at (rows_of self.now) key.now }
         ensures ticks { ticks.new
