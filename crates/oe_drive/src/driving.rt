@@ -33,8 +33,8 @@ pub struct Driven {
 }
 
 /// Runs each terminal's plan in a thread of its own, the first plan terminal 1's, and the worker as
-/// the terminal after the last. Each commit is told at once, and what is left in the queue is
-/// carried out before the end.
+/// the terminal after the last. A desk tells its commit at once, and the worker carries out what is
+/// left in the queue before the end.
 ///
 /// The worker's thread is made first, and without it no other; where a terminal's can't be made, it
 /// submits its end mark alone. Both, and any want of memory before, are `NoMemory` once all threads

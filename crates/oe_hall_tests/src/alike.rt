@@ -36,7 +36,7 @@ fn advanced<J: Naming, B: Ledger, C: Ledger, R: Ledger>(
     core.step(Step::Advance(desk.terminal()))
 }
 
-/// Carries out stages at both, after each of which one is left.
+/// Carries out stages at both; each leaves another one to do.
 pub(crate) fn goes_on<J: Naming, B: Ledger, C: Ledger, R: Ledger, H: Wait + Abort>(
     rt: &H,
     front: &Front<J, B, C, R>,

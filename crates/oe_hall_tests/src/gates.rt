@@ -1,4 +1,4 @@
-//! Drives of two terminals, of which one waits at the gate until the other was answered.
+//! Drives of two terminals: one waits at the gate until the other was answered.
 ghost use Rattle.std.specs.Prelude.{◌≡◌};
 
 use crate::asks::{home, payment};

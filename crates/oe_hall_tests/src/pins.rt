@@ -110,7 +110,7 @@ fn behind_a_purge<J: Naming, B: Ledger, C: Ledger, R: Ledger, H: Wait + Abort>(
     }
 }
 
-// Pins the horizon once it is told, and reads there.
+// Tells the desk the horizon, pins it, and reads there.
 fn at_the_horizon<J: Naming, B: Ledger, C: Ledger, R: Ledger, H: Wait + Abort>(
     rt: &H,
     front: &Front<J, B, C, R>,
@@ -123,7 +123,7 @@ fn at_the_horizon<J: Naming, B: Ledger, C: Ledger, R: Ledger, H: Wait + Abort>(
     unpinned(rt, front, desk, pin);
 }
 
-/// Five payments, of which three are told, and purges beside a pin and behind it.
+/// Makes five payments, tells three, and purges beside a pin and behind it.
 fn purges<J: Naming, B: Ledger, C: Ledger, R: Ledger, H: Wait + Abort>(
     rt: &H,
     alloc: Global,

@@ -1,4 +1,4 @@
-//! What is told of tables when the work on them is over: the first of conditions 1 to 4 that fails,
+//! What a report says of tables after the work on them: the first of conditions 1 to 4 that fails,
 //! whether other tables have the same rows, and the two lines that say both. Nothing takes memory,
 //! and nothing waits. Clauses of the standard are those of TPC Benchmark C 5.11.
 #![tactic(auto)]

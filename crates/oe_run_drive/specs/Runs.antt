@@ -27,7 +27,7 @@ IsEnding s w e =
     × (e.failing ≡ first_failing (tables system w))
     × (IsTrue e.is_restored ↔ (left ≡ fresh))
 
--- nothing is open in the world, and so many commits have led there
+-- nothing is open in the world, and `committed` commits have led there
 abbrev pub IsLeft : World system → ℕ → Type 0
 IsLeft w committed = (open_count w ≡ 0) × (newest system w ≡ committed)
 
