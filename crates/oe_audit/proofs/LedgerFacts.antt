@@ -1,5 +1,6 @@
 -- Sums that grow by what each row of a walk adds, as far as they can.
-use Rattle.std.proofs.Common.{◌≡◌, ℕ, ◌+◌, ◌*◌, ◌-◌, ◌<◌, ◌≤◌, min, refl, sym, ◌∙◌, ap, subst, Bool, true, false, cond, List, [], ◌∷◌, length, set, get_or, arith}
+use Rattle.std.proofs.Common.{◌≡◌, ℕ, ◌+◌, ◌*◌, ◌-◌, ◌<◌, ◌≤◌, min, refl, sym, ◌∙◌, ap, subst, Bool, true, false, cond}
+use Rattle.std.proofs.Common.{List, [], ◌∷◌, length, set, get_or, arith}
 use Rattle.std.specs.Prelude.{T, ◌≢◌, ◌&&◌, ◌==◌, sum_by}
 use Rattle.std.specs.declared.cmp.Ordering.{Ordering}
 use Rattle.std.specs.declared.cmp.Ordering.TheVariants.{Less, Equal, Greater}
@@ -20,15 +21,19 @@ capped : (a b r t m : ℕ) → min (a + (b + r)) m ≡ min t m → min (min (a +
 capped a b r t m e = omega arith
 
 -- the sum of one customer, when an amount is added for one
-pub one_added : (sums : List ℕ) (length_is : length sums ≡ 3_000) (k amount : ℕ) → 1 ≤ k → k ≤ 3_000 → (c : ℕ) → 1 ≤ c → c ≤ 3_000 → sum_for sums c ≤ most
-    → sum_for (set sums (k - 1) (min (sum_for sums k + amount) most)) c ≡ min (sum_for sums c + cond (k == c) amount 0) most
+pub one_added : (sums : List ℕ) (length_is : length sums ≡ 3_000) (k amount : ℕ) → 1 ≤ k → k ≤ 3_000 → (c : ℕ) → 1 ≤ c
+    → c ≤ 3_000 → sum_for sums c ≤ most
+    → sum_for (set sums (k - 1) (min (sum_for sums k + amount) most)) c ≡ min (sum_for sums c + cond (k == c) amount 0)
+    most
 one_added sums length_is k amount low high c c_low c_high fits = by_test (k == c) refl
   where
-    by_test : (b : Bool) → (k == c) ≡ b → sum_for (set sums (k - 1) (min (sum_for sums k + amount) most)) c ≡ min (sum_for sums c + cond b amount 0) most
+    by_test : (b : Bool) → (k == c) ≡ b → sum_for (set sums (k - 1) (min (sum_for sums k + amount) most)) c ≡ min
+        (sum_for sums c + cond b amount 0) most
     by_test true e =
         let same : k ≡ c = eqb-true k c e in
         ap (λ j. get_or (set sums (k - 1) (min (sum_for sums k + amount) most)) (j - 1) 0) (sym same)
-        ∙ get_or-set_same sums (k - 1) (min (sum_for sums k + amount) most) 0 (let z : k - 1 < length sums = omega arith in z)
+        ∙ get_or-set_same sums (k - 1) (min (sum_for sums k + amount) most) 0
+        (let z : k - 1 < length sums = omega arith in z)
         ∙ ap (λ j. min (sum_for sums j + amount) most) same
     by_test false e =
         let differs : k ≢ c = eqb-false k c e in
@@ -49,48 +54,60 @@ module _ {E : Type 0} (adds : E → ℕ → ℕ) (target : ℕ → ℕ) where
   -- what the rest of a walk adds leads from these sums to their target
   pub record Leads (sums : List ℕ) (es : List E) : Type 0 where
     pub fits : (c : ℕ) → 1 ≤ c → c ≤ 3_000 → sum_for sums c ≤ most
-    pub leads : (c : ℕ) → 1 ≤ c → c ≤ 3_000 → min (sum_for sums c + sum_by (λ e. adds e c) es) most ≡ min (target c) most
+    pub leads : (c : ℕ) → 1 ≤ c → c ≤ 3_000 → min (sum_for sums c + sum_by (λ e. adds e c) es) most ≡ min (target c)
+        most
 
-  pub leads_first : (sums : List ℕ) (es : List E) → ((c : ℕ) → 1 ≤ c → c ≤ 3_000 → sum_for sums c ≡ 0) → ((c : ℕ) → target c ≡ sum_by (λ e. adds e c) es) → Leads sums es
+  pub leads_first : (sums : List ℕ) (es : List E) → ((c : ℕ) → 1 ≤ c → c ≤ 3_000 → sum_for sums c ≡ 0)
+      → ((c : ℕ) → target c ≡ sum_by (λ e. adds e c) es) → Leads sums es
   leads_first sums es zero is = record {
     fits = λ c low high. let z = zero c low high in omega arith;
     leads = λ c low high. let z = zero c low high in let t = is c in omega arith;
   }
 
-  pub leads_on : (before after : List ℕ) (all es : List E) (e : E) → all ≡ e ∷ es → Leads before all → HaveGrown (adds e) before after → Leads after es
+  pub leads_on : (before after : List ℕ) (all es : List E) (e : E) → all ≡ e ∷ es → Leads before all
+      → HaveGrown (adds e) before after → Leads after es
   leads_on before after all es e split l grown = record {
     fits = λ c low high. let g = grown c low high (l.fits c low high) in omega arith;
     leads = λ c low high.
         let g = grown c low high (l.fits c low high) in
         let whole : min (sum_for before c + (adds e c + sum_by (λ e. adds e c) es)) most ≡ min (target c) most =
-        (λ i. min (sum_for before c + sym (ap (sum_by (λ e. adds e c)) split ∙ sum_by-cons (λ e. adds e c) e es) i) most) ∙ l.leads c low high in
-        ap (λ n. min (n + sum_by (λ e. adds e c) es) most) g ∙ capped (sum_for before c) (adds e c) (sum_by (λ e. adds e c) es) (target c) most whole;
+        (λ i. min (sum_for before c + sym (ap (sum_by (λ e. adds e c)) split ∙ sum_by-cons (λ e. adds e c) e es) i)
+        most) ∙ l.leads c low high in
+        ap (λ n. min (n + sum_by (λ e. adds e c) es) most) g ∙ capped (sum_for before c) (adds e c)
+        (sum_by (λ e. adds e c) es) (target c) most whole;
   }
 
-  pub leads_last : (sums : List ℕ) (es : List E) → es ≡ [] → Leads sums es → (c : ℕ) → 1 ≤ c → c ≤ 3_000 → sum_for sums c ≡ min (target c) most
+  pub leads_last : (sums : List ℕ) (es : List E) → es ≡ [] → Leads sums es → (c : ℕ) → 1 ≤ c → c ≤ 3_000
+      → sum_for sums c ≡ min (target c) most
   leads_last sums es none l c low high =
       let f = l.fits c low high in
-      let all : min (sum_for sums c + 0) most ≡ min (target c) most = (λ i. min (sum_for sums c + sum_by (λ e. adds e c) (sym none i)) most) ∙ l.leads c low high in
+      let all : min (sum_for sums c + 0) most ≡ min (target c) most =
+      (λ i. min (sum_for sums c + sum_by (λ e. adds e c) (sym none i)) most) ∙ l.leads c low high in
       omega arith
 
 -- the place of a HISTORY key among all keys that there can be
 abbrev pub place_of : HistoryKey → ℕ
 place_of k = (k.terminal * 4_294_967_296 + k.number) * 2 + k.ordinal
 
-less_place : (a b : HistoryKey) → a.number ≤ 4_294_967_295 → a.ordinal ≤ 1 → T (is_lt (history_cmp a b)) → place_of a + 1 ≤ place_of b
+less_place : (a b : HistoryKey) → a.number ≤ 4_294_967_295 → a.ordinal ≤ 1 → T (is_lt (history_cmp a b))
+    → place_of a + 1 ≤ place_of b
 less_place a b n o l = by_terminal (nat_cmp a.terminal b.terminal) refl l
   where
-    by_ordinal : (r : Ordering) → nat_cmp a.ordinal b.ordinal ≡ r → a.terminal ≡ b.terminal → a.number ≡ b.number → T (is_lt r) → place_of a + 1 ≤ place_of b
+    by_ordinal : (r : Ordering) → nat_cmp a.ordinal b.ordinal ≡ r → a.terminal ≡ b.terminal → a.number ≡ b.number
+        → T (is_lt r) → place_of a + 1 ≤ place_of b
     by_ordinal Less e t m p = let s : a.ordinal < b.ordinal = ranked a.ordinal b.ordinal Less (sym e) in omega arith
     by_ordinal Equal e t m p = absurd p
     by_ordinal Greater e t m p = absurd p
 
-    by_number : (r : Ordering) → nat_cmp a.number b.number ≡ r → a.terminal ≡ b.terminal → T (is_lt (ordering_then r (nat_cmp a.ordinal b.ordinal))) → place_of a + 1 ≤ place_of b
+    by_number : (r : Ordering) → nat_cmp a.number b.number ≡ r → a.terminal ≡ b.terminal
+        → T (is_lt (ordering_then r (nat_cmp a.ordinal b.ordinal))) → place_of a + 1 ≤ place_of b
     by_number Less e t p = let s : a.number < b.number = ranked a.number b.number Less (sym e) in omega arith
     by_number Equal e t p = by_ordinal (nat_cmp a.ordinal b.ordinal) refl t (ranked a.number b.number Equal (sym e)) p
     by_number Greater e t p = absurd p
 
-    by_terminal : (r : Ordering) → nat_cmp a.terminal b.terminal ≡ r → T (is_lt (ordering_then r (ordering_then (nat_cmp a.number b.number) (nat_cmp a.ordinal b.ordinal)))) → place_of a + 1 ≤ place_of b
+    by_terminal : (r : Ordering) → nat_cmp a.terminal b.terminal ≡ r
+        → T (is_lt (ordering_then r (ordering_then (nat_cmp a.number b.number) (nat_cmp a.ordinal b.ordinal))))
+        → place_of a + 1 ≤ place_of b
     by_terminal Less e p = let s : a.terminal < b.terminal = ranked a.terminal b.terminal Less (sym e) in omega arith
     by_terminal Equal e p = by_number (nat_cmp a.number b.number) refl (ranked a.terminal b.terminal Equal (sym e)) p
     by_terminal Greater e p = absurd p
@@ -111,7 +128,8 @@ pub record AreFew (sums : List ℕ) (es : List (HistoryKey × History)) : Type 0
   pub later : EachOf (λ e. from ≤ place_of e.0) es
   pub sorted : T (is_sorted history_cmp es)
 
-pub few_first : (sums : List ℕ) (es : List (HistoryKey × History)) → ((c : ℕ) → 1 ≤ c → c ≤ 3_000 → sum_for sums c ≡ 0) → T (is_sorted history_cmp es) → AreFew sums es
+pub few_first : (sums : List ℕ) (es : List (HistoryKey × History)) → ((c : ℕ) → 1 ≤ c → c ≤ 3_000 → sum_for sums c ≡ 0)
+    → T (is_sorted history_cmp es) → AreFew sums es
 few_first sums es zero sorted = record {
   from = 0;
   below = omega arith;
@@ -124,13 +142,17 @@ few_first sums es zero sorted = record {
     each [] = tt
     each (d ∷ ds) = ((let z : 0 ≤ place_of d.0 = omega arith in z), each ds)
 
-pub few_on : (before after : List ℕ) (all es : List (HistoryKey × History)) (e : HistoryKey × History) (more : ℕ → ℕ) → all ≡ e ∷ es → AreFew before all → IsPayment e.0 e.1
-    → ((c : ℕ) → more c ≤ e.1.amount) → ((c : ℕ) → 1 ≤ c → c ≤ 3_000 → sum_for before c ≤ most) → HaveGrown more before after → AreFew after es
+pub few_on : (before after : List ℕ) (all es : List (HistoryKey × History)) (e : HistoryKey × History) (more : ℕ → ℕ)
+    → all ≡ e ∷ es → AreFew before all → IsPayment e.0 e.1
+    → ((c : ℕ) → more c ≤ e.1.amount) → ((c : ℕ) → 1 ≤ c → c ≤ 3_000 → sum_for before c ≤ most)
+    → HaveGrown more before after → AreFew after es
 few_on before after all es e more split f p small fits grown = go (subst (AreFew before) split f)
   where
-    each_later : (ds : List (HistoryKey × History)) → T (below_all history_cmp e.0 ds) → EachOf (λ d. place_of e.0 + 1 ≤ place_of d.0) ds
+    each_later : (ds : List (HistoryKey × History)) → T (below_all history_cmp e.0 ds)
+        → EachOf (λ d. place_of e.0 + 1 ≤ place_of d.0) ds
     each_later [] b = tt
-    each_later (d ∷ ds) b = (less_place e.0 d.0 p.number p.ordinal (left _ _ b), each_later ds (right (is_lt (history_cmp e.0 d.0)) _ b))
+    each_later (d ∷ ds) b =
+        (less_place e.0 d.0 p.number p.ordinal (left _ _ b), each_later ds (right (is_lt (history_cmp e.0 d.0)) _ b))
 
     go : AreFew before (e ∷ es) → AreFew after es
     go f = record {

@@ -1,5 +1,6 @@
 -- The greatest and the least of a list of numbers, and numbers that rise without gaps.
-use Rattle.std.proofs.Common.{◌≡◌, ℕ, ◌+◌, ◌-◌, ◌<◌, ◌≤◌, refl, sym, ◌∙◌, ap, Bool, true, false, List, [], ◌∷◌, length, Option, Some, None, inl, inr, max, arith}
+use Rattle.std.proofs.Common.{◌≡◌, ℕ, ◌+◌, ◌-◌, ◌<◌, ◌≤◌, refl, sym, ◌∙◌, ap, Bool, true, false, List, [], ◌∷◌, length}
+use Rattle.std.proofs.Common.{Option, Some, None, inl, inr, max, arith}
 use Rattle.std.specs.Prelude.{◌⊎◌, ◌==◌, ◌&&◌}
 use Rattle.std.specs.List.{fold, reduce}
 use Rattle.std.proofs.lemmas.Bool.{eq-eqb, eqb-true, eqb-false, ne_eqb, cases_order}
@@ -21,7 +22,10 @@ module _ {A : Type 0} where
 
 -- the greatest is what `max` folds to
 one_of_two : (n x : ℕ) → (n ≡ max n x) ⊎ (x ≡ max n x)
-one_of_two n x = elim (cases_order n x) [ inl e ↦ inl (omega arith) | inr other ↦ elim other [ inl l ↦ inr (omega arith) | inr l ↦ inl (omega arith) ] ]
+one_of_two n x = elim (cases_order n x) [
+  | inl e ↦ inl (omega arith)
+  | inr other ↦ elim other [ inl l ↦ inr (omega arith) | inr l ↦ inl (omega arith) ]
+]
 
 highest : (n : ℕ) (ns : List ℕ) → IsGreatest (λ i. IsAmong i (n ∷ ns)) (fold max n ns)
 highest n [] = (inl refl, within)
@@ -45,7 +49,9 @@ highest n (x ∷ xs) = further (fold max (max n x) xs) (highest (max n x) xs)
 
 pub greatest_reduced : (ns : List ℕ) → reduce max ns ≡ greatest ns
 greatest_reduced [] = refl
-greatest_reduced (n ∷ ns) = sym (greatest_found (λ i. IsAmong i (n ∷ ns)) (n ∷ ns) (each_among_own (n ∷ ns)) (λ i k. k) (fold max n ns) (highest n ns))
+greatest_reduced (n ∷ ns) =
+    sym (greatest_found (λ i. IsAmong i (n ∷ ns)) (n ∷ ns) (each_among_own (n ∷ ns)) (λ i k. k) (fold max n ns)
+    (highest n ns))
 
 -- numbers that rise, from one on
 abbrev pub Rises : ℕ → List ℕ → Type 0
@@ -92,18 +98,22 @@ counted : (n : ℕ) (ms : List ℕ) → Rises n ms → has_no_gap (Some n) ms �
 counted n [] r = sym (eq-eqb n (n + 0) (omega arith))
 counted n (m ∷ ms) r = by_test (n == m - 1) refl (counted m ms r.1) (reaches m ms r.1)
   where
-    by_test : (b : Bool) → (n == m - 1) ≡ b → has_no_gap (Some m) ms ≡ (last m ms == m + length ms) → m + length ms ≤ last m ms → (b && has_no_gap (Some m) ms) ≡ (last m ms == n + length (m ∷ ms))
+    by_test : (b : Bool) → (n == m - 1) ≡ b → has_no_gap (Some m) ms ≡ (last m ms == m + length ms)
+        → m + length ms ≤ last m ms → (b && has_no_gap (Some m) ms) ≡ (last m ms == n + length (m ∷ ms))
     by_test true e c t =
         let s = eqb-true n (m - 1) e in
         let l : n < m = r.0 in
-        c ∙ same_test (last m ms) (m + length ms) (last m ms) (n + length (m ∷ ms)) (λ q. omega arith) (λ q. omega arith)
+        c ∙ same_test (last m ms) (m + length ms) (last m ms) (n + length (m ∷ ms)) (λ q. omega arith)
+        (λ q. omega arith)
     by_test false e c t =
         let s = eqb-false n (m - 1) e in
         let l : n < m = r.0 in
         sym (ne_eqb (last m ms) (n + length (m ∷ ms)) (λ q. s (omega arith)))
 
--- of numbers that rise, each follows the one before it exactly where the greatest less the least, and 1, is their number
-pub gaps_counted : (ns : List ℕ) → Rise ns → has_no_gap None ns ≡ none_or (greatest ns) (λ g. none_or (least ns) (λ l. g - l + 1 == length ns))
+-- of numbers that rise, each follows the one before it exactly where the greatest less the least, and 1, is their
+-- number
+pub gaps_counted : (ns : List ℕ) → Rise ns
+    → has_no_gap None ns ≡ none_or (greatest ns) (λ g. none_or (least ns) (λ l. g - l + 1 == length ns))
 gaps_counted [] r = refl
 gaps_counted (n ∷ ms) r =
     let above = reaches n ms r in
@@ -112,7 +122,8 @@ gaps_counted (n ∷ ms) r =
     ∙ sym (λ i. none_or (most i) (λ g. none_or (first i) (λ l. g - l + 1 == length (n ∷ ms))))
   where
     most : greatest (n ∷ ms) ≡ Some (last n ms)
-    most = greatest_found (λ i. IsAmong i (n ∷ ms)) (n ∷ ms) (each_among_own (n ∷ ms)) (λ i k. k) (last n ms) (last_is n ms r)
+    most = greatest_found (λ i. IsAmong i (n ∷ ms)) (n ∷ ms) (each_among_own (n ∷ ms)) (λ i k. k) (last n ms)
+        (last_is n ms r)
 
     first : least (n ∷ ms) ≡ Some n
     first = least_found (λ i. IsAmong i (n ∷ ms)) (n ∷ ms) (each_among_own (n ∷ ms)) (λ i k. k) n (first_is n ms r)
@@ -138,8 +149,10 @@ module _ (next : ℕ) (low : 1 ≤ next) where
   none_before (Some n) = before n
 
   -- by the greatest O_ID, and by the greatest NO_O_ID
-  pub order_differs : (a b : Option ℕ) → some_and a (λ n. n == next - 1) ≡ false → false ≡ (some_and a (λ n. next == n + 1) && none_or b (λ n. next == n + 1))
+  pub order_differs : (a b : Option ℕ) → some_and a (λ n. n == next - 1) ≡ false
+      → false ≡ (some_and a (λ n. next == n + 1) && none_or b (λ n. next == n + 1))
   order_differs a b e = sym (ap (λ t. t && none_or b (λ n. next == n + 1)) (sym (some_before a) ∙ e))
 
-  pub order_agrees : (a b : Option ℕ) → some_and a (λ n. n == next - 1) ≡ true → none_or b (λ n. n == next - 1) ≡ (some_and a (λ n. next == n + 1) && none_or b (λ n. next == n + 1))
+  pub order_agrees : (a b : Option ℕ) → some_and a (λ n. n == next - 1) ≡ true
+      → none_or b (λ n. n == next - 1) ≡ (some_and a (λ n. next == n + 1) && none_or b (λ n. next == n + 1))
   order_agrees a b e = none_before b ∙ sym (ap (λ t. t && none_or b (λ n. next == n + 1)) (sym (some_before a) ∙ e))

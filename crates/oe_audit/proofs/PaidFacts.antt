@@ -1,5 +1,6 @@
 -- What was paid by the rows that stood then is what the rows that stand add up to, each where it stood then.
-use Rattle.std.proofs.Common.{◌≡◌, ℕ, ◌+◌, refl, sym, ◌∙◌, ap, subst, Bool, true, false, cond, List, [], ◌∷◌, Option, Some, None, zero-add}
+use Rattle.std.proofs.Common.{◌≡◌, ℕ, ◌+◌, refl, sym, ◌∙◌, ap, subst, Bool, true, false, cond, List, [], ◌∷◌, Option}
+use Rattle.std.proofs.Common.{Some, None, zero-add}
 use Rattle.std.specs.Prelude.{◌&&◌, IsSome, is_some, sum_by}
 use Rattle.std.specs.declared.cmp.Ordering.{Ordering}
 use Rattle.std.specs.Cmp.{IsTotalOrder}
@@ -40,15 +41,18 @@ module _ {K X : Type 0} {R : K → K → Ordering} (total : IsTotalOrder R) (exa
   abbrev where_there : K × X → ℕ
   where_there e = cond (is_some (get m e.0)) (f e.0 e.1) 0
 
-  along : (es : List (K × X)) → EachOf (λ e. get n e.0 ≡ Some e.1) es → sum_by own (rows_at m es) ≡ sum_by where_there es
+  along : (es : List (K × X)) → EachOf (λ e. get n e.0 ≡ Some e.1) es
+      → sum_by own (rows_at m es) ≡ sum_by where_there es
   along [] h = refl
   along (e ∷ es) h = go (get m e.0) refl (along es h.1)
     where
-      go : (v : Option X) → get m e.0 ≡ v → sum_by own (rows_at m es) ≡ sum_by where_there es → sum_by own (rows_at m (e ∷ es)) ≡ sum_by where_there (e ∷ es)
+      go : (v : Option X) → get m e.0 ≡ v → sum_by own (rows_at m es) ≡ sum_by where_there es
+          → sum_by own (rows_at m (e ∷ es)) ≡ sum_by where_there (e ∷ es)
       go None t rest =
           let none : where_there e ≡ 0 = ap (λ (v : Option X). cond (is_some v) (f e.0 e.1) 0) t in
           ap (sum_by own) (rows_none m e es t) ∙ rest
-          ∙ sym (sum_by-cons where_there e es ∙ ap (λ k. k + sum_by where_there es) none ∙ zero-add (sum_by where_there es))
+          ∙ sym (sum_by-cons where_there e es ∙ ap (λ k. k + sum_by where_there es) none
+          ∙ zero-add (sum_by where_there es))
       go (Some x) t rest =
           let same : Some e.1 ≡ Some x = sym h.0 ∙ stays e.0 (ap is_some t) ∙ t in
           let is : e.1 ≡ x = cc in
@@ -73,17 +77,24 @@ and_turned false false n = refl
 
 module _ (ts : tables.Places) (b : HistoryKey → History → Bool) where
   counted : (w : AsOf) → ArePassed (rows_then ts w) (rows ts)
-      → sum_of (λ k y. cond (b k y) y.amount 0) (rows_then ts w).histories ≡ sum_by (λ e. cond (b e.0 e.1 && has_row_then w (rows_then ts w).histories e.0) e.1.amount 0) (entries (rows ts).histories)
+      → sum_of (λ k y. cond (b k y) y.amount 0) (rows_then ts w).histories ≡ sum_by
+      (λ e. cond (b e.0 e.1 && has_row_then w (rows_then ts w).histories e.0) e.1.amount 0)
+      (entries (rows ts).histories)
   counted when.Now h = sum_pointwise _ _ (λ e. and_true (b e.0 e.1) e.1.amount) (entries (rows ts).histories)
   counted (when.Moment v) h =
-      sum_stayed history_total exact_history (rows_of v).histories (rows ts).histories h.histories (λ k y. cond (b k y) y.amount 0)
-      ∙ sum_pointwise _ _ (λ e. and_turned (is_some (get (rows_of v).histories e.0)) (b e.0 e.1) e.1.amount) (entries (rows ts).histories)
+      sum_stayed history_total exact_history (rows_of v).histories (rows ts).histories h.histories
+      (λ k y. cond (b k y) y.amount 0)
+      ∙ sum_pointwise _ _ (λ e. and_turned (is_some (get (rows_of v).histories e.0)) (b e.0 e.1) e.1.amount)
+      (entries (rows ts).histories)
 
 module _ (ts : tables.Places) (w : AsOf) (h : ArePassed (rows_then ts w) (rows ts)) where
   -- what was paid in a place, and by a customer
-  pub paid_was : (p : Place) → paid_in (rows_then ts w) p ≡ sum_by (amount_in p w (rows_then ts w).histories) (entries (rows ts).histories)
+  pub paid_was : (p : Place) → paid_in (rows_then ts w) p ≡ sum_by (amount_in p w (rows_then ts w).histories)
+      (entries (rows ts).histories)
   paid_was (place.Warehouse g) = counted ts (λ k y. is_in (place.Warehouse g) y.district) w h
   paid_was (place.District g) = counted ts (λ k y. is_in (place.District g) y.district) w h
 
-  pub paid_by_was : (g : DistrictKey) (c : ℕ) → paid_by (rows_then ts w) (customer_in g c) ≡ sum_by (λ e. payment_adds w (rows_then ts w).histories g e c) (entries (rows ts).histories)
+  pub paid_by_was : (g : DistrictKey) (c : ℕ)
+      → paid_by (rows_then ts w) (customer_in g c) ≡ sum_by (λ e. payment_adds w (rows_then ts w).histories g e c)
+      (entries (rows ts).histories)
   paid_by_was g c = counted ts (λ k y. eq_by_cmp customer_cmp y.customer (customer_in g c)) w h

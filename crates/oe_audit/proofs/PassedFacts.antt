@@ -21,7 +21,8 @@ use Rattle.oe_versions.proofs.LastingFacts.{rows_last, versions_meet}
 use Rattle.oe_audit.specs.AsOf.{ArePassed}
 
 -- a customer has its names at all times
-named : (a b : Option Customer) → names_of (option_map row.Customer a) ≡ names_of (option_map row.Customer b) → IsSome a → IsSome b
+named : (a b : Option Customer) → names_of (option_map row.Customer a) ≡ names_of (option_map row.Customer b) → IsSome a
+    → IsSome b
 named None b e h = let no : ⊥ = cc in absurd no
 named (Some x) None e h = let no : ⊥ = cc in absurd no
 named (Some x) (Some y) e h = refl
@@ -47,18 +48,23 @@ module _ (ts : tables.Places) (u : SegmentLog) (m : ℕ) (h : Stand ts u) where
   pub passed_at : ArePassed past (rows ts)
   passed_at = record {
     warehouses = λ k there.
-        sym (some-map row.Warehouse (get (rows ts).warehouses k)) ∙ sym (rows_last store m (key.Warehouse k) h.1) ∙ some-map row.Warehouse (get past.warehouses k) ∙ there;
+        sym (some-map row.Warehouse (get (rows ts).warehouses k)) ∙ sym (rows_last store m (key.Warehouse k) h.1)
+        ∙ some-map row.Warehouse (get past.warehouses k) ∙ there;
     districts = λ k there.
-        sym (some-map row.District (get (rows ts).districts k)) ∙ sym (rows_last store m (key.District k) h.1) ∙ some-map row.District (get past.districts k) ∙ there;
-    customers = λ k there. named (get past.customers k) (get (rows ts).customers k) (rows_last store m (key.Customer k) h.1) there;
+        sym (some-map row.District (get (rows ts).districts k)) ∙ sym (rows_last store m (key.District k) h.1)
+        ∙ some-map row.District (get past.districts k) ∙ there;
+    customers = λ k there. named (get past.customers k) (get (rows ts).customers k)
+        (rows_last store m (key.Customer k) h.1) there;
     histories = λ k there.
-        un_history (get (rows ts).histories k) (get past.histories k) (rows_last store m (key.History k) h.1 (some-map row.History (get past.histories k) ∙ there));
+        un_history (get (rows ts).histories k) (get past.histories k)
+        (rows_last store m (key.History k) h.1 (some-map row.History (get past.histories k) ∙ there));
     orders = λ k there.
         let x = present_some (get past.orders k) there in
         let y = rows_last store m (key.Order k) h.1 x.0 (ap (option_map row.Order) x.1) in
         sym (some-map row.Order (get (rows ts).orders k)) ∙ ap is_some y.1;
     order_lines = λ k there.
-        sym (some-map row.OrderLine (get (rows ts).order_lines k)) ∙ rows_last store m (key.OrderLine k) h.1 (some-map row.OrderLine (get past.order_lines k) ∙ there);
+        sym (some-map row.OrderLine (get (rows ts).order_lines k)) ∙ rows_last store m (key.OrderLine k) h.1
+        (some-map row.OrderLine (get past.order_lines k) ∙ there);
     new_orders = λ k there.
         let x = present_some (get past.new_orders k) there in (versions_meet store m h.1).new_orders k x.0 x.1;
   }

@@ -1,12 +1,14 @@
 -- The tests of a population, put together.
-use Rattle.std.proofs.Common.{◌≡◌, ◌↔◌, refl, sym, ◌∙◌, Bool, true, false, List, [], ◌∷◌, Option, Some, None, option_map}
+use Rattle.std.proofs.Common.{◌≡◌, ◌↔◌, refl, sym, ◌∙◌, Bool, true, false, List, [], ◌∷◌, Option, Some, None}
+use Rattle.std.proofs.Common.{option_map}
 use Rattle.std.specs.Prelude.{◌&&◌, ◌==◌, is_some, IsTrue}
 use Rattle.std.specs.List.{list_all}
 use Rattle.std.specs.declared.cmp.Ordering.{Ordering}
 use Rattle.std.specs.Cmp.{IsTotalOrder}
 use Rattle.std.specs.FinMap.{FinMap, IsAntisymmetric, get, entries}
 use Rattle.std.proofs.lemmas.Bool.{eq-eqb, eqb-true, and_parts, and_from}
-use Rattle.oe_rows.proofs.KeyFacts.{warehouse_total, exact_warehouse, history_total, exact_history, item_total, exact_item}
+use Rattle.oe_rows.proofs.KeyFacts.{warehouse_total, exact_warehouse, history_total, exact_history, item_total}
+use Rattle.oe_rows.proofs.KeyFacts.{exact_item}
 use Rattle.oe_requests.specs.declared.audits.Verdict.{Verdict}
 use Rattle.oe_requests.specs.declared.audits.Verdict.TheVariants as told
 use Rattle.oe_model.specs.Keys.{warehouse_of_stock, item_of_stock}
@@ -30,11 +32,15 @@ all_pass : {A : Type 0} (p : A → Bool) (xs : List A) → EachOf (λ x. p x ≡
 all_pass p [] h = refl
 all_pass p (x ∷ xs) h = and_from (p x) _ h.0 (all_pass p xs h.1)
 
-module _ {K X : Type 0} {R : K → K → Ordering} (o : IsTotalOrder R) (exact : IsAntisymmetric R) (test : K → X → Bool) (m : FinMap R X) where
+module _ {K X : Type 0} {R : K → K → Ordering} (o : IsTotalOrder R) (exact : IsAntisymmetric R) (test : K → X → Bool)
+    (m : FinMap R X) where
   rows_pass : (each_row test m ≡ true) ↔ ((k : K) (x : X) → get m k ≡ Some x → test k x ≡ true)
   rows_pass = (
-    λ e k x row. each_among (λ e. test e.0 e.1 ≡ true) (entries m) (k, x) (each_passes (λ e. test e.0 e.1) (entries m) e) (row_among o exact m k x row),
-    λ h. all_pass (λ e. test e.0 e.1) (entries m) (each_of (λ e. get m e.0 ≡ Some e.1) (λ e. test e.0 e.1 ≡ true) (λ e row. h e.0 e.1 row) (entries m) (entries_at o m)),
+    λ e k x row. each_among (λ e. test e.0 e.1 ≡ true) (entries m) (k, x)
+        (each_passes (λ e. test e.0 e.1) (entries m) e) (row_among o exact m k x row),
+    λ h. all_pass (λ e. test e.0 e.1) (entries m)
+        (each_of (λ e. get m e.0 ≡ Some e.1) (λ e. test e.0 e.1 ≡ true) (λ e row. h e.0 e.1 row) (entries m)
+        (entries_at o m)),
   )
 
 -- a verdict that is the model's says whether the condition holds
@@ -42,10 +48,15 @@ abbrev pub is_holds : Verdict → Bool
 is_holds told.Holds = true
 is_holds (told.Fails k) = false
 
-pub holds_is : (c : model.Condition) (r : Rows) (v : Verdict) → verdict_of v ≡ model.verdict c r → IsTrue (is_holds v) ↔ IsMet c r
+pub holds_is : (c : model.Condition) (r : Rows) (v : Verdict) → verdict_of v ≡ model.verdict c r
+    → IsTrue (is_holds v) ↔ IsMet c r
 holds_is c r told.Holds e = (λ t. (verdicts_are_exact.holds c r).0 (sym e), λ h. refl)
-holds_is c r (told.Fails k) e =
-    (λ t. let no : ⊥ = cc in absurd no, λ h. let z : model.Fails k ≡ model.Holds = e ∙ (verdicts_are_exact.holds c r).1 h in let no : ⊥ = cc in absurd no)
+holds_is c r (told.Fails k) e = (
+  λ t. let no : ⊥ = cc in
+      absurd no,
+  λ h. let z : model.Fails k ≡ model.Holds = e ∙ (verdicts_are_exact.holds c r).1 h in
+      let no : ⊥ = cc in absurd no,
+)
 
 pub some_copied : {A B : Type 0} (f : A → B) (o : Option A) → is_some (option_map f o) ≡ is_some o
 some_copied f None = refl
@@ -57,17 +68,22 @@ module _ (r : Rows) where
     λ e k w i.
         let warehouse = present_some (get r.warehouses (warehouse_of_stock k)) w in
         let item = present_some (get r.items (item_of_stock k)) i in
-        (rows_pass item_total exact_item _ r.items).0 ((rows_pass warehouse_total exact_warehouse _ r.warehouses).0 e (warehouse_of_stock k) warehouse.0 warehouse.1) (item_of_stock k) item.0 item.1,
+        (rows_pass item_total exact_item _ r.items).0
+        ((rows_pass warehouse_total exact_warehouse _ r.warehouses).0 e (warehouse_of_stock k) warehouse.0
+        warehouse.1) (item_of_stock k) item.0 item.1,
     λ h.
         (rows_pass warehouse_total exact_warehouse _ r.warehouses).1 (λ w x row.
-        (rows_pass item_total exact_item _ r.items).1 (λ i y item. h (record { warehouse = w.warehouse; item = i.item }) (some_present _ x row) (some_present _ y item))),
+        (rows_pass item_total exact_item _ r.items).1
+        (λ i y item. h (record { warehouse = w.warehouse; item = i.item }) (some_present _ x row)
+        (some_present _ y item))),
   )
 
   abbrev pub of_population : Bool
   of_population = each_row (λ k x. k.terminal == 0) r.histories
 
   -- the three tests, beside the schema, are those of a population
-  pub population_is : (b : Bool) → Meets r → IsTrue b ↔ AreMet r → IsTrue (b && has_stocks r && of_population) ↔ IsPopulation r
+  pub population_is : (b : Bool) → Meets r → IsTrue b ↔ AreMet r
+      → IsTrue (b && has_stocks r && of_population) ↔ IsPopulation r
   population_is b schema met = (
     λ e.
         let t = and_parts (b && has_stocks r) of_population e in
@@ -80,10 +96,17 @@ module _ (r : Rows) where
           condition_3 = c.third;
           condition_4 = c.fourth;
           stocked = stocks.0 u.1;
-          histories = λ k x row. eqb-true k.terminal 0 ((rows_pass history_total exact_history _ r.histories).0 t.1 k x row);
+          histories = λ k x row. eqb-true k.terminal 0
+              ((rows_pass history_total exact_history _ r.histories).0 t.1 k x row);
         },
     λ p.
-        let c : AreMet r = record { first = p.condition_1; second = p.condition_2; third = p.condition_3; fourth = p.condition_4 } in
+        let c : AreMet r = record {
+          first = p.condition_1;
+          second = p.condition_2;
+          third = p.condition_3;
+          fourth = p.condition_4;
+        } in
         and_from (b && has_stocks r) of_population (and_from b (has_stocks r) (met.1 c) (stocks.1 p.stocked))
-        ((rows_pass history_total exact_history _ r.histories).1 (λ k x row. eq-eqb k.terminal 0 (p.histories k x row))),
+        ((rows_pass history_total exact_history _ r.histories).1
+        (λ k x row. eq-eqb k.terminal 0 (p.histories k x row))),
   )

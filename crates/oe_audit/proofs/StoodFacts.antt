@@ -1,20 +1,25 @@
 -- The rows as they stood are at the keys of rows that stand.
-use Rattle.std.proofs.Common.{◌≡◌, refl, sym, ◌∙◌, ap, subst, Bool, true, false, cond, List, [], ◌∷◌, map, length, Option, Some, None}
+use Rattle.std.proofs.Common.{◌≡◌, refl, sym, ◌∙◌, ap, subst, Bool, true, false, cond, List, [], ◌∷◌, map, length}
+use Rattle.std.proofs.Common.{Option, Some, None}
 use Rattle.std.specs.Prelude.{T, ◌&&◌, IsSome, is_some, sum_by}
 use Rattle.std.specs.declared.cmp.Ordering.{Ordering}
 use Rattle.std.specs.Cmp.{IsTotalOrder}
 use Rattle.std.specs.Ordering.{eq_by_cmp, is_lt}
-use Rattle.std.specs.FinMap.{FinMap, IsAntisymmetric, get, entries, entries_sorted, get-entries, retain_keys, get-retain_keys}
+use Rattle.std.specs.FinMap.{FinMap, IsAntisymmetric, get, entries, entries_sorted, get-entries, retain_keys}
+use Rattle.std.specs.FinMap.{get-retain_keys}
 use Rattle.std.specs.FinMap.Entries.{find, is_sorted, below_all}
 use Rattle.oe_rows.specs.Key.{warehouse_cmp, district_cmp, order_cmp, new_order_cmp}
 use Rattle.oe_rows.specs.declared.keys.WarehouseKey.{WarehouseKey}
 use Rattle.oe_rows.specs.declared.keys.DistrictKey.{DistrictKey}
 use Rattle.oe_rows.specs.declared.keys.OrderKey.{OrderKey}
 use Rattle.oe_rows.specs.declared.keys.NewOrderKey.{NewOrderKey}
-use Rattle.oe_rows.proofs.KeyFacts.{warehouse_total, exact_warehouse, district_total, exact_district, order_total, exact_order, order_line_total, exact_order_line, new_order_total, exact_new_order, customer_total, exact_customer}
+use Rattle.oe_rows.proofs.KeyFacts.{warehouse_total, exact_warehouse, district_total, exact_district, order_total}
+use Rattle.oe_rows.proofs.KeyFacts.{exact_order, order_line_total, exact_order_line, new_order_total, exact_new_order}
+use Rattle.oe_rows.proofs.KeyFacts.{customer_total, exact_customer}
 use Rattle.oe_rows.specs.declared.districts.District.{District}
 use Rattle.oe_rows.specs.declared.orders.Order.{Order}
-use Rattle.oe_model.specs.Keys.{warehouse_of_district, district_of_order, district_of_new_order, order_of_line, order_of_new_order}
+use Rattle.oe_model.specs.Keys.{warehouse_of_district, district_of_order, district_of_new_order, order_of_line}
+use Rattle.oe_model.specs.Keys.{order_of_new_order}
 use Rattle.oe_model.specs.Rows.{Rows}
 use Rattle.oe_model.specs.Conditions.{ytd_of, lines_asked, lines_there}
 use Rattle.oe_model.specs.FurtherConditions.{lines_of_order}
@@ -35,7 +40,8 @@ new_order_of k = record { warehouse = k.warehouse; district = k.district; order 
 abbrev pub as_new : List (OrderKey × Order) → List (NewOrderKey × Order)
 as_new es = map (λ e. (new_order_of e.0, e.1)) es
 
-below_same : (k : OrderKey) (es : List (OrderKey × Order)) → below_all new_order_cmp (new_order_of k) (as_new es) ≡ below_all order_cmp k es
+below_same : (k : OrderKey) (es : List (OrderKey × Order))
+    → below_all new_order_cmp (new_order_of k) (as_new es) ≡ below_all order_cmp k es
 below_same k [] = refl
 below_same k (e ∷ es) = ap (λ b. is_lt (order_cmp k e.0) && b) (below_same k es)
 
@@ -43,7 +49,8 @@ sorted_same : (es : List (OrderKey × Order)) → is_sorted new_order_cmp (as_ne
 sorted_same [] = refl
 sorted_same (e ∷ es) = λ i. below_same e.0 es i && sorted_same es i
 
-find_same : (q : NewOrderKey) (es : List (OrderKey × Order)) → find new_order_cmp q (as_new es) ≡ find order_cmp (order_of_new_order q) es
+find_same : (q : NewOrderKey) (es : List (OrderKey × Order))
+    → find new_order_cmp q (as_new es) ≡ find order_cmp (order_of_new_order q) es
 find_same q [] = refl
 find_same q (e ∷ es) = ap (λ v. cond (eq_by_cmp order_cmp (order_of_new_order q) e.0) (Some e.1) v) (find_same q es)
 
@@ -56,14 +63,17 @@ stood_now m [] = refl
 stood_now m (e ∷ es) = ap (λ xs. (e.0, e.1) ∷ xs) (stood_now m es)
 
 -- the rows of then are what the keys of the rows that stand had
-module _ {K X : Type 0} {R : K → K → Ordering} (total : IsTotalOrder R) (exact : IsAntisymmetric R) (of : Rows → FinMap R X) (ts : tables.Places) where
+module _ {K X : Type 0} {R : K → K → Ordering} (total : IsTotalOrder R) (exact : IsAntisymmetric R)
+    (of : Rows → FinMap R X) (ts : tables.Places) where
   pub all_stood : (w : AsOf) → ((q : K) → IsSome (get (of (rows_then ts w)) q) → IsSome (get (of (rows ts)) q))
       → entries (of (rows_then ts w)) ≡ stood w (of (rows_then ts w)) (entries (of (rows ts)))
   all_stood when.Now has = sym (stood_now (of (rows ts)) (entries (of (rows ts))))
   all_stood (when.Moment v) has = all_is (of (rows_of v)) total exact (of (rows ts)) has
 
-  pub kept_stood : (w : AsOf) (p : K → Bool) → ((q : K) → IsSome (get (of (rows_then ts w)) q) → IsSome (get (of (rows ts)) q))
-      → entries (retain_keys (of (rows_then ts w)) p) ≡ stood w (of (rows_then ts w)) (entries (retain_keys (of (rows ts)) p))
+  pub kept_stood : (w : AsOf) (p : K → Bool)
+      → ((q : K) → IsSome (get (of (rows_then ts w)) q) → IsSome (get (of (rows ts)) q))
+      → entries (retain_keys (of (rows_then ts w)) p) ≡ stood w (of (rows_then ts w))
+      (entries (retain_keys (of (rows ts)) p))
   kept_stood when.Now p has = sym (stood_now (of (rows ts)) (entries (retain_keys (of (rows ts)) p)))
   kept_stood (when.Moment v) p has = kept_is (of (rows_of v)) total exact (of (rows ts)) p has
 
@@ -86,35 +96,51 @@ module _ (ts : tables.Places) (w : AsOf) (h : ArePassed (rows_then ts w) (rows t
   pub all_lines_are : entries past.order_lines ≡ stood w past.order_lines (entries (rows ts).order_lines)
   all_lines_are = all_stood order_line_total exact_order_line (λ r. r.order_lines) ts w h.order_lines
 
-  pub districts_of_are : (g : WarehouseKey) → entries_of warehouse_cmp warehouse_of_district g past.districts ≡ stood w past.districts (entries_of warehouse_cmp warehouse_of_district g (rows ts).districts)
-  districts_of_are g = kept_stood district_total exact_district (λ r. r.districts) ts w (λ k. eq_by_cmp warehouse_cmp (warehouse_of_district k) g) h.districts
+  pub districts_of_are : (g : WarehouseKey) → entries_of warehouse_cmp warehouse_of_district g past.districts ≡ stood w
+      past.districts (entries_of warehouse_cmp warehouse_of_district g (rows ts).districts)
+  districts_of_are g = kept_stood district_total exact_district (λ r. r.districts) ts w
+      (λ k. eq_by_cmp warehouse_cmp (warehouse_of_district k) g) h.districts
 
-  pub orders_are : (g : DistrictKey) → entries_of district_cmp district_of_order g past.orders ≡ stood w past.orders (entries_of district_cmp district_of_order g (rows ts).orders)
-  orders_are g = kept_stood order_total exact_order (λ r. r.orders) ts w (λ k. eq_by_cmp district_cmp (district_of_order k) g) h.orders
+  pub orders_are : (g : DistrictKey) → entries_of district_cmp district_of_order g past.orders ≡ stood w past.orders
+      (entries_of district_cmp district_of_order g (rows ts).orders)
+  orders_are g = kept_stood order_total exact_order (λ r. r.orders) ts w
+      (λ k. eq_by_cmp district_cmp (district_of_order k) g) h.orders
 
-  pub lines_are : (g : DistrictKey) → entries_of district_cmp (λ k. district_of_order (order_of_line k)) g past.order_lines ≡ stood w past.order_lines (entries_of district_cmp (λ k. district_of_order (order_of_line k)) g (rows ts).order_lines)
+  pub lines_are : (g : DistrictKey) → entries_of district_cmp (λ k. district_of_order (order_of_line k)) g
+      past.order_lines ≡ stood w past.order_lines
+      (entries_of district_cmp (λ k. district_of_order (order_of_line k)) g (rows ts).order_lines)
   lines_are g =
-      kept_stood order_line_total exact_order_line (λ r. r.order_lines) ts w (λ k. eq_by_cmp district_cmp (district_of_order (order_of_line k)) g) h.order_lines
+      kept_stood order_line_total exact_order_line (λ r. r.order_lines) ts w
+      (λ k. eq_by_cmp district_cmp (district_of_order (order_of_line k)) g) h.order_lines
 
-  pub lines_of_are : (k : OrderKey) → entries_of order_cmp order_of_line k past.order_lines ≡ stood w past.order_lines (entries_of order_cmp order_of_line k (rows ts).order_lines)
-  lines_of_are k = kept_stood order_line_total exact_order_line (λ r. r.order_lines) ts w (λ l. eq_by_cmp order_cmp (order_of_line l) k) h.order_lines
+  pub lines_of_are : (k : OrderKey) → entries_of order_cmp order_of_line k past.order_lines ≡ stood w past.order_lines
+      (entries_of order_cmp order_of_line k (rows ts).order_lines)
+  lines_of_are k = kept_stood order_line_total exact_order_line (λ r. r.order_lines) ts w
+      (λ l. eq_by_cmp order_cmp (order_of_line l) k) h.order_lines
 
   -- what condition 6 counts
-  pub lines_were : (k : OrderKey) → lines_of_order past k ≡ length (stood w past.order_lines (entries_of order_cmp order_of_line k (rows ts).order_lines))
+  pub lines_were : (k : OrderKey) → lines_of_order past k ≡ length
+      (stood w past.order_lines (entries_of order_cmp order_of_line k (rows ts).order_lines))
   lines_were k =
-      sum_of_group order_line_total exact_order_line past.order_lines (λ l. eq_by_cmp order_cmp (order_of_line l) k) (λ l y. 1)
+      sum_of_group order_line_total exact_order_line past.order_lines (λ l. eq_by_cmp order_cmp (order_of_line l) k)
+      (λ l y. 1)
       ∙ ones (entries_of order_cmp order_of_line k past.order_lines) ∙ ap length (lines_of_are k)
 
   -- what conditions 1 and 4 sum up
-  pub ytd_was : (g : WarehouseKey) → ytd_of past g ≡ sum_by (λ (e : DistrictKey × District). e.1.ytd) (stood w past.districts (entries_of warehouse_cmp warehouse_of_district g (rows ts).districts))
+  pub ytd_was : (g : WarehouseKey) → ytd_of past g ≡ sum_by (λ (e : DistrictKey × District). e.1.ytd)
+      (stood w past.districts (entries_of warehouse_cmp warehouse_of_district g (rows ts).districts))
   ytd_was g =
-      sum_of_group district_total exact_district past.districts (λ k. eq_by_cmp warehouse_cmp (warehouse_of_district k) g) (λ k x. x.ytd)
+      sum_of_group district_total exact_district past.districts
+      (λ k. eq_by_cmp warehouse_cmp (warehouse_of_district k) g) (λ k x. x.ytd)
       ∙ ap (sum_by (λ (e : DistrictKey × District). e.1.ytd)) (districts_of_are g)
 
-  pub asked_was : (g : DistrictKey) → lines_asked past g ≡ sum_by (λ (e : OrderKey × Order). e.1.line_count) (stood w past.orders (entries_of district_cmp district_of_order g (rows ts).orders))
+  pub asked_was : (g : DistrictKey) → lines_asked past g ≡ sum_by (λ (e : OrderKey × Order). e.1.line_count)
+      (stood w past.orders (entries_of district_cmp district_of_order g (rows ts).orders))
   asked_was g = asked_is past g ∙ ap (sum_by (λ (e : OrderKey × Order). e.1.line_count)) (orders_are g)
 
-  pub there_was : (g : DistrictKey) → lines_there past g ≡ length (stood w past.order_lines (entries_of district_cmp (λ k. district_of_order (order_of_line k)) g (rows ts).order_lines))
+  pub there_was : (g : DistrictKey) → lines_there past g ≡ length
+      (stood w past.order_lines
+      (entries_of district_cmp (λ k. district_of_order (order_of_line k)) g (rows ts).order_lines))
   there_was g = there_is past g ∙ ap length (lines_are g)
 
   -- an order that waited for its delivery was there, and is
@@ -125,19 +151,25 @@ module _ (ts : tables.Places) (w : AsOf) (h : ArePassed (rows_then ts w) (rows t
     abbrev group : List (OrderKey × Order)
     group = entries (retain_keys (rows ts).orders in_district)
 
-    found_in : (q : NewOrderKey) → find new_order_cmp q (as_new group) ≡ cond (in_district (order_of_new_order q)) (get (rows ts).orders (order_of_new_order q)) None
+    found_in : (q : NewOrderKey) → find new_order_cmp q (as_new group) ≡ cond (in_district (order_of_new_order q))
+        (get (rows ts).orders (order_of_new_order q)) None
     found_in q =
         find_same q group ∙ sym (get-entries (retain_keys (rows ts).orders in_district) (order_of_new_order q))
-        ∙ get-retain_keys (rows ts).orders in_district (order_of_new_order q) (λ x e. ap in_district (sym (exact_order (order_of_new_order q) x e)))
+        ∙ get-retain_keys (rows ts).orders in_district (order_of_new_order q)
+        (λ x e. ap in_district (sym (exact_order (order_of_new_order q) x e)))
 
-    waiting_there : (q : NewOrderKey) → eq_by_cmp district_cmp (district_of_new_order q) g ≡ true → IsSome (get past.new_orders q) → IsSome (find new_order_cmp q (as_new group))
+    waiting_there : (q : NewOrderKey) → eq_by_cmp district_cmp (district_of_new_order q) g ≡ true
+        → IsSome (get past.new_orders q) → IsSome (find new_order_cmp q (as_new group))
     waiting_there q own there =
         ap is_some (found_in q ∙ ap (λ b. cond b (get (rows ts).orders (order_of_new_order q)) None) own)
         ∙ h.orders (order_of_new_order q) (h.new_orders q there)
 
-    pub new_orders_are : entries_of district_cmp district_of_new_order g past.new_orders ≡ rows_at past.new_orders (as_new (entries_of district_cmp district_of_order g (rows ts).orders))
+    pub new_orders_are : entries_of district_cmp district_of_new_order g past.new_orders ≡ rows_at past.new_orders
+        (as_new (entries_of district_cmp district_of_order g (rows ts).orders))
     new_orders_are =
-        kept_among past.new_orders new_order_total exact_new_order (λ k. eq_by_cmp district_cmp (district_of_new_order k) g) (as_new group)
+        kept_among past.new_orders new_order_total exact_new_order
+        (λ k. eq_by_cmp district_cmp (district_of_new_order k) g) (as_new group)
         (subst T (sym (sorted_same group)) (entries_sorted (retain_keys (rows ts).orders in_district)))
         waiting_there
-        (λ q there. chosen (in_district (order_of_new_order q)) (get (rows ts).orders (order_of_new_order q)) (ap is_some (sym (found_in q)) ∙ there))
+        (λ q there. chosen (in_district (order_of_new_order q)) (get (rows ts).orders (order_of_new_order q))
+        (ap is_some (sym (found_in q)) ∙ there))

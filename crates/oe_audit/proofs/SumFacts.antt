@@ -1,5 +1,6 @@
 -- Sums that are taken away from a number, row after row.
-use Rattle.std.proofs.Common.{◌≡◌, ℕ, zero, suc, ◌+◌, ◌<◌, ◌≤◌, ◌↔◌, refl, sym, ◌∙◌, ap, Bool, true, false, not, List, [], ◌∷◌, arith}
+use Rattle.std.proofs.Common.{◌≡◌, ℕ, zero, suc, ◌+◌, ◌<◌, ◌≤◌, ◌↔◌, refl, sym, ◌∙◌, ap, Bool, true, false, not, List}
+use Rattle.std.proofs.Common.{[], ◌∷◌, arith}
 use Rattle.std.specs.Prelude.{◌==◌, IsTrue, sum_by}
 use Rattle.std.proofs.lemmas.Bool.{eq-eqb, eqb-true, ne_eqb}
 use Rattle.std.proofs.lemmas.List.Sums.{sum_by-cons}
@@ -10,18 +11,21 @@ same_test a b c d there back = by_test (c == d) refl
   where
     by_test : (t : Bool) → (c == d) ≡ t → (a == b) ≡ t
     by_test true e = eq-eqb a b (back (eqb-true c d e))
-    by_test false e = ne_eqb a b (λ s. let no : true ≡ false = sym (eq-eqb c d (there s)) ∙ e in absurd (let z : ⊥ = cc in z))
+    by_test false e = ne_eqb a b (λ s. let no : true ≡ false = sym (eq-eqb c d (there s)) ∙ e in
+        absurd (let z : ⊥ = cc in z))
 
 module _ {A : Type 0} (f : A → ℕ) where
   -- the first number of the sum is taken away
-  pub taken_away : (rest less : ℕ) (x : A) (xs all : List A) → all ≡ x ∷ xs → rest ≡ less + f x → (less == sum_by f xs) ≡ (rest == sum_by f all)
+  pub taken_away : (rest less : ℕ) (x : A) (xs all : List A) → all ≡ x ∷ xs → rest ≡ less + f x
+      → (less == sum_by f xs) ≡ (rest == sum_by f all)
   taken_away rest less x xs all split r =
       let s = ap (sum_by f) split ∙ sum_by-cons f x xs in
       same_test less (sum_by f xs) rest (sum_by f all) (λ e. omega arith) (λ e. omega arith)
 
   -- it is too great
   pub too_great : (rest : ℕ) (x : A) (xs all : List A) → all ≡ x ∷ xs → rest < f x → (rest == sum_by f all) ≡ false
-  too_great rest x xs all split r = let s = ap (sum_by f) split ∙ sum_by-cons f x xs in ne_eqb rest (sum_by f all) (λ e. omega arith)
+  too_great rest x xs all split r = let s = ap (sum_by f) split ∙ sum_by-cons f x xs in
+      ne_eqb rest (sum_by f all) (λ e. omega arith)
 
   -- nothing is left to take
   pub all_taken : (rest : ℕ) (all : List A) → all ≡ [] → (rest == 0) ≡ (rest == sum_by f all)
@@ -29,9 +33,11 @@ module _ {A : Type 0} (f : A → ℕ) where
 
   -- as many as the first number are not there, or are taken
   pub too_few : (n : ℕ) (x : A) (xs all : List A) → all ≡ x ∷ xs → (f x ≤ n → ⊥) → false ≡ (sum_by f all == n)
-  too_few n x xs all split few = let s = ap (sum_by f) split ∙ sum_by-cons f x xs in sym (ne_eqb (sum_by f all) n (λ e. few (omega arith)))
+  too_few n x xs all split few = let s = ap (sum_by f) split ∙ sum_by-cons f x xs in
+      sym (ne_eqb (sum_by f all) n (λ e. few (omega arith)))
 
-  pub taken_off : (n m : ℕ) (x : A) (xs all : List A) → all ≡ x ∷ xs → m + f x ≡ n → (sum_by f xs == m) ≡ (sum_by f all == n)
+  pub taken_off : (n m : ℕ) (x : A) (xs all : List A) → all ≡ x ∷ xs → m + f x ≡ n
+      → (sum_by f xs == m) ≡ (sum_by f all == n)
   taken_off n m x xs all split r =
       let s = ap (sum_by f) split ∙ sum_by-cons f x xs in
       same_test (sum_by f xs) m (sum_by f all) n (λ e. omega arith) (λ e. omega arith)
@@ -44,11 +50,14 @@ none_left true (suc n) t = sym (ne_eqb 0 (suc n) (λ e. omega arith))
 none_left false (suc n) t = let e : false ≡ true = t.1 (omega arith) in let z : ⊥ = cc in absurd z
 
 -- rows are as many as were asked for: fewer are there, or some are left, or none
-pub few_lines : (b : Bool) (count n total : ℕ) → IsTrue b ↔ (count ≤ n) → b ≡ false → total ≡ n → false ≡ (count == total)
+pub few_lines : (b : Bool) (count n total : ℕ) → IsTrue b ↔ (count ≤ n) → b ≡ false → total ≡ n
+    → false ≡ (count == total)
 few_lines true count n total enough e is = let no : ⊥ = cc in absurd no
-few_lines false count n total enough e is = sym (ne_eqb count total (λ s. let t : false ≡ true = enough.1 (omega arith) in let no : ⊥ = cc in no))
+few_lines false count n total enough e is =
+    sym (ne_eqb count total (λ s. let t : false ≡ true = enough.1 (omega arith) in let no : ⊥ = cc in no))
 
-pub all_lines : (b m : Bool) (count n rest total : ℕ) → (IsTrue b → rest + count ≡ n) → b ≡ true → IsTrue m ↔ (1 ≤ rest) → total ≡ n → not m ≡ (count == total)
+pub all_lines : (b m : Bool) (count n rest total : ℕ) → (IsTrue b → rest + count ≡ n) → b ≡ true → IsTrue m ↔ (1 ≤ rest)
+    → total ≡ n → not m ≡ (count == total)
 all_lines true m count n rest total taken e more is =
     let t = taken refl in
     none_left m rest more ∙ same_test 0 rest count total (λ s. omega arith) (λ s. omega arith)

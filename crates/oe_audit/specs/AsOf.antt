@@ -59,7 +59,8 @@ lines_stood ts w es = length (stood w (rows_then ts w).order_lines es)
 abbrev pub Has : {K X : Type 0} {R : K → K → Ordering} → FinMap R X → K → Type 0
 Has m k = IsSome (get m k)
 
--- a walk of the rows that stand passes each key that had a row then; a NEW-ORDER row has its ORDER row, and a HISTORY row is as it was
+-- a walk of the rows that stand passes each key that had a row then; a NEW-ORDER row has its ORDER row, and a HISTORY
+-- row is as it was
 pub record ArePassed (past now : Rows) : Type 0 where
   pub warehouses : (k : WarehouseKey) → Has past.warehouses k → Has now.warehouses k
   pub districts : (k : DistrictKey) → Has past.districts k → Has now.districts k

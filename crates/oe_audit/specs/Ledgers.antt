@@ -1,5 +1,6 @@
 -- The sums of a district's customers, one for each C_ID: what was delivered to each, and what each has paid.
-use Rattle.std.specs.Prelude.{◌≡◌, ℕ, ◌+◌, ◌-◌, ◌≤◌, ◌&&◌, pos, ◌+ℤ◌, ◌≤ℤ◌, min, Bool, true, cond, List, get_or, Option, None, Some}
+use Rattle.std.specs.Prelude.{◌≡◌, ℕ, ◌+◌, ◌-◌, ◌≤◌, ◌&&◌, pos, ◌+ℤ◌, ◌≤ℤ◌, min, Bool, true, cond, List, get_or, Option}
+use Rattle.std.specs.Prelude.{None, Some}
 use Rattle.std.specs.Ordering.{eq_by_cmp, int_eq}
 use Rattle.std.specs.FinMap.{FinMap, get}
 use Rattle.oe_rows.specs.Key.{customer_cmp, history_cmp}

@@ -12,7 +12,8 @@ use Rattle.oe_model.specs.Audits.{greatest, least, some_and, none_or, order_numb
 abbrev pub is_summed : Rows → WarehouseKey → ℕ → Bool
 is_summed r w ytd = ytd == ytd_of r w
 
--- D_NEXT_O_ID is the number after a district's greatest O_ID, and after its greatest NO_O_ID where there is one (clause 3.3.2.2)
+-- D_NEXT_O_ID is the number after a district's greatest O_ID, and after its greatest NO_O_ID where there is one (clause
+-- 3.3.2.2)
 abbrev pub is_numbered : Rows → DistrictKey → ℕ → Bool
 is_numbered r h next =
     some_and (greatest (order_numbers h r.orders)) (λ n. next == n + 1)

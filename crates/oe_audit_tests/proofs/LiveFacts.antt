@@ -9,5 +9,7 @@ use Rattle.oe_model.proofs.SystemLaws.{laws, population_is_good}
 use Rattle.oe_core.specs.Core.{CoreState, world_of}
 use Rattle.oe_script.specs.Session.{state_of, IsLive}
 
-pub opened_is_live : (c : CoreState) (r : Rows) (n : ℕ) → world_of c ≡ opened system r n → IsPopulation r → IsLive (state_of (Some c))
-opened_is_live c r n e p = subst (λ w. IsLive (Some w)) (sym e) (opening_is_reached system laws r n (population_is_good r p), λ t. tt)
+pub opened_is_live : (c : CoreState) (r : Rows) (n : ℕ) → world_of c ≡ opened system r n → IsPopulation r
+    → IsLive (state_of (Some c))
+opened_is_live c r n e p = subst (λ w. IsLive (Some w)) (sym e)
+    (opening_is_reached system laws r n (population_is_good r p), λ t. tt)

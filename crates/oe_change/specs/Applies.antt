@@ -22,7 +22,8 @@ pub record Applies (c : Change) (old new : Places) (b : Record) : Type 0 where
 abbrev pub HasApplied : Change → Places → Places → OwnRecord → Type 0
 HasApplied c old new b = Applies c old new (record_of_own b)
 
--- why a change is refused: the cause is there, or, for an insert that the tables accept, its key has no place and takes memory
+-- why a change is refused: the cause is there, or, for an insert that the tables accept, its key has no place and takes
+-- memory
 abbrev pub Refuses : Change → Places → Refusal → Type 0
 Refuses c s NoMemory = (is_insert c ≡ true) × Accepts c (rows s) × (HasPlace s (key_of c) → ⊥)
 Refuses c s e = Cause c (rows s) e

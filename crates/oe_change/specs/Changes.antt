@@ -1,7 +1,10 @@
 -- A change as one of the model.
 use Rattle.oe_model.specs.Changes as model
 use Rattle.oe_change.specs.declared.changes.Change.{Change}
-use Rattle.oe_change.specs.declared.changes.Change.TheVariants.{InsertHistory, InsertNewOrder, InsertOrder, InsertOrderLine, UpdateWarehouse, UpdateDistrict, UpdateCustomer, UpdateOrder, UpdateOrderLine, UpdateStock, DeleteNewOrder}
+use Rattle.oe_change.specs.declared.changes.Change.TheVariants.{InsertHistory, InsertNewOrder, InsertOrder}
+use Rattle.oe_change.specs.declared.changes.Change.TheVariants.{InsertOrderLine, UpdateWarehouse, UpdateDistrict}
+use Rattle.oe_change.specs.declared.changes.Change.TheVariants.{UpdateCustomer, UpdateOrder, UpdateOrderLine}
+use Rattle.oe_change.specs.declared.changes.Change.TheVariants.{UpdateStock, DeleteNewOrder}
 
 -- a NEW-ORDER row has no column but its key
 abbrev pub change_of : Change → model.Change

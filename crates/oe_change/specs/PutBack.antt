@@ -3,7 +3,8 @@ use Rattle.std.specs.Prelude.{◌≡◌, None, IsSome}
 use Rattle.std.specs.FinMap.{get}
 use Rattle.oe_rows.specs.declared.keys.Key.TheVariants as key
 use Rattle.oe_model.specs.Rows.{Rows, row_at}
-use Rattle.oe_model.specs.Changes.{Record, InsertedHistory, InsertedNewOrder, InsertedOrder, InsertedOrderLine, DeletedNewOrder, record_key, put_back}
+use Rattle.oe_model.specs.Changes.{Record, InsertedHistory, InsertedNewOrder, InsertedOrder, InsertedOrderLine}
+use Rattle.oe_model.specs.Changes.{DeletedNewOrder, record_key, put_back}
 use Rattle.oe_model.specs.Meets.{Meets}
 use Rattle.oe_store.specs.Places.{Places, rows, HasPlace, LosesPlace, SamePlaces}
 

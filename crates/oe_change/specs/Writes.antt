@@ -8,7 +8,10 @@ use Rattle.oe_rows.specs.Item.{with_counters}
 use Rattle.oe_model.specs.Rows.{Rows}
 use Rattle.oe_model.specs.Changes as model
 use Rattle.oe_change.specs.declared.writes.Write.{Write}
-use Rattle.oe_change.specs.declared.writes.Write.TheVariants.{WarehouseYtd, DistrictYtd, NextOrder, CustomerAccount, BadCredit, StockCounters, Carrier, DeliveryDate, InsertHistory, InsertNewOrder, InsertOrder, InsertOrderLine, DeleteNewOrder}
+use Rattle.oe_change.specs.declared.writes.Write.TheVariants.{WarehouseYtd, DistrictYtd, NextOrder, CustomerAccount}
+use Rattle.oe_change.specs.declared.writes.Write.TheVariants.{BadCredit, StockCounters, Carrier, DeliveryDate}
+use Rattle.oe_change.specs.declared.writes.Write.TheVariants.{InsertHistory, InsertNewOrder, InsertOrder}
+use Rattle.oe_change.specs.declared.writes.Write.TheVariants.{InsertOrderLine, DeleteNewOrder}
 
 -- the key of the row that it changes
 abbrev pub key_written : Write → Key
@@ -26,17 +29,20 @@ key_written (InsertOrder k x) = key.Order k
 key_written (InsertOrderLine k x) = key.OrderLine k
 key_written (DeleteNewOrder k) = key.NewOrder k
 
--- the change that it is of these rows: an update's row is the one that is there with the columns set, and where none is there it
+-- the change that it is of these rows: an update's row is the one that is there with the columns set, and where none is
+-- there it
 -- is no change
 abbrev pub written : Write → Rows → Option model.Change
 written (WarehouseYtd k y) r = option_map (λ w. model.UpdateWarehouse k (record w { ytd = y })) (get r.warehouses k)
 written (DistrictYtd k y) r = option_map (λ d. model.UpdateDistrict k (record d { ytd = y })) (get r.districts k)
 written (NextOrder k n) r = option_map (λ d. model.UpdateDistrict k (record d { next_order = n })) (get r.districts k)
-written (CustomerAccount k a) r = option_map (λ c. model.UpdateCustomer k (record c { account = a })) (get r.customers k)
+written (CustomerAccount k a) r = option_map (λ c. model.UpdateCustomer k (record c { account = a }))
+    (get r.customers k)
 written (BadCredit k a e) r = option_map (λ c. model.UpdateCustomer k (with_entry a e c)) (get r.customers k)
 written (StockCounters k n) r = option_map (λ s. model.UpdateStock k (with_counters n s)) (get r.stocks k)
 written (Carrier k c) r = option_map (λ o. model.UpdateOrder k (record o { carrier = Some c })) (get r.orders k)
-written (DeliveryDate k t) r = option_map (λ l. model.UpdateOrderLine k (record l { delivery = Some t })) (get r.order_lines k)
+written (DeliveryDate k t) r = option_map (λ l. model.UpdateOrderLine k (record l { delivery = Some t }))
+    (get r.order_lines k)
 written (InsertHistory k x) r = Some (model.InsertHistory k x)
 written (InsertNewOrder k) r = Some (model.InsertNewOrder k (record {}))
 written (InsertOrder k x) r = Some (model.InsertOrder k x)

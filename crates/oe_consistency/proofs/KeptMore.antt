@@ -21,21 +21,25 @@ use Rattle.oe_consistency.proofs.NewOrderMore.{new_order_more}
 use Rattle.oe_consistency.proofs.DeliveryMore.{delivery_more, deliveries_more}
 
 -- by the request, of tables on which its HISTORY row is new
-by_request : (f : ℕ → ℕ) (x : Tx Request) (r after : Rows) (y : Reply) → IsGood system f x r → More r → get r.histories (history_key x.terminal x.number) ≡ None
+by_request : (f : ℕ → ℕ) (x : Tx Request) (r after : Rows) (y : Reply) → IsGood system f x r → More r
+    → get r.histories (history_key x.terminal x.number) ≡ None
     → (q : Request) → effect_of x.terminal x.number q r ≡ Some (after, y) → More after
 by_request f x r after y g more new (request.Payment q) e = payment_more x.terminal x.number q r after y new more e
-by_request f x r after y g more new (request.NewOrder q) e = new_order_more q r after y g.good.meets g.good.condition_2 more e
+by_request f x r after y g more new (request.NewOrder q) e = new_order_more q r after y g.good.meets g.good.condition_2
+    more e
 by_request f x r after y g more new (request.Delivery q) e = delivery_more q r after y more e
 by_request f x r after y g more new (request.Deliveries q) e = deliveries_more q r after y more e
 by_request f x r after y g more new (request.Rename q) e = let no : ⊥ = cc in absurd no
 
 pub kept : IsKept system More
-kept f x r after y g e more = by_request f x r after y g more (g.good.unused (history_key x.terminal x.number) g.terminal.0 later) x.request e
+kept f x r after y g e more = by_request f x r after y g more
+    (g.good.unused (history_key x.terminal x.number) g.terminal.0 later) x.request e
   where
     later : f x.terminal < x.number
     later = let n : x.number ≡ suc (f x.terminal) = g.number in omega arith
 
 -- a step leaves a base of which they hold: the one before, or the version of the moment that it purges
-pub base_more : (w v : World system) (i : theory.Step system) (a : theory.Answer system) → IsReached system w → More w.base → Next system w i a v → More v.base
+pub base_more : (w v : World system) (i : theory.Step system) (a : theory.Answer system) → IsReached system w
+    → More w.base → Next system w i a v → More v.base
 base_more w _ _ _ r more (purges m l u) = holds_from_base system laws More kept w r more m
 base_more w _ _ _ r more n = more

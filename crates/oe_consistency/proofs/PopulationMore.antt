@@ -1,5 +1,6 @@
 -- Conditions 5 to 10 and 12 hold of the population by formula.
-use Rattle.std.proofs.Common.{◌≡◌, ℕ, suc, ◌+◌, ◌-◌, ◌*◌, ◌/◌, ◌%◌, ◌≤◌, ◌<◌, refl, sym, ◌∙◌, ap, subst, Bool, true, false, cond, Some, None, arith, zero-add, pos, ◌-ℤ◌}
+use Rattle.std.proofs.Common.{◌≡◌, ℕ, suc, ◌+◌, ◌-◌, ◌*◌, ◌/◌, ◌%◌, ◌≤◌, ◌<◌, refl, sym, ◌∙◌, ap, subst, Bool, true}
+use Rattle.std.proofs.Common.{false, cond, Some, None, arith, zero-add, pos, ◌-ℤ◌}
 use Rattle.std.specs.Prelude.{◌⊎◌, ◌↔◌, ◌&&◌, not, is_some, nat_le}
 use Rattle.std.specs.Ordering.{eq_by_cmp}
 use Rattle.std.specs.FinMap.{get}
@@ -20,16 +21,28 @@ use Rattle.oe_rows.specs.declared.customers.Customer.{Customer}
 use Rattle.oe_rows.specs.declared.histories.History.{History}
 use Rattle.oe_rows.specs.declared.orders.Order.{Order}
 use Rattle.oe_rows.specs.declared.orders.OrderLine.{OrderLine}
-use Rattle.oe_rows.proofs.KeyFacts.{warehouse_total, exact_warehouse, district_total, exact_district, customer_total, exact_customer, history_total, exact_history, order_total, exact_order, order_line_total, exact_order_line}
-use Rattle.oe_model.specs.Keys.{warehouse_of_district, district_of_customer, district_of_order, order_of_line, customer_in, new_order_in, line_in}
+use Rattle.oe_rows.proofs.KeyFacts.{warehouse_total, exact_warehouse, district_total, exact_district, customer_total}
+use Rattle.oe_rows.proofs.KeyFacts.{exact_customer, history_total, exact_history, order_total, exact_order}
+use Rattle.oe_rows.proofs.KeyFacts.{order_line_total, exact_order_line}
+use Rattle.oe_model.specs.Keys.{warehouse_of_district, district_of_customer, district_of_order, order_of_line}
+use Rattle.oe_model.specs.Keys.{customer_in, new_order_in, line_in}
 use Rattle.oe_model.specs.Rows.{Rows}
 use Rattle.oe_model.specs.Conditions.{if_of_warehouse, if_of}
-use Rattle.oe_model.specs.FurtherConditions.{More, if_of_order, if_of_customer, lines_of_order, amount_for, is_order_of, delivered_for, paid_in_warehouse, paid_in_district, paid_by, Condition_5, Condition_5_at, Condition_6, Condition_7, Condition_8, Condition_9, Condition_10_at, Condition_12_at}
-use Rattle.oe_model.specs.Population.{IsScale, IsPopulated, where_there, counts_to, has_warehouse, has_district, has_customer, has_order, has_line, warehouse_of, district_of, customer_of, history_of, history_key, counted_customer, order_of, line_of, lines_of, is_delivered}
+use Rattle.oe_model.specs.FurtherConditions.{More, if_of_order, if_of_customer, lines_of_order, amount_for, is_order_of}
+use Rattle.oe_model.specs.FurtherConditions.{delivered_for, paid_in_warehouse, paid_in_district, paid_by, Condition_5}
+use Rattle.oe_model.specs.FurtherConditions.{Condition_5_at, Condition_6, Condition_7, Condition_8, Condition_9}
+use Rattle.oe_model.specs.FurtherConditions.{Condition_10_at, Condition_12_at}
+use Rattle.oe_model.specs.Population.{IsScale, IsPopulated, where_there, counts_to, has_warehouse, has_district}
+use Rattle.oe_model.specs.Population.{has_customer, has_order, has_line, warehouse_of, district_of, customer_of}
+use Rattle.oe_model.specs.Population.{history_of, history_key, counted_customer, order_of, line_of, lines_of}
+use Rattle.oe_model.specs.Population.{is_delivered}
 use Rattle.oe_model.proofs.MapFacts.{is_same, is_self}
 use Rattle.oe_model.proofs.SumFacts.{number_at, sum-none}
 use Rattle.oe_model.proofs.CountFacts.{total-same, total-constant, sum-listed}
-use Rattle.oe_model.proofs.PopulationFacts.{same_there, counts, counted, counts_or, counts_customer, warehouse_get, district_get, customer_get, history_get, order_get, line_get, warehouse_is, district_is, customer_is, history_is, new_order_is, order_is, line_is, held, line_held}
+use Rattle.oe_model.proofs.PopulationFacts.{same_there, counts, counted, counts_or, counts_customer, warehouse_get}
+use Rattle.oe_model.proofs.PopulationFacts.{district_get, customer_get, history_get, order_get, line_get, warehouse_is}
+use Rattle.oe_model.proofs.PopulationFacts.{district_is, customer_is, history_is, new_order_is, order_is, line_is, held}
+use Rattle.oe_model.proofs.PopulationFacts.{line_held}
 use Rattle.oe_consistency.specs.Consistency.{Population_has_more}
 
 -- a number below ten times c has a quotient below ten; and d times c and less than c more lies below, for d below ten
@@ -67,14 +80,17 @@ module _ (s : Scale) (r : Rows) (sc : IsScale s) (p : IsPopulated s r) where
   order_row : (k : OrderKey) (x : Order) → get r.orders k ≡ Some x → (has_order s k ≡ true) × (order_of s k.order ≡ x)
   order_row k x e = (held s r sc p _ x (order_is s r sc p k) e, same_there _ _ x (sym (order_get s r sc p k) ∙ e))
 
-  line_row : (l : OrderLineKey) (y : OrderLine) → get r.order_lines l ≡ Some y → (has_line s l ≡ true) × (line_of s l ≡ y)
+  line_row : (l : OrderLineKey) (y : OrderLine) → get r.order_lines l ≡ Some y
+      → (has_line s l ≡ true) × (line_of s l ≡ y)
   line_row l y e = (held s r sc p _ y (line_is s r sc p l) e, same_there _ _ y (sym (line_get s r sc p l) ∙ e))
 
   condition_5 : Condition_5 r
   condition_5 k x e =
       let row = order_row k x e in
-      let waits : is_some (get r.new_orders (new_order_in (district_of_order k) k.order)) ≡ not (is_delivered s k.order) =
-      new_order_is s r sc p (new_order_in (district_of_order k) k.order) ∙ and_second (has_order s k) (not (is_delivered s k.order)) row.0 in
+      let waits : is_some (get r.new_orders (new_order_in (district_of_order k) k.order)) ≡ not
+      (is_delivered s k.order) =
+      new_order_is s r sc p (new_order_in (district_of_order k) k.order)
+      ∙ and_second (has_order s k) (not (is_delivered s k.order)) row.0 in
       let same = waits_or (is_delivered s k.order) (1 + k.order % 10) in
       subst (λ (z : Order). Condition_5_at r k z) row.1 (λ v. waits ∙ same.0 v, λ v. same.1 (sym waits ∙ v))
 
@@ -92,7 +108,8 @@ module _ (s : Scale) (r : Rows) (sc : IsScale s) (p : IsPopulated s r) where
       apart : (i j : ℕ) → i < j → j < lines_of k.order → at i ≡ at j → ⊥
       apart i j l m e = let d : suc i ≡ suc j = ap (λ (l : OrderLineKey). l.number) e in omega arith
 
-      listed : (l : OrderLineKey) (y : OrderLine) → get r.order_lines l ≡ Some y → (one l y ≡ 0) ⊎ ((i : ℕ) × (i < lines_of k.order) × (at i ≡ l))
+      listed : (l : OrderLineKey) (y : OrderLine) → get r.order_lines l ≡ Some y
+          → (one l y ≡ 0) ⊎ ((i : ℕ) × (i < lines_of k.order) × (at i ≡ l))
       listed l y e = counts_or s r sc p _ 1 _ (λ t.
           let g = is_same order_total exact_order (order_of_line l) k t in
           let n = line_held s r sc p l (line_row l y e).0 in
@@ -104,12 +121,15 @@ module _ (s : Scale) (r : Rows) (sc : IsScale s) (p : IsPopulated s r) where
       lines : has_order s k ≡ true → lines_of_order r k ≡ lines_of k.order
       lines there =
           sum-listed order_line_total exact_order_line one (lines_of k.order) at apart r.order_lines listed
-          ∙ total-same (lines_of k.order) (λ i. number_at one (at i) (get r.order_lines (at i))) (λ i. 1) (λ i l. each i l)
+          ∙ total-same (lines_of k.order) (λ i. number_at one (at i) (get r.order_lines (at i))) (λ i. 1)
+          (λ i l. each i l)
           ∙ total-constant (lines_of k.order) 1 ∙ omega arith
         where
           each : (i : ℕ) → i < lines_of k.order → number_at one (at i) (get r.order_lines (at i)) ≡ 1
           each i l =
-              ap (number_at one (at i)) (line_get s r sc p (at i) ∙ ap (λ b. where_there b (line_of s (at i))) (and_from (has_order s k) _ there (counted (lines_of k.order) (suc i) (omega arith) (omega arith))))
+              ap (number_at one (at i))
+              (line_get s r sc p (at i) ∙ ap (λ b. where_there b (line_of s (at i)))
+              (and_from (has_order s k) _ there (counted (lines_of k.order) (suc i) (omega arith) (omega arith))))
               ∙ ap (λ b. cond b 1 0) (is_self order_total exact_order k)
 
   condition_7 : Condition_7 r
@@ -117,28 +137,40 @@ module _ (s : Scale) (r : Rows) (sc : IsScale s) (p : IsPopulated s r) where
       let line = line_row l y e in
       let order = order_row (order_of_line l) x f in
       subst (λ (z : Order). (y.delivery ≡ None) ↔ (z.carrier ≡ None)) order.1
-      (subst (λ (z : OrderLine). (z.delivery ≡ None) ↔ ((order_of s l.order).carrier ≡ None)) line.1 (dated_alike (is_delivered s l.order) _ _))
+      (subst (λ (z : OrderLine). (z.delivery ≡ None) ↔ ((order_of s l.order).carrier ≡ None)) line.1
+      (dated_alike (is_delivered s l.order) _ _))
 
   -- each HISTORY row is of the customer that it counts, in the customer's district
   history_row : (k : HistoryKey) (y : History) → get r.histories k ≡ Some y
-      → (has_customer s (counted_customer s k.number) ≡ true) × (history_of (counted_customer s k.number) ≡ y) × (history_key s (counted_customer s k.number) ≡ k)
+      → (has_customer s (counted_customer s k.number) ≡ true) × (history_of (counted_customer s k.number) ≡ y)
+      × (history_key s (counted_customer s k.number) ≡ k)
   history_row k y e =
       let c : CustomerKey = counted_customer s k.number in
-      let there = and_parts (has_customer s c) (eq_by_cmp history_cmp k (history_key s c)) (held s r sc p _ y (history_is s r sc p k) e) in
-      (there.0, same_there _ _ y (sym (history_get s r sc p k) ∙ e), sym (is_same history_total exact_history k (history_key s c) there.1))
+      let there = and_parts (has_customer s c) (eq_by_cmp history_cmp k (history_key s c))
+      (held s r sc p _ y (history_is s r sc p k) e) in (
+        there.0,
+        same_there _ _ y (sym (history_get s r sc p k) ∙ e),
+        sym
+            (is_same history_total exact_history k (history_key s c) there.1),
+      )
 
   history_at : (c : CustomerKey) → has_customer s c ≡ true → get r.histories (history_key s c) ≡ Some (history_of c)
   history_at c t =
       history_get s r sc p (history_key s c)
-      ∙ subst (λ (d : CustomerKey). where_there (has_customer s d && eq_by_cmp history_cmp (history_key s c) (history_key s d)) (history_of d) ≡ Some (history_of c)) (sym (counts_customer s c t))
-      (ap (λ b. where_there b (history_of c)) (and_from (has_customer s c) _ t (is_self history_total exact_history (history_key s c))))
+      ∙ subst (λ (d : CustomerKey). where_there
+      (has_customer s d && eq_by_cmp history_cmp (history_key s c) (history_key s d)) (history_of d) ≡ Some
+      (history_of c)) (sym (counts_customer s c t))
+      (ap (λ b. where_there b (history_of c))
+      (and_from (has_customer s c) _ t (is_self history_total exact_history (history_key s c))))
 
-  customer_held : (c : CustomerKey) → has_customer s c ≡ true → (has_district s (district_of_customer c) ≡ true) × (1 ≤ c.customer) × (c.customer ≤ s.customers)
+  customer_held : (c : CustomerKey) → has_customer s c ≡ true → (has_district s (district_of_customer c) ≡ true)
+      × (1 ≤ c.customer) × (c.customer ≤ s.customers)
   customer_held c t =
       let a = and_parts (has_district s (district_of_customer c)) (counts_to s.customers c.customer) t in
       let b = counts s.customers c.customer a.1 in (a.0, b.0, b.1)
 
-  condition_10_12 : (c : CustomerKey) (x : Customer) → get r.customers c ≡ Some x → Condition_10_at r c x × Condition_12_at r c x
+  condition_10_12 : (c : CustomerKey) (x : Customer) → get r.customers c ≡ Some x
+      → Condition_10_at r c x × Condition_12_at r c x
   condition_10_12 c x e =
       let there = held s r sc p _ x (customer_is s r sc p c) e in
       let row : customer_of c.customer ≡ x = same_there _ _ x (sym (customer_get s r sc p c) ∙ e) in
@@ -148,8 +180,10 @@ module _ (s : Scale) (r : Rows) (sc : IsScale s) (p : IsPopulated s r) where
       ((λ i. pos (sym d i) -ℤ pos (sym m i)), (λ i. pos (sym d i)))
     where
       nothing_delivered : delivered_for r c ≡ 0
-      nothing_delivered = sum-none order_line_total exact_order_line (λ l y. amount_for c (order_of_line l) (get r.orders (order_of_line l)) y) r.order_lines (λ l y f.
-          subst (λ (z : OrderLine). amount_for c (order_of_line l) (get r.orders (order_of_line l)) z ≡ 0) (line_row l y f).1
+      nothing_delivered = sum-none order_line_total exact_order_line
+          (λ l y. amount_for c (order_of_line l) (get r.orders (order_of_line l)) y) r.order_lines (λ l y f.
+          subst (λ (z : OrderLine). amount_for c (order_of_line l) (get r.orders (order_of_line l)) z ≡ 0)
+          (line_row l y f).1
           (nothing (is_order_of c (order_of_line l) (get r.orders (order_of_line l))) (is_delivered s l.order) _ _))
         where
           nothing : (a b : Bool) (m n : ℕ) → cond (a && is_some (cond b (Some m) None)) (cond b 0 n) 0 ≡ 0
@@ -162,14 +196,18 @@ module _ (s : Scale) (r : Rows) (sc : IsScale s) (p : IsPopulated s r) where
 
       paid : has_customer s c ≡ true → paid_by r c ≡ 1_000
       paid there =
-          sum-listed history_total exact_history own 1 (λ i. history_key s c) (λ i j l m e. omega arith) r.histories listed
+          sum-listed history_total exact_history own 1 (λ i. history_key s c) (λ i j l m e. omega arith) r.histories
+          listed
           ∙ zero-add _
-          ∙ ap (number_at own (history_key s c)) (history_at c there) ∙ ap (λ b. cond b 1_000 0) (is_self customer_total exact_customer c)
+          ∙ ap (number_at own (history_key s c)) (history_at c there) ∙ ap (λ b. cond b 1_000 0)
+          (is_self customer_total exact_customer c)
         where
-          listed : (k : HistoryKey) (y : History) → get r.histories k ≡ Some y → (own k y ≡ 0) ⊎ ((i : ℕ) × (i < 1) × (history_key s c ≡ k))
+          listed : (k : HistoryKey) (y : History) → get r.histories k ≡ Some y
+              → (own k y ≡ 0) ⊎ ((i : ℕ) × (i < 1) × (history_key s c ≡ k))
           listed k y f = counts_or s r sc p _ y.amount _ (λ t.
               let row = history_row k y f in
-              let mine : counted_customer s k.number ≡ c = ap (λ (z : History). z.customer) row.1 ∙ is_same customer_total exact_customer y.customer c t in
+              let mine : counted_customer s k.number ≡ c = ap (λ (z : History). z.customer) row.1
+              ∙ is_same customer_total exact_customer y.customer c t in
               (0, omega arith, ap (history_key s) (sym mine) ∙ row.2))
 
   condition_9 : Condition_9 r
@@ -189,14 +227,19 @@ module _ (s : Scale) (r : Rows) (sc : IsScale s) (p : IsPopulated s r) where
           let base = ((h.warehouse - 1) * 10 + (h.district - 1)) * s.customers in
           let d : base + suc i ≡ base + suc j = ap (λ (k : HistoryKey). k.number) e in omega arith
 
-      listed : (k : HistoryKey) (y : History) → get r.histories k ≡ Some y → (own k y ≡ 0) ⊎ ((i : ℕ) × (i < s.customers) × (at i ≡ k))
+      listed : (k : HistoryKey) (y : History) → get r.histories k ≡ Some y
+          → (own k y ≡ 0) ⊎ ((i : ℕ) × (i < s.customers) × (at i ≡ k))
       listed k y f = counts_or s r sc p _ y.amount _ (λ t.
           let row = history_row k y f in
           let c : CustomerKey = counted_customer s k.number in
-          let home : district_of_customer c ≡ h = ap (λ (z : History). z.district) row.1 ∙ is_same district_total exact_district y.district h t in
+          let home : district_of_customer c ≡ h = ap (λ (z : History). z.district) row.1
+          ∙ is_same district_total exact_district y.district h t in
           let n = customer_held c row.0 in
-          let number : suc (c.customer - 1) ≡ c.customer = (let low = n.1 in omega arith) in
-          (c.customer - 1, (let low = n.1 in let high = n.2 in omega arith), (λ i. history_key s (customer_in (sym home i) (number i))) ∙ row.2))
+          let number : suc (c.customer - 1) ≡ c.customer = (let low = n.1 in omega arith) in (
+            c.customer - 1,
+            (let low = n.1 in let high = n.2 in omega arith),
+            (λ i. history_key s (customer_in (sym home i) (number i))) ∙ row.2,
+          ))
 
       paid : has_district s h ≡ true → paid_in_district r h ≡ s.customers * 1_000
       paid there =
@@ -206,7 +249,9 @@ module _ (s : Scale) (r : Rows) (sc : IsScale s) (p : IsPopulated s r) where
         where
           each : (i : ℕ) → i < s.customers → number_at own (at i) (get r.histories (at i)) ≡ 1_000
           each i l =
-              ap (number_at own (at i)) (history_at (customer_in h (suc i)) (and_from (has_district s h) _ there (counted s.customers (suc i) (omega arith) (omega arith))))
+              ap (number_at own (at i))
+              (history_at (customer_in h (suc i))
+              (and_from (has_district s h) _ there (counted s.customers (suc i) (omega arith) (omega arith))))
               ∙ ap (λ b. cond b 1_000 0) (is_self district_total exact_district h)
 
   -- the payments of a warehouse, those of its ten districts together
@@ -225,39 +270,54 @@ module _ (s : Scale) (r : Rows) (sc : IsScale s) (p : IsPopulated s r) where
     is_payer i l =
         let small : i % s.customers < s.customers = mod_below i s.customers sc.customers.0 in
         and_from (has_district s (district_of_customer (payer i))) _
-        (and_from (has_warehouse s w) _ there (counted 10 (suc (i / s.customers)) (omega arith) (in_ten i s.customers sc.customers.0 l)))
+        (and_from (has_warehouse s w) _ there
+        (counted 10 (suc (i / s.customers)) (omega arith) (in_ten i s.customers sc.customers.0 l)))
         (counted s.customers (suc (i % s.customers)) (omega arith) (omega arith))
 
     apart : (i j : ℕ) → i < j → j < 10 * s.customers → at i ≡ at j → ⊥
     apart i j l m e =
         let same : payer i ≡ payer j =
-        sym (counts_customer s (payer i) (is_payer i (omega arith))) ∙ ap (λ (k : HistoryKey). counted_customer s k.number) e ∙ counts_customer s (payer j) (is_payer j m) in
+        sym (counts_customer s (payer i) (is_payer i (omega arith))) ∙ ap
+        (λ (k : HistoryKey). counted_customer s k.number) e ∙ counts_customer s (payer j) (is_payer j m) in
         let d : suc (i / s.customers) ≡ suc (j / s.customers) = ap (λ (c : CustomerKey). c.district) same in
         let c : suc (i % s.customers) ≡ suc (j % s.customers) = ap (λ (c : CustomerKey). c.customer) same in
         let d' : i / s.customers ≡ j / s.customers = omega arith in
         let c' : i % s.customers ≡ j % s.customers = omega arith in
-        let z : i ≡ j = sym (div-add-mod' i s.customers) ∙ (λ t. d' t * s.customers + c' t) ∙ div-add-mod' j s.customers in
+        let z : i ≡ j = sym (div-add-mod' i s.customers) ∙ (λ t. d' t * s.customers + c' t)
+        ∙ div-add-mod' j s.customers in
         omega arith
 
-    listed : (k : HistoryKey) (y : History) → get r.histories k ≡ Some y → (own k y ≡ 0) ⊎ ((i : ℕ) × (i < 10 * s.customers) × (at i ≡ k))
+    listed : (k : HistoryKey) (y : History) → get r.histories k ≡ Some y
+        → (own k y ≡ 0) ⊎ ((i : ℕ) × (i < 10 * s.customers) × (at i ≡ k))
     listed k y f = counts_or s r sc p _ y.amount _ (λ t.
         let row = history_row k y f in
         let c : CustomerKey = counted_customer s k.number in
         let home : district_of_customer c ≡ y.district = ap (λ (z : History). z.district) row.1 in
         let n = customer_held c row.0 in
-        let m = counts 10 c.district (and_parts (has_warehouse s (warehouse_of_district (district_of_customer c))) (counts_to 10 c.district) n.0).1 in
-        let a : c.warehouse ≡ w.warehouse = ap (λ (h : DistrictKey). h.warehouse) home ∙ ap (λ (v : WarehouseKey). v.warehouse) (is_same warehouse_total exact_warehouse (warehouse_of_district y.district) w t) in
+        let m = counts 10 c.district
+        (and_parts (has_warehouse s (warehouse_of_district (district_of_customer c))) (counts_to 10 c.district)
+        n.0).1 in
+        let a : c.warehouse ≡ w.warehouse = ap (λ (h : DistrictKey). h.warehouse) home
+        ∙ ap (λ (v : WarehouseKey). v.warehouse)
+        (is_same warehouse_total exact_warehouse (warehouse_of_district y.district) w t) in
         let low : c.customer - 1 < s.customers = (let x = n.1 in let z = n.2 in omega arith) in
-        let d : ((c.district - 1) * s.customers + (c.customer - 1)) / s.customers ≡ c.district - 1 = div-mul-add (c.district - 1) s.customers (c.customer - 1) low in
-        let b : ((c.district - 1) * s.customers + (c.customer - 1)) % s.customers ≡ c.customer - 1 = mod-mul-add (c.district - 1) s.customers (c.customer - 1) low in
+        let d : ((c.district - 1) * s.customers + (c.customer - 1)) / s.customers ≡ c.district - 1 =
+        div-mul-add (c.district - 1) s.customers (c.customer - 1) low in
+        let b : ((c.district - 1) * s.customers + (c.customer - 1)) % s.customers ≡ c.customer - 1 =
+        mod-mul-add (c.district - 1) s.customers (c.customer - 1) low in
         let d' : suc (c.district - 1) ≡ c.district = (let x = m.0 in omega arith) in
         let b' : suc (c.customer - 1) ≡ c.customer = (let x = n.1 in omega arith) in
         let is : payer ((c.district - 1) * s.customers + (c.customer - 1)) ≡ c =
-        λ i. record { warehouse = sym a i; district = (ap suc d ∙ d') i; customer = (ap suc b ∙ b') i } in
-        ((c.district - 1) * s.customers + (c.customer - 1), below (c.district - 1) (c.customer - 1) s.customers (let x = m.0 in let z = m.1 in omega arith) low, ap (history_key s) is ∙ row.2))
+        λ i. record { warehouse = sym a i; district = (ap suc d ∙ d') i; customer = (ap suc b ∙ b') i } in (
+          (c.district - 1) * s.customers + (c.customer - 1),
+          below (c.district - 1) (c.customer - 1) s.customers
+              (let x = m.0 in let z = m.1 in omega arith) low,
+          ap (history_key s) is ∙ row.2,
+        ))
 
     each : (i : ℕ) → i < 10 * s.customers → number_at own (at i) (get r.histories (at i)) ≡ 1_000
-    each i l = ap (number_at own (at i)) (history_at (payer i) (is_payer i l)) ∙ ap (λ b. cond b 1_000 0) (is_self warehouse_total exact_warehouse w)
+    each i l = ap (number_at own (at i)) (history_at (payer i) (is_payer i l))
+        ∙ ap (λ b. cond b 1_000 0) (is_self warehouse_total exact_warehouse w)
 
     paid : paid_in_warehouse r w ≡ 10 * s.customers * 1_000
     paid =

@@ -23,15 +23,20 @@ sum_both f g (x ∷ xs) =
 
 module _ {K X : Type 0} {R : K → K → Ordering} (o : IsTotalOrder R) (exact : IsAntisymmetric R) where
   -- numbers that agree at each row
-  pub sum_alike : (f g : K → X → ℕ) (m : FinMap R X) → ((k : K) (x : X) → get m k ≡ Some x → f k x ≡ g k x) → sum_of f m ≡ sum_of g m
-  sum_alike f g m h = sum_same f g (entries m) (each_of (λ e. get m e.0 ≡ Some e.1) (λ e. f e.0 e.1 ≡ g e.0 e.1) (λ e row. h e.0 e.1 row) (entries m) (entries_at o m))
+  pub sum_alike : (f g : K → X → ℕ) (m : FinMap R X) → ((k : K) (x : X) → get m k ≡ Some x → f k x ≡ g k x)
+      → sum_of f m ≡ sum_of g m
+  sum_alike f g m h = sum_same f g (entries m)
+      (each_of (λ e. get m e.0 ≡ Some e.1) (λ e. f e.0 e.1 ≡ g e.0 e.1) (λ e row. h e.0 e.1 row) (entries m)
+      (entries_at o m))
 
   pub sum_added : (f g : K → X → ℕ) (m : FinMap R X) → sum_of (λ k x. f k x + g k x) m ≡ sum_of f m + sum_of g m
   sum_added f g m = sum_both (λ (e : K × X). f e.0 e.1) (λ e. g e.0 e.1) (entries m)
 
   -- rows that each became another
-  pub sum_mapped : (f : K → X → ℕ) (g : K → X → X) (m : FinMap R X) → sum_of f (each g m) ≡ sum_of (λ k x. f k (g k x)) m
-  sum_mapped f g m = ap (sum_in f) (entries-from_sorted R (mapped R g (entries m)) (still_sorted R g m)) ∙ along (entries m)
+  pub sum_mapped : (f : K → X → ℕ) (g : K → X → X) (m : FinMap R X)
+      → sum_of f (each g m) ≡ sum_of (λ k x. f k (g k x)) m
+  sum_mapped f g m = ap (sum_in f) (entries-from_sorted R (mapped R g (entries m)) (still_sorted R g m))
+      ∙ along (entries m)
     where
       along : (es : List (K × X)) → sum_in f (mapped R g es) ≡ sum_in (λ k x. f k (g k x)) es
       along [] = refl
@@ -42,7 +47,8 @@ module _ {K X : Type 0} {R : K → K → Ordering} (o : IsTotalOrder R) (exact :
           omega arith
 
   -- what holds of each entry that is put in, and of each row before, holds of each row
-  pub rows_of_all : (P : K → X → Type 0) (es : List (K × X)) (m : FinMap R X) → EachOf (λ e. P e.0 e.1) es → ((k : K) (x : X) → get m k ≡ Some x → P k x)
+  pub rows_of_all : (P : K → X → Type 0) (es : List (K × X)) (m : FinMap R X) → EachOf (λ e. P e.0 e.1) es
+      → ((k : K) (x : X) → get m k ≡ Some x → P k x)
       → (k : K) (x : X) → get (with_all es m) k ≡ Some x → P k x
   rows_of_all P [] m h old = old
   rows_of_all P (e ∷ es) m h old = rows_of_all P es (insert m e.0 e.1) h.1 (each_row o exact P m e.0 e.1 h.0 old)

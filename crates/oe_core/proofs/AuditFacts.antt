@@ -26,7 +26,8 @@ use Rattle.oe_core.specs.Core.{CoreState, store_of, world_of, IsOrderly}
 use Rattle.oe_core.specs.Steps.{refusal_in}
 use Rattle.oe_core.proofs.MoveFacts.{standing, the_steps}
 
-pub newest_is : (s : CoreState) → IsOrderly s → newest system (world_of s) ≡ total terminal_limit (view_of s.engine).counts
+pub newest_is : (s : CoreState) → IsOrderly s
+    → newest system (world_of s) ≡ total terminal_limit (view_of s.engine).counts
 unfolding world_of
 newest_is s o = newest_here system laws (store_of s) (standing s o)
 
@@ -35,27 +36,38 @@ unfolding world_of
 tables_are s o = tables_here system laws (store_of s) (standing s o)
 
 -- tables and undo log that the engine lends, as they stand for the core's world
-module _ (s : CoreState) (o : IsOrderly s) (ts : stands.Places) (u : undo.SegmentLog) (lent : rows ts ≡ (view_of s.engine).rows) (log : u ≡ s.engine.undo) where
+module _ (s : CoreState) (o : IsOrderly s) (ts : stands.Places) (u : undo.SegmentLog)
+    (lent : rows ts ≡ (view_of s.engine).rows) (log : u ≡ s.engine.undo) where
   abbrev beside : Store system
   beside = store_with (rows ts) u (store_of s).slots
 
   same_store : beside ≡ store_of s
   unfolding view_of view_from
-  same_store = λ i. record { tables = lent i; undo = undo_of (log i); slots = (store_of s).slots; seals = seals_of (log i); counts = counts_of (log i); extents = (log i).extents }
+  same_store = λ i. record {
+    tables = lent i;
+    undo = undo_of (log i);
+    slots = (store_of s).slots;
+    seals = seals_of (log i);
+    counts = counts_of (log i);
+    extents = (log i).extents;
+  }
 
   pub stand_here : Stand ts u
   stand_here = ((store_of s).slots, subst (IsStanding system) (sym same_store) (standing s o))
 
   module _ (n : Condition) (m : ℕ) where
-    pub audited_here : (v : model.Verdict) → v ≡ model.verdict (condition_of n) (version ts u m) → IsKeptMoment u m → Next system (world_of s) (Audit m (condition_of n)) (Audited v) (world_of s)
+    pub audited_here : (v : model.Verdict) → v ≡ model.verdict (condition_of n) (version ts u m) → IsKeptMoment u m
+        → Next system (world_of s) (Audit m (condition_of n)) (Audited v) (world_of s)
     unfolding world_of
     audited_here v is r =
         subst (λ (z : model.Verdict). Next system (world_of s) (Audit m (condition_of n)) (Audited z) (world_of s))
         (sym (is ∙ ap (λ (z : Store system). model.verdict (condition_of n) (version_of system z m)) same_store))
         (the_steps.audits (store_of s) m (condition_of n) (standing s o)
-        (subst (λ (z : Store system). horizon_of system z ≤ m) same_store r.old) (subst (λ (z : Store system). m ≤ newest_of system z) same_store r.new)).next
+        (subst (λ (z : Store system). horizon_of system z ≤ m) same_store r.old)
+        (subst (λ (z : Store system). m ≤ newest_of system z) same_store r.new)).next
 
-    pub refused_here : (e : Refusal) → IsUnkept u m e → Next system (world_of s) (Audit m (condition_of n)) (refusal_in (step.Audit n m) e) (world_of s)
+    pub refused_here : (e : Refusal) → IsUnkept u m e
+        → Next system (world_of s) (Audit m (condition_of n)) (refusal_in (step.Audit n m) e) (world_of s)
     unfolding world_of
     refused_here (TooOld k) i =
         subst (λ (z : ℕ). Next system (world_of s) (Audit m (condition_of n)) (theory.Too_old z) (world_of s))

@@ -11,4 +11,12 @@ use Rattle.oe_core.specs.contracts.cores.Core.TheInside as inside
 use Rattle.oe_core.proofs.works.Work.TheSendSync as work
 
 pub core_send : IsSend engine_row → IsSend the_row
-core_send engine_send = view_send _ _ _ _ _ (recorded_send inside.the_field.row _ _ inside.the_type.to_one (struct_send (shape inside.the_type) (engine_send, (per_terminal.the_send _ (option.the_send _ tx.the_send), (per_terminal.the_send _ (option.the_send _ work.the_send), (heap.the_field_send, tt))))))
+core_send engine_send = view_send _ _ _ _ _
+    (recorded_send inside.the_field.row _ _ inside.the_type.to_one
+    (struct_send (shape inside.the_type) (
+      engine_send,
+      (
+        per_terminal.the_send _ (option.the_send _ tx.the_send),
+        (per_terminal.the_send _ (option.the_send _ work.the_send), (heap.the_field_send, tt)),
+      ),
+    )))

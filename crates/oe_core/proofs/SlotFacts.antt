@@ -1,5 +1,6 @@
 -- Entries of a list, as a function of their numbers.
-use Rattle.std.proofs.Common.{◌≡◌, ◌≢◌, ℕ, zero, suc, ◌<◌, inl, inr, List, [], ◌∷◌, Option, Some, None, length, slice_get, slice_set, get_or, replicate, sym, ap, ◌∙◌, refl, arith}
+use Rattle.std.proofs.Common.{◌≡◌, ◌≢◌, ℕ, zero, suc, ◌<◌, inl, inr, List, [], ◌∷◌, Option, Some, None, length}
+use Rattle.std.proofs.Common.{slice_get, slice_set, get_or, replicate, sym, ap, ◌∙◌, refl, arith}
 use Rattle.std.specs.Prelude.{◌⊎◌}
 use Rattle.std.proofs.lemmas.Bool.{cases_eq}
 use mathlib.Core.Path.{fun_ext}
@@ -19,7 +20,8 @@ get_or_other (y ∷ ys) (suc i) zero x d h = refl
 get_or_other (y ∷ ys) (suc i) (suc k) x d h = get_or_other ys i k x d (λ e. h (ap suc e))
 
 -- a slot of a list that is set is one of the function that it stands for
-pub slot_set : {X : Type 0} (xs : List X) (t : ℕ) (x d : X) → t < length xs → (λ (i : ℕ). get_or (slice_set xs t x) i d) ≡ set t x (λ i. get_or xs i d)
+pub slot_set : {X : Type 0} (xs : List X) (t : ℕ) (x d : X) → t < length xs
+    → (λ (i : ℕ). get_or (slice_set xs t x) i d) ≡ set t x (λ i. get_or xs i d)
 slot_set xs t x d h = fun_ext (λ i. go i (cases_eq i t))
   where
     go : (i : ℕ) → (i ≡ t) ⊎ (i ≢ t) → get_or (slice_set xs t x) i d ≡ set t x (λ i. get_or xs i d) i
@@ -38,14 +40,17 @@ get_set_same [] i x h = absurd (omega arith)
 get_set_same (y ∷ ys) zero x h = refl
 get_set_same (y ∷ ys) (suc i) x h = get_set_same ys i x (omega arith)
 
-pub slice_of : {X : Type 0} (xs : List X) (t : ℕ) (x d : X) → t < length xs → get_or xs t d ≡ x → slice_get xs t ≡ Some x
+pub slice_of : {X : Type 0} (xs : List X) (t : ℕ) (x d : X) → t < length xs → get_or xs t d ≡ x
+    → slice_get xs t ≡ Some x
 slice_of [] t x d h e = absurd (omega arith)
 slice_of (y ∷ ys) zero x d h e = ap Some e
 slice_of (y ∷ ys) (suc t) x d h e = slice_of ys t x d (omega arith) e
 
 -- what stands behind a loan of a slot
-pub lent_slot : {X : Type 0} (xs : List (Option X)) (i t : ℕ) (x y : Option X) → i ≡ t → t < length xs → x ≡ get_or xs i x → x ≡ y → get_or xs t None ≡ y
-lent_slot xs i t x y e h g f = get_slot xs t x None (slice_of xs t x x h (ap (λ (k : ℕ). get_or xs k x) (sym e) ∙ sym g)) ∙ f
+pub lent_slot : {X : Type 0} (xs : List (Option X)) (i t : ℕ) (x y : Option X) → i ≡ t → t < length xs
+    → x ≡ get_or xs i x → x ≡ y → get_or xs t None ≡ y
+lent_slot xs i t x y e h g f = get_slot xs t x None
+    (slice_of xs t x x h (ap (λ (k : ℕ). get_or xs k x) (sym e) ∙ sym g)) ∙ f
 
 -- a slot that is set to what stands there
 pub kept_slot : {X : Type 0} (xs : List X) (t : ℕ) (d : X) → xs ≡ slice_set xs t (get_or xs t d)

@@ -63,7 +63,14 @@ open_at v t (Some w) = Some (slot_of v t w)
 
 -- all that is stored, in the words of the theory of transactions
 abbrev pub store_with : View → (ℕ → Option WorkState) → Store system
-store_with v f = record { tables = v.rows; undo = v.undo; slots = λ t. open_at v t (f t); seals = v.seals; counts = v.counts; extents = v.extents }
+store_with v f = record {
+  tables = v.rows;
+  undo = v.undo;
+  slots = λ t. open_at v t (f t);
+  seals = v.seals;
+  counts = v.counts;
+  extents = v.extents;
+}
 
 abbrev pub store_of : CoreState → Store system
 store_of s = store_with (view_of s.engine) (work_at s)

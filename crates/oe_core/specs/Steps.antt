@@ -70,7 +70,8 @@ begin_answer (Err e) = answer.Refused e
 -- an Advance that ended so, and left its terminal this last reply, which is a commit's own
 abbrev pub Advances : World system → ℕ → Advanced → World system → Option Reply → Type 0
 Advances w t advanced.More w' last = Carries w (step.Advance t) answer.More w'
-Advances w t (advanced.Committed m) w' last = (y : Reply) × (last ≡ Some y) × Carries w (step.Advance t) (answer.Committed m y) w'
+Advances w t (advanced.Committed m) w' last = (y : Reply) × (last ≡ Some y)
+    × Carries w (step.Advance t) (answer.Committed m y) w'
 Advances w t (advanced.Refused e) w' last = Carries w (step.Advance t) (answer.Refused e) w'
 
 -- the request that a step begins a transaction with

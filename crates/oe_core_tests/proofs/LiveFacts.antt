@@ -1,4 +1,5 @@
--- A core that was just opened on a population runs no program; and of a list of steps the first alone begins a transaction.
+-- A core that was just opened on a population runs no program; and of a list of steps the first alone begins a
+-- transaction.
 use Rattle.std.proofs.Common.{◌≡◌, ℕ, Bool, true, Option, None, Some, List, [], ◌∷◌, sym, subst}
 use Rattle.std.specs.Prelude.{IfSome, is_none, ◌&&◌}
 use Rattle.std.specs.List.{All}
@@ -17,11 +18,14 @@ use Rattle.oe_admission.specs.Programs.{HasProgram}
 use Rattle.oe_core.specs.Steps.{begins_with}
 use Rattle.oe_script.specs.Session.{state_of, IsLive}
 
-pub opened_is_live : (c : CoreState) (r : Rows) (n : ℕ) → world_of c ≡ opened system r n → IsPopulation r → IsLive (state_of (Some c))
-opened_is_live c r n e p = subst (λ w. IsLive (Some w)) (sym e) (opening_is_reached system laws r n (population_is_good r p), λ t. tt)
+pub opened_is_live : (c : CoreState) (r : Rows) (n : ℕ) → world_of c ≡ opened system r n → IsPopulation r
+    → IsLive (state_of (Some c))
+opened_is_live c r n e p = subst (λ w. IsLive (Some w)) (sym e)
+    (opening_is_reached system laws r n (population_is_good r p), λ t. tt)
 
 pub all_one : (s : Step) → IfSome (begins_with s) HasProgram → All (λ i. IfSome (begins_with i) HasProgram) (s ∷ [])
-all_one s h = All-cons (λ i. IfSome (begins_with i) HasProgram) s [] h (All-nil (λ i. IfSome (begins_with i) HasProgram))
+all_one s h = All-cons (λ i. IfSome (begins_with i) HasProgram) s [] h
+    (All-nil (λ i. IfSome (begins_with i) HasProgram))
 
 abbrev Begins : Step → Type 0
 Begins i = IfSome (begins_with i) HasProgram
@@ -37,7 +41,8 @@ both (Some q) x e = let no : ⊥ = cc in absurd no
 none_begin : (ss : List Step) → begins_none ss ≡ true → All Begins ss
 unfolding begins_none
 none_begin [] e = All-nil Begins
-none_begin (s ∷ ss) e = All-cons Begins s ss (both (begins_with s) (begins_none ss) e).0 (none_begin ss (both (begins_with s) (begins_none ss) e).1)
+none_begin (s ∷ ss) e = All-cons Begins s ss (both (begins_with s) (begins_none ss) e).0
+    (none_begin ss (both (begins_with s) (begins_none ss) e).1)
 
 pub all_behind_begin : (t : ℕ) (q : Request) (ss : List Step) → HasProgram q → begins_none ss ≡ true
     → All (λ i. IfSome (begins_with i) HasProgram) (step.Begin t q ∷ ss)

@@ -1,4 +1,5 @@
--- An order's lines by OL_NUMBER: the numbers rise strictly from 1 on, so that fewer lines stand before one than its number.
+-- An order's lines by OL_NUMBER: the numbers rise strictly from 1 on, so that fewer lines stand before one than its
+-- number.
 use Rattle.std.proofs.Common.{◌≡◌, ℕ, suc, ◌<◌, ◌≤◌, refl, sym, ◌∙◌, ap, subst, Bool, true, false, List, [], ◌∷◌, arith}
 use Rattle.std.specs.Prelude.{T, ◌&&◌}
 use Rattle.std.specs.declared.cmp.Ordering.{Ordering}
@@ -36,8 +37,11 @@ module _ (k : OrderKey) where
     where
       same : order_line_cmp (line_in k i) (line_in k j) ≡ nat_cmp i j
       same =
-          ap (λ (r : Ordering). ordering_then r (ordering_then (nat_cmp k.district k.district) (ordering_then (nat_cmp k.order k.order) (nat_cmp i j)))) (tied_itself nat_cmp_total k.warehouse)
-          ∙ ap (λ (r : Ordering). ordering_then r (ordering_then (nat_cmp k.order k.order) (nat_cmp i j))) (tied_itself nat_cmp_total k.district)
+          ap (λ (r : Ordering). ordering_then r
+          (ordering_then (nat_cmp k.district k.district) (ordering_then (nat_cmp k.order k.order) (nat_cmp i j))))
+          (tied_itself nat_cmp_total k.warehouse)
+          ∙ ap (λ (r : Ordering). ordering_then r (ordering_then (nat_cmp k.order k.order) (nat_cmp i j)))
+          (tied_itself nat_cmp_total k.district)
           ∙ ap (λ (r : Ordering). ordering_then r (nat_cmp i j)) (tied_itself nat_cmp_total k.order)
 
       by_rank : (r : Ordering) → nat_cmp i j ≡ r → T (is_lt r) → i < j
@@ -48,25 +52,37 @@ module _ (k : OrderKey) where
   abbrev IsLine : OrderLineKey × OrderLine → Type 0
   IsLine e = e.0 ≡ line_in k e.0.number
 
-  climbs_from : (n p : ℕ) → n ≤ p → (es : List (OrderLineKey × OrderLine)) → EachOf IsLine es → T (below_all order_line_cmp (line_in k p) es)
+  climbs_from : (n p : ℕ) → n ≤ p → (es : List (OrderLineKey × OrderLine)) → EachOf IsLine es
+      → T (below_all order_line_cmp (line_in k p) es)
       → T (is_sorted order_line_cmp es) → Climbs n es
   climbs_from n p le [] a b s = tt
   climbs_from n p le (e ∷ es) a b s = λ some.
-      let more : p < e.0.number = less_number p e.0.number (subst (λ (j : OrderLineKey). T (is_lt (order_line_cmp (line_in k p) j))) a.0 (first_part _ _ b)) in
+      let more : p < e.0.number = less_number p e.0.number
+      (subst (λ (j : OrderLineKey). T (is_lt (order_line_cmp (line_in k p) j))) a.0 (first_part _ _ b)) in
       let up : n < e.0.number = omega (arith, le, more) in
-      let next : suc n ≤ e.0.number = omega (arith, up) in
-      (up, climbs_from (suc n) e.0.number next es a.1 (subst (λ (j : OrderLineKey). T (below_all order_line_cmp j es)) a.0 (first_part _ _ s)) (second_part _ _ s))
+      let next : suc n ≤ e.0.number = omega (arith, up) in (
+        up,
+        climbs_from (suc n) e.0.number next es a.1
+            (subst (λ (j : OrderLineKey). T (below_all order_line_cmp j es)) a.0 (first_part _ _ s))
+            (second_part _ _ s),
+      )
 
-  climbs_first : (es : List (OrderLineKey × OrderLine)) → EachOf IsLine es → T (is_sorted order_line_cmp es) → Climbs 0 es
+  climbs_first : (es : List (OrderLineKey × OrderLine)) → EachOf IsLine es → T (is_sorted order_line_cmp es)
+      → Climbs 0 es
   climbs_first [] a s = tt
   climbs_first (e ∷ es) a s = λ some.
-      let next : 1 ≤ e.0.number = omega (arith, some) in
-      (some, climbs_from 1 e.0.number next es a.1 (subst (λ (j : OrderLineKey). T (below_all order_line_cmp j es)) a.0 (first_part _ _ s)) (second_part _ _ s))
+      let next : 1 ≤ e.0.number = omega (arith, some) in (
+        some,
+        climbs_from 1 e.0.number next es a.1
+            (subst (λ (j : OrderLineKey). T (below_all order_line_cmp j es)) a.0 (first_part _ _ s))
+            (second_part _ _ s),
+      )
 
   -- the lines of an order
   pub lines_climb : (m : FinMap order_line_cmp OrderLine) → Climbs 0 (lines_of k m)
   lines_climb m =
       climbs_first (lines_of k m)
-      (each_of _ IsLine (λ e h. ap (λ (j : OrderKey). line_in j e.0.number) (is_same order_total exact_order (order_of_line e.0) k h.0)) (lines_of k m)
+      (each_of _ IsLine (λ e h. ap (λ (j : OrderKey). line_in j e.0.number)
+      (is_same order_total exact_order (order_of_line e.0) k h.0)) (lines_of k m)
       (kept_at order_line_total exact_order_line m (λ l. eq_by_cmp order_cmp (order_of_line l) k)))
       (entries_sorted (retain_keys m (λ l. eq_by_cmp order_cmp (order_of_line l) k)))

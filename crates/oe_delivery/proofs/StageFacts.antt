@@ -1,5 +1,6 @@
 -- What the stages of a delivery ask for and do, of the rows as they are.
-use Rattle.std.proofs.Common.{◌≡◌, ℕ, zero, suc, ◌+◌, refl, sym, ap, ◌∙◌, subst, inl, List, [], ◌∷◌, drop, map, Option, None, Some, Result, Ok, Err, arith}
+use Rattle.std.proofs.Common.{◌≡◌, ℕ, zero, suc, ◌+◌, refl, sym, ap, ◌∙◌, subst, inl, List, [], ◌∷◌, drop, map, Option}
+use Rattle.std.proofs.Common.{None, Some, Result, Ok, Err, arith}
 use Rattle.std.specs.Prelude.{IsSome, option_map}
 use Rattle.std.specs.FinMap.{get}
 use Rattle.oe_theory.specs.Machine.{Plain, Take, Go, Exclusive}
@@ -28,8 +29,10 @@ use Rattle.oe_model.specs.Rows.{Rows}
 use Rattle.oe_model.specs.Keys.{customer_in, order_in, new_order_in, line_in}
 use Rattle.oe_model.specs.Changes.{Change, DeleteNewOrder, UpdateOrder, UpdateOrderLine, UpdateCustomer}
 use Rattle.oe_model.specs.Effects.{Doing, given, within}
-use Rattle.oe_model.specs.Positions.{DeliveryPosition, DeliveryQueue, DeliveryNothing, DeliveryOrder, DeliveryLine, DeliveryEnd, InDelivery}
-use Rattle.oe_model.specs.Delivery.{oldest, lines_of, carried, dated, delivered_to, delivered_out, delivered, delivery_ask, delivery_act, delivery_taken}
+use Rattle.oe_model.specs.Positions.{DeliveryPosition, DeliveryQueue, DeliveryNothing, DeliveryOrder, DeliveryLine}
+use Rattle.oe_model.specs.Positions.{DeliveryEnd, InDelivery}
+use Rattle.oe_model.specs.Delivery.{oldest, lines_of, carried, dated, delivered_to, delivered_out, delivered}
+use Rattle.oe_model.specs.Delivery.{delivery_ask, delivery_act, delivery_taken}
 use Rattle.oe_engine.specs.View.{EngineState, View, view_of, Handle, IsOpen}
 use Rattle.oe_engine.specs.Stages.{HoldsAll}
 use Rattle.oe_engine.specs.Writes.{change_written}
@@ -38,10 +41,12 @@ use Rattle.oe_delivery.specs.Remainder.{Left, remainder_of}
 use Rattle.oe_delivery.specs.Program.{line_position}
 
 -- a row whose columns are in their ranges goes on with the stage after it
-goes_within : {A : Type 0} (out : A → Option Column) (x : A) (d : A → Doing) (after : A) → ◌≡◌ {A = Result A Column} (Ok after) (checked out x) → within (out x) (d x) ≡ d after
+goes_within : {A : Type 0} (out : A → Option Column) (x : A) (d : A → Doing) (after : A)
+    → ◌≡◌ {A = Result A Column} (Ok after) (checked out x) → within (out x) (d x) ≡ d after
 goes_within {A} out x d after e = go (out x) e
   where
-    go : (o : Option Column) → ◌≡◌ {A = Result A Column} (Ok after) (elim o [ None ↦ Ok x | Some c ↦ Err c ]) → within o (d x) ≡ d after
+    go : (o : Option Column) → ◌≡◌ {A = Result A Column} (Ok after) (elim o [ None ↦ Ok x | Some c ↦ Err c ])
+        → within o (d x) ≡ d after
     go None e = let same : after ≡ x = cc in ap d (sym same)
     go (Some c) e = let no : ⊥ = cc in absurd no
 
@@ -57,28 +62,34 @@ module _ (s : EngineState) (x : Handle) (q : DeliveryRequest) where
         | Some o ↦ Go (Some (DeleteNewOrder (new_order_in q.district o))) (InDelivery q (DeliveryOrder o))
       ]
 
-  pub none_waits : oldest q.district here.new_orders ≡ None → act_here s x (request.Delivery q) (InDelivery q DeliveryQueue) ≡ Go None (InDelivery q DeliveryNothing)
+  pub none_waits : oldest q.district here.new_orders ≡ None
+      → act_here s x (request.Delivery q) (InDelivery q DeliveryQueue) ≡ Go None (InDelivery q DeliveryNothing)
   none_waits e = ap on_oldest e
 
   pub one_waits : (o : ℕ) (k : NewOrderKey) → k ≡ new_order_in q.district o → oldest q.district here.new_orders ≡ Some o
-      → act_here s x (request.Delivery q) (InDelivery q DeliveryQueue) ≡ Go (Some (DeleteNewOrder k)) (InDelivery q (DeliveryOrder o))
-  one_waits o k is e = ap on_oldest e ∙ ap (λ (j : NewOrderKey). Go (Some (DeleteNewOrder j)) (InDelivery q (DeliveryOrder o))) (sym is)
+      → act_here s x (request.Delivery q) (InDelivery q DeliveryQueue) ≡ Go (Some (DeleteNewOrder k))
+      (InDelivery q (DeliveryOrder o))
+  one_waits o k is e = ap on_oldest e
+      ∙ ap (λ (j : NewOrderKey). Go (Some (DeleteNewOrder j)) (InDelivery q (DeliveryOrder o))) (sym is)
 
   -- ORDER
   abbrev pub CarrierStage : ℕ → OrderKey → Left → Type 0
   CarrierStage o k l =
       (c : Change) × (change_written (write.Carrier k q.carrier) (view_of s) ≡ Some c)
       × (ask_here s x (request.Delivery q) (InDelivery q (DeliveryOrder o)) ≡ Take (name.Order k) Exclusive)
-      × (act_here s x (request.Delivery q) (InDelivery q (DeliveryOrder o)) ≡ Go (Some c) (InDelivery q (line_position l)))
+      × (act_here s x (request.Delivery q) (InDelivery q (DeliveryOrder o)) ≡ Go (Some c)
+      (InDelivery q (line_position l)))
 
   module _ (o : ℕ) where
     abbrev own : OrderKey
     own = order_in q.district o
 
     abbrev do_order : Order → Doing
-    do_order z = Go (Some (UpdateOrder own (carried q.carrier z))) (InDelivery q (DeliveryLine o z.customer (map (λ e. e.0.number) (lines_of own here.order_lines)) 0))
+    do_order z = Go (Some (UpdateOrder own (carried q.carrier z)))
+        (InDelivery q (DeliveryLine o z.customer (map (λ e. e.0.number) (lines_of own here.order_lines)) 0))
 
-    carrier_own : (l : Left) (v : Option Order) → get here.orders own ≡ v → Some l ≡ option_map (remainder_of own here) v → CarrierStage o own l
+    carrier_own : (l : Left) (v : Option Order) → get here.orders own ≡ v
+        → Some l ≡ option_map (remainder_of own here) v → CarrierStage o own l
     carrier_own l None e is = let no : ⊥ = cc in absurd no
     carrier_own l (Some z) e is =
         let same : l ≡ remainder_of own here z = cc in (
@@ -86,12 +97,15 @@ module _ (s : EngineState) (x : Handle) (q : DeliveryRequest) where
           ap (option_map (λ y. UpdateOrder own (carried q.carrier y))) e,
           refl,
           ap (λ v. given (NoSuchRow (key.Order own)) v do_order) e
-              ∙ ap (λ (y : Left). Go (Some (UpdateOrder own (carried q.carrier z))) (InDelivery q (line_position y))) (sym same),
+              ∙ ap (λ (y : Left). Go (Some (UpdateOrder own (carried q.carrier z))) (InDelivery q (line_position y)))
+              (sym same),
         )
 
-    pub carrier_stage : (l : Left) (k : OrderKey) → k ≡ own → Some l ≡ option_map (remainder_of k here) (get here.orders k) → CarrierStage o k l
+    pub carrier_stage : (l : Left) (k : OrderKey) → k ≡ own
+        → Some l ≡ option_map (remainder_of k here) (get here.orders k) → CarrierStage o k l
     carrier_stage l k is e =
-        subst (λ (j : OrderKey). Some l ≡ option_map (remainder_of j here) (get here.orders j) → CarrierStage o j l) (sym is)
+        subst (λ (j : OrderKey). Some l ≡ option_map (remainder_of j here) (get here.orders j) → CarrierStage o j l)
+        (sym is)
         (λ h. carrier_own l (get here.orders own) refl h) e
 
   -- ORDER-LINE
@@ -110,23 +124,28 @@ module _ (s : EngineState) (x : Handle) (q : DeliveryRequest) where
       do_line z = Go (Some (UpdateOrderLine line (dated q.stamp z))) (InDelivery q (after_line z))
 
       line_own : (z : OrderLine) → get here.order_lines line ≡ Some z
-          → act_here s x (request.Delivery q) (InDelivery q (line_position l)) ≡ Go (Some (UpdateOrderLine line (dated q.stamp z))) (InDelivery q (after_line z))
+          → act_here s x (request.Delivery q) (InDelivery q (line_position l)) ≡ Go
+          (Some (UpdateOrderLine line (dated q.stamp z))) (InDelivery q (after_line z))
       line_own z e =
           ap (λ ns. delivery_act q (DeliveryLine l.order l.customer ns l.sum) here) next
           ∙ ap (λ v. given (NoSuchRow (key.OrderLine line)) v do_line) e
 
       pub line_does : (k : OrderLineKey) → k ≡ line → (z : OrderLine) → get here.order_lines k ≡ Some z
-          → act_here s x (request.Delivery q) (InDelivery q (line_position l)) ≡ Go (Some (UpdateOrderLine k (dated q.stamp z))) (InDelivery q (DeliveryLine l.order l.customer (drop 1 l.numbers) (l.sum + z.amount)))
+          → act_here s x (request.Delivery q) (InDelivery q (line_position l)) ≡ Go
+          (Some (UpdateOrderLine k (dated q.stamp z)))
+          (InDelivery q (DeliveryLine l.order l.customer (drop 1 l.numbers) (l.sum + z.amount)))
       line_does k is z e =
           line_own z (subst (λ (j : OrderLineKey). get here.order_lines j ≡ Some z) is e)
-          ∙ ap (λ (j : OrderLineKey). Go (Some (UpdateOrderLine j (dated q.stamp z))) (InDelivery q (after_line z))) (sym is)
+          ∙ ap (λ (j : OrderLineKey). Go (Some (UpdateOrderLine j (dated q.stamp z))) (InDelivery q (after_line z)))
+          (sym is)
 
     -- CUSTOMER
     module _ (last : l.numbers ≡ []) where
       abbrev payer : CustomerKey
       payer = customer_in q.district l.customer
 
-      pub customer_asks : (k : CustomerKey) → k ≡ payer → ask_here s x (request.Delivery q) (InDelivery q (line_position l)) ≡ Take (name.Customer k) Exclusive
+      pub customer_asks : (k : CustomerKey) → k ≡ payer
+          → ask_here s x (request.Delivery q) (InDelivery q (line_position l)) ≡ Take (name.Customer k) Exclusive
       customer_asks k is =
           ap (λ ns. delivery_ask q (DeliveryLine l.order l.customer ns l.sum) here) last
           ∙ ap (λ (j : CustomerKey). Take (name.Customer j) Exclusive) (sym is)
@@ -137,7 +156,8 @@ module _ (s : EngineState) (x : Handle) (q : DeliveryRequest) where
       abbrev do_customer : Customer → Doing
       do_customer z = within (delivered_out (delivered_to l.sum z)) (on_customer (delivered_to l.sum z))
 
-      customer_own : (z : Customer) (a : Account) → get here.customers payer ≡ Some z → Ok (record z { account = a }) ≡ checked delivered_out (delivered_to l.sum z)
+      customer_own : (z : Customer) (a : Account) → get here.customers payer ≡ Some z
+          → Ok (record z { account = a }) ≡ checked delivered_out (delivered_to l.sum z)
           → act_here s x (request.Delivery q) (InDelivery q (line_position l)) ≡ on_customer (record z { account = a })
       customer_own z a e fits =
           ap (λ ns. delivery_act q (DeliveryLine l.order l.customer ns l.sum) here) last
@@ -146,10 +166,12 @@ module _ (s : EngineState) (x : Handle) (q : DeliveryRequest) where
 
       pub customer_does : (k : CustomerKey) → k ≡ payer → (z : Customer) (a : Account) → get here.customers k ≡ Some z
           → Ok (record z { account = a }) ≡ checked delivered_out (delivered_to l.sum z)
-          → act_here s x (request.Delivery q) (InDelivery q (line_position l)) ≡ Go (Some (UpdateCustomer k (record z { account = a }))) (InDelivery q (DeliveryEnd l.order l.customer l.sum))
+          → act_here s x (request.Delivery q) (InDelivery q (line_position l)) ≡ Go
+          (Some (UpdateCustomer k (record z { account = a }))) (InDelivery q (DeliveryEnd l.order l.customer l.sum))
       customer_does k is z a e fits =
           customer_own z a (subst (λ (j : CustomerKey). get here.customers j ≡ Some z) is e) fits
-          ∙ ap (λ (j : CustomerKey). Go (Some (UpdateCustomer j (record z { account = a }))) (InDelivery q (DeliveryEnd l.order l.customer l.sum))) (sym is)
+          ∙ ap (λ (j : CustomerKey). Go (Some (UpdateCustomer j (record z { account = a })))
+          (InDelivery q (DeliveryEnd l.order l.customer l.sum))) (sym is)
 
 -- the order's name is held alone at its lines
 alone : (o : Option theory.Mode) → IsEnough o theory.Exclusive → o ≡ Some theory.Exclusive
@@ -159,13 +181,16 @@ alone (Some theory.Shared) h = absurd h
 
 pub order_held : (v : View) (t : ℕ) (q : DeliveryRequest) (l : Left) → HoldsAll v t (delivery_taken q (line_position l))
     → v.held t (name.Order (order_in q.district l.order)) ≡ Some theory.Exclusive
-order_held v t q l h = alone (v.held t (name.Order (order_in q.district l.order))) (h (name.Order (order_in q.district l.order)) theory.Exclusive (inl (refl, tt)))
+order_held v t q l h = alone (v.held t (name.Order (order_in q.district l.order)))
+    (h (name.Order (order_in q.district l.order)) theory.Exclusive (inl (refl, tt)))
 
 -- a program with its reply is ready
-pub is_ready : (s : EngineState) (x : Handle) (q : DeliveryRequest) (p : DeliveryPosition) → IsOpen s x → IsSome (district_reply p)
+pub is_ready : (s : EngineState) (x : Handle) (q : DeliveryRequest) (p : DeliveryPosition) → IsOpen s x
+    → IsSome (district_reply p)
     → (y : Reply) × IsReady s x (request.Delivery q) (InDelivery q p) y
 is_ready s x q DeliveryNothing o h = (reply.Delivery Skipped, record { is_open = o; free = tt; does = refl })
-is_ready s x q (DeliveryEnd n c sum) o h = (reply.Delivery (delivered n c sum), record { is_open = o; free = tt; does = refl })
+is_ready s x q (DeliveryEnd n c sum) o h =
+    (reply.Delivery (delivered n c sum), record { is_open = o; free = tt; does = refl })
 is_ready s x q DeliveryQueue o h = let no : ⊥ = cc in absurd no
 is_ready s x q (DeliveryOrder n) o h = let no : ⊥ = cc in absurd no
 is_ready s x q (DeliveryLine n c ns sum) o h = let no : ⊥ = cc in absurd no

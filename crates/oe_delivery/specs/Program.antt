@@ -1,6 +1,7 @@
 -- What a delivery's program stands for.
 use Rattle.std.specs.Prelude.{◌≡◌, ℕ, [], ◌∷◌, drop}
-use Rattle.oe_model.specs.Positions.{DeliveryPosition, DeliveryQueue, DeliveryNothing, DeliveryOrder, DeliveryLine, DeliveryEnd}
+use Rattle.oe_model.specs.Positions.{DeliveryPosition, DeliveryQueue, DeliveryNothing, DeliveryOrder, DeliveryLine}
+use Rattle.oe_model.specs.Positions.{DeliveryEnd}
 use Rattle.oe_delivery.specs.Remainder.{Left}
 use Rattle.oe_delivery.specs.declared.programs.Program.{Program}
 use Rattle.oe_delivery.specs.declared.programs.Program.TheVariants as program

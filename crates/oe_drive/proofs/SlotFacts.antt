@@ -1,5 +1,6 @@
 -- Slots of seats from which the last is taken, and lists that were lent whole.
-use Rattle.std.proofs.Common.{◌≡◌, ◌≢◌, ℕ, ◌+◌, ◌-◌, ◌<◌, ◌≤◌, Option, Some, None, List, ◌++◌, length, length-append, take, drop, slice_get, slice_set, sym, ap, ◌∙◌, arith}
+use Rattle.std.proofs.Common.{◌≡◌, ◌≢◌, ℕ, ◌+◌, ◌-◌, ◌<◌, ◌≤◌, Option, Some, None, List, ◌++◌, length, length-append}
+use Rattle.std.proofs.Common.{take, drop, slice_get, slice_set, sym, ap, ◌∙◌, arith}
 use Rattle.std.proofs.lemmas.List.{length-take-le}
 use Rattle.oe_moments.specs.Pins.{TheSeat}
 use Rattle.oe_hall.proofs.SeatFacts.{get_other}
@@ -11,13 +12,17 @@ still_free seats n free k lt is =
     free k le (sym (get_other seats n k None (λ e. omega (arith, lt, e))) ∙ is)
 
 -- the first slots are free behind the one that is taken
-pub free_before : (seats taken : List (Option TheSeat)) (n slot : ℕ) → ((t : ℕ) → slice_get seats (t - 1) ≢ Some None) → n ≤ slot → taken ≡ slice_set seats slot None → AreFree taken n
+pub free_before : (seats taken : List (Option TheSeat)) (n slot : ℕ) → ((t : ℕ) → slice_get seats (t - 1) ≢ Some None)
+    → n ≤ slot → taken ≡ slice_set seats slot None → AreFree taken n
 free_before seats taken n slot free le is k lt there =
     let same : k + 1 - 1 ≡ k = omega arith in
-    free (k + 1) (ap (slice_get seats) same ∙ (sym (get_other seats slot k None (λ e. omega (arith, lt, le, e))) ∙ (ap (λ (s : List (Option TheSeat)). slice_get s k) (sym is) ∙ there)))
+    free (k + 1) (ap (slice_get seats) same
+    ∙ (sym (get_other seats slot k None (λ e. omega (arith, lt, le, e)))
+    ∙ (ap (λ (s : List (Option TheSeat)). slice_get s k) (sym is) ∙ there)))
 
 -- a list that was lent whole, and came back as long, is as long
-pub as_long : {A : Type 0} (n : ℕ) (old new : List A) → n ≡ length old → length new ≡ length old → length (take n (new ++ drop (length new) old)) ≡ length old
+pub as_long : {A : Type 0} (n : ℕ) (old new : List A) → n ≡ length old → length new ≡ length old
+    → length (take n (new ++ drop (length new) old)) ≡ length old
 as_long n old new whole same =
     let all = length-append new (drop (length new) old) in
     length-take-le n (new ++ drop (length new) old) (omega (arith, all, same, whole)) ∙ whole

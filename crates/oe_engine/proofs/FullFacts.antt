@@ -13,7 +13,8 @@ use Rattle.oe_locks.specs.Held.{Holdings}
 use Rattle.oe_engine.specs.View.{view_from}
 use Rattle.oe_engine.specs.Calls.{IsFullFor}
 
-module _ (ts : tables.Places) (u : SegmentLog) (ls : Holdings) (t : ℕ) (c : Change) (size : length u.terminals ≡ suc TERMINALS) where
+module _ (ts : tables.Places) (u : SegmentLog) (ls : Holdings) (t : ℕ) (c : Change)
+    (size : length u.terminals ≡ suc TERMINALS) where
   pub full_so : IsFull u t (record_length (record_on system c (rows ts))) → IsFullFor (view_from ts u ls) t c
   unfolding view_from length_in terminal_limit
   full_so f = full_here u t (record_length (record_on system c (rows ts))) size f

@@ -7,5 +7,7 @@ use Rattle.oe_journal.specs.GivesUp.{GivesUpThose}
 use Rattle.oe_journal.specs.Linked.{AreLinked}
 
 -- places of the tables went
-pub linked_less : (ts ts' : Places) (m m' : LinkMaps) (P : Key → Type 0) → GivesUpThose ts ts' P → m' ≡ m → AreLinked ts m → AreLinked ts' m'
-linked_less ts ts' m m' P gone same linked k may h = subst (λ z. HasPlace z k) (sym same) (linked k may ((gone k).0 h).0)
+pub linked_less : (ts ts' : Places) (m m' : LinkMaps) (P : Key → Type 0) → GivesUpThose ts ts' P → m' ≡ m
+    → AreLinked ts m → AreLinked ts' m'
+linked_less ts ts' m m' P gone same linked k may h = subst (λ z. HasPlace z k) (sym same)
+    (linked k may ((gone k).0 h).0)

@@ -28,7 +28,8 @@ same_name a b = go (locks.is_name a b) (is_name a b) refl refl
     go false true e f = sym e ∙ (ap (λ z. locks.is_name a z) (sym (model.name_true a b f)) ∙ names.name_refl a)
 
 -- the modes go together alike
-pub same_together : (m : Mode) (o : Option Mode) → world.go_together (mode_of m) (option_map mode_of o) ≡ locks.go_together m o
+pub same_together : (m : Mode) (o : Option Mode)
+    → world.go_together (mode_of m) (option_map mode_of o) ≡ locks.go_together m o
 same_together Shared None = refl
 same_together Exclusive None = refl
 same_together Shared (Some Shared) = refl
@@ -50,18 +51,22 @@ abbrev pub held_of : Holdings → ℕ → Name → Option theory.Mode
 held_of ls t n = option_map mode_of (held ls t n)
 
 -- one terminal's names have changed
-one_changed : (old new : Holdings) (t : ℕ) (f : Name → Option theory.Mode) → OthersKeep old new t → ((q : Name) → held_of new t q ≡ f q)
+one_changed : (old new : Holdings) (t : ℕ) (f : Name → Option theory.Mode) → OthersKeep old new t
+    → ((q : Name) → held_of new t q ≡ f q)
     → held_of new ≡ world.set t f (held_of old)
 one_changed old new t f others own = fun_ext (λ u. fun_ext (λ q. by_terminal u q))
   where
     by_terminal : (u : ℕ) (q : Name) → held_of new u q ≡ world.set t f (held_of old) u q
     by_terminal u q =
         elim (cases_eq u t) [
-          | inl e ↦ ap (λ x. held_of new x q) e ∙ own q ∙ sym (ap (λ g. g q) (cond-true (u == t) f (held_of old u) (eq-eqb u t e)))
-          | inr ne ↦ ap (option_map mode_of) (others u ne q) ∙ sym (ap (λ g. g q) (cond-false (u == t) f (held_of old u) (ne_eqb u t ne)))
+          | inl e ↦ ap (λ x. held_of new x q) e ∙ own q
+              ∙ sym (ap (λ g. g q) (cond-true (u == t) f (held_of old u) (eq-eqb u t e)))
+          | inr ne ↦ ap (option_map mode_of) (others u ne q)
+              ∙ sym (ap (λ g. g q) (cond-false (u == t) f (held_of old u) (ne_eqb u t ne)))
         ]
 
-cond_map : (b : Bool) (x y : Option Mode) → option_map mode_of (cond b x y) ≡ cond b (option_map mode_of x) (option_map mode_of y)
+cond_map : (b : Bool) (x y : Option Mode) → option_map mode_of (cond b x y) ≡ cond b (option_map mode_of x)
+    (option_map mode_of y)
 cond_map true x y = refl
 cond_map false x y = refl
 
@@ -85,7 +90,8 @@ put_is old new t n m own others =
     ∙ ap (λ b. cond b (option_map mode_of m) (held_of old t q)) (same_name q n))
 
 -- all names were let go of
-pub released_is : (old new : Holdings) (t : ℕ) → HoldsNothing new t → OthersKeep old new t → held_of new ≡ world.set t (λ _. None) (held_of old)
+pub released_is : (old new : Holdings) (t : ℕ) → HoldsNothing new t → OthersKeep old new t
+    → held_of new ≡ world.set t (λ _. None) (held_of old)
 released_is old new t own others = one_changed old new t _ others (λ q. ap (option_map mode_of) (own q))
 
 -- a function with its own value put at an argument is that function
@@ -106,7 +112,8 @@ set_twice t a b f = fun_ext (λ u. go u (u == t))
     go u false = refl
 
 -- where the name is put back into the mode that it was taken from, all is held as before
-pub put_taken : (f : Name → Option theory.Mode) (n : Name) (m : theory.Mode) (q : Name) → cond (is_name q n) (f n) (held_after system (Take n m) f q) ≡ f q
+pub put_taken : (f : Name → Option theory.Mode) (n : Name) (m : theory.Mode) (q : Name)
+    → cond (is_name q n) (f n) (held_after system (Take n m) f q) ≡ f q
 put_taken f n m q = go (is_name q n) refl
   where
     go : (b : Bool) → is_name q n ≡ b → cond b (f n) (cond b (Some (world.risen m (f q))) (f q)) ≡ f q

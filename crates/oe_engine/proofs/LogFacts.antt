@@ -1,5 +1,6 @@
 -- What the calls of the undo log make of what an engine stands for.
-use Rattle.std.proofs.Common.{◌≡◌, ℕ, suc, ◌<◌, ◌==◌, Bool, true, false, refl, sym, ap, ◌∙◌, inl, inr, [], length, get_or, set}
+use Rattle.std.proofs.Common.{◌≡◌, ℕ, suc, ◌<◌, ◌==◌, Bool, true, false, refl, sym, ap, ◌∙◌, inl, inr, [], length}
+use Rattle.std.proofs.Common.{get_or, set}
 use Rattle.std.specs.Prelude.{Option, None, Some, is_some, option_map}
 use Rattle.std.proofs.lemmas.Bool.{cases_eq, cond-true, cond-false, eq-eqb, ne_eqb}
 use Rattle.std.proofs.lemmas.List.{get_or-set_same, get_or-set_other}
@@ -10,7 +11,8 @@ use Rattle.oe_theory.specs.World as world
 use Rattle.oe_model.specs.Locks.{mode_of}
 use Rattle.oe_store.specs.Places.{rows}
 use Rattle.oe_store.specs.Places as tables
-use Rattle.oe_log.specs.Log.{SegmentLog, TerminalState, Open, idle, active_at, count_at, no_segments, idle_terminals, with_state, opened, sealed}
+use Rattle.oe_log.specs.Log.{SegmentLog, TerminalState, Open, idle, active_at, count_at, no_segments, idle_terminals}
+use Rattle.oe_log.specs.Log.{with_state, opened, sealed}
 use Rattle.oe_log.proofs.LawFacts as stands
 use Rattle.oe_log.proofs.LawFacts.{idle_at}
 use Rattle.oe_log.proofs.StateFacts.{some_of}
@@ -24,8 +26,11 @@ pub active_set : (u : SegmentLog) (t : ℕ) (s : TerminalState) → t < length u
     → is_some (active_at (with_state u t s) x) ≡ world.set t (is_some s.active) (λ y. is_some (active_at u y)) x
 active_set u t s within x =
     elim (cases_eq x t) [
-      | inl e ↦ ap (λ y. is_some (get_or (set u.terminals t s) y idle).active) e ∙ ap (λ (z : TerminalState). is_some z.active) (get_or-set_same u.terminals t s idle within) ∙ sym (cond-true (x == t) (is_some s.active) (is_some (active_at u x)) (eq-eqb x t e))
-      | inr ne ↦ ap (λ (z : TerminalState). is_some z.active) (get_or-set_other u.terminals t x s idle ne) ∙ sym (cond-false (x == t) (is_some s.active) (is_some (active_at u x)) (ne_eqb x t ne))
+      | inl e ↦ ap (λ y. is_some (get_or (set u.terminals t s) y idle).active) e
+          ∙ ap (λ (z : TerminalState). is_some z.active) (get_or-set_same u.terminals t s idle within)
+          ∙ sym (cond-true (x == t) (is_some s.active) (is_some (active_at u x)) (eq-eqb x t e))
+      | inr ne ↦ ap (λ (z : TerminalState). is_some z.active) (get_or-set_other u.terminals t x s idle ne)
+          ∙ sym (cond-false (x == t) (is_some s.active) (is_some (active_at u x)) (ne_eqb x t ne))
     ]
 
 pub see_open : TerminalState → Bool
@@ -36,12 +41,14 @@ is_none None e = refl
 is_none (Some o) e = cc
 
 -- an engine in which nothing has begun
-pub first_is : (ts : tables.Places) (n : ℕ) (ls : Holdings) → IsIdle ls → view_from ts (no_segments n) ls ≡ opened_view (rows ts) n
+pub first_is : (ts : tables.Places) (n : ℕ) (ls : Holdings) → IsIdle ls
+    → view_from ts (no_segments n) ls ≡ opened_view (rows ts) n
 unfolding view_from idle_terminals
 first_is ts n ls quiet =
     let b = stands.begun n in
     let names : held_of ls ≡ (λ _ _. None) = fun_ext (λ t. fun_ext (λ q. ap (option_map mode_of) (quiet t q))) in
-    let none : (λ (t : ℕ). is_some (active_at (no_segments n) t)) ≡ (λ _. false) = fun_ext (λ t. ap (λ (z : TerminalState). is_some z.active) (idle_at 65 t)) in
+    let none : (λ (t : ℕ). is_some (active_at (no_segments n) t)) ≡ (λ _. false) =
+    fun_ext (λ t. ap (λ (z : TerminalState). is_some z.active) (idle_at 65 t)) in
     λ i. record {
       rows = rows ts;
       undo = b.0 i;
@@ -53,14 +60,18 @@ first_is ts n ls quiet =
     }
 
 -- a segment was opened
-pub opened_is : (ts : tables.Places) (u : SegmentLog) (ls : Holdings) (t : ℕ) → t < length u.terminals → active_at u t ≡ None
+pub opened_is : (ts : tables.Places) (u : SegmentLog) (ls : Holdings) (t : ℕ) → t < length u.terminals
+    → active_at u t ≡ None
     → view_from ts (opened u t) ls ≡ begun t (view_from ts u ls)
 unfolding view_from
 opened_is ts u ls t within closed =
     let s = stands.opens u t closed in
     let open_is : (x : ℕ) → is_some (active_at (opened u t) x) ≡ world.set t true (λ y. is_some (active_at u y)) x =
-    active_set u t (record { count = count_at u t; active = Some (record { terminal = t; number = suc (count_at u t); records = [] }) }) within in
-    let opens : (λ (x : ℕ). is_some (active_at (opened u t) x)) ≡ world.set t true (λ y. is_some (active_at u y)) = fun_ext open_is in
+    active_set u t (record
+    { count = count_at u t; active = Some (record { terminal = t; number = suc (count_at u t); records = [] }) })
+    within in
+    let opens : (λ (x : ℕ). is_some (active_at (opened u t) x)) ≡ world.set t true (λ y. is_some (active_at u y)) =
+    fun_ext open_is in
     λ i. record {
       rows = rows ts;
       undo = s.undo i;
@@ -72,7 +83,8 @@ opened_is ts u ls t within closed =
     }
 
 -- a segment was sealed, and its terminal's names were let go of
-pub sealed_is : (ts : tables.Places) (u : SegmentLog) (ls ls' : Holdings) (t : ℕ) (q : Request) (y : Reply) → t < length u.terminals → is_some (active_at u t) ≡ true
+pub sealed_is : (ts : tables.Places) (u : SegmentLog) (ls ls' : Holdings) (t : ℕ) (q : Request) (y : Reply)
+    → t < length u.terminals → is_some (active_at u t) ≡ true
     → HoldsNothing ls' t → OthersKeep ls ls' t → view_from ts (sealed u t q y) ls' ≡ committed t q y (view_from ts u ls)
 unfolding view_from
 sealed_is ts u ls ls' t q y within is own others =

@@ -25,11 +25,13 @@ use Rattle.oe_engine.specs.Calls.{made}
 use Rattle.oe_engine.proofs.LockFacts.{held_of}
 use Rattle.oe_engine.proofs.KeptFacts.{places_set}
 
-module _ (ts ts' : tables.Places) (u x : UndoState) (ls : Holdings) (t : ℕ) (c : Change) (h : IsRecorded c ts ts' u x t) where
+module _ (ts ts' : tables.Places) (u x : UndoState) (ls : Holdings) (t : ℕ) (c : Change)
+    (h : IsRecorded c ts ts' u x t) where
   pub change_view : view_from ts' x.log ls ≡ made t c (view_from ts u.log ls)
   unfolding view_from
   change_view =
-      let opens : (λ (y : ℕ). is_some (active_at x.log y)) ≡ (λ (y : ℕ). is_some (active_at u.log y)) = fun_ext h.is_open in
+      let opens : (λ (y : ℕ). is_some (active_at x.log y)) ≡ (λ (y : ℕ). is_some (active_at u.log y)) =
+      fun_ext h.is_open in
       λ i. record {
         rows = h.applies.changes i;
         undo = h.stands.undo i;
@@ -44,12 +46,20 @@ module _ (ts ts' : tables.Places) (u x : UndoState) (ls : Holdings) (t : ℕ) (c
   change_kept k =
       let more : (j : Key) → HasPlace ts j → HasPlace ts' j = λ j p. (h.applies.places j).1 (inl p) in
       let b = record_on system c (rows ts) in
-      let own : HavePlaces ts' (b ∷ (undo_of u.log).active t) = ((h.applies.places (record_key b)).1 (inr (record_key_of c (row_at (rows ts) (key_of c)))), more_places ts ts' more _ (k.active t)) in
+      let own : HavePlaces ts' (b ∷ (undo_of u.log).active t) = (
+        (h.applies.places (record_key b)).1 (inr (record_key_of c (row_at (rows ts) (key_of c)))),
+        more_places ts ts'
+            more _ (k.active t),
+      ) in
       record {
         size = h.size ∙ k.size;
-        active = λ y. subst (λ z. HavePlaces ts' (z.active y)) (sym h.stands.undo) (places_set ts' t _ (undo_of u.log).active own (λ z. more_places ts ts' more _ (k.active z)) y);
-        history = subst (λ z. AllHavePlaces ts' z.history) (sym h.stands.undo) (all_more_places ts ts' more _ k.history);
-        needed = made_needed ts ts' (undo_of u.log) (undo_of x.log) t c h.applies.places h.applies.changes h.stands.undo k.needed;
+        active = λ y. subst (λ z. HavePlaces ts' (z.active y)) (sym h.stands.undo)
+            (places_set ts' t _ (undo_of u.log).active own (λ z. more_places ts ts' more _ (k.active z)) y);
+        history = subst (λ z. AllHavePlaces ts' z.history) (sym h.stands.undo)
+            (all_more_places ts ts' more _ k.history);
+        needed = made_needed ts ts' (undo_of u.log) (undo_of x.log) t c h.applies.places h.applies.changes h.stands.undo
+            k.needed;
         idle = λ y e. k.idle y (sym (h.is_open y) ∙ e);
-        counted = λ y e. subst (λ n. n < 4_294_967_295) (sym (ap (λ f. f y) h.stands.counts)) (k.counted y (sym (h.is_open y) ∙ e));
+        counted = λ y e. subst (λ n. n < 4_294_967_295) (sym (ap (λ f. f y) h.stands.counts))
+            (k.counted y (sym (h.is_open y) ∙ e));
       }

@@ -29,22 +29,26 @@ module _ {X : Type 0} (P : LinkMaps → X → Type 0) where
     left = λ m kept h. h;
   }
 
-  pub one_linked : ((m m' : LinkMaps) (x : X) → KeepsPlaces m m' → P m x → P m' x) → (first now next : UndoState) (x : X) (rest all : List X)
-      → next.log ≡ now.log → KeepsPlaces now.links next.links → P next.links x → IsLinking P first now (x ∷ rest) all → IsLinking P first next rest all
+  pub one_linked : ((m m' : LinkMaps) (x : X) → KeepsPlaces m m' → P m x → P m' x)
+      → (first now next : UndoState) (x : X) (rest all : List X)
+      → next.log ≡ now.log → KeepsPlaces now.links next.links → P next.links x → IsLinking P first now (x ∷ rest) all
+      → IsLinking P first next rest all
   one_linked still first now next x rest all same kept has h = record {
     log = same ∙ h.log;
     kept = λ k p. kept k (h.kept k p);
     left = λ m more others. h.left m (λ k p. more k (kept k p)) (still next.links m x more has, others);
   }
 
-  pub all_linked : (first now : UndoState) (all : List X) → IsLinking P first now [] all → AllByRecursion (P now.links) all
+  pub all_linked : (first now : UndoState) (all : List X) → IsLinking P first now [] all
+      → AllByRecursion (P now.links) all
   all_linked first now all h = h.left now.links (λ k p. p) tt
 
 -- the same of keys, of which one may wait
 pub record IsLinkingKeys (first now : UndoState) (waiting : Option Key) (rest all : List Key) : Type 0 where
   pub log : now.log ≡ first.log
   pub kept : KeepsPlaces first.links now.links
-  pub left : (m : LinkMaps) → KeepsPlaces now.links m → HasWaiting m waiting → AllByRecursion (HasPlace m) rest → AllByRecursion (HasPlace m) all
+  pub left : (m : LinkMaps) → KeepsPlaces now.links m → HasWaiting m waiting → AllByRecursion (HasPlace m) rest
+      → AllByRecursion (HasPlace m) all
 
 pub none_waits : (s : UndoState) (all : List Key) → IsLinkingKeys s s None all all
 none_waits s all = record {
@@ -53,28 +57,35 @@ none_waits s all = record {
   left = λ m kept waiting h. h;
 }
 
-pub next_waits : (first now next : UndoState) (waiting : Option Key) (k : Key) (rest all : List Key) → next.log ≡ now.log
-    → KeepsPlaces now.links next.links → IsCovered next.links waiting k → IsLinkingKeys first now waiting (k ∷ rest) all → IsLinkingKeys first next (Some k) rest all
+pub next_waits : (first now next : UndoState) (waiting : Option Key) (k : Key) (rest all : List Key)
+    → next.log ≡ now.log
+    → KeepsPlaces now.links next.links → IsCovered next.links waiting k → IsLinkingKeys first now waiting (k ∷ rest) all
+    → IsLinkingKeys first next (Some k) rest all
 next_waits first now next waiting k rest all same kept covered h = record {
   log = same ∙ h.log;
   kept = λ j p. kept j (h.kept j p);
   left = λ m more has others. h.left m (λ j p. more j (kept j p)) (covered m more has) (has, others);
 }
 
-pub waiting_linked : (first now next : UndoState) (waiting : Option Key) (all : List Key) → KeepsPlaces now.links next.links → HasWaiting next.links waiting
+pub waiting_linked : (first now next : UndoState) (waiting : Option Key) (all : List Key)
+    → KeepsPlaces now.links next.links → HasWaiting next.links waiting
     → IsLinkingKeys first now waiting [] all → AllByRecursion (HasPlace next.links) all
 waiting_linked first now next waiting all kept has h = h.left next.links kept has tt
 
-pub placed_covered : {T E : Type 0} (r : Result T E) (links : LinkMaps) (waiting : Option Key) (k next : Key) → waiting ≡ Some k → OnOk r (HasPlace links k)
+pub placed_covered : {T E : Type 0} (r : Result T E) (links : LinkMaps) (waiting : Option Key) (k next : Key)
+    → waiting ≡ Some k → OnOk r (HasPlace links k)
     → OnOk r (IsCovered links waiting next)
 placed_covered (Ok v) links waiting k next is has = λ m kept _. subst (HasWaiting m) (sym is) (kept k has)
 placed_covered (Err e) links waiting k next is has = tt
 
-pub waits_covered : (links : LinkMaps) (waiting : Option Key) (k next : Key) → waiting ≡ Some k → comes_with next k ≡ true → IsCovered links waiting next
-waits_covered links waiting k next is with_next m kept has = subst (HasWaiting m) (sym is) (comes_placed m next k with_next has)
+pub waits_covered : (links : LinkMaps) (waiting : Option Key) (k next : Key) → waiting ≡ Some k
+    → comes_with next k ≡ true → IsCovered links waiting next
+waits_covered links waiting k next is with_next m kept has = subst (HasWaiting m) (sym is)
+    (comes_placed m next k with_next has)
 
 -- what has a place keeps it, and so does a table
-still_of_all : (m m' : LinkMaps) (ks : List Key) → KeepsPlaces m m' → AllByRecursion (HasPlace m) ks → AllByRecursion (HasPlace m') ks
+still_of_all : (m m' : LinkMaps) (ks : List Key) → KeepsPlaces m m' → AllByRecursion (HasPlace m) ks
+    → AllByRecursion (HasPlace m') ks
 still_of_all m m' [] kept h = tt
 still_of_all m m' (k ∷ ks) kept h = (kept k h.0, still_of_all m m' ks kept h.1)
 
@@ -83,7 +94,8 @@ tables_still ts m m' t = still_of_all m m' (placed_keys t ts)
 
 -- the tables that are changed
 abbrev pub changed_tables : List Table
-changed_tables = table.Warehouse ∷ table.District ∷ table.Customer ∷ table.History ∷ table.NewOrder ∷ table.Order ∷ table.OrderLine ∷ table.Stock ∷ []
+changed_tables = table.Warehouse ∷ table.District ∷ table.Customer ∷ table.History ∷ table.NewOrder ∷ table.Order
+    ∷ table.OrderLine ∷ table.Stock ∷ []
 
 pub are_linked : (ts : Places) (m : LinkMaps) → AllByRecursion (IsLinked ts m) changed_tables → AreLinked ts m
 are_linked ts m h (key.Item k) may = absurd may

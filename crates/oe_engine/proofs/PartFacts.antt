@@ -7,7 +7,10 @@ use Rattle.oe_rows.specs.declared.locks.Name.{Name}
 use Rattle.oe_rows.specs.declared.locks.Mode.{Mode}
 use Rattle.oe_rows.specs.declared.locks.Mode.TheVariants.{Shared, Exclusive}
 use Rattle.oe_requests.specs.declared.refusals.Refusal.{Refusal}
-use Rattle.oe_requests.specs.declared.refusals.Refusal.TheVariants.{NoSuchRow, RowExists, Overflow, Reference, KeyColumn, Busy, UndoFull, NoMemory, NotOpen, AlreadyOpen, InvalidItem, NoCustomer, TooOld, Future, NotQuiet, NotPinned}
+use Rattle.oe_requests.specs.declared.refusals.Refusal.TheVariants.{NoSuchRow, RowExists, Overflow, Reference}
+use Rattle.oe_requests.specs.declared.refusals.Refusal.TheVariants.{KeyColumn, Busy, UndoFull, NoMemory, NotOpen}
+use Rattle.oe_requests.specs.declared.refusals.Refusal.TheVariants.{AlreadyOpen, InvalidItem, NoCustomer, TooOld}
+use Rattle.oe_requests.specs.declared.refusals.Refusal.TheVariants.{Future, NotQuiet, NotPinned}
 use Rattle.oe_theory.specs.Machine as theory
 use Rattle.oe_theory.specs.Machine.{Plain, Take}
 use Rattle.oe_theory.specs.World as world
@@ -26,7 +29,8 @@ use Rattle.oe_log.specs.Log as undo
 use Rattle.oe_log.specs.Log.{active_at}
 use Rattle.oe_engine.specs.View.{View, view_from}
 use Rattle.oe_engine.specs.Kept.{IsKept}
-use Rattle.oe_engine.specs.Calls.{IsFree, IsInTheWay, IsBelow, locked, made, put_mode, LockRefused, ChangeRefused, stage_done}
+use Rattle.oe_engine.specs.Calls.{IsFree, IsInTheWay, IsBelow, locked, made, put_mode, LockRefused, ChangeRefused}
+use Rattle.oe_engine.specs.Calls.{stage_done}
 use Rattle.oe_engine.proofs.LockFacts.{held_of, same_together, taken_is, put_is, set_own, set_at, set_twice, put_taken}
 
 pub change_done : (t : ℕ) (c : Change) (v : View) → stage_done t Plain (Some c) v ≡ made t c v
@@ -41,7 +45,8 @@ change_done t c v = λ i. record {
 }
 
 -- a name that was taken is held in no lower mode than before
-pub risen_above : (m : theory.Mode) (o : Option theory.Mode) → (o ≡ Some (world.risen m o)) ⊎ IsBelow o (Some (world.risen m o))
+pub risen_above : (m : theory.Mode) (o : Option theory.Mode) → (o ≡ Some (world.risen m o))
+    ⊎ IsBelow o (Some (world.risen m o))
 risen_above theory.Shared None = inr tt
 risen_above theory.Exclusive None = inr tt
 risen_above theory.Shared (Some theory.Shared) = inl refl
@@ -49,12 +54,14 @@ risen_above theory.Shared (Some theory.Exclusive) = inl refl
 risen_above theory.Exclusive (Some theory.Shared) = inr tt
 risen_above theory.Exclusive (Some theory.Exclusive) = inl refl
 
-held_taken : (t : ℕ) (n : Name) (m : theory.Mode) (v : View) → (locked t n m v).held t n ≡ Some (world.risen m (v.held t n))
+held_taken : (t : ℕ) (n : Name) (m : theory.Mode) (v : View)
+    → (locked t n m v).held t n ≡ Some (world.risen m (v.held t n))
 held_taken t n m v =
     ap (λ f. f n) (set_at t (held_after system (Take n m) (v.held t)) v.held)
     ∙ ap (λ b. cond b (Some (world.risen m (v.held t n))) (v.held t n)) (model.name_refl n)
 
-pub can_restore : (t : ℕ) (n : Name) (m : theory.Mode) (v : View) → (v.held t n ≡ (locked t n m v).held t n) ⊎ IsBelow (v.held t n) ((locked t n m v).held t n)
+pub can_restore : (t : ℕ) (n : Name) (m : theory.Mode) (v : View) → (v.held t n ≡ (locked t n m v).held t n)
+    ⊎ IsBelow (v.held t n) ((locked t n m v).held t n)
 can_restore t n m v =
     subst (λ o. (v.held t n ≡ o) ⊎ IsBelow (v.held t n) o) (sym (held_taken t n m v)) (risen_above m (v.held t n))
 
@@ -64,9 +71,18 @@ restored t n m v =
     let h : Name → Option theory.Mode = held_after system (Take n m) (v.held t) in
     let own : (λ q. cond (is_name q n) (v.held t n) (world.set t h v.held t q)) ≡ v.held t =
     fun_ext (λ q. ap (λ f. cond (is_name q n) (v.held t n) (f q)) (set_at t h v.held) ∙ put_taken (v.held t) n m q) in
-    let all : world.set t (λ q. cond (is_name q n) (v.held t n) (world.set t h v.held t q)) (world.set t h v.held) ≡ v.held =
+    let all : world.set t (λ q. cond (is_name q n) (v.held t n) (world.set t h v.held t q))
+    (world.set t h v.held) ≡ v.held =
     ap (λ g. world.set t g (world.set t h v.held)) own ∙ set_twice t (v.held t) h v.held ∙ set_own t v.held in
-    λ i. record { rows = v.rows; undo = v.undo; seals = v.seals; counts = v.counts; held = all i; is_open = v.is_open; extents = v.extents }
+    λ i. record {
+      rows = v.rows;
+      undo = v.undo;
+      seals = v.seals;
+      counts = v.counts;
+      held = all i;
+      is_open = v.is_open;
+      extents = v.extents;
+    }
 
 -- a name that is put into the mode in which it is held already
 pub put_same : (t : ℕ) (n : Name) (v : View) → put_mode t n (v.held t n) v ≡ v
@@ -74,7 +90,15 @@ put_same t n v =
     let own : (λ q. cond (is_name q n) (v.held t n) (v.held t q)) ≡ v.held t = fun_ext (λ q. go q (is_name q n) refl) in
     let all : world.set t (λ q. cond (is_name q n) (v.held t n) (v.held t q)) v.held ≡ v.held =
     ap (λ g. world.set t g v.held) own ∙ set_own t v.held in
-    λ i. record { rows = v.rows; undo = v.undo; seals = v.seals; counts = v.counts; held = all i; is_open = v.is_open; extents = v.extents }
+    λ i. record {
+      rows = v.rows;
+      undo = v.undo;
+      seals = v.seals;
+      counts = v.counts;
+      held = all i;
+      is_open = v.is_open;
+      extents = v.extents;
+    }
   where
     go : (q : Name) (b : Bool) → is_name q n ≡ b → cond b (v.held t n) (v.held t q) ≡ v.held t q
     go q true e = ap (v.held t) (sym (model.name_true q n e))
@@ -105,12 +129,14 @@ below_as (Some Exclusive) (Some Exclusive) h = absurd h
 
 -- Freedom and its causes, in the theory's words
 module _ (ts : tables.Places) (u : undo.SegmentLog) (ls : Holdings) where
-  pub free_is : (t : ℕ) (n : Name) (m : Mode) → locks.IsFreeFor ls t n m → IsFree (view_from ts u ls) t (Take n (mode_of m))
+  pub free_is : (t : ℕ) (n : Name) (m : Mode) → locks.IsFreeFor ls t n m
+      → IsFree (view_from ts u ls) t (Take n (mode_of m))
   unfolding view_from
   free_is t n m h w ne = same_together m (held ls w n) ∙ h w ne
 
   -- whoever is in the way has a transaction open
-  pub way_is : (t : ℕ) (n : Name) (m : Mode) (w : ℕ) → IsKept ts u ls → locks.IsInTheWay ls t n m w → IsInTheWay (view_from ts u ls) t n (mode_of m) w
+  pub way_is : (t : ℕ) (n : Name) (m : Mode) (w : ℕ) → IsKept ts u ls → locks.IsInTheWay ls t n m w
+      → IsInTheWay (view_from ts u ls) t n (mode_of m) w
   unfolding view_from
   way_is t n m w k h =
       record {
@@ -127,9 +153,11 @@ module _ (ts : tables.Places) (u : undo.SegmentLog) (ls : Holdings) where
           absurd (true≢false (sym none ∙ h.conflicts))
 
   -- why a name is refused
-  pub lock_cause : (t : ℕ) (n : Name) (m : Mode) (e : Refusal) → IsKept ts u ls → locks.IsCause ls t n m e → LockRefused (view_from ts u ls) t n (mode_of m) e
+  pub lock_cause : (t : ℕ) (n : Name) (m : Mode) (e : Refusal) → IsKept ts u ls → locks.IsCause ls t n m e
+      → LockRefused (view_from ts u ls) t n (mode_of m) e
   unfolding view_from
-  lock_cause t n m (Busy name w) k h = (h.0, subst (λ z. IsInTheWay (view_from ts u ls) t z (mode_of m) w) (sym h.0) (way_is t n m w k h.1))
+  lock_cause t n m (Busy name w) k h =
+      (h.0, subst (λ z. IsInTheWay (view_from ts u ls) t z (mode_of m) w) (sym h.0) (way_is t n m w k h.1))
   lock_cause t n m NoMemory k h = (free_is t n m h.0, ap (option_map mode_of) h.1)
   lock_cause t n m (NoSuchRow x) k h = absurd h
   lock_cause t n m (RowExists x) k h = absurd h
@@ -147,7 +175,8 @@ module _ (ts : tables.Places) (u : undo.SegmentLog) (ls : Holdings) where
   lock_cause t n m (NotPinned x) k h = absurd h
 
   -- a terminal without an open transaction holds nothing
-  pub idle_is : (t : ℕ) → IsKept ts u ls → (view_from ts u ls).is_open t ≡ false → (view_from ts u ls).held t ≡ (λ _. None)
+  pub idle_is : (t : ℕ) → IsKept ts u ls → (view_from ts u ls).is_open t ≡ false
+      → (view_from ts u ls).held t ≡ (λ _. None)
   unfolding view_from
   idle_is t k e = fun_ext (λ q. ap (option_map mode_of) (k.idle t e q))
 
@@ -155,23 +184,46 @@ module _ (ts : tables.Places) (u : undo.SegmentLog) (ls : Holdings) where
       → view_from ts u new ≡ locked t n (mode_of m) (view_from ts u ls)
   unfolding view_from
   locked_is new t n m own others =
-      let names : held_of new ≡ world.set t (held_after system (Take n (mode_of m)) (held_of ls t)) (held_of ls) = taken_is ls new t n m own others in
+      let names : held_of new ≡ world.set t (held_after system (Take n (mode_of m)) (held_of ls t)) (held_of ls) =
+      taken_is ls new t n m own others in
       let before : View = view_from ts u ls in
-      λ i. record { rows = before.rows; undo = before.undo; seals = before.seals; counts = before.counts; held = names i; is_open = before.is_open; extents = before.extents }
+      λ i. record {
+        rows = before.rows;
+        undo = before.undo;
+        seals = before.seals;
+        counts = before.counts;
+        held = names i;
+        is_open = before.is_open;
+        extents = before.extents;
+      }
 
-  pub mode_put : (new : Holdings) (t : ℕ) (n : Name) (m : Option Mode) → locks.GivesBack ls new t n m → locks.OthersKeep ls new t
+  pub mode_put : (new : Holdings) (t : ℕ) (n : Name) (m : Option Mode) → locks.GivesBack ls new t n m
+      → locks.OthersKeep ls new t
       → view_from ts u new ≡ put_mode t n (option_map mode_of m) (view_from ts u ls)
   unfolding view_from
   mode_put new t n m own others =
-      let names : held_of new ≡ world.set t (λ q. cond (is_name q n) (option_map mode_of m) (held_of ls t q)) (held_of ls) = put_is ls new t n m own others in
+      let names : held_of new ≡ world.set t (λ q. cond (is_name q n) (option_map mode_of m) (held_of ls t q))
+      (held_of ls) = put_is ls new t n m own others in
       let before : View = view_from ts u ls in
-      λ i. record { rows = before.rows; undo = before.undo; seals = before.seals; counts = before.counts; held = names i; is_open = before.is_open; extents = before.extents }
+      λ i. record {
+        rows = before.rows;
+        undo = before.undo;
+        seals = before.seals;
+        counts = before.counts;
+        held = names i;
+        is_open = before.is_open;
+        extents = before.extents;
+      }
 
   -- a mode that is not below the one held is that one
-  pub put_nothing : (t : ℕ) (n : Name) (m : Option Mode) → (option_map mode_of m ≡ (view_from ts u ls).held t n) ⊎ IsBelow (option_map mode_of m) ((view_from ts u ls).held t n)
-      → (locks.IsBelow m (held ls t n) → ⊥) → view_from ts u ls ≡ put_mode t n (option_map mode_of m) (view_from ts u ls)
+  pub put_nothing : (t : ℕ) (n : Name) (m : Option Mode) → (option_map mode_of m ≡ (view_from ts u ls).held t n)
+      ⊎ IsBelow (option_map mode_of m) ((view_from ts u ls).held t n)
+      → (locks.IsBelow m (held ls t n) → ⊥) → view_from ts u ls ≡ put_mode t n (option_map mode_of m)
+      (view_from ts u ls)
   unfolding view_from
-  put_nothing t n m (inl e) never = sym (subst (λ z. put_mode t n z (view_from ts u ls) ≡ view_from ts u ls) (sym e) (put_same t n (view_from ts u ls)))
+  put_nothing t n m (inl e) never =
+      sym (subst (λ z. put_mode t n z (view_from ts u ls) ≡ view_from ts u ls) (sym e)
+      (put_same t n (view_from ts u ls)))
   put_nothing t n m (inr h) never = absurd (never (below_so m (held ls t n) h))
 
 -- a refusal of the tables is one of a change

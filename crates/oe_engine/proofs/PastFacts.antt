@@ -1,5 +1,6 @@
 -- What a purge and a rewind make of what an engine stands for, and that it keeps its promise.
-use Rattle.std.proofs.Common.{◌≡◌, ℕ, zero, suc, ◌-◌, true, false, refl, sym, ap, ◌∙◌, subst, inl, inr, List, [], ◌∷◌, length, take, drop}
+use Rattle.std.proofs.Common.{◌≡◌, ℕ, zero, suc, ◌-◌, true, false, refl, sym, ap, ◌∙◌, subst, inl, inr, List, [], ◌∷◌}
+use Rattle.std.proofs.Common.{length, take, drop}
 use Rattle.std.specs.Prelude.{Option, None, is_some, Result, Ok, Err, OnOk, OnErr, IfErr}
 use Rattle.std.proofs.lemmas.List.{length-set}
 use mathlib.Core.Path.{fun_ext}
@@ -41,31 +42,42 @@ use Rattle.oe_engine.proofs.NeededFacts.{purged_needed}
 use Rattle.oe_engine.proofs.LockFacts.{held_of}
 
 -- the commits that are kept have places
-taken_places : (ts : tables.Places) (n : ℕ) (ss : List (List Record)) → AllHavePlaces ts ss → AllHavePlaces ts (take n ss)
+taken_places : (ts : tables.Places) (n : ℕ) (ss : List (List Record)) → AllHavePlaces ts ss
+    → AllHavePlaces ts (take n ss)
 taken_places ts zero ss h = tt
 taken_places ts (suc n) [] h = tt
 taken_places ts (suc n) (bs ∷ ss) h = (h.0, taken_places ts n ss h.1)
 
-left_places : (ts : tables.Places) (n : ℕ) (ss : List (List Record)) → AllHavePlaces ts ss → AllHavePlaces ts (drop n ss)
+left_places : (ts : tables.Places) (n : ℕ) (ss : List (List Record)) → AllHavePlaces ts ss
+    → AllHavePlaces ts (drop n ss)
 left_places ts zero ss h = h
 left_places ts (suc n) [] h = tt
 left_places ts (suc n) (bs ∷ ss) h = left_places ts n ss h.1
 
 -- keys without a place any more are not these records', so that those have theirs
-still_places : (ts ts' : tables.Places) (P : Key → Type 0) → GivesUpThose ts ts' P → (bs : List Record) → ((k : Key) → P k → HasRecord system k bs → ⊥)
+still_places : (ts ts' : tables.Places) (P : Key → Type 0) → GivesUpThose ts ts' P → (bs : List Record)
+    → ((k : Key) → P k → HasRecord system k bs → ⊥)
     → HavePlaces ts bs → HavePlaces ts' bs
 still_places ts ts' P g [] other h = tt
-still_places ts ts' P g (b ∷ bs) other h =
-    ((g (record_key b)).1 (h.0, λ p. absurd (other (record_key b) p (inl refl))), still_places ts ts' P g bs (λ k p e. other k p (inr e)) h.1)
+still_places ts ts' P g (b ∷ bs) other h = (
+  (g (record_key b)).1 (h.0, λ p. absurd (other (record_key b) p (inl refl))),
+  still_places ts ts' P g bs
+      (λ k p e. other k p (inr e)) h.1,
+)
 
-all_still_places : (ts ts' : tables.Places) (P : Key → Type 0) → GivesUpThose ts ts' P → (ss : List (List Record)) → ((k : Key) → P k → HasRecordIn system k ss → ⊥)
+all_still_places : (ts ts' : tables.Places) (P : Key → Type 0) → GivesUpThose ts ts' P → (ss : List (List Record))
+    → ((k : Key) → P k → HasRecordIn system k ss → ⊥)
     → AllHavePlaces ts ss → AllHavePlaces ts' ss
 all_still_places ts ts' P g [] other h = tt
-all_still_places ts ts' P g (bs ∷ ss) other h =
-    (still_places ts ts' P g bs (λ k p e. other k p (inl e)) h.0, all_still_places ts ts' P g ss (λ k p e. other k p (inr e)) h.1)
+all_still_places ts ts' P g (bs ∷ ss) other h = (
+  still_places ts ts' P g bs (λ k p e. other k p (inl e)) h.0,
+  all_still_places ts ts' P g ss
+      (λ k p e. other k p (inr e)) h.1,
+)
 
 -- A purge. A record that is kept is of no key whose place went
-purged_kept : (ts ts' : tables.Places) (u : SegmentLog) (ls : Holdings) (n : ℕ) → GivesUpDeleted ts ts' (drop n (undo_of u).history) (with_newest n u)
+purged_kept : (ts ts' : tables.Places) (u : SegmentLog) (ls : Holdings) (n : ℕ)
+    → GivesUpDeleted ts ts' (drop n (undo_of u).history) (with_newest n u)
     → AreNeeded ts' (undo_of (with_newest n u)) → IsKept ts u ls → IsKept ts' (with_newest n u) ls
 unfolding terminal_limit
 purged_kept ts ts' u ls n g needed k =
@@ -73,9 +85,11 @@ purged_kept ts ts' u ls n g needed k =
     let gone : Key → Type 0 = λ j. IsDeletedIn j (drop n (undo_of u).history) × HasNoRecord w j in
     record {
       size = k.size;
-      active = λ t. still_places ts ts' gone g ((undo_of u).active t) (λ j p e. none_in_open j w k.size p.1 t e) (k.active t);
+      active = λ t. still_places ts ts' gone g ((undo_of u).active t) (λ j p e. none_in_open j w k.size p.1 t e)
+          (k.active t);
       history = all_still_places ts ts' gone g (undo_of w).history (λ j p e. none_in_commits j w p.1 e)
-          (subst (λ z. AllHavePlaces ts z.history) (sym (stands.cuts u n).undo) (taken_places ts n (undo_of u).history k.history));
+          (subst (λ z. AllHavePlaces ts z.history) (sym (stands.cuts u n).undo)
+          (taken_places ts n (undo_of u).history k.history));
       needed = needed;
       idle = k.idle;
       counted = k.counted;
@@ -104,16 +118,20 @@ safe_purged m v s = record {
 }
 
 pub purge_sound : {T E : Type 0} (r : Result T E) (ts ts' : tables.Places) (u u' : UndoState) (ls : Holdings) (m : ℕ)
-    → OnOk r (u'.log ≡ with_newest (past.newest u.log - m) u.log) → rows ts' ≡ rows ts → OnOk r (GivesUpDeleted ts ts' (drop (past.newest u.log - m) (undo_of u.log).history) u'.log)
+    → OnOk r (u'.log ≡ with_newest (past.newest u.log - m) u.log) → rows ts' ≡ rows ts
+    → OnOk r (GivesUpDeleted ts ts' (drop (past.newest u.log - m) (undo_of u.log).history) u'.log)
     → u'.links ≡ u.links → OnErr r ((ts' ≡ ts) × (u' ≡ u)) → IsSound ts u ls → IsSound ts' u' ls
 purge_sound (Ok x) ts ts' u u' ls m is rows_same places links_same same s =
     let gone = drop (past.newest u.log - m) (undo_of u.log).history in
     let went = subst (GivesUpDeleted ts ts' gone) is places in
     record {
       kept = subst (λ z. IsKept ts' z ls) (sym is)
-          (purged_kept ts ts' u.log ls (past.newest u.log - m) went (purged_needed ts ts' u.log ls (past.newest u.log - m) rows_same went s.safe s.kept.needed) s.kept);
-      safe = subst (λ z. IsSafe (view_from ts' z ls)) (sym is) (subst IsSafe (sym (purged_view ts ts' u.log ls m rows_same)) (safe_purged m (view_from ts u.log ls) s.safe));
-      linked = linked_less ts ts' u.links u'.links (λ k. IsDeletedIn k gone × HasNoRecord u'.log k) places links_same s.linked;
+          (purged_kept ts ts' u.log ls (past.newest u.log - m) went
+          (purged_needed ts ts' u.log ls (past.newest u.log - m) rows_same went s.safe s.kept.needed) s.kept);
+      safe = subst (λ z. IsSafe (view_from ts' z ls)) (sym is)
+          (subst IsSafe (sym (purged_view ts ts' u.log ls m rows_same)) (safe_purged m (view_from ts u.log ls) s.safe));
+      linked = linked_less ts ts' u.links u'.links (λ k. IsDeletedIn k gone × HasNoRecord u'.log k) places links_same
+          s.linked;
     }
 purge_sound (Err e) ts ts' u u' ls m is rows_same places links_same same s =
     subst (λ z. IsSound z u' ls) (sym same.0) (subst (λ z. IsSound ts z ls) (sym same.1) s)
@@ -125,7 +143,8 @@ purge_view (Ok x) ts ts' u u' ls m is same = ap (λ z. view_from ts' z ls) is �
 purge_view (Err e) ts ts' u u' ls m is same = tt
 
 -- A rewind. No segment is open after it either
-quiet_rewound : (n : ℕ) (v : SegmentLog) → ((t : ℕ) → active_at v t ≡ None) → (t : ℕ) → active_at (without_newest n v) t ≡ None
+quiet_rewound : (n : ℕ) (v : SegmentLog) → ((t : ℕ) → active_at v t ≡ None) → (t : ℕ)
+    → active_at (without_newest n v) t ≡ None
 quiet_rewound zero v h = h
 quiet_rewound (suc n) v h = quiet_rewound n (uncounted v v.committed) (quiet_still v v.committed h)
 
@@ -137,13 +156,15 @@ size_rewound (suc n) v = size_rewound n (uncounted v v.committed) ∙ one v.comm
     one [] = refl
     one (c ∷ cs) = length-set v.terminals c.terminal _
 
-rewound_kept : (ts ts' : tables.Places) (u : SegmentLog) (ls : Holdings) (n : ℕ) → GivesUpUnnamed ts ts' (undo_of u) (undo_of (without_newest n u))
+rewound_kept : (ts ts' : tables.Places) (u : SegmentLog) (ls : Holdings) (n : ℕ)
+    → GivesUpUnnamed ts ts' (undo_of u) (undo_of (without_newest n u))
     → ((t : ℕ) → active_at u t ≡ None) → IsKept ts u ls → IsKept ts' (without_newest n u) ls
 rewound_kept ts ts' u ls n gives quiet k =
     let r = rewinds u n in
     record {
       size = size_rewound n u ∙ k.size;
-      active = λ t. active_placed ts ts' (undo_of u) (undo_of (without_newest n u)) gives t (subst (λ z. HavePlaces ts (z.active t)) (sym r.undo) (k.active t));
+      active = λ t. active_placed ts ts' (undo_of u) (undo_of (without_newest n u)) gives t
+          (subst (λ z. HavePlaces ts (z.active t)) (sym r.undo) (k.active t));
       history = history_placed ts ts' (undo_of u) (undo_of (without_newest n u)) gives
           (subst (λ z. AllHavePlaces ts z.history) (sym r.undo) (left_places ts n (undo_of u).history k.history));
       needed = gives.needed k.needed;
@@ -152,12 +173,14 @@ rewound_kept ts ts' u ls n gives quiet k =
     }
 
 rewound_view : (ts ts' : tables.Places) (u : SegmentLog) (ls : Holdings) (m : ℕ) → ((t : ℕ) → active_at u t ≡ None)
-    → ((slots : ℕ → Option (Slot system)) → store_with (rows ts') (without_newest (past.newest u - m) u) slots ≡ rewound_to system m (store_with (rows ts) u slots))
+    → ((slots : ℕ → Option (Slot system)) → store_with (rows ts') (without_newest (past.newest u - m) u)
+    slots ≡ rewound_to system m (store_with (rows ts) u slots))
     → view_from ts' (without_newest (past.newest u - m) u) ls ≡ calls.rewound_to m (view_from ts u ls)
 unfolding view_from
 rewound_view ts ts' u ls m quiet is =
     let s = is (λ t. None) in
-    let opens : (λ (t : ℕ). is_some (active_at (without_newest (past.newest u - m) u) t)) ≡ (λ (t : ℕ). is_some (active_at u t)) =
+    let opens : (λ (t : ℕ). is_some (active_at (without_newest (past.newest u - m) u) t))
+    ≡ (λ (t : ℕ). is_some (active_at u t)) =
     fun_ext (λ t. ap is_some (quiet_rewound (past.newest u - m) u quiet t ∙ sym (quiet t))) in
     λ i. record {
       rows = (s i).tables;
@@ -169,7 +192,8 @@ rewound_view ts ts' u ls m quiet is =
       extents = (s i).extents;
     }
 
-safe_rewound : (m : ℕ) (v : View) → ((t : ℕ) → v.undo.active t ≡ []) → Meets (calls.rewound_to m v).rows → IsSafe v → IsSafe (calls.rewound_to m v)
+safe_rewound : (m : ℕ) (v : View) → ((t : ℕ) → v.undo.active t ≡ []) → Meets (calls.rewound_to m v).rows → IsSafe v
+    → IsSafe (calls.rewound_to m v)
 safe_rewound m v empty meets s =
     let w : View = calls.rewound_to m v in
     let none : ◌≡◌ {A = ℕ → List Record} (λ t. []) v.undo.active = fun_ext (λ t. sym (empty t)) in
@@ -177,36 +201,48 @@ safe_rewound m v empty meets s =
       owned = λ t. subst (AreOwned (v.held t) t (suc (w.counts t))) (sym (empty t)) tt;
       alone = s.alone;
       unwinds = λ ts. subst (λ (z : ℕ → List Record). Unwinds w.undo.history z w.rows ts) none
-          (none_unwinds w.undo.history ts w.rows meets (all_left (calls.newest v - m) v.undo.history v.rows ((s.unwinds []).1 empty)));
+          (none_unwinds w.undo.history ts w.rows meets
+          (all_left (calls.newest v - m) v.undo.history v.rows ((s.unwinds []).1 empty)));
     }
 
 no_records_of : (u : SegmentLog) → ((t : ℕ) → active_at u t ≡ None) → (t : ℕ) → (undo_of u).active t ≡ []
 no_records_of u quiet t = ap (λ a. model_records (records_in a)) (quiet t)
 
-pub rewind_sound : {T E : Type 0} (r : Result T E) (ts ts' : tables.Places) (u u' : UndoState) (ls : Holdings) (m : ℕ) → OnOk r (open_total u.log ≡ 0)
+pub rewind_sound : {T E : Type 0} (r : Result T E) (ts ts' : tables.Places) (u u' : UndoState) (ls : Holdings) (m : ℕ)
+    → OnOk r (open_total u.log ≡ 0)
     → OnOk r (u'.log ≡ without_newest (past.newest u.log - m) u.log)
-    → OnOk r ((slots : ℕ → Option (Slot system)) → store_with (rows ts') u'.log slots ≡ rewound_to system m (store_with (rows ts) u.log slots))
-    → GivesUpUnnamed ts ts' (undo_of u.log) (undo_of u'.log) → StayLinked ts ts' u.links u'.links → OnErr r (u' ≡ u) → OnErr r (ts' ≡ ts) → Meets (rows ts') → IsSound ts u ls → IsSound ts' u' ls
+    → OnOk r ((slots : ℕ → Option (Slot system))
+    → store_with (rows ts') u'.log slots ≡ rewound_to system m (store_with (rows ts) u.log slots))
+    → GivesUpUnnamed ts ts' (undo_of u.log) (undo_of u'.log) → StayLinked ts ts' u.links u'.links → OnErr r (u' ≡ u)
+    → OnErr r (ts' ≡ ts) → Meets (rows ts') → IsSound ts u ls → IsSound ts' u' ls
 unfolding view_from
 rewind_sound (Ok x) ts ts' u u' ls m none log is places stay same same_tables meets s =
     let quiet = none_open u.log none in
-    let stored = subst (λ z. (slots : ℕ → Option (Slot system)) → store_with (rows ts') z slots ≡ rewound_to system m (store_with (rows ts) u.log slots)) log is in
-    let there : rows ts' ≡ (calls.rewound_to m (view_from ts u.log ls)).rows = ap (λ z. z.tables) (stored (λ t. None)) in
+    let stored = subst (λ z. (slots : ℕ → Option (Slot system))
+    → store_with (rows ts') z slots ≡ rewound_to system m (store_with (rows ts) u.log slots)) log is in
+    let there : rows ts' ≡ (calls.rewound_to m (view_from ts u.log ls)).rows =
+    ap (λ z. z.tables) (stored (λ t. None)) in
     record {
-      kept = subst (λ z. IsKept ts' z ls) (sym log) (rewound_kept ts ts' u.log ls (past.newest u.log - m) (subst (λ z. GivesUpUnnamed ts ts' (undo_of u.log) (undo_of z)) log places) quiet s.kept);
+      kept = subst (λ z. IsKept ts' z ls) (sym log)
+          (rewound_kept ts ts' u.log ls (past.newest u.log - m)
+          (subst (λ z. GivesUpUnnamed ts ts' (undo_of u.log) (undo_of z)) log places) quiet s.kept);
       safe = subst (λ z. IsSafe (view_from ts' z ls)) (sym log)
-          (subst IsSafe (sym (rewound_view ts ts' u.log ls m quiet stored)) (safe_rewound m (view_from ts u.log ls) (no_records_of u.log quiet) (subst Meets there meets) s.safe));
+          (subst IsSafe (sym (rewound_view ts ts' u.log ls m quiet stored))
+          (safe_rewound m (view_from ts u.log ls) (no_records_of u.log quiet) (subst Meets there meets) s.safe));
       linked = stay.linked s.linked;
     }
 rewind_sound (Err e) ts ts' u u' ls m none log is places stay same same_tables meets s =
     subst (λ z. IsSound z u' ls) (sym same_tables) (subst (λ z. IsSound ts z ls) (sym same) s)
 
-pub rewind_view : {T E : Type 0} (r : Result T E) (ts ts' : tables.Places) (u u' : UndoState) (ls : Holdings) (m : ℕ) → OnOk r (open_total u.log ≡ 0)
+pub rewind_view : {T E : Type 0} (r : Result T E) (ts ts' : tables.Places) (u u' : UndoState) (ls : Holdings) (m : ℕ)
+    → OnOk r (open_total u.log ≡ 0)
     → OnOk r (u'.log ≡ without_newest (past.newest u.log - m) u.log)
-    → OnOk r ((slots : ℕ → Option (Slot system)) → store_with (rows ts') u'.log slots ≡ rewound_to system m (store_with (rows ts) u.log slots))
+    → OnOk r ((slots : ℕ → Option (Slot system))
+    → store_with (rows ts') u'.log slots ≡ rewound_to system m (store_with (rows ts) u.log slots))
     → OnOk r (view_from ts' u'.log ls ≡ calls.rewound_to m (view_from ts u.log ls))
 rewind_view (Ok x) ts ts' u u' ls m none log is =
-    let stored = subst (λ z. (slots : ℕ → Option (Slot system)) → store_with (rows ts') z slots ≡ rewound_to system m (store_with (rows ts) u.log slots)) log is in
+    let stored = subst (λ z. (slots : ℕ → Option (Slot system))
+    → store_with (rows ts') z slots ≡ rewound_to system m (store_with (rows ts) u.log slots)) log is in
     ap (λ z. view_from ts' z ls) log ∙ rewound_view ts ts' u.log ls m (none_open u.log none) stored
 rewind_view (Err e) ts ts' u u' ls m none log is = tt
 
@@ -215,24 +251,28 @@ pub is_quiet : (ts : tables.Places) (u : SegmentLog) (ls : Holdings) → open_to
 unfolding view_from
 is_quiet ts u ls none t = ap is_some (none_open u none t)
 
-pub rewind_quiet : {T E : Type 0} (r : Result T E) (ts : tables.Places) (u : SegmentLog) (ls : Holdings) → OnOk r (open_total u ≡ 0) → OnOk r (IsQuiet (view_from ts u ls))
+pub rewind_quiet : {T E : Type 0} (r : Result T E) (ts : tables.Places) (u : SegmentLog) (ls : Holdings)
+    → OnOk r (open_total u ≡ 0) → OnOk r (IsQuiet (view_from ts u ls))
 rewind_quiet (Ok x) ts u ls none = is_quiet ts u ls none
 rewind_quiet (Err e) ts u ls none = tt
 
 -- then the records of the commits can be put back
-pub commits_go_back : (ts : tables.Places) (u : SegmentLog) (ls : Holdings) → IsSafe (view_from ts u ls) → open_total u ≡ 0 → CanUnwindAll (undo_of u).history (rows ts)
+pub commits_go_back : (ts : tables.Places) (u : SegmentLog) (ls : Holdings) → IsSafe (view_from ts u ls)
+    → open_total u ≡ 0 → CanUnwindAll (undo_of u).history (rows ts)
 unfolding view_from
 commits_go_back ts u ls s none = (s.unwinds []).1 (no_records_of u (none_open u none))
 
 -- why it is refused
-cause_is : (ts : tables.Places) (u : SegmentLog) (ls : Holdings) (m : ℕ) (e : Refusal) → length u.terminals ≡ 65 → journal.CantRewind u m e → CantRewind (view_from ts u ls) m e
+cause_is : (ts : tables.Places) (u : SegmentLog) (ls : Holdings) (m : ℕ) (e : Refusal) → length u.terminals ≡ 65
+    → journal.CantRewind u m e → CantRewind (view_from ts u ls) m e
 unfolding view_from
 cause_is ts u ls m (NotQuiet n) size h = (λ slots same. slots_counted u slots size same ∙ sym h.0, h.1)
 cause_is ts u ls m (TooOld k) size h = (is_quiet ts u ls h.0, h.1)
 cause_is ts u ls m (Future k) size h = (is_quiet ts u ls h.0, h.1)
 cause_is ts u ls m _ size h = absurd h.1
 
-pub rewind_cause : {T : Type 0} (r : Result T Refusal) (ts : tables.Places) (u : SegmentLog) (ls : Holdings) (m : ℕ) → length u.terminals ≡ 65
+pub rewind_cause : {T : Type 0} (r : Result T Refusal) (ts : tables.Places) (u : SegmentLog) (ls : Holdings) (m : ℕ)
+    → length u.terminals ≡ 65
     → IfErr r (journal.CantRewind u m) → IfErr r (CantRewind (view_from ts u ls) m)
 rewind_cause (Ok x) ts u ls m size h = tt
 rewind_cause (Err e) ts u ls m size h = cause_is ts u ls m e size h

@@ -35,30 +35,36 @@ module _ (ts ts' : tables.Places) (u x : UndoState) (ls : Holdings) (t : ℕ) wh
   abbrev pub MayWriteHere : Write → Type 0
   MayWriteHere w = MayWrite ((view_from ts u.log ls).held t) t (suc ((view_from ts u.log ls).counts t)) w
 
-  change_sound : (c : Change) → MayHere c → IsRecorded c ts ts' u x t → AreLinked ts' x.links → IsSound ts u ls → IsSound ts' x ls
+  change_sound : (c : Change) → MayHere c → IsRecorded c ts ts' u x t → AreLinked ts' x.links → IsSound ts u ls
+      → IsSound ts' x ls
   unfolding view_from
   change_sound c may h linked s = record {
     kept = change_kept ts ts' u x ls t c h s.kept;
-    safe = subst IsSafe (sym (change_view ts ts' u x ls t c h)) (safe_made t c (view_from ts u.log ls) h.applies.accepted may s.safe);
+    safe = subst IsSafe (sym (change_view ts ts' u x ls t c h))
+        (safe_made t c (view_from ts u.log ls) h.applies.accepted may s.safe);
     linked = linked;
   }
 
   same_sound : ts' ≡ ts → x.log ≡ u.log → AreLinked ts' x.links → IsSound ts u ls → IsSound ts' x ls
   same_sound tables log linked s = record {
     kept = subst (λ z. IsKept z x.log ls) (sym tables) (subst (λ z. IsKept ts z ls) (sym log) s.kept);
-    safe = subst (λ z. IsSafe (view_from z x.log ls)) (sym tables) (subst (λ z. IsSafe (view_from ts z ls)) (sym log) s.safe);
+    safe = subst (λ z. IsSafe (view_from z x.log ls)) (sym tables)
+        (subst (λ z. IsSafe (view_from ts z ls)) (sym log) s.safe);
     linked = linked;
   }
 
-  made_view : {T E : Type 0} (r : Result T E) (c : Change) → OnOk r (IsRecorded c ts ts' u x t) → OnOk r (view_from ts' x.log ls ≡ made t c (view_from ts u.log ls))
+  made_view : {T E : Type 0} (r : Result T E) (c : Change) → OnOk r (IsRecorded c ts ts' u x t)
+      → OnOk r (view_from ts' x.log ls ≡ made t c (view_from ts u.log ls))
   made_view (Ok v) c h = change_view ts ts' u x ls t c h
   made_view (Err e) c h = tt
 
-  made_accepted : {T E : Type 0} (r : Result T E) (c : Change) → OnOk r (IsRecorded c ts ts' u x t) → OnOk r (Accepts c (rows ts))
+  made_accepted : {T E : Type 0} (r : Result T E) (c : Change) → OnOk r (IsRecorded c ts ts' u x t)
+      → OnOk r (Accepts c (rows ts))
   made_accepted (Ok v) c h = h.applies.accepted
   made_accepted (Err e) c h = tt
 
-  pub same_view : {T E : Type 0} (r : Result T E) → OnErr r (ts' ≡ ts) → OnErr r (x.log ≡ u.log) → OnErr r (view_from ts' x.log ls ≡ view_from ts u.log ls)
+  pub same_view : {T E : Type 0} (r : Result T E) → OnErr r (ts' ≡ ts) → OnErr r (x.log ≡ u.log)
+      → OnErr r (view_from ts' x.log ls ≡ view_from ts u.log ls)
   same_view (Ok v) tables log = tt
   same_view (Err e) tables log = λ i. view_from (tables i) (log i) ls
 
@@ -68,23 +74,29 @@ module _ (ts ts' : tables.Places) (u x : UndoState) (ls : Holdings) (t : ℕ) wh
         → OnErr r (ts' ≡ ts) → OnErr r (x.log ≡ u.log) → AreLinked ts' x.links → IsSound ts u ls → IsSound ts' x ls
     put_sound (Ok v) may h tables log linked s =
         let (c, found, is) = at_change _ _ h in
-        change_sound c (may_make ((view_from ts u.log ls).held t) t (suc ((view_from ts u.log ls).counts t)) w (rows ts) c found may) is linked s
+        change_sound c (may_make ((view_from ts u.log ls).held t) t (suc ((view_from ts u.log ls).counts t)) w (rows ts)
+        c found may) is linked s
     put_sound (Err e) may h tables log linked s = same_sound tables log linked s
 
-    put_recorded : {T E : Type 0} (r : Result T E) (c : Change) → written w (rows ts) ≡ Some c → OnOk r (HasRecorded w ts ts' u x t) → OnOk r (IsRecorded c ts ts' u x t)
+    put_recorded : {T E : Type 0} (r : Result T E) (c : Change) → written w (rows ts) ≡ Some c
+        → OnOk r (HasRecorded w ts ts' u x t) → OnOk r (IsRecorded c ts ts' u x t)
     put_recorded (Ok v) c found h = of_change _ _ c found h
     put_recorded (Err e) c found h = tt
 
-    pub put_view : {T E : Type 0} (r : Result T E) (c : Change) → written w (rows ts) ≡ Some c → OnOk r (HasRecorded w ts ts' u x t)
+    pub put_view : {T E : Type 0} (r : Result T E) (c : Change) → written w (rows ts) ≡ Some c
+        → OnOk r (HasRecorded w ts ts' u x t)
         → OnOk r (view_from ts' x.log ls ≡ made t c (view_from ts u.log ls))
     put_view r c found h = made_view r c (put_recorded r c found h)
 
-    pub put_accepted : {T E : Type 0} (r : Result T E) (c : Change) → written w (rows ts) ≡ Some c → OnOk r (HasRecorded w ts ts' u x t) → OnOk r (Accepts c (rows ts))
+    pub put_accepted : {T E : Type 0} (r : Result T E) (c : Change) → written w (rows ts) ≡ Some c
+        → OnOk r (HasRecorded w ts ts' u x t) → OnOk r (Accepts c (rows ts))
     put_accepted r c found h = made_accepted r c (put_recorded r c found h)
 
-    pub put_fits : {T E : Type 0} (r : Result T E) (c : Change) → written w (rows ts) ≡ Some c → OnOk r (HasRecorded w ts ts' u x t) → OnOk r (HasRoomFor w (rows ts) u.log t)
+    pub put_fits : {T E : Type 0} (r : Result T E) (c : Change) → written w (rows ts) ≡ Some c
+        → OnOk r (HasRecorded w ts ts' u x t) → OnOk r (HasRoomFor w (rows ts) u.log t)
         → OnOk r (IsFull u.log t (record_length (record_on system c (rows ts))) → ⊥)
     put_fits (Ok v) c found h room =
         let accepted = (of_change (λ d. IsRecorded d ts ts' u x t) _ c found h).applies.accepted in
-        subst (λ o. IsSomeAnd o (λ b. IsFull u.log t (record_length b) → ⊥)) (write_records w c (rows ts) found accepted) room
+        subst (λ o. IsSomeAnd o (λ b. IsFull u.log t (record_length b) → ⊥))
+        (write_records w c (rows ts) found accepted) room
     put_fits (Err e) c found h room = tt

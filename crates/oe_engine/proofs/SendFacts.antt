@@ -9,4 +9,7 @@ use Rattle.oe_engine.specs.contracts.engine.Engine.{the_row}
 use Rattle.oe_engine.specs.contracts.engine.Engine.TheInside as inside
 
 pub engine_send : IsSend undo_row → IsSend the_row
-engine_send undo_send = view_send _ _ _ _ _ (recorded_send inside.the_field.row _ _ inside.the_type.to_one (struct_send (shape inside.the_type) (tables.the_send, (undo_send, (locks.the_send, (search sendable, (heap.the_field_send, tt)))))))
+engine_send undo_send = view_send _ _ _ _ _
+    (recorded_send inside.the_field.row _ _ inside.the_type.to_one
+    (struct_send (shape inside.the_type)
+    (tables.the_send, (undo_send, (locks.the_send, (search sendable, (heap.the_field_send, tt)))))))

@@ -12,13 +12,18 @@ use Rattle.oe_requests.specs.declared.refusals.Refusal.TheVariants.{UndoFull, No
 use Rattle.oe_rows.specs.declared.orders.NewOrder.{NewOrder}
 use Rattle.oe_rows.specs.declared.rows.Row.TheVariants as row
 use Rattle.oe_theory.specs.Next.{held_after, record_on}
-use Rattle.oe_model.specs.Rows.{Rows, as_warehouse, as_district, as_customer, as_new_order, as_order, as_order_line, as_stock}
-use Rattle.oe_model.specs.Changes.{Change, key_of, Record, UpdatedWarehouse, UpdatedDistrict, UpdatedCustomer, UpdatedOrder, UpdatedOrderLine, UpdatedStock, DeletedNewOrder}
+use Rattle.oe_model.specs.Rows.{Rows, as_warehouse, as_district, as_customer, as_new_order, as_order, as_order_line}
+use Rattle.oe_model.specs.Rows.{as_stock}
+use Rattle.oe_model.specs.Changes.{Change, key_of, Record, UpdatedWarehouse, UpdatedDistrict, UpdatedCustomer}
+use Rattle.oe_model.specs.Changes.{UpdatedOrder, UpdatedOrderLine, UpdatedStock, DeletedNewOrder}
 use Rattle.oe_model.specs.Lengths.{record_length}
 use Rattle.oe_model.specs.Locks.{governs}
 use Rattle.oe_model.specs.System.{system}
 use Rattle.oe_change.specs.declared.writes.Write.{Write}
-use Rattle.oe_change.specs.declared.writes.Write.TheVariants.{WarehouseYtd, DistrictYtd, NextOrder, CustomerAccount, BadCredit, StockCounters, Carrier, DeliveryDate, InsertHistory, InsertNewOrder, InsertOrder, InsertOrderLine, DeleteNewOrder}
+use Rattle.oe_change.specs.declared.writes.Write.TheVariants.{WarehouseYtd, DistrictYtd, NextOrder, CustomerAccount}
+use Rattle.oe_change.specs.declared.writes.Write.TheVariants.{BadCredit, StockCounters, Carrier, DeliveryDate}
+use Rattle.oe_change.specs.declared.writes.Write.TheVariants.{InsertHistory, InsertNewOrder, InsertOrder}
+use Rattle.oe_change.specs.declared.writes.Write.TheVariants.{InsertOrderLine, DeleteNewOrder}
 use Rattle.oe_change.specs.Writes.{key_written, written}
 use Rattle.oe_store.specs.Places.{Places, rows}
 use Rattle.oe_change.specs.Applies.{Refuses, IsFirst}
@@ -43,7 +48,8 @@ module _ (P : Change → Type 0) where
   pub of_change : (o : Option Change) (c : Change) → o ≡ Some c → IsSomeAnd o P → P c
   of_change o c e h = subst (λ x. IsSomeAnd x P) e h
 
-  of_row : {A : Type 0} (f : A → Change) (o : Option A) (c : Change) → ((x : A) → P (f x)) → option_map f o ≡ Some c → P c
+  of_row : {A : Type 0} (f : A → Change) (o : Option A) (c : Change) → ((x : A) → P (f x)) → option_map f o ≡ Some c
+      → P c
   of_row f None c h e = cc
   of_row f (Some x) c h e = subst P (some_inj (f x) c e) (h x)
 
@@ -55,14 +61,20 @@ abbrev IsOf : (Name → Option theory.Mode) → Write → Change → Type 0
 IsOf held w c = (key_of c ≡ key_written w) × (WriteHoldsOrder held w → HoldsOrder held c)
 
 is_of : (held : Name → Option theory.Mode) (w : Write) (r : Rows) (c : Change) → written w r ≡ Some c → IsOf held w c
-is_of held (WarehouseYtd k y) r c e = of_row (IsOf held (WarehouseYtd k y)) _ (get r.warehouses k) c (λ x. (refl, λ h. tt)) e
-is_of held (DistrictYtd k y) r c e = of_row (IsOf held (DistrictYtd k y)) _ (get r.districts k) c (λ x. (refl, λ h. tt)) e
+is_of held (WarehouseYtd k y) r c e = of_row (IsOf held (WarehouseYtd k y)) _ (get r.warehouses k) c
+    (λ x. (refl, λ h. tt)) e
+is_of held (DistrictYtd k y) r c e = of_row (IsOf held (DistrictYtd k y)) _ (get r.districts k) c (λ x. (refl, λ h. tt))
+    e
 is_of held (NextOrder k n) r c e = of_row (IsOf held (NextOrder k n)) _ (get r.districts k) c (λ x. (refl, λ h. tt)) e
-is_of held (CustomerAccount k a) r c e = of_row (IsOf held (CustomerAccount k a)) _ (get r.customers k) c (λ x. (refl, λ h. tt)) e
-is_of held (BadCredit k a t) r c e = of_row (IsOf held (BadCredit k a t)) _ (get r.customers k) c (λ x. (refl, λ h. tt)) e
-is_of held (StockCounters k n) r c e = of_row (IsOf held (StockCounters k n)) _ (get r.stocks k) c (λ x. (refl, λ h. tt)) e
+is_of held (CustomerAccount k a) r c e = of_row (IsOf held (CustomerAccount k a)) _ (get r.customers k) c
+    (λ x. (refl, λ h. tt)) e
+is_of held (BadCredit k a t) r c e = of_row (IsOf held (BadCredit k a t)) _ (get r.customers k) c (λ x. (refl, λ h. tt))
+    e
+is_of held (StockCounters k n) r c e = of_row (IsOf held (StockCounters k n)) _ (get r.stocks k) c
+    (λ x. (refl, λ h. tt)) e
 is_of held (Carrier k n) r c e = of_row (IsOf held (Carrier k n)) _ (get r.orders k) c (λ x. (refl, λ h. tt)) e
-is_of held (DeliveryDate k t) r c e = of_row (IsOf held (DeliveryDate k t)) _ (get r.order_lines k) c (λ x. (refl, λ h. tt)) e
+is_of held (DeliveryDate k t) r c e = of_row (IsOf held (DeliveryDate k t)) _ (get r.order_lines k) c
+    (λ x. (refl, λ h. tt)) e
 is_of held (InsertHistory k x) r c e = of_this (IsOf held (InsertHistory k x)) _ c (refl, λ h. tt) e
 is_of held (InsertNewOrder k) r c e = of_this (IsOf held (InsertNewOrder k)) _ c (refl, λ h. h) e
 is_of held (InsertOrder k x) r c e = of_this (IsOf held (InsertOrder k x)) _ c (refl, λ h. tt) e
@@ -70,13 +82,15 @@ is_of held (InsertOrderLine k x) r c e = of_this (IsOf held (InsertOrderLine k x
 is_of held (DeleteNewOrder k) r c e = of_this (IsOf held (DeleteNewOrder k)) _ c (refl, λ h. tt) e
 
 -- so a transaction that may make the write may make the change
-pub may_make : (held : Name → Option theory.Mode) (t k : ℕ) (w : Write) (r : Rows) (c : Change) → written w r ≡ Some c → MayWrite held t k w → MayMake held t k c
+pub may_make : (held : Name → Option theory.Mode) (t k : ℕ) (w : Write) (r : Rows) (c : Change) → written w r ≡ Some c
+    → MayWrite held t k w → MayMake held t k c
 may_make held t k w r c e may =
     let (same, holds) = is_of held w r c e in
     (subst (λ j. Owns held t k (governs j)) (sym same) may.0, holds may.1)
 
 -- it may make the write once its name was taken
-order_still : (v : View) (t : ℕ) (w : Write) → WriteHoldsOrder (v.held t) w → WriteHoldsOrder (held_after system (ask_of_write w) (v.held t)) w
+order_still : (v : View) (t : ℕ) (w : Write) → WriteHoldsOrder (v.held t) w
+    → WriteHoldsOrder (held_after system (ask_of_write w) (v.held t)) w
 order_still v t (InsertNewOrder k) h = h
 order_still v t (WarehouseYtd k y) h = tt
 order_still v t (DistrictYtd k y) h = tt
@@ -91,21 +105,27 @@ order_still v t (InsertOrder k x) h = tt
 order_still v t (InsertOrderLine k x) h = tt
 order_still v t (DeleteNewOrder k) h = tt
 
-pub may_write : (v : View) (t : ℕ) (w : Write) → IsOwn t (suc (v.counts t)) (governs (key_written w)) → WriteHoldsOrder (v.held t) w
+pub may_write : (v : View) (t : ℕ) (w : Write) → IsOwn t (suc (v.counts t)) (governs (key_written w))
+    → WriteHoldsOrder (v.held t) w
     → MayWrite (held_after system (ask_of_write w) (v.held t)) t (suc (v.counts t)) w
-may_write v t w own order = (owns_to_write v t (suc (v.counts t)) (governs (key_written w)) own, order_still v t w order)
+may_write v t w own order =
+    (owns_to_write v t (suc (v.counts t)) (governs (key_written w)) own, order_still v t w order)
 
-pub may_after : (t : ℕ) (n : Name) (m : theory.Mode) (w : Write) (v : View) → MayWrite (held_after system (Take n m) (v.held t)) t (suc (v.counts t)) w
+pub may_after : (t : ℕ) (n : Name) (m : theory.Mode) (w : Write) (v : View)
+    → MayWrite (held_after system (Take n m) (v.held t)) t (suc (v.counts t)) w
     → MayWrite ((locked t n m v).held t) t (suc ((locked t n m v).counts t)) w
-may_after t n m w v h = subst (λ held. MayWrite held t (suc (v.counts t)) w) (sym (set_at t (held_after system (Take n m) (v.held t)) v.held)) h
+may_after t n m w v h = subst (λ held. MayWrite held t (suc (v.counts t)) w)
+    (sym (set_at t (held_after system (Take n m) (v.held t)) v.held)) h
 
 -- ---- why it is refused
 
 -- what two options have that are of one row
-of_both : {A : Type 0} {D B : Type 0} (P : D → B → Type 0) (f : A → D) (g : A → B) (o : Option A) (d : D) (b : B) → ((x : A) → o ≡ Some x → P (f x) (g x))
+of_both : {A : Type 0} {D B : Type 0} (P : D → B → Type 0) (f : A → D) (g : A → B) (o : Option A) (d : D) (b : B)
+    → ((x : A) → o ≡ Some x → P (f x) (g x))
     → option_map f o ≡ Some d → option_map g o ≡ Some b → P d b
 of_both P f g None d b h e i = cc
-of_both P f g (Some x) d b h e i = subst (λ z. P d z) (some_inj (g x) b i) (subst (λ z. P z (g x)) (some_inj (f x) d e) (h x refl))
+of_both P f g (Some x) d b h e i = subst (λ z. P d z) (some_inj (g x) b i)
+    (subst (λ z. P z (g x)) (some_inj (f x) d e) (h x refl))
 
 of_these : {D B : Type 0} (P : D → B → Type 0) (d c : D) (a b : B) → P d a → Some d ≡ Some c → Some a ≡ Some b → P c b
 of_these P d c a b h e i = subst (λ z. P c z) (some_inj a b i) (subst (λ z. P z a) (some_inj d c e) h)
@@ -120,30 +140,41 @@ more_than n m = omega arith
 abbrev IsNoLonger : Rows → Change → Record → Type 0
 IsNoLonger r c b = record_length b ≤ record_length (record_on system c r)
 
-no_longer : (w : Write) (r : Rows) (c : Change) (b : Record) → written w r ≡ Some c → record_of_write w r ≡ Some b → IsNoLonger r c b
+no_longer : (w : Write) (r : Rows) (c : Change) (b : Record) → written w r ≡ Some c → record_of_write w r ≡ Some b
+    → IsNoLonger r c b
 no_longer (WarehouseYtd k y) r c b = of_both (IsNoLonger r) _ _ (get r.warehouses k) c b
-    (λ x e. subst (λ o. record_length (UpdatedWarehouse k (Some x)) ≤ record_length (UpdatedWarehouse k (option_and_then as_warehouse (option_map row.Warehouse o)))) (sym e) (no_less _))
+    (λ x e. subst (λ o. record_length (UpdatedWarehouse k (Some x)) ≤ record_length
+    (UpdatedWarehouse k (option_and_then as_warehouse (option_map row.Warehouse o)))) (sym e) (no_less _))
 no_longer (DistrictYtd k y) r c b = of_both (IsNoLonger r) _ _ (get r.districts k) c b
-    (λ x e. subst (λ o. record_length (UpdatedDistrict k (Some x)) ≤ record_length (UpdatedDistrict k (option_and_then as_district (option_map row.District o)))) (sym e) (no_less _))
+    (λ x e. subst (λ o. record_length (UpdatedDistrict k (Some x)) ≤ record_length
+    (UpdatedDistrict k (option_and_then as_district (option_map row.District o)))) (sym e) (no_less _))
 no_longer (NextOrder k n) r c b = of_both (IsNoLonger r) _ _ (get r.districts k) c b
-    (λ x e. subst (λ o. record_length (UpdatedDistrict k (Some x)) ≤ record_length (UpdatedDistrict k (option_and_then as_district (option_map row.District o)))) (sym e) (no_less _))
+    (λ x e. subst (λ o. record_length (UpdatedDistrict k (Some x)) ≤ record_length
+    (UpdatedDistrict k (option_and_then as_district (option_map row.District o)))) (sym e) (no_less _))
 no_longer (CustomerAccount k a) r c b = of_both (IsNoLonger r) _ _ (get r.customers k) c b
-    (λ x e. subst (λ o. record_length (UpdatedCustomer k (Some x)) ≤ record_length (UpdatedCustomer k (option_and_then as_customer (option_map row.Customer o)))) (sym e) (no_less _))
+    (λ x e. subst (λ o. record_length (UpdatedCustomer k (Some x)) ≤ record_length
+    (UpdatedCustomer k (option_and_then as_customer (option_map row.Customer o)))) (sym e) (no_less _))
 no_longer (BadCredit k a t) r c b = of_both (IsNoLonger r) _ _ (get r.customers k) c b
-    (λ x e. subst (λ o. record_length (UpdatedCustomer k (Some x)) ≤ record_length (UpdatedCustomer k (option_and_then as_customer (option_map row.Customer o)))) (sym e) (no_less _))
+    (λ x e. subst (λ o. record_length (UpdatedCustomer k (Some x)) ≤ record_length
+    (UpdatedCustomer k (option_and_then as_customer (option_map row.Customer o)))) (sym e) (no_less _))
 no_longer (StockCounters k n) r c b = of_both (IsNoLonger r) _ _ (get r.stocks k) c b
-    (λ x e. subst (λ o. record_length (UpdatedStock k (Some x)) ≤ record_length (UpdatedStock k (option_and_then as_stock (option_map row.Stock o)))) (sym e) (no_less _))
+    (λ x e. subst (λ o. record_length (UpdatedStock k (Some x)) ≤ record_length
+    (UpdatedStock k (option_and_then as_stock (option_map row.Stock o)))) (sym e) (no_less _))
 no_longer (Carrier k n) r c b = of_both (IsNoLonger r) _ _ (get r.orders k) c b
-    (λ x e. subst (λ o. record_length (UpdatedOrder k (Some x)) ≤ record_length (UpdatedOrder k (option_and_then as_order (option_map row.Order o)))) (sym e) (no_less _))
+    (λ x e. subst (λ o. record_length (UpdatedOrder k (Some x)) ≤ record_length
+    (UpdatedOrder k (option_and_then as_order (option_map row.Order o)))) (sym e) (no_less _))
 no_longer (DeliveryDate k t) r c b = of_both (IsNoLonger r) _ _ (get r.order_lines k) c b
-    (λ x e. subst (λ o. record_length (UpdatedOrderLine k (Some x)) ≤ record_length (UpdatedOrderLine k (option_and_then as_order_line (option_map row.OrderLine o)))) (sym e) (no_less _))
+    (λ x e. subst (λ o. record_length (UpdatedOrderLine k (Some x)) ≤ record_length
+    (UpdatedOrderLine k (option_and_then as_order_line (option_map row.OrderLine o)))) (sym e) (no_less _))
 no_longer (InsertHistory k x) r c b = of_these (IsNoLonger r) _ c _ b (more_than _ _)
 no_longer (InsertNewOrder k) r c b = of_these (IsNoLonger r) _ c _ b (more_than _ _)
 no_longer (InsertOrder k x) r c b = of_these (IsNoLonger r) _ c _ b (more_than _ _)
 no_longer (InsertOrderLine k x) r c b = of_these (IsNoLonger r) _ c _ b (more_than _ _)
-no_longer (DeleteNewOrder k) r c b = of_these (IsNoLonger r) _ c _ b (deleted_as_long (option_and_then as_new_order (option_map row.NewOrder (get r.new_orders k))))
+no_longer (DeleteNewOrder k) r c b = of_these (IsNoLonger r) _ c _ b
+    (deleted_as_long (option_and_then as_new_order (option_map row.NewOrder (get r.new_orders k))))
   where
-    deleted_as_long : (v : Option NewOrder) → record_length (DeletedNewOrder k (Some (record {}))) ≤ record_length (DeletedNewOrder k v)
+    deleted_as_long : (v : Option NewOrder) → record_length (DeletedNewOrder k (Some (record {}))) ≤ record_length
+        (DeletedNewOrder k v)
     deleted_as_long None = no_less _
     deleted_as_long (Some x) = no_less _
 
@@ -152,22 +183,28 @@ full_as : (u : SegmentLog) (t m n : ℕ) → m ≤ n → IsFull u t m → IsFull
 full_as u t m n h f = (omega (arith, h, f.0), f.1)
 
 module _ (w : Write) (s : Places) (u : SegmentLog) (t : ℕ) where
-  full_write : (c : Change) → written w (rows s) ≡ Some c → (o : Option Record) → record_of_write w (rows s) ≡ o → IsSomeAnd o (λ b. IsFull u t (record_length b))
+  full_write : (c : Change) → written w (rows s) ≡ Some c → (o : Option Record) → record_of_write w (rows s) ≡ o
+      → IsSomeAnd o (λ b. IsFull u t (record_length b))
       → IsFull u t (record_length (record_on system c (rows s)))
   full_write c found None e h = absurd h
-  full_write c found (Some b) e h = full_as u t (record_length b) (record_length (record_on system c (rows s))) (no_longer w (rows s) c b found e) h
+  full_write c found (Some b) e h = full_as u t (record_length b) (record_length (record_on system c (rows s)))
+      (no_longer w (rows s) c b found e) h
 
   -- where there is a record, the row is there
-  pub refused_written : (c : Change) (e : Refusal) → written w (rows s) ≡ Some c → CantWrite w s u t e → ChangeRefused c (rows s) e
+  pub refused_written : (c : Change) (e : Refusal) → written w (rows s) ≡ Some c → CantWrite w s u t e
+      → ChangeRefused c (rows s) e
   refused_written c _ found (Absent a) = let no : ◌≡◌ {A = Option Change} None (Some c) = sym a ∙ found in cc
   refused_written c _ found (Full h) = tt
-  refused_written c e found (Refused _ room h) = refused_so c s e (of_change (λ d. Refuses d s e × IsFirst d (rows s) e) _ c found h).0
+  refused_written c e found (Refused _ room h) =
+      refused_so c s e (of_change (λ d. Refuses d s e × IsFirst d (rows s) e) _ c found h).0
 
-  pub refused_full : (c : Change) (e : Refusal) → written w (rows s) ≡ Some c → CantWrite w s u t e → e ≡ UndoFull → IsFull u t (record_length (record_on system c (rows s)))
+  pub refused_full : (c : Change) (e : Refusal) → written w (rows s) ≡ Some c → CantWrite w s u t e → e ≡ UndoFull
+      → IsFull u t (record_length (record_on system c (rows s)))
   refused_full c _ found (Absent a) same = let no : ◌≡◌ {A = Option Change} None (Some c) = sym a ∙ found in cc
   refused_full c _ found (Full h) same = full_write c found _ refl h
   refused_full c e found (Refused _ room h) same =
-      absurd (never_full c (subst (λ z. Refuses c s z) same (of_change (λ d. Refuses d s e × IsFirst d (rows s) e) _ c found h).0))
+      absurd (never_full c (subst (λ z. Refuses c s z) same
+      (of_change (λ d. Refuses d s e × IsFirst d (rows s) e) _ c found h).0))
     where
       never_full : (d : Change) → Refuses d s UndoFull → ⊥
       never_full d h = h
@@ -182,7 +219,8 @@ module _ (w : Write) (s : Places) (u : SegmentLog) (t : ℕ) where
       wants_here (Some d) k = subst (Refuses d s) same k.0
 
 -- a write whose row is absent has no record
-none_recorded : (P : Record → Type 0) (w : Write) (r : Rows) → written w r ≡ None → IsSomeAnd (record_of_write w r) P → ⊥
+none_recorded : (P : Record → Type 0) (w : Write) (r : Rows) → written w r ≡ None → IsSomeAnd (record_of_write w r) P
+    → ⊥
 none_recorded P w r absent h = is_none (written w r) absent (recorded w r (is_some_of (record_of_write w r) h))
   where
     is_some_of : (o : Option Record) → IsSomeAnd o P → IsSome o
@@ -193,7 +231,8 @@ none_recorded P w r absent h = is_none (written w r) absent (recorded w r (is_so
     is_none None e h = let no : ⊥ = cc in no
     is_none (Some c) e h = let no : ⊥ = cc in no
 
-pub refused_absent : (w : Write) (s : Places) (u : SegmentLog) (t : ℕ) (e : Refusal) → written w (rows s) ≡ None → CantWrite w s u t e → AbsentRefused (key_written w) e
+pub refused_absent : (w : Write) (s : Places) (u : SegmentLog) (t : ℕ) (e : Refusal) → written w (rows s) ≡ None
+    → CantWrite w s u t e → AbsentRefused (key_written w) e
 refused_absent w s u t _ absent (Absent a) = refl
 refused_absent w s u t _ absent (Full h) = absurd (none_recorded _ w (rows s) absent h)
 refused_absent w s u t e absent (Refused _ room h) = absurd (none_recorded _ w (rows s) absent room)

@@ -1,5 +1,6 @@
 -- What the engine's calls do to what it stands for, and why they are refused.
-use Rattle.std.specs.Prelude.{◌≡◌, ◌≢◌, ◌⊎◌, ℕ, suc, ◌-◌, ◌<◌, ◌≤◌, true, false, cond, List, [], ◌∷◌, Option, None, Some, IsSome, is_some, length, take, drop}
+use Rattle.std.specs.Prelude.{◌≡◌, ◌≢◌, ◌⊎◌, ℕ, suc, ◌-◌, ◌<◌, ◌≤◌, true, false, cond, List, [], ◌∷◌, Option, None}
+use Rattle.std.specs.Prelude.{Some, IsSome, is_some, length, take, drop}
 use Rattle.oe_theory.specs.Machine.{Ask, Stop, Plain, Take, Guard, Free, Under, Own}
 use Rattle.oe_theory.specs.Machine as theory
 use Rattle.oe_theory.specs.World.{go_together, set, bump, total}
@@ -10,7 +11,8 @@ use Rattle.oe_rows.specs.declared.locks.Name.{Name}
 use Rattle.oe_requests.specs.declared.requests.Request.{Request}
 use Rattle.oe_requests.specs.declared.replies.Reply.{Reply}
 use Rattle.oe_requests.specs.declared.refusals.Refusal.{Refusal}
-use Rattle.oe_requests.specs.declared.refusals.Refusal.TheVariants.{Busy, UndoFull, NotOpen, AlreadyOpen, NoMemory, NotQuiet}
+use Rattle.oe_requests.specs.declared.refusals.Refusal.TheVariants.{Busy, UndoFull, NotOpen, AlreadyOpen, NoMemory}
+use Rattle.oe_requests.specs.declared.refusals.Refusal.TheVariants.{NotQuiet}
 use Rattle.oe_model.specs.Rows.{Rows}
 use Rattle.oe_model.specs.Changes.{Change, Record, changed}
 use Rattle.oe_model.specs.Meets.{Accepts, Cause}
@@ -62,7 +64,8 @@ IsBusy v t l e = ⊥
 abbrev pub begun : ℕ → View → View
 begun t v = record v { is_open = set t true v.is_open }
 
--- why one can't begin; the first in this order is named: one is open already, its number is past the range, memory is wanted
+-- why one can't begin; the first in this order is named: one is open already, its number is past the range, memory is
+-- wanted
 abbrev pub CantBegin : View → ℕ → Refusal → Type 0
 CantBegin v t AlreadyOpen = v.is_open t ≡ true
 CantBegin v t NoMemory = (v.is_open t ≡ false) × (number_rejection (suc (v.counts t)) ≡ None)
@@ -74,7 +77,8 @@ locked t n m v = record v { held = set t (held_after system (Take n m) (v.held t
 
 -- a change made and recorded
 abbrev pub made : ℕ → Change → View → View
-made t c v = record v { rows = changed c v.rows; undo = put_records system t (record_on system c v.rows ∷ v.undo.active t) v.undo }
+made t c v = record v
+    { rows = changed c v.rows; undo = put_records system t (record_on system c v.rows ∷ v.undo.active t) v.undo }
 
 -- a name put into a mode, or let go of
 abbrev pub put_mode : ℕ → Name → Option theory.Mode → View → View
@@ -129,13 +133,16 @@ abbrev pub CauseOf : Option Change → Rows → Refusal → Type 0
 CauseOf None r e = ⊥
 CauseOf (Some c) r e = Cause c r e
 
--- why a stage is refused: its transaction isn't open here; another is in the way of its lock; its change's record has no room; memory is
+-- why a stage is refused: its transaction isn't open here; another is in the way of its lock; its change's record has
+-- no room; memory is
 -- wanted for a lock that is new, or for a change; or the tables don't accept the change
 abbrev pub StageRefused : EngineState → Handle → Ask Name Refusal → Option Change → Refusal → Type 0
 StageRefused s x a c NotOpen = IsOpen s x → ⊥
-StageRefused s x a c (Busy n u) = IsOpen s x × ((m : theory.Mode) × (a ≡ Take n m) × IsInTheWay (view_of s) x.terminal n m u)
+StageRefused s x a c (Busy n u) = IsOpen s x
+    × ((m : theory.Mode) × (a ≡ Take n m) × IsInTheWay (view_of s) x.terminal n m u)
 StageRefused s x a c UndoFull = IsOpen s x × IsFree (view_of s) x.terminal a × IsSome c
-StageRefused s x a c NoMemory = IsOpen s x × IsFree (view_of s) x.terminal a × (IsNew system ((view_of s).held x.terminal) a ⊎ IsSome c)
+StageRefused s x a c NoMemory = IsOpen s x × IsFree (view_of s) x.terminal a
+    × (IsNew system ((view_of s).held x.terminal) a ⊎ IsSome c)
 StageRefused s x a c e = IsOpen s x × IsFree (view_of s) x.terminal a × CauseOf c (view_of s).rows e
 
 -- memory is wanted for the tables: the stage's change is an insert that they accept, at a key without a place
@@ -196,7 +203,8 @@ IsQuiet v = (t : ℕ) → v.is_open t ≡ false
 
 -- so many transactions are open
 abbrev pub AreOpen : View → ℕ → Type 0
-AreOpen v n = (slots : ℕ → Option (Slot system)) → ((t : ℕ) → is_some (slots t) ≡ v.is_open t) → count_slots system slots terminal_limit ≡ n
+AreOpen v n = (slots : ℕ → Option (Slot system)) → ((t : ℕ) → is_some (slots t) ≡ v.is_open t)
+    → count_slots system slots terminal_limit ≡ n
 
 -- why a rewind is refused; the first in this order is named: transactions are open, or the moment is outside
 abbrev pub CantRewind : View → ℕ → Refusal → Type 0

@@ -7,14 +7,16 @@ use Rattle.oe_rows.specs.declared.locks.Name.{Name}
 use Rattle.oe_rows.specs.declared.locks.Name.TheVariants as name
 use Rattle.oe_model.specs.Keys.{order_of_new_order}
 use Rattle.oe_model.specs.Rows.{Rows}
-use Rattle.oe_model.specs.Changes.{Change, InsertNewOrder, key_of, Record, UpdatedWarehouse, UpdatedDistrict, UpdatedCustomer, UpdatedOrder, UpdatedOrderLine, UpdatedStock, record_key, put_back}
+use Rattle.oe_model.specs.Changes.{Change, InsertNewOrder, key_of, Record, UpdatedWarehouse, UpdatedDistrict}
+use Rattle.oe_model.specs.Changes.{UpdatedCustomer, UpdatedOrder, UpdatedOrderLine, UpdatedStock, record_key, put_back}
 use Rattle.oe_model.specs.Meets.{Meets}
 use Rattle.oe_model.specs.Locks.{governs}
 use Rattle.oe_change.specs.PutBack.{Stands}
 use Rattle.oe_journal.specs.GoesBack.{CanUnwindAll}
 use Rattle.oe_engine.specs.View.{View}
 
--- transaction k of terminal t alone may change rows under this guard: it holds their name exclusively, or they are its own
+-- transaction k of terminal t alone may change rows under this guard: it holds their name exclusively, or they are its
+-- own
 abbrev pub Owns : (Name → Option theory.Mode) → ℕ → ℕ → Guard Name → Type 0
 Owns held t k Free = ⊥
 Owns held t k (Under n) = held n ≡ Some theory.Exclusive
@@ -69,11 +71,14 @@ put_newest (b ∷ bs) r = put_back b r
 abbrev pub HaveNone : (ℕ → List Record) → Type 0
 HaveNone active = (t : ℕ) → active t ≡ []
 
--- the newest records of these terminals' transactions can be put back, one after another in this order: each finds the row that
--- its change left, and after the last the schema holds. Where no terminal has a record left, those of the commits can be put back next
+-- the newest records of these terminals' transactions can be put back, one after another in this order: each finds the
+-- row that
+-- its change left, and after the last the schema holds. Where no terminal has a record left, those of the commits can
+-- be put back next
 abbrev pub Unwinds : List (List Record) → (ℕ → List Record) → Rows → List ℕ → Type 0
 Unwinds history active r [] = Meets r × (HaveNone active → CanUnwindAll history r)
-Unwinds history active r (t ∷ ts) = FindsNewest (active t) r × Unwinds history (set t (drop 1 (active t)) active) (put_newest (active t) r) ts
+Unwinds history active r (t ∷ ts) = FindsNewest (active t) r × Unwinds history (set t (drop 1 (active t)) active)
+    (put_newest (active t) r) ts
 
 pub record IsSafe (v : View) : Type 0 where
   -- what an open transaction has changed it alone may change

@@ -12,7 +12,9 @@ use Rattle.oe_requests.specs.declared.refusals.Refusal.{Refusal}
 use Rattle.oe_requests.specs.declared.refusals.Refusal.TheVariants.{Busy, UndoFull, NotOpen, NoMemory}
 use Rattle.oe_model.specs.Changes.{Change}
 use Rattle.oe_model.specs.Meets.{Cause}
-use Rattle.oe_model.specs.Positions.{Position, InPayment, InNewOrder, InDelivery, InDeliveries, DeliveriesEnd, NoProgram, PaymentPosition, PaymentEnd, NewOrderPosition, NewOrderStock, DeliveryPosition, DeliveryNothing, DeliveryEnd}
+use Rattle.oe_model.specs.Positions.{Position, InPayment, InNewOrder, InDelivery, InDeliveries, DeliveriesEnd}
+use Rattle.oe_model.specs.Positions.{NoProgram, PaymentPosition, PaymentEnd, NewOrderPosition, NewOrderStock}
+use Rattle.oe_model.specs.Positions.{DeliveryPosition, DeliveryNothing, DeliveryEnd}
 use Rattle.oe_model.specs.NewOrder.{ordered_reply}
 use Rattle.oe_model.specs.Delivery.{delivered}
 use Rattle.oe_model.specs.Deliveries.{among_ten}
@@ -38,7 +40,8 @@ abbrev pub IsFreeHere : EngineState → Handle → Request → Position → Type
 IsFreeHere s x q p = IsFree (view_of s) x.terminal (ask_here s x q p)
 
 -- the stage was done, and the program goes on at another position
-pub record GoesOn (s : EngineState) (x : Handle) (q : Request) (p : Position) (s' : EngineState) (p' : Position) : Type 0 where
+pub record GoesOn (s : EngineState) (x : Handle) (q : Request) (p : Position) (s' : EngineState) (p' : Position) : Type
+    0 where
   pub is_open : IsOpen s x
   pub free : IsFreeHere s x q p
   pub change : Option Change
@@ -77,25 +80,30 @@ pub record IsReady (s : EngineState) (x : Handle) (q : Request) (p : Position) (
   pub free : IsFreeHere s x q p
   pub does : act_here s x q p ≡ Ready y
 
--- the stage ends its transaction with this refusal: it stops before its lock, it fails, or the tables don't accept its change
+-- the stage ends its transaction with this refusal: it stops before its lock, it fails, or the tables don't accept its
+-- change
 abbrev pub Ends : EngineState → Handle → Request → Position → Refusal → Type 0
 Ends s x q p e =
     (ask_here s x q p ≡ Stop e)
     ⊎ (IsFreeHere s x q p × (act_here s x q p ≡ Fail e))
-    ⊎ (IsFreeHere s x q p × (c : Change) × (p' : Position) × (act_here s x q p ≡ Go (Some c) p') × Cause c (view_of s).rows e)
+    ⊎ (IsFreeHere s x q p × (c : Change) × (p' : Position) × (act_here s x q p ≡ Go (Some c) p')
+    × Cause c (view_of s).rows e)
 
 -- the stage makes a change whose undo record has no room
 abbrev pub IsFullHere : EngineState → Handle → Request → Position → Type 0
-IsFullHere s x q p = (c : Change) × (p' : Position) × (act_here s x q p ≡ Go (Some c) p') × IsFullFor (view_of s) x.terminal c
+IsFullHere s x q p = (c : Change) × (p' : Position) × (act_here s x q p ≡ Go (Some c) p')
+    × IsFullFor (view_of s) x.terminal c
 
 -- memory is wanted for its change: it is an insert at a key without a place
 abbrev pub WantsMemory : EngineState → Handle → Request → Position → Type 0
-WantsMemory s x q p = (c : Change) × (p' : Position) × (act_here s x q p ≡ Go (Some c) p') × WantsPlace (Some c) s.tables
+WantsMemory s x q p = (c : Change) × (p' : Position) × (act_here s x q p ≡ Go (Some c) p')
+    × WantsPlace (Some c) s.tables
 
 -- why a stage was refused
 abbrev pub IsRefused : EngineState → Handle → Request → Position → Refusal → Type 0
 IsRefused s x q p NotOpen = IsOpen s x → ⊥
-IsRefused s x q p (Busy n u) = IsOpen s x × ((m : theory.Mode) × (ask_here s x q p ≡ Take n m) × IsInTheWay (view_of s) x.terminal n m u)
+IsRefused s x q p (Busy n u) = IsOpen s x
+    × ((m : theory.Mode) × (ask_here s x q p ≡ Take n m) × IsInTheWay (view_of s) x.terminal n m u)
 IsRefused s x q p UndoFull = IsOpen s x × IsFreeHere s x q p × IsFullHere s x q p
 IsRefused s x q p NoMemory =
     IsOpen s x × IsFreeHere s x q p
@@ -107,4 +115,5 @@ IsRefused s x q p e = IsOpen s x × Ends s x q p e
 abbrev pub Progresses : Request → Handle → EngineState → Position → Progress → EngineState → Position → Type 0
 Progresses q x s p progress.More s' p' = GoesOn s x q p s' p'
 Progresses q x s p progress.Ready s' p' = ((y : Reply) × IsReady s x q p y) × (s' ≡ s) × (p' ≡ p)
-Progresses q x s p (progress.Refused e) s' p' = IsRefused s x q p e × (view_of s' ≡ view_of s) × (s'.name ≡ s.name) × (p' ≡ p)
+Progresses q x s p (progress.Refused e) s' p' = IsRefused s x q p e × (view_of s' ≡ view_of s) × (s'.name ≡ s.name)
+    × (p' ≡ p)

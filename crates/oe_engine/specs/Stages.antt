@@ -26,12 +26,16 @@ is_failure _ = false
 -- each stage that asks for this lock and fails so is refused with the last
 abbrev pub IsFailure : EngineState → Handle → Lock → Refusal → Refusal → Type 0
 IsFailure s x l f e =
-    (q : Request) (p : Position) → ask_here s x q p ≡ Take l.name (mode_of l.mode) → act_here s x q p ≡ Fail f → IsRefused s x q p e
+    (q : Request) (p : Position) → ask_here s x q p ≡ Take l.name (mode_of l.mode) → act_here s x q p ≡ Fail f
+    → IsRefused s x q p e
 
 -- each stage that asks for this lock and makes this change, if it makes one, was done and left s', or was refused
-abbrev pub Does : EngineState → Handle → Ask Name Refusal → Option Change → Result (Unit {0}) Refusal → EngineState → Type 0
-Does s x a c (Ok u) s' = (q : Request) (p p' : Position) → ask_here s x q p ≡ a → act_here s x q p ≡ Go c p' → GoesOn s x q p s' p'
-Does s x a c (Err e) s' = (q : Request) (p p' : Position) → ask_here s x q p ≡ a → act_here s x q p ≡ Go c p' → IsRefused s x q p e
+abbrev pub Does : EngineState → Handle → Ask Name Refusal → Option Change → Result (Unit {0}) Refusal → EngineState
+    → Type 0
+Does s x a c (Ok u) s' = (q : Request) (p p' : Position) → ask_here s x q p ≡ a → act_here s x q p ≡ Go c p'
+    → GoesOn s x q p s' p'
+Does s x a c (Err e) s' = (q : Request) (p p' : Position) → ask_here s x q p ≡ a → act_here s x q p ≡ Go c p'
+    → IsRefused s x q p e
 
 -- a terminal holds each of these names in its mode, or in a higher one
 abbrev pub HoldsAll : View → ℕ → List (Hold Name) → Type 0

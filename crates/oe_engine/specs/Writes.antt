@@ -46,11 +46,13 @@ AbsentPairRefused v t n m k (Busy name u) = LockRefused v t n m (Busy name u)
 AbsentPairRefused v t n m k NoMemory = IsFree v t (Take n m)
 AbsentPairRefused v t n m k e = IsFree v t (Take n m) × (e ≡ NoSuchRow k)
 
--- and in a transaction, with the lock of the row's key: the transaction isn't open here; or another is in the way of the lock; or that is
+-- and in a transaction, with the lock of the row's key: the transaction isn't open here; or another is in the way of
+-- the lock; or that is
 -- free, and memory is wanted for it or the row is absent
 abbrev pub AbsentRowRefused : EngineState → Handle → Key → Refusal → Type 0
 AbsentRowRefused s x k NotOpen = IsOpen s x → ⊥
-AbsentRowRefused s x k (Busy n u) = IsOpen s x × ((m : theory.Mode) × (ask_to_write (governs k) ≡ Take n m) × IsInTheWay (view_of s) x.terminal n m u)
+AbsentRowRefused s x k (Busy n u) = IsOpen s x
+    × ((m : theory.Mode) × (ask_to_write (governs k) ≡ Take n m) × IsInTheWay (view_of s) x.terminal n m u)
 AbsentRowRefused s x k NoMemory = IsOpen s x × IsFree (view_of s) x.terminal (ask_to_write (governs k))
 AbsentRowRefused s x k e = IsOpen s x × IsFree (view_of s) x.terminal (ask_to_write (governs k)) × (e ≡ NoSuchRow k)
 

@@ -31,14 +31,17 @@ use Rattle.oe_enquiry.specs.Reply.{IsReply, IsRefused}
 use Rattle.oe_enquiry.proofs.LevelFacts.{level_told}
 
 -- go on where there is a value
-on_some : {A : Type 0} (e : Refusal) (o : Option A) (x : A) (f : A → Outcome QueryReply Refusal) → Some x ≡ o → found e o f ≡ f x
+on_some : {A : Type 0} (e : Refusal) (o : Option A) (x : A) (f : A → Outcome QueryReply Refusal) → Some x ≡ o
+    → found e o f ≡ f x
 on_some e o x f h = ap (λ v. found e v f) (sym h)
 
-on_none : {A : Type 0} (e : Refusal) (o : Option A) (f : A → Outcome QueryReply Refusal) → None ≡ o → found e o f ≡ Missing e
+on_none : {A : Type 0} (e : Refusal) (o : Option A) (f : A → Outcome QueryReply Refusal) → None ≡ o
+    → found e o f ≡ Missing e
 on_none e o f h = ap (λ v. found e v f) (sym h)
 
 -- the row whose column is told
-row_of : {A B : Type 0} (f : A → B) (o : Option A) (y : B) → Some y ≡ option_map f o → (x : A) × (Some x ≡ o) × (f x ≡ y)
+row_of : {A B : Type 0} (f : A → B) (o : Option A) (y : B) → Some y ≡ option_map f o
+    → (x : A) × (Some x ≡ o) × (f x ≡ y)
 row_of f None y e = let no : ⊥ = cc in absurd no
 row_of f (Some x) y e = (x, refl, (let z : f x ≡ y = cc in z))
 
@@ -46,39 +49,58 @@ no_row_of : {A B : Type 0} (f : A → B) (o : Option A) → None ≡ option_map 
 no_row_of f o e = sym (mapped_absent f o (sym e))
 
 module _ (q : StatusQuery) (r : Rows) where
-  pub status_told : (c : ℕ) (k : CustomerKey) (b : ℤ) (o : Option OrderStatus) → Some c ≡ chosen q.district q.customer r.customers → k ≡ customer_in q.district c
-      → Some b ≡ option_map (λ (x : Customer). x.account.balance) (get r.customers k) → o ≡ status_of r.order_lines (last_order k r.orders)
+  pub status_told : (c : ℕ) (k : CustomerKey) (b : ℤ) (o : Option OrderStatus)
+      → Some c ≡ chosen q.district q.customer r.customers → k ≡ customer_in q.district c
+      → Some b ≡ option_map (λ (x : Customer). x.account.balance) (get r.customers k)
+      → o ≡ status_of r.order_lines (last_order k r.orders)
       → order_status q r ≡ Here (told.Status (record { customer = c; balance = b; order = o }))
   status_told c k b o at is there last =
       let x = row_of (λ (x : Customer). x.account.balance) (get r.customers k) b there in
       on_some NoCustomer (chosen q.district q.customer r.customers) c _ at
       ∙ on_some NoCustomer (get r.customers (customer_in q.district c)) x.0 _ (x.1 ∙ ap (get r.customers) is)
-      ∙ (λ i. let y : Outcome QueryReply Refusal = Here (told.Status (record { customer = c; balance = x.2 i; order = sym (last ∙ ap (λ z. status_of r.order_lines (last_order z r.orders)) is) i })) in y)
+      ∙ (λ i. let y : Outcome QueryReply Refusal = Here
+      (told.Status (record {
+        customer = c;
+        balance = x.2 i;
+        order = sym
+            (last ∙ ap (λ z. status_of r.order_lines (last_order z r.orders)) is) i;
+      })) in y)
 
   pub nobody : None ≡ chosen q.district q.customer r.customers → order_status q r ≡ Missing NoCustomer
   nobody h = on_none NoCustomer (chosen q.district q.customer r.customers) _ h
 
-  pub no_row : (c : ℕ) (k : CustomerKey) → Some c ≡ chosen q.district q.customer r.customers → k ≡ customer_in q.district c
+  pub no_row : (c : ℕ) (k : CustomerKey) → Some c ≡ chosen q.district q.customer r.customers
+      → k ≡ customer_in q.district c
       → None ≡ option_map (λ (x : Customer). x.account.balance) (get r.customers k)
       → order_status q r ≡ Missing NoCustomer
   no_row c k at is none =
       on_some NoCustomer (chosen q.district q.customer r.customers) c _ at
-      ∙ on_none NoCustomer (get r.customers (customer_in q.district c)) _ (no_row_of (λ (x : Customer). x.account.balance) (get r.customers k) none ∙ ap (get r.customers) is)
+      ∙ on_none NoCustomer (get r.customers (customer_in q.district c)) _
+      (no_row_of (λ (x : Customer). x.account.balance) (get r.customers k) none ∙ ap (get r.customers) is)
 
-pub no_district : (q : LevelQuery) (r : Rows) → None ≡ option_map (λ (x : District). x.next_order) (get r.districts q.district)
+pub no_district : (q : LevelQuery) (r : Rows)
+    → None ≡ option_map (λ (x : District). x.next_order) (get r.districts q.district)
     → stock_level q r ≡ Missing (NoSuchRow (key.District q.district))
 no_district q r h =
-    on_none (NoSuchRow (key.District q.district)) (get r.districts q.district) _ (no_row_of (λ (x : District). x.next_order) (get r.districts q.district) h)
+    on_none (NoSuchRow (key.District q.district)) (get r.districts q.district) _
+    (no_row_of (λ (x : District). x.next_order) (get r.districts q.district) h)
 
 -- what is answered of a version is answered of its moment
 module _ (q : Query) (ts : tables.Places) (u : SegmentLog) (m : ℕ) (s : VersionState) where
   abbrev IsAt : Type 0
   IsAt = s ≡ record { tables = ts; log = u; moment = m }
 
-  pub is_reply : (f : QueryReply) → None ≡ query_rejection q (rows ts) → IsKeptMoment u m → IsAt → answer_of q (rows_of s) ≡ Here f → IsReply q ts u m f
-  is_reply f w i e h = record { warehouse = sym w; readable = i; answer = sym (ap (λ v. answer_of q (rows_of v)) e) ∙ h }
+  pub is_reply : (f : QueryReply) → None ≡ query_rejection q (rows ts) → IsKeptMoment u m → IsAt
+      → answer_of q (rows_of s) ≡ Here f → IsReply q ts u m f
+  is_reply f w i e h = record {
+    warehouse = sym w;
+    readable = i;
+    answer = sym (ap (λ v. answer_of q (rows_of v)) e)
+        ∙ h;
+  }
 
-  pub is_missing : (r : Refusal) → None ≡ query_rejection q (rows ts) → IsKeptMoment u m → IsAt → answer_of q (rows_of s) ≡ Missing r → IsRefused q ts u m r
+  pub is_missing : (r : Refusal) → None ≡ query_rejection q (rows ts) → IsKeptMoment u m → IsAt
+      → answer_of q (rows_of s) ≡ Missing r → IsRefused q ts u m r
   is_missing r w i e h = inr (sym w, inr (i, sym (ap (λ v. answer_of q (rows_of v)) e) ∙ h))
 
 module _ (q : Query) (ts : tables.Places) (u : SegmentLog) (m : ℕ) (e : Refusal) where
@@ -88,8 +110,10 @@ module _ (q : Query) (ts : tables.Places) (u : SegmentLog) (m : ℕ) (e : Refusa
   pub is_outside : None ≡ query_rejection q (rows ts) → IsUnkept u m e → IsRefused q ts u m e
   is_outside w h = inr (sym w, inl h)
 
-pub level_counted : (q : LevelQuery) (r : Rows) (next : ℕ) (items : List ℕ) (n : ℕ) → Some next ≡ option_map (λ (x : District). x.next_order) (get r.districts q.district)
+pub level_counted : (q : LevelQuery) (r : Rows) (next : ℕ) (items : List ℕ) (n : ℕ)
+    → Some next ≡ option_map (λ (x : District). x.next_order) (get r.districts q.district)
     → AreLow q r next items → n ≡ length items → stock_level q r ≡ Here (told.Level n)
 level_counted q r next items n at low is =
     let x = row_of (λ (x : District). x.next_order) (get r.districts q.district) next at in
-    level_told q r x.0 items x.1 (subst (λ z. AreLow q r z items) (sym x.2) low) ∙ ap (λ (z : ℕ). let y : Outcome QueryReply Refusal = Here (told.Level z) in y) (sym is)
+    level_told q r x.0 items x.1 (subst (λ z. AreLow q r z items) (sym x.2) low)
+    ∙ ap (λ (z : ℕ). let y : Outcome QueryReply Refusal = Here (told.Level z) in y) (sym is)

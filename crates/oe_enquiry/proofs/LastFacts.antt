@@ -24,12 +24,16 @@ module _ (ts : tables.Places) (u : SegmentLog) (m : ℕ) (stand : Stand ts u) (n
   pub numbers_past : (k : OrderLineKey) → IsSome (get (version ts u m).order_lines k) → 1 ≤ k.order
   numbers_past k h =
       let now : IsSome (option_map row.OrderLine (get (rows ts).order_lines k)) =
-      rows_last (store_with (rows ts) u stand.0) m (key.OrderLine k) stand.1 (some-map row.OrderLine (get (version ts u m).order_lines k) ∙ h)
+      rows_last (store_with (rows ts) u stand.0) m (key.OrderLine k) stand.1
+      (some-map row.OrderLine (get (version ts u m).order_lines k) ∙ h)
       in
       (numbered (key.OrderLine k) now).0.0
 
-pub low_items : (ts : tables.Places) (u : SegmentLog) (m : ℕ) (q : LevelQuery) (next number : ℕ) (items : List ℕ) → Stand ts u → AreNumbered (rows ts) → next ≤ number
-    → IsLeft (is_short q (version ts u m)) q.district next (version ts u m).order_lines number items → AreLow q (version ts u m) next items
+pub low_items : (ts : tables.Places) (u : SegmentLog) (m : ℕ) (q : LevelQuery) (next number : ℕ) (items : List ℕ)
+    → Stand ts u → AreNumbered (rows ts) → next ≤ number
+    → IsLeft (is_short q (version ts u m)) q.district next (version ts u m).order_lines number items
+    → AreLow q (version ts u m) next items
 low_items ts u m q next number items stand numbered over l =
-    are_low q (version ts u m) next l.first items l.span (λ k there recent. l.all k.order (numbers_past ts u m stand numbered k there) recent)
+    are_low q (version ts u m) next l.first items l.span
+    (λ k there recent. l.all k.order (numbers_past ts u m stand numbered k there) recent)
     (ends (is_short q (version ts u m)) q.district next (version ts u m).order_lines number items over l)

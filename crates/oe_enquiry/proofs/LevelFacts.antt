@@ -1,5 +1,6 @@
 -- The items that are listed for Stock-Level are the low ones of the district's last 20 orders, each once.
-use Rattle.std.proofs.Common.{◌≡◌, ℕ, zero, suc, ◌+◌, ◌-◌, ◌≤◌, ◌<◌, refl, sym, ap, ◌∙◌, subst, Bool, true, false, cond, Option, None, Some, List, [], length, inl, inr, arith}
+use Rattle.std.proofs.Common.{◌≡◌, ℕ, zero, suc, ◌+◌, ◌-◌, ◌≤◌, ◌<◌, refl, sym, ap, ◌∙◌, subst, Bool, true, false, cond}
+use Rattle.std.proofs.Common.{Option, None, Some, List, [], length, inl, inr, arith}
 use Rattle.std.specs.Prelude.{◌⊎◌, IsSome, is_some, nat_le}
 use Rattle.std.specs.Ordering.{eq_by_cmp}
 use Rattle.std.specs.FinMap.{FinMap, get, retain_keys}
@@ -28,10 +29,12 @@ use Rattle.oe_model.proofs.EntryFacts.{kept_at, row_among, get_kept}
 use Rattle.oe_model.proofs.ListFacts.{each_among}
 use Rattle.oe_model.proofs.LevelFacts.{level_is_exact}
 use Rattle.oe_enquiry.specs.Level.{stock_in, is_short, listed, items_of, sold}
-use Rattle.oe_enquiry.proofs.ListedFacts.{of_two, in_first, in_second, no_more, mapped, is_mapped, listed_distinct, listed_each, listed_all}
+use Rattle.oe_enquiry.proofs.ListedFacts.{of_two, in_first, in_second, no_more, mapped, is_mapped, listed_distinct}
+use Rattle.oe_enquiry.proofs.ListedFacts.{listed_each, listed_all}
 
 -- whoever lists the low items, each once, counts what Stock-Level answers
-pub level_told : (q : LevelQuery) (r : Rows) (x : District) (items : List ℕ) → Some x ≡ get r.districts q.district → AreLow q r x.next_order items
+pub level_told : (q : LevelQuery) (r : Rows) (x : District) (items : List ℕ) → Some x ≡ get r.districts q.district
+    → AreLow q r x.next_order items
     → stock_level q r ≡ Here (told.Level (length items))
 level_told q r x items at low =
     let l = level_is_exact q r x (sym at) in
@@ -45,7 +48,8 @@ module _ (q : LevelQuery) (r : Rows) (i : ℕ) where
   abbrev is_below : Option Stock → Bool
   is_below o = elim o [ None ↦ false | Some x ↦ nat_le (suc x.quantity) q.threshold ]
 
-  pub short_is : is_short q r i ≡ true → (x : Stock) × (get r.stocks (stock_in q.district.warehouse i) ≡ Some x) × (x.quantity < q.threshold)
+  pub short_is : is_short q r i ≡ true → (x : Stock) × (get r.stocks (stock_in q.district.warehouse i) ≡ Some x)
+      × (x.quantity < q.threshold)
   short_is t = by (get r.stocks (stock_in q.district.warehouse i)) refl t
     where
       by : (o : Option Stock) → get r.stocks (stock_in q.district.warehouse i) ≡ o → is_below o ≡ true
@@ -60,7 +64,8 @@ module _ (q : LevelQuery) (r : Rows) (i : ℕ) where
       by true e = refl
       by false e = absurd (let less = leb-false a b e in let no : ⊥ = omega (arith, less, h) in no)
 
-  pub is_short_of : (x : Stock) → get r.stocks (stock_in q.district.warehouse i) ≡ Some x → x.quantity < q.threshold → is_short q r i ≡ true
+  pub is_short_of : (x : Stock) → get r.stocks (stock_in q.district.warehouse i) ≡ Some x → x.quantity < q.threshold
+      → is_short q r i ≡ true
   is_short_of x e less = ap is_below e ∙ le_leb (suc x.quantity) q.threshold (omega (arith, less))
 
 module _ (h : DistrictKey) (next : ℕ) (lines : FinMap order_line_cmp OrderLine) where
@@ -77,22 +82,35 @@ module _ (h : DistrictKey) (next : ℕ) (lines : FinMap order_line_cmp OrderLine
   own : OrderKey → OrderLineKey → Bool
   own k l = eq_by_cmp order_cmp (order_of_line l) k
 
-  of_order : (o i : ℕ) → IsAmong i (items_of (order_in h o) lines) → (e : OrderLineKey × OrderLine) × (order_of_line e.0 ≡ order_in h o) × (get lines e.0 ≡ Some e.1) × (e.1.item ≡ i)
+  of_order : (o i : ℕ) → IsAmong i (items_of (order_in h o) lines) → (e : OrderLineKey × OrderLine)
+      × (order_of_line e.0 ≡ order_in h o) × (get lines e.0 ≡ Some e.1) × (e.1.item ≡ i)
   of_order o i k =
       let m = mapped (λ (e : OrderLineKey × OrderLine). e.1.item) (lines_of (order_in h o) lines) i k in
-      let at = each_among (λ (e : OrderLineKey × OrderLine). (eq_by_cmp order_cmp (order_of_line e.0) (order_in h o) ≡ true) × (get lines e.0 ≡ Some e.1)) (lines_of (order_in h o) lines) m.0
+      let at = each_among (λ (e : OrderLineKey × OrderLine).
+      (eq_by_cmp order_cmp (order_of_line e.0) (order_in h o) ≡ true)
+      × (get lines e.0 ≡ Some e.1)) (lines_of (order_in h o) lines) m.0
       (kept_at order_line_total exact_order_line lines (λ l. eq_by_cmp order_cmp (order_of_line l) (order_in h o))) m.1
       in
       (m.0, is_same order_total exact_order (order_of_line m.0.0) (order_in h o) at.0, at.1, m.2)
 
   pub sold_is : (n i : ℕ) → n ≤ next → IsAmong i (sold h next lines n) → IsSold n i
   sold_is zero i few k = absurd k
-  sold_is (suc n) i few k = by (of_two (items_of (order_in h (next - suc n)) lines) (sold h next lines n) i k) (λ j. sold_is n i (omega (arith, few)) j)
+  sold_is (suc n) i few k = by (of_two (items_of (order_in h (next - suc n)) lines) (sold h next lines n) i k)
+      (λ j. sold_is n i (omega (arith, few)) j)
     where
       before : IsSold n i → IsSold (suc n) i
-      before s = record { line_key = s.line_key; line = s.line; line_at = s.line_at; district = s.district; first = (let f : next ≤ s.line_key.order + n = s.first in omega (arith, f)); last = s.last; item = s.item }
+      before s = record {
+        line_key = s.line_key;
+        line = s.line;
+        line_at = s.line_at;
+        district = s.district;
+        first = (let f : next ≤ s.line_key.order + n = s.first in omega (arith, f));
+        last = s.last;
+        item = s.item;
+      }
 
-      here : (e : OrderLineKey × OrderLine) × (order_of_line e.0 ≡ order_in h (next - suc n)) × (get lines e.0 ≡ Some e.1) × (e.1.item ≡ i) → IsSold (suc n) i
+      here : (e : OrderLineKey × OrderLine) × (order_of_line e.0 ≡ order_in h (next - suc n))
+          × (get lines e.0 ≡ Some e.1) × (e.1.item ≡ i) → IsSold (suc n) i
       here e =
           let o : e.0.0.order ≡ next - suc n = ap (λ (g : OrderKey). g.order) e.1 in
           record {
@@ -105,27 +123,37 @@ module _ (h : DistrictKey) (next : ℕ) (lines : FinMap order_line_cmp OrderLine
             item = e.3;
           }
 
-      by : IsAmong i (items_of (order_in h (next - suc n)) lines) ⊎ IsAmong i (sold h next lines n) → (IsAmong i (sold h next lines n) → IsSold n i) → IsSold (suc n) i
+      by : IsAmong i (items_of (order_in h (next - suc n)) lines) ⊎ IsAmong i (sold h next lines n)
+          → (IsAmong i (sold h next lines n) → IsSold n i) → IsSold (suc n) i
       by (inl j) rest = here (of_order (next - suc n) i j)
       by (inr j) rest = before (rest j)
 
-  there : (o : ℕ) (k : OrderLineKey) (x : OrderLine) → get lines k ≡ Some x → order_of_line k ≡ order_in h o → IsAmong x.item (items_of (order_in h o) lines)
+  there : (o : ℕ) (k : OrderLineKey) (x : OrderLine) → get lines k ≡ Some x → order_of_line k ≡ order_in h o
+      → IsAmong x.item (items_of (order_in h o) lines)
   there o k x at is =
       let p : OrderLineKey → Bool = λ l. eq_by_cmp order_cmp (order_of_line l) (order_in h o) in
-      let passes : p k ≡ true = ap (λ (g : OrderKey). eq_by_cmp order_cmp g (order_in h o)) is ∙ is_self order_total exact_order (order_in h o) in
-      let kept : get (retain_keys lines p) k ≡ Some x = get_kept order_line_total exact_order_line lines p k ∙ ap (λ b. cond b (get lines k) None) passes ∙ at in
-      is_mapped (λ (e : OrderLineKey × OrderLine). e.1.item) (lines_of (order_in h o) lines) (k, x) (row_among order_line_total exact_order_line (retain_keys lines p) k x kept)
+      let passes : p k ≡ true = ap (λ (g : OrderKey). eq_by_cmp order_cmp g (order_in h o)) is
+      ∙ is_self order_total exact_order (order_in h o) in
+      let kept : get (retain_keys lines p) k ≡ Some x = get_kept order_line_total exact_order_line lines p k
+      ∙ ap (λ b. cond b (get lines k) None) passes ∙ at in
+      is_mapped (λ (e : OrderLineKey × OrderLine). e.1.item) (lines_of (order_in h o) lines) (k, x)
+      (row_among order_line_total exact_order_line (retain_keys lines p) k x kept)
 
-  pub sold_has : (n : ℕ) (k : OrderLineKey) (x : OrderLine) → get lines k ≡ Some x → district_of_order (order_of_line k) ≡ h → next ≤ k.order + n → k.order < next → IsAmong x.item (sold h next lines n)
+  pub sold_has : (n : ℕ) (k : OrderLineKey) (x : OrderLine) → get lines k ≡ Some x
+      → district_of_order (order_of_line k) ≡ h → next ≤ k.order + n → k.order < next
+      → IsAmong x.item (sold h next lines n)
   sold_has zero k x at d f l = absurd (let no : ⊥ = omega (arith, f, l) in no)
   sold_has (suc n) k x at d f l = by (nat_le next (k.order + n)) refl (λ g. sold_has n k x at d g l)
     where
-      by : (b : Bool) → nat_le next (k.order + n) ≡ b → (next ≤ k.order + n → IsAmong x.item (sold h next lines n)) → IsAmong x.item (sold h next lines (suc n))
-      by true t rest = in_second (items_of (order_in h (next - suc n)) lines) (sold h next lines n) x.item (rest (leb-true next (k.order + n) t))
+      by : (b : Bool) → nat_le next (k.order + n) ≡ b → (next ≤ k.order + n → IsAmong x.item (sold h next lines n))
+          → IsAmong x.item (sold h next lines (suc n))
+      by true t rest = in_second (items_of (order_in h (next - suc n)) lines) (sold h next lines n) x.item
+          (rest (leb-true next (k.order + n) t))
       by false t rest =
           let less : k.order + n < next = leb-false next (k.order + n) t in
           let o : k.order ≡ next - suc n = omega (arith, less, f) in
-          in_first (items_of (order_in h (next - suc n)) lines) (sold h next lines n) x.item (there (next - suc n) k x at (λ i. order_in (d i) (o i)))
+          in_first (items_of (order_in h (next - suc n)) lines) (sold h next lines n) x.item
+          (there (next - suc n) k x at (λ i. order_in (d i) (o i)))
 
 -- from the first of the last 20 orders on
 pub are_low : (q : LevelQuery) (r : Rows) (next first : ℕ) (items : List ℕ) → next ≤ first + 20
@@ -162,4 +190,5 @@ are_low q r next first items few since is = subst (AreLow q r next) (sym is) (re
     among i l =
         let from : first ≤ l.line_key.order = since l.line_key (ap is_some l.line_at) l.first in
         subst (λ j. IsAmong j all_sold) l.item
-        (sold_has q.district next r.order_lines (next - first) l.line_key l.line l.line_at l.district (omega (arith, from)) l.last)
+        (sold_has q.district next r.order_lines (next - first) l.line_key l.line l.line_at l.district
+        (omega (arith, from)) l.last)

@@ -1,5 +1,6 @@
 -- Lists that have each element once, and what is listed.
-use Rattle.std.proofs.Common.{◌≡◌, ℕ, ◌+◌, ◌≤◌, refl, sym, ap, ◌∙◌, subst, Bool, true, false, cond, List, [], ◌∷◌, ◌++◌, map, length, length-append, inl, inr, arith}
+use Rattle.std.proofs.Common.{◌≡◌, ℕ, ◌+◌, ◌≤◌, refl, sym, ap, ◌∙◌, subst, Bool, true, false, cond, List, [], ◌∷◌, ◌++◌}
+use Rattle.std.proofs.Common.{map, length, length-append, inl, inr, arith}
 use Rattle.std.specs.Prelude.{◌⊎◌, ◌==◌, ◌&&◌, not}
 use Rattle.std.proofs.lemmas.Bool.{eqb-true, eq-eqb}
 use Rattle.oe_model.specs.Lists.{IsAmong, IsDistinct}
@@ -43,18 +44,23 @@ module _ {A : Type 0} where
   no_more [] ys d h = omega arith
   no_more (x ∷ xs) ys d h =
       let p = parts x ys (h x (inl refl)) in
-      let rest : length xs ≤ length (p.before ++ p.after) = no_more xs (p.before ++ p.after) d.1 (λ i j. stays p.before p.after i (λ e. d.0 (subst (λ z. IsAmong z xs) (sym e) j)) (subst (IsAmong i) p.is (h i (inr j)))) in
+      let rest : length xs ≤ length (p.before ++ p.after) = no_more xs (p.before ++ p.after) d.1
+      (λ i j. stays p.before p.after i (λ e. d.0 (subst (λ z. IsAmong z xs) (sym e) j))
+      (subst (IsAmong i) p.is (h i (inr j)))) in
       let less : length (p.before ++ p.after) ≡ length p.before + length p.after = length-append p.before p.after in
-      let all : length (p.before ++ x ∷ p.after) ≡ length p.before + length (x ∷ p.after) = length-append p.before (x ∷ p.after) in
+      let all : length (p.before ++ x ∷ p.after) ≡ length p.before + length (x ∷ p.after) =
+      length-append p.before (x ∷ p.after) in
       let same : length ys ≡ length (p.before ++ x ∷ p.after) = ap length p.is in
       omega (arith, rest, less, all, same)
     where
-      without : (before after : List A) (i : A) → (x ≡ i → ⊥) → IsAmong i before ⊎ ((x ≡ i) ⊎ IsAmong i after) → IsAmong i (before ++ after)
+      without : (before after : List A) (i : A) → (x ≡ i → ⊥) → IsAmong i before ⊎ ((x ≡ i) ⊎ IsAmong i after)
+          → IsAmong i (before ++ after)
       without before after i n (inl j) = in_first before after i j
       without before after i n (inr (inl e)) = absurd (n e)
       without before after i n (inr (inr j)) = in_second before after i j
 
-      stays : (before after : List A) (i : A) → (x ≡ i → ⊥) → IsAmong i (before ++ x ∷ after) → IsAmong i (before ++ after)
+      stays : (before after : List A) (i : A) → (x ≡ i → ⊥) → IsAmong i (before ++ x ∷ after)
+          → IsAmong i (before ++ after)
       stays before after i n j = without before after i n (of_two before (x ∷ after) i j)
 
   -- one more that is not among them
@@ -70,7 +76,8 @@ module _ {A : Type 0} where
       not_here (inr (inl e)) = n (inl (sym e))
       not_here (inr (inr h)) = h
 
-  pub mapped : {B : Type 0} (f : B → A) (xs : List B) (y : A) → IsAmong y (map f xs) → (x : B) × IsAmong x xs × (f x ≡ y)
+  pub mapped : {B : Type 0} (f : B → A) (xs : List B) (y : A) → IsAmong y (map f xs)
+      → (x : B) × IsAmong x xs × (f x ≡ y)
   mapped f [] y i = absurd i
   mapped f (x ∷ xs) y (inl e) = (x, inl refl, e)
   mapped f (x ∷ xs) y (inr i) = let h = mapped f xs y i in (h.0, inr h.1, h.2)
@@ -84,7 +91,8 @@ any_among : (items : List ℕ) (i : ℕ) → is_listed items i ≡ true → IsAm
 any_among [] i e = let no : ⊥ = cc in absurd no
 any_among (j ∷ items) i e = by (j == i) refl e (any_among items i)
   where
-    by : (b : Bool) → (j == i) ≡ b → Rattle.std.specs.Prelude.◌||◌ b (is_listed items i) ≡ true → (is_listed items i ≡ true → IsAmong i items) → (j ≡ i) ⊎ IsAmong i items
+    by : (b : Bool) → (j == i) ≡ b → Rattle.std.specs.Prelude.◌||◌ b (is_listed items i) ≡ true
+        → (is_listed items i ≡ true → IsAmong i items) → (j ≡ i) ⊎ IsAmong i items
     by true t e rest = inl (eqb-true j i t)
     by false t e rest = inr (rest e)
 
@@ -120,9 +128,11 @@ module _ (p : ℕ → Bool) where
 
   pub listed_distinct : (items xs : List ℕ) → IsDistinct items → IsDistinct (listed p items xs)
   listed_distinct items [] d = d
-  listed_distinct items (x ∷ xs) d = listed_distinct (next_list items x) xs (step_distinct items (next_list items x) x (step items x) d)
+  listed_distinct items (x ∷ xs) d = listed_distinct (next_list items x) xs
+      (step_distinct items (next_list items x) x (step items x) d)
 
-  step_each : (items next : List ℕ) (i j : ℕ) → Step items i next → IsAmong j next → IsAmong j items ⊎ ((i ≡ j) × (p j ≡ true))
+  step_each : (items next : List ℕ) (i j : ℕ) → Step items i next → IsAmong j next
+      → IsAmong j items ⊎ ((i ≡ j) × (p j ≡ true))
   step_each items _ i j (was_there h) k = inl k
   step_each items _ i j (fails e) k = inl k
   step_each items _ i j (comes n e) k = of (of_two items (i ∷ []) j k)
@@ -133,7 +143,8 @@ module _ (p : ℕ → Bool) where
       of (inr (inr h)) = absurd h
 
   -- what is listed was there, or passes
-  pub listed_each : (items xs : List ℕ) (j : ℕ) → IsAmong j (listed p items xs) → IsAmong j items ⊎ (IsAmong j xs × (p j ≡ true))
+  pub listed_each : (items xs : List ℕ) (j : ℕ) → IsAmong j (listed p items xs)
+      → IsAmong j items ⊎ (IsAmong j xs × (p j ≡ true))
   listed_each items [] j k = inl k
   listed_each items (x ∷ xs) j k = of (listed_each (next_list items x) xs j k)
     where
@@ -141,7 +152,8 @@ module _ (p : ℕ → Bool) where
       before (inl h) = inl h
       before (inr h) = inr (inl h.0, h.1)
 
-      of : IsAmong j (next_list items x) ⊎ (IsAmong j xs × (p j ≡ true)) → IsAmong j items ⊎ (IsAmong j (x ∷ xs) × (p j ≡ true))
+      of : IsAmong j (next_list items x) ⊎ (IsAmong j xs × (p j ≡ true))
+          → IsAmong j items ⊎ (IsAmong j (x ∷ xs) × (p j ≡ true))
       of (inl h) = before (step_each items (next_list items x) x j (step items x) h)
       of (inr h) = inr (inr h.0, h.1)
 
@@ -152,7 +164,8 @@ module _ (p : ℕ → Bool) where
 
   pub listed_keeps : (items xs : List ℕ) (j : ℕ) → IsAmong j items → IsAmong j (listed p items xs)
   listed_keeps items [] j k = k
-  listed_keeps items (x ∷ xs) j k = listed_keeps (next_list items x) xs j (step_keeps items (next_list items x) x j (step items x) k)
+  listed_keeps items (x ∷ xs) j k = listed_keeps (next_list items x) xs j
+      (step_keeps items (next_list items x) x j (step items x) k)
 
   step_all : (items next : List ℕ) (i : ℕ) → Step items i next → p i ≡ true → IsAmong i next
   step_all items _ i (was_there h) t = h
@@ -163,5 +176,7 @@ module _ (p : ℕ → Bool) where
   pub listed_all : (items xs : List ℕ) (j : ℕ) → IsAmong j xs → p j ≡ true → IsAmong j (listed p items xs)
   listed_all items [] j k t = absurd k
   listed_all items (x ∷ xs) j (inl e) t =
-      listed_keeps (next_list items x) xs j (subst (λ z. IsAmong z (next_list items x)) e (step_all items (next_list items x) x (step items x) (subst (λ z. p z ≡ true) (sym e) t)))
+      listed_keeps (next_list items x) xs j
+      (subst (λ z. IsAmong z (next_list items x)) e
+      (step_all items (next_list items x) x (step items x) (subst (λ z. p z ≡ true) (sym e) t)))
   listed_all items (x ∷ xs) j (inr k) t = listed_all (next_list items x) xs j k t

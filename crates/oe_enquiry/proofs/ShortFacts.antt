@@ -1,5 +1,6 @@
 -- What is left to be listed, line by line and order by order.
-use Rattle.std.proofs.Common.{◌≡◌, ℕ, zero, suc, ◌+◌, ◌*◌, ◌-◌, ◌≤◌, ◌<◌, refl, sym, ap, ◌∙◌, subst, Bool, true, false, cond, List, [], ◌∷◌, ◌++◌, map, length, take, get_or, length-append, arith}
+use Rattle.std.proofs.Common.{◌≡◌, ℕ, zero, suc, ◌+◌, ◌*◌, ◌-◌, ◌≤◌, ◌<◌, refl, sym, ap, ◌∙◌, subst, Bool, true, false}
+use Rattle.std.proofs.Common.{cond, List, [], ◌∷◌, ◌++◌, map, length, take, get_or, length-append, arith}
 use Rattle.std.specs.Prelude.{not, ◌&&◌}
 use Rattle.std.specs.FinMap.{FinMap}
 use Rattle.std.proofs.lemmas.List.{map-append}
@@ -15,20 +16,25 @@ use Rattle.oe_model.specs.Queries.{status_line}
 use Rattle.oe_enquiry.specs.Level.{is_listed, listed, items_of, sold}
 use Rattle.oe_enquiry.proofs.ListedFacts.{listed_append}
 
-items_told : (es : List (OrderLineKey × OrderLine)) → map (λ (l : StatusLine). l.item) (map (λ e. status_line e.1) es) ≡ map (λ e. e.1.item) es
+items_told : (es : List (OrderLineKey × OrderLine))
+    → map (λ (l : StatusLine). l.item) (map (λ e. status_line e.1) es) ≡ map (λ e. e.1.item) es
 items_told [] = refl
 items_told (e ∷ es) = ap (λ is. e.1.item ∷ is) (items_told es)
 
 -- the items of the lines that are told of an order
-pub told_items : (k : OrderKey) (lines : FinMap order_line_cmp OrderLine) (ls : List StatusLine) → ls ≡ map (λ e. status_line e.1) (lines_of k lines)
+pub told_items : (k : OrderKey) (lines : FinMap order_line_cmp OrderLine) (ls : List StatusLine)
+    → ls ≡ map (λ e. status_line e.1) (lines_of k lines)
     → map (λ (l : StatusLine). l.item) ls ≡ items_of k lines
 told_items k lines ls e = ap (map (λ (l : StatusLine). l.item)) e ∙ items_told (lines_of k lines)
 
-pub order_listed : (p : ℕ → Bool) (h : DistrictKey) (n : ℕ) (lines : FinMap order_line_cmp OrderLine) (k : OrderKey) (ls told : List StatusLine) (old items : List ℕ)
-    → k ≡ order_in h n → ls ≡ map (λ e. status_line e.1) (lines_of k lines) → told ≡ ls → items ≡ listed p old (map (λ l. l.item) told)
+pub order_listed : (p : ℕ → Bool) (h : DistrictKey) (n : ℕ) (lines : FinMap order_line_cmp OrderLine) (k : OrderKey)
+    (ls told : List StatusLine) (old items : List ℕ)
+    → k ≡ order_in h n → ls ≡ map (λ e. status_line e.1) (lines_of k lines) → told ≡ ls
+    → items ≡ listed p old (map (λ l. l.item) told)
     → items ≡ listed p old (items_of (order_in h n) lines)
 order_listed p h n lines k ls told old items is e t found =
-    found ∙ ap (listed p old) (ap (map (λ (l : StatusLine). l.item)) t ∙ told_items k lines ls e ∙ ap (λ z. items_of z lines) is)
+    found ∙ ap (listed p old) (ap (map (λ (l : StatusLine). l.item)) t ∙ told_items k lines ls e
+    ∙ ap (λ z. items_of z lines) is)
 
 module _ (p : ℕ → Bool) (h : DistrictKey) (next : ℕ) (lines : FinMap order_line_cmp OrderLine) where
   -- orders from this number on are still to be listed, and there is room for 15 items of each
@@ -41,39 +47,57 @@ module _ (p : ℕ → Bool) (h : DistrictKey) (next : ℕ) (lines : FinMap order
     pub since : first ≤ number
     pub few : length items + 15 * first ≤ 15 * number
 
-  pub starts : (first : ℕ) (items : List ℕ) → 1 ≤ first → next ≤ first + 20 → ((o : ℕ) → 1 ≤ o → next ≤ o + 20 → first ≤ o) → items ≡ [] → IsLeft first items
-  starts first items least span all e = subst (IsLeft first) (sym e) (record { first = first; least = least; span = span; all = all; rest = refl; since = omega arith; few = omega arith })
+  pub starts : (first : ℕ) (items : List ℕ) → 1 ≤ first → next ≤ first + 20
+      → ((o : ℕ) → 1 ≤ o → next ≤ o + 20 → first ≤ o) → items ≡ [] → IsLeft first items
+  starts first items least span all e = subst (IsLeft first) (sym e)
+      (record {
+        first = first;
+        least = least;
+        span = span;
+        all = all;
+        rest = refl;
+        since = omega arith;
+        few = omega arith;
+      })
 
-  one_order : (number : ℕ) → number < next → sold h next lines (next - number) ≡ items_of (order_in h number) lines ++ sold h next lines (next - (number + 1))
+  one_order : (number : ℕ) → number < next → sold h next lines (next - number) ≡ items_of (order_in h number) lines
+      ++ sold h next lines (next - (number + 1))
   one_order number less =
       let n : next - number ≡ suc (next - (number + 1)) = omega (arith, less) in
       let o : next - suc (next - (number + 1)) ≡ number = omega (arith, less) in
       ap (sold h next lines) n ∙ ap (λ z. items_of (order_in h z) lines ++ sold h next lines (next - (number + 1))) o
 
-  pub in_range : (number : ℕ) (items : List ℕ) → number < next → next ≤ 10000000 → IsLeft number items → (1 ≤ number) × (number ≤ 10000000)
-  in_range number items less most l = let a : 1 ≤ l.first = l.least in let b : l.first ≤ number = l.since in (omega (arith, a, b), omega (arith, less, most))
+  pub in_range : (number : ℕ) (items : List ℕ) → number < next → next ≤ 10000000 → IsLeft number items
+      → (1 ≤ number) × (number ≤ 10000000)
+  in_range number items less most l = let a : 1 ≤ l.first = l.least in let b : l.first ≤ number = l.since in
+      (omega (arith, a, b), omega (arith, less, most))
 
   pub has_room : (number : ℕ) (items : List ℕ) → number < next → IsLeft number items → length items + 15 ≤ 300
-  has_room number items less l = let a : next ≤ l.first + 20 = l.span in let b : length items + 15 * l.first ≤ 15 * number = l.few in omega (arith, less, a, b)
+  has_room number items less l = let a : next ≤ l.first + 20 = l.span in
+      let b : length items + 15 * l.first ≤ 15 * number = l.few in omega (arith, less, a, b)
 
   pub goes_on : (number o : ℕ) (items items' : List ℕ) → number < next → o ≡ number → IsLeft number items
-      → items' ≡ listed p items (items_of (order_in h o) lines) → length items' ≤ length items + 15 → IsLeft (number + 1) items'
+      → items' ≡ listed p items (items_of (order_in h o) lines) → length items' ≤ length items + 15
+      → IsLeft (number + 1) items'
   goes_on number o items items' less same l is more = record {
     first = l.first;
     least = l.least;
     span = l.span;
     all = l.all;
     rest =
-        ap (λ zs. listed p zs (sold h next lines (next - (number + 1)))) (is ∙ ap (λ z. listed p items (items_of (order_in h z) lines)) same)
+        ap (λ zs. listed p zs (sold h next lines (next - (number + 1))))
+        (is ∙ ap (λ z. listed p items (items_of (order_in h z) lines)) same)
         ∙ sym (listed_append p items (items_of (order_in h number) lines) (sold h next lines (next - (number + 1))))
         ∙ sym (ap (listed p items) (one_order number less)) ∙ l.rest;
     since = (let s : l.first ≤ number = l.since in omega (arith, s));
     few = (let f : length items + 15 * l.first ≤ 15 * number = l.few in omega (arith, f, more));
   }
 
-  pub ends : (number : ℕ) (items : List ℕ) → next ≤ number → (l : IsLeft number items) → items ≡ listed p [] (sold h next lines (next - l.first))
+  pub ends : (number : ℕ) (items : List ℕ) → next ≤ number → (l : IsLeft number items)
+      → items ≡ listed p [] (sold h next lines (next - l.first))
   ends number items over l =
-      let n : next - number ≡ zero = omega (arith, over) in sym (ap (λ z. listed p items (sold h next lines z)) n) ∙ l.rest
+      let n : next - number ≡ zero = omega (arith, over) in
+      sym (ap (λ z. listed p items (sold h next lines z)) n) ∙ l.rest
 
 -- ONE ITEM
 
@@ -83,26 +107,32 @@ module _ (p : ℕ → Bool) (items : List ℕ) (i : ℕ) (there : Bool) (short :
   stays_listed e t = ap (λ b. cond (not b && p i) (items ++ i ∷ []) items) (sym (sym e ∙ t))
 
   -- it is short
-  pub comes_in : (items' : List ℕ) (j : ℕ) → items' ≡ items ++ j ∷ [] → j ≡ i → there ≡ is_listed items i → there ≡ false → short ≡ p i → short ≡ true → items' ≡ listed p items (i ∷ [])
-  comes_in items' j is same e f s t = is ∙ ap (λ z. items ++ z ∷ []) same ∙ (λ k. cond (not (sym (sym e ∙ f) k) && sym (sym s ∙ t) k) (items ++ i ∷ []) items)
+  pub comes_in : (items' : List ℕ) (j : ℕ) → items' ≡ items ++ j ∷ [] → j ≡ i → there ≡ is_listed items i
+      → there ≡ false → short ≡ p i → short ≡ true → items' ≡ listed p items (i ∷ [])
+  comes_in items' j is same e f s t = is ∙ ap (λ z. items ++ z ∷ []) same
+      ∙ (λ k. cond (not (sym (sym e ∙ f) k) && sym (sym s ∙ t) k) (items ++ i ∷ []) items)
 
   -- there is enough of it
-  pub is_enough : there ≡ is_listed items i → there ≡ false → short ≡ p i → short ≡ false → items ≡ listed p items (i ∷ [])
+  pub is_enough : there ≡ is_listed items i → there ≡ false → short ≡ p i → short ≡ false
+      → items ≡ listed p items (i ∷ [])
   is_enough e f s t = λ j. cond (not (sym (sym e ∙ f) j) && sym (sym s ∙ t) j) (items ++ i ∷ []) items
 
 pub one_more : (items items' : List ℕ) (j : ℕ) → items' ≡ items ++ j ∷ [] → length items' ≤ length items + 1
 one_more items items' j is =
-    let l : length (items ++ j ∷ []) ≡ length items + length (j ∷ []) = length-append items (j ∷ []) in let e : length items' ≡ length (items ++ j ∷ []) = ap length is in omega (arith, l, e)
+    let l : length (items ++ j ∷ []) ≡ length items + length (j ∷ []) = length-append items (j ∷ []) in
+    let e : length items' ≡ length (items ++ j ∷ []) = ap length is in omega (arith, l, e)
 
 -- LINES
 
-take_one : (xs : List StatusLine) (i : ℕ) (x : StatusLine) → i < length xs → x ≡ get_or xs i x → take (suc i) xs ≡ take i xs ++ x ∷ []
+take_one : (xs : List StatusLine) (i : ℕ) (x : StatusLine) → i < length xs → x ≡ get_or xs i x
+    → take (suc i) xs ≡ take i xs ++ x ∷ []
 take_one [] i x h e = absurd (let no : ⊥ = omega (arith, h) in no)
 take_one (y ∷ ys) zero x h e = ap (λ z. z ∷ []) (sym e)
 take_one (y ∷ ys) (suc i) x h e = ap (λ zs. y ∷ zs) (take_one ys i x (let z : i < length ys = omega (arith, h) in z) e)
 
 -- one line more than those that were looked at
-pub line_listed : (p : ℕ → Bool) (old : List ℕ) (lines : List StatusLine) (i : ℕ) (x : StatusLine) (items items' : List ℕ) → i < length lines → x ≡ get_or lines i x
+pub line_listed : (p : ℕ → Bool) (old : List ℕ) (lines : List StatusLine) (i : ℕ) (x : StatusLine)
+    (items items' : List ℕ) → i < length lines → x ≡ get_or lines i x
     → items ≡ listed p old (map (λ (l : StatusLine). l.item) (take i lines)) → items' ≡ listed p items (x.item ∷ [])
     → items' ≡ listed p old (map (λ (l : StatusLine). l.item) (take (i + 1) lines))
 line_listed p old lines i x items items' room at so_far is =
@@ -110,4 +140,5 @@ line_listed p old lines i x items items' room at so_far is =
     let more : take (i + 1) lines ≡ take i lines ++ x ∷ [] = ap (λ n. take n lines) next ∙ take_one lines i x room at in
     is ∙ ap (λ zs. listed p zs (x.item ∷ [])) so_far
     ∙ sym (listed_append p old (map (λ (l : StatusLine). l.item) (take i lines)) (x.item ∷ []))
-    ∙ ap (listed p old) (sym (ap (map (λ (l : StatusLine). l.item)) more ∙ map-append (λ (l : StatusLine). l.item) (take i lines) (x ∷ [])))
+    ∙ ap (listed p old) (sym (ap (map (λ (l : StatusLine). l.item)) more
+    ∙ map-append (λ (l : StatusLine). l.item) (take i lines) (x ∷ [])))

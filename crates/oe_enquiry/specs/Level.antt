@@ -1,5 +1,6 @@
 -- The items that Stock-Level counts, as they are gathered (clause 2.8.2.2).
-use Rattle.std.specs.Prelude.{ℕ, zero, suc, ◌-◌, ◌==◌, Bool, false, cond, not, ◌&&◌, List, [], ◌∷◌, ◌++◌, map, nat_le, None, Some}
+use Rattle.std.specs.Prelude.{ℕ, zero, suc, ◌-◌, ◌==◌, Bool, false, cond, not, ◌&&◌, List, [], ◌∷◌, ◌++◌, map, nat_le}
+use Rattle.std.specs.Prelude.{None, Some}
 use Rattle.std.specs.List.{list_any}
 use Rattle.std.specs.FinMap.{FinMap, get}
 use Rattle.oe_rows.specs.Key.{order_line_cmp}
@@ -17,7 +18,8 @@ stock_in w i = record { warehouse = w; item = i }
 
 -- the district's warehouse has less of the item than the threshold
 abbrev pub is_short : LevelQuery → Rows → ℕ → Bool
-is_short q r i = elim (get r.stocks (stock_in q.district.warehouse i)) [ None ↦ false | Some x ↦ nat_le (suc x.quantity) q.threshold ]
+is_short q r i = elim (get r.stocks (stock_in q.district.warehouse i))
+    [ None ↦ false | Some x ↦ nat_le (suc x.quantity) q.threshold ]
 
 abbrev pub is_listed : List ℕ → ℕ → Bool
 is_listed items i = list_any (λ j. j == i) items

@@ -22,7 +22,8 @@ pub record IsReply (q : Query) (ts : tables.Places) (u : SegmentLog) (m : ℕ) (
 abbrev pub HasNoReply : Query → tables.Places → SegmentLog → ℕ → Refusal → Type 0
 HasNoReply q ts u m e = IsUnkept u m e ⊎ (IsKeptMoment u m × (answer_of q (version ts u m) ≡ Missing e))
 
--- a query is refused for an absent warehouse first, then for the moment, and then for a row that is absent at the moment
+-- a query is refused for an absent warehouse first, then for the moment, and then for a row that is absent at the
+-- moment
 abbrev pub IsRefused : Query → tables.Places → SegmentLog → ℕ → Refusal → Type 0
 IsRefused q ts u m e =
     (query_rejection q (rows ts) ≡ Some e) ⊎ ((query_rejection q (rows ts) ≡ None) × HasNoReply q ts u m e)

@@ -1,5 +1,6 @@
 -- A string at an address is in the extent of that number, behind as many bytes as the offset says.
-use Rattle.std.proofs.Common.{◌≡◌, ◌==◌, ℕ, ◌+◌, ◌<◌, ◌≤◌, ◌⊎◌, inl, inr, Bool, true, false, cond, List, [], ◌∷◌, ◌++◌, length, map, get_or, refl, sym, ap, subst, arith}
+use Rattle.std.proofs.Common.{◌≡◌, ◌==◌, ℕ, ◌+◌, ◌<◌, ◌≤◌, ◌⊎◌, inl, inr, Bool, true, false, cond, List, [], ◌∷◌, ◌++◌}
+use Rattle.std.proofs.Common.{length, map, get_or, refl, sym, ap, subst, arith}
 use Rattle.std.specs.List.{sum_by}
 use Rattle.std.proofs.lemmas.Bool.{eqb-true, eqb-false}
 use Rattle.std.proofs.lemmas.List.{length-map}
@@ -30,8 +31,15 @@ module _ (a : Address) (x : List ℕ) where
     },
   )
   in_extent n (y ∷ ys) (inr h) =
-      let f = in_extent n ys h in
-      (f.0, record { newer = y ∷ f.1.newer; older = f.1.older; parts = ap (λ (l : List (List ℕ)). y ∷ l) f.1.parts; behind = f.1.behind })
+      let f = in_extent n ys h in (
+        f.0,
+        record {
+          newer = y ∷ f.1.newer;
+          older = f.1.older;
+          parts = ap (λ (l : List (List ℕ)). y ∷ l) f.1.parts;
+          behind = f.1.behind;
+        },
+      )
 
   times-here : (n : ℕ) (ns : List ℕ) → a.extent ≡ n → times a.extent (n ∷ ns) ≡ 1 + times a.extent ns
   times-here n ns e =
@@ -43,19 +51,24 @@ module _ (a : Address) (x : List ℕ) where
   number_there [] h = absurd h
   number_there (c ∷ cs) h = go (here_or_behind (addressed_in c.number c.strings) (addressed_of cs) h) (number_there cs)
     where
-      go : StandsAt a x (addressed_in c.number c.strings) ⊎ StandsAt a x (addressed_of cs) → (StandsAt a x (addressed_of cs) → 0 < times a.extent (numbers_of cs))
+      go : StandsAt a x (addressed_in c.number c.strings) ⊎ StandsAt a x (addressed_of cs)
+          → (StandsAt a x (addressed_of cs) → 0 < times a.extent (numbers_of cs))
           → 0 < times a.extent (c.number ∷ numbers_of cs)
-      go (inl p) rest = let n = times-here c.number (numbers_of cs) (in_extent c.number c.strings p).0 in omega (arith, n)
+      go (inl p) rest = let n = times-here c.number (numbers_of cs) (in_extent c.number c.strings p).0 in
+          omega (arith, n)
       go (inr q) rest = omega (arith, rest q, times-cons a.extent c.number (numbers_of cs))
 
-  found : (cs : List Contents) → times a.extent (numbers_of cs) ≤ 1 → StandsAt a x (addressed_of cs) → BeginsAt (strings_at a.extent cs) a.offset x
+  found : (cs : List Contents) → times a.extent (numbers_of cs) ≤ 1 → StandsAt a x (addressed_of cs)
+      → BeginsAt (strings_at a.extent cs) a.offset x
   found [] once h = absurd h
   found (c ∷ cs) once h =
       go (c.number == a.extent) refl (here_or_behind (addressed_in c.number c.strings) (addressed_of cs) h)
       (found cs (omega (arith, once, times-cons a.extent c.number (numbers_of cs))))
     where
-      go : (b : Bool) → (c.number == a.extent) ≡ b → StandsAt a x (addressed_in c.number c.strings) ⊎ StandsAt a x (addressed_of cs)
-          → (StandsAt a x (addressed_of cs) → BeginsAt (strings_at a.extent cs) a.offset x) → BeginsAt (cond b c.strings (strings_at a.extent cs)) a.offset x
+      go : (b : Bool) → (c.number == a.extent) ≡ b → StandsAt a x (addressed_in c.number c.strings)
+          ⊎ StandsAt a x (addressed_of cs)
+          → (StandsAt a x (addressed_of cs) → BeginsAt (strings_at a.extent cs) a.offset x)
+          → BeginsAt (cond b c.strings (strings_at a.extent cs)) a.offset x
       go true e (inl p) rest = (in_extent c.number c.strings p).1
       go true e (inr q) rest =
           let n = times-here c.number (numbers_of cs) (sym (eqb-true c.number a.extent e)) in
@@ -64,12 +77,16 @@ module _ (a : Address) (x : List ℕ) where
       go false e (inr q) rest = rest q
 
 -- the same among all lists of a kind, in which each extent is used at most once
-pub string_at : (xs : List (List Contents)) (i : ℕ) (x : List Contents) (a : Address) (s : List ℕ) → ((e : ℕ) → sum_by (λ y. times e (numbers_of y)) xs ≤ 1)
-    → i < length (map addressed_of xs) → x ≡ get_or xs i x → StandsAt a s (get_or (map addressed_of xs) i []) → BeginsAt (strings_at a.extent x) a.offset s
+pub string_at : (xs : List (List Contents)) (i : ℕ) (x : List Contents) (a : Address) (s : List ℕ)
+    → ((e : ℕ) → sum_by (λ y. times e (numbers_of y)) xs ≤ 1)
+    → i < length (map addressed_of xs) → x ≡ get_or xs i x → StandsAt a s (get_or (map addressed_of xs) i [])
+    → BeginsAt (strings_at a.extent x) a.offset s
 string_at xs i x a s once lt e h =
     let within : i < length xs = omega (arith, lt, length-map xs addressed_of) in
     let same = at_slot xs i lt x e in
-    let stands : StandsAt a s (addressed_of (get_or xs i [])) = subst (λ (l : List Addressed). StandsAt a s l) (strings_at_slot xs i within) h in
+    let stands : StandsAt a s (addressed_of (get_or xs i [])) = subst (λ (l : List Addressed). StandsAt a s l)
+    (strings_at_slot xs i within) h in
     let one : times a.extent (numbers_of (get_or xs i [])) ≤ 1 =
     omega (arith, once a.extent, get_or-le-sum_by (λ y. times a.extent (numbers_of y)) xs i [] within) in
-    subst (λ (y : List Contents). BeginsAt (strings_at a.extent y) a.offset s) (sym same) (found a s (get_or xs i []) one stands)
+    subst (λ (y : List Contents). BeginsAt (strings_at a.extent y) a.offset s) (sym same)
+    (found a s (get_or xs i []) one stands)

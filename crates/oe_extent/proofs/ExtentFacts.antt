@@ -13,22 +13,28 @@ pub none_there : (o : ℕ) → HasOffset [] o → ⊥
 none_there o h = no_string h.begins.newer h.string h.begins.older h.begins.parts
 
 -- an extent, and those before it
-parts_of : (e : Extent) → contents_in e ≡ record { number = (out-Extent e).number; strings = (out-Extent e).strings } ∷ contents_of (out-Extent e).older
+parts_of : (e : Extent) → contents_in e ≡ record { number = (out-Extent e).number; strings = (out-Extent e).strings }
+    ∷ contents_of (out-Extent e).older
 unfolding out-Extent denote.Hole.Carrier.out
 parts_of (Extent' number strings None') = refl
 parts_of (Extent' number strings (Some' p x)) = refl
 
-pub strings_here : (e : Extent) (n : ℕ) → (out-Extent e).number ≡ n → strings_at n (contents_in e) ≡ (out-Extent e).strings
+pub strings_here : (e : Extent) (n : ℕ) → (out-Extent e).number ≡ n
+    → strings_at n (contents_in e) ≡ (out-Extent e).strings
 strings_here e n same =
     ap (strings_at n) (parts_of e)
-    ∙ ap (λ (b : Bool). cond b (out-Extent e).strings (strings_at n (contents_of (out-Extent e).older))) (eq-eqb (out-Extent e).number n same)
+    ∙ ap (λ (b : Bool). cond b (out-Extent e).strings (strings_at n (contents_of (out-Extent e).older)))
+    (eq-eqb (out-Extent e).number n same)
 
-pub strings_before : (e : Extent) (n : ℕ) → ((out-Extent e).number ≡ n → ⊥) → strings_at n (contents_in e) ≡ strings_at n (contents_of (out-Extent e).older)
+pub strings_before : (e : Extent) (n : ℕ) → ((out-Extent e).number ≡ n → ⊥)
+    → strings_at n (contents_in e) ≡ strings_at n (contents_of (out-Extent e).older)
 strings_before e n other =
     ap (strings_at n) (parts_of e)
-    ∙ ap (λ (b : Bool). cond b (out-Extent e).strings (strings_at n (contents_of (out-Extent e).older))) (ne_eqb (out-Extent e).number n other)
+    ∙ ap (λ (b : Bool). cond b (out-Extent e).strings (strings_at n (contents_of (out-Extent e).older)))
+    (ne_eqb (out-Extent e).number n other)
 
 pub none_before : (e : Extent) (n o : ℕ) → (out-Extent e).older ≡ None → ((out-Extent e).number ≡ n → ⊥)
     → HasOffset (strings_at n (contents_in e)) o → ⊥
 none_before e n o none other h =
-    none_there o (subst (λ (ss : List (List ℕ)). HasOffset ss o) (strings_before e n other ∙ ap (λ x. strings_at n (contents_of x)) none) h)
+    none_there o (subst (λ (ss : List (List ℕ)). HasOffset ss o)
+    (strings_before e n other ∙ ap (λ x. strings_at n (contents_of x)) none) h)

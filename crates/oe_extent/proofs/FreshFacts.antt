@@ -1,5 +1,6 @@
 -- The address of a string that is pushed is no other string's.
-use Rattle.std.proofs.Common.{◌≡◌, ◌≢◌, ℕ, zero, suc, ◌<◌, ◌≤◌, true, false, List, [], ◌∷◌, ◌++◌, length, map, get_or, sym, ap, ◌∙◌, subst, arith}
+use Rattle.std.proofs.Common.{◌≡◌, ◌≢◌, ℕ, zero, suc, ◌<◌, ◌≤◌, true, false, List, [], ◌∷◌, ◌++◌, length, map, get_or}
+use Rattle.std.proofs.Common.{sym, ap, ◌∙◌, subst, arith}
 use Rattle.std.specs.List.{sum_by}
 use Rattle.std.proofs.lemmas.List.Sums.{sum_by-cons}
 use Rattle.oe_extent.specs.declared.extents.Address.{Address}
@@ -8,13 +9,15 @@ use Rattle.oe_extent.specs.Free.{FreeExtents}
 use Rattle.oe_extent.specs.Extents.{Contents, numbers_of, rest_of, end_of}
 use Rattle.oe_extent.proofs.PackedFacts.{length-joined}
 use Rattle.oe_extent.specs.Ring.{Addressed, StandElsewhere, IsFresh}
-use Rattle.oe_extent.specs.Kept.{addressed_in, addressed_of, HaveBytes, FillsUp, ArePacked, times, uses, extent_count, IsRing}
+use Rattle.oe_extent.specs.Kept.{addressed_in, addressed_of, HaveBytes, FillsUp, ArePacked, times, uses, extent_count}
+use Rattle.oe_extent.specs.Kept.{IsRing}
 use Rattle.oe_extent.proofs.HeldFacts.{times-self, times-cons, free_within, taken_within, free_unused}
 use Rattle.oe_extent.proofs.ChangeFacts.{shown, at_slot}
 
 -- ---- in one list
 
-elsewhere_both : (a : Address) (xs ys : List Addressed) → StandElsewhere a xs → StandElsewhere a ys → StandElsewhere a (xs ++ ys)
+elsewhere_both : (a : Address) (xs ys : List Addressed) → StandElsewhere a xs → StandElsewhere a ys
+    → StandElsewhere a (xs ++ ys)
 elsewhere_both a [] ys h k = k
 elsewhere_both a (x ∷ xs) ys h k = (h.0, elsewhere_both a xs ys h.1 k)
 
@@ -26,7 +29,8 @@ differs : (m n : ℕ) → m < n → m ≢ n
 differs m n lt e = omega (arith, lt, e)
 
 -- behind all strings of an extent
-behind_all : (a : Address) (n : ℕ) (xs : List (List ℕ)) → HaveBytes xs → length (joined xs) ≤ a.offset → StandElsewhere a (addressed_in n xs)
+behind_all : (a : Address) (n : ℕ) (xs : List (List ℕ)) → HaveBytes xs → length (joined xs) ≤ a.offset
+    → StandElsewhere a (addressed_in n xs)
 behind_all a n [] h le = tt
 behind_all a n (x ∷ xs) h le =
     let before : length (joined xs) < a.offset = omega (arith, length-joined x xs, h.0, le) in
@@ -45,7 +49,8 @@ not_among a (c ∷ cs) h =
     let split = times-cons a.extent c.number (numbers_of cs) in
     let first : times a.extent (c.number ∷ []) ≡ 0 = omega (arith, h, split) in
     elsewhere_both a (addressed_in c.number c.strings) (addressed_of cs)
-    (other_extent a c.number c.strings (other_number a.extent c.number first)) (not_among a cs (omega (arith, h, split)))
+    (other_extent a c.number c.strings (other_number a.extent c.number first))
+    (not_among a cs (omega (arith, h, split)))
 
 have_bytes : (r : ℕ) (xs : List (List ℕ)) → FillsUp r xs → HaveBytes xs
 have_bytes r [] f = absurd f
@@ -57,7 +62,8 @@ pub record IsBehind (cs : List Contents) (a : Address) : Type 0 where
   pub offset : a.offset < 4096
 
 -- the next address of its newest extent
-behind_list : (cs : List Contents) (a : Address) → ArePacked cs → 0 < rest_of cs → times a.extent (numbers_of cs) ≤ 1 → a ≡ end_of cs → IsBehind cs a
+behind_list : (cs : List Contents) (a : Address) → ArePacked cs → 0 < rest_of cs → times a.extent (numbers_of cs) ≤ 1
+    → a ≡ end_of cs → IsBehind cs a
 behind_list [] a h some once e = absurd (omega (arith, some))
 behind_list (c ∷ cs) a h some once e =
     let offset : a.offset ≡ length (joined c.strings) = ap (λ (b : Address). b.offset) e in
@@ -81,27 +87,40 @@ some_sum e [] t = omega arith
 some_sum e (s ∷ ss) zero = omega (arith, sum_by-cons (λ s. times e (numbers_of s)) s ss)
 some_sum e (s ∷ ss) (suc t) = omega (arith, some_sum e ss t, sum_by-cons (λ s. times e (numbers_of s)) s ss)
 
-none_has : (a : Address) (ss : List (List Contents)) → sum_of a.extent ss ≡ 0 → (i : ℕ) → StandElsewhere a (get_or (map addressed_of ss) i [])
+none_has : (a : Address) (ss : List (List Contents)) → sum_of a.extent ss ≡ 0 → (i : ℕ)
+    → StandElsewhere a (get_or (map addressed_of ss) i [])
 none_has a [] h i = tt
 none_has a (s ∷ ss) h zero = not_among a s (omega (arith, h, sum_by-cons (λ s. times a.extent (numbers_of s)) s ss))
-none_has a (s ∷ ss) h (suc i) = none_has a ss (omega (arith, h, sum_by-cons (λ s. times a.extent (numbers_of s)) s ss)) i
+none_has a (s ∷ ss) h (suc i) = none_has a ss (omega (arith, h, sum_by-cons (λ s. times a.extent (numbers_of s)) s ss))
+    i
 
 -- where one list alone has the extent, and the string there is none of its strings
-but_one : (a : Address) (ss : List (List Contents)) (t : ℕ) → sum_of a.extent ss ≤ 1 → 0 < times a.extent (numbers_of (get_or ss t []))
+but_one : (a : Address) (ss : List (List Contents)) (t : ℕ) → sum_of a.extent ss ≤ 1
+    → 0 < times a.extent (numbers_of (get_or ss t []))
     → StandElsewhere a (addressed_of (get_or ss t [])) → (i : ℕ) → StandElsewhere a (get_or (map addressed_of ss) i [])
 but_one a [] t once some h i = tt
 but_one a (s ∷ ss) zero once some h zero = h
-but_one a (s ∷ ss) zero once some h (suc i) = none_has a ss (omega (arith, once, some, sum_by-cons (λ s. times a.extent (numbers_of s)) s ss)) i
+but_one a (s ∷ ss) zero once some h (suc i) =
+    none_has a ss (omega (arith, once, some, sum_by-cons (λ s. times a.extent (numbers_of s)) s ss)) i
 but_one a (s ∷ ss) (suc t) once some h zero =
-    not_among a s (omega (arith, once, some, some_sum a.extent ss t, sum_by-cons (λ s. times a.extent (numbers_of s)) s ss))
-but_one a (s ∷ ss) (suc t) once some h (suc i) = but_one a ss t (omega (arith, once, sum_by-cons (λ s. times a.extent (numbers_of s)) s ss)) some h i
+    not_among a s (omega (
+      arith,
+      once,
+      some,
+      some_sum a.extent ss t,
+      sum_by-cons (λ s. times a.extent (numbers_of s)) s
+          ss,
+    ))
+but_one a (s ∷ ss) (suc t) once some h (suc i) =
+    but_one a ss t (omega (arith, once, sum_by-cons (λ s. times a.extent (numbers_of s)) s ss)) some h i
 
 pub record Fresh (pool : FreeExtents) (os cs : List (List Contents)) (room : ℕ) (a : Address) : Type 0 where
   pub fresh : IsFresh (shown pool os cs room) a
   pub extent : a.extent < length pool.is_free
   pub offset : a.offset < 4096
 
-module _ (pool : FreeExtents) (os cs : List (List Contents)) (room t : ℕ) (r : IsRing pool.is_free os cs) (lt : t < length (map addressed_of os)) where
+module _ (pool : FreeExtents) (os cs : List (List Contents)) (room t : ℕ) (r : IsRing pool.is_free os cs)
+    (lt : t < length (map addressed_of os)) where
   -- behind the strings of the slot's newest extent
   pub fresh_here : (x₁ x₂ : List Contents) (a : Address) (size rest : ℕ) → x₁ ≡ get_or os t x₁ → x₂ ≡ get_or os t x₂
       → rest ≡ rest_of x₁ → size ≤ rest → 0 < size → a ≡ end_of x₂ → Fresh pool os cs room a
@@ -110,7 +129,8 @@ module _ (pool : FreeExtents) (os cs : List (List Contents)) (room t : ℕ) (r :
       let some : 0 < rest_of x = omega (arith, le, long, er, ap rest_of (at_slot os t lt x₁ e₁)) in
       let own = some_sum a.extent os t in
       let once = r.held.once a.extent in
-      let b = behind_list x a (r.active_packed t) some (omega (arith, once, own)) (ea ∙ ap end_of (at_slot os t lt x₂ e₂)) in
+      let b = behind_list x a (r.active_packed t) some (omega (arith, once, own))
+      (ea ∙ ap end_of (at_slot os t lt x₂ e₂)) in
       record {
         fresh = record {
           active = but_one a os t (omega (arith, once)) b.used b.elsewhere;
@@ -121,7 +141,8 @@ module _ (pool : FreeExtents) (os cs : List (List Contents)) (room t : ℕ) (r :
       }
 
 -- at the front of an extent that was free
-pub fresh_other : (pool : FreeExtents) (os cs : List (List Contents)) (room e : ℕ) → IsRing pool.is_free os cs → get_or pool.is_free e false ≡ true
+pub fresh_other : (pool : FreeExtents) (os cs : List (List Contents)) (room e : ℕ) → IsRing pool.is_free os cs
+    → get_or pool.is_free e false ≡ true
     → Fresh pool os cs room (record { extent = e; offset = 0 })
 fresh_other pool os cs room e r is_free =
     let unused = free_unused pool.is_free (uses os cs) (extent_count os cs) e r.held is_free in

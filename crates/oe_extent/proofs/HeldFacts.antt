@@ -1,5 +1,6 @@
 -- Extents that are taken, and given back.
-use Rattle.std.proofs.Common.{◌≡◌, ◌≢◌, ℕ, suc, ◌+◌, ◌<◌, ◌≤◌, inl, inr, Bool, true, false, cond, List, [], ◌∷◌, length, get_or, set, refl, sym, ◌∙◌, subst, arith}
+use Rattle.std.proofs.Common.{◌≡◌, ◌≢◌, ℕ, suc, ◌+◌, ◌<◌, ◌≤◌, inl, inr, Bool, true, false, cond, List, [], ◌∷◌, length}
+use Rattle.std.proofs.Common.{get_or, set, refl, sym, ◌∙◌, subst, arith}
 use Rattle.std.specs.List.{AllByRecursion}
 use Rattle.std.proofs.lemmas.Bool.{cases_eq, cases_lt}
 use Rattle.std.proofs.lemmas.Bool.Decides.{nat_tests}
@@ -32,11 +33,13 @@ taken_within free e h = elim (cases_lt e (length free)) [
 -- a free one is not used
 pub free_unused : (free : List Bool) (u : ℕ → ℕ) (m e : ℕ) → AreHeld free u m → get_or free e false ≡ true → u e ≡ 0
 free_unused free u m e h is_free = elim (cases_lt 0 (u e)) [
-  | inl some ↦ let same = get_or_default free e false true (free_within free e is_free) in let no = h.taken e some in absurd (let both : true ≡ false = sym is_free ∙ same ∙ no in cc)
+  | inl some ↦ let same = get_or_default free e false true (free_within free e is_free) in let no = h.taken e some in
+      absurd (let both : true ≡ false = sym is_free ∙ same ∙ no in cc)
   | inr none ↦ omega arith
 ]
 
-pub same_held : (free : List Bool) (u v : ℕ → ℕ) (m n : ℕ) → AreHeld free u m → ((x : ℕ) → v x ≡ u x) → n ≡ m → AreHeld free v n
+pub same_held : (free : List Bool) (u v : ℕ → ℕ) (m n : ℕ) → AreHeld free u m → ((x : ℕ) → v x ≡ u x) → n ≡ m
+    → AreHeld free v n
 same_held free u v m n h e q = record {
   once = λ x. omega (arith, h.once x, e x);
   taken = λ x some. h.taken x (omega (arith, some, e x));
@@ -55,8 +58,10 @@ take_held free u v m n e h is_free change q =
         | inr other ↦ omega (arith, change x, times-other x e other, h.once x)
       ];
       taken = λ x some. elim (cases_eq x e) [
-        | inl same ↦ subst (λ (y : ℕ). get_or (set free e false) y true ≡ false) (sym same) (get_or-set_same free e false true within)
-        | inr other ↦ get_or-set_other free e x false true other ∙ h.taken x (omega (arith, some, change x, times-other x e other))
+        | inl same ↦ subst (λ (y : ℕ). get_or (set free e false) y true ≡ false) (sym same)
+            (get_or-set_same free e false true within)
+        | inr other ↦ get_or-set_other free e x false true other ∙ h.taken x
+            (omega (arith, some, change x, times-other x e other))
       ];
       counted =
           let count = sum_by-set (λ b. cond b 1 0) free e false false within in
@@ -65,7 +70,8 @@ take_held free u v m n e h is_free change q =
     }
 
 -- one that was taken is free
-pub give_held : (free : List Bool) (u v : ℕ → ℕ) (m n e : ℕ) → AreHeld free u m → ((x : ℕ) → u x ≡ v x + times x (e ∷ [])) → m ≡ suc n
+pub give_held : (free : List Bool) (u v : ℕ → ℕ) (m n e : ℕ) → AreHeld free u m
+    → ((x : ℕ) → u x ≡ v x + times x (e ∷ [])) → m ≡ suc n
     → AreHeld (set free e true) v n × (e < length free)
 give_held free u v m n e h change q =
     let some : 0 < u e = omega (arith, change e, times-self e) in
@@ -87,11 +93,15 @@ give_held free u v m n e h change q =
     )
 
 -- several
-pub give_all_held : (es : List ℕ) (free : List Bool) (u v : ℕ → ℕ) (m n size : ℕ) → AreHeld free u m → ((x : ℕ) → u x ≡ v x + times x es)
+pub give_all_held : (es : List ℕ) (free : List Bool) (u v : ℕ → ℕ) (m n size : ℕ) → AreHeld free u m
+    → ((x : ℕ) → u x ≡ v x + times x es)
     → m ≡ n + length es → size ≡ length free
     → AreHeld (freed es free) v n × AllByRecursion (λ e. e < size) es × (length (freed es free) ≡ size)
-give_all_held [] free u v m n size h change q s = (same_held free u v m n h (λ x. omega (arith, change x)) (omega (arith, q)), tt, sym s)
+give_all_held [] free u v m n size h change q s =
+    (same_held free u v m n h (λ x. omega (arith, change x)) (omega (arith, q)), tt, sym s)
 give_all_held (e ∷ es) free u v m n size h change q s =
-    let one = give_held free u (λ x. v x + times x es) m (n + length es) e h (λ x. omega (arith, change x, times-cons x e es)) (omega (arith, q)) in
-    let rest = give_all_held es (set free e true) (λ x. v x + times x es) v (n + length es) n size one.0 (λ x. refl) refl (omega (arith, s, length-set free e true)) in
+    let one = give_held free u (λ x. v x + times x es) m (n + length es) e h
+    (λ x. omega (arith, change x, times-cons x e es)) (omega (arith, q)) in
+    let rest = give_all_held es (set free e true) (λ x. v x + times x es) v (n + length es) n size one.0 (λ x. refl)
+    refl (omega (arith, s, length-set free e true)) in
     (rest.0, (omega (arith, one.1, s), rest.1), rest.2)

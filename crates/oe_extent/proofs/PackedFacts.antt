@@ -1,13 +1,16 @@
 -- Strings that fill the front of an extent.
-use Rattle.std.proofs.Common.{◌≡◌, ℕ, zero, suc, ◌+◌, ◌-◌, ◌*◌, ◌<◌, ◌≤◌, List, [], ◌∷◌, ◌++◌, length, take, drop, refl, sym, ap, subst, ◌∙◌, arith, append_assoc}
-use Rattle.std.proofs.lemmas.List.{length-append, append-nil, drop-take, take_at, drop_at, take_rest, take-append-drop, length-take, drop-drop, take-take}
+use Rattle.std.proofs.Common.{◌≡◌, ℕ, zero, suc, ◌+◌, ◌-◌, ◌*◌, ◌<◌, ◌≤◌, List, [], ◌∷◌, ◌++◌, length, take, drop, refl}
+use Rattle.std.proofs.Common.{sym, ap, subst, ◌∙◌, arith, append_assoc}
+use Rattle.std.proofs.lemmas.List.{length-append, append-nil, drop-take, take_at, drop_at, take_rest, take-append-drop}
+use Rattle.std.proofs.lemmas.List.{length-take, drop-drop, take-take}
 use Rattle.std.specs.List.{AllByRecursion}
 use Rattle.byteorder.specs.Endian.{big_number}
 use Rattle.byteorder.specs.Numbers.{big_from-append}
 use Rattle.oe_extent.specs.Images.{Writes}
 use Rattle.oe_extent.specs.Strings.{last_length, IsFramed, joined, cut, AreStrings, IsPacked}
 
-pub last_is : (bytes : List ℕ) (size : ℕ) → size ≡ big_number 2 (take (length bytes - (length bytes - 2)) (drop (length bytes - 2) bytes))
+pub last_is : (bytes : List ℕ) (size : ℕ)
+    → size ≡ big_number 2 (take (length bytes - (length bytes - 2)) (drop (length bytes - 2) bytes))
     → size ≡ last_length bytes
 unfolding last_length
 last_is bytes size e = e ∙ ap (big_number 2) (take_rest bytes (length bytes - 2))
@@ -85,7 +88,8 @@ newest_of (suc k) p a h =
     let size : last_length p ≡ length s = ap last_length (sym whole) ∙ last-behind (joined rest) s framed in
     let fits : last_length p ≤ length p = omega (arith, size, ap length whole, length-append (joined rest) s) in
     let front : joined rest ≡ take cutting p =
-    sym (take_at (joined rest) s cutting (omega (arith, size, ap length whole, length-append (joined rest) s))) ∙ ap (take cutting) whole in
+    sym (take_at (joined rest) s cutting (omega (arith, size, ap length whole, length-append (joined rest) s)))
+    ∙ ap (take cutting) whole in
     record {
       less = k;
       one = refl;
@@ -102,13 +106,15 @@ newest_of (suc k) p a h =
 -- after one string more, which was written behind the others
 pub IsPacked-push : (count fill : ℕ) (bytes s new : List ℕ) (end : ℕ) → IsPacked count fill bytes → IsFramed s
     → length (joined (cut count (take fill bytes))) + length s ≤ 4096
-    → Writes bytes fill s new end → IsPacked (suc count) end new × (cut (suc count) (take end new) ≡ s ∷ cut count (take fill bytes))
+    → Writes bytes fill s new end → IsPacked (suc count) end new
+    × (cut (suc count) (take end new) ≡ s ∷ cut count (take fill bytes))
 IsPacked-push count fill bytes s new end h framed room w =
     let filled : length (take fill bytes) ≡ fill = omega (arith, length-take fill bytes, h.small, h.size) in (
       record {
         small = omega (arith, ap length h.strings.whole, filled, w.end_is);
         size = w.same_length ∙ h.size;
-        strings = subst (λ (l : List ℕ). AreStrings (suc count) l) (sym w.front) (AreStrings-push count (take fill bytes) s framed h.strings);
+        strings = subst (λ (l : List ℕ). AreStrings (suc count) l) (sym w.front)
+            (AreStrings-push count (take fill bytes) s framed h.strings);
       },
       ap (cut (suc count)) w.front ∙ cut-push count (take fill bytes) s framed,
     )
@@ -118,9 +124,11 @@ pub record Popped (count fill : ℕ) (bytes : List ℕ) (size : ℕ) : Type 0 wh
   pub some : 0 < count
   pub fits : size ≤ fill
   pub is_packed : IsPacked (count - 1) (fill - size) bytes
-  pub cuts : cut count (take fill bytes) ≡ take size (drop (fill - size) bytes) ∷ cut (count - 1) (take (fill - size) bytes)
+  pub cuts : cut count (take fill bytes) ≡ take size (drop (fill - size) bytes) ∷ cut (count - 1)
+      (take (fill - size) bytes)
 
-pub popped : (count fill : ℕ) (bytes : List ℕ) (size : ℕ) → IsPacked count fill bytes → 0 < length (cut count (take fill bytes))
+pub popped : (count fill : ℕ) (bytes : List ℕ) (size : ℕ) → IsPacked count fill bytes
+    → 0 < length (cut count (take fill bytes))
     → size ≡ last_length (take fill bytes) → Popped count fill bytes size
 popped count fill bytes size h some e =
     let page = take fill bytes in
@@ -130,10 +138,12 @@ popped count fill bytes size h some e =
     let fits : size ≤ fill = omega (arith, e, n.size, long) in
     let at : length page - last_length page ≡ fill - size = omega (arith, e, long) in
     let front : take (fill - size) page ≡ take (fill - size) bytes = take-take (fill - size) fill bytes (omega arith) in
-    let cutting : take (length page - last_length page) page ≡ take (fill - size) bytes = ap (λ (k : ℕ). take k page) at ∙ front in
+    let cutting : take (length page - last_length page) page ≡ take (fill - size) bytes = ap (λ (k : ℕ). take k page) at
+    ∙ front in
     let whole : fill ≡ fill - size + size = omega (arith, fits) in
     let newest : drop (length page - last_length page) page ≡ take size (drop (fill - size) bytes) =
-    ap (λ (k : ℕ). drop k page) at ∙ ap (λ (k : ℕ). drop (fill - size) (take k bytes)) whole ∙ drop-take (fill - size) size bytes in
+    ap (λ (k : ℕ). drop k page) at ∙ ap (λ (k : ℕ). drop (fill - size) (take k bytes)) whole
+    ∙ drop-take (fill - size) size bytes in
     record {
       some = omega (arith, n.one);
       fits = fits;
@@ -147,13 +157,15 @@ popped count fill bytes size h some e =
           ∙ ap (λ (k : ℕ). take size (drop (fill - size) bytes) ∷ cut k (take (fill - size) bytes)) (sym less);
     }
 
-pub long_enough : (count fill : ℕ) (bytes : List ℕ) → IsPacked count fill bytes → 0 < length (cut count (take fill bytes))
+pub long_enough : (count fill : ℕ) (bytes : List ℕ) → IsPacked count fill bytes
+    → 0 < length (cut count (take fill bytes))
     → 2 ≤ length (take fill bytes)
 long_enough count fill bytes h some =
     let n = newest_of count (take fill bytes) h.strings (omega (arith, length-cut count (take fill bytes))) in
     omega (arith, n.size, n.long)
 
-pub end_is : (count fill : ℕ) (bytes : List ℕ) → IsPacked count fill bytes → fill ≡ length (joined (cut count (take fill bytes)))
+pub end_is : (count fill : ℕ) (bytes : List ℕ) → IsPacked count fill bytes
+    → fill ≡ length (joined (cut count (take fill bytes)))
 end_is count fill bytes h = omega (arith, ap length h.strings.whole, length-take fill bytes, h.small, h.size)
 
 -- what a walk leaves of so many strings when it took the newest off
@@ -162,14 +174,16 @@ pub record TakenOff (count : ℕ) (bytes : List ℕ) (size : ℕ) : Type 0 where
   pub others : AreStrings (count - 1) (take (length bytes - size) bytes)
   pub cuts : cut count bytes ≡ drop (length bytes - size) bytes ∷ cut (count - 1) (take (length bytes - size) bytes)
 
-pub taken_off : (count : ℕ) (bytes : List ℕ) (size : ℕ) → AreStrings count bytes → 0 < count → size ≡ last_length bytes → TakenOff count bytes size
+pub taken_off : (count : ℕ) (bytes : List ℕ) (size : ℕ) → AreStrings count bytes → 0 < count → size ≡ last_length bytes
+    → TakenOff count bytes size
 taken_off count bytes size h some e =
     let n = newest_of count bytes h some in
     let less : n.less ≡ count - 1 = omega (arith, n.one) in
     rw e record {
       fits = n.size;
       others = subst (λ (k : ℕ). AreStrings k (take (length bytes - last_length bytes) bytes)) less n.others;
-      cuts = n.cuts ∙ ap (λ (k : ℕ). drop (length bytes - last_length bytes) bytes ∷ cut k (take (length bytes - last_length bytes) bytes)) less;
+      cuts = n.cuts ∙ ap (λ (k : ℕ). drop (length bytes - last_length bytes) bytes ∷ cut k
+          (take (length bytes - last_length bytes) bytes)) less;
     }
 
 pub none_left : (count : ℕ) (bytes : List ℕ) → count ≡ 0 → cut count bytes ≡ []
@@ -187,7 +201,8 @@ unfolding joined
 joined-append [] ys = sym (append-nil (joined ys))
 joined-append (x ∷ xs) ys = ap (λ (l : List ℕ). l ++ x) (joined-append xs ys) ∙ append_assoc (joined ys) (joined xs) x
 
-framed-amid : (xs : List (List ℕ)) (s : List ℕ) (ys : List (List ℕ)) → AllByRecursion IsFramed (xs ++ s ∷ ys) → IsFramed s
+framed-amid : (xs : List (List ℕ)) (s : List ℕ) (ys : List (List ℕ)) → AllByRecursion IsFramed (xs ++ s ∷ ys)
+    → IsFramed s
 framed-amid [] s ys h = h.0
 framed-amid (x ∷ xs) s ys h = framed-amid xs s ys h.1
 
@@ -198,13 +213,15 @@ pub record Amid (bytes s : List ℕ) (offset : ℕ) : Type 0 where
   pub within : offset + length s ≤ length bytes
   pub parts : drop offset bytes ≡ s ++ rest
 
-pub amid : (count fill : ℕ) (bytes : List ℕ) (newer : List (List ℕ)) (s : List ℕ) (older : List (List ℕ)) (offset : ℕ) → IsPacked count fill bytes
+pub amid : (count fill : ℕ) (bytes : List ℕ) (newer : List (List ℕ)) (s : List ℕ) (older : List (List ℕ)) (offset : ℕ)
+    → IsPacked count fill bytes
     → cut count (take fill bytes) ≡ newer ++ s ∷ older → length (joined older) ≡ offset → Amid bytes s offset
 unfolding joined
 amid count fill bytes newer s older offset h e at =
     let front = joined older in
     let behind = joined newer ++ drop fill bytes in
-    let packed : take fill bytes ≡ (front ++ s) ++ joined newer = sym h.strings.whole ∙ ap joined e ∙ joined-append newer (s ∷ older) in
+    let packed : take fill bytes ≡ (front ++ s) ++ joined newer = sym h.strings.whole ∙ ap joined e
+    ∙ joined-append newer (s ∷ older) in
     let whole : bytes ≡ front ++ (s ++ behind) =
     sym (take-append-drop fill bytes) ∙ ap (λ (l : List ℕ). l ++ drop fill bytes) packed
     ∙ append_assoc (front ++ s) (joined newer) (drop fill bytes) ∙ append_assoc front s behind in
@@ -215,14 +232,17 @@ amid count fill bytes newer s older offset h e at =
       parts = ap (drop offset) whole ∙ drop_at front (s ++ behind) offset at;
     }
 
-pub size_amid : (bytes s : List ℕ) (offset size : ℕ) → Amid bytes s offset → size ≡ big_number 2 (take (4096 - offset) (drop offset bytes))
+pub size_amid : (bytes s : List ℕ) (offset size : ℕ) → Amid bytes s offset
+    → size ≡ big_number 2 (take (4096 - offset) (drop offset bytes))
     → length bytes ≡ 4096 → size ≡ length s
 size_amid bytes s offset size a e long =
     let all : take (4096 - offset) (drop offset bytes) ≡ drop offset bytes =
     ap (λ (n : ℕ). take (n - offset) (drop offset bytes)) (sym long) ∙ take_rest bytes offset in
-    e ∙ ap (big_number 2) all ∙ ap (big_number 2) a.parts ∙ big_from-append 2 s a.rest (omega (arith, a.framed.long)) ∙ a.framed.first
+    e ∙ ap (big_number 2) all ∙ ap (big_number 2) a.parts ∙ big_from-append 2 s a.rest (omega (arith, a.framed.long))
+    ∙ a.framed.first
 
-pub string_amid : (bytes s : List ℕ) (offset size : ℕ) → Amid bytes s offset → size ≡ length s → take (offset + size - offset) (drop offset bytes) ≡ s
+pub string_amid : (bytes s : List ℕ) (offset size : ℕ) → Amid bytes s offset → size ≡ length s
+    → take (offset + size - offset) (drop offset bytes) ≡ s
 string_amid bytes s offset size a e =
     let n : offset + size - offset ≡ length s = omega (arith, e) in
     ap (λ (k : ℕ). take k (drop offset bytes)) n ∙ ap (take (length s)) a.parts ∙ take_at s a.rest (length s) refl

@@ -1,5 +1,6 @@
 -- The strings of a ring, by slot and by commit, and what each call makes of them.
-use Rattle.std.specs.Prelude.{◌≡◌, ◌≢◌, ◌<◌, ◌≤◌, ◌⊎◌, ◌+◌, ◌-◌, ◌==◌, ℕ, suc, nat_le, cond, true, List, [], ◌∷◌, length, map, take, drop, get_or, set, replicate}
+use Rattle.std.specs.Prelude.{◌≡◌, ◌≢◌, ◌<◌, ◌≤◌, ◌⊎◌, ◌+◌, ◌-◌, ◌==◌, ℕ, suc, nat_le, cond, true, List, [], ◌∷◌}
+use Rattle.std.specs.Prelude.{length, map, take, drop, get_or, set, replicate}
 use Rattle.std.specs.List.{AllByRecursion, sum_by}
 use Rattle.oe_extent.specs.declared.sizes.TheConstants.{EXTENT_BYTES}
 use Rattle.oe_extent.specs.declared.extents.Address.{Address}
@@ -10,7 +11,8 @@ pub record Addressed : Type 0 where
   pub address : Address
   pub bytes : List ℕ
 
--- How many extents there are, the strings of each slot and of each commit, newest first, for how many commits more there is
+-- How many extents there are, the strings of each slot and of each commit, newest first, for how many commits more
+-- there is
 -- memory, and which extents are free. Commits are newest first too.
 pub record RingStrings : Type 0 where
   pub extents : ℕ
@@ -52,7 +54,8 @@ behind [] = record { extent = 0; offset = 0 }
 behind (s ∷ ss) =
     record { extent = s.address.extent; offset = s.address.offset + length s.bytes }
 
--- A string of that length comes to stand there: behind the slot's newest string, where the rest of its extent has room, else at the
+-- A string of that length comes to stand there: behind the slot's newest string, where the rest of its extent has room,
+-- else at the
 -- front of the extent that is the next free one from the cursor on.
 pub record IsNextAddress (v : RingStrings) (slot size : ℕ) (a : Address) : Type 0 where
   pub fits : size ≤ rest_behind (get_or v.active slot []) → a ≡ behind (get_or v.active slot [])
@@ -69,7 +72,8 @@ pushed_at v slot a bytes =
       pool = cond (nat_le (length bytes) (rest_behind ss)) v.pool (taken_at v.pool a.extent);
     }
 
--- the pool without the newest of these strings, whose extent is free again where the string stands at its front: no other stands there
+-- the pool without the newest of these strings, whose extent is free again where the string stands at its front: no
+-- other stands there
 abbrev pub pool_without_newest : List Addressed → FreeExtents → FreeExtents
 pool_without_newest [] p = p
 pool_without_newest (s ∷ ss) p = cond (s.address.offset == 0) (given_at p s.address.extent) p

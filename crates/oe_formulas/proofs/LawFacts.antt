@@ -1,11 +1,13 @@
 -- The laws of the formulas of an order.
-use Rattle.std.proofs.Common.{◌≡◌, ℕ, ◌+◌, ◌-◌, ◌*◌, ◌/◌, ◌≤◌, ◌<◌, refl, sym, ◌∙◌, ap, subst, Bool, true, false, cond, List, [], ◌∷◌, ◌++◌, length, Option, Some, None, arith}
+use Rattle.std.proofs.Common.{◌≡◌, ℕ, ◌+◌, ◌-◌, ◌*◌, ◌/◌, ◌≤◌, ◌<◌, refl, sym, ◌∙◌, ap, subst, Bool, true, false, cond}
+use Rattle.std.proofs.Common.{List, [], ◌∷◌, ◌++◌, length, Option, Some, None, arith}
 use Rattle.std.specs.Prelude.{fold, filter, sum_by, nat_le, sum, get_or, slice_get}
 use Rattle.std.specs.Int.{IsInRange}
 use Rattle.std.specs.Ordering.{eq_by_cmp}
 use Rattle.std.specs.Cmp.{IsTotalOrder}
 use Rattle.std.specs.declared.cmp.Ordering.{Ordering}
-use Rattle.std.specs.FinMap.{FinMap, IsAntisymmetric, get, entries, entries_sorted, get-entries, retain_keys, get-retain_keys}
+use Rattle.std.specs.FinMap.{FinMap, IsAntisymmetric, get, entries, entries_sorted, get-entries, retain_keys}
+use Rattle.std.specs.FinMap.{get-retain_keys}
 use Rattle.std.specs.FinMap.Entries.{find-where_key, is_sorted-where_key, same_entries}
 use Rattle.oe_rows.proofs.KeyFacts.{order_line_total, exact_order_line}
 use Rattle.std.proofs.lemmas.Bool.{leb-true, leb-false}
@@ -23,25 +25,34 @@ use Rattle.oe_model.specs.Keys.{order_of_line}
 use Rattle.oe_model.specs.Rows.{Rows}
 use Rattle.oe_model.specs.Positions.{Filled}
 use Rattle.oe_model.specs.Effects.{◌>>=◌, in_range}
-use Rattle.oe_model.specs.NewOrder.{supplied, asked, after_lines, filled, all_filled, fill, item_at, stock_of, stock_out}
+use Rattle.oe_model.specs.NewOrder.{supplied, asked, after_lines, filled, all_filled, fill, item_at, stock_of}
+use Rattle.oe_model.specs.NewOrder.{stock_out}
 use Rattle.oe_model.specs.Rules.{AreSmall}
 use Rattle.oe_model.proofs.EffectFacts.{there, there_in_range}
 use Rattle.oe_model.proofs.LineFacts.{length-more}
-use Rattle.oe_formulas.specs.Laws.{Stock_is_refilled, IsLine, AreLines, Lines_are_numbered, Line_has_columns, Total_is_nearest, Delivery_sums_lines}
+use Rattle.oe_formulas.specs.Laws.{Stock_is_refilled, IsLine, AreLines, Lines_are_numbered, Line_has_columns}
+use Rattle.oe_formulas.specs.Laws.{Total_is_nearest, Delivery_sums_lines}
 
 -- the stock rule
-refills : (b : Bool) (q n : ℕ) → nat_le (n + 10) q ≡ b → n ≤ 10 → (cond b (q - n) (q + 91 - n) + n ≡ q + 91 → q < n + 10) × (q < n + 10 → cond b (q - n) (q + 91 - n) + n ≡ q + 91)
-refills true q n e small = let h = leb-true (n + 10) q e in ((λ is. omega arith), (λ less. absurd (let no : ⊥ = omega arith in no)))
+refills : (b : Bool) (q n : ℕ) → nat_le (n + 10) q ≡ b → n ≤ 10
+    → (cond b (q - n) (q + 91 - n) + n ≡ q + 91 → q < n + 10) × (q < n + 10 → cond b (q - n) (q + 91 - n) + n ≡ q + 91)
+refills true q n e small = let h = leb-true (n + 10) q e in
+    ((λ is. omega arith), (λ less. absurd (let no : ⊥ = omega arith in no)))
 refills false q n e small = let h = leb-false (n + 10) q e in ((λ is. omega arith), (λ less. omega arith))
 
-stays_once : (b : Bool) (q n : ℕ) → nat_le (n + 10) q ≡ b → n ≤ 10 → 10 ≤ q → q ≤ 100 → (10 ≤ cond b (q - n) (q + 91 - n)) × (cond b (q - n) (q + 91 - n) ≤ 100)
-stays_once true q n e small low high = let h = leb-true (n + 10) q e in ((let z : 10 ≤ q - n = omega arith in z), (let z : q - n ≤ 100 = omega arith in z))
-stays_once false q n e small low high = let h = leb-false (n + 10) q e in ((let z : 10 ≤ q + 91 - n = omega arith in z), (let z : q + 91 - n ≤ 100 = omega arith in z))
+stays_once : (b : Bool) (q n : ℕ) → nat_le (n + 10) q ≡ b → n ≤ 10 → 10 ≤ q → q ≤ 100
+    → (10 ≤ cond b (q - n) (q + 91 - n)) × (cond b (q - n) (q + 91 - n) ≤ 100)
+stays_once true q n e small low high = let h = leb-true (n + 10) q e in
+    ((let z : 10 ≤ q - n = omega arith in z), (let z : q - n ≤ 100 = omega arith in z))
+stays_once false q n e small low high = let h = leb-false (n + 10) q e in
+    ((let z : 10 ≤ q + 91 - n = omega arith in z), (let z : q + 91 - n ≤ 100 = omega arith in z))
 
-stays : (home : ℕ) (k : StockKey) (ns : List ℕ) (x : Stock) → AreSmall ns → IsInRange 10 100 x.quantity → IsInRange 10 100 (fold (supplied home k) x ns).quantity
+stays : (home : ℕ) (k : StockKey) (ns : List ℕ) (x : Stock) → AreSmall ns → IsInRange 10 100 x.quantity
+    → IsInRange 10 100 (fold (supplied home k) x ns).quantity
 stays home k [] x s h = h
 stays home k (n ∷ ns) x s h =
-    let once : (10 ≤ (supplied home k x n).quantity) × ((supplied home k x n).quantity ≤ 100) = stays_once (nat_le (n + 10) x.quantity) x.quantity n refl s.0 h.0 h.1 in
+    let once : (10 ≤ (supplied home k x n).quantity) × ((supplied home k x n).quantity ≤ 100) =
+    stays_once (nat_le (n + 10) x.quantity) x.quantity n refl s.0 h.0 h.1 in
     stays home k ns (supplied home k x n) s.1 (once.0, once.1)
 
 pub stock_is_refilled : Stock_is_refilled
@@ -52,7 +63,8 @@ stock_is_refilled = record {
 
 -- the lines of an order
 module _ (q : NewOrderRequest) (r : Rows) where
-  lines_are : (todo before : List RequestLine) (fs : List Filled) → all_filled q r before todo ≡ Some fs → AreLines (length before + 1) todo fs
+  lines_are : (todo before : List RequestLine) (fs : List Filled) → all_filled q r before todo ≡ Some fs
+      → AreLines (length before + 1) todo fs
   lines_are [] before [] e = tt
   lines_are [] before (f ∷ fs) e = let no : ⊥ = cc in absurd no
   lines_are (l ∷ ls) before fs e =
@@ -60,15 +72,20 @@ module _ (q : NewOrderRequest) (r : Rows) where
       there P (filled q r before l) _ fs e (λ f f_is e.
       there P (item_at l.item r.items) _ f f_is (λ item _ f_is.
       there P (get r.stocks (stock_of l)) _ f f_is (λ stock _ f_is.
-      there_in_range P stock_out (after_lines q.district.warehouse (before ++ l ∷ []) (stock_of l) stock) _ f f_is (λ _ f_is.
+      there_in_range P stock_out (after_lines q.district.warehouse (before ++ l ∷ []) (stock_of l) stock) _ f f_is
+      (λ _ f_is.
       there P (all_filled q r (before ++ l ∷ []) ls) _ fs e (λ more more_is e.
-      let rest : AreLines (length before + 1 + 1) ls more = subst (λ (n : ℕ). AreLines (n + 1) ls more) (length-more before l) (lines_are ls (before ++ l ∷ []) more more_is) in
-      let own : fill q (length before + 1) l item (after_lines q.district.warehouse (before ++ l ∷ []) (stock_of l) stock) ≡ f = cc in
-      let line : IsLine (length before + 1) l (fill q (length before + 1) l item (after_lines q.district.warehouse (before ++ l ∷ []) (stock_of l) stock)) =
+      let rest : AreLines (length before + 1 + 1) ls more = subst (λ (n : ℕ). AreLines (n + 1) ls more)
+      (length-more before l) (lines_are ls (before ++ l ∷ []) more more_is) in
+      let own : fill q (length before + 1) l item
+      (after_lines q.district.warehouse (before ++ l ∷ []) (stock_of l) stock) ≡ f = cc in
+      let line : IsLine (length before + 1) l
+      (fill q (length before + 1) l item (after_lines q.district.warehouse (before ++ l ∷ []) (stock_of l) stock)) =
       record { number = refl; item = refl; supply = refl; delivery = refl; quantity = refl; amount = refl }
       in
       let is : f ∷ more ≡ fs = cc in
-      let whole : AreLines (length before + 1) (l ∷ ls) (f ∷ more) = (subst (λ (g : Filled). IsLine (length before + 1) l g) own line, rest) in
+      let whole : AreLines (length before + 1) (l ∷ ls) (f ∷ more) =
+      (subst (λ (g : Filled). IsLine (length before + 1) l g) own line, rest) in
       subst (λ (gs : List Filled). AreLines (length before + 1) (l ∷ ls) gs) is whole)))))
 
 pub lines_are_numbered : Lines_are_numbered
@@ -81,8 +98,12 @@ line_has_columns = record {
 }
 
 -- the total
-nearest : (e : ℕ) → ((e + 50000000) / 100000000 * 100000000 ≤ e + 50000000) × (e < (e + 50000000) / 100000000 * 100000000 + 50000000)
-nearest e = ((let z : (e + 50000000) / 100000000 * 100000000 ≤ e + 50000000 = omega arith in z), (let z : e < (e + 50000000) / 100000000 * 100000000 + 50000000 = omega arith in z))
+nearest : (e : ℕ) → ((e + 50000000) / 100000000 * 100000000 ≤ e + 50000000)
+    × (e < (e + 50000000) / 100000000 * 100000000 + 50000000)
+nearest e = (
+  (let z : (e + 50000000) / 100000000 * 100000000 ≤ e + 50000000 = omega arith in z),
+  (let z : e < (e + 50000000) / 100000000 * 100000000 + 50000000 = omega arith in z),
+)
 
 pub total_is_nearest : Total_is_nearest
 total_is_nearest = record {
@@ -91,7 +112,8 @@ total_is_nearest = record {
 }
 
 -- a delivery's sum
-kept_sum : {X : Type 0} (p : X → Bool) (f : X → ℕ) (xs : List X) → sum_by f (filter p xs) ≡ sum_by (λ x. cond (p x) (f x) 0) xs
+kept_sum : {X : Type 0} (p : X → Bool) (f : X → ℕ) (xs : List X)
+    → sum_by f (filter p xs) ≡ sum_by (λ x. cond (p x) (f x) 0) xs
 kept_sum p f [] = refl
 kept_sum p f (x ∷ xs) = by_test (p x) refl (kept_sum p f xs) (sum_by-cons (λ y. cond (p y) (f y) 0) x xs)
   where
@@ -109,7 +131,8 @@ kept_sum p f (x ∷ xs) = by_test (p x) refl (kept_sum p f xs) (sum_by-cons (λ 
 module _ {K X : Type 0} {R : K → K → Ordering} (total : IsTotalOrder R) (exact : IsAntisymmetric R) where
   kept_entries : (m : FinMap R X) (p : K → Bool) → filter (λ e. p e.0) (entries m) ≡ entries (retain_keys m p)
   kept_entries m p =
-      same_entries R total exact _ _ (is_sorted-where_key R p (entries m) (entries_sorted m)) (entries_sorted (retain_keys m p)) (λ k.
+      same_entries R total exact _ _ (is_sorted-where_key R p (entries m) (entries_sorted m))
+      (entries_sorted (retain_keys m p)) (λ k.
       find-where_key R p k (λ x e. ap p (sym (exact k x e))) (entries m)
       ∙ ap (λ o. cond (p k) o None) (sym (get-entries m k))
       ∙ sym (get-retain_keys m p k (λ x e. ap p (sym (exact k x e)))) ∙ get-entries (retain_keys m p) k)
@@ -118,4 +141,5 @@ pub delivery_sums_lines : Delivery_sums_lines
 delivery_sums_lines k lines =
     ap (λ (es : List (OrderLineKey × OrderLine)). sum_by (λ e. e.1.amount) es)
     (sym (kept_entries order_line_total exact_order_line lines (λ l. eq_by_cmp order_cmp (order_of_line l) k)))
-    ∙ kept_sum (λ (e : OrderLineKey × OrderLine). eq_by_cmp order_cmp (order_of_line e.0) k) (λ e. e.1.amount) (entries lines)
+    ∙ kept_sum (λ (e : OrderLineKey × OrderLine). eq_by_cmp order_cmp (order_of_line e.0) k) (λ e. e.1.amount)
+    (entries lines)

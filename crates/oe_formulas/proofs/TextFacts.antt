@@ -11,15 +11,18 @@ use Rattle.std.proofs.lemmas.List.Elements.{All-append, All-from_recursion}
 use Rattle.oe_values.specs.Text.{IsPrintable, IsText}
 use Rattle.oe_model.specs.Payment.{history_data}
 
-pub joined_text : (warehouse district : List ℕ) → IsText 0 10 warehouse → IsText 0 10 district → IsText 0 24 (history_data warehouse district)
+pub joined_text : (warehouse district : List ℕ) → IsText 0 10 warehouse → IsText 0 10 district
+    → IsText 0 24 (history_data warehouse district)
 joined_text w d p q = record {
   at_least = omega arith;
   at_most = omega (arith, length-append {A = ℕ});
-  printable = All-append IsPrintable (w ++ codes "    ") d (All-append IsPrintable w (codes "    ") p.printable spaces) q.printable;
+  printable = All-append IsPrintable (w ++ codes "    ") d (All-append IsPrintable w (codes "    ") p.printable spaces)
+      q.printable;
 }
   where
     spaces : All IsPrintable (codes "    ")
-    spaces = All-from_recursion IsPrintable (codes "    ") ((lit≤ tt, lit≤ tt), ((lit≤ tt, lit≤ tt), ((lit≤ tt, lit≤ tt), ((lit≤ tt, lit≤ tt), tt))))
+    spaces = All-from_recursion IsPrintable (codes "    ")
+        ((lit≤ tt, lit≤ tt), ((lit≤ tt, lit≤ tt), ((lit≤ tt, lit≤ tt), ((lit≤ tt, lit≤ tt), tt))))
 
 same_tests : (a b : Bool) → (a ≡ true → b ≡ true) → (b ≡ true → a ≡ true) → a ≡ b
 same_tests true b f g = sym (f refl)
@@ -27,7 +30,8 @@ same_tests false true f g = g refl
 same_tests false false f g = refl
 
 -- a text that has another in it is one in which the other occurs
-pub contains_occurs : (r : Bool) (n s : List ℕ) → MatchBool r (HasMatch (FindsText n) s) (FindsText n s None) → r ≡ occurs_in n s
+pub contains_occurs : (r : Bool) (n s : List ℕ) → MatchBool r (HasMatch (FindsText n) s) (FindsText n s None)
+    → r ≡ occurs_in n s
 contains_occurs r n s h =
     let is : (r ≡ true) ↔ HasSubslice s n = contains_text r n s h in
     same_tests r (occurs_in n s)

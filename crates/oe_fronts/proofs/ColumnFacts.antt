@@ -1,5 +1,7 @@
 -- Columns are read exactly.
-use Rattle.std.proofs.Common.{◌≡◌, ◌==◌, ◌||◌, ℕ, zero, suc, ℤ, pos, negsuc, ◌^◌, ◌<◌, ◌≤◌, Bool, true, false, cond, ltb, List, [], ◌∷◌, ◌++◌, length, take, drop, get_or, Option, Some, None, refl, sym, ap, subst, ◌∙◌, arith}
+use Rattle.std.proofs.Common.{◌≡◌, ◌==◌, ◌||◌, ℕ, zero, suc, ℤ, pos, negsuc, ◌^◌, ◌<◌, ◌≤◌, Bool, true, false, cond}
+use Rattle.std.proofs.Common.{ltb, List, [], ◌∷◌, ◌++◌, length, take, drop, get_or, Option, Some, None, refl, sym, ap}
+use Rattle.std.proofs.Common.{subst, ◌∙◌, arith}
 use Rattle.std.specs.Prelude.{nat_le, FitsSigned, IsSome, IfSome}
 use Rattle.std.specs.List.{list_all, All}
 use Rattle.std.specs.Int.{w64, cast_signed, cast_unsigned}
@@ -18,15 +20,20 @@ use Rattle.oe_rows.specs.declared.customers.Credit.{Credit}
 use Rattle.oe_rows.specs.declared.customers.Credit.TheVariants.{Good, Bad}
 use Rattle.oe_fronts.specs.Fronts.{IsBytes, kept, seen, is_from, ranged_at}
 use Rattle.oe_image.specs.Columns.{text, optional, flag, balance, credit_text, credit, ten_texts}
-use Rattle.oe_fronts.specs.ColumnFronts.{is_within, stamp_at, balance_at, is_printable, is_text, checked, text_at, present, marked, optional_at, flagged, flag_at, is_credit, credit_of, credit_at, ten_texts_at}
-use Rattle.oe_fronts.proofs.FrontFacts.{Takes, IsCodec, IsBytes-drop, bind_some, guard_some, kept_some, Takes-then, number_law, kept_law, both, in_range, is_from-true, seen_law, pair_law}
+use Rattle.oe_fronts.specs.ColumnFronts.{is_within, stamp_at, balance_at, is_printable, is_text, checked, text_at}
+use Rattle.oe_fronts.specs.ColumnFronts.{present, marked, optional_at, flagged, flag_at, is_credit, credit_of}
+use Rattle.oe_fronts.specs.ColumnFronts.{credit_at, ten_texts_at}
+use Rattle.oe_fronts.proofs.FrontFacts.{Takes, IsCodec, IsBytes-drop, bind_some, guard_some, kept_some, Takes-then}
+use Rattle.oe_fronts.proofs.FrontFacts.{number_law, kept_law, both, in_range, is_from-true, seen_law, pair_law}
 
 -- ---- numbers from 0 on
 
-pub upto_law : (width most : ℕ) → most < 256 ^ width → IsCodec (λ n. n ≤ most) (λ n. number width n) (ranged_at width 0 most)
+pub upto_law : (width most : ℕ) → most < 256 ^ width
+    → IsCodec (λ n. n ≤ most) (λ n. number width n) (ranged_at width 0 most)
 upto_law width most fits =
     kept_law (λ n. n < 256 ^ width) (λ n. n ≤ most) (λ n. number width n) (number_at width) (is_from 0 most)
-    (λ n e lt. (in_range 0 most n e).1) (λ n h. (is_from-true 0 most n (omega arith, h), omega arith)) (number_law width)
+    (λ n e lt. (in_range 0 most n e).1) (λ n h. (is_from-true 0 most n (omega arith, h), omega arith))
+    (number_law width)
 
 pub stamp_law : IsCodec (λ n. n < 6_342_969_600) (λ n. number 8 n) stamp_at
 stamp_law =
@@ -50,10 +57,12 @@ fits_within (negsuc n) h = omega (arith, ints)
 
 pub balance_law : IsCodec (λ z. IsWithin 999_999_999_999 z) (λ z. balance z) balance_at
 balance_law =
-    kept_law (λ z. FitsSigned w64 z) (λ z. IsWithin 999_999_999_999 z) (λ z. balance z) (λ bytes. seen (cast_signed w64) (number_at 8 bytes)) (is_within 999_999_999_999)
+    kept_law (λ z. FitsSigned w64 z) (λ z. IsWithin 999_999_999_999 z) (λ z. balance z)
+    (λ bytes. seen (cast_signed w64) (number_at 8 bytes)) (is_within 999_999_999_999)
     (λ z e s. IsWithin-test z e) (λ z h. (is_within-true z h, fits_within z h))
     (seen_law (cast_signed w64) (cast_unsigned w64) (λ z. FitsSigned w64 z)
-    (λ z s. (Fits-lt-pow (Fits-of_z s), to_z-of_z w64 z s)) (λ n lt. (sfits_to_z (Fits-of_lt {w = w64} lt), of_z-to_z w64 n lt)) (number_law 8))
+    (λ z s. (Fits-lt-pow (Fits-of_z s), to_z-of_z w64 z s))
+    (λ n lt. (sfits_to_z (Fits-of_lt {w = w64} lt), of_z-to_z w64 n lt)) (number_law 8))
 
 -- ---- texts
 
@@ -79,15 +88,18 @@ pub is_text-true : (least most : ℕ) (bytes : List ℕ) → IsText least most b
 is_text-true least most bytes h = rw (le-leb _ _ h.at_least, le-leb _ _ h.at_most, printable_all bytes h.printable) refl
 
 -- what a reading of a text answers is what the test says
-pub checked_is : (least most : ℕ) (bytes : List ℕ) (r : Option (List ℕ)) → (IsSome r → IsText least most bytes) → (IsText least most bytes → IsSome r) → IfSome r (λ t. t ≡ bytes) → r ≡ checked least most bytes
-checked_is least most bytes None f g v = go (is_text least most bytes) (λ e. absurd (let s = g (is_text-test least most bytes e) in cc))
+pub checked_is : (least most : ℕ) (bytes : List ℕ) (r : Option (List ℕ)) → (IsSome r → IsText least most bytes)
+    → (IsText least most bytes → IsSome r) → IfSome r (λ t. t ≡ bytes) → r ≡ checked least most bytes
+checked_is least most bytes None f g v = go (is_text least most bytes)
+    (λ e. absurd (let s = g (is_text-test least most bytes e) in cc))
   where
     go : (b : Bool) → (b ≡ true → ⊥) → ◌≡◌ {A = Option (List ℕ)} None (cond b (Some bytes) None)
     go true h = absurd (h refl)
     go false h = refl
 checked_is least most bytes (Some t) f g v = let e = is_text-true least most bytes (f refl) in rw (e, v) refl
 
-text_takes : (least most : ℕ) (bytes : List ℕ) (x : List ℕ × List ℕ) → IsBytes bytes → text_at least most bytes ≡ Some x → IsText least most x.0 × Takes bytes (text x.0) x.1
+text_takes : (least most : ℕ) (bytes : List ℕ) (x : List ℕ × List ℕ) → IsBytes bytes → text_at least most bytes ≡ Some x
+    → IsText least most x.0 × Takes bytes (text x.0) x.1
 text_takes least most bytes x fits e =
     let a = bind_some (number_at 2 bytes) (λ n. kept (is_text least most) (run_at n.0 n.1)) x e in
     let n = a.0 in
@@ -96,14 +108,24 @@ text_takes least most bytes x fits e =
     let g = guard_some (ltb (length n.1) n.0) (take n.0 n.1, drop n.0 n.1) x k.0 in
     let long : n.0 ≤ length n.1 = ltb-false _ _ g.0 in
     let len : length (take n.0 n.1) ≡ n.0 = omega (arith, length-take n.0 n.1) in
-    let second : Takes n.1 (take n.0 n.1) (drop n.0 n.1) = record { parts = sym (take-append-drop n.0 n.1); rest_fits = IsBytes-drop n.0 n.1 t.1.rest_fits } in
-    let whole : Takes bytes (text (take n.0 n.1)) (drop n.0 n.1) = subst (λ (k : ℕ). Takes bytes (big_bytes 2 k ++ take n.0 n.1) (drop n.0 n.1)) (sym len) (Takes-then bytes (big_bytes 2 n.0) n.1 (take n.0 n.1) (drop n.0 n.1) t.1 second) in
+    let second : Takes n.1 (take n.0 n.1) (drop n.0 n.1) =
+    record { parts = sym (take-append-drop n.0 n.1); rest_fits = IsBytes-drop n.0 n.1 t.1.rest_fits } in
+    let whole : Takes bytes (text (take n.0 n.1)) (drop n.0 n.1) = subst
+    (λ (k : ℕ). Takes bytes (big_bytes 2 k ++ take n.0 n.1) (drop n.0 n.1)) (sym len)
+    (Takes-then bytes (big_bytes 2 n.0) n.1 (take n.0 n.1) (drop n.0 n.1) t.1 second) in
     (is_text-test least most x.0 k.1, subst (λ (p : List ℕ × List ℕ). Takes bytes (text p.0) p.1) g.1 whole)
 
-text_again : (least most : ℕ) (v rest : List ℕ) → most < 65536 → IsText least most v → text_at least most (text v ++ rest) ≡ Some (v, rest)
+text_again : (least most : ℕ) (v rest : List ℕ) → most < 65536 → IsText least most v
+    → text_at least most (text v ++ rest) ≡ Some (v, rest)
 text_again least most v rest small h =
     let long : ltb (length (v ++ rest)) (length v) ≡ false = le-ltb _ _ (omega (arith, length-append v rest)) in
-    rw ((number_law 2).again (length v) (v ++ rest) (omega (arith, h.at_most)), long, take_at v rest (length v) refl, drop_at v rest (length v) refl, is_text-true least most v h) refl
+    rw (
+      (number_law 2).again (length v) (v ++ rest) (omega (arith, h.at_most)),
+      long,
+      take_at v rest (length v) refl,
+      drop_at v rest (length v) refl,
+      is_text-true least most v h,
+    ) refl
 
 pub text_law : (least most : ℕ) → most < 65536 → IsCodec (IsText least most) (λ v. text v) (text_at least most)
 text_law least most small = record {
@@ -113,13 +135,17 @@ text_law least most small = record {
 
 -- ---- what may be null
 
-present_some : {X : Type 0} (r : Option (X × List ℕ)) (y : Option X × List ℕ) → present r ≡ Some y → (x : X × List ℕ) × (r ≡ Some x) × ((Some x.0, x.1) ≡ y)
+present_some : {X : Type 0} (r : Option (X × List ℕ)) (y : Option X × List ℕ) → present r ≡ Some y
+    → (x : X × List ℕ) × (r ≡ Some x) × ((Some x.0, x.1) ≡ y)
 present_some None y e = absurd cc
 present_some (Some x) y e = (x, refl, cc)
 
-mark_taken : {X : Type 0} (image : X → List ℕ) (Fits : X → Type 0) (at : List ℕ → Option (X × List ℕ)) → IsCodec Fits image at
-    → (bytes : List ℕ) (n : ℕ) (rest : List ℕ) → Takes bytes (number 1 n) rest → (a b : Bool) → (a ≡ true → n ≡ 0) → (b ≡ true → n ≡ 1)
-    → (x : Option X × List ℕ) → cond a (Some (None, rest)) (cond b (present (at rest)) None) ≡ Some x → IfSome x.0 Fits × Takes bytes (optional image x.0) x.1
+mark_taken : {X : Type 0} (image : X → List ℕ) (Fits : X → Type 0) (at : List ℕ → Option (X × List ℕ))
+    → IsCodec Fits image at
+    → (bytes : List ℕ) (n : ℕ) (rest : List ℕ) → Takes bytes (number 1 n) rest → (a b : Bool) → (a ≡ true → n ≡ 0)
+    → (b ≡ true → n ≡ 1)
+    → (x : Option X × List ℕ) → cond a (Some (None, rest)) (cond b (present (at rest)) None) ≡ Some x
+    → IfSome x.0 Fits × Takes bytes (optional image x.0) x.1
 mark_taken {X = X} image Fits at law bytes n rest t true b f g x e =
     let is : ◌≡◌ {A = Option X × List ℕ} (None, rest) x = cc in
     let zero : Takes bytes (number 1 0) rest = subst (λ (k : ℕ). Takes bytes (number 1 k) rest) (f refl) t in
@@ -132,7 +158,8 @@ mark_taken {X = X} image Fits at law bytes n rest t false true f g x e =
     (inner.0, Takes-then bytes (number 1 1) rest (image p.0.0) p.0.1 one inner.1)
 mark_taken image Fits at law bytes n rest t false false f g x e = absurd cc
 
-optional_again : {X : Type 0} (image : X → List ℕ) (Fits : X → Type 0) (at : List ℕ → Option (X × List ℕ)) → IsCodec Fits image at
+optional_again : {X : Type 0} (image : X → List ℕ) (Fits : X → Type 0) (at : List ℕ → Option (X × List ℕ))
+    → IsCodec Fits image at
     → (v : Option X) (rest : List ℕ) → IfSome v Fits → optional_at at (optional image v ++ rest) ≡ Some (v, rest)
 optional_again image Fits at law None rest h = rw ((number_law 1).again 0 rest (omega arith)) refl
 optional_again image Fits at law (Some x) rest h =
@@ -140,26 +167,32 @@ optional_again image Fits at law (Some x) rest h =
     let b = law.again x rest h in
     rw (a, b) refl
 
-pub optional_law : {X : Type 0} {Fits : X → Type 0} {image : X → List ℕ} {at : List ℕ → Option (X × List ℕ)} → IsCodec Fits image at
+pub optional_law : {X : Type 0} {Fits : X → Type 0} {image : X → List ℕ} {at : List ℕ → Option (X × List ℕ)}
+    → IsCodec Fits image at
     → IsCodec (λ v. IfSome v Fits) (λ v. optional image v) (optional_at at)
 optional_law {X = X} {Fits = Fits} {image = image} {at = at} law = record {
   takes = λ bytes x fits e.
       let n = bind_some (number_at 1 bytes) (λ n. marked at n.0 n.1) x e in
       let t = (number_law 1).takes bytes n.0 fits n.1 in
-      mark_taken image Fits at law bytes n.0.0 n.0.1 t.1 (n.0.0 == 0) (n.0.0 == 1) (eqb-true n.0.0 0) (eqb-true n.0.0 1) x n.2;
+      mark_taken image Fits at law bytes n.0.0 n.0.1 t.1 (n.0.0 == 0) (n.0.0 == 1) (eqb-true n.0.0 0) (eqb-true n.0.0 1)
+      x n.2;
   again = optional_again image Fits at law;
 }
 
 -- ---- what is so or not
 
-flag_taken : (bytes : List ℕ) (n : ℕ) (rest : List ℕ) → Takes bytes (number 1 n) rest → (a b : Bool) → (a ≡ true → n ≡ 0) → (b ≡ true → n ≡ 1)
-    → (x : Bool × List ℕ) → cond a (Some (false, rest)) (cond b (Some (true, rest)) None) ≡ Some x → Unit {0} × Takes bytes (flag x.0) x.1
+flag_taken : (bytes : List ℕ) (n : ℕ) (rest : List ℕ) → Takes bytes (number 1 n) rest → (a b : Bool)
+    → (a ≡ true → n ≡ 0) → (b ≡ true → n ≡ 1)
+    → (x : Bool × List ℕ) → cond a (Some (false, rest)) (cond b (Some (true, rest)) None) ≡ Some x
+    → Unit {0} × Takes bytes (flag x.0) x.1
 flag_taken bytes n rest t true b f g x e =
     let is : ◌≡◌ {A = Bool × List ℕ} (false, rest) x = cc in
-    subst (λ (p : Bool × List ℕ). Unit {0} × Takes bytes (flag p.0) p.1) is (tt, subst (λ (k : ℕ). Takes bytes (number 1 k) rest) (f refl) t)
+    subst (λ (p : Bool × List ℕ). Unit {0} × Takes bytes (flag p.0) p.1) is
+    (tt, subst (λ (k : ℕ). Takes bytes (number 1 k) rest) (f refl) t)
 flag_taken bytes n rest t false true f g x e =
     let is : ◌≡◌ {A = Bool × List ℕ} (true, rest) x = cc in
-    subst (λ (p : Bool × List ℕ). Unit {0} × Takes bytes (flag p.0) p.1) is (tt, subst (λ (k : ℕ). Takes bytes (number 1 k) rest) (g refl) t)
+    subst (λ (p : Bool × List ℕ). Unit {0} × Takes bytes (flag p.0) p.1) is
+    (tt, subst (λ (k : ℕ). Takes bytes (number 1 k) rest) (g refl) t)
 flag_taken bytes n rest t false false f g x e = absurd cc
 
 flag_again : (v : Bool) (rest : List ℕ) → flag_at (flag v ++ rest) ≡ Some (v, rest)
@@ -181,7 +214,8 @@ flag_law = record {
 abbrev IsCreditText : List ℕ → Type 0
 IsCreditText t = (is_credit t ≡ true) × IsText 2 2 t
 
-credit_case : (x y : Bool) (a b : ℕ) → (x ≡ true → a ≡ 71) → (y ≡ true → a ≡ 66) → (x || y) ≡ true → b ≡ 67 → credit_text (cond x Good Bad) ≡ a ∷ b ∷ []
+credit_case : (x y : Bool) (a b : ℕ) → (x ≡ true → a ≡ 71) → (y ≡ true → a ≡ 66) → (x || y) ≡ true → b ≡ 67
+    → credit_text (cond x Good Bad) ≡ a ∷ b ∷ []
 credit_case true y a b f g e h = let first = f refl in cc
 credit_case false true a b f g e h = let first = g refl in cc
 credit_case false false a b f g e h = absurd cc
@@ -205,7 +239,8 @@ pub credit_law : IsCodec (λ c. Unit {0}) (λ c. credit c) credit_at
 unfolding credit_at
 credit_law =
     seen_law credit_of credit_text (λ c. Unit {0}) (λ c h. credit_fits c) (λ t h. (tt, credit_back t h))
-    (kept_law (IsText 2 2) IsCreditText (λ t. text t) (text_at 2 2) is_credit (λ t e h. (e, h)) (λ t h. h) (text_law 2 2 (omega arith)))
+    (kept_law (IsText 2 2) IsCreditText (λ t. text t) (text_at 2 2) is_credit (λ t e h. (e, h)) (λ t h. h)
+    (text_law 2 2 (omega arith)))
 
 -- ---- ten texts
 
@@ -231,17 +266,41 @@ abbrev pub AreTen : List (List ℕ) → Type 0
 AreTen ds = (length ds ≡ 10) × All (IsText 24 24) ds
 
 -- each of ten elements
-all_ten : (P : List ℕ → Type 0) (a b c d e f g h i j : List ℕ) → P a → P b → P c → P d → P e → P f → P g → P h → P i → P j
+all_ten : (P : List ℕ → Type 0) (a b c d e f g h i j : List ℕ) → P a → P b → P c → P d → P e → P f → P g → P h → P i
+    → P j
     → All P (a ∷ b ∷ c ∷ d ∷ e ∷ f ∷ g ∷ h ∷ i ∷ j ∷ [])
 all_ten P a b c d e f g h i j pa pb pc pd pe pf pg ph pi pj =
-    All-cons P a (b ∷ c ∷ d ∷ e ∷ f ∷ g ∷ h ∷ i ∷ j ∷ []) pa (All-cons P b (c ∷ d ∷ e ∷ f ∷ g ∷ h ∷ i ∷ j ∷ []) pb (All-cons P c (d ∷ e ∷ f ∷ g ∷ h ∷ i ∷ j ∷ []) pc (All-cons P d (e ∷ f ∷ g ∷ h ∷ i ∷ j ∷ []) pd (All-cons P e (f ∷ g ∷ h ∷ i ∷ j ∷ []) pe (All-cons P f (g ∷ h ∷ i ∷ j ∷ []) pf (All-cons P g (h ∷ i ∷ j ∷ []) pg (All-cons P h (i ∷ j ∷ []) ph (All-cons P i (j ∷ []) pi (All-cons P j ([]) pj (All-nil P))))))))))
+    All-cons P a (b ∷ c ∷ d ∷ e ∷ f ∷ g ∷ h ∷ i ∷ j ∷ []) pa
+    (All-cons P b (c ∷ d ∷ e ∷ f ∷ g ∷ h ∷ i ∷ j ∷ []) pb
+    (All-cons P c (d ∷ e ∷ f ∷ g ∷ h ∷ i ∷ j ∷ []) pc
+    (All-cons P d (e ∷ f ∷ g ∷ h ∷ i ∷ j ∷ []) pd
+    (All-cons P e (f ∷ g ∷ h ∷ i ∷ j ∷ []) pe
+    (All-cons P f (g ∷ h ∷ i ∷ j ∷ []) pf
+    (All-cons P g (h ∷ i ∷ j ∷ []) pg
+    (All-cons P h (i ∷ j ∷ []) ph (All-cons P i (j ∷ []) pi (All-cons P j ([]) pj (All-nil P))))))))))
 
 pub ten_texts_law : IsCodec AreTen ten_texts ten_texts_at
 unfolding ten_texts ten_texts_at cells
 ten_texts_law =
     seen_law
-    (λ p. p.0 ∷ p.1.0 ∷ p.1.1.0 ∷ p.1.1.1.0 ∷ p.1.1.1.1.0 ∷ p.1.1.1.1.1.0 ∷ p.1.1.1.1.1.1.0 ∷ p.1.1.1.1.1.1.1.0 ∷ p.1.1.1.1.1.1.1.1.0 ∷ p.1.1.1.1.1.1.1.1.1 ∷ [])
-    (λ ds. (get_or ds 0 [], (get_or ds 1 [], (get_or ds 2 [], (get_or ds 3 [], (get_or ds 4 [], (get_or ds 5 [], (get_or ds 6 [], (get_or ds 7 [], (get_or ds 8 [], get_or ds 9 []))))))))))
+    (λ p. p.0 ∷ p.1.0 ∷ p.1.1.0 ∷ p.1.1.1.0 ∷ p.1.1.1.1.0 ∷ p.1.1.1.1.1.0 ∷ p.1.1.1.1.1.1.0 ∷ p.1.1.1.1.1.1.1.0
+    ∷ p.1.1.1.1.1.1.1.1.0 ∷ p.1.1.1.1.1.1.1.1.1 ∷ [])
+    (λ ds. (
+      get_or ds 0 [],
+      (
+        get_or ds 1 [],
+        (
+          get_or ds 2 [],
+          (
+            get_or ds 3 [],
+            (
+              get_or ds 4 [],
+              (get_or ds 5 [], (get_or ds 6 [], (get_or ds 7 [], (get_or ds 8 [], get_or ds 9 [])))),
+            ),
+          ),
+        ),
+      ),
+    ))
     AreTen
     (λ ds h. (
       (
@@ -254,7 +313,13 @@ ten_texts_law =
               h.1 3 [] (omega (arith, h.0)),
               (
                 h.1 4 [] (omega (arith, h.0)),
-                (h.1 5 [] (omega (arith, h.0)), (h.1 6 [] (omega (arith, h.0)), (h.1 7 [] (omega (arith, h.0)), (h.1 8 [] (omega (arith, h.0)), h.1 9 [] (omega (arith, h.0)))))),
+                (
+                  h.1 5 [] (omega (arith, h.0)),
+                  (
+                    h.1 6 [] (omega (arith, h.0)),
+                    (h.1 7 [] (omega (arith, h.0)), (h.1 8 [] (omega (arith, h.0)), h.1 9 [] (omega (arith, h.0)))),
+                  ),
+                ),
               ),
             ),
           ),
@@ -262,5 +327,22 @@ ten_texts_law =
       ),
       cells-all 10 ds h.0,
     ))
-    (λ p h. ((refl, all_ten (IsText 24 24) p.0 p.1.0 p.1.1.0 p.1.1.1.0 p.1.1.1.1.0 p.1.1.1.1.1.0 p.1.1.1.1.1.1.0 p.1.1.1.1.1.1.1.0 p.1.1.1.1.1.1.1.1.0 p.1.1.1.1.1.1.1.1.1 h.0 h.1.0 h.1.1.0 h.1.1.1.0 h.1.1.1.1.0 h.1.1.1.1.1.0 h.1.1.1.1.1.1.0 h.1.1.1.1.1.1.1.0 h.1.1.1.1.1.1.1.1.0 h.1.1.1.1.1.1.1.1.1), refl))
-    (pair_law (text_law 24 24 (omega arith)) (pair_law (text_law 24 24 (omega arith)) (pair_law (text_law 24 24 (omega arith)) (pair_law (text_law 24 24 (omega arith)) (pair_law (text_law 24 24 (omega arith)) (pair_law (text_law 24 24 (omega arith)) (pair_law (text_law 24 24 (omega arith)) (pair_law (text_law 24 24 (omega arith)) (pair_law (text_law 24 24 (omega arith)) (text_law 24 24 (omega arith)))))))))))
+    (λ p h. (
+      (
+        refl,
+        all_ten (IsText 24 24) p.0 p.1.0 p.1.1.0 p.1.1.1.0 p.1.1.1.1.0 p.1.1.1.1.1.0 p.1.1.1.1.1.1.0
+            p.1.1.1.1.1.1.1.0 p.1.1.1.1.1.1.1.1.0 p.1.1.1.1.1.1.1.1.1 h.0 h.1.0 h.1.1.0 h.1.1.1.0 h.1.1.1.1.0
+            h.1.1.1.1.1.0
+            h.1.1.1.1.1.1.0 h.1.1.1.1.1.1.1.0 h.1.1.1.1.1.1.1.1.0 h.1.1.1.1.1.1.1.1.1,
+      ),
+      refl,
+    ))
+    (pair_law (text_law 24 24 (omega arith))
+    (pair_law (text_law 24 24 (omega arith))
+    (pair_law (text_law 24 24 (omega arith))
+    (pair_law (text_law 24 24 (omega arith))
+    (pair_law (text_law 24 24 (omega arith))
+    (pair_law (text_law 24 24 (omega arith))
+    (pair_law (text_law 24 24 (omega arith))
+    (pair_law (text_law 24 24 (omega arith))
+    (pair_law (text_law 24 24 (omega arith)) (text_law 24 24 (omega arith)))))))))))

@@ -1,5 +1,7 @@
--- What is read of bytes is an image that stands there, and an image that stands there is read: of a number, and of what is made of such parts.
-use Rattle.std.proofs.Common.{◌≡◌, ℕ, ◌+◌, ◌^◌, ◌<◌, ◌≤◌, Bool, true, false, cond, ltb, List, ◌++◌, ◌&&◌, length, drop, Option, Some, None, refl, sym, ap, subst, ◌∙◌, arith, append_assoc}
+-- What is read of bytes is an image that stands there, and an image that stands there is read: of a number, and of what
+-- is made of such parts.
+use Rattle.std.proofs.Common.{◌≡◌, ℕ, ◌+◌, ◌^◌, ◌<◌, ◌≤◌, Bool, true, false, cond, ltb, List, ◌++◌, ◌&&◌, length, drop}
+use Rattle.std.proofs.Common.{Option, Some, None, refl, sym, ap, subst, ◌∙◌, arith, append_assoc}
 use Rattle.std.specs.Int.{IsInRange}
 use Rattle.std.proofs.lemmas.Bool.{ltb-false, le-ltb}
 use Rattle.std.proofs.lemmas.Bool.Decides.{nat_tests}
@@ -16,11 +18,14 @@ pub record Takes (bytes text rest : List ℕ) : Type 0 where
   pub rest_fits : IsBytes rest
 
 -- the same as `IsExact`, in a form that parts are put together by
-pub record IsCodec {X : Type 0} (Fits : X → Type 0) (image : X → List ℕ) (at : List ℕ → Option (X × List ℕ)) : Type 0 where
-  pub takes : (bytes : List ℕ) (x : X × List ℕ) → IsBytes bytes → at bytes ≡ Some x → Fits x.0 × Takes bytes (image x.0) x.1
+pub record IsCodec {X : Type 0} (Fits : X → Type 0) (image : X → List ℕ) (at : List ℕ → Option (X × List ℕ)) : Type
+    0 where
+  pub takes : (bytes : List ℕ) (x : X × List ℕ) → IsBytes bytes → at bytes ≡ Some x
+      → Fits x.0 × Takes bytes (image x.0) x.1
   pub again : (v : X) (rest : List ℕ) → Fits v → at (image v ++ rest) ≡ Some (v, rest)
 
-pub exact : {X : Type 0} {Fits : X → Type 0} {image : X → List ℕ} {at : List ℕ → Option (X × List ℕ)} → IsCodec Fits image at → IsExact Fits image at
+pub exact : {X : Type 0} {Fits : X → Type 0} {image : X → List ℕ} {at : List ℕ → Option (X × List ℕ)}
+    → IsCodec Fits image at → IsExact Fits image at
 exact {at = at} law bytes fits = record {
   found = λ x rest e.
       let t = law.takes bytes (x, rest) fits e in
@@ -30,7 +35,8 @@ exact {at = at} law bytes fits = record {
 
 -- ---- the value of a step that found one
 
-pub bind_some : {A B : Type 0} (r : Option A) (f : A → Option B) (y : B) → (r >>= f) ≡ Some y → (x : A) × (r ≡ Some x) × (f x ≡ Some y)
+pub bind_some : {A B : Type 0} (r : Option A) (f : A → Option B) (y : B) → (r >>= f) ≡ Some y
+    → (x : A) × (r ≡ Some x) × (f x ≡ Some y)
 bind_some None f y e = absurd cc
 bind_some (Some x) f y e = (x, refl, e)
 
@@ -48,7 +54,8 @@ choice_some : {A : Type 0} (b : Bool) (x y : A) → cond b (Some x) None ≡ Som
 choice_some true x y e = (refl, cc)
 choice_some false x y e = absurd cc
 
-pub kept_some : {X : Type 0} (test : X → Bool) (r : Option (X × List ℕ)) (y : X × List ℕ) → kept test r ≡ Some y → (r ≡ Some y) × (test y.0 ≡ true)
+pub kept_some : {X : Type 0} (test : X → Bool) (r : Option (X × List ℕ)) (y : X × List ℕ) → kept test r ≡ Some y
+    → (r ≡ Some y) × (test y.0 ≡ true)
 kept_some test None y e = absurd cc
 kept_some {X = X} test (Some x) y e =
     let g = choice_some (test x.0) x y e in
@@ -78,14 +85,22 @@ number_takes width bytes x fits e =
     let g = guard_some (ltb (length bytes) width) (big_number width bytes, drop width bytes) x e in
     let long : width ≤ length bytes = ltb-false _ _ g.0 in
     let front = number_back width bytes long fits in
-    let whole : (big_number width bytes < 256 ^ width) × Takes bytes (big_bytes width (big_number width bytes)) (drop width bytes) =
-    (big_from-lt 0 width bytes fits, record { parts = rw front (sym (take-append-drop width bytes)); rest_fits = IsBytes-drop width bytes fits }) in
+    let whole : (big_number width bytes < 256 ^ width) × Takes bytes (big_bytes width (big_number width bytes))
+    (drop width bytes) = (
+      big_from-lt 0 width bytes fits,
+      record {
+        parts = rw front (sym (take-append-drop width bytes));
+        rest_fits = IsBytes-drop width bytes fits;
+      },
+    ) in
     subst (λ (p : ℕ × List ℕ). (p.0 < 256 ^ width) × Takes bytes (big_bytes width p.0) p.1) g.1 whole
 
-number_again : (width n : ℕ) (rest : List ℕ) → n < 256 ^ width → number_at width (number width n ++ rest) ≡ Some (n, rest)
+number_again : (width n : ℕ) (rest : List ℕ) → n < 256 ^ width
+    → number_at width (number width n ++ rest) ≡ Some (n, rest)
 number_again width n rest lt =
     let size = length-bytes_high_first width n in
-    let long : ltb (length (big_bytes width n ++ rest)) width ≡ false = le-ltb _ _ (omega (arith, length-append (big_bytes width n) rest)) in
+    let long : ltb (length (big_bytes width n ++ rest)) width ≡ false =
+    le-ltb _ _ (omega (arith, length-append (big_bytes width n) rest)) in
     rw (long, drop_at (big_bytes width n) rest width size, big_number-reads_back width n rest lt) refl
 
 pub number_law : (width : ℕ) → IsCodec (λ n. n < 256 ^ width) (λ n. number width n) (number_at width)
@@ -96,8 +111,10 @@ number_law width = record {
 
 -- ---- the values that pass a test
 
-pub kept_law : {X : Type 0} (Wide Fits : X → Type 0) (image : X → List ℕ) (at : List ℕ → Option (X × List ℕ)) (test : X → Bool)
-    → ((x : X) → test x ≡ true → Wide x → Fits x) → ((x : X) → Fits x → (test x ≡ true) × Wide x) → IsCodec Wide image at
+pub kept_law : {X : Type 0} (Wide Fits : X → Type 0) (image : X → List ℕ) (at : List ℕ → Option (X × List ℕ))
+    (test : X → Bool)
+    → ((x : X) → test x ≡ true → Wide x → Fits x) → ((x : X) → Fits x → (test x ≡ true) × Wide x)
+    → IsCodec Wide image at
     → IsCodec Fits image (λ bytes. kept test (at bytes))
 kept_law Wide Fits image at test into out_of law = record {
   takes = λ bytes x fits e.
@@ -120,14 +137,17 @@ in_range low high n e = grind (arith, nat_tests, both)
 pub is_from-true : (low high n : ℕ) → IsInRange low high n → is_from low high n ≡ true
 is_from-true low high n h = grind (arith, nat_tests)
 
-pub ranged_law : (width low high : ℕ) → high < 256 ^ width → IsCodec (λ n. IsInRange low high n) (λ n. number width n) (ranged_at width low high)
+pub ranged_law : (width low high : ℕ) → high < 256 ^ width
+    → IsCodec (λ n. IsInRange low high n) (λ n. number width n) (ranged_at width low high)
 ranged_law width low high fits =
-    kept_law (λ n. n < 256 ^ width) (λ n. IsInRange low high n) (λ n. number width n) (number_at width) (is_from low high)
+    kept_law (λ n. n < 256 ^ width) (λ n. IsInRange low high n) (λ n. number width n) (number_at width)
+    (is_from low high)
     (λ n e lt. in_range low high n e) (λ n h. (is_from-true low high n h, omega arith)) (number_law width)
 
 -- ---- the values seen as others, one for one where they fit
 
-pub seen_law : {X Y : Type 0} {Fits : X → Type 0} {image : X → List ℕ} {at : List ℕ → Option (X × List ℕ)} (f : X → Y) (g : Y → X) (Shown : Y → Type 0)
+pub seen_law : {X Y : Type 0} {Fits : X → Type 0} {image : X → List ℕ} {at : List ℕ → Option (X × List ℕ)} (f : X → Y)
+    (g : Y → X) (Shown : Y → Type 0)
     → ((y : Y) → Shown y → Fits (g y) × (f (g y) ≡ y)) → ((x : X) → Fits x → Shown (f x) × (g (f x) ≡ x))
     → IsCodec Fits image at → IsCodec Shown (λ y. image (g y)) (λ bytes. seen f (at bytes))
 seen_law {X = X} {Y = Y} {Fits = Fits} {image = image} {at = at} f g Shown there back law = record {
@@ -135,8 +155,11 @@ seen_law {X = X} {Y = Y} {Fits = Fits} {image = image} {at = at} f g Shown there
       let s = seen_some f (at bytes) y e in
       let t = law.takes bytes s.0 fits s.1 in
       let b = back s.0.0 t.0 in
-      let same : s.0.0 ≡ g y.0 = sym b.1 ∙ ap g s.2 in
-      (subst Shown s.2 b.0, subst (λ (r : List ℕ). Takes bytes (image (g y.0)) r) s.3 (subst (λ (x : X). Takes bytes (image x) s.0.1) same t.1));
+      let same : s.0.0 ≡ g y.0 = sym b.1 ∙ ap g s.2 in (
+        subst Shown s.2 b.0,
+        subst (λ (r : List ℕ). Takes bytes (image (g y.0)) r) s.3
+            (subst (λ (x : X). Takes bytes (image x) s.0.1) same t.1),
+      );
   again = λ v rest fits.
       let t = there v fits in
       let r = law.again (g v) rest t.0 in
@@ -144,14 +167,18 @@ seen_law {X = X} {Y = Y} {Fits = Fits} {image = image} {at = at} f g Shown there
 }
 
 -- of a record, its columns one after another
-pub record_law : {X Y : Type 0} {Fits : X → Type 0} {image : X → List ℕ} {at : List ℕ → Option (X × List ℕ)} (f : X → Y) (g : Y → X) (Shown : Y → Type 0)
-    → ((y : Y) → f (g y) ≡ y) → ((x : X) → g (f x) ≡ x) → ((y : Y) → Shown y → Fits (g y)) → ((x : X) → Fits x → Shown (f x))
+pub record_law : {X Y : Type 0} {Fits : X → Type 0} {image : X → List ℕ} {at : List ℕ → Option (X × List ℕ)} (f : X → Y)
+    (g : Y → X) (Shown : Y → Type 0)
+    → ((y : Y) → f (g y) ≡ y) → ((x : X) → g (f x) ≡ x) → ((y : Y) → Shown y → Fits (g y))
+    → ((x : X) → Fits x → Shown (f x))
     → IsCodec Fits image at → IsCodec Shown (λ y. image (g y)) (λ bytes. seen f (at bytes))
-record_law f g Shown there back apart together law = seen_law f g Shown (λ y h. (apart y h, there y)) (λ x h. (together x h, back x)) law
+record_law f g Shown there back apart together law = seen_law f g Shown (λ y h. (apart y h, there y))
+    (λ x h. (together x h, back x)) law
 
 -- ---- one after the other
 
-pub pair_law : {A B : Type 0} {P : A → Type 0} {p : A → List ℕ} {p_at : List ℕ → Option (A × List ℕ)} {Q : B → Type 0} {q : B → List ℕ} {q_at : List ℕ → Option (B × List ℕ)}
+pub pair_law : {A B : Type 0} {P : A → Type 0} {p : A → List ℕ} {p_at : List ℕ → Option (A × List ℕ)} {Q : B → Type 0}
+    {q : B → List ℕ} {q_at : List ℕ → Option (B × List ℕ)}
     → IsCodec P p p_at → IsCodec Q q q_at → IsCodec (λ x. P x.0 × Q x.1) (λ x. p x.0 ++ q x.1) (pair_at p_at q_at)
 pair_law {A = A} {B = B} {P = P} {p = p} {p_at = p_at} {Q = Q} {q = q} {q_at = q_at} first second = record {
   takes = λ bytes z fits e.
@@ -170,15 +197,21 @@ pair_law {A = A} {B = B} {P = P} {p = p} {p_at = p_at} {Q = Q} {q = q} {q_at = q
 
 -- ---- the values seen as one kind among others
 
-pub found_as : {X Y : Type 0} {Fits : X → Type 0} {image : X → List ℕ} {at : List ℕ → Option (X × List ℕ)} (f : X → Y) (Shown : Y → Type 0) (whole : Y → List ℕ)
+pub found_as : {X Y : Type 0} {Fits : X → Type 0} {image : X → List ℕ} {at : List ℕ → Option (X × List ℕ)} (f : X → Y)
+    (Shown : Y → Type 0) (whole : Y → List ℕ)
     → ((x : X) → Fits x → Shown (f x)) → ((x : X) → whole (f x) ≡ image x) → IsCodec Fits image at
-    → (bytes : List ℕ) → IsBytes bytes → (y : Y) (rest : List ℕ) → seen f (at bytes) ≡ Some (y, rest) → Shown y × (bytes ≡ whole y ++ rest)
+    → (bytes : List ℕ) → IsBytes bytes → (y : Y) (rest : List ℕ) → seen f (at bytes) ≡ Some (y, rest)
+    → Shown y × (bytes ≡ whole y ++ rest)
 found_as {at = at} f Shown whole shown same law bytes fits y rest e =
     let s = seen_some f (at bytes) (y, rest) e in
     let t = law.takes bytes s.0 fits s.1 in
-    let as_y : whole y ≡ whole (f s.0.0) = sym (ap whole s.2) in
-    (subst Shown s.2 (shown s.0.0 t.0), t.1.parts ∙ ap (λ (l : List ℕ). l ++ s.0.1) (sym (same s.0.0) ∙ sym as_y) ∙ ap (λ (l : List ℕ). whole y ++ l) s.3)
+    let as_y : whole y ≡ whole (f s.0.0) = sym (ap whole s.2) in (
+      subst Shown s.2 (shown s.0.0 t.0),
+      t.1.parts ∙ ap (λ (l : List ℕ). l ++ s.0.1) (sym (same s.0.0) ∙ sym as_y)
+          ∙ ap (λ (l : List ℕ). whole y ++ l) s.3,
+    )
 
-pub finds_as : {X Y : Type 0} {Fits : X → Type 0} {image : X → List ℕ} {at : List ℕ → Option (X × List ℕ)} (f : X → Y) → IsCodec Fits image at
+pub finds_as : {X Y : Type 0} {Fits : X → Type 0} {image : X → List ℕ} {at : List ℕ → Option (X × List ℕ)} (f : X → Y)
+    → IsCodec Fits image at
     → (x : X) (bytes rest : List ℕ) → Fits x → bytes ≡ image x ++ rest → seen f (at bytes) ≡ Some (f x, rest)
 finds_as {at = at} f law x bytes rest fits e = ap (seen f) (ap at e ∙ law.again x rest fits)

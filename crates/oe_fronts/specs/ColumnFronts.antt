@@ -1,5 +1,6 @@
 -- The value of a column at the front of bytes, and those behind it.
-use Rattle.std.specs.Prelude.{◌==◌, ◌||◌, ◌&&◌, ℕ, ℤ, Bool, true, false, not, pos, neg_ℤ, int_lt, nat_le, List, [], ◌∷◌, length, get_or, Option, None, Some, if◌then◌else◌}
+use Rattle.std.specs.Prelude.{◌==◌, ◌||◌, ◌&&◌, ℕ, ℤ, Bool, true, false, not, pos, neg_ℤ, int_lt, nat_le, List, [], ◌∷◌}
+use Rattle.std.specs.Prelude.{length, get_or, Option, None, Some, if◌then◌else◌}
 use Rattle.std.specs.List.{list_all}
 use Rattle.std.specs.Int.{w64, cast_signed}
 use Rattle.oe_extent.specs.Images.{number_at, run_at}

@@ -2,7 +2,8 @@
 use Rattle.std.specs.Prelude.{◌≡◌, ◌<◌, ◌&&◌, ℕ, Bool, nat_le, List, ◌++◌, get_or, Option, Some, None, if◌then◌else◌}
 use Rattle.oe_extent.specs.Images.{number_at}
 
--- Where the front of the bytes is the image of a value in its ranges, the result is the value and what follows. Nothing else is read.
+-- Where the front of the bytes is the image of a value in its ranges, the result is the value and what follows. Nothing
+-- else is read.
 pub record Reads {X : Type 0} (Fits : X → Type 0) (image : X → List ℕ) (bytes : List ℕ)
     (result : Option (X × List ℕ)) : Type 0 where
   pub found : (x : X) (rest : List ℕ) → result ≡ Some (x, rest) → Fits x × (bytes ≡ image x ++ rest)

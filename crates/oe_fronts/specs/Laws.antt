@@ -7,10 +7,14 @@ use Rattle.oe_rows.specs.History.{IsHistory}
 use Rattle.oe_rows.specs.Order.{IsOrder, IsOrderLine}
 use Rattle.oe_rows.specs.Item.{IsItem, IsStock}
 use Rattle.oe_fronts.specs.Fronts.{IsExact}
-use Rattle.oe_image.specs.Keys.{warehouse_key, district_key, customer_key, history_key, new_order_key, order_key, order_line_key, item_key, stock_key, IsWarehouseKey, IsHistoryKey, IsNewOrderKey, IsOrderKey, IsOrderLineKey, IsItemKey, IsStockKey}
-use Rattle.oe_fronts.specs.KeyFronts.{warehouse_key_at, district_key_at, customer_key_at, history_key_at, new_order_key_at, order_key_at, order_line_key_at, item_key_at, stock_key_at}
+use Rattle.oe_image.specs.Keys.{warehouse_key, district_key, customer_key, history_key, new_order_key, order_key}
+use Rattle.oe_image.specs.Keys.{order_line_key, item_key, stock_key, IsWarehouseKey, IsHistoryKey, IsNewOrderKey}
+use Rattle.oe_image.specs.Keys.{IsOrderKey, IsOrderLineKey, IsItemKey, IsStockKey}
+use Rattle.oe_fronts.specs.KeyFronts.{warehouse_key_at, district_key_at, customer_key_at, history_key_at}
+use Rattle.oe_fronts.specs.KeyFronts.{new_order_key_at, order_key_at, order_line_key_at, item_key_at, stock_key_at}
 use Rattle.oe_image.specs.Rows.{warehouse, district, customer, history, order, order_line, item, stock}
-use Rattle.oe_fronts.specs.RowFronts.{warehouse_at, district_at, customer_at, history_at, order_at, order_line_at, item_at, stock_at}
+use Rattle.oe_fronts.specs.RowFronts.{warehouse_at, district_at, customer_at, history_at, order_at, order_line_at}
+use Rattle.oe_fronts.specs.RowFronts.{item_at, stock_at}
 
 pub record Keys_are_read_exactly : Type 0 where
   pub warehouse_keys : IsExact IsWarehouseKey warehouse_key warehouse_key_at

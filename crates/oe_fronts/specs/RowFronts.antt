@@ -19,7 +19,8 @@ use Rattle.oe_rows.specs.declared.keys.Table.{Table}
 use Rattle.oe_rows.specs.declared.keys.Table.TheVariants as table
 use Rattle.oe_fronts.specs.Fronts.{seen, pair_at, ranged_at}
 use Rattle.oe_fronts.specs.KeyFronts.{IsKeyOf}
-use Rattle.oe_fronts.specs.ColumnFronts.{text_at, stamp_at, balance_at, carrier_at, delivery_at, flag_at, credit_at, ten_texts_at}
+use Rattle.oe_fronts.specs.ColumnFronts.{text_at, stamp_at, balance_at, carrier_at, delivery_at, flag_at, credit_at}
+use Rattle.oe_fronts.specs.ColumnFronts.{ten_texts_at}
 use Rattle.oe_image.specs.Rows.{image_of, IsRow}
 
 unfoldable pub address_at : List ℕ → Option (Address × List ℕ)
@@ -168,7 +169,8 @@ row_at table.Stock bytes = seen (λ r. row.Stock r) (stock_at bytes)
 abbrev pub IsRowOf : Table → Row → Type 0
 IsRowOf t r = (table_of_row r ≡ t) × IsRow r
 
--- Where the front of the bytes is the image of a key and a row of that table, the result is both and the image's length. Nothing else is
+-- Where the front of the bytes is the image of a key and a row of that table, the result is both and the image's
+-- length. Nothing else is
 -- read.
 pub record ReadsImage (t : Table) (bytes : List ℕ) (result : Option (Key × Row × ℕ)) : Type 0 where
   pub found : (k : Key) (r : Row) (n : ℕ) → result ≡ Some (k, r, n)

@@ -1,5 +1,6 @@
 -- Seats that are dealt, and given away.
-use Rattle.std.proofs.Common.{◌≡◌, ◌≢◌, ℕ, zero, suc, ◌≤◌, inl, inr, List, [], ◌∷◌, ◌++◌, Option, Some, None, length, slice_get, slice_set, sym, ap, ◌∙◌, refl, arith}
+use Rattle.std.proofs.Common.{◌≡◌, ◌≢◌, ℕ, zero, suc, ◌≤◌, inl, inr, List, [], ◌∷◌, ◌++◌, Option, Some, None, length}
+use Rattle.std.proofs.Common.{slice_get, slice_set, sym, ap, ◌∙◌, refl, arith}
 use Rattle.std.specs.Prelude.{◌⊎◌}
 use Rattle.std.proofs.lemmas.Bool.{cases_eq}
 use Rattle.atomic_table.specs.Seated.{TableId}
@@ -18,7 +19,8 @@ get_same [] i x y e = cc
 get_same (z ∷ zs) zero x y e = cc
 get_same (z ∷ zs) (suc i) x y e = get_same zs i x y e
 
-pub get_set : {X : Type 0} (xs : List X) (i : ℕ) (x y : X) → slice_get xs i ≡ Some y → slice_get (slice_set xs i x) i ≡ Some x
+pub get_set : {X : Type 0} (xs : List X) (i : ℕ) (x y : X) → slice_get xs i ≡ Some y
+    → slice_get (slice_set xs i x) i ≡ Some x
 get_set [] i x y e = cc
 get_set (z ∷ zs) zero x y e = refl
 get_set (z ∷ zs) (suc i) x y e = get_set zs i x y e
@@ -28,17 +30,20 @@ set_idle [] t e = refl
 set_idle (y ∷ ys) zero e = ap (λ z. z ∷ ys) (cc)
 set_idle (y ∷ ys) (suc t) e = ap (λ z. y ∷ z) (set_idle ys t e)
 
-pub fresh_set : (z : TableId) (n : ℕ) (xs : List (Option TheSeat)) (i : ℕ) → AreFresh z n xs → AreFresh z n (slice_set xs i None)
+pub fresh_set : (z : TableId) (n : ℕ) (xs : List (Option TheSeat)) (i : ℕ) → AreFresh z n xs
+    → AreFresh z n (slice_set xs i None)
 fresh_set z n xs i f k s e = go (cases_eq k i)
   where
     go : (k ≡ i) ⊎ (k ≢ i) → s ≡ fresh_seat z n k
     go (inl q) =
-        let no : None ≡ Some s = get_same xs i None (Some s) (ap (λ (j : ℕ). slice_get (slice_set xs i None) j) (sym q) ∙ e) in
+        let no : None ≡ Some s = get_same xs i None (Some s)
+        (ap (λ (j : ℕ). slice_get (slice_set xs i None) j) (sym q) ∙ e) in
         let not : ⊥ = cc in
         absurd not
     go (inr ne) = f k s (sym (get_other xs i k None ne) ∙ e)
 
-pub waiting_set : (xs : List (Option TheSeat)) (i : ℕ) (s : TheSeat) → slice_get xs i ≡ Some (Some s) → waiting xs ≡ suc (waiting (slice_set xs i None))
+pub waiting_set : (xs : List (Option TheSeat)) (i : ℕ) (s : TheSeat) → slice_get xs i ≡ Some (Some s)
+    → waiting xs ≡ suc (waiting (slice_set xs i None))
 waiting_set [] i s e = let no : ⊥ = cc in absurd no
 waiting_set (None ∷ xs) zero s e = let no : ⊥ = cc in absurd no
 waiting_set (Some r ∷ xs) zero s e = refl
@@ -50,17 +55,20 @@ waiting_snoc [] s = refl
 waiting_snoc (None ∷ xs) s = waiting_snoc xs s
 waiting_snoc (Some r ∷ xs) s = ap suc (waiting_snoc xs s)
 
-get_snoc : (xs : List (Option TheSeat)) (x y : Option TheSeat) (k : ℕ) → slice_get (xs ++ x ∷ []) k ≡ Some y → (slice_get xs k ≡ Some y) ⊎ ((k ≡ length xs) × (x ≡ y))
+get_snoc : (xs : List (Option TheSeat)) (x y : Option TheSeat) (k : ℕ) → slice_get (xs ++ x ∷ []) k ≡ Some y
+    → (slice_get xs k ≡ Some y) ⊎ ((k ≡ length xs) × (x ≡ y))
 get_snoc [] x y zero e = inr (refl, cc)
 get_snoc [] x y (suc k) e = let no : ⊥ = cc in absurd no
 get_snoc (z ∷ zs) x y zero e = inl e
 get_snoc (z ∷ zs) x y (suc k) e = go (get_snoc zs x y k e)
   where
-    go : (slice_get zs k ≡ Some y) ⊎ ((k ≡ length zs) × (x ≡ y)) → (slice_get zs k ≡ Some y) ⊎ ((suc k ≡ suc (length zs)) × (x ≡ y))
+    go : (slice_get zs k ≡ Some y) ⊎ ((k ≡ length zs) × (x ≡ y)) → (slice_get zs k ≡ Some y)
+        ⊎ ((suc k ≡ suc (length zs)) × (x ≡ y))
     go (inl a) = inl a
     go (inr a) = inr (ap suc a.0, a.1)
 
-pub fresh_snoc : (z : TableId) (n : ℕ) (xs : List (Option TheSeat)) (s : TheSeat) → AreFresh z n xs → s ≡ fresh_seat z n (length xs) → AreFresh z n (xs ++ Some s ∷ [])
+pub fresh_snoc : (z : TableId) (n : ℕ) (xs : List (Option TheSeat)) (s : TheSeat) → AreFresh z n xs
+    → s ≡ fresh_seat z n (length xs) → AreFresh z n (xs ++ Some s ∷ [])
 fresh_snoc z n xs s f is k r e = go (get_snoc xs (Some s) (Some r) k e)
   where
     go : (slice_get xs k ≡ Some (Some r)) ⊎ ((k ≡ length xs) × (Some s ≡ Some r)) → r ≡ fresh_seat z n k

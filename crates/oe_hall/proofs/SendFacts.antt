@@ -1,6 +1,7 @@
 -- That a hall may go to another thread, and a front may be lent to others.
 use denote.RattleType.{RattleType}
-use denote.Param.Send.{IsSend, IsSync, view_send, view_sync, recorded_send, recorded_sync, struct_send, struct_sync, sendable}
+use denote.Param.Send.{IsSend, IsSync, view_send, view_sync, recorded_send, recorded_sync, struct_send, struct_sync}
+use denote.Param.Send.{sendable}
 use denote.Struct.Declared.{shape}
 use Rattle.std.specs.declared.sync.ledger.Ledger
 use Rattle.std.proofs.Crossing.{frees}
@@ -19,7 +20,8 @@ use Rattle.oe_hall.specs.contracts.shop.Front.{the_row as front_row}
 use Rattle.oe_hall.specs.contracts.shop.Front.TheInside as front
 use Rattle.oe_hall.proofs.counts.Books.TheSendSync as books
 
-module _ (J B C R : RattleType) (j : Naming.Ghosts J.Denot) (b : Ledger.Ghosts B.Denot) (c : Ledger.Ghosts C.Denot) (r : Ledger.Ghosts R.Denot) where
+module _ (J B C R : RattleType) (j : Naming.Ghosts J.Denot) (b : Ledger.Ghosts B.Denot) (c : Ledger.Ghosts C.Denot)
+    (r : Ledger.Ghosts R.Denot) where
   pub hall_send : IsSend core_row → IsSend (hall_row J B C R j b c r)
   hall_send core_send =
       view_send _ _ _ _ _ (recorded_send (hall.the_field J B C R j b c r).row _ _ (hall.the_type J B C R j b c r).to_one
@@ -42,7 +44,8 @@ module _ (J B C R : RattleType) (j : Naming.Ghosts J.Denot) (b : Ledger.Ghosts B
 
   pub front_sync : IsSend core_row → IsSync (front_row J B C R j b c r)
   front_sync core_send =
-      view_sync _ _ _ _ _ (recorded_sync (front.the_field J B C R j b c r).row _ _ (front.the_type J B C R j b c r).to_one
+      view_sync _ _ _ _ _ (recorded_sync (front.the_field J B C R j b c r).row _ _
+      (front.the_type J B C R j b c r).to_one
       (struct_sync (shape (front.the_type J B C R j b c r)) (
         mutex.the_sync _ (hall_send core_send),
         (arc.the_sync _ _ _ moments.the_send heap.the_send moments.the_sync heap.the_sync frees, tt),

@@ -1,7 +1,12 @@
 -- What a step of the machine counts, and which answers it may have.
 use Rattle.std.proofs.Common.{◌≡◌, ℕ, ◌<◌, ◌≤◌, true, false, refl, sym, ◌∙◌, arith}
 use Rattle.oe_theory.specs.World.{World, newest, horizon}
-use Rattle.oe_theory.specs.Next.{Next, Step, Begin, Advance, Save, Back, Rollback, Read, Audit, Purge, Rewind, Answer, Begun, More, Committed, Rolled_back, Replied, Purged, Aborted, Rejected, Busy, Undo_full, Not_open, Too_old, Future, No_memory, begins, goes_on, commits, saves, goes_back, rolls_back, reads, audits, purges, rewinds, stops, fails, is_busy, is_full, is_rejected, is_open, number_is_rejected, query_is_rejected, misses, not_open, too_old, future, not_quiet, lacks_memory_at_begin, lacks_memory}
+use Rattle.oe_theory.specs.Next.{Next, Step, Begin, Advance, Save, Back, Rollback, Read, Audit, Purge, Rewind, Answer}
+use Rattle.oe_theory.specs.Next.{Begun, More, Committed, Rolled_back, Replied, Purged, Aborted, Rejected, Busy}
+use Rattle.oe_theory.specs.Next.{Undo_full, Not_open, Too_old, Future, No_memory, begins, goes_on, commits, saves}
+use Rattle.oe_theory.specs.Next.{goes_back, rolls_back, reads, audits, purges, rewinds, stops, fails, is_busy, is_full}
+use Rattle.oe_theory.specs.Next.{is_rejected, is_open, number_is_rejected, query_is_rejected, misses, not_open, too_old}
+use Rattle.oe_theory.specs.Next.{future, not_quiet, lacks_memory_at_begin, lacks_memory}
 use Rattle.oe_theory.specs.Theorems.{IsReached}
 use Rattle.oe_theory.specs.StepTheorems.{Is_counted}
 use Rattle.oe_theory.proofs.StepTheorems.{steps_are_counted}
@@ -51,7 +56,8 @@ Fits w (Read m q) a = OfRead w m a
 Fits w (Purge m) a = OfPurge w m a
 Fits w i a = Unit {0}
 
-pub fits : (w : World system) (i : Step system) (a : Answer system) (v : World system) → Next system w i a v → Fits w i a
+pub fits : (w : World system) (i : Step system) (a : Answer system) (v : World system) → Next system w i a v
+    → Fits w i a
 fits w _ _ _ (begins t q b) = tt
 fits w _ _ _ (goes_on t o c p e g r room) = tt
 fits w _ _ _ (commits t o y e g r) = tt
@@ -103,30 +109,41 @@ fits w _ _ _ (lacks_memory_at_begin t q b) = tt
 fits w _ _ _ (lacks_memory t o e h) = tt
 
 -- a begin, an advance that goes on, a commit, a rollback, and a refusal that ended its transaction
-pub after_begin : (w v : World system) (t : ℕ) (q : system.Request) → IsReached system w → Next system w (Begin t q) Begun v → HasBegun w v
-after_begin w v t q r n = let s = steps_are_counted system laws w v (Begin t q) Begun r n in (s.newest, s.open_count, s.horizon)
+pub after_begin : (w v : World system) (t : ℕ) (q : system.Request) → IsReached system w
+    → Next system w (Begin t q) Begun v → HasBegun w v
+after_begin w v t q r n = let s = steps_are_counted system laws w v (Begin t q) Begun r n in
+    (s.newest, s.open_count, s.horizon)
 
 pub after_more : (w v : World system) (t : ℕ) → IsReached system w → Next system w (Advance t) More v → HasSame w v
-after_more w v t r n = let s = steps_are_counted system laws w v (Advance t) More r n in (s.newest, s.open_count, s.horizon)
+after_more w v t r n = let s = steps_are_counted system laws w v (Advance t) More r n in
+    (s.newest, s.open_count, s.horizon)
 
-pub after_commit : (w v : World system) (t m : ℕ) (y : system.Reply) → IsReached system w → Next system w (Advance t) (Committed m y) v → HasCommitted w v
-after_commit w v t m y r n = let s = steps_are_counted system laws w v (Advance t) (Committed m y) r n in (s.newest.0, sym s.open_count, s.horizon)
+pub after_commit : (w v : World system) (t m : ℕ) (y : system.Reply) → IsReached system w
+    → Next system w (Advance t) (Committed m y) v → HasCommitted w v
+after_commit w v t m y r n = let s = steps_are_counted system laws w v (Advance t) (Committed m y) r n in
+    (s.newest.0, sym s.open_count, s.horizon)
 
-pub after_rollback : (w v : World system) (t : ℕ) → IsReached system w → Next system w (Rollback t) Rolled_back v → HasEnded w v
-after_rollback w v t r n = let s = steps_are_counted system laws w v (Rollback t) Rolled_back r n in (s.newest, sym s.open_count, s.horizon)
+pub after_rollback : (w v : World system) (t : ℕ) → IsReached system w → Next system w (Rollback t) Rolled_back v
+    → HasEnded w v
+after_rollback w v t r n = let s = steps_are_counted system laws w v (Rollback t) Rolled_back r n in
+    (s.newest, sym s.open_count, s.horizon)
 
-after_abort : (w v : World system) (t : ℕ) (e : system.Refusal) → IsReached system w → Next system w (Advance t) (Aborted e) v → HasEnded w v
-after_abort w v t e r n = let s = steps_are_counted system laws w v (Advance t) (Aborted e) r n in (s.newest, sym s.open_count, s.horizon)
+after_abort : (w v : World system) (t : ℕ) (e : system.Refusal) → IsReached system w
+    → Next system w (Advance t) (Aborted e) v → HasEnded w v
+after_abort w v t e r n = let s = steps_are_counted system laws w v (Advance t) (Aborted e) r n in
+    (s.newest, sym s.open_count, s.horizon)
 
 -- an answer that counts nothing
 abbrev IsIdle : Answer system → Type 0
 IsIdle a = (w v : World system) → Is_counted system w a v → HasSame w v
 
-idle : (a : Answer system) → IsIdle a → (w v : World system) (i : Step system) → IsReached system w → Next system w i a v → HasSame w v
+idle : (a : Answer system) → IsIdle a → (w v : World system) (i : Step system) → IsReached system w
+    → Next system w i a v → HasSame w v
 idle a f w v i r n = f w v (steps_are_counted system laws w v i a r n)
 
 -- a refusal that leaves the transaction open, or found none
-pub after_kept : (w v : World system) (t : ℕ) (e : Refusal) → IsReached system w → keeps e ≡ true → Next system w (Advance t) (refusal_in (step.Advance t) e) v → HasSame w v
+pub after_kept : (w v : World system) (t : ℕ) (e : Refusal) → IsReached system w → keeps e ≡ true
+    → Next system w (Advance t) (refusal_in (step.Advance t) e) v → HasSame w v
 after_kept w v t (refusal.NoSuchRow x) r k n = let no : ⊥ = cc in absurd no
 after_kept w v t (refusal.RowExists x) r k n = let no : ⊥ = cc in absurd no
 after_kept w v t (refusal.Overflow x) r k n = let no : ⊥ = cc in absurd no
@@ -145,7 +162,8 @@ after_kept w v t (refusal.NotQuiet m) r k n = let no : ⊥ = cc in absurd no
 after_kept w v t (refusal.NotPinned m) r k n = let no : ⊥ = cc in absurd no
 
 -- any other has ended it
-pub after_ended : (w v : World system) (t : ℕ) (e : Refusal) → IsReached system w → keeps e ≡ false → Next system w (Advance t) (refusal_in (step.Advance t) e) v → HasEnded w v
+pub after_ended : (w v : World system) (t : ℕ) (e : Refusal) → IsReached system w → keeps e ≡ false
+    → Next system w (Advance t) (refusal_in (step.Advance t) e) v → HasEnded w v
 after_ended w v t (refusal.NoSuchRow x) r k n = after_abort w v t _ r n
 after_ended w v t (refusal.RowExists x) r k n = after_abort w v t _ r n
 after_ended w v t (refusal.Overflow x) r k n = after_abort w v t _ r n
@@ -164,7 +182,8 @@ after_ended w v t (refusal.NotQuiet m) r k n = absurd (fits w _ _ v n)
 after_ended w v t (refusal.NotPinned m) r k n = after_abort w v t _ r n
 
 -- a refused begin, a refused rollback
-pub after_refused_begin : (w v : World system) (t : ℕ) (q : Request) (e : Refusal) → IsReached system w → Next system w (Begin t q) (refusal_in (step.Begin t q) e) v → HasSame w v
+pub after_refused_begin : (w v : World system) (t : ℕ) (q : Request) (e : Refusal) → IsReached system w
+    → Next system w (Begin t q) (refusal_in (step.Begin t q) e) v → HasSame w v
 after_refused_begin w v t q (refusal.NoSuchRow x) r n = idle _ (λ w v s. (s.newest, s.open_count, s.horizon)) w v _ r n
 after_refused_begin w v t q (refusal.RowExists x) r n = idle _ (λ w v s. (s.newest, s.open_count, s.horizon)) w v _ r n
 after_refused_begin w v t q (refusal.Overflow x) r n = idle _ (λ w v s. (s.newest, s.open_count, s.horizon)) w v _ r n
@@ -182,7 +201,8 @@ after_refused_begin w v t q (refusal.Future m) r n = idle _ (λ w v s. (s.newest
 after_refused_begin w v t q (refusal.NotQuiet m) r n = idle _ (λ w v s. (s.newest, s.open_count, s.horizon)) w v _ r n
 after_refused_begin w v t q (refusal.NotPinned m) r n = idle _ (λ w v s. (s.newest, s.open_count, s.horizon)) w v _ r n
 
-pub after_refused_rollback : (w v : World system) (t : ℕ) (e : Refusal) → IsReached system w → Next system w (Rollback t) (refusal_in (step.Rollback t) e) v → HasSame w v
+pub after_refused_rollback : (w v : World system) (t : ℕ) (e : Refusal) → IsReached system w
+    → Next system w (Rollback t) (refusal_in (step.Rollback t) e) v → HasSame w v
 after_refused_rollback w v t (refusal.NoSuchRow x) r n = absurd (fits w _ _ v n)
 after_refused_rollback w v t (refusal.RowExists x) r n = absurd (fits w _ _ v n)
 after_refused_rollback w v t (refusal.Overflow x) r n = absurd (fits w _ _ v n)
@@ -201,14 +221,16 @@ after_refused_rollback w v t (refusal.NotQuiet m) r n = absurd (fits w _ _ v n)
 after_refused_rollback w v t (refusal.NotPinned m) r n = absurd (fits w _ _ v n)
 
 -- a purge
-pub after_purge : (w v : World system) (m k : ℕ) → IsReached system w → Next system w (Purge m) (Purged k) v → HasPurged m w v
+pub after_purge : (w v : World system) (m k : ℕ) → IsReached system w → Next system w (Purge m) (Purged k) v
+    → HasPurged m w v
 after_purge w v m k r n =
     let s = steps_are_counted system laws w v (Purge m) (Purged k) r n in
     let same : k ≡ m = fits w _ _ v n in
     (s.newest, s.open_count, s.horizon.0 ∙ same)
 
 -- of a moment that is kept it is not refused
-pub purge_is_not_refused : (w v : World system) (m : ℕ) (e : Refusal) → horizon system w ≤ m → m ≤ newest system w → Next system w (Purge m) (refusal_in (step.Purge m) e) v → ⊥
+pub purge_is_not_refused : (w v : World system) (m : ℕ) (e : Refusal) → horizon system w ≤ m → m ≤ newest system w
+    → Next system w (Purge m) (refusal_in (step.Purge m) e) v → ⊥
 purge_is_not_refused w v m (refusal.NoSuchRow x) l h n = fits w _ _ v n
 purge_is_not_refused w v m (refusal.RowExists x) l h n = fits w _ _ v n
 purge_is_not_refused w v m (refusal.Overflow x) l h n = fits w _ _ v n
@@ -221,11 +243,14 @@ purge_is_not_refused w v m refusal.NotOpen l h n = fits w _ _ v n
 purge_is_not_refused w v m refusal.AlreadyOpen l h n = fits w _ _ v n
 purge_is_not_refused w v m refusal.InvalidItem l h n = fits w _ _ v n
 purge_is_not_refused w v m refusal.NoCustomer l h n = fits w _ _ v n
-purge_is_not_refused w v m (refusal.TooOld k) l h n = let x : m < horizon system w = fits w _ _ v n in omega (arith, x, l)
-purge_is_not_refused w v m (refusal.Future k) l h n = let x : newest system w < m = fits w _ _ v n in omega (arith, x, h)
+purge_is_not_refused w v m (refusal.TooOld k) l h n = let x : m < horizon system w = fits w _ _ v n in
+    omega (arith, x, l)
+purge_is_not_refused w v m (refusal.Future k) l h n = let x : newest system w < m = fits w _ _ v n in
+    omega (arith, x, h)
 purge_is_not_refused w v m (refusal.NotQuiet k) l h n = fits w _ _ v n
 purge_is_not_refused w v m (refusal.NotPinned k) l h n = fits w _ _ v n
 
 -- a read of a moment that is kept is not too old
-pub is_not_too_old : (w v : World system) (m : ℕ) (q : Query) (k : ℕ) → horizon system w ≤ m → Next system w (Read m q) (Too_old k) v → ⊥
+pub is_not_too_old : (w v : World system) (m : ℕ) (q : Query) (k : ℕ) → horizon system w ≤ m
+    → Next system w (Read m q) (Too_old k) v → ⊥
 is_not_too_old w v m q k l n = let x : m < horizon system w = fits w _ _ v n in omega (arith, x, l)

@@ -45,7 +45,12 @@ tally n c = record { parts = n; begun = c.begun; committed = c.committed; rolled
 
 -- a hand with one part more, that was told so
 abbrev pub with_one_more : Counted → Tally → Tally
-with_one_more c t = record { parts = t.parts + 1; begun = t.begun + c.begun; committed = t.committed + c.committed; rolled_back = t.rolled_back + c.rolled_back }
+with_one_more c t = record {
+  parts = t.parts + 1;
+  begun = t.begun + c.begun;
+  committed = t.committed + c.committed;
+  rolled_back = t.rolled_back + c.rolled_back;
+}
 
 -- a hand was told no more than the totals
 abbrev pub IsAtMost : Tally → Counts → Type 0

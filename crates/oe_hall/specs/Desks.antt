@@ -9,7 +9,8 @@ use Rattle.oe_requests.specs.declared.replies.QueryReply.{QueryReply}
 use Rattle.oe_requests.specs.declared.refusals.Refusal.{Refusal}
 use Rattle.oe_requests.specs.declared.refusals.Refusal.TheVariants as refusal
 use Rattle.oe_hall.specs.Counts.{Tally}
-use Rattle.oe_hall.specs.Turns.{TheHall, IsHall, IsTold, BeginTurn, AdvanceTurn, EndTurn, ReadTurn, PurgeTurn, begin_told, told_of, end_told}
+use Rattle.oe_hall.specs.Turns.{TheHall, IsHall, IsTold, BeginTurn, AdvanceTurn, EndTurn, ReadTurn, PurgeTurn}
+use Rattle.oe_hall.specs.Turns.{begin_told, told_of, end_told}
 use Rattle.oe_hall.specs.declared.calls.Ended.{Ended}
 use Rattle.oe_hall.specs.declared.calls.Ended.TheVariants as ended
 use Rattle.oe_hall.specs.declared.counts.Counted.{Counted}

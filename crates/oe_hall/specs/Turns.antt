@@ -17,7 +17,8 @@ use Rattle.oe_requests.specs.declared.refusals.Column.TheVariants.{HistoryNumber
 use Rattle.oe_requests.specs.declared.steps.Step.TheVariants as step
 use Rattle.oe_requests.specs.declared.answers.Answer.{Answer}
 use Rattle.oe_requests.specs.declared.answers.Answer.TheVariants as answer
-use Rattle.oe_hall.specs.Counts.{Counts, Tally, begun_once, committed_once, rolled_back_once, told_begun, told_committed, told_rolled_back, IsAtMost}
+use Rattle.oe_hall.specs.Counts.{Counts, Tally, begun_once, committed_once, rolled_back_once, told_begun}
+use Rattle.oe_hall.specs.Counts.{told_committed, told_rolled_back, IsAtMost}
 use Rattle.oe_hall.specs.declared.calls.Ended.{Ended}
 use Rattle.oe_hall.specs.declared.calls.Ended.TheVariants as ended
 
@@ -38,16 +39,20 @@ open_count w = count_open system w.active terminal_limit
 -- WHAT A STEP MOVES: NEWEST MOMENT, OPEN TRANSACTIONS, HORIZON
 
 abbrev pub HasSame : World system → World system → Type 0
-HasSame w v = (newest system v ≡ newest system w) × (open_count v ≡ open_count w) × (horizon system v ≡ horizon system w)
+HasSame w v = (newest system v ≡ newest system w) × (open_count v ≡ open_count w)
+    × (horizon system v ≡ horizon system w)
 
 abbrev pub HasBegun : World system → World system → Type 0
-HasBegun w v = (newest system v ≡ newest system w) × (open_count v ≡ suc (open_count w)) × (horizon system v ≡ horizon system w)
+HasBegun w v = (newest system v ≡ newest system w) × (open_count v ≡ suc (open_count w))
+    × (horizon system v ≡ horizon system w)
 
 abbrev pub HasCommitted : World system → World system → Type 0
-HasCommitted w v = (newest system v ≡ suc (newest system w)) × (suc (open_count v) ≡ open_count w) × (horizon system v ≡ horizon system w)
+HasCommitted w v = (newest system v ≡ suc (newest system w)) × (suc (open_count v) ≡ open_count w)
+    × (horizon system v ≡ horizon system w)
 
 abbrev pub HasEnded : World system → World system → Type 0
-HasEnded w v = (newest system v ≡ newest system w) × (suc (open_count v) ≡ open_count w) × (horizon system v ≡ horizon system w)
+HasEnded w v = (newest system v ≡ newest system w) × (suc (open_count v) ≡ open_count w)
+    × (horizon system v ≡ horizon system w)
 
 abbrev pub HasPurged : ℕ → World system → World system → Type 0
 HasPurged m w v = (newest system v ≡ newest system w) × (open_count v ≡ open_count w) × (horizon system v ≡ m)
@@ -123,12 +128,16 @@ most_begun = 18446744073709551615
 
 -- a begin is one step, or none where the count is full
 abbrev pub BeginTurn : TheHall → ℕ → Request → Result (Unit {0}) Refusal → TheHall → Type 0
-BeginTurn h t q (Ok u) h' = Carries (world h) (step.Begin t q) answer.Begun (world h') × (h'.counts ≡ begun_once h.counts) × (h'.words ≡ h.words)
-BeginTurn h t q (Err e) h' = (Carries (world h) (step.Begin t q) (answer.Refused e) (world h') × (h'.counts ≡ h.counts) × (h'.words ≡ h.words)) ⊎ (e ≡ refusal.Overflow HistoryNumber) × (h.counts.begun ≡ most_begun) × (h' ≡ h)
+BeginTurn h t q (Ok u) h' = Carries (world h) (step.Begin t q) answer.Begun (world h')
+    × (h'.counts ≡ begun_once h.counts) × (h'.words ≡ h.words)
+BeginTurn h t q (Err e) h' =
+    (Carries (world h) (step.Begin t q) (answer.Refused e) (world h') × (h'.counts ≡ h.counts) × (h'.words ≡ h.words))
+    ⊎ (e ≡ refusal.Overflow HistoryNumber) × (h.counts.begun ≡ most_begun) × (h' ≡ h)
 
 -- an advance is one step
 abbrev pub AdvanceTurn : TheHall → ℕ → Ended → TheHall → Type 0
-AdvanceTurn h t r h' = Carries (world h) (step.Advance t) (answer_of r) (world h') × IsSorted r × (h'.counts ≡ counted r h.counts) × (h'.words ≡ h.words)
+AdvanceTurn h t r h' = Carries (world h) (step.Advance t) (answer_of r) (world h') × IsSorted r
+    × (h'.counts ≡ counted r h.counts) × (h'.words ≡ h.words)
 
 abbrev pub end_answer : Result (Unit {0}) Refusal → Answer
 end_answer (Ok u) = answer.RolledBack
@@ -144,7 +153,8 @@ end_told (Err e) c = c
 
 -- an end is one step
 abbrev pub EndTurn : TheHall → ℕ → Result (Unit {0}) Refusal → TheHall → Type 0
-EndTurn h t r h' = Carries (world h) (step.Rollback t) (end_answer r) (world h') × (h'.counts ≡ end_counts r h.counts) × (h'.words ≡ h.words)
+EndTurn h t r h' = Carries (world h) (step.Rollback t) (end_answer r) (world h') × (h'.counts ≡ end_counts r h.counts)
+    × (h'.words ≡ h.words)
 
 abbrev pub read_answer : Result QueryReply Refusal → Answer
 read_answer (Ok f) = answer.Replied f
@@ -152,12 +162,15 @@ read_answer (Err e) = answer.Refused e
 
 -- a read is one step, or none where the pin's word is another
 abbrev pub ReadTurn : TheHall → ℕ → Query → Result QueryReply Refusal → TheHall → Type 0
-ReadTurn h m q r h' = (Carries (world h) (step.Read m q) (read_answer r) (world h') × (h' ≡ h)) ⊎ ((n : ℕ) × (r ≡ Err (refusal.NotPinned n)) × (n ≢ pin_word (Sure m))) × (h' ≡ h)
+ReadTurn h m q r h' = (Carries (world h) (step.Read m q) (read_answer r) (world h') × (h' ≡ h))
+    ⊎ ((n : ℕ) × (r ≡ Err (refusal.NotPinned n)) × (n ≢ pin_word (Sure m))) × (h' ≡ h)
 
--- a purge at a moment is one step, at the moment that the pins allow: no earlier than the horizon, and later than was asked only where
+-- a purge at a moment is one step, at the moment that the pins allow: no earlier than the horizon, and later than was
+-- asked only where
 -- the horizon was
 abbrev pub PurgeTurn : TheHall → ℕ → ℕ → TheHall → Type 0
-PurgeTurn h asked m h' = (h.horizon ≤ m) × (m ≤ max h.horizon asked) × Carries (world h) (step.Purge m) (answer.Purged m) (world h') × (h'.counts ≡ h.counts) × (h'.words ≡ h.words)
+PurgeTurn h asked m h' = (h.horizon ≤ m) × (m ≤ max h.horizon asked)
+    × Carries (world h) (step.Purge m) (answer.Purged m) (world h') × (h'.counts ≡ h.counts) × (h'.words ≡ h.words)
 
 -- the read is not refused for its moment's age
 abbrev pub IsYoung : Result QueryReply Refusal → Type 0

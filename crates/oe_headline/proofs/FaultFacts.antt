@@ -23,7 +23,8 @@ answered read out o =
     }
 
 -- the output of what was read, if no more comes
-abbrev output_of : (read out : List ℕ) (s : State) (n : ℕ) (line : List ℕ) → Reached read out s n line → Output read (out ++ last_text (n + 1) line)
+abbrev output_of : (read out : List ℕ) (s : State) (n : ℕ) (line : List ℕ) → Reached read out s n line
+    → Output read (out ++ last_text (n + 1) line)
 output_of read out s n line r = record {
   lines = r.lines;
   last = line;
@@ -36,9 +37,11 @@ output_of read out s n line r = record {
   text = ap (λ k. out ++ last_text (k + 1) line) r.counted;
 }
 
-by_reader : (a b : Source) (c d : Sink) → ScriptRan (Some a) (Some b) (Some c) (Some d) (Err fault.Read) → IsCutByReader a b c d
+by_reader : (a b : Source) (c d : Sink) → ScriptRan (Some a) (Some b) (Some c) (Some d) (Err fault.Read)
+    → IsCutByReader a b c d
 by_reader a b c d (failed, wrote, r) =
-    let lines = answered r.read (r.answers ++ last_text (r.count + 1) r.line) (output_of r.read r.answers r.state r.count r.line r.reached) in
+    let lines = answered r.read (r.answers ++ last_text (r.count + 1) r.line)
+    (output_of r.read r.answers r.state r.count r.line r.reached) in
     let same : texts_of 0 lines.es ≡ r.answers = lines.deeds.answers in
     record {
       read = r.read;
@@ -46,10 +49,12 @@ by_reader a b c d (failed, wrote, r) =
       lines = lines;
       written = r.written ∙ ap (λ z. c.contents ++ z) (sym same);
       goes_on = λ more.
-          subst (λ z. (rest : List ℕ) × Output (r.read ++ more) (z ++ rest)) (sym same) (reach_rest more r.read r.answers r.state r.count r.line r.reached);
+          subst (λ z. (rest : List ℕ) × Output (r.read ++ more) (z ++ rest)) (sym same)
+          (reach_rest more r.read r.answers r.state r.count r.line r.reached);
     }
 
-by_writer : (a b : Source) (c d : Sink) → ScriptRan (Some a) (Some b) (Some c) (Some d) (Err fault.Write) → IsCutByWriter a b c d
+by_writer : (a b : Source) (c d : Sink) → ScriptRan (Some a) (Some b) (Some c) (Some d) (Err fault.Write)
+    → IsCutByWriter a b c d
 by_writer a b c d (read, wrote, r) =
     record {
       read = r.read;

@@ -34,28 +34,37 @@ use Rattle.oe_headline.proofs.AnswerFacts.{answer_once, rejected_once}
 
 -- what the machine answers
 data Asked (w : World system) (m : ℕ) (q : Query) (a : theory.Answer system) (v : World system) : Type 0 where
-  tells : query_rejection q (tables system w) ≡ None → horizon system w ≤ m → m ≤ newest system w → (f : QueryReply) → answer_of q (at system w m) ≡ Here f → a ≡ theory.Replied f → v ≡ w
+  tells : query_rejection q (tables system w) ≡ None → horizon system w ≤ m → m ≤ newest system w → (f : QueryReply)
+      → answer_of q (at system w m) ≡ Here f → a ≡ theory.Replied f → v ≡ w
       → Asked w m q a v
   turns : (e : Refusal) → query_rejection q (tables system w) ≡ Some e → a ≡ theory.Rejected e → v ≡ w → Asked w m q a v
-  has_none : query_rejection q (tables system w) ≡ None → horizon system w ≤ m → m ≤ newest system w → (e : Refusal) → answer_of q (at system w m) ≡ Missing e → a ≡ theory.Rejected e → v ≡ w
+  has_none : query_rejection q (tables system w) ≡ None → horizon system w ≤ m → m ≤ newest system w → (e : Refusal)
+      → answer_of q (at system w m) ≡ Missing e → a ≡ theory.Rejected e → v ≡ w
       → Asked w m q a v
-  is_old : query_rejection q (tables system w) ≡ None → m < horizon system w → a ≡ theory.Too_old (horizon system w) → v ≡ w → Asked w m q a v
-  is_future : query_rejection q (tables system w) ≡ None → newest system w < m → a ≡ theory.Future (newest system w) → v ≡ w → Asked w m q a v
+  is_old : query_rejection q (tables system w) ≡ None → m < horizon system w → a ≡ theory.Too_old (horizon system w)
+      → v ≡ w → Asked w m q a v
+  is_future : query_rejection q (tables system w) ≡ None → newest system w < m → a ≡ theory.Future (newest system w)
+      → v ≡ w → Asked w m q a v
 
-step_asked : (w : World system) (i : theory.Step system) (a : theory.Answer system) (v : World system) (m : ℕ) (q : Query) → Next system w i a v → i ≡ theory.Read m q → Asked w m q a v
+step_asked : (w : World system) (i : theory.Step system) (a : theory.Answer system) (v : World system) (m : ℕ)
+    (q : Query) → Next system w i a v → i ≡ theory.Read m q → Asked w m q a v
 step_asked w _ _ _ m q (reads k p f n l u h) e =
     let here : k ≡ m = cc in
     let same : p ≡ q = cc in
-    tells (subst (λ (z : Query). query_rejection z (tables system w) ≡ None) same n) (subst (λ (z : ℕ). horizon system w ≤ z) here l) (subst (λ (z : ℕ). z ≤ newest system w) here u) f
-    (subst (λ (z : Query). answer_of z (at system w m) ≡ Here f) same (subst (λ (z : ℕ). answer_of p (at system w z) ≡ Here f) here h)) refl refl
+    tells (subst (λ (z : Query). query_rejection z (tables system w) ≡ None) same n)
+    (subst (λ (z : ℕ). horizon system w ≤ z) here l) (subst (λ (z : ℕ). z ≤ newest system w) here u) f
+    (subst (λ (z : Query). answer_of z (at system w m) ≡ Here f) same
+    (subst (λ (z : ℕ). answer_of p (at system w z) ≡ Here f) here h)) refl refl
 step_asked w _ _ _ m q (query_is_rejected k p d r) e =
     let same : p ≡ q = cc in
     turns d (subst (λ (z : Query). query_rejection z (tables system w) ≡ Some d) same r) refl refl
 step_asked w _ _ _ m q (misses k p d n l u h) e =
     let here : k ≡ m = cc in
     let same : p ≡ q = cc in
-    has_none (subst (λ (z : Query). query_rejection z (tables system w) ≡ None) same n) (subst (λ (z : ℕ). horizon system w ≤ z) here l) (subst (λ (z : ℕ). z ≤ newest system w) here u) d
-    (subst (λ (z : Query). answer_of z (at system w m) ≡ Missing d) same (subst (λ (z : ℕ). answer_of p (at system w z) ≡ Missing d) here h)) refl refl
+    has_none (subst (λ (z : Query). query_rejection z (tables system w) ≡ None) same n)
+    (subst (λ (z : ℕ). horizon system w ≤ z) here l) (subst (λ (z : ℕ). z ≤ newest system w) here u) d
+    (subst (λ (z : Query). answer_of z (at system w m) ≡ Missing d) same
+    (subst (λ (z : ℕ). answer_of p (at system w z) ≡ Missing d) here h)) refl refl
 step_asked w _ _ _ m q (not_open i t e f) h = absurd (some_none t (sym e ∙ ap (theory.works_on system) h))
 step_asked w _ _ _ m q (too_old i k e p l) h =
     let here : k ≡ m = some_inj k m (sym e ∙ ap (theory.moment system) h) in
@@ -66,27 +75,74 @@ step_asked w _ _ _ m q (future i k e p l) h =
 step_asked w _ _ _ m q n h = cc
 
 -- and its text
-query_told : (w : World system) (q : Query) (m : ℕ) (x : Answer) (w' : World system) (text : List ℕ) (made : IsReached system w) → text ≡ answer_line x
+query_told : (w : World system) (q : Query) (m : ℕ) (x : Answer) (w' : World system) (text : List ℕ)
+    (made : IsReached system w) → text ≡ answer_line x
     → Asked w m q (answer_in (step.Read m q) x) w' → IsRead made.base w q m text × (w' ≡ w)
-query_told w q m x w' text made t (tells n l u f h e same) =
-    (inr (n, inl (l, u, version_at w m made l u, subst (λ z. Tells z text) (sym h) (t ∙ ap answer_line (answer_once (step.Read m q) x (answer.Replied f) e)))), same)
-query_told w q m x w' text made t (turns d r e same) = (inl (d, r, t ∙ ap answer_line (rejected_once (step.Read m q) x d e)), same)
-query_told w q m x w' text made t (has_none n l u d h e same) =
-    (inr (n, inl (l, u, version_at w m made l u, subst (λ z. Tells z text) (sym h) (t ∙ ap answer_line (rejected_once (step.Read m q) x d e)))), same)
-query_told w q m x w' text made t (is_old n l e same) =
-    (inr (n, inr (inl (l, t ∙ ap answer_line (answer_once (step.Read m q) x (answer.Refused (refusal.TooOld (horizon system w))) e)))), same)
-query_told w q m x w' text made t (is_future n l e same) =
-    (inr (n, inr (inr (l, t ∙ ap answer_line (answer_once (step.Read m q) x (answer.Refused (refusal.Future (newest system w))) e)))), same)
+query_told w q m x w' text made t (tells n l u f h e same) = (
+  inr (
+    n,
+    inl (
+      l,
+      u,
+      version_at w m made l u,
+      subst (λ z. Tells z text) (sym h)
+          (t ∙ ap answer_line (answer_once (step.Read m q) x (answer.Replied f) e)),
+    ),
+  ),
+  same,
+)
+query_told w q m x w' text made t (turns d r e same) =
+    (inl (d, r, t ∙ ap answer_line (rejected_once (step.Read m q) x d e)), same)
+query_told w q m x w' text made t (has_none n l u d h e same) = (
+  inr (
+    n,
+    inl (
+      l,
+      u,
+      version_at w m made l u,
+      subst (λ z. Tells z text) (sym h)
+          (t ∙ ap answer_line (rejected_once (step.Read m q) x d e)),
+    ),
+  ),
+  same,
+)
+query_told w q m x w' text made t (is_old n l e same) = (
+  inr (
+    n,
+    inr (inl (
+      l,
+      t
+          ∙ ap answer_line (answer_once (step.Read m q) x (answer.Refused (refusal.TooOld (horizon system w))) e),
+    )),
+  ),
+  same,
+)
+query_told w q m x w' text made t (is_future n l e same) = (
+  inr (
+    n,
+    inr (inr (
+      l,
+      t
+          ∙ ap answer_line (answer_once (step.Read m q) x (answer.Refused (refusal.Future (newest system w))) e),
+    )),
+  ),
+  same,
+)
 
-of_world : (w : World system) (made : IsReached system w) (n : ℕ) (line text : List ℕ) (s : State) (m : MomentChoice) (q : Query)
-    → Asks (Some w) line (command.Read m q) → LineAnswer (Some w) n line text s → IsRead made.base w q (moment_in w m) text × (s ≡ Some w)
+of_world : (w : World system) (made : IsReached system w) (n : ℕ) (line text : List ℕ) (s : State) (m : MomentChoice)
+    (q : Query)
+    → Asks (Some w) line (command.Read m q) → LineAnswer (Some w) n line text s
+    → IsRead made.base w q (moment_in w m) text × (s ≡ Some w)
 of_world w made n line text s m q asks (inr (bad, e, same)) = absurd (bad (command.Read m q) asks)
 of_world w made n line text s m q asks (inl (d, other, a)) =
-    go (subst (λ (z : Command). Answers (Some w) z text s) (one_command line d (command.Read m q) other.says asks.says) a)
+    go (subst (λ (z : Command). Answers (Some w) z text s) (one_command line d (command.Read m q) other.says asks.says)
+    a)
   where
-    go : script.Stepped w (step.Read (moment_in w m) q) text s → IsRead made.base w q (moment_in w m) text × (s ≡ Some w)
+    go : script.Stepped w (step.Read (moment_in w m) q) text s → IsRead made.base w q (moment_in w m) text
+        × (s ≡ Some w)
     go (x, w', next, t, same) =
-        let told_so = query_told w q (moment_in w m) x w' text made t (step_asked w _ _ w' (moment_in w m) q next refl) in
+        let told_so = query_told w q (moment_in w m) x w' text made t
+        (step_asked w _ _ w' (moment_in w m) q next refl) in
         (told_so.0, same ∙ ap Some told_so.1)
 
 -- the population is the base of a script's world

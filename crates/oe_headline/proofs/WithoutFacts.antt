@@ -1,5 +1,6 @@
 -- A script without a transaction that was rolled back.
-use Rattle.std.proofs.Common.{◌≡◌, ℕ, zero, suc, ◌+◌, ◌/◌, ◌%◌, ◌≤◌, ◌<◌, Bool, true, false, cond, Option, None, Some, List, [], ◌∷◌, ◌++◌, length, decimal, refl, sym, ap, ◌∙◌, subst, inl, inr, arith}
+use Rattle.std.proofs.Common.{◌≡◌, ℕ, zero, suc, ◌+◌, ◌/◌, ◌%◌, ◌≤◌, ◌<◌, Bool, true, false, cond, Option, None, Some}
+use Rattle.std.proofs.Common.{List, [], ◌∷◌, ◌++◌, length, decimal, refl, sym, ap, ◌∙◌, subst, inl, inr, arith}
 use Rattle.std.specs.Prelude.{◌⊎◌, ◌≢◌, codes}
 use Rattle.std.specs.Int.{IsInRange}
 use Rattle.std.specs.List.{All}
@@ -29,10 +30,13 @@ use Rattle.oe_core.specs.Steps.{step_in, answer_in}
 use Rattle.oe_ports.specs.Dump.{dump_text}
 use Rattle.oe_script.specs.Script.{State, moment_in, IsAllowed, Asks, IsInLine}
 use Rattle.oe_headline.specs.Beside.{gives_way, without_open}
-use Rattle.oe_headline.specs.Deeds.{Deed, No_form, Opening, Dump, Steps, Entry, step_of, IsUpTo, Takes, Stepped, Was, Passed, lines_of, texts_of}
-use Rattle.oe_headline.specs.Without.{is_own, gave_way, is_rolled_back, next_line, nexts, before_last, Without, ends, was_own, went_away, shows, stays}
+use Rattle.oe_headline.specs.Deeds.{Deed, No_form, Opening, Dump, Steps, Entry, step_of, IsUpTo, Takes, Stepped, Was}
+use Rattle.oe_headline.specs.Deeds.{Passed, lines_of, texts_of}
+use Rattle.oe_headline.specs.Without.{is_own, gave_way, is_rolled_back, next_line, nexts, before_last, Without, ends}
+use Rattle.oe_headline.specs.Without.{was_own, went_away, shows, stays}
 use Rattle.oe_headline.specs.Laws.{IsReachedState, Lines_without_rollback, Outputs_without_rollback}
-use Rattle.oe_headline.proofs.BesideFacts.{Beside, gave_way as gave_way_here, stands, beside, Own, ended as ended_here, was_committed, went_on, own, began}
+use Rattle.oe_headline.proofs.BesideFacts.{Beside, gave_way as gave_way_here, stands, beside, Own, ended as ended_here}
+use Rattle.oe_headline.proofs.BesideFacts.{was_committed, went_on, own, began}
 use Rattle.oe_headline.proofs.DeedFacts.{lines_are_deeds}
 use Rattle.oe_headline.proofs.PassFacts.{passed_split, passed_append, passed_reached, next_reached, takes_reached}
 
@@ -51,8 +55,11 @@ short_number n h = go (cases_order n 10)
     two b =
         let front = decimal_digit (n / 10) (omega (arith, h)) in
         let whole = decimal_step n b (omega (arith, h)) ∙ ap (λ z. z ++ (48 + n % 10) ∷ []) front in
-        subst (λ (z : List ℕ). IsInLine z × (length z ≤ 2)) (sym whole)
-        (All-append (λ z. z ≢ 10) ((48 + n / 10) ∷ []) ((48 + n % 10) ∷ []) (small (n / 10) (omega (arith, h))) (small (n % 10) (omega arith)), omega arith)
+        subst (λ (z : List ℕ). IsInLine z × (length z ≤ 2)) (sym whole) (
+          All-append (λ z. z ≢ 10) ((48 + n / 10) ∷ []) ((48 + n % 10) ∷ []) (small (n / 10) (omega (arith, h)))
+              (small (n % 10) (omega arith)),
+          omega arith,
+        )
 
     go : (n ≡ 10) ⊎ ((n < 10) ⊎ (10 < n)) → IsInLine (decimal n) × (length (decimal n) ≤ 2)
     go (inl e) = two (omega (arith, e))
@@ -72,7 +79,8 @@ next_in_line t h =
     All-cons P 110 (101 ∷ 120 ∷ 116 ∷ 32 ∷ []) (λ e. absurd (omega (arith, e)))
     (All-cons P 101 (120 ∷ 116 ∷ 32 ∷ []) (λ e. absurd (omega (arith, e)))
     (All-cons P 120 (116 ∷ 32 ∷ []) (λ e. absurd (omega (arith, e)))
-    (All-cons P 116 (32 ∷ []) (λ e. absurd (omega (arith, e))) (All-cons P 32 [] (λ e. absurd (omega (arith, e))) (All-nil P))))) in
+    (All-cons P 116 (32 ∷ []) (λ e. absurd (omega (arith, e)))
+    (All-cons P 32 [] (λ e. absurd (omega (arith, e))) (All-nil P))))) in
     All-append P (codes "next ") (decimal t) word (short_number t h.1).0
 
 -- WHAT LINES ASK FOR IN ANOTHER WORLD
@@ -122,18 +130,24 @@ works_not : (t : ℕ) (v : Option ℕ) → names system t v ≡ false → v ≢ 
 works_not t None h e = some_none t (sym e)
 works_not t (Some u) h e = eqb-false u t h (some_inj u t e)
 
-own_taken : (n : ℕ) (w : World system) (t : ℕ) (o : Open system) → IsReached system w → w.active t ≡ Some o → (i : Step) (x : Answer) (w' : World system)
+own_taken : (n : ℕ) (w : World system) (t : ℕ) (o : Open system) → IsReached system w → w.active t ≡ Some o
+    → (i : Step) (x : Answer) (w' : World system)
     → theory.works_on system (step_in i) ≡ Some t → Takes n w i x w' → Own system laws w t (answer_in i x) w'
-own_taken zero w t o r l i x w' h k = own system laws w (reached_sound system laws w r) t o l (step_in i) (answer_in i x) w' h k
+own_taken zero w t o r l i x w' h k = own system laws w (reached_sound system laws w r) t o l (step_in i)
+    (answer_in i x) w' h k
 own_taken (suc n) w t o r l i x w' h (mid, more, k) =
-    go (own system laws w (reached_sound system laws w r) t o l (step_in i) (answer_in i answer.More) mid h more) (λ p lives. own_taken n mid t p (next_reached w mid _ _ r more) lives i x w' h k)
+    go (own system laws w (reached_sound system laws w r) t o l (step_in i) (answer_in i answer.More) mid h more)
+    (λ p lives. own_taken n mid t p (next_reached w mid _ _ r more) lives i x w' h k)
   where
-    later : without_open system t mid ≡ without_open system t w → Own system laws mid t (answer_in i x) w' → Own system laws w t (answer_in i x) w'
+    later : without_open system t mid ≡ without_open system t w → Own system laws mid t (answer_in i x) w'
+        → Own system laws w t (answer_in i x) w'
     later same (ended_here b e) = ended_here b (e ∙ same)
     later same (was_committed b c) = was_committed b c
     later same (went_on b p l e) = went_on b p l (e ∙ same)
 
-    go : Own system laws w t (answer_in i answer.More) mid → ((p : Open system) → mid.active t ≡ Some p → Own system laws mid t (answer_in i x) w') → Own system laws w t (answer_in i x) w'
+    go : Own system laws w t (answer_in i answer.More) mid
+        → ((p : Open system) → mid.active t ≡ Some p → Own system laws mid t (answer_in i x) w')
+        → Own system laws w t (answer_in i x) w'
     go (ended_here b e) f = absurd (false≢true b)
     go (was_committed b c) f = absurd (false≢true c)
     go (went_on b p lives same) f = later same (f p lives)
@@ -146,29 +160,38 @@ Mores zero w i v = w ≡ v
 Mores (suc n) w i v = (mid : World system) × Next system w (step_in i) (answer_in i answer.More) mid × Mores n mid i v
 
 data Other (n : ℕ) (w : World system) (t : ℕ) (i : Step) (x : Answer) (w' : World system) : Type 0 where
-  away : gives_way system t (step_in i) (answer_in i x) ≡ true → (o : Open system) → w'.active t ≡ Some o → Mores n (without_open system t w) i (without_open system t w') → Other n w t i x w'
-  stood : gives_way system t (step_in i) (answer_in i x) ≡ false → (o : Open system) → w'.active t ≡ Some o → Takes n (without_open system t w) i x (without_open system t w') → Other n w t i x w'
+  away : gives_way system t (step_in i) (answer_in i x) ≡ true → (o : Open system) → w'.active t ≡ Some o
+      → Mores n (without_open system t w) i (without_open system t w') → Other n w t i x w'
+  stood : gives_way system t (step_in i) (answer_in i x) ≡ false → (o : Open system) → w'.active t ≡ Some o
+      → Takes n (without_open system t w) i x (without_open system t w') → Other n w t i x w'
 
-other_taken : (n : ℕ) (w : World system) (t : ℕ) (o : Open system) → IsReached system w → w.active t ≡ Some o → (i : Step) (x : Answer) (w' : World system)
+other_taken : (n : ℕ) (w : World system) (t : ℕ) (o : Open system) → IsReached system w → w.active t ≡ Some o
+    → (i : Step) (x : Answer) (w' : World system)
     → theory.works_on system (step_in i) ≢ Some t → Takes n w i x w' → Other n w t i x w'
-other_taken zero w t o r l i x w' h k = go (beside system laws w (reached_sound system laws w r) t o l (step_in i) (answer_in i x) w' h k)
+other_taken zero w t o r l i x w' h k = go
+    (beside system laws w (reached_sound system laws w r) t o l (step_in i) (answer_in i x) w' h k)
   where
     go : Beside system laws w t (step_in i) (answer_in i x) w' → Other zero w t i x w'
-    go (gave_way_here b idle same) = away b o (ap (λ (z : World system). z.active t) same ∙ l) (ap (without_open system t) (sym same))
+    go (gave_way_here b idle same) = away b o (ap (λ (z : World system). z.active t) same ∙ l)
+        (ap (without_open system t) (sym same))
     go (stands b p lives m) = stood b p lives m
 other_taken (suc n) w t o r l i x w' h (mid, more, k) =
-    go (beside system laws w (reached_sound system laws w r) t o l (step_in i) (answer_in i answer.More) mid h more) (λ p lives. other_taken n mid t p (next_reached w mid _ _ r more) lives i x w' h k)
+    go (beside system laws w (reached_sound system laws w r) t o l (step_in i) (answer_in i answer.More) mid h more)
+    (λ p lives. other_taken n mid t p (next_reached w mid _ _ r more) lives i x w' h k)
   where
-    later : Next system (without_open system t w) (step_in i) (answer_in i answer.More) (without_open system t mid) → Other n mid t i x w' → Other (suc n) w t i x w'
+    later : Next system (without_open system t w) (step_in i) (answer_in i answer.More) (without_open system t mid)
+        → Other n mid t i x w' → Other (suc n) w t i x w'
     later m (away b p lives q) = away b p lives (without_open system t mid, m, q)
     later m (stood b p lives q) = stood b p lives (without_open system t mid, m, q)
 
-    go : Beside system laws w t (step_in i) (answer_in i answer.More) mid → ((p : Open system) → mid.active t ≡ Some p → Other n mid t i x w') → Other (suc n) w t i x w'
+    go : Beside system laws w t (step_in i) (answer_in i answer.More) mid
+        → ((p : Open system) → mid.active t ≡ Some p → Other n mid t i x w') → Other (suc n) w t i x w'
     go (gave_way_here b idle same) f = absurd (false≢true b)
     go (stands b p lives m) f = later m (f p lives)
 
 -- what a `run` had done, as lines
-nexts_passed : (n : ℕ) (t : ℕ) (w v : World system) → IsInRange 1 64 t → Mores n w (step.Advance t) v → Passed (Some w) (nexts n t) (Some v)
+nexts_passed : (n : ℕ) (t : ℕ) (w v : World system) → IsInRange 1 64 t → Mores n w (step.Advance t) v
+    → Passed (Some w) (nexts n t) (Some v)
 nexts_passed zero t w v h e = ap Some (sym e)
 nexts_passed (suc n) t w v h (mid, more, k) = (
   Some mid,
@@ -178,13 +201,15 @@ nexts_passed (suc n) t w v h (mid, more, k) = (
 
 nexts_in_line : (n t : ℕ) → IsInRange 1 64 t → All IsInLine (lines_of (nexts n t))
 nexts_in_line zero t h = All-nil IsInLine
-nexts_in_line (suc n) t h = All-cons IsInLine (next_line t) (lines_of (nexts n t)) (next_in_line t h) (nexts_in_line n t h)
+nexts_in_line (suc n) t h = All-cons IsInLine (next_line t) (lines_of (nexts n t)) (next_in_line t h)
+    (nexts_in_line n t h)
 
 abbrev IsBefore : World system → Deed → World system → Type 0
 IsBefore w d v = Passed (Some w) (before_last d) (Some v) × All IsInLine (lines_of (before_last d))
 
 -- of other commands nothing comes before their step
-nothing_before : (n : ℕ) (w v : World system) (i : Step) (x : Answer) → n ≡ 0 → Mores n w i v → IsBefore w (Steps n i x) v
+nothing_before : (n : ℕ) (w v : World system) (i : Step) (x : Answer) → n ≡ 0 → Mores n w i v
+    → IsBefore w (Steps n i x) v
 nothing_before zero w v (step.Begin t q) x z k = (ap Some (sym k), All-nil IsInLine)
 nothing_before zero w v (step.Advance t) x z k = (ap Some (sym k), All-nil IsInLine)
 nothing_before zero w v (step.Save t) x z k = (ap Some (sym k), All-nil IsInLine)
@@ -196,7 +221,8 @@ nothing_before zero w v (step.Rewind m) x z k = (ap Some (sym k), All-nil IsInLi
 nothing_before zero w v (step.Audit c m) x z k = (ap Some (sym k), All-nil IsInLine)
 nothing_before (suc n) w v i x z k = absurd (omega (arith, z))
 
-done_before : (u : World system) (c : Command) (line : List ℕ) (n : ℕ) (i : Step) (x : Answer) (w v : World system) → Asks (Some u) line c → step_of u c ≡ Some i → IsUpTo c n x → Mores n w i v
+done_before : (u : World system) (c : Command) (line : List ℕ) (n : ℕ) (i : Step) (x : Answer) (w v : World system)
+    → Asks (Some u) line c → step_of u c ≡ Some i → IsUpTo c n x → Mores n w i v
     → IsBefore w (Steps n i x) v
 done_before u (command.Open scale extents) line n i x w v a e z k = absurd a.allowed
 done_before u (command.Begin t q) line n i x w v a e z k = nothing_before n w v i x z k
@@ -218,44 +244,58 @@ done_before u (command.Rewind m) line n i x w v a e z k = nothing_before n w v i
 
 -- what is left of these lines, from the world in which the transaction is forgotten
 abbrev IsLeft : ℕ → World system → List Entry → State → Type 0
-IsLeft t w es s = (left : List Entry) × Without t es left × Passed (Some (without_open system t w)) left s × (All IsInLine (lines_of es) → All IsInLine (lines_of left))
+IsLeft t w es s = (left : List Entry) × Without t es left × Passed (Some (without_open system t w)) left s
+    × (All IsInLine (lines_of es) → All IsInLine (lines_of left))
 
 -- and of those that follow
 abbrev IsLeftAfter : ℕ → State → List Entry → State → Type 0
-IsLeftAfter t mid es s = (v : World system) (o : Open system) → mid ≡ Some v → IsReached system v → v.active t ≡ Some o → is_rolled_back t es ≡ true → IsLeft t v es s
+IsLeftAfter t mid es s = (v : World system) (o : Open system) → mid ≡ Some v → IsReached system v → v.active t ≡ Some o
+    → is_rolled_back t es ≡ true → IsLeft t v es s
 
 lines_append : (xs ys : List Entry) → lines_of (xs ++ ys) ≡ lines_of xs ++ lines_of ys
 lines_append [] ys = refl
 lines_append (x ∷ xs) ys = ap (λ z. x.line ∷ z) (lines_append xs ys)
 
-module _ (t : ℕ) (w : World system) (o : Open system) (r : IsReached system w) (l : w.active t ≡ Some o) (line : List ℕ) (es : List Entry) (mid s : State)
+module _ (t : ℕ) (w : World system) (o : Open system) (r : IsReached system w) (l : w.active t ≡ Some o) (line : List ℕ)
+    (es : List Entry) (mid s : State)
     (rest : Passed mid es s) (more : IsLeftAfter t mid es s) where
   -- a line that stays
-  kept : (d : Deed) → is_own t d ≡ false → gave_way t d ≡ false → (v : World system) → Was (Some (without_open system t w)) line d (Some (without_open system t v)) → IsLeft t v es s
+  kept : (d : Deed) → is_own t d ≡ false → gave_way t d ≡ false → (v : World system)
+      → Was (Some (without_open system t w)) line d (Some (without_open system t v)) → IsLeft t v es s
       → IsLeft t w (record { line = line; deed = d } ∷ es) s
   kept d a b v was (left, gone, passed, each) = (
     record { line = line; deed = d } ∷ left,
     stays (record { line = line; deed = d }) es left a b gone,
     (Some (without_open system t v), was, passed),
-    λ h. All-cons IsInLine line (lines_of left) (All-head IsInLine line (lines_of es) h) (each (All-tail IsInLine line (lines_of es) h)),
+    λ h. All-cons IsInLine line (lines_of left) (All-head IsInLine line (lines_of es) h)
+        (each (All-tail IsInLine line (lines_of es) h)),
   )
 
   -- one that was none of the forms
-  bad_here : ((c : Command) → Asks (Some w) line c → ⊥) → mid ≡ Some w → is_rolled_back t es ≡ true → IsLeft t w (record { line = line; deed = No_form } ∷ es) s
-  bad_here bad same h = kept No_form refl refl w (λ c a. bad c (asks_any (without_open system t w) w line c a), refl) (more w o same r l h)
+  bad_here : ((c : Command) → Asks (Some w) line c → ⊥) → mid ≡ Some w → is_rolled_back t es ≡ true
+      → IsLeft t w (record { line = line; deed = No_form } ∷ es) s
+  bad_here bad same h = kept No_form refl refl w (λ c a. bad c (asks_any (without_open system t w) w line c a), refl)
+      (more w o same r l h)
 
   -- a dump
-  shown_here : (text : List ℕ) → Was (Some w) line (Dump text) mid → is_rolled_back t es ≡ true → IsLeft t w (record { line = line; deed = Dump text } ∷ es) s
+  shown_here : (text : List ℕ) → Was (Some w) line (Dump text) mid → is_rolled_back t es ≡ true
+      → IsLeft t w (record { line = line; deed = Dump text } ∷ es) s
   shown_here text (b, asks, (e, same)) h =
       let (left, gone, passed, each) = more w o same r l h in
       let other = dump_text b (tables system (without_open system t w)) in (
         record { line = line; deed = Dump other } ∷ left,
         shows line text other es left gone,
-        (Some (without_open system t w), (b, asks_any w (without_open system t w) line (command.Dump b) asks, (refl, refl)), passed),
-        λ h. All-cons IsInLine line (lines_of left) (All-head IsInLine line (lines_of es) h) (each (All-tail IsInLine line (lines_of es) h)),
+        (
+          Some (without_open system t w),
+          (b, asks_any w (without_open system t w) line (command.Dump b) asks, (refl, refl)),
+          passed,
+        ),
+        λ h. All-cons IsInLine line (lines_of left) (All-head IsInLine line (lines_of es) h)
+            (each (All-tail IsInLine line (lines_of es) h)),
       )
 
-  module _ (n : ℕ) (i : Step) (x : Answer) (c : Command) (w' : World system) (asks : Asks (Some w) line c) (e : step_of w c ≡ Some i) (up : IsUpTo c n x) (takes : Takes n w i x w') (same : mid ≡ Some w') where
+  module _ (n : ℕ) (i : Step) (x : Answer) (c : Command) (w' : World system) (asks : Asks (Some w) line c)
+      (e : step_of w c ≡ Some i) (up : IsUpTo c n x) (takes : Takes n w i x w') (same : mid ≡ Some w') where
     abbrev here : Entry
     here = record { line = line; deed = Steps n i x }
 
@@ -264,7 +304,8 @@ module _ (t : ℕ) (w : World system) (o : Open system) (r : IsReached system w)
 
     -- one of its own
     own_here : is_of system t (step_in i) ≡ true → Own system laws w t (answer_in i x) w'
-        → cond (is_rollback system (answer_in i x)) true (cond (is_commit system (answer_in i x)) false (is_rolled_back t es)) ≡ true → IsLeft t w (here ∷ es) s
+        → cond (is_rollback system (answer_in i x)) true
+        (cond (is_commit system (answer_in i x)) false (is_rolled_back t es)) ≡ true → IsLeft t w (here ∷ es) s
     own_here mine (ended_here b gone) h = (
       es,
       ends here es mine b,
@@ -272,9 +313,14 @@ module _ (t : ℕ) (w : World system) (o : Open system) (r : IsReached system w)
       λ all. All-tail IsInLine line (lines_of es) all,
     )
     own_here mine (was_committed b d) h =
-        absurd (false≢true (subst (λ (z : Bool). cond z false (is_rolled_back t es) ≡ true) d (subst (λ (z : Bool). cond z true (cond (is_commit system (answer_in i x)) false (is_rolled_back t es)) ≡ true) b h)))
+        absurd (false≢true (subst (λ (z : Bool). cond z false (is_rolled_back t es) ≡ true) d
+        (subst (λ (z : Bool). cond z true (cond (is_commit system (answer_in i x)) false (is_rolled_back t es))
+        ≡ true) b h)))
     own_here mine (went_on b p lives kept_so) h =
-        let (left, gone, passed, each) = more w' p same reached lives (later (is_commit system (answer_in i x)) (subst (λ (z : Bool). cond z true (cond (is_commit system (answer_in i x)) false (is_rolled_back t es)) ≡ true) b h)) in (
+        let (left, gone, passed, each) = more w' p same reached lives
+        (later (is_commit system (answer_in i x))
+        (subst (λ (z : Bool). cond z true (cond (is_commit system (answer_in i x)) false (is_rolled_back t es))
+        ≡ true) b h)) in (
           left,
           was_own here es left mine b gone,
           subst (λ (z : World system). Passed (Some z) left s) kept_so passed,
@@ -286,57 +332,84 @@ module _ (t : ℕ) (w : World system) (o : Open system) (r : IsReached system w)
         later false q = q
 
     -- one of others
-    other_here : is_of system t (step_in i) ≡ false → Other n w t i x w' → is_rolled_back t es ≡ true → IsLeft t w (here ∷ es) s
+    other_here : is_of system t (step_in i) ≡ false → Other n w t i x w' → is_rolled_back t es ≡ true
+        → IsLeft t w (here ∷ es) s
     other_here theirs (stood b p lives took) h =
-        kept (Steps n i x) theirs b w' (c, without_open system t w', asks_any w (without_open system t w) line c asks, sym (same_step w t c) ∙ e, up, took, refl) (more w' p same reached lives h)
+        kept (Steps n i x) theirs b w' (
+          c,
+          without_open system t w',
+          asks_any w (without_open system t w) line c asks,
+          sym (same_step w t c)
+              ∙ e,
+          up,
+          took,
+          refl,
+        ) (more w' p same reached lives h)
     other_here theirs (away b p lives k) h =
         let (left, gone, passed, each) = more w' p same reached lives h in
         let before = done_before w c line n i x (without_open system t w) (without_open system t w') asks e up k in (
           before_last (Steps n i x) ++ left,
           went_away here es left theirs b gone,
-          passed_append (Some (without_open system t w)) (before_last (Steps n i x)) left (Some (without_open system t w')) s before.0 passed,
+          passed_append (Some (without_open system t w)) (before_last (Steps n i x)) left
+              (Some (without_open system t w')) s before.0 passed,
           λ all. subst (All IsInLine) (sym (lines_append (before_last (Steps n i x)) left))
-              (All-append IsInLine (lines_of (before_last (Steps n i x))) (lines_of left) before.1 (each (All-tail IsInLine line (lines_of es) all))),
+              (All-append IsInLine (lines_of (before_last (Steps n i x))) (lines_of left) before.1
+              (each (All-tail IsInLine line (lines_of es) all))),
         )
 
     step_here : (b : Bool) → is_of system t (step_in i) ≡ b
-        → cond b (cond (is_rollback system (answer_in i x)) true (cond (is_commit system (answer_in i x)) false (is_rolled_back t es))) (is_rolled_back t es) ≡ true
+        → cond b (cond (is_rollback system (answer_in i x)) true
+        (cond (is_commit system (answer_in i x)) false (is_rolled_back t es))) (is_rolled_back t es) ≡ true
         → IsLeft t w (here ∷ es) s
-    step_here true q h = own_here q (own_taken n w t o r l i x w' (works t (theory.works_on system (step_in i)) q) takes) h
-    step_here false q h = other_here q (other_taken n w t o r l i x w' (works_not t (theory.works_on system (step_in i)) q) takes) h
+    step_here true q h = own_here q
+        (own_taken n w t o r l i x w' (works t (theory.works_on system (step_in i)) q) takes) h
+    step_here false q h =
+        other_here q (other_taken n w t o r l i x w' (works_not t (theory.works_on system (step_in i)) q) takes) h
 
-  line_here : (d : Deed) → Was (Some w) line d mid → is_rolled_back t (record { line = line; deed = d } ∷ es) ≡ true → IsLeft t w (record { line = line; deed = d } ∷ es) s
+  line_here : (d : Deed) → Was (Some w) line d mid → is_rolled_back t (record { line = line; deed = d } ∷ es) ≡ true
+      → IsLeft t w (record { line = line; deed = d } ∷ es) s
   line_here No_form (bad, same) h = bad_here bad same h
   line_here (Opening text) (scale, extents, asks, a) h = absurd a
   line_here (Dump text) was h = shown_here text was h
-  line_here (Steps n i x) (c, w', asks, e, up, takes, same) h = step_here n i x c w' asks e up takes same (is_of system t (step_in i)) refl h
+  line_here (Steps n i x) (c, w', asks, e, up, takes, same) h = step_here n i x c w' asks e up takes same
+      (is_of system t (step_in i)) refl h
 
-lines_left : (es : List Entry) (t : ℕ) (w : World system) (o : Open system) (s : State) → IsReached system w → w.active t ≡ Some o → Passed (Some w) es s → is_rolled_back t es ≡ true
+lines_left : (es : List Entry) (t : ℕ) (w : World system) (o : Open system) (s : State) → IsReached system w
+    → w.active t ≡ Some o → Passed (Some w) es s → is_rolled_back t es ≡ true
     → IsLeft t w es s
 lines_left [] t w o s r l p h = absurd (false≢true h)
 lines_left (e ∷ es) t w o s r l (mid, was, rest) h =
     line_here t w o r l e.line es mid s rest
-    (λ v p same reached lives later. lines_left es t v p s reached lives (subst (λ (z : State). Passed z es s) same rest) later) e.deed was h
+    (λ v p same reached lives later. lines_left es t v p s reached lives
+    (subst (λ (z : State). Passed z es s) same rest) later) e.deed was h
 
 -- FROM ITS BEGIN ON
 
-begins_so : (w : World system) (t : ℕ) (q : Request) (line : List ℕ) (after : List Entry) (mid s : State) → IsReached system w
+begins_so : (w : World system) (t : ℕ) (q : Request) (line : List ℕ) (after : List Entry) (mid s : State)
+    → IsReached system w
     → Stepped (Some w) line 0 (step.Begin t q) answer.Begun mid → Passed mid after s → is_rolled_back t after ≡ true
-    → (left : List Entry) × Without t after left × Passed (Some w) left s × (All IsInLine (lines_of after) → All IsInLine (lines_of left))
+    → (left : List Entry) × Without t after left × Passed (Some w) left s
+    × (All IsInLine (lines_of after) → All IsInLine (lines_of left))
 begins_so w t q line after mid s r (c, w', asks, e, up, next, same) p h =
     let (o, lives, gone) = began system laws w (reached_sound system laws w r) t q w' next in
-    let (left, without, passed, each) = lines_left after t w' o s (next_reached w w' _ _ r next) lives (subst (λ (z : State). Passed z after s) same p) h in
+    let (left, without, passed, each) = lines_left after t w' o s (next_reached w w' _ _ r next) lives
+    (subst (λ (z : State). Passed z after s) same p) h in
     (left, without, subst (λ (z : World system). Passed (Some z) left s) gone passed, each)
 
 left_whole : (s s' : State) (before after : List Entry) (first : Entry) (t : ℕ) (q : Request) → IsReachedState s
-    → first.deed ≡ Steps 0 (step.Begin t q) answer.Begun → Passed s (before ++ first ∷ after) s' → is_rolled_back t after ≡ true
-    → (left : List Entry) × Without t after left × Passed s (before ++ left) s' × (All IsInLine (lines_of after) → All IsInLine (lines_of left))
+    → first.deed ≡ Steps 0 (step.Begin t q) answer.Begun → Passed s (before ++ first ∷ after) s'
+    → is_rolled_back t after ≡ true
+    → (left : List Entry) × Without t after left × Passed s (before ++ left) s'
+    × (All IsInLine (lines_of after) → All IsInLine (lines_of left))
 left_whole s s' before after first t q l is p h =
     let (here, passed, (mid, was, rest)) = passed_split s before (first ∷ after) s' p in
-    go here passed (passed_reached s before here l passed) mid (subst (λ (d : Deed). Was here first.line d mid) is was) rest
+    go here passed (passed_reached s before here l passed) mid (subst (λ (d : Deed). Was here first.line d mid) is was)
+    rest
   where
-    go : (here : State) → Passed s before here → IsReachedState here → (mid : State) → Was here first.line (Steps 0 (step.Begin t q) answer.Begun) mid → Passed mid after s'
-        → (left : List Entry) × Without t after left × Passed s (before ++ left) s' × (All IsInLine (lines_of after) → All IsInLine (lines_of left))
+    go : (here : State) → Passed s before here → IsReachedState here → (mid : State)
+        → Was here first.line (Steps 0 (step.Begin t q) answer.Begun) mid → Passed mid after s'
+        → (left : List Entry) × Without t after left × Passed s (before ++ left) s'
+        × (All IsInLine (lines_of after) → All IsInLine (lines_of left))
     go None passed r mid was rest = absurd was
     go (Some w) passed r mid was rest =
         let (left, without, more, each) = begins_so w t q first.line after mid s' r was rest h in
@@ -353,21 +426,36 @@ pub outputs_without_rollback : Outputs_without_rollback
 outputs_without_rollback input out o before after first t q told is h =
     let (left, without, passed, each) = left_whole None o.state before after first t q tt is told.passed h in
     let run = lines_are_deeds.back None 0 (before ++ left) o.state passed in
-    let old : All IsInLine (lines_of before ++ first.line ∷ lines_of after) = subst (All IsInLine) (sym told.lines ∙ lines_append before (first ∷ after)) o.each in
+    let old : All IsInLine (lines_of before ++ first.line ∷ lines_of after) =
+    subst (All IsInLine) (sym told.lines ∙ lines_append before (first ∷ after)) o.each in
     let all : All IsInLine (lines_of (before ++ left)) =
-    subst (All IsInLine) (sym (lines_append before left)) (All-append IsInLine (lines_of before) (lines_of left) (front (lines_of before) old) (each (All-tail IsInLine first.line (lines_of after) (back (lines_of before) old)))) in (
+    subst (All IsInLine) (sym (lines_append before left))
+    (All-append IsInLine (lines_of before) (lines_of left) (front (lines_of before) old)
+    (each (All-tail IsInLine first.line (lines_of after) (back (lines_of before) old)))) in (
       left,
       without,
       (
-        record { lines = lines_of (before ++ left); last = o.last; answers = texts_of 0 (before ++ left); state = o.state; whole = refl; each = all; tail = o.tail; run = run; text = refl },
+        record {
+          lines = lines_of (before ++ left);
+          last = o.last;
+          answers = texts_of 0 (before ++ left);
+          state = o.state;
+          whole = refl;
+          each = all;
+          tail = o.tail;
+          run = run;
+          text = refl;
+        },
         refl,
       ),
     )
   where
     front : (xs : List (List ℕ)) → All IsInLine (xs ++ first.line ∷ lines_of after) → All IsInLine xs
     front [] h = All-nil IsInLine
-    front (x ∷ xs) h = All-cons IsInLine x xs (All-head IsInLine x (xs ++ first.line ∷ lines_of after) h) (front xs (All-tail IsInLine x (xs ++ first.line ∷ lines_of after) h))
+    front (x ∷ xs) h = All-cons IsInLine x xs (All-head IsInLine x (xs ++ first.line ∷ lines_of after) h)
+        (front xs (All-tail IsInLine x (xs ++ first.line ∷ lines_of after) h))
 
-    back : (xs : List (List ℕ)) → All IsInLine (xs ++ first.line ∷ lines_of after) → All IsInLine (first.line ∷ lines_of after)
+    back : (xs : List (List ℕ)) → All IsInLine (xs ++ first.line ∷ lines_of after)
+        → All IsInLine (first.line ∷ lines_of after)
     back [] h = h
     back (x ∷ xs) h = back xs (All-tail IsInLine x (xs ++ first.line ∷ lines_of after) h)

@@ -15,7 +15,8 @@ use Rattle.oe_core.specs.Steps.{step_in, answer_in}
 use Rattle.oe_ports.specs.Lines.{bad_line}
 use Rattle.oe_script.specs.Script.{State, moment_in, told, Answers, Asks}
 
--- what a line was: none of the forms; an opening or a dump, with its text; or a step with its answer, before which so many
+-- what a line was: none of the forms; an opening or a dump, with its text; or a step with its answer, before which so
+-- many
 -- times the same step was answered `more`, as a `run` has it
 pub data Deed : Type 0 where
   No_form : Deed
@@ -51,18 +52,21 @@ IsUpTo c n x = n ≡ 0
 -- the step, n times answered `more`, and then answered so
 abbrev pub Takes : ℕ → World system → Step → Answer → World system → Type 0
 Takes zero w i x w' = Next system w (step_in i) (answer_in i x) w'
-Takes (suc n) w i x w' = (mid : World system) × Next system w (step_in i) (answer_in i answer.More) mid × Takes n mid i x w'
+Takes (suc n) w i x w' = (mid : World system) × Next system w (step_in i) (answer_in i answer.More) mid
+    × Takes n mid i x w'
 
 -- the line was taken for such steps
 abbrev pub Stepped : State → List ℕ → ℕ → Step → Answer → State → Type 0
 Stepped None line n i x s = ⊥
 Stepped (Some w) line n i x s =
-    (c : Command) × (w' : World system) × Asks (Some w) line c × (step_of w c ≡ Some i) × IsUpTo c n x × Takes n w i x w' × (s ≡ Some w')
+    (c : Command) × (w' : World system) × Asks (Some w) line c × (step_of w c ≡ Some i) × IsUpTo c n x
+    × Takes n w i x w' × (s ≡ Some w')
 
 -- in this state the line was this deed, and left that state
 abbrev pub Was : State → List ℕ → Deed → State → Type 0
 Was s line No_form s' = ((c : Command) → Asks s line c → ⊥) × (s' ≡ s)
-Was s line (Opening text) s' = (scale : Scale) × (extents : ℕ) × Asks s line (command.Open scale extents) × Answers s (command.Open scale extents) text s'
+Was s line (Opening text) s' = (scale : Scale) × (extents : ℕ) × Asks s line (command.Open scale extents)
+    × Answers s (command.Open scale extents) text s'
 Was s line (Dump text) s' = (b : Table) × Asks s line (command.Dump b) × Answers s (command.Dump b) text s'
 Was s line (Steps n i x) s' = Stepped s line n i x s'
 

@@ -35,7 +35,8 @@ use Rattle.oe_script.specs.declared.session.Fault.TheVariants as fault
 use Rattle.oe_ports.specs.Ports.{Source, Sink}
 use Rattle.oe_script.specs.Session.{ScriptRan}
 use Rattle.oe_script.specs.Script.{State, moment_in, Asks, LineAnswer, RunOfLines, ended, last_text, Output}
-use Rattle.oe_headline.specs.Deeds.{Deed, No_form, Opening, Dump, Steps, Entry, Passed, lines_of, texts_of, steps_of, answers_of}
+use Rattle.oe_headline.specs.Deeds.{Deed, No_form, Opening, Dump, Steps, Entry, Passed, lines_of, texts_of, steps_of}
+use Rattle.oe_headline.specs.Deeds.{answers_of}
 use Rattle.oe_headline.specs.Without.{is_rolled_back, Without}
 use Rattle.oe_headline.specs.Moments.{IsVersion, AreUnpurged, IsRewound, IsRewoundTo}
 
@@ -43,7 +44,8 @@ use Rattle.oe_headline.specs.Moments.{IsVersion, AreUnpurged, IsRewound, IsRewou
 pub record Lines_are_deeds : Type 0 where
   pub each : (s : State) (n : ℕ) (lines : List (List ℕ)) (text : List ℕ) (s' : State) → RunOfLines s n lines text s'
       → (es : List Entry) × Passed s es s' × (lines_of es ≡ lines) × (texts_of n es ≡ text)
-  pub back : (s : State) (n : ℕ) (es : List Entry) (s' : State) → Passed s es s' → RunOfLines s n (lines_of es) (texts_of n es) s'
+  pub back : (s : State) (n : ℕ) (es : List Entry) (s' : State) → Passed s es s'
+      → RunOfLines s n (lines_of es) (texts_of n es) s'
 
 -- nothing is open yet, or a world that steps led to from a population
 abbrev pub IsReachedState : State → Type 0
@@ -53,7 +55,8 @@ IsReachedState (Some w) = IsReached system w
 -- each state that the lines of a script pass through is such a one
 pub record Worlds_are_reached : Type 0 where
   -- whatever number of lines came before
-  pub of_lines : (s : State) (n : ℕ) (lines : List (List ℕ)) (text : List ℕ) (s' : State) → IsReachedState s → RunOfLines s n lines text s' → IsReachedState s'
+  pub of_lines : (s : State) (n : ℕ) (lines : List (List ℕ)) (text : List ℕ) (s' : State) → IsReachedState s
+      → RunOfLines s n lines text s' → IsReachedState s'
   -- at each place between two lines
   pub between : (before after : List (List ℕ)) (text : List ℕ) (s : State) → RunOfLines None 0 (before ++ after) text s
       → (mid : State) × (first : List ℕ) × (rest : List ℕ) × RunOfLines None 0 before first mid × IsReachedState mid
@@ -61,7 +64,8 @@ pub record Worlds_are_reached : Type 0 where
   -- at the end
   pub of_output : (input out : List ℕ) (o : Output input out) → IsReachedState o.state
 
--- conditions 1 to 4 (clauses 3.3.2.1 to 3.3.2.4) hold there of the version of each moment, and of the tables where nothing is open
+-- conditions 1 to 4 (clauses 3.3.2.1 to 3.3.2.4) hold there of the version of each moment, and of the tables where
+-- nothing is open
 abbrev pub IsConsistentState : State → Type 0
 IsConsistentState None = Unit {0}
 IsConsistentState (Some w) = Is_consistent w
@@ -83,15 +87,21 @@ IsAudited w c m text =
 
 pub record Audits_hold : Type 0 where
   -- at each place between two lines
-  pub conditions : (n : ℕ) (lines : List (List ℕ)) (text : List ℕ) (s : State) → RunOfLines None n lines text s → IsConsistentState s
+  pub conditions : (n : ℕ) (lines : List (List ℕ)) (text : List ℕ) (s : State) → RunOfLines None n lines text s
+      → IsConsistentState s
   -- each line that asks for an audit of one of the four
-  pub answered : (w : World system) (n : ℕ) (line text : List ℕ) (s : State) (c : Condition) (m : MomentChoice) → IsReached system w → IsOfFour c
-      → Asks (Some w) line (command.Audit c m) → LineAnswer (Some w) n line text s → IsAudited w c (moment_in w m) text × (s ≡ Some w)
+  pub answered : (w : World system) (n : ℕ) (line text : List ℕ) (s : State) (c : Condition) (m : MomentChoice)
+      → IsReached system w → IsOfFour c
+      → Asks (Some w) line (command.Audit c m) → LineAnswer (Some w) n line text s
+      → IsAudited w c (moment_in w m) text × (s ≡ Some w)
   -- one of `now` is never refused
-  pub now : (w : World system) (n : ℕ) (line text : List ℕ) (s : State) (c : Condition) → IsReached system w → IsOfFour c
-      → Asks (Some w) line (command.Audit c moment.Now) → LineAnswer (Some w) n line text s → text ≡ audit_line c verdict.Holds
+  pub now : (w : World system) (n : ℕ) (line text : List ℕ) (s : State) (c : Condition) → IsReached system w
+      → IsOfFour c
+      → Asks (Some w) line (command.Audit c moment.Now) → LineAnswer (Some w) n line text s
+      → text ≡ audit_line c verdict.Holds
   -- in a script no verdict is that one of them fails
-  pub verdicts : (s s' : State) (before after : List Entry) (e : Entry) (n : ℕ) (c : Condition) (m : ℕ) (v : Verdict) → IsReachedState s → IsOfFour c
+  pub verdicts : (s s' : State) (before after : List Entry) (e : Entry) (n : ℕ) (c : Condition) (m : ℕ) (v : Verdict)
+      → IsReachedState s → IsOfFour c
       → Passed s (before ++ e ∷ after) s' → e.deed ≡ Steps n (step.Audit c m) (answer.Audited v) → v ≡ verdict.Holds
 
 -- conditions 5 to 10 and 12 (clauses 3.3.2.5 to 3.3.2.10 and 3.3.2.12) hold there of the version of each moment
@@ -99,30 +109,39 @@ abbrev pub HasMore : State → Type 0
 HasMore None = Unit {0}
 HasMore (Some w) = (m : ℕ) → More (at system w m)
 
--- A script opens a population of the formulas, of which they hold. So each of its audits, of any of the eleven conditions, is
+-- A script opens a population of the formulas, of which they hold. So each of its audits, of any of the eleven
+-- conditions, is
 -- answered that the condition holds
 pub record More_audits_hold : Type 0 where
   -- at each place between two lines
-  pub conditions : (n : ℕ) (lines : List (List ℕ)) (text : List ℕ) (s : State) → RunOfLines None n lines text s → HasMore s
+  pub conditions : (n : ℕ) (lines : List (List ℕ)) (text : List ℕ) (s : State) → RunOfLines None n lines text s
+      → HasMore s
   -- each line that asks for an audit, behind any lines
-  pub answered : (es : List Entry) (w : World system) (n : ℕ) (line text : List ℕ) (s : State) (c : Condition) (m : MomentChoice) → Passed None es (Some w)
-      → Asks (Some w) line (command.Audit c m) → LineAnswer (Some w) n line text s → IsAudited w c (moment_in w m) text × (s ≡ Some w)
+  pub answered : (es : List Entry) (w : World system) (n : ℕ) (line text : List ℕ) (s : State) (c : Condition)
+      (m : MomentChoice) → Passed None es (Some w)
+      → Asks (Some w) line (command.Audit c m) → LineAnswer (Some w) n line text s
+      → IsAudited w c (moment_in w m) text × (s ≡ Some w)
   -- one of `now` is never refused
-  pub now : (es : List Entry) (w : World system) (n : ℕ) (line text : List ℕ) (s : State) (c : Condition) → Passed None es (Some w)
-      → Asks (Some w) line (command.Audit c moment.Now) → LineAnswer (Some w) n line text s → text ≡ audit_line c verdict.Holds
+  pub now : (es : List Entry) (w : World system) (n : ℕ) (line text : List ℕ) (s : State) (c : Condition)
+      → Passed None es (Some w)
+      → Asks (Some w) line (command.Audit c moment.Now) → LineAnswer (Some w) n line text s
+      → text ≡ audit_line c verdict.Holds
   -- no verdict is that a condition fails
   pub verdicts : (s : State) (before after : List Entry) (e : Entry) (n : ℕ) (c : Condition) (m : ℕ) (v : Verdict)
       → Passed None (before ++ e ∷ after) s → e.deed ≡ Steps n (step.Audit c m) (answer.Audited v) → v ≡ verdict.Holds
 
--- A query of a moment is answered what is found in the version of that moment, which the commits up to it leave, run one at a time, each
--- with its effect, and nobody's open work; or what is missed there. It is refused where its warehouse is absent, or where the moment is not kept
+-- A query of a moment is answered what is found in the version of that moment, which the commits up to it leave, run
+-- one at a time, each
+-- with its effect, and nobody's open work; or what is missed there. It is refused where its warehouse is absent, or
+-- where the moment is not kept
 abbrev pub Tells : Outcome QueryReply Refusal → List ℕ → Type 0
 Tells (Here f) text = text ≡ answer_line (answer.Replied f)
 Tells (Missing e) text = text ≡ answer_line (answer.Refused e)
 
 abbrev pub IsReadAt : Rows → World system → Query → ℕ → List ℕ → Type 0
 IsReadAt base w q m text =
-    ((horizon system w ≤ m) × (m ≤ newest system w) × IsVersion base w m (at system w m) × Tells (answer_of q (at system w m)) text)
+    ((horizon system w ≤ m) × (m ≤ newest system w) × IsVersion base w m (at system w m)
+    × Tells (answer_of q (at system w m)) text)
     ⊎ ((m < horizon system w) × (text ≡ answer_line (answer.Refused (refusal.TooOld (horizon system w)))))
     ⊎ ((newest system w < m) × (text ≡ answer_line (answer.Refused (refusal.Future (newest system w)))))
 
@@ -131,7 +150,8 @@ IsRead base w q m text =
     ((e : Refusal) × (query_rejection q (tables system w) ≡ Some e) × (text ≡ answer_line (answer.Refused e)))
     ⊎ ((query_rejection q (tables system w) ≡ None) × IsReadAt base w q m text)
 
--- The lines of a script up to its opening, and what follows of those after it. They are one run of the machine, from the
+-- The lines of a script up to its opening, and what follows of those after it. They are one run of the machine, from
+-- the
 -- population that was opened: each of its transactions ends whole, although others overlap it; the commits are those of
 -- transactions run one at a time; conditions 1 to 4 hold all the way
 pub record IsOneRun (es : List Entry) (w : World system) : Type 0 where
@@ -157,11 +177,15 @@ pub record Scripts_are_runs : Type 0 where
 -- so it is with each line that asks a query
 pub record Reads_are_of_moments : Type 0 where
   -- in each world that steps led to from a base
-  pub of_world : (w : World system) (made : IsReached system w) (n : ℕ) (line text : List ℕ) (s : State) (m : MomentChoice) (q : Query)
-      → Asks (Some w) line (command.Read m q) → LineAnswer (Some w) n line text s → IsRead made.base w q (moment_in w m) text × (s ≡ Some w)
+  pub of_world : (w : World system) (made : IsReached system w) (n : ℕ) (line text : List ℕ) (s : State)
+      (m : MomentChoice) (q : Query)
+      → Asks (Some w) line (command.Read m q) → LineAnswer (Some w) n line text s
+      → IsRead made.base w q (moment_in w m) text × (s ≡ Some w)
   -- and behind each line of a script, from the population that it opened
-  pub of_script : (es : List Entry) (w : World system) (r : IsOneRun es w) (n : ℕ) (line text : List ℕ) (s : State) (m : MomentChoice) (q : Query)
-      → Asks (Some w) line (command.Read m q) → LineAnswer (Some w) n line text s → IsRead r.rows w q (moment_in w m) text × (s ≡ Some w)
+  pub of_script : (es : List Entry) (w : World system) (r : IsOneRun es w) (n : ℕ) (line text : List ℕ) (s : State)
+      (m : MomentChoice) (q : Query)
+      → Asks (Some w) line (command.Read m q) → LineAnswer (Some w) n line text s
+      → IsRead r.rows w q (moment_in w m) text × (s ≡ Some w)
 
 -- what a run goes on from, and where a rewind leads
 pub record Rewinds_restore : Type 0 where
@@ -169,24 +193,30 @@ pub record Rewinds_restore : Type 0 where
   pub by_purge : (w v : World system) (m : ℕ) → Next system w (theory.Purge m) (theory.Purged m) v
       → (v.base ≡ at system w m) × (v.counts ≡ counts_at system w m)
   -- which each other step leaves
-  pub by_other : (w v : World system) (i : theory.Step system) (a : theory.Answer system) → Next system w i a v → ((m : ℕ) → a ≢ theory.Purged m)
+  pub by_other : (w v : World system) (i : theory.Step system) (a : theory.Answer system) → Next system w i a v
+      → ((m : ℕ) → a ≢ theory.Purged m)
       → (v.base ≡ w.base) × (v.counts ≡ w.counts)
   -- so as long as nothing is purged it is the population that was opened
   pub of_population : (es : List Entry) (w : World system) (r : IsOneRun es w) → AreUnpurged (answers_of r.after)
       → (w.base ≡ r.rows) × (horizon system w ≡ 0)
   -- each line that asks for a rewind
-  pub answered : (w : World system) (made : IsReached system w) (n : ℕ) (line text : List ℕ) (s : State) (m : MomentChoice)
-      → Asks (Some w) line (command.Rewind m) → LineAnswer (Some w) n line text s → IsRewound made.base w (moment_in w m) text s
+  pub answered : (w : World system) (made : IsReached system w) (n : ℕ) (line text : List ℕ) (s : State)
+      (m : MomentChoice)
+      → Asks (Some w) line (command.Rewind m) → LineAnswer (Some w) n line text s
+      → IsRewound made.base w (moment_in w m) text s
   -- as long as nothing is purged `rewind 0` gives the population back
   pub to_population : (es : List Entry) (w : World system) (r : IsOneRun es w) (n : ℕ) (line text : List ℕ) (s : State)
-      → AreUnpurged (answers_of r.after) → Asks (Some w) line (command.Rewind (moment.At 0)) → LineAnswer (Some w) n line text s → IsRewoundTo r.rows w text s
+      → AreUnpurged (answers_of r.after) → Asks (Some w) line (command.Rewind (moment.At 0))
+      → LineAnswer (Some w) n line text s → IsRewoundTo r.rows w text s
 
--- A transaction begins in the line `first`, and is rolled back in those that follow. Without its lines the others are answered
+-- A transaction begins in the line `first`, and is rolled back in those that follow. Without its lines the others are
+-- answered
 -- the same, and leave the same state
 abbrev pub Lines_without_rollback : Type 0
 Lines_without_rollback =
     (s s' : State) (before after : List Entry) (first : Entry) (t : ℕ) (q : Request) → IsReachedState s
-    → first.deed ≡ Steps 0 (step.Begin t q) answer.Begun → Passed s (before ++ first ∷ after) s' → is_rolled_back t after ≡ true
+    → first.deed ≡ Steps 0 (step.Begin t q) answer.Begun → Passed s (before ++ first ∷ after) s'
+    → is_rolled_back t after ≡ true
     → (left : List Entry) × Without t after left × Passed s (before ++ left) s'
 
 -- these are the lines of an output, and its answers
@@ -203,9 +233,11 @@ OutputTo input out s = (o : Output input out) × (o.state ≡ s)
 abbrev pub Outputs_without_rollback : Type 0
 Outputs_without_rollback =
     (input out : List ℕ) (o : Output input out) (before after : List Entry) (first : Entry) (t : ℕ) (q : Request)
-    → IsOutputOf input out o (before ++ first ∷ after) → first.deed ≡ Steps 0 (step.Begin t q) answer.Begun → is_rolled_back t after ≡ true
+    → IsOutputOf input out o (before ++ first ∷ after) → first.deed ≡ Steps 0 (step.Begin t q) answer.Begun
+    → is_rolled_back t after ≡ true
     → (left : List Entry) × Without t after left
-    × OutputTo (flat_map ended (lines_of (before ++ left)) ++ o.last) (texts_of 0 (before ++ left) ++ last_text (length (lines_of (before ++ left)) + 1) o.last) o.state
+    × OutputTo (flat_map ended (lines_of (before ++ left)) ++ o.last)
+    (texts_of 0 (before ++ left) ++ last_text (length (lines_of (before ++ left)) + 1) o.last) o.state
 
 -- the line was not refused memory
 abbrev pub HasMemory : Deed → Type 0
@@ -221,13 +253,16 @@ HaveMemory (e ∷ es) = HasMemory e.deed × HaveMemory es
 
 -- Where no line is refused memory, the lines determine what each was and the state that they leave
 pub record Answers_are_determined : Type 0 where
-  pub of_lines : (s s₁ s₂ : State) (es fs : List Entry) → Passed s es s₁ → Passed s fs s₂ → lines_of es ≡ lines_of fs → HaveMemory es → HaveMemory fs
+  pub of_lines : (s s₁ s₂ : State) (es fs : List Entry) → Passed s es s₁ → Passed s fs s₂ → lines_of es ≡ lines_of fs
+      → HaveMemory es → HaveMemory fs
       → (es ≡ fs) × (s₁ ≡ s₂)
   -- so an input determines its output
-  pub of_output : (input out out' : List ℕ) (o : Output input out) (o' : Output input out') (es fs : List Entry) → IsOutputOf input out o es → IsOutputOf input out' o' fs
+  pub of_output : (input out out' : List ℕ) (o : Output input out) (o' : Output input out') (es fs : List Entry)
+      → IsOutputOf input out o es → IsOutputOf input out' o' fs
       → HaveMemory es → HaveMemory fs → (out ≡ out') × (o.state ≡ o'.state)
 
--- An output of what was read, and what each whole line of it was. From the opening on the lines are one run of the machine, whatever
+-- An output of what was read, and what each whole line of it was. From the opening on the lines are one run of the
+-- machine, whatever
 -- transactions overlap in them
 pub record IsAnswered (read : List ℕ) : Type 0 where
   pub out : List ℕ
@@ -236,7 +271,8 @@ pub record IsAnswered (read : List ℕ) : Type 0 where
   pub deeds : IsOutputOf read out output es
   pub run : (w : World system) → output.state ≡ Some w → IsOneRun es w
 
--- Exactly the answers of all whole lines that were read were written, and whatever input follows, an output of all of it begins so
+-- Exactly the answers of all whole lines that were read were written, and whatever input follows, an output of all of
+-- it begins so
 pub record IsCutByReader (a b : Source) (c d : Sink) : Type 0 where
   pub read : List ℕ
   pub were_read : a.remaining ≡ read ++ b.remaining
@@ -254,5 +290,7 @@ pub record IsCutByWriter (a b : Source) (c d : Sink) : Type 0 where
 
 -- how a fault of the reader and one of the writer cut a script's output
 pub record Faults_cut_outputs : Type 0 where
-  pub by_reader : (a b : Source) (c d : Sink) → ScriptRan (Some a) (Some b) (Some c) (Some d) (Err fault.Read) → IsCutByReader a b c d
-  pub by_writer : (a b : Source) (c d : Sink) → ScriptRan (Some a) (Some b) (Some c) (Some d) (Err fault.Write) → IsCutByWriter a b c d
+  pub by_reader : (a b : Source) (c d : Sink) → ScriptRan (Some a) (Some b) (Some c) (Some d) (Err fault.Read)
+      → IsCutByReader a b c d
+  pub by_writer : (a b : Source) (c d : Sink) → ScriptRan (Some a) (Some b) (Some c) (Some d) (Err fault.Write)
+      → IsCutByWriter a b c d

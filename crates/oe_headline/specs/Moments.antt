@@ -10,13 +10,16 @@ use Rattle.oe_model.specs.System.{system}
 use Rattle.oe_texts.specs.Answer.{answer_line}
 use Rattle.oe_script.specs.Script.{State}
 
--- The rows are what these commits, the newest first, leave of a base, where f counts each terminal's commits before it. Each has an effect:
+-- The rows are what these commits, the newest first, leave of a base, where f counts each terminal's commits before it.
+-- Each has an effect:
 -- it makes the whole of it on what the earlier ones leave, and its reply is that effect's
 abbrev pub Leaves : (ℕ → ℕ) → Rows → List (Commit system) → Rows → Type 0
 Leaves f b [] r = r ≡ b
-Leaves f b (c ∷ cs) r = (before : Rows) × Leaves f b cs before × (made : IsCommit system (counts_after system f cs) before c) × (r ≡ made.after)
+Leaves f b (c ∷ cs) r = (before : Rows) × Leaves f b cs before
+    × (made : IsCommit system (counts_after system f cs) before c) × (r ≡ made.after)
 
--- The rows are the version of the moment in a world that began with this base: its first m commits leave them, run one at a time. The
+-- The rows are the version of the moment in a world that began with this base: its first m commits leave them, run one
+-- at a time. The
 -- world keeps the later ones in its history, and has forgotten those up to the horizon
 pub record IsVersion (base : Rows) (w : World system) (m : ℕ) (r : Rows) : Type 0 where
   pub later : List (Commit system)
@@ -36,7 +39,8 @@ AreUnpurged (x ∷ ys) = ((m : ℕ) → x ≢ answer.Purged m) × AreUnpurged ys
 abbrev pub StandsAt : ℕ → Rows → State → Type 0
 StandsAt m r s = (v : World system) × (s ≡ Some v) × (tables system v ≡ r) × (newest system v ≡ m)
 
--- A rewind to a moment that is kept, where nothing is open, leaves tables that are the moment's version. Of any other moment, and where
+-- A rewind to a moment that is kept, where nothing is open, leaves tables that are the moment's version. Of any other
+-- moment, and where
 -- something is open, it is refused
 abbrev pub IsRewound : Rows → World system → ℕ → List ℕ → State → Type 0
 IsRewound base w m text s =
@@ -44,8 +48,10 @@ IsRewound base w m text s =
     × StandsAt m (at system w m) s × (text ≡ answer_line (answer.Rewound m)))
     ⊎ (((k : ℕ) × (count_open system w.active system.terminal_limit ≡ suc k)
     × (text ≡ answer_line (answer.Refused (refusal.NotQuiet (suc k))))) × (s ≡ Some w))
-    ⊎ (IsQuiet system w × (m < horizon system w) × (text ≡ answer_line (answer.Refused (refusal.TooOld (horizon system w)))) × (s ≡ Some w))
-    ⊎ (IsQuiet system w × (newest system w < m) × (text ≡ answer_line (answer.Refused (refusal.Future (newest system w)))) × (s ≡ Some w))
+    ⊎ (IsQuiet system w × (m < horizon system w)
+    × (text ≡ answer_line (answer.Refused (refusal.TooOld (horizon system w)))) × (s ≡ Some w))
+    ⊎ (IsQuiet system w × (newest system w < m)
+    × (text ≡ answer_line (answer.Refused (refusal.Future (newest system w)))) × (s ≡ Some w))
 
 -- A rewind to moment 0 leaves these rows, or is refused since something is open
 abbrev pub IsRewoundTo : Rows → World system → List ℕ → State → Type 0

@@ -42,7 +42,8 @@ gave_way t (Steps n i x) = gives_way system t (step_in i) (answer_in i x)
 -- the terminal's open transaction is rolled back in these lines
 abbrev pub is_rolled_back : ℕ → List Entry → Bool
 is_rolled_back t [] = false
-is_rolled_back t (e ∷ es) = cond (is_own t e.deed) (cond (is_undone e.deed) true (cond (is_done e.deed) false (is_rolled_back t es))) (is_rolled_back t es)
+is_rolled_back t (e ∷ es) = cond (is_own t e.deed)
+    (cond (is_undone e.deed) true (cond (is_done e.deed) false (is_rolled_back t es))) (is_rolled_back t es)
 
 -- the line `next T`
 abbrev pub next_line : ℕ → List ℕ
@@ -58,13 +59,18 @@ abbrev pub before_last : Deed → List Entry
 before_last (Steps n (step.Advance t) x) = nexts n t
 before_last d = []
 
--- Of these lines, which follow a transaction's begin at terminal t, those that are left without it. Its own are left out, up to
--- the one that rolls it back, and all that follow stay. In between a line that gave way to it is left out, but for what it had
+-- Of these lines, which follow a transaction's begin at terminal t, those that are left without it. Its own are left
+-- out, up to
+-- the one that rolls it back, and all that follow stay. In between a line that gave way to it is left out, but for what
+-- it had
 -- done before; a dump may show other rows; and each other line stays, with its answer
 pub data Without (t : ℕ) : List Entry → List Entry → Type 0 where
   ends : (e : Entry) (es : List Entry) → is_own t e.deed ≡ true → is_undone e.deed ≡ true → Without t (e ∷ es) es
-  was_own : (e : Entry) (es left : List Entry) → is_own t e.deed ≡ true → is_undone e.deed ≡ false → Without t es left → Without t (e ∷ es) left
-  went_away : (e : Entry) (es left : List Entry) → is_own t e.deed ≡ false → gave_way t e.deed ≡ true → Without t es left → Without t (e ∷ es) (before_last e.deed ++ left)
+  was_own : (e : Entry) (es left : List Entry) → is_own t e.deed ≡ true → is_undone e.deed ≡ false → Without t es left
+      → Without t (e ∷ es) left
+  went_away : (e : Entry) (es left : List Entry) → is_own t e.deed ≡ false → gave_way t e.deed ≡ true
+      → Without t es left → Without t (e ∷ es) (before_last e.deed ++ left)
   shows : (line text other : List ℕ) (es left : List Entry) → Without t es left
       → Without t (record { line = line; deed = Dump text } ∷ es) (record { line = line; deed = Dump other } ∷ left)
-  stays : (e : Entry) (es left : List Entry) → is_own t e.deed ≡ false → gave_way t e.deed ≡ false → Without t es left → Without t (e ∷ es) (e ∷ left)
+  stays : (e : Entry) (es left : List Entry) → is_own t e.deed ≡ false → gave_way t e.deed ≡ false → Without t es left
+      → Without t (e ∷ es) (e ∷ left)

@@ -1,5 +1,6 @@
 -- Among the rows of a list are all of its number, in the keys' order, and each row stays listed.
-use Rattle.std.proofs.Common.{◌≡◌, refl, sym, ◌∙◌, ap, subst, Bool, true, false, cond, ℕ, List, [], ◌∷◌, get_or, Option, Some, None, Result, Ok, Err}
+use Rattle.std.proofs.Common.{◌≡◌, refl, sym, ◌∙◌, ap, subst, Bool, true, false, cond, ℕ, List, [], ◌∷◌, get_or, Option}
+use Rattle.std.proofs.Common.{Some, None, Result, Ok, Err}
 use Rattle.std.specs.Result.{OnOk, OnErr}
 use Rattle.std.specs.Prelude.{T, ◌&&◌, is_some, filter}
 use Rattle.std.specs.Option.{OnSome, option_copied_mut}
@@ -11,7 +12,8 @@ use Rattle.std.specs.Ordering.{eq_by_cmp, is_lt}
 use Rattle.std.specs.declared.cmp.Ordering.{Ordering}
 use Rattle.std.specs.declared.cmp.Ordering.TheVariants.{Less}
 use Rattle.std.specs.Cmp.{IsTotalOrder, eq_by_cmp_equiv}
-use Rattle.std.specs.FinMap.{FinMap, IsAntisymmetric, get, entries, entries_sorted, get-entries, retain_keys, get-retain_keys, get-insert, insert, get-remove, remove, empty, get-empty}
+use Rattle.std.specs.FinMap.{FinMap, IsAntisymmetric, get, entries, entries_sorted, get-entries, retain_keys}
+use Rattle.std.specs.FinMap.{get-retain_keys, get-insert, insert, get-remove, remove, empty, get-empty}
 use Rattle.std.specs.FinMap.Entries.{find, is_sorted, below_all, find-where_key, is_sorted-where_key, same_entries}
 use Rattle.oe_table.specs.Table.{place, rows_of}
 use Rattle.oe_table.specs.Shelf.{IsAscending}
@@ -40,65 +42,85 @@ module _ {X Y : Type 0} (f : X → Option Y) (p : X → Bool) where
   kept_only [] out = refl
   kept_only (x ∷ xs) out = by (p x) refl (kept_only xs out.1)
     where
-      by : (b : Bool) → p x ≡ b → filter_map f (filter p xs) ≡ filter_map f xs → filter_map f (cond b (x ∷ filter p xs) (filter p xs)) ≡ cons_option (f x) (filter_map f xs)
+      by : (b : Bool) → p x ≡ b → filter_map f (filter p xs) ≡ filter_map f xs
+          → filter_map f (cond b (x ∷ filter p xs) (filter p xs)) ≡ cons_option (f x) (filter_map f xs)
       by true e rest = ap (cons_option (f x)) rest
       by false e rest = rest ∙ sym (ap (λ o. cons_option o (filter_map f xs)) (out.0 e))
 
-module _ {K X : Type 0} {cmp : K → K → Ordering} (total : IsTotalOrder cmp) (exact : IsAntisymmetric cmp) (m : FinMap cmp X) where
-  row-below : (k e : K) (o : Option X) (rest : List (K × X)) → cmp k e ≡ Less → T (below_all cmp k rest) → T (below_all cmp k (with_row e o rest))
+module _ {K X : Type 0} {cmp : K → K → Ordering} (total : IsTotalOrder cmp) (exact : IsAntisymmetric cmp)
+    (m : FinMap cmp X) where
+  row-below : (k e : K) (o : Option X) (rest : List (K × X)) → cmp k e ≡ Less → T (below_all cmp k rest)
+      → T (below_all cmp k (with_row e o rest))
   row-below k e None rest less h = h
-  row-below k e (Some x) rest less h = both (is_lt (cmp k e)) (below_all cmp k rest) (subst (λ r. T (is_lt r)) (sym less) tt) h
+  row-below k e (Some x) rest less h = both (is_lt (cmp k e)) (below_all cmp k rest)
+      (subst (λ r. T (is_lt r)) (sym less) tt) h
 
-  found-below : (k : K) (es : Keys K) → AllByRecursion (λ y. cmp k y ≡ Less) (keys_of es) → T (below_all cmp k (found cmp m es))
+  found-below : (k : K) (es : Keys K) → AllByRecursion (λ y. cmp k y ≡ Less) (keys_of es)
+      → T (below_all cmp k (found cmp m es))
   found-below k [] h = tt
   found-below k (e ∷ es) h = row-below k e.0 (get m e.0) (found cmp m es) h.0 (found-below k es h.1)
 
-  row-sorted : (e : K) (o : Option X) (rest : List (K × X)) → T (below_all cmp e rest) → T (is_sorted cmp rest) → T (is_sorted cmp (with_row e o rest))
+  row-sorted : (e : K) (o : Option X) (rest : List (K × X)) → T (below_all cmp e rest) → T (is_sorted cmp rest)
+      → T (is_sorted cmp (with_row e o rest))
   row-sorted e None rest below h = h
   row-sorted e (Some x) rest below h = both (below_all cmp e rest) (is_sorted cmp rest) below h
 
   found-sorted : (es : Keys K) → IsAscending cmp es → T (is_sorted cmp (found cmp m es))
   unfolding IsStrictlySortedBy
   found-sorted [] up = tt
-  found-sorted (e ∷ es) up = row-sorted e.0 (get m e.0) (found cmp m es) (found-below e.0 es up.0) (found-sorted es up.1)
+  found-sorted (e ∷ es) up = row-sorted e.0 (get m e.0) (found cmp m es) (found-below e.0 es up.0)
+      (found-sorted es up.1)
 
-  row-at : (k e : K) (v : Option (Unit {0})) (b : Bool) → eq_by_cmp cmp k e ≡ b → (o : Option X) → get m e ≡ o → (p : Option (Option (Unit {0}))) (rest : List (K × X))
-      → find cmp k rest ≡ cond (is_some p) (get m k) None → find cmp k (with_row e o rest) ≡ cond (is_some (cond b (Some v) p)) (get m k) None
+  row-at : (k e : K) (v : Option (Unit {0})) (b : Bool) → eq_by_cmp cmp k e ≡ b → (o : Option X) → get m e ≡ o
+      → (p : Option (Option (Unit {0}))) (rest : List (K × X))
+      → find cmp k rest ≡ cond (is_some p) (get m k) None
+      → find cmp k (with_row e o rest) ≡ cond (is_some (cond b (Some v) p)) (get m k) None
   row-at k e v true t None g p rest h =
-      let none : get m k ≡ None = ap (get m) (exact k e (tied (cmp k e) t)) ∙ g in h ∙ cond-none (is_some p) (get m k) none
+      let none : get m k ≡ None = ap (get m) (exact k e (tied (cmp k e) t)) ∙ g in
+      h ∙ cond-none (is_some p) (get m k) none
   row-at k e v true t (Some x) g p rest h =
-      let some : get m k ≡ Some x = ap (get m) (exact k e (tied (cmp k e) t)) ∙ g in ap (λ c. cond c (Some x) (find cmp k rest)) t ∙ sym some
+      let some : get m k ≡ Some x = ap (get m) (exact k e (tied (cmp k e) t)) ∙ g in
+      ap (λ c. cond c (Some x) (find cmp k rest)) t ∙ sym some
   row-at k e v false t None g p rest h = h
   row-at k e v false t (Some x) g p rest h = ap (λ c. cond c (Some x) (find cmp k rest)) t ∙ h
 
   found-at : (k : K) (es : Keys K) → find cmp k (found cmp m es) ≡ cond (is_some (place cmp es k)) (get m k) None
   found-at k [] = refl
-  found-at k (e ∷ es) = row-at k e.0 e.1 (eq_by_cmp cmp k e.0) refl (get m e.0) refl (place cmp es k) (found cmp m es) (found-at k es)
+  found-at k (e ∷ es) = row-at k e.0 e.1 (eq_by_cmp cmp k e.0) refl (get m e.0) refl (place cmp es k) (found cmp m es)
+      (found-at k es)
 
   kept-at : (q : K → Bool) (k : K) → cond (q k) (get m k) None ≡ find cmp k (entries (retain_keys m q))
   kept-at q k = sym (get-retain_keys m q k (λ x e. ap q (sym (exact k x e)))) ∙ get-entries (retain_keys m q) k
 
-  found-kept : (es : Keys K) → IsAscending cmp es → found cmp m es ≡ entries (retain_keys m (λ k. is_some (place cmp es k)))
+  found-kept : (es : Keys K) → IsAscending cmp es
+      → found cmp m es ≡ entries (retain_keys m (λ k. is_some (place cmp es k)))
   found-kept es up =
-      same_entries cmp total exact _ _ (found-sorted es up) (entries_sorted (retain_keys m (λ k. is_some (place cmp es k))))
+      same_entries cmp total exact _ _ (found-sorted es up)
+      (entries_sorted (retain_keys m (λ k. is_some (place cmp es k))))
       (λ k. found-at k es ∙ kept-at (λ j. is_some (place cmp es j)) k)
 
   kept-filter : (q : K → Bool) → filter (λ e. q e.0) (entries m) ≡ entries (retain_keys m q)
   kept-filter q =
-      same_entries cmp total exact _ _ (is_sorted-where_key cmp q (entries m) (entries_sorted m)) (entries_sorted (retain_keys m q))
-      (λ k. find-where_key cmp q k (λ x e. ap q (sym (exact k x e))) (entries m) ∙ ap (λ o. cond (q k) o None) (sym (get-entries m k)) ∙ kept-at q k)
+      same_entries cmp total exact _ _ (is_sorted-where_key cmp q (entries m) (entries_sorted m))
+      (entries_sorted (retain_keys m q))
+      (λ k. find-where_key cmp q k (λ x e. ap q (sym (exact k x e))) (entries m)
+      ∙ ap (λ o. cond (q k) o None) (sym (get-entries m k)) ∙ kept-at q k)
 
   -- what a function gives of a list's rows it gives of all, where it gives nothing of those that are not listed
-  found-all : {Y : Type 0} (f : K × X → Option Y) (es : Keys K) → IsAscending cmp es → ((k : K) (x : X) → get m k ≡ Some x → is_some (place cmp es k) ≡ false → f (k, x) ≡ None)
+  found-all : {Y : Type 0} (f : K × X → Option Y) (es : Keys K) → IsAscending cmp es
+      → ((k : K) (x : X) → get m k ≡ Some x → is_some (place cmp es k) ≡ false → f (k, x) ≡ None)
       → filter_map f (found cmp m es) ≡ filter_map f (entries m)
   found-all f es up out =
       ap (filter_map f) (found-kept es up ∙ sym (kept-filter (λ k. is_some (place cmp es k))))
       ∙ kept_only f (λ e. is_some (place cmp es e.0)) (entries m)
-      (each_of (λ e. get m e.0 ≡ Some e.1) (λ e. is_some (place cmp es e.0) ≡ false → f e ≡ None) (λ e at. out e.0 e.1 at) (entries m) (entries_at total m))
+      (each_of (λ e. get m e.0 ≡ Some e.1) (λ e. is_some (place cmp es e.0) ≡ false → f e ≡ None)
+      (λ e at. out e.0 e.1 at) (entries m) (entries_at total m))
 
-module _ {K X : Type 0} {cmp : K → K → Ordering} (total : IsTotalOrder cmp) (exact : IsAntisymmetric cmp) (number_of : K → X → ℕ) where
+module _ {K X : Type 0} {cmp : K → K → Ordering} (total : IsTotalOrder cmp) (exact : IsAntisymmetric cmp)
+    (number_of : K → X → ℕ) where
   -- a row is put, or takes the place of one of its number
-  put-step : (ls : List (Keys K)) (key k : K) (row x : X) (b : Bool) (o : Option X) → eq_by_cmp cmp k key ≡ b → cond b (Some row) o ≡ Some x → IsListed cmp ls (number_of key row) key
+  put-step : (ls : List (Keys K)) (key k : K) (row x : X) (b : Bool) (o : Option X) → eq_by_cmp cmp k key ≡ b
+      → cond b (Some row) o ≡ Some x → IsListed cmp ls (number_of key row) key
       → (o ≡ Some x → IsListed cmp ls (number_of k x) k) → IsListed cmp ls (number_of k x) k
   put-step ls key k row x true o t at own others =
       let same : k ≡ key = exact k key (tied (cmp k key) t) in
@@ -106,30 +128,40 @@ module _ {K X : Type 0} {cmp : K → K → Ordering} (total : IsTotalOrder cmp) 
       subst (λ (p : K × X). IsListed cmp ls (number_of p.0 p.1) p.0) (λ i. (sym same i, is i)) own
   put-step ls key k row x false o t at own others = others at
 
-  pub listed-insert : (b : Bool) (ls : List (Keys K)) (m : FinMap cmp X) (key : K) (row : X) → (b ≡ true → IsListed cmp ls (number_of key row) key) → AreListed cmp number_of b ls m
+  pub listed-insert : (b : Bool) (ls : List (Keys K)) (m : FinMap cmp X) (key : K) (row : X)
+      → (b ≡ true → IsListed cmp ls (number_of key row) key) → AreListed cmp number_of b ls m
       → AreListed cmp number_of b ls (insert m key row)
   listed-insert b ls m key row own h on k x at =
-      put-step ls key k row x (eq_by_cmp cmp k key) (get m k) refl (sym (get-insert total m key row k) ∙ at) (own on) (λ e. h on k x e)
+      put-step ls key k row x (eq_by_cmp cmp k key) (get m k) refl (sym (get-insert total m key row k) ∙ at) (own on)
+      (λ e. h on k x e)
 
-  pub listed-set : (b : Bool) (ls : List (Keys K)) (m : FinMap cmp X) (key : K) (x y : X) → get m key ≡ Some x → number_of key y ≡ number_of key x → AreListed cmp number_of b ls m
+  pub listed-set : (b : Bool) (ls : List (Keys K)) (m : FinMap cmp X) (key : K) (x y : X) → get m key ≡ Some x
+      → number_of key y ≡ number_of key x → AreListed cmp number_of b ls m
       → AreListed cmp number_of b ls (insert m key y)
-  listed-set b ls m key x y at same h = listed-insert b ls m key y (λ on. subst (λ n. IsListed cmp ls n key) (sym same) (h on key x at)) h
+  listed-set b ls m key x y at same h = listed-insert b ls m key y
+      (λ on. subst (λ n. IsListed cmp ls n key) (sym same) (h on key x at)) h
 
   -- the lists are kept where the row stays under its number
-  pub listed-swap : (a stays : Bool) (ls : List (Keys K)) (m : FinMap cmp X) (key : K) (row : X) → (AreListed cmp number_of true ls m → stays ≡ true → IsListed cmp ls (number_of key row) key)
+  pub listed-swap : (a stays : Bool) (ls : List (Keys K)) (m : FinMap cmp X) (key : K) (row : X)
+      → (AreListed cmp number_of true ls m → stays ≡ true → IsListed cmp ls (number_of key row) key)
       → AreListed cmp number_of a ls m → AreListed cmp number_of (a && stays) ls (insert m key row)
   listed-swap true true ls m key row own h = listed-insert true ls m key row (λ on. own h refl) h
   listed-swap true false ls m key row own h = λ on k x at. never (sym on)
   listed-swap false stays ls m key row own h = λ on k x at. never (sym on)
 
   -- after a put, or its refusal
-  pub listed-put : {A E : Type 0} (r : Result A E) (b : Bool) (ls : List (Keys K)) (old new : List (K × Option X)) (key : K) (row : X) → (b ≡ true → IsListed cmp ls (number_of key row) key)
-      → AreListed cmp number_of b ls (rows_of cmp old) → OnOk r (rows_of cmp new ≡ insert (rows_of cmp old) key row) → OnErr r (new ≡ old) → AreListed cmp number_of b ls (rows_of cmp new)
-  listed-put (Ok x) b ls old new key row own h ok err = subst (AreListed cmp number_of b ls) (sym ok) (listed-insert b ls (rows_of cmp old) key row own h)
-  listed-put (Err x) b ls old new key row own h ok err = subst (λ (t : List (K × Option X)). AreListed cmp number_of b ls (rows_of cmp t)) (sym err) h
+  pub listed-put : {A E : Type 0} (r : Result A E) (b : Bool) (ls : List (Keys K)) (old new : List (K × Option X))
+      (key : K) (row : X) → (b ≡ true → IsListed cmp ls (number_of key row) key)
+      → AreListed cmp number_of b ls (rows_of cmp old) → OnOk r (rows_of cmp new ≡ insert (rows_of cmp old) key row)
+      → OnErr r (new ≡ old) → AreListed cmp number_of b ls (rows_of cmp new)
+  listed-put (Ok x) b ls old new key row own h ok err = subst (AreListed cmp number_of b ls) (sym ok)
+      (listed-insert b ls (rows_of cmp old) key row own h)
+  listed-put (Err x) b ls old new key row own h ok err =
+      subst (λ (t : List (K × Option X)). AreListed cmp number_of b ls (rows_of cmp t)) (sym err) h
 
 -- lists that stand no more often than before
-pub listed-less : {K X : Type 0} {cmp : K → K → Ordering} (number_of : K → X → ℕ) (a b : Bool) (ls : List (Keys K)) (m : FinMap cmp X) → (b ≡ true → a ≡ true)
+pub listed-less : {K X : Type 0} {cmp : K → K → Ordering} (number_of : K → X → ℕ) (a b : Bool) (ls : List (Keys K))
+    (m : FinMap cmp X) → (b ≡ true → a ≡ true)
     → AreListed cmp number_of a ls m → AreListed cmp number_of b ls m
 listed-less number_of a b ls m less h = λ on. h (less on)
 
@@ -138,7 +170,8 @@ gone : {X : Type 0} (b : Bool) (o : Option X) (x : X) → cond b None o ≡ Some
 gone true o x e = cc
 gone false o x e = e
 
-pub listed-remove : {K X : Type 0} {cmp : K → K → Ordering} (total : IsTotalOrder cmp) (number_of : K → X → ℕ) (b : Bool) (ls : List (Keys K)) (m : FinMap cmp X) (key : K)
+pub listed-remove : {K X : Type 0} {cmp : K → K → Ordering} (total : IsTotalOrder cmp) (number_of : K → X → ℕ)
+    (b : Bool) (ls : List (Keys K)) (m : FinMap cmp X) (key : K)
     → AreListed cmp number_of b ls m → AreListed cmp number_of b ls (remove m key)
 listed-remove {cmp = cmp} total number_of b ls m key h on k x at =
     h on k x (gone (eq_by_cmp cmp k key) (get m k) x (sym (get-remove total m key k) ∙ at))
@@ -148,29 +181,35 @@ own-gone true o x own e = absurd (let no : ⊥ = cc in no)
 own-gone false o x own e = never (sym own)
 
 -- also where its key is taken off a list
-pub listed-unlist : {K X : Type 0} {cmp : K → K → Ordering} (total : IsTotalOrder cmp) (number_of : K → X → ℕ) (b : Bool) (old new : List (Keys K)) (m : FinMap cmp X) (number : ℕ) (key : K)
+pub listed-unlist : {K X : Type 0} {cmp : K → K → Ordering} (total : IsTotalOrder cmp) (number_of : K → X → ℕ)
+    (b : Bool) (old new : List (Keys K)) (m : FinMap cmp X) (number : ℕ) (key : K)
     → Unlists cmp old new number key → AreListed cmp number_of b old m → AreListed cmp number_of b new (remove m key)
 listed-unlist {cmp = cmp} total number_of b old new m number key off h on k x at =
     let left = sym (get-remove total m key k) ∙ at in
     (off (number_of k x) k).1 (
       h on k x (gone (eq_by_cmp cmp k key) (get m k) x left),
       λ e.
-          own-gone (eq_by_cmp cmp k key) (get m k) x (ap (λ y. eq_by_cmp cmp y key) e.1 ∙ (eq_by_cmp_equiv total).refl key) left,
+          own-gone (eq_by_cmp cmp k key) (get m k) x
+          (ap (λ y. eq_by_cmp cmp y key) e.1 ∙ (eq_by_cmp_equiv total).refl key) left,
     )
 
-pub listed-more : {K X : Type 0} {cmp : K → K → Ordering} (number_of : K → X → ℕ) (b : Bool) (old new : List (Keys K)) (m : FinMap cmp X) → ListsMore cmp old new
+pub listed-more : {K X : Type 0} {cmp : K → K → Ordering} (number_of : K → X → ℕ) (b : Bool) (old new : List (Keys K))
+    (m : FinMap cmp X) → ListsMore cmp old new
     → AreListed cmp number_of b old m → AreListed cmp number_of b new m
 listed-more number_of b old new m more h on k x at = more (number_of k x) k (h on k x at)
 
-pub listed-none : {K X : Type 0} {cmp : K → K → Ordering} (number_of : K → X → ℕ) (b : Bool) (ls : List (Keys K)) (m : FinMap cmp X) → m ≡ empty → AreListed cmp number_of b ls m
+pub listed-none : {K X : Type 0} {cmp : K → K → Ordering} (number_of : K → X → ℕ) (b : Bool) (ls : List (Keys K))
+    (m : FinMap cmp X) → m ≡ empty → AreListed cmp number_of b ls m
 listed-none {K = K} {X = X} {cmp = cmp} number_of b ls m is on k x at =
     let none : get m k ≡ None = ap (λ (n : FinMap cmp X). get n k) is ∙ get-empty cmp k in
     let clash : None ≡ Some x = sym none ∙ at in cc
 
 -- rows that are found by a test, where each that passes is listed
-pub all-found : {K X Y : Type 0} {cmp : K → K → Ordering} (total : IsTotalOrder cmp) (exact : IsAntisymmetric cmp) (number_of : K → X → ℕ) (f : K × X → Option Y) (n : ℕ) (m : FinMap cmp X)
+pub all-found : {K X Y : Type 0} {cmp : K → K → Ordering} (total : IsTotalOrder cmp) (exact : IsAntisymmetric cmp)
+    (number_of : K → X → ℕ) (f : K × X → Option Y) (n : ℕ) (m : FinMap cmp X)
     (ls : List (Keys K)) (es : Keys K) → AreListed cmp number_of true ls m → es ≡ get_or ls n [] → IsAscending cmp es
-    → ((k : K) (x : X) → (number_of k x ≡ n → ⊥) → f (k, x) ≡ None) → filter_map f (found cmp m es) ≡ filter_map f (entries m)
+    → ((k : K) (x : X) → (number_of k x ≡ n → ⊥) → f (k, x) ≡ None)
+    → filter_map f (found cmp m es) ≡ filter_map f (entries m)
 all-found {K = K} {cmp = cmp} total exact number_of f n m ls es listed is up out =
     found-all total exact m f es up (λ k x at absent.
     out k x (λ same.
@@ -193,6 +232,7 @@ module _ {R : Type 0} (lent : Option (MutBor R)) (row : MutBor R) (is : lent ≡
   same_row o x same at = some_inj row.now x (sym (row_was o same) ∙ at)
 
 -- a walk, which is that of a list or another
-pub by-flag : {X Y : Type 0} (f : List X → List Y) (b : Bool) (xs zs : List X) (ys : List Y) → (b ≡ true → f xs ≡ ys) → f zs ≡ ys → f (cond b xs zs) ≡ ys
+pub by-flag : {X Y : Type 0} (f : List X → List Y) (b : Bool) (xs zs : List X) (ys : List Y) → (b ≡ true → f xs ≡ ys)
+    → f zs ≡ ys → f (cond b xs zs) ≡ ys
 by-flag f true xs zs ys h g = h refl
 by-flag f false xs zs ys h g = g

@@ -1,5 +1,6 @@
 -- Lists of keys, of which one is given a key, or loses one.
-use Rattle.std.proofs.Common.{◌≡◌, refl, sym, ◌∙◌, ap, subst, Bool, true, false, cond, ℕ, suc, zero, ◌<◌, List, [], ◌∷◌, ◌++◌, length, get_or, set, replicate, Option, Some, None, Result, Ok, Err}
+use Rattle.std.proofs.Common.{◌≡◌, refl, sym, ◌∙◌, ap, subst, Bool, true, false, cond, ℕ, suc, zero, ◌<◌, List, [], ◌∷◌}
+use Rattle.std.proofs.Common.{◌++◌, length, get_or, set, replicate, Option, Some, None, Result, Ok, Err}
 use Rattle.std.specs.Prelude.{◌↔◌, ◌≤◌, IsSome}
 use Rattle.std.specs.Result.{OnOk, OnErr}
 use Rattle.std.specs.List.Sorted.{IsStrictlySortedBy}
@@ -34,11 +35,14 @@ module _ {K : Type 0} (cmp : K → K → Ordering) where
   lists-more (l ∷ ls) n h = (h.0, lists-more ls n h.1)
 
   -- empty lists at the end
-  pub lists-padded : (old new : List (Keys K)) (n : ℕ) → new ≡ old ++ replicate n [] → AreLists cmp old → AreLists cmp new
+  pub lists-padded : (old new : List (Keys K)) (n : ℕ) → new ≡ old ++ replicate n [] → AreLists cmp old
+      → AreLists cmp new
   lists-padded old new n is h = rw is (lists-more old n h)
 
-  pub listed-padded : (old new : List (Keys K)) (n : ℕ) → new ≡ old ++ replicate n [] → (i : ℕ) (k : K) → IsListed cmp old i k → IsListed cmp new i k
-  listed-padded old new n is i k h = subst (λ (l : Keys K). IsSome (place cmp l k)) (sym (ap (λ ls. get_or ls i []) is ∙ get_or-padded old n i)) h
+  pub listed-padded : (old new : List (Keys K)) (n : ℕ) → new ≡ old ++ replicate n [] → (i : ℕ) (k : K)
+      → IsListed cmp old i k → IsListed cmp new i k
+  listed-padded old new n is i k h = subst (λ (l : Keys K). IsSome (place cmp l k))
+      (sym (ap (λ ls. get_or ls i []) is ∙ get_or-padded old n i)) h
 
   pub list-ascends : (ls : List (Keys K)) (i : ℕ) → AreLists cmp ls → IsAscending cmp (get_or ls i [])
   unfolding IsStrictlySortedBy
@@ -46,17 +50,21 @@ module _ {K : Type 0} (cmp : K → K → Ordering) where
   list-ascends (l ∷ ls) zero h = h.0
   list-ascends (l ∷ ls) (suc i) h = list-ascends ls i h.1
 
-  lists-set : (ls : List (Keys K)) (i : ℕ) (l : Keys K) → AreLists cmp ls → IsAscending cmp l → AreLists cmp (set ls i l)
+  lists-set : (ls : List (Keys K)) (i : ℕ) (l : Keys K) → AreLists cmp ls → IsAscending cmp l
+      → AreLists cmp (set ls i l)
   lists-set [] i l h up = tt
   lists-set (l_0 ∷ ls) zero l h up = (up, h.1)
   lists-set (l_0 ∷ ls) (suc i) l h up = (h.0, lists-set ls i l h.1 up)
 
-  module _ (total : IsTotalOrder cmp) {A E : Type 0} (r : Result A E) (ls : List (Keys K)) (s new : Keys K) (i : ℕ) (key : K) (w : Option (Unit {0}))
-      (there : (d : Keys K) → s ≡ get_or ls i d) (ok : OnOk r (new ≡ put_at cmp s key w)) (err : OnErr r (new ≡ s)) where
+  module _ (total : IsTotalOrder cmp) {A E : Type 0} (r : Result A E) (ls : List (Keys K)) (s new : Keys K) (i : ℕ)
+      (key : K) (w : Option (Unit {0}))
+      (there : (d : Keys K) → s ≡ get_or ls i d) (ok : OnOk r (new ≡ put_at cmp s key w))
+      (err : OnErr r (new ≡ s)) where
     ascends : AreLists cmp ls → IsAscending cmp new
     ascends h = by (rw (there []) (list-ascends ls i h)) r ok err
       where
-        by : IsAscending cmp s → (q : Result A E) → OnOk q (new ≡ put_at cmp s key w) → OnErr q (new ≡ s) → IsAscending cmp new
+        by : IsAscending cmp s → (q : Result A E) → OnOk q (new ≡ put_at cmp s key w) → OnErr q (new ≡ s)
+            → IsAscending cmp new
         by up (Ok x) e f = rw e (ascending-put cmp total s key w up)
         by up (Err x) e f = rw f up
 
@@ -67,7 +75,8 @@ module _ {K : Type 0} (cmp : K → K → Ordering) where
     in_new k h = by r ok err
       where
         by : (q : Result A E) → OnOk q (new ≡ put_at cmp s key w) → OnErr q (new ≡ s) → IsSome (place cmp new k)
-        by (Ok x) e f = subst IsSome (sym (ap (λ (l : Keys K). place cmp l k) e ∙ lookup-put cmp total s key w k)) (some-cond (is_eq (cmp key k)) w (place cmp s k) h)
+        by (Ok x) e f = subst IsSome (sym (ap (λ (l : Keys K). place cmp l k) e ∙ lookup-put cmp total s key w k))
+            (some-cond (is_eq (cmp key k)) w (place cmp s k) h)
         by (Err x) e f = subst (λ (l : Keys K). IsSome (place cmp l k)) (sym f) h
 
     pub listed-put : i < length ls → (n : ℕ) (k : K) → IsListed cmp ls n k → IsListed cmp (set ls i new) n k
@@ -76,8 +85,11 @@ module _ {K : Type 0} (cmp : K → K → Ordering) where
         by : (b : Bool) → eqb i n ≡ b → IsListed cmp (set ls i new) n k
         by true e =
             let same : i ≡ n = eqb-true i n e in
-            let here : IsSome (place cmp s k) = subst (λ (l : Keys K). IsSome (place cmp l k)) (ap (λ j. get_or ls j []) (sym same) ∙ sym (there [])) h in
-            subst (λ (l : Keys K). IsSome (place cmp l k)) (sym (ap (λ j. get_or (set ls i new) j []) (sym same) ∙ get_or-set_same ls i new [] within)) (in_new k here)
+            let here : IsSome (place cmp s k) = subst (λ (l : Keys K). IsSome (place cmp l k))
+            (ap (λ j. get_or ls j []) (sym same) ∙ sym (there [])) h in
+            subst (λ (l : Keys K). IsSome (place cmp l k))
+            (sym (ap (λ j. get_or (set ls i new) j []) (sym same) ∙ get_or-set_same ls i new [] within))
+            (in_new k here)
         by false e =
             let other : n ≡ i → ⊥ = λ same. eqb-false i n e (sym same) in
             subst (λ (l : Keys K). IsSome (place cmp l k)) (sym (get_or-set_other ls i n new [] other)) h
@@ -87,7 +99,8 @@ module _ {K : Type 0} (cmp : K → K → Ordering) where
       where
         by : (q : Result A E) → OnOk q (new ≡ put_at cmp s key w) → OnOk q (IsListed cmp (set ls i new) i key)
         by (Ok x) e =
-            subst IsSome (sym (ap (λ (l : Keys K). place cmp l key) (get_or-set_same ls i new [] within ∙ e) ∙ lookup-put cmp total s key w key))
+            subst IsSome (sym (ap (λ (l : Keys K). place cmp l key) (get_or-set_same ls i new [] within ∙ e)
+            ∙ lookup-put cmp total s key w key))
             (rw ((eq_by_cmp_equiv total).refl key) refl)
         by (Err x) e = e
 
@@ -95,20 +108,33 @@ none-there : {P : Type 0} → false ≡ true → P
 none-there h = absurd (let no : ⊥ = cc in no)
 
 -- the list under i, where s is what stood there, loses the key
-module _ {K : Type 0} {cmp : K → K → Ordering} (total : IsTotalOrder cmp) (exact : IsAntisymmetric cmp) (i : ℕ) (key : K) where
-  less-here : {X : Type 0} (n : ℕ) (k : K) (old new : Option X) (b : Bool) → is_eq (cmp key k) ≡ b → n ≡ i → new ≡ cond b None old
+module _ {K : Type 0} {cmp : K → K → Ordering} (total : IsTotalOrder cmp) (exact : IsAntisymmetric cmp) (i : ℕ)
+    (key : K) where
+  less-here : {X : Type 0} (n : ℕ) (k : K) (old new : Option X) (b : Bool) → is_eq (cmp key k) ≡ b → n ≡ i
+      → new ≡ cond b None old
       → IsSome new ↔ (IsSome old × ((n ≡ i) × (k ≡ key) → ⊥))
-  less-here n k old new true at here is = ((λ h. none-there (subst IsSome is h)), (λ h. absurd (h.1 (here, sym (exact key k (tied (cmp key k) at))))))
+  less-here n k old new true at here is =
+      ((λ h. none-there (subst IsSome is h)), (λ h. absurd (h.1 (here, sym (exact key k (tied (cmp key k) at))))))
   less-here n k old new false at here is =
-      let apart : k ≡ key → ⊥ = λ e. let own : is_eq (cmp key k) ≡ true = ap (λ (y : K). is_eq (cmp key y)) e ∙ (eq_by_cmp_equiv total).refl key in (let no : ⊥ = cc in no) in
+      let apart : k ≡ key → ⊥ =
+      λ e. let own : is_eq (cmp key k) ≡ true = ap (λ (y : K). is_eq (cmp key y)) e
+      ∙ (eq_by_cmp_equiv total).refl key in (let no : ⊥ = cc in no) in
       ((λ h. (subst IsSome is h, λ e. apart e.1)), (λ h. subst IsSome (sym is) h.0))
 
   -- past the last list no key is listed
   pub unlists-none : (ls : List (Keys K)) → length ls ≤ i → Unlists cmp ls ls i key
-  unlists-none ls past n k =
-      ((λ h. (h, λ e. none-there (subst (λ (l : Keys K). IsSome (place cmp l k)) (ap (λ j. get_or ls j []) e.0 ∙ get_or_past ls i [] past) h))), (λ h. h.0))
+  unlists-none ls past n k = (
+    (λ h. (
+      h,
+      λ e. none-there
+          (subst (λ (l : Keys K). IsSome (place cmp l k)) (ap (λ j. get_or ls j []) e.0 ∙ get_or_past ls i [] past)
+          h),
+    )),
+    (λ h. h.0),
+  )
 
-  module _ (ls : List (Keys K)) (s new : Keys K) (there : (d : Keys K) → s ≡ get_or ls i d) (up : AreLists cmp ls) (is : new ≡ without cmp s key) where
+  module _ (ls : List (Keys K)) (s new : Keys K) (there : (d : Keys K) → s ≡ get_or ls i d) (up : AreLists cmp ls)
+      (is : new ≡ without cmp s key) where
     ascends-there : IsAscending cmp s
     ascends-there = rw (there []) (list-ascends cmp ls i up)
 
@@ -118,14 +144,20 @@ module _ {K : Type 0} {cmp : K → K → Ordering} (total : IsTotalOrder cmp) (e
     pub unlists-there : i < length ls → Unlists cmp ls (set ls i new) i key
     unlists-there within n k = by (eqb n i) refl
       where
-        by : (b : Bool) → eqb n i ≡ b → IsListed cmp (set ls i new) n k ↔ (IsListed cmp ls n k × ((n ≡ i) × (k ≡ key) → ⊥))
+        by : (b : Bool) → eqb n i ≡ b → IsListed cmp (set ls i new) n k
+            ↔ (IsListed cmp ls n k × ((n ≡ i) × (k ≡ key) → ⊥))
         by true e =
             let here : n ≡ i = eqb-true n i e in
-            less-here n k (place cmp (get_or ls n []) k) (place cmp (get_or (set ls i new) n []) k) (is_eq (cmp key k)) refl here
-            (ap (λ (l : Keys K). place cmp l k) (ap (λ j. get_or (set ls i new) j []) here ∙ get_or-set_same ls i new [] within ∙ is)
+            less-here n k (place cmp (get_or ls n []) k) (place cmp (get_or (set ls i new) n []) k) (is_eq (cmp key k))
+            refl here
+            (ap (λ (l : Keys K). place cmp l k) (ap (λ j. get_or (set ls i new) j []) here
+            ∙ get_or-set_same ls i new [] within ∙ is)
             ∙ lookup-without total exact s key ascends-there k
-            ∙ ap (λ (l : Keys K). cond (is_eq (cmp key k)) None (place cmp l k)) (there [] ∙ ap (λ j. get_or ls j []) (sym here)))
+            ∙ ap (λ (l : Keys K). cond (is_eq (cmp key k)) None (place cmp l k))
+            (there [] ∙ ap (λ j. get_or ls j []) (sym here)))
         by false e =
             let other : n ≡ i → ⊥ = eqb-false n i e in
-            let same : get_or (set ls i new) n [] ≡ get_or ls n [] = get_or-set_other ls i n new [] other in
-            ((λ h. (subst (λ (l : Keys K). IsSome (place cmp l k)) same h, λ e. other e.0)), (λ h. subst (λ (l : Keys K). IsSome (place cmp l k)) (sym same) h.0))
+            let same : get_or (set ls i new) n [] ≡ get_or ls n [] = get_or-set_other ls i n new [] other in (
+              (λ h. (subst (λ (l : Keys K). IsSome (place cmp l k)) same h, λ e. other e.0)),
+              (λ h. subst (λ (l : Keys K). IsSome (place cmp l k)) (sym same) h.0),
+            )

@@ -1,5 +1,6 @@
 -- Among the rows of a list are all orders of a customer.
-use Rattle.std.proofs.Common.{◌≡◌, refl, sym, ◌∙◌, ap, subst, Bool, true, false, cond, ℕ, List, [], ◌∷◌, get_or, Option, Some, None, rules}
+use Rattle.std.proofs.Common.{◌≡◌, refl, sym, ◌∙◌, ap, subst, Bool, true, false, cond, ℕ, List, [], ◌∷◌, get_or, Option}
+use Rattle.std.proofs.Common.{Some, None, rules}
 use Rattle.std.specs.Prelude.{filter, ◌==◌}
 use Rattle.std.specs.List.{filter_map, cons_option}
 use Rattle.std.specs.Ordering.{eq_by_cmp}
@@ -25,7 +26,9 @@ by-map : {A : Type 0} (p : A → Bool) (xs : List A) → filter p xs ≡ filter_
 by-map p [] = refl
 by-map p (x ∷ xs) = by (p x) (by-map p xs)
   where
-    by : (b : Bool) → filter p xs ≡ filter_map (λ x. cond (p x) (Some x) None) xs → cond b (x ∷ filter p xs) (filter p xs) ≡ cons_option (cond b (Some x) None) (filter_map (λ x. cond (p x) (Some x) None) xs)
+    by : (b : Bool) → filter p xs ≡ filter_map (λ x. cond (p x) (Some x) None) xs
+        → cond b (x ∷ filter p xs) (filter p xs) ≡ cons_option (cond b (Some x) None)
+        (filter_map (λ x. cond (p x) (Some x) None) xs)
     by true e = ap (λ ys. x ∷ ys) e
     by false e = e
 
@@ -33,32 +36,40 @@ module _ (c : CustomerKey) where
   abbrev is_own : OrderKey × Order → Bool
   is_own e = eq_by_cmp customer_cmp (customer_of_order e.0 e.1) c
 
-  not-own : (e : OrderKey × Order) (b : Bool) → is_own e ≡ b → (b ≡ true → ⊥) → cond {A = Option (OrderKey × Order)} b (Some e) None ≡ None
+  not-own : (e : OrderKey × Order) (b : Bool) → is_own e ≡ b → (b ≡ true → ⊥)
+      → cond {A = Option (OrderKey × Order)} b (Some e) None ≡ None
   not-own e true t out = absurd (out refl)
   not-own e false t out = refl
 
-  pub all-own : (m : FinMap order_cmp Order) (ls : List (Keys OrderKey)) (es : Keys OrderKey) → AreListed order_cmp list_of_owner true ls m → es ≡ get_or ls (owner_number c) []
+  pub all-own : (m : FinMap order_cmp Order) (ls : List (Keys OrderKey)) (es : Keys OrderKey)
+      → AreListed order_cmp list_of_owner true ls m → es ≡ get_or ls (owner_number c) []
       → IsAscending order_cmp es → own_of c (found order_cmp m es) ≡ orders_of c m
   all-own m ls es listed is up =
       by-map is_own (found order_cmp m es)
-      ∙ all-found order_total exact_order list_of_owner (λ e. cond (is_own e) (Some e) None) (owner_number c) m ls es listed is up (λ k x other.
-      not-own (k, x) (is_own (k, x)) refl (λ t. other (ap owner_number (is_same customer_total exact_customer (customer_of_order k x) c t))))
+      ∙ all-found order_total exact_order list_of_owner (λ e. cond (is_own e) (Some e) None) (owner_number c) m ls es
+      listed is up (λ k x other.
+      not-own (k, x) (is_own (k, x)) refl
+      (λ t. other (ap owner_number (is_same customer_total exact_customer (customer_of_order k x) c t))))
       ∙ sym (by-map is_own (entries m))
 
 eq_nat : (a b : ℕ) → (a == b) ≡ true → a ≡ b
 eq_nat a b t = search rules
 
 -- an order of that customer is listed under it
-pub listed-owner : (ls : List (Keys OrderKey)) (m : FinMap order_cmp Order) (key : OrderKey) (row : Order) (b : Bool) → b ≡ is_owner row.customer (get m key)
+pub listed-owner : (ls : List (Keys OrderKey)) (m : FinMap order_cmp Order) (key : OrderKey) (row : Order) (b : Bool)
+    → b ≡ is_owner row.customer (get m key)
     → AreListed order_cmp list_of_owner true ls m → b ≡ true → IsListed order_cmp ls (list_of_owner key row) key
 listed-owner ls m key row b is h on = by (get m key) refl (sym is ∙ on)
   where
-    by : (o : Option Order) → get m key ≡ o → is_owner row.customer o ≡ true → IsListed order_cmp ls (list_of_owner key row) key
+    by : (o : Option Order) → get m key ≡ o → is_owner row.customer o ≡ true
+        → IsListed order_cmp ls (list_of_owner key row) key
     by None at t = never (sym t)
-    by (Some x) at t = subst (λ n. IsListed order_cmp ls (owner_number (customer_in (district_of_order key) n)) key) (eq_nat x.customer row.customer t) (h refl key x at)
+    by (Some x) at t = subst (λ n. IsListed order_cmp ls (owner_number (customer_in (district_of_order key) n)) key)
+        (eq_nat x.customer row.customer t) (h refl key x at)
 
 -- a key that has no row and was not blanked has no place
-pub no-place : (t : List (OrderKey × Option Order)) (key : OrderKey) → get (rows_of order_cmp t) key ≡ None → (IsBlanked order_cmp t key → ⊥) → place order_cmp t key ≡ None
+pub no-place : (t : List (OrderKey × Option Order)) (key : OrderKey) → get (rows_of order_cmp t) key ≡ None
+    → (IsBlanked order_cmp t key → ⊥) → place order_cmp t key ≡ None
 no-place t key none off = by (place order_cmp t key) refl
   where
     by : (p : Option (Option Order)) → place order_cmp t key ≡ p → p ≡ None

@@ -1,5 +1,6 @@
 -- A key that has a record in an open segment has a place for its link, since the link leads to one of its records.
-use Rattle.std.proofs.Common.{◌≡◌, ℕ, zero, suc, ◌<◌, true, refl, sym, ap, ◌∙◌, subst, inl, inr, arith, List, [], ◌∷◌, ◌++◌, length, Option, None, Some, is_some}
+use Rattle.std.proofs.Common.{◌≡◌, ℕ, zero, suc, ◌<◌, true, refl, sym, ap, ◌∙◌, subst, inl, inr, arith, List, [], ◌∷◌}
+use Rattle.std.proofs.Common.{◌++◌, length, Option, None, Some, is_some}
 use Rattle.std.specs.Prelude.{◌≢◌}
 use Rattle.std.proofs.lemmas.Bool.{cases_eq, cases_lt, cond-true}
 use Rattle.std.proofs.lemmas.List.{get_or_past}
@@ -35,7 +36,8 @@ none_after (x ∷ xs) ys e = cc
 
 module _ (k : Key) where
   -- where no record of a terminal below n is of the key
-  pub none_open : (f : ℕ → List Logged) (t n : ℕ) → t < n → of_key k (held_open f (all_below system n)) ≡ [] → of_key k (held_by (Open t) (f t)) ≡ []
+  pub none_open : (f : ℕ → List Logged) (t n : ℕ) → t < n → of_key k (held_open f (all_below system n)) ≡ []
+      → of_key k (held_by (Open t) (f t)) ≡ []
   none_open f t zero less e = absurd (omega (arith, less))
   none_open f t (suc m) less e =
       let parts = sym (of_key-append k (held_by (Open m) (f m)) (held_open f (all_below system m))) ∙ e in
@@ -56,32 +58,41 @@ has_link : (u : SegmentLog) (p : Option (Option OwnedLink)) → is_some (followe
 has_link u None h = h
 has_link u (Some l) h = refl
 
-pub known_by_record : (u : SegmentLog) (t : ℕ) (r : Logged) (rs : List Logged) → records_at u t ≡ r ∷ rs → t < length u.terminals
+pub known_by_record : (u : SegmentLog) (t : ℕ) (r : Logged) (rs : List Logged) → records_at u t ≡ r ∷ rs
+    → t < length u.terminals
 known_by_record u t r rs e =
     elim (cases_lt t (length u.terminals)) [
       | inl within ↦ within
-      | inr past ↦ let none : ◌≡◌ {A = List Logged} [] (r ∷ rs) = ap (λ z. records_in z.active) (sym (get_or_past u.terminals t idle past)) ∙ e in cc
+      | inr past ↦ let none : ◌≡◌ {A = List Logged} [] (r ∷ rs) = ap (λ z. records_in z.active)
+          (sym (get_or_past u.terminals t idle past)) ∙ e in cc
     ]
 
-pub linked_place : (s : UndoState) (t : ℕ) (r : Logged) (rs : List Logged) → IsWhole s.log → AreChained s.log (seen s) → records_at s.log t ≡ r ∷ rs
+pub linked_place : (s : UndoState) (t : ℕ) (r : Logged) (rs : List Logged) → IsWhole s.log → AreChained s.log (seen s)
+    → records_at s.log t ≡ r ∷ rs
     → HasPlace s.links (record_key r.before)
 linked_place s t r rs whole chained e =
     let u : SegmentLog = s.log in
     let k : Key = record_key r.before in
     let less : t < terminal_limit = subst (λ n. t < n) whole.terminals (known_by_record u t r rs e) in
     has_link u (place_of s.links k) (some_link k (horizon u) (seen s k) (of_key k (held u)) (λ none.
-    let open_none = none_first _ _ (sym (of_key-append k (held_open (records_at u) (all_below system terminal_limit)) (held_commits (total_count u) u.committed)) ∙ none) in
+    let open_none = none_first _ _
+    (sym (of_key-append k (held_open (records_at u) (all_below system terminal_limit))
+    (held_commits (total_count u) u.committed)) ∙ none) in
     let own_none = none_open k (records_at u) t terminal_limit less open_none in
-    let own : of_key k (held_by (Open t) (records_at u t)) ≡ record { logged = r; holder = Open t } ∷ of_key k (held_by (Open t) rs) =
+    let own : of_key k (held_by (Open t) (records_at u t)) ≡ record { logged = r; holder = Open t } ∷ of_key k
+    (held_by (Open t) rs) =
     ap (λ z. of_key k (held_by (Open t) z)) e ∙ cond-true (is_key k k) _ _ (key_refl k) in
-    let no : ◌≡◌ {A = List Held} [] (record { logged = r; holder = Open t } ∷ of_key k (held_by (Open t) rs)) = sym own_none ∙ own in
+    let no : ◌≡◌ {A = List Held} [] (record { logged = r; holder = Open t } ∷ of_key k (held_by (Open t) rs)) =
+    sym own_none ∙ own in
     cc) (chained k))
 
 -- so the newest record that is taken off leaves the places
-pub same_given_back : (old new : UndoState) (t : ℕ) → IsWhole old.log → AreChained old.log (seen old) → GivesBack old new t (records_at old.log t)
+pub same_given_back : (old new : UndoState) (t : ℕ) → IsWhole old.log → AreChained old.log (seen old)
+    → GivesBack old new t (records_at old.log t)
     → SamePlaces old.links new.links
 same_given_back old new t whole chained back = go (records_at old.log t) refl back
   where
     go : (rs : List Logged) → records_at old.log t ≡ rs → GivesBack old new t rs → SamePlaces old.links new.links
     go [] e back = no_links_set old.links new.links back
-    go (r ∷ rs) e back = (set_leads old.links new.links (record_key r.before) back.link back.set).same (linked_place old t r rs whole chained e)
+    go (r ∷ rs) e back = (set_leads old.links new.links (record_key r.before) back.link back.set).same
+        (linked_place old t r rs whole chained e)

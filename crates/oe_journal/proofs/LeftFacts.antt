@@ -1,5 +1,6 @@
 -- Where a log has no record of a key, no open transaction and no commit has one.
-use Rattle.std.proofs.Common.{◌≡◌, ℕ, ◌-◌, ◌<◌, Bool, true, false, cond, sym, ap, ◌∙◌, subst, inl, inr, List, [], ◌∷◌, ◌++◌, length, map}
+use Rattle.std.proofs.Common.{◌≡◌, ℕ, ◌-◌, ◌<◌, Bool, true, false, cond, sym, ap, ◌∙◌, subst, inl, inr, List, [], ◌∷◌}
+use Rattle.std.proofs.Common.{◌++◌, length, map}
 use Rattle.std.proofs.lemmas.Bool.{cases_lt, cond-true}
 use Rattle.std.proofs.lemmas.List.{get_or_past}
 use Rattle.oe_rows.specs.declared.keys.Key.{Key}
@@ -25,33 +26,43 @@ module _ (k : Key) where
   fewer false x xs e = e
 
   -- in one segment
-  none_among : (h : Holder) (rs : List Logged) → of_key k (held_by h rs) ≡ [] → HasRecord system k (model_records rs) → ⊥
+  none_among : (h : Holder) (rs : List Logged) → of_key k (held_by h rs) ≡ [] → HasRecord system k (model_records rs)
+      → ⊥
   none_among h [] none has = has
   none_among h (r ∷ rs) none (inl same) =
       let own : is_key k (record_key r.before) ≡ true = ap (is_key k) same ∙ key_refl k in
       let no : ◌≡◌ {A = List Held} [] (record { logged = r; holder = h } ∷ of_key k (held_by h rs)) =
       sym none ∙ cond-true (is_key k (record_key r.before)) _ _ own in cc
   none_among h (r ∷ rs) none (inr has) =
-      none_among h rs (fewer (is_key k (record_key r.before)) (record { logged = r; holder = h }) (of_key k (held_by h rs)) none) has
+      none_among h rs (fewer (is_key k (record_key r.before)) (record { logged = r; holder = h })
+      (of_key k (held_by h rs)) none) has
 
-  none_committed : (n : ℕ) (cs : List Committed) → of_key k (held_commits n cs) ≡ [] → HasRecordIn system k (map (λ c. model_records c.records) cs) → ⊥
+  none_committed : (n : ℕ) (cs : List Committed) → of_key k (held_commits n cs) ≡ []
+      → HasRecordIn system k (map (λ c. model_records c.records) cs) → ⊥
   none_committed n [] none has = has
   none_committed n (c ∷ cs) none (inl has) =
-      none_among (At n) c.records (none_first _ _ (sym (of_key-append k (held_by (At n) c.records) (held_commits (n - 1) cs)) ∙ none)) has
+      none_among (At n) c.records
+      (none_first _ _ (sym (of_key-append k (held_by (At n) c.records) (held_commits (n - 1) cs)) ∙ none)) has
   none_committed n (c ∷ cs) none (inr has) =
-      none_committed (n - 1) cs (none_after _ _ (sym (of_key-append k (held_by (At n) c.records) (held_commits (n - 1) cs)) ∙ none)) has
+      none_committed (n - 1) cs
+      (none_after _ _ (sym (of_key-append k (held_by (At n) c.records) (held_commits (n - 1) cs)) ∙ none)) has
 
   parts : (u : SegmentLog) → HasNoRecord u k
-      → of_key k (held_open (records_at u) (all_below system terminal_limit)) ++ of_key k (held_commits (total_count u) u.committed) ≡ []
-  parts u none = sym (of_key-append k (held_open (records_at u) (all_below system terminal_limit)) (held_commits (total_count u) u.committed)) ∙ none
+      → of_key k (held_open (records_at u) (all_below system terminal_limit))
+      ++ of_key k (held_commits (total_count u) u.committed) ≡ []
+  parts u none = sym (of_key-append k (held_open (records_at u) (all_below system terminal_limit))
+      (held_commits (total_count u) u.committed)) ∙ none
 
-  pub none_in_open : (u : SegmentLog) → length u.terminals ≡ terminal_limit → HasNoRecord u k → (t : ℕ) → HasRecord system k ((undo_of u).active t) → ⊥
+  pub none_in_open : (u : SegmentLog) → length u.terminals ≡ terminal_limit → HasNoRecord u k → (t : ℕ)
+      → HasRecord system k ((undo_of u).active t) → ⊥
   none_in_open u size none t has =
       elim (cases_lt t (length u.terminals)) [
         | inl within ↦
             none_among (Open t) (records_at u t)
-            (none_open k (records_at u) t terminal_limit (subst (λ n. t < n) size within) (none_first _ _ (parts u none))) has
-        | inr past ↦ subst (λ z. HasRecord system k (model_records (records_in z.active))) (get_or_past u.terminals t idle past) has
+            (none_open k (records_at u) t terminal_limit (subst (λ n. t < n) size within)
+            (none_first _ _ (parts u none))) has
+        | inr past ↦ subst (λ z. HasRecord system k (model_records (records_in z.active)))
+            (get_or_past u.terminals t idle past) has
       ]
 
   pub none_in_commits : (u : SegmentLog) → HasNoRecord u k → HasRecordIn system k (undo_of u).history → ⊥

@@ -1,4 +1,5 @@
--- For the crates above: what a write records and why it is refused, what the log is without its newest commits, and what a purge
+-- For the crates above: what a write records and why it is refused, what the log is without its newest commits, and
+-- what a purge
 -- leaves.
 pub mod RecordFacts
 pub mod RewindFacts

@@ -35,7 +35,8 @@ there_is P (Some x) h = (x, refl, h)
 
 -- ---- a record's key
 
-pub mapped_key : {A : Type 0} (f : A → Record) (k : Key) (o : Option A) (b : Record) → ((x : A) → record_key (f x) ≡ k) → option_map f o ≡ Some b → record_key b ≡ k
+pub mapped_key : {A : Type 0} (f : A → Record) (k : Key) (o : Option A) (b : Record) → ((x : A) → record_key (f x) ≡ k)
+    → option_map f o ≡ Some b → record_key b ≡ k
 mapped_key f k None b same e = cc
 mapped_key f k (Some x) b same e = ap record_key (sym (some_inj _ _ e)) ∙ same x
 
@@ -49,29 +50,34 @@ module _ (b : Record) (u u' : UndoState) (t : ℕ) (h : HasMore b u u' t) where
   pushed_record = logged h.pushed.address h.previous b
 
   is_open_still : (x : ℕ) → is_some (active_at u'.log x) ≡ is_some (active_at u.log x)
-  is_open_still x = ap (λ z. is_some (active_at z x)) h.pushed.log ∙ records_open u.log t (pushed_record ∷ records_at u.log t) x
+  is_open_still x = ap (λ z. is_some (active_at z x)) h.pushed.log ∙ records_open u.log t
+      (pushed_record ∷ records_at u.log t) x
 
   -- no place of a link is lost
   has_place_still : (k : Key) → HasPlace u.links k → HasPlace u'.links k
   has_place_still = h.pushed.link.kept
 
 -- in the theory's words
-pub more_stands : (b : Record) (c : Change) (old new : Places) (u u' : UndoState) (t : ℕ) (o : OpenSegment) → active_at u.log t ≡ Some o
-    → b ≡ record_in c (rows old) → Applies c old new (record_in c (rows old)) → HasMore b u u' t → IsRecorded c old new u u' t
+pub more_stands : (b : Record) (c : Change) (old new : Places) (u u' : UndoState) (t : ℕ) (o : OpenSegment)
+    → active_at u.log t ≡ Some o
+    → b ≡ record_in c (rows old) → Applies c old new (record_in c (rows old)) → HasMore b u u' t
+    → IsRecorded c old new u u' t
 more_stands b c old new u u' t o is same applies h =
     let m : HasMore (record_in c (rows old)) u u' t = subst (λ z. HasMore z u u' t) same h in
     let rs = pushed_record (record_in c (rows old)) u u' t m ∷ records_at u.log t in
     record {
       applies = applies;
       has_more = m;
-      stands = subst (λ z. StandsWith z u.log t (record_in c (rows old) ∷ model_records (records_at u.log t))) (sym m.pushed.log) (records_stand u.log t o rs is);
+      stands = subst (λ z. StandsWith z u.log t (record_in c (rows old) ∷ model_records (records_at u.log t)))
+          (sym m.pushed.log) (records_stand u.log t o rs is);
       is_open = is_open_still (record_in c (rows old)) u u' t m;
       size = ap (λ (z : SegmentLog). length z.terminals) m.pushed.log ∙ records_size u.log t rs;
       extents = ap (λ (z : SegmentLog). z.extents) m.pushed.log;
     }
 
 -- each key of the tables has a place for its link
-pub recorded_linked : (c : Change) (old new : Places) (u u' : UndoState) (t : ℕ) → AreLinked old u.links → IsRecorded c old new u u' t → AreLinked new u'.links
+pub recorded_linked : (c : Change) (old new : Places) (u u' : UndoState) (t : ℕ) → AreLinked old u.links
+    → IsRecorded c old new u u' t → AreLinked new u'.links
 recorded_linked c old new u u' t linked h =
     let b : Record = record_in c (rows old) in
     let own : record_key b ≡ key_of c = record_key_of c (row_at (rows old) (key_of c)) in
@@ -80,7 +86,8 @@ recorded_linked c old new u u' t linked h =
 
 -- ---- and that is taken off again
 
-module _ (o : Option Record) (u u' : UndoState) (t : ℕ) (is : is_some (active_at u.log t) ≡ true) (push : IsSomeAnd o (λ b. HasMore b u u' t)) where
+module _ (o : Option Record) (u u' : UndoState) (t : ℕ) (is : is_some (active_at u.log t) ≡ true)
+    (push : IsSomeAnd o (λ b. HasMore b u u' t)) where
   -- the terminal's segment is open still
   pub pushed_open : is_some (active_at u'.log t) ≡ true
   pushed_open =
@@ -101,11 +108,13 @@ module _ (o : Option Record) (u u' : UndoState) (t : ℕ) (is : is_some (active_
       let b = there_is (λ b. HasMore b u u' t) o push in
       let a = some_of (active_at u.log t) is in
       let rs = pushed_record b.0 u u' t b.2 ∷ records_at u.log t in
-      let newest : records_at u'.log t ≡ rs = ap (λ z. records_at z t) b.2.pushed.log ∙ records_are u.log t a.0 rs a.1 in
+      let newest : records_at u'.log t ≡ rs = ap (λ z. records_at z t) b.2.pushed.log
+      ∙ records_are u.log t a.0 rs a.1 in
       (b.0, b.2, subst (GivesBack u' x t) newest back)
 
   -- which leads where it led, since its commit is kept
-  pub links_given_back : (x : UndoState) → IsWhole x.log → x.log ≡ popped u'.log t → GivesBack u' x t (records_at u'.log t) → SameLinks u x
+  pub links_given_back : (x : UndoState) → IsWhole x.log → x.log ≡ popped u'.log t
+      → GivesBack u' x t (records_at u'.log t) → SameLinks u x
   links_given_back x whole pop back =
       let log : x.log ≡ u.log = unpushed x.log pop in
       let b = key_given_back x back in
@@ -114,18 +123,22 @@ module _ (o : Option Record) (u u' : UndoState) (t : ℕ) (is : is_some (active_
       ∙ followed_unended u.log (links_of u.links (record_key b.0)) (subst IsWhole log whole).commits)
 
   -- no key has a place more but the record's, and those that come with it
-  pub unpushed_places : (own : Key) → ((b : Record) → o ≡ Some b → record_key b ≡ own) → (x : UndoState) → GivesBack u' x t (records_at u'.log t) → GivesAtMost u.links x.links own
+  pub unpushed_places : (own : Key) → ((b : Record) → o ≡ Some b → record_key b ≡ own) → (x : UndoState)
+      → GivesBack u' x t (records_at u'.log t) → GivesAtMost u.links x.links own
   unfolding key_given_back there_is
   unpushed_places own key_is x back k p =
       let b = key_given_back x back in
       let found = there_is (λ b. HasMore b u u' t) o push in
       let same : record_key b.0 ≡ own = key_is b.0 found.1 in
-      let had : HasPlace u'.links k = ((set_leads u'.links x.links (record_key b.0) b.2.link b.2.set).same b.1.pushed.link.placed k).0 p in
+      let had : HasPlace u'.links k =
+      ((set_leads u'.links x.links (record_key b.0) b.2.link b.2.set).same b.1.pushed.link.placed k).0 p in
       subst (λ (j : Key). HasPlace u.links k ⊎ Comes j k) same (b.1.pushed.link.given k had)
 
   -- and the keys of the tables have their places
-  pub unpushed_linked : (ts : Places) (x : UndoState) → GivesBack u' x t (records_at u'.log t) → AreLinked ts u.links → AreLinked ts x.links
+  pub unpushed_linked : (ts : Places) (x : UndoState) → GivesBack u' x t (records_at u'.log t) → AreLinked ts u.links
+      → AreLinked ts x.links
   unpushed_linked ts x back linked =
       let b = key_given_back x back in
       still_linked ts u.links x.links
-      (λ k had. (set_leads u'.links x.links (record_key b.0) b.2.link b.2.set).kept k (has_place_still b.0 u u' t b.1 k had)) linked
+      (λ k had. (set_leads u'.links x.links (record_key b.0) b.2.link b.2.set).kept k
+      (has_place_still b.0 u u' t b.1 k had)) linked

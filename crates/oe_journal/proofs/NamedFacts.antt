@@ -1,5 +1,6 @@
 -- Places that are kept for rows and for what records name, as records are taken off and their changes undone.
-use Rattle.std.proofs.Common.{◌≡◌, ℕ, zero, suc, ◌-◌, Bool, true, false, cond, refl, sym, ap, ◌∙◌, subst, inl, inr, List, [], ◌∷◌, ◌++◌, length, map, Option}
+use Rattle.std.proofs.Common.{◌≡◌, ℕ, zero, suc, ◌-◌, Bool, true, false, cond, refl, sym, ap, ◌∙◌, subst, inl, inr}
+use Rattle.std.proofs.Common.{List, [], ◌∷◌, ◌++◌, length, map, Option}
 use Rattle.std.specs.Prelude.{◌≢◌, ◌⊎◌, IsSome}
 use Rattle.std.proofs.lemmas.Bool.{cases_eq}
 use Rattle.oe_rows.specs.declared.keys.Key.{Key}
@@ -12,7 +13,9 @@ use Rattle.oe_theory.specs.Undo.{Undo, HasRecord, HasRecordIn, put_records}
 use Rattle.oe_theory.specs.World.{set}
 use Rattle.oe_theory.proofs.Sets.{set_same, set_other}
 use Rattle.oe_model.specs.Rows.{Rows, is_key, row_at}
-use Rattle.oe_model.specs.Changes.{Record, InsertedHistory, InsertedNewOrder, InsertedOrder, InsertedOrderLine, UpdatedWarehouse, UpdatedDistrict, UpdatedCustomer, UpdatedOrder, UpdatedOrderLine, UpdatedStock, DeletedNewOrder, record_key, row_before, put_back}
+use Rattle.oe_model.specs.Changes.{Record, InsertedHistory, InsertedNewOrder, InsertedOrder, InsertedOrderLine}
+use Rattle.oe_model.specs.Changes.{UpdatedWarehouse, UpdatedDistrict, UpdatedCustomer, UpdatedOrder, UpdatedOrderLine}
+use Rattle.oe_model.specs.Changes.{UpdatedStock, DeletedNewOrder, record_key, row_before, put_back}
 use Rattle.oe_model.specs.System.{system, terminal_limit}
 use Rattle.oe_model.proofs.RowFacts.{key_true, key_refl, at_put_back}
 use Rattle.oe_store.specs.Places.{Places, rows, HasPlace}
@@ -31,14 +34,16 @@ use Rattle.oe_journal.proofs.LeftFacts.{none_in_open, none_in_commits}
 
 -- ---- a key that no record names is one of which the log has no record
 
-pub unnamed_left : (u : SegmentLog) (k : Key) → length u.terminals ≡ terminal_limit → HasNoRecord u k → IsUnnamed (undo_of u) k
+pub unnamed_left : (u : SegmentLog) (k : Key) → length u.terminals ≡ terminal_limit → HasNoRecord u k
+    → IsUnnamed (undo_of u) k
 unnamed_left u k size none = (none_in_open k u size none, none_in_commits k u none)
 
 module _ (k : Key) where
   both_none : (xs ys : List Held) → xs ≡ [] → ys ≡ [] → xs ++ ys ≡ []
   both_none xs ys e f = ap (λ zs. zs ++ ys) e ∙ f
 
-  left_of_one : (h : Holder) (rs : List Logged) → (HasRecord system k (model_records rs) → ⊥) → of_key k (held_by h rs) ≡ []
+  left_of_one : (h : Holder) (rs : List Logged) → (HasRecord system k (model_records rs) → ⊥)
+      → of_key k (held_by h rs) ≡ []
   left_of_one h [] none = refl
   left_of_one h (r ∷ rs) none = go (is_key k (record_key r.before)) refl (left_of_one h rs (λ has. none (inr has)))
     where
@@ -47,33 +52,46 @@ module _ (k : Key) where
       go true e rest = absurd (none (inl (sym (key_true k (record_key r.before) e))))
       go false e rest = rest
 
-  left_of_open : (f : ℕ → List Logged) (n : ℕ) → ((t : ℕ) → HasRecord system k (model_records (f t)) → ⊥) → of_key k (held_open f (all_below system n)) ≡ []
+  left_of_open : (f : ℕ → List Logged) (n : ℕ) → ((t : ℕ) → HasRecord system k (model_records (f t)) → ⊥)
+      → of_key k (held_open f (all_below system n)) ≡ []
   left_of_open f zero none = refl
   left_of_open f (suc n) none =
       of_key-append k (held_by (Open n) (f n)) (held_open f (all_below system n))
       ∙ both_none _ _ (left_of_one (Open n) (f n) (none n)) (left_of_open f n none)
 
-  left_of_commits : (m : ℕ) (cs : List Committed) → (HasRecordIn system k (map (λ c. model_records c.records) cs) → ⊥) → of_key k (held_commits m cs) ≡ []
+  left_of_commits : (m : ℕ) (cs : List Committed) → (HasRecordIn system k (map (λ c. model_records c.records) cs) → ⊥)
+      → of_key k (held_commits m cs) ≡ []
   left_of_commits m [] none = refl
   left_of_commits m (c ∷ cs) none =
       of_key-append k (held_by (At m) c.records) (held_commits (m - 1) cs)
-      ∙ both_none _ _ (left_of_one (At m) c.records (λ has. none (inl has))) (left_of_commits (m - 1) cs (λ has. none (inr has)))
+      ∙ both_none _ _ (left_of_one (At m) c.records (λ has. none (inl has)))
+      (left_of_commits (m - 1) cs (λ has. none (inr has)))
 
 pub left_unnamed : (u : SegmentLog) (k : Key) → IsUnnamed (undo_of u) k → HasNoRecord u k
 left_unnamed u k none =
-    of_key-append k (held_open (records_at u) (all_below system terminal_limit)) (held_commits (total_count u) u.committed)
-    ∙ both_none k _ _ (left_of_open k (records_at u) terminal_limit none.0) (left_of_commits k (total_count u) u.committed none.1)
+    of_key-append k (held_open (records_at u) (all_below system terminal_limit))
+    (held_commits (total_count u) u.committed)
+    ∙ both_none k _ _ (left_of_open k (records_at u) terminal_limit none.0)
+    (left_of_commits k (total_count u) u.committed none.1)
 
 -- ---- keys that records name
 
 -- records whose keys keep their places have them
-pub still_placed : (ts ts' : Places) (bs : List Record) → ((k : Key) → HasRecord system k bs → HasPlace ts k → HasPlace ts' k) → HavePlaces ts bs → HavePlaces ts' bs
+pub still_placed : (ts ts' : Places) (bs : List Record)
+    → ((k : Key) → HasRecord system k bs → HasPlace ts k → HasPlace ts' k) → HavePlaces ts bs → HavePlaces ts' bs
 still_placed ts ts' [] keeps h = tt
-still_placed ts ts' (b ∷ bs) keeps h = (keeps (record_key b) (inl refl) h.0, still_placed ts ts' bs (λ k has. keeps k (inr has)) h.1)
+still_placed ts ts' (b ∷ bs) keeps h =
+    (keeps (record_key b) (inl refl) h.0, still_placed ts ts' bs (λ k has. keeps k (inr has)) h.1)
 
-pub all_still_placed : (ts ts' : Places) (ss : List (List Record)) → ((k : Key) → HasRecordIn system k ss → HasPlace ts k → HasPlace ts' k) → AllHavePlaces ts ss → AllHavePlaces ts' ss
+pub all_still_placed : (ts ts' : Places) (ss : List (List Record))
+    → ((k : Key) → HasRecordIn system k ss → HasPlace ts k → HasPlace ts' k) → AllHavePlaces ts ss
+    → AllHavePlaces ts' ss
 all_still_placed ts ts' [] keeps h = tt
-all_still_placed ts ts' (bs ∷ ss) keeps h = (still_placed ts ts' bs (λ k has. keeps k (inl has)) h.0, all_still_placed ts ts' ss (λ k has. keeps k (inr has)) h.1)
+all_still_placed ts ts' (bs ∷ ss) keeps h = (
+  still_placed ts ts' bs (λ k has. keeps k (inl has)) h.0,
+  all_still_placed ts ts' ss (λ k has. keeps k (inr has))
+      h.1,
+)
 
 module _ (ts ts' : Places) (d d' : Undo system) (g : GivesUpUnnamed ts ts' d d') where
   pub active_placed : (t : ℕ) → HavePlaces ts (d'.active t) → HavePlaces ts' (d'.active t)
@@ -87,7 +105,8 @@ module _ (ts ts' : Places) (d d' : Undo system) (g : GivesUpUnnamed ts ts' d d')
 pub none_given_up : (ts : Places) (d : Undo system) → GivesUpUnnamed ts ts d d
 none_given_up ts d = record { records = λ k h. h; fewer = λ k h. h; named = λ k h n. h; needed = λ h. h }
 
-pub then_given_up : (ts ts' ts'' : Places) (d d' d'' : Undo system) → GivesUpUnnamed ts ts' d d' → GivesUpUnnamed ts' ts'' d' d'' → GivesUpUnnamed ts ts'' d d''
+pub then_given_up : (ts ts' ts'' : Places) (d d' d'' : Undo system) → GivesUpUnnamed ts ts' d d'
+    → GivesUpUnnamed ts' ts'' d' d'' → GivesUpUnnamed ts ts'' d d''
 then_given_up ts ts' ts'' d d' d'' a b = record {
   records = λ k h. b.records k (a.records k h);
   fewer = λ k h. a.fewer k (b.fewer k h);
@@ -100,7 +119,8 @@ pub record NamesAlike (d d' : Undo system) : Type 0 where
   pub to : (k : Key) → IsUnnamed d k → IsUnnamed d' k
   pub from : (k : Key) → IsUnnamed d' k → IsUnnamed d k
 
-pub alike_before : (ts ts' : Places) (c d d' : Undo system) → NamesAlike c d → GivesUpUnnamed ts ts' d d' → GivesUpUnnamed ts ts' c d'
+pub alike_before : (ts ts' : Places) (c d d' : Undo system) → NamesAlike c d → GivesUpUnnamed ts ts' d d'
+    → GivesUpUnnamed ts ts' c d'
 alike_before ts ts' c d d' same g = record {
   records = λ k h. g.records k (same.to k h);
   fewer = g.fewer;
@@ -109,7 +129,8 @@ alike_before ts ts' c d d' same g = record {
 }
 
 -- the newest commit's records are a terminal's open ones, which had none
-pub reopened_names : (d : Undo system) (t : ℕ) (bs : List Record) (ss : List (List Record)) → d.active t ≡ [] → d.history ≡ bs ∷ ss
+pub reopened_names : (d : Undo system) (t : ℕ) (bs : List Record) (ss : List (List Record)) → d.active t ≡ []
+    → d.history ≡ bs ∷ ss
     → NamesAlike d (record { active = set t bs d.active; history = ss })
 reopened_names d t bs ss quiet is = record { to = to; from = from }
   where
@@ -118,7 +139,8 @@ reopened_names d t bs ss quiet is = record { to = to; from = from }
       where
         at : (x : ℕ) → HasRecord system k (set t bs d.active x) → ⊥
         at x has = elim (cases_eq x t) [
-          | inl same ↦ none.1 (subst (HasRecordIn system k) (sym is) (inl (subst (HasRecord system k) (set_same t bs d.active x same) has)))
+          | inl same ↦ none.1 (subst (HasRecordIn system k) (sym is)
+              (inl (subst (HasRecord system k) (set_same t bs d.active x same) has)))
           | inr ne ↦ none.0 x (subst (HasRecord system k) (set_other t bs d.active x ne) has)
         ]
 
@@ -146,7 +168,8 @@ module _ (t : ℕ) (b : Record) (bs : List Record) (d : Undo system) (is : d.act
     where
       at : (x : ℕ) → HasRecord system k (set t bs d.active x) → ⊥
       at x has = elim (cases_eq x t) [
-        | inl same ↦ none.0 t (subst (HasRecord system k) (sym is) (inr (subst (HasRecord system k) (set_same t bs d.active x same) has)))
+        | inl same ↦ none.0 t
+            (subst (HasRecord system k) (sym is) (inr (subst (HasRecord system k) (set_same t bs d.active x same) has)))
         | inr ne ↦ none.0 x (subst (HasRecord system k) (set_other t bs d.active x ne) has)
       ]
 
@@ -182,7 +205,8 @@ left_places (UpdatedOrderLine j v) ts ts' h k p = (h k).0 p
 left_places (UpdatedStock j v) ts ts' h k p = (h k).0 p
 left_places (DeletedNewOrder j v) ts ts' h k p = (h k).0 p
 
-other_places : (b : Record) (ts ts' : Places) → LeavesPlaces b ts ts' → (k : Key) → k ≢ record_key b → HasPlace ts k → HasPlace ts' k
+other_places : (b : Record) (ts ts' : Places) → LeavesPlaces b ts ts' → (k : Key) → k ≢ record_key b → HasPlace ts k
+    → HasPlace ts' k
 other_places (InsertedHistory j v) ts ts' h k ne p = (h k).1 (p, ne)
 other_places (InsertedNewOrder j v) ts ts' h k ne p = (h k).1 (p, ne)
 other_places (InsertedOrder j v) ts ts' h k ne p = (h k).1 (p, ne)
@@ -196,14 +220,18 @@ other_places (UpdatedStock j v) ts ts' h k ne p = (h k).1 p
 other_places (DeletedNewOrder j v) ts ts' h k ne p = (h k).1 p
 
 row_of_own : (b : Record) (r : Rows) → IsSome (row_before b) → IsSome (row_at (put_back b r) (record_key b))
-row_of_own b r h = subst (λ (o : Option Row). IsSome o) (sym (at_put_back b r (record_key b) ∙ ap (λ z. cond z (row_before b) (row_at r (record_key b))) (key_refl (record_key b)))) h
+row_of_own b r h = subst (λ (o : Option Row). IsSome o)
+    (sym (at_put_back b r (record_key b) ∙ ap (λ z. cond z (row_before b) (row_at r (record_key b)))
+    (key_refl (record_key b)))) h
 
 -- the record's own key has a place then only with its row
-own_place : (o : OwnRecord) (ts ts' : Places) → LeavesPlaces (record_of_own o) ts ts' → rows ts' ≡ put_back (record_of_own o) (rows ts)
+own_place : (o : OwnRecord) (ts ts' : Places) → LeavesPlaces (record_of_own o) ts ts'
+    → rows ts' ≡ put_back (record_of_own o) (rows ts)
     → HasPlace ts' (record_key (record_of_own o)) → IsSome (row_at (rows ts') (record_key (record_of_own o)))
 own_place o ts ts' h is p = subst (λ (r : Rows). IsSome (row_at r (record_key (record_of_own o)))) (sym is) (go o h p)
   where
-    go : (o : OwnRecord) → LeavesPlaces (record_of_own o) ts ts' → HasPlace ts' (record_key (record_of_own o)) → IsSome (row_at (put_back (record_of_own o) (rows ts)) (record_key (record_of_own o)))
+    go : (o : OwnRecord) → LeavesPlaces (record_of_own o) ts ts' → HasPlace ts' (record_key (record_of_own o))
+        → IsSome (row_at (put_back (record_of_own o) (rows ts)) (record_key (record_of_own o)))
     go (own.InsertedHistory k) h p = absurd (((h (record_key (record_of_own (own.InsertedHistory k)))).0 p).1 refl)
     go (own.InsertedNewOrder k) h p = absurd (((h (record_key (record_of_own (own.InsertedNewOrder k)))).0 p).1 refl)
     go (own.InsertedOrder k) h p = absurd (((h (record_key (record_of_own (own.InsertedOrder k)))).0 p).1 refl)
@@ -221,9 +249,11 @@ is_none [] = inl refl
 is_none (h ∷ hs) = inr (λ e. let no : ⊥ = cc in no)
 
 -- the newest record of a log is taken off, and its change undone
-module _ (o : OwnRecord) (ts ts' : Places) (v w : SegmentLog) (t : ℕ) (bs : List Record) (size : length w.terminals ≡ terminal_limit)
+module _ (o : OwnRecord) (ts ts' : Places) (v w : SegmentLog) (t : ℕ) (bs : List Record)
+    (size : length w.terminals ≡ terminal_limit)
     (newest : (undo_of v).active t ≡ record_of_own o ∷ bs) (rest : undo_of w ≡ put_records system t bs (undo_of v))
-    (put : rows ts' ≡ put_back (record_of_own o) (rows ts)) (back : PutsBack (record_of_own o) (record_key (record_of_own o)) ts ts' w) where
+    (put : rows ts' ≡ put_back (record_of_own o) (rows ts))
+    (back : PutsBack (record_of_own o) (record_key (record_of_own o)) ts ts' w) where
   abbrev own_key : Key
   own_key = record_key (record_of_own o)
 
@@ -231,7 +261,8 @@ module _ (o : OwnRecord) (ts ts' : Places) (v w : SegmentLog) (t : ℕ) (bs : Li
   same_name k = subst (λ (d : Undo system). IsUnnamed d k) rest
 
   row_stays : (k : Key) → is_key k own_key ≡ false → IsSome (row_at (rows ts) k) → IsSome (row_at (rows ts') k)
-  row_stays k e h = subst (λ (q : Option Row). IsSome q) (sym (ap (λ (r : Rows). row_at r k) put ∙ row_other (record_of_own o) (rows ts) k e)) h
+  row_stays k e h = subst (λ (q : Option Row). IsSome q)
+      (sym (ap (λ (r : Rows). row_at r k) put ∙ row_other (record_of_own o) (rows ts) k e)) h
 
   fewer_places : (k : Key) → HasPlace ts' k → HasPlace ts k
   fewer_places k p = elim (is_none (of_key own_key (held w))) [
@@ -241,7 +272,8 @@ module _ (o : OwnRecord) (ts ts' : Places) (v w : SegmentLog) (t : ℕ) (bs : Li
 
   named_places : (k : Key) → HasPlace ts k → (IsUnnamed (undo_of w) k → ⊥) → HasPlace ts' k
   named_places k p named = elim (is_none (of_key own_key (held w))) [
-    | inl none ↦ other_places (record_of_own o) ts ts' (back.gone none) k (λ same. named (subst (IsUnnamed (undo_of w)) (sym same) (unnamed_left w own_key size none))) p
+    | inl none ↦ other_places (record_of_own o) ts ts' (back.gone none) k
+        (λ same. named (subst (IsUnnamed (undo_of w)) (sym same) (unnamed_left w own_key size none))) p
     | inr some ↦ (back.kept some k).1 p
   ]
 
@@ -252,14 +284,18 @@ module _ (o : OwnRecord) (ts ts' : Places) (v w : SegmentLog) (t : ℕ) (bs : Li
       go true e =
           let same : k ≡ own_key = key_true k own_key e in
           let gone : HasNoRecord w own_key = subst (HasNoRecord w) same (left_unnamed w k none) in
-          subst (λ (j : Key). IsSome (row_at (rows ts') j)) (sym same) (own_place o ts ts' (back.gone gone) put (subst (HasPlace ts') same p))
+          subst (λ (j : Key). IsSome (row_at (rows ts') j)) (sym same)
+          (own_place o ts ts' (back.gone gone) put (subst (HasPlace ts') same p))
       go false e =
-          let apart : own_key ≢ k = λ same. let own : is_key k own_key ≡ true = ap (is_key k) same ∙ key_refl k in (let no : ◌≡◌ {A = Bool} true false = sym own ∙ e in cc) in
-          row_stays k e (h k (fewer_places k p) (others_name t (record_of_own o) bs (undo_of v) newest k apart (same_name k none)))
+          let apart : own_key ≢ k = λ same. let own : is_key k own_key ≡ true = ap (is_key k) same ∙ key_refl k in
+          (let no : ◌≡◌ {A = Bool} true false = sym own ∙ e in cc) in
+          row_stays k e (h k (fewer_places k p)
+          (others_name t (record_of_own o) bs (undo_of v) newest k apart (same_name k none)))
 
   pub one_given_up : GivesUpUnnamed ts ts' (undo_of v) (undo_of w)
   one_given_up = record {
-    records = λ k none. subst (λ (d : Undo system). IsUnnamed d k) (sym rest) (fewer_name t (record_of_own o) bs (undo_of v) newest k none);
+    records = λ k none. subst (λ (d : Undo system). IsUnnamed d k) (sym rest)
+        (fewer_name t (record_of_own o) bs (undo_of v) newest k none);
     fewer = fewer_places;
     named = named_places;
     needed = needed_places;

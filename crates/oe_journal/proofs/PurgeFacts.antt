@@ -1,5 +1,6 @@
 -- Places are given up key by key: of one record, of a commit's records, of the oldest commits.
-use Rattle.std.proofs.Common.{◌≡◌, ◌⊎◌, ℕ, zero, suc, ◌-◌, ◌<◌, ◌≤◌, refl, sym, ap, ◌∙◌, subst, inl, inr, arith, List, [], ◌∷◌, length, map, get_or, take, drop, Option, None, Some}
+use Rattle.std.proofs.Common.{◌≡◌, ◌⊎◌, ℕ, zero, suc, ◌-◌, ◌<◌, ◌≤◌, refl, sym, ap, ◌∙◌, subst, inl, inr, arith, List}
+use Rattle.std.proofs.Common.{[], ◌∷◌, length, map, get_or, take, drop, Option, None, Some}
 use Rattle.std.specs.Prelude.{◌↔◌, IsSome}
 use Rattle.std.specs.List.{cons_option}
 use Rattle.std.proofs.lemmas.List.{take_all}
@@ -23,12 +24,14 @@ use Rattle.oe_undo.specs.Held.{horizon}
 use Rattle.oe_undo.specs.Chains.{IsEnd, AreChained}
 use Rattle.oe_undo.specs.Laws.{IsWhole, Calls_keep_chains, Ends_without_records}
 use Rattle.oe_journal.specs.GoesBack.{AllHavePlaces}
-use Rattle.oe_journal.specs.GivesUp.{IsDelete, HasDelete, IsDeleted, IsDeletedIn, HasNoRecord, GivesUpThose, GivesUpDeleted}
+use Rattle.oe_journal.specs.GivesUp.{IsDelete, HasDelete, IsDeleted, IsDeletedIn, HasNoRecord, GivesUpThose}
+use Rattle.oe_journal.specs.GivesUp.{GivesUpDeleted}
 use Rattle.oe_log.specs.Moments.{store_with, newest}
 use Rattle.oe_journal.proofs.BackFacts.{more_places}
 
 -- Keys that had places have them in tables in which none was lost
-pub all_more_places : (ts ts' : tables.Places) → ((k : Key) → HasPlace ts k → HasPlace ts' k) → (ss : List (List Record)) → AllHavePlaces ts ss → AllHavePlaces ts' ss
+pub all_more_places : (ts ts' : tables.Places) → ((k : Key) → HasPlace ts k → HasPlace ts' k)
+    → (ss : List (List Record)) → AllHavePlaces ts ss → AllHavePlaces ts' ss
 all_more_places ts ts' more [] h = tt
 all_more_places ts ts' more (bs ∷ ss) h = (more_places ts ts' more bs h.0, all_more_places ts ts' more ss h.1)
 
@@ -51,34 +54,46 @@ length_taken (suc n) (x ∷ xs) h = ap suc (length_taken n xs (omega arith))
 
 none_cut : (v : SegmentLog) → v ≡ with_newest (length v.committed - 0) v
 none_cut v =
-    let all : take (length v.committed - 0) v.committed ≡ v.committed = take_all (length v.committed - 0) v.committed (omega arith) in
+    let all : take (length v.committed - 0) v.committed ≡ v.committed =
+    take_all (length v.committed - 0) v.committed (omega arith) in
     λ i. record { terminals = v.terminals; committed = sym all i; extents = v.extents }
 
-one_cut : (v w : SegmentLog) (k : ℕ) → k ≤ length v.committed → w ≡ with_newest k v → with_newest (length w.committed - 1) w ≡ with_newest (k - 1) v
+one_cut : (v w : SegmentLog) (k : ℕ) → k ≤ length v.committed → w ≡ with_newest k v
+    → with_newest (length w.committed - 1) w ≡ with_newest (k - 1) v
 one_cut v w k enough is =
     let many : length (take k v.committed) ≡ k = length_taken k v.committed enough in
     let twice : take (length (take k v.committed) - 1) (take k v.committed) ≡ take (k - 1) v.committed =
     take_take (length (take k v.committed) - 1) k v.committed (omega arith) ∙ ap (λ n. take (n - 1) v.committed) many in
-    ap (λ z. with_newest (length z.committed - 1) z) is ∙ (λ i. record { terminals = v.terminals; committed = twice i; extents = v.extents })
+    ap (λ z. with_newest (length z.committed - 1) z) is
+    ∙ (λ i. record { terminals = v.terminals; committed = twice i; extents = v.extents })
 
 -- in the theory's words
 pub purged_is : (u : SegmentLog) (m : ℕ) (r : Rows) (slots : ℕ → Option (Slot system))
     → store_with r (with_newest (newest u - m) u) slots ≡ purged_to system m (store_with r u slots)
 purged_is u m r slots =
     let c = stands.cuts u (newest u - m) in
-    λ i. record { tables = r; undo = c.undo i; slots = slots; seals = c.seals i; counts = c.counts i; extents = u.extents }
+    λ i. record {
+      tables = r;
+      undo = c.undo i;
+      slots = slots;
+      seals = c.seals i;
+      counts = c.counts i;
+      extents = u.extents;
+    }
 
 -- no key
 none_given_up : (ts : tables.Places) (P : Key → Type 0) → ((k : Key) → P k → ⊥) → GivesUpThose ts ts P
 none_given_up ts P none k = (λ h. (h, λ p. absurd (none k p)), λ h. h.0)
 
 -- keys of the same kind
-same_given_up : (old new : tables.Places) (P Q : Key → Type 0) → ((k : Key) → P k ↔ Q k) → GivesUpThose old new P → GivesUpThose old new Q
+same_given_up : (old new : tables.Places) (P Q : Key → Type 0) → ((k : Key) → P k ↔ Q k) → GivesUpThose old new P
+    → GivesUpThose old new Q
 same_given_up old new P Q is g k =
     (λ h. let was = (g k).0 h in (was.0, λ q. was.1 ((is k).1 q)), λ h. (g k).1 (h.0, λ p. h.1 ((is k).0 p)))
 
 -- keys of one kind, and then keys of another
-both_given_up : (old mid new : tables.Places) (P Q R : Key → Type 0) → rows mid ≡ rows old → ((k : Key) → R k ↔ (P k ⊎ Q k))
+both_given_up : (old mid new : tables.Places) (P Q R : Key → Type 0) → rows mid ≡ rows old
+    → ((k : Key) → R k ↔ (P k ⊎ Q k))
     → GivesUpThose old mid P → GivesUpThose mid new Q → GivesUpThose old new R
 both_given_up old mid new P Q R same is first second k = (there, back)
   where
@@ -95,7 +110,11 @@ both_given_up old mid new P Q R same is first second k = (there, back)
 
     back : (HasPlace old k × (R k → IsSome (row_at (rows old) k))) → HasPlace new k
     back h =
-        (second k).1 ((first k).1 (h.0, λ p. h.1 ((is k).1 (inl p))), λ q. subst (λ z. IsSome (row_at z k)) (sym same) (h.1 ((is k).1 (inr q))))
+        (second k).1 (
+          (first k).1 (h.0, λ p. h.1 ((is k).1 (inl p))),
+          λ q. subst (λ z. IsSome (row_at z k)) (sym same)
+              (h.1 ((is k).1 (inr q))),
+        )
 
 -- where keys of a kind are those of two others, so are those of them that have something more
 each_with : {A B C E : Type 0} → A ↔ (B ⊎ C) → (A × E) ↔ ((B × E) ⊎ (C × E))
@@ -134,14 +153,16 @@ one_more_of k (Some o) os h = inr h
 has_key : (o : NewOrderKey) (bs : List Record) → HasDelete o bs → IsOneOf (key.NewOrder o) (deleted_keys bs)
 has_key o [] h = h
 has_key o (b ∷ bs) h = elim h [
-  | inl d ↦ subst (λ z. IsOneOf (key.NewOrder o) (cons_option z (deleted_keys bs))) (sym (ap deleted_new_order d.1)) (inl refl)
+  | inl d ↦ subst (λ z. IsOneOf (key.NewOrder o) (cons_option z (deleted_keys bs))) (sym (ap deleted_new_order d.1))
+      (inl refl)
   | inr rest ↦ one_more_of (key.NewOrder o) (deleted_new_order b) (deleted_keys bs) (has_key o bs rest)
 ]
 
 deleted_more : (k : Key) (b : Record) (bs : List Record) → IsDeleted k bs → IsDeleted k (b ∷ bs)
 deleted_more k b bs d = (d.0, d.1, inr d.2)
 
-one_deleted : (k : Key) (b : Record) (bs : List Record) (z : Option NewOrderKey) → deleted_new_order b ≡ z → (IsOneOf k (deleted_keys bs) → IsDeleted k (b ∷ bs))
+one_deleted : (k : Key) (b : Record) (bs : List Record) (z : Option NewOrderKey) → deleted_new_order b ≡ z
+    → (IsOneOf k (deleted_keys bs) → IsDeleted k (b ∷ bs))
     → IsOneOf k (cons_option z (deleted_keys bs)) → IsDeleted k (b ∷ bs)
 one_deleted k b bs None e rest h = rest h
 one_deleted k b bs (Some o) e rest h = elim h [ inl is ↦ (o, is, inl (delete_of b o e)) | inr r ↦ rest r ]
@@ -156,33 +177,41 @@ deleted_are k bs = (is_deleted k bs, λ d. subst (λ j. IsOneOf j (deleted_keys 
 
 -- One key, which goes where E holds of it
 module _ (E : Key → Type 0) where
-  pub ended_given_up : (old new : tables.Places) (o : NewOrderKey) → E (key.NewOrder o) → GivesUp old new (key.NewOrder o)
+  pub ended_given_up : (old new : tables.Places) (o : NewOrderKey) → E (key.NewOrder o)
+      → GivesUp old new (key.NewOrder o)
       → GivesUpThose old new (λ k. (k ≡ key.NewOrder o) × E k)
-  ended_given_up old new o ended g = same_given_up old new (λ k. k ≡ key.NewOrder o) (λ k. (k ≡ key.NewOrder o) × E k) (λ k. (λ is. (is, subst E (sym is) ended), λ d. d.0)) g
+  ended_given_up old new o ended g = same_given_up old new (λ k. k ≡ key.NewOrder o) (λ k. (k ≡ key.NewOrder o) × E k)
+      (λ k. (λ is. (is, subst E (sym is) ended), λ d. d.0)) g
 
   -- or stays
-  pub other_stays : (ts : tables.Places) (o : NewOrderKey) → (E (key.NewOrder o) → ⊥) → GivesUpThose ts ts (λ k. (k ≡ key.NewOrder o) × E k)
+  pub other_stays : (ts : tables.Places) (o : NewOrderKey) → (E (key.NewOrder o) → ⊥)
+      → GivesUpThose ts ts (λ k. (k ≡ key.NewOrder o) × E k)
   other_stays ts o other = none_given_up ts (λ k. (k ≡ key.NewOrder o) × E k) (λ k d. other (subst E d.0 d.1))
 
 -- The keys that a commit deleted: on old those of `all` before `left` have been looked at
 pub record LooksAt (E : Key → Type 0) (old now : tables.Places) (all left : List NewOrderKey) : Type 0 where
   pub same : rows now ≡ rows old
-  pub rest : (new : tables.Places) → GivesUpThose now new (λ k. IsOneOf k left × E k) → GivesUpThose old new (λ k. IsOneOf k all × E k)
+  pub rest : (new : tables.Places) → GivesUpThose now new (λ k. IsOneOf k left × E k)
+      → GivesUpThose old new (λ k. IsOneOf k all × E k)
 
 pub none_looked_at : (E : Key → Type 0) (ts : tables.Places) (all : List NewOrderKey) → LooksAt E ts ts all all
 none_looked_at E ts all = record { same = refl; rest = λ new g. g }
 
-pub one_looked_at : (E : Key → Type 0) (old now now' : tables.Places) (all : List NewOrderKey) (o : NewOrderKey) (os : List NewOrderKey) → rows now' ≡ rows now
-    → GivesUpThose now now' (λ k. (k ≡ key.NewOrder o) × E k) → LooksAt E old now all (o ∷ os) → LooksAt E old now' all os
+pub one_looked_at : (E : Key → Type 0) (old now now' : tables.Places) (all : List NewOrderKey) (o : NewOrderKey)
+    (os : List NewOrderKey) → rows now' ≡ rows now
+    → GivesUpThose now now' (λ k. (k ≡ key.NewOrder o) × E k) → LooksAt E old now all (o ∷ os)
+    → LooksAt E old now' all os
 one_looked_at E old now now' all o os same g h =
     record {
       same = same ∙ h.same;
       rest = λ new rest. h.rest new
-          (both_given_up now now' new (λ k. (k ≡ key.NewOrder o) × E k) (λ k. IsOneOf k os × E k) (λ k. IsOneOf k (o ∷ os) × E k) same
+          (both_given_up now now' new (λ k. (k ≡ key.NewOrder o) × E k) (λ k. IsOneOf k os × E k)
+          (λ k. IsOneOf k (o ∷ os) × E k) same
           (λ k. each_with ((λ d. d), (λ d. d))) g rest);
     }
 
-pub all_looked_at : (E : Key → Type 0) (old now : tables.Places) (bs : List Record) → LooksAt E old now (deleted_keys bs) []
+pub all_looked_at : (E : Key → Type 0) (old now : tables.Places) (bs : List Record)
+    → LooksAt E old now (deleted_keys bs) []
     → GivesUpThose old now (λ k. IsDeleted k bs × E k)
 all_looked_at E old now bs h =
     same_given_up old now (λ k. IsOneOf k (deleted_keys bs) × E k) (λ k. IsDeleted k bs × E k)
@@ -204,35 +233,41 @@ none_left [] (suc n) h = refl
 none_left (c ∷ cs) zero h = let no : ⊥ = omega arith in absurd no
 none_left (c ∷ cs) (suc n) h = none_left cs n (omega arith)
 
-pub none_forgotten : (ts : tables.Places) (u : SegmentLog) (last : ℕ) → ForgetsOldest ts ts u u last (length u.committed - 0)
+pub none_forgotten : (ts : tables.Places) (u : SegmentLog) (last : ℕ)
+    → ForgetsOldest ts ts u u last (length u.committed - 0)
 none_forgotten ts u last = record {
   log = none_cut u;
   same = refl;
-  places = subst (λ ss. GivesUpDeleted ts ts ss (with_newest last u)) (sym (none_left u.committed (length u.committed - 0) (omega arith)))
+  places = subst (λ ss. GivesUpDeleted ts ts ss (with_newest last u))
+      (sym (none_left u.committed (length u.committed - 0) (omega arith)))
       (none_given_up ts (λ k. IsDeletedIn k [] × HasNoRecord (with_newest last u) k) (λ k d. d.0.2));
 }
 
 -- how many are left
-pub left_are : (old now : tables.Places) (u u' : SegmentLog) (last left : ℕ) → ForgetsOldest old now u u' last left → left ≤ length u.committed → length u'.committed ≡ left
+pub left_are : (old now : tables.Places) (u u' : SegmentLog) (last left : ℕ) → ForgetsOldest old now u u' last left
+    → left ≤ length u.committed → length u'.committed ≡ left
 left_are old now u u' last left h enough = ap (λ z. length z.committed) h.log ∙ length_taken left u.committed enough
 
 -- the records of the oldest of those that are left
 abbrev pub oldest_records : SegmentLog → ℕ → List Record
 oldest_records u j = model_records (get_or (committed_records u) j [])
 
-found_first : (j k : ℕ) (cs : List Committed) → j < k → get_or (map records_of (take k cs)) j [] ≡ get_or (map records_of cs) j []
+found_first : (j k : ℕ) (cs : List Committed) → j < k
+    → get_or (map records_of (take k cs)) j [] ≡ get_or (map records_of cs) j []
 found_first j zero cs h = let no : ⊥ = omega arith in absurd no
 found_first zero (suc k) [] h = refl
 found_first (suc j) (suc k) [] h = refl
 found_first zero (suc k) (c ∷ cs) h = refl
 found_first (suc j) (suc k) (c ∷ cs) h = found_first j k cs (omega arith)
 
-one_more : (j : ℕ) (cs : List Committed) → j < length cs → drop j (map records_in cs) ≡ model_records (get_or (map records_of cs) j []) ∷ drop (suc j) (map records_in cs)
+one_more : (j : ℕ) (cs : List Committed) → j < length cs
+    → drop j (map records_in cs) ≡ model_records (get_or (map records_of cs) j []) ∷ drop (suc j) (map records_in cs)
 one_more j [] h = let no : ⊥ = omega arith in absurd no
 one_more zero (c ∷ cs) h = refl
 one_more (suc j) (c ∷ cs) h = one_more j cs (omega arith)
 
-one_or_older : (bs : List Record) (ss : List (List Record)) (k : Key) → IsDeletedIn k (bs ∷ ss) ↔ (IsDeletedIn k ss ⊎ IsDeleted k bs)
+one_or_older : (bs : List Record) (ss : List (List Record)) (k : Key)
+    → IsDeletedIn k (bs ∷ ss) ↔ (IsDeletedIn k ss ⊎ IsDeleted k bs)
 one_or_older bs ss k = (there, back)
   where
     there : IsDeletedIn k (bs ∷ ss) → IsDeletedIn k ss ⊎ IsDeleted k bs
@@ -246,34 +281,47 @@ one_or_older bs ss k = (there, back)
     back (inr d) = (d.0, d.1, inl d.2)
 
 -- A link ends at the moment to which is purged exactly where the log that is left then has no record of the key
-last_cut : (u u' : SegmentLog) (last left : ℕ) → last ≤ left → u' ≡ with_newest left u → with_newest last u' ≡ with_newest last u
+last_cut : (u u' : SegmentLog) (last left : ℕ) → last ≤ left → u' ≡ with_newest left u
+    → with_newest last u' ≡ with_newest last u
 last_cut u u' last left less is =
-    ap (with_newest last) is ∙ (λ i. record { terminals = u.terminals; committed = take_take last left u.committed less i; extents = u.extents })
+    ap (with_newest last) is
+    ∙ (λ i. record {
+      terminals = u.terminals;
+      committed = take_take last left u.committed less i;
+      extents = u.extents;
+    })
 
 newest_is : (u : SegmentLog) → IsWhole u → newest u ≡ total_count u
 unfolding terminal_limit
 newest_is u whole = totals u whole.terminals
 
-last_moment : (u : SegmentLog) (last : ℕ) → IsWhole (with_newest last u) → last ≤ length u.committed → newest u - last ≡ horizon (with_newest last u)
+last_moment : (u : SegmentLog) (last : ℕ) → IsWhole (with_newest last u) → last ≤ length u.committed
+    → newest u - last ≡ horizon (with_newest last u)
 last_moment u last whole enough =
     let all : newest u ≡ total_count u = newest_is (with_newest last u) whole in
     let many : length (take last u.committed) ≡ last = length_taken last u.committed enough in
     ap (λ n. n - last) all ∙ ap (λ n. total_count u - n) (sym many)
 
-pub ends_there : Calls_keep_chains → Ends_without_records → (u u' : SegmentLog) (links : Key → Option Link) (m last left : ℕ) → last ≤ left → last ≤ length u.committed
-    → m ≡ newest u - last → u' ≡ with_newest left u → IsWhole u' → AreChained u' links → (k : Key) → IsEnd m (links k) ↔ HasNoRecord (with_newest last u) k
+pub ends_there : Calls_keep_chains → Ends_without_records
+    → (u u' : SegmentLog) (links : Key → Option Link) (m last left : ℕ) → last ≤ left → last ≤ length u.committed
+    → m ≡ newest u - last → u' ≡ with_newest left u → IsWhole u' → AreChained u' links → (k : Key)
+    → IsEnd m (links k) ↔ HasNoRecord (with_newest last u) k
 ends_there keep ends u u' links m last left less enough moment is whole chained k =
     let w : SegmentLog = with_newest last u in
     let cut : with_newest last u' ≡ w = last_cut u u' last left less is in
     let fewer : length (take last u'.committed) ≤ length u'.committed = length_take_le last u'.committed in
-    let whole_last : IsWhole w = subst IsWhole cut (record { terminals = whole.terminals; commits = omega (arith, fewer, whole.commits) }) in
+    let whole_last : IsWhole w = subst IsWhole cut
+    (record { terminals = whole.terminals; commits = omega (arith, fewer, whole.commits) }) in
     let chained_last : AreChained w links = subst (λ z. AreChained z links) cut (keep.purges u' links last chained) in
-    subst (λ n. IsEnd n (links k) ↔ HasNoRecord w k) (sym (moment ∙ last_moment u last whole_last enough)) (ends w links k whole_last chained_last)
+    subst (λ n. IsEnd n (links k) ↔ HasNoRecord w k) (sym (moment ∙ last_moment u last whole_last enough))
+    (ends w links k whole_last chained_last)
 
-pub one_forgotten : (old now now' : tables.Places) (u u' : SegmentLog) (E : Key → Type 0) (last left j : ℕ) → left ≤ length u.committed → 0 < left → j ≡ left - 1
+pub one_forgotten : (old now now' : tables.Places) (u u' : SegmentLog) (E : Key → Type 0) (last left j : ℕ)
+    → left ≤ length u.committed → 0 < left → j ≡ left - 1
     → ((k : Key) → E k ↔ HasNoRecord (with_newest last u) k)
     → rows now' ≡ rows now → GivesUpThose now now' (λ k. IsDeleted k (oldest_records u' j) × E k)
-    → ForgetsOldest old now u u' last left → ForgetsOldest old now' u (with_newest (length u'.committed - 1) u') last (left - 1)
+    → ForgetsOldest old now u u' last left → ForgetsOldest old now' u (with_newest (length u'.committed - 1) u') last
+    (left - 1)
 one_forgotten old now now' u u' E last left j enough some at ends same g h =
     let none : Key → Type 0 = HasNoRecord (with_newest last u) in
     let here : suc (left - 1) ≡ left = omega arith in
@@ -281,14 +329,19 @@ one_forgotten old now now' u u' E last left j enough some at ends same g h =
     let all : drop (left - 1) (undo_of u).history ≡ bs ∷ drop left (undo_of u).history =
     one_more (left - 1) u.committed (omega arith) ∙ ap (λ n. bs ∷ drop n (undo_of u).history) here in
     let oldest : oldest_records u' j ≡ bs =
-    ap (λ n. oldest_records u' n) at ∙ ap (λ z. oldest_records z (left - 1)) h.log ∙ ap (λ rs. model_records rs) (found_first (left - 1) left u.committed (omega arith)) in
-    let given : GivesUpThose now now' (λ k. IsDeleted k bs × E k) = subst (λ z. GivesUpThose now now' (λ k. IsDeleted k z × E k)) oldest g in
+    ap (λ n. oldest_records u' n) at ∙ ap (λ z. oldest_records z (left - 1)) h.log
+    ∙ ap (λ rs. model_records rs) (found_first (left - 1) left u.committed (omega arith)) in
+    let given : GivesUpThose now now' (λ k. IsDeleted k bs × E k) = subst
+    (λ z. GivesUpThose now now' (λ k. IsDeleted k z × E k)) oldest g in
     let without : GivesUpThose now now' (λ k. IsDeleted k bs × none k) =
-    same_given_up now now' (λ k. IsDeleted k bs × E k) (λ k. IsDeleted k bs × none k) (λ k. (λ d. (d.0, (ends k).0 d.1), λ d. (d.0, (ends k).1 d.1))) given in
+    same_given_up now now' (λ k. IsDeleted k bs × E k) (λ k. IsDeleted k bs × none k)
+    (λ k. (λ d. (d.0, (ends k).0 d.1), λ d. (d.0, (ends k).1 d.1))) given in
     record {
       log = one_cut u u' left enough h.log;
       same = same ∙ h.same;
       places = subst (λ ss. GivesUpDeleted old now' ss (with_newest last u)) (sym all)
-          (both_given_up old now now' (λ k. IsDeletedIn k (drop left (undo_of u).history) × none k) (λ k. IsDeleted k bs × none k)
-          (λ k. IsDeletedIn k (bs ∷ drop left (undo_of u).history) × none k) h.same (λ k. each_with (one_or_older bs (drop left (undo_of u).history) k)) h.places without);
+          (both_given_up old now now' (λ k. IsDeletedIn k (drop left (undo_of u).history) × none k)
+          (λ k. IsDeleted k bs × none k)
+          (λ k. IsDeletedIn k (bs ∷ drop left (undo_of u).history) × none k) h.same
+          (λ k. each_with (one_or_older bs (drop left (undo_of u).history) k)) h.places without);
     }

@@ -8,7 +8,10 @@ use Rattle.oe_requests.specs.declared.refusals.Refusal.TheVariants.{NoSuchRow}
 use Rattle.oe_model.specs.Rows.{Rows}
 use Rattle.oe_model.specs.Changes.{Record, record_key}
 use Rattle.oe_change.specs.declared.writes.Write.{Write}
-use Rattle.oe_change.specs.declared.writes.Write.TheVariants.{WarehouseYtd, DistrictYtd, NextOrder, CustomerAccount, BadCredit, StockCounters, Carrier, DeliveryDate, InsertHistory, InsertNewOrder, InsertOrder, InsertOrderLine, DeleteNewOrder}
+use Rattle.oe_change.specs.declared.writes.Write.TheVariants.{WarehouseYtd, DistrictYtd, NextOrder, CustomerAccount}
+use Rattle.oe_change.specs.declared.writes.Write.TheVariants.{BadCredit, StockCounters, Carrier, DeliveryDate}
+use Rattle.oe_change.specs.declared.writes.Write.TheVariants.{InsertHistory, InsertNewOrder, InsertOrder}
+use Rattle.oe_change.specs.declared.writes.Write.TheVariants.{InsertOrderLine, DeleteNewOrder}
 use Rattle.oe_change.specs.Writes.{key_written, written}
 use Rattle.oe_store.specs.Places.{Places, rows}
 use Rattle.oe_change.specs.Applies.{Applies}
@@ -68,16 +71,20 @@ made_recorded w old new u u' t is push made =
     let c = there_is (λ c. Applies c old new (record_in c (rows old))) (written w (rows old)) made in
     let b = there_is (λ b. HasMore b u u' t) (record_of_write w (rows old)) push in
     let o = some_of (active_at u.log t) is in
-    let same : b.0 ≡ record_in c.0 (rows old) = some_inj _ _ (sym b.1 ∙ write_records w c.0 (rows old) c.1 c.2.accepted) in
-    of_some (λ c. IsRecorded c old new u u' t) (written w (rows old)) c.0 c.1 (more_stands b.0 c.0 old new u u' t o.0 o.1 same c.2 b.2)
+    let same : b.0 ≡ record_in c.0 (rows old) =
+    some_inj _ _ (sym b.1 ∙ write_records w c.0 (rows old) c.1 c.2.accepted) in
+    of_some (λ c. IsRecorded c old new u u' t) (written w (rows old)) c.0 c.1
+    (more_stands b.0 c.0 old new u u' t o.0 o.1 same c.2 b.2)
 
 pub made_linked : (w : Write) (old new : Places) (u u' : UndoState) (t : ℕ) → is_some (active_at u.log t) ≡ true
     → HasWritten w (rows old) u u' t → IsMade w old new → AreLinked old u.links → AreLinked new u'.links
 made_linked w old new u u' t is push made linked =
-    let c = there_is (λ c. IsRecorded c old new u u' t) (written w (rows old)) (made_recorded w old new u u' t is push made) in
+    let c = there_is (λ c. IsRecorded c old new u u' t) (written w (rows old))
+    (made_recorded w old new u u' t is push made) in
     recorded_linked c.0 old new u u' t linked c.2
 
 -- ---- refusals
 
-pub absent_write : (w : Write) (s : Places) (u : SegmentLog) (t : ℕ) (e : Refusal) → written w (rows s) ≡ None → e ≡ NoSuchRow (key_written w) → CantWrite w s u t e
+pub absent_write : (w : Write) (s : Places) (u : SegmentLog) (t : ℕ) (e : Refusal) → written w (rows s) ≡ None
+    → e ≡ NoSuchRow (key_written w) → CantWrite w s u t e
 absent_write w s u t e none is = subst (CantWrite w s u t) (sym is) (Absent none)

@@ -26,15 +26,18 @@ use Rattle.oe_journal.specs.Named.{AreExact}
 use Rattle.oe_journal.specs.Unwinds.{TakesBack}
 use Rattle.oe_journal.specs.Writes.{HasRecorded}
 
--- Where the keys lead once these records of a terminal's open segment, the newest first, are taken off: each gives its key the link back
+-- Where the keys lead once these records of a terminal's open segment, the newest first, are taken off: each gives its
+-- key the link back
 -- that led to the record before, or none where the commit of that was given up
 abbrev pub led_back : ℕ → ℕ → List Logged → (Key → Option Link) → Key → Option Link
 led_back h t [] links = links
-led_back h t (r ∷ rs) links = led_back h t rs (linked links (record_key r.before) (unended h (link_from (Open t) r.previous)))
+led_back h t (r ∷ rs) links = led_back h t rs
+    (linked links (record_key r.before) (unended h (link_from (Open t) r.previous)))
 
 -- so it is after this count of the newest records was put back
 abbrev pub LeadBack : UndoState → UndoState → ℕ → ℕ → Type 0
-LeadBack old new t count = (k : Key) → seen new k ≡ led_back (horizon old.log) t (take count (records_at old.log t)) (seen old) k
+LeadBack old new t count = (k : Key) → seen new k ≡ led_back (horizon old.log) t (take count (records_at old.log t))
+    (seen old) k
 
 -- the newest record of the terminal can be put back
 pub record MayTakeBack (ts : Places) (u : SegmentLog) (t : ℕ) : Type 0 where
@@ -43,15 +46,18 @@ pub record MayTakeBack (ts : Places) (u : SegmentLog) (t : ℕ) : Type 0 where
   pub places : HavePlaces ts ((undo_of u).active t)
   pub unwinds : CanUnwind (take 1 ((undo_of u).active t)) (rows ts)
 
--- All is as it was: the rows of the nine tables, each key's link, and the log; and so is what customers and orders are found by. No key
--- but the write's may have a place that it had not; and where places were kept for rows and records alone, the same keys have them
+-- All is as it was: the rows of the nine tables, each key's link, and the log; and so is what customers and orders are
+-- found by. No key
+-- but the write's may have a place that it had not; and where places were kept for rows and records alone, the same
+-- keys have them
 pub record IsAsBefore (ts ts' : Places) (u u' : UndoState) (own : Key) : Type 0 where
   pub same_rows : rows ts' ≡ rows ts
   pub same_links : SameLinks u u'
   pub same_log : u'.log ≡ u.log
   pub fewer : (k : Key) → HasPlace ts' k → HasPlace ts k ⊎ (k ≡ own)
   pub places : AreExact ts (undo_of u.log) → SamePlaces ts ts'
-  pub by_name : (h : DistrictKey) (last : List ℕ) → namesakes h last (rows ts').customers ≡ namesakes h last (rows ts).customers
+  pub by_name : (h : DistrictKey) (last : List ℕ)
+      → namesakes h last (rows ts').customers ≡ namesakes h last (rows ts).customers
   pub by_customer : (c : CustomerKey) → orders_of c (rows ts').orders ≡ orders_of c (rows ts).orders
   pub by_age : (h : DistrictKey) → oldest h (rows ts').new_orders ≡ oldest h (rows ts).new_orders
 
@@ -61,6 +67,8 @@ pub record Write_then_take_back_is_identity : Type 0 where
   pub may : (w : Write) (ts ts' : Places) (u u' : UndoState) (t : ℕ) → IsSome (active_at u.log t) → Meets (rows ts)
       → HavePlaces ts ((undo_of u.log).active t) → HasRecorded w ts ts' u u' t → MayTakeBack ts' u'.log t
   -- and leaves all as it was
-  pub identity : (w : Write) (ts ts' ts'' : Places) (u u' u'' : UndoState) (t : ℕ) → IsSome (active_at u.log t) → IsWhole u.log
+  pub identity : (w : Write) (ts ts' ts'' : Places) (u u' u'' : UndoState) (t : ℕ) → IsSome (active_at u.log t)
+      → IsWhole u.log
       → HasRecorded w ts ts' u u' t → TakesBack ts' u'.log t 1 ts'' u''.log
-      → u''.log ≡ with_records u'.log t (drop 1 (records_at u'.log t)) → LeadBack u' u'' t 1 → IsAsBefore ts ts'' u u'' (key_written w)
+      → u''.log ≡ with_records u'.log t (drop 1 (records_at u'.log t)) → LeadBack u' u'' t 1
+      → IsAsBefore ts ts'' u u'' (key_written w)

@@ -22,7 +22,8 @@ AreNeeded ts d = (k : Key) → HasPlace ts k → IsUnnamed d k → IsSome (row_a
 abbrev pub AreExact : Places → Undo system → Type 0
 AreExact ts d = (k : Key) → HasPlace ts k ↔ (IsSome (row_at (rows ts) k) ⊎ (IsUnnamed d k → ⊥))
 
--- Records went, and places with them: no key is given a place, each key that a record names still keeps its own, and where places were
+-- Records went, and places with them: no key is given a place, each key that a record names still keeps its own, and
+-- where places were
 -- kept for rows and records alone, so they are
 pub record GivesUpUnnamed (ts ts' : Places) (d d' : Undo system) : Type 0 where
   pub records : (k : Key) → IsUnnamed d k → IsUnnamed d' k
@@ -30,7 +31,8 @@ pub record GivesUpUnnamed (ts ts' : Places) (d d' : Undo system) : Type 0 where
   pub named : (k : Key) → HasPlace ts k → (IsUnnamed d' k → ⊥) → HasPlace ts' k
   pub needed : AreNeeded ts d → AreNeeded ts' d'
 
--- the undo of a record that was taken off: an inserted row's key keeps its place exactly where the log has a record of it still
+-- the undo of a record that was taken off: an inserted row's key keeps its place exactly where the log has a record of
+-- it still
 pub record PutsBack (b : Record) (k : Key) (ts ts' : Places) (u : SegmentLog) : Type 0 where
   pub gone : HasNoRecord u k → LeavesPlaces b ts ts'
   pub kept : (HasNoRecord u k → ⊥) → SamePlaces ts ts'

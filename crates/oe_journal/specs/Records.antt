@@ -2,15 +2,21 @@
 use Rattle.std.specs.Prelude.{Option, None, Some, option_map}
 use Rattle.std.specs.FinMap.{get}
 use Rattle.oe_model.specs.Rows.{Rows, row_at}
-use Rattle.oe_model.specs.Changes.{Change, key_of, Record, record_of, InsertedHistory, InsertedNewOrder, InsertedOrder, InsertedOrderLine, UpdatedWarehouse, UpdatedDistrict, UpdatedCustomer, UpdatedOrder, UpdatedOrderLine, UpdatedStock, DeletedNewOrder}
+use Rattle.oe_model.specs.Changes.{Change, key_of, Record, record_of, InsertedHistory, InsertedNewOrder, InsertedOrder}
+use Rattle.oe_model.specs.Changes.{InsertedOrderLine, UpdatedWarehouse, UpdatedDistrict, UpdatedCustomer, UpdatedOrder}
+use Rattle.oe_model.specs.Changes.{UpdatedOrderLine, UpdatedStock, DeletedNewOrder}
 use Rattle.oe_change.specs.declared.writes.Write.{Write}
-use Rattle.oe_change.specs.declared.writes.Write.TheVariants.{WarehouseYtd, DistrictYtd, NextOrder, CustomerAccount, BadCredit, StockCounters, Carrier, DeliveryDate, InsertHistory, InsertNewOrder, InsertOrder, InsertOrderLine, DeleteNewOrder}
+use Rattle.oe_change.specs.declared.writes.Write.TheVariants.{WarehouseYtd, DistrictYtd, NextOrder, CustomerAccount}
+use Rattle.oe_change.specs.declared.writes.Write.TheVariants.{BadCredit, StockCounters, Carrier, DeliveryDate}
+use Rattle.oe_change.specs.declared.writes.Write.TheVariants.{InsertHistory, InsertNewOrder, InsertOrder}
+use Rattle.oe_change.specs.declared.writes.Write.TheVariants.{InsertOrderLine, DeleteNewOrder}
 
 -- the record of a change of these rows: with the row before it
 abbrev pub record_in : Change → Rows → Record
 record_in c r = record_of c (row_at r (key_of c))
 
--- the record of a write to these rows, which goes before it: of an update with the row that is there, and none where none is there
+-- the record of a write to these rows, which goes before it: of an update with the row that is there, and none where
+-- none is there
 abbrev pub record_of_write : Write → Rows → Option Record
 record_of_write (WarehouseYtd k y) r = option_map (λ x. UpdatedWarehouse k (Some x)) (get r.warehouses k)
 record_of_write (DistrictYtd k y) r = option_map (λ x. UpdatedDistrict k (Some x)) (get r.districts k)

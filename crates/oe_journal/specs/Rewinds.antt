@@ -13,7 +13,8 @@ abbrev pub uncounted : SegmentLog → List Committed → SegmentLog
 uncounted v [] = v
 uncounted v (c ∷ cs) =
     record {
-      terminals = set v.terminals c.terminal (record { count = count_at v c.terminal - 1; active = active_at v c.terminal });
+      terminals = set v.terminals c.terminal
+          (record { count = count_at v c.terminal - 1; active = active_at v c.terminal });
       committed = cs;
       extents = v.extents;
     }

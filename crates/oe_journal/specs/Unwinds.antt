@@ -10,7 +10,8 @@ use Rattle.oe_journal.specs.GoesBack.{HavePlaces}
 use Rattle.oe_journal.specs.Named.{GivesUpUnnamed}
 
 -- a log with other records of one terminal's open segment, and tables with places for rows and for what records name
-pub record Unwinding (ts : tables.Places) (u : SegmentLog) (t : ℕ) (ts' : tables.Places) (u' : SegmentLog) : Type 0 where
+pub record Unwinding (ts : tables.Places) (u : SegmentLog) (t : ℕ) (ts' : tables.Places) (u' : SegmentLog) : Type
+    0 where
   pub is_open : (x : ℕ) → is_some (active_at u' x) ≡ is_some (active_at u x)
   pub undo : undo_of u' ≡ put_records system t ((undo_of u').active t) (undo_of u)
   pub seals : seals_of u' ≡ seals_of u
@@ -21,7 +22,8 @@ pub record Unwinding (ts : tables.Places) (u : SegmentLog) (t : ℕ) (ts' : tabl
   pub own : HavePlaces ts' ((undo_of u').active t)
 
 -- so many records were put back, the newest first, and dropped
-pub record TakesBack (ts : tables.Places) (u : SegmentLog) (t count : ℕ) (ts' : tables.Places) (u' : SegmentLog) : Type 0 where
+pub record TakesBack (ts : tables.Places) (u : SegmentLog) (t count : ℕ) (ts' : tables.Places) (u' : SegmentLog) : Type
+    0 where
   pub rows : rows ts' ≡ unwind system (take count ((undo_of u).active t)) (rows ts)
   pub records : (undo_of u').active t ≡ drop count ((undo_of u).active t)
   pub others : Unwinding ts u t ts' u'

@@ -1,5 +1,6 @@
 -- A record's bytes are a string of the ring.
-use Rattle.std.proofs.Common.{◌≡◌, ℕ, ◌+◌, ◌-◌, ◌<◌, ◌≤◌, List, [], ◌++◌, length, drop, refl, sym, ap, subst, ◌∙◌, arith, append_assoc}
+use Rattle.std.proofs.Common.{◌≡◌, ℕ, ◌+◌, ◌-◌, ◌<◌, ◌≤◌, List, [], ◌++◌, length, drop, refl, sym, ap, subst, ◌∙◌}
+use Rattle.std.proofs.Common.{arith, append_assoc}
 use Rattle.std.proofs.lemmas.List.{append-nil, drop_at}
 use Rattle.byteorder.specs.Endian.{big_number}
 use Rattle.byteorder.specs.Numbers.{big_number-reads_back}
@@ -21,7 +22,8 @@ between_long : (n : ℕ) (body : List ℕ) → IsLong (number 2 n ++ (body ++ nu
 between_long n body = joined_long (number_long 2 n) (joined_long (some_long body) (number_long 2 n))
 
 -- what stands between a number of two bytes and the same number, where that is the length of all
-framed_is : (n : ℕ) (body : List ℕ) → n < 65_536 → length (number 2 n ++ (body ++ number 2 n)) ≡ n → IsFramed (number 2 n ++ (body ++ number 2 n))
+framed_is : (n : ℕ) (body : List ℕ) → n < 65_536 → length (number 2 n ++ (body ++ number 2 n)) ≡ n
+    → IsFramed (number 2 n ++ (body ++ number 2 n))
 unfolding last_length
 framed_is n body lt size =
     let whole = number 2 n ++ (body ++ number 2 n) in
@@ -35,24 +37,30 @@ framed_is n body lt size =
     record {
       long = omega (arith, long.is);
       first = big_number-reads_back 2 n (body ++ number 2 n) lt ∙ sym size;
-      last = ap (λ (l : List ℕ). big_number 2 l) (end ∙ sym (append-nil (number 2 n))) ∙ big_number-reads_back 2 n [] lt ∙ sym size;
+      last = ap (λ (l : List ℕ). big_number 2 l) (end ∙ sym (append-nil (number 2 n))) ∙ big_number-reads_back 2 n [] lt
+          ∙ sym size;
     }
 
 -- from the length of key and row
 pub whole_length : (p : Previous) (b : Record) (a : ℕ) → a ≡ length (contents b) → a + 18 ≡ length (record_image p b)
 whole_length p b a e =
     let long = joined_long (number_long 2 (record_length b))
-    (joined_long (joined_long (kind_long (kind_of b)) (joined_long (link_long (link_numbers p)) (some_long (contents b)))) (number_long 2 (record_length b))) in
+    (joined_long (joined_long (kind_long (kind_of b))
+    (joined_long (link_long (link_numbers p)) (some_long (contents b)))) (number_long 2 (record_length b))) in
     omega (arith, e, long.is)
 
-pub record_framed : (p : Previous) (b : Record) (a : ℕ) → a ≡ length (contents b) → a + 18 ≡ record_length b → a ≤ 688 → IsFramed (record_image p b)
+pub record_framed : (p : Previous) (b : Record) (a : ℕ) → a ≡ length (contents b) → a + 18 ≡ record_length b → a ≤ 688
+    → IsFramed (record_image p b)
 record_framed p b a e sum short =
     framed_is (record_length b) (body_image p b) (omega (arith, sum, short)) (sym (whole_length p b a e) ∙ sum)
 
 -- what stands between the lengths was written first, and the offsets told them
-pub record_written : (old mid front new : List ℕ) (start middle end behind n : ℕ) (p : Previous) (b : Record) → length (record_image p b) ≡ record_length b
-    → start + length (record_image p b) ≤ length old → n ≡ end + 2 - start → Writes old (start + 2) (body_image p b) mid end
-    → Writes mid start (number 2 n) front middle → Writes front end (number 2 n) new behind → Writes old start (record_image p b) new behind
+pub record_written : (old mid front new : List ℕ) (start middle end behind n : ℕ) (p : Previous) (b : Record)
+    → length (record_image p b) ≡ record_length b
+    → start + length (record_image p b) ≤ length old → n ≡ end + 2 - start
+    → Writes old (start + 2) (body_image p b) mid end
+    → Writes mid start (number 2 n) front middle → Writes front end (number 2 n) new behind
+    → Writes old start (record_image p b) new behind
 record_written old mid front new start middle end behind n p b sum room told body first last =
     let body_is = body_image p b in
     let whole = between_long (record_length b) body_is in

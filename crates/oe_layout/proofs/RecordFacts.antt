@@ -1,5 +1,6 @@
 -- Records are read exactly.
-use Rattle.std.proofs.Common.{◌≡◌, ◌==◌, ◌&&◌, ℕ, ◌+◌, ◌^◌, ◌<◌, ◌≤◌, Bool, true, false, cond, List, [], ◌∷◌, ◌++◌, length, drop, Option, Some, None, refl, sym, ap, subst, ◌∙◌, arith, append_assoc}
+use Rattle.std.proofs.Common.{◌≡◌, ◌==◌, ◌&&◌, ℕ, ◌+◌, ◌^◌, ◌<◌, ◌≤◌, Bool, true, false, cond, List, [], ◌∷◌, ◌++◌}
+use Rattle.std.proofs.Common.{length, drop, Option, Some, None, refl, sym, ap, subst, ◌∙◌, arith, append_assoc}
 use Rattle.std.specs.Prelude.{IfSome}
 use Rattle.std.proofs.lemmas.Bool.{eqb-true}
 use Rattle.std.proofs.lemmas.Bool.Decides.{nat_tests}
@@ -13,8 +14,10 @@ use Rattle.oe_model.specs.Changes.{Record, record_key, row_before}
 use Rattle.oe_fronts.specs.Fronts.{IsBytes, ◌>>=◌, pair_at}
 use Rattle.oe_image.specs.Keys.{new_order_key}
 use Rattle.oe_image.specs.Rows.{IsRow}
-use Rattle.oe_fronts.proofs.FrontFacts.{Takes, IsCodec, some_is, bind_some, both, IsBytes-drop, Takes-then, number_law, pair_law, found_as, finds_as}
-use Rattle.oe_fronts.proofs.KeyFacts.{warehouse_key_law, district_key_law, customer_key_law, history_key_law, new_order_key_law, order_key_law, order_line_key_law, stock_key_law}
+use Rattle.oe_fronts.proofs.FrontFacts.{Takes, IsCodec, some_is, bind_some, both, IsBytes-drop, Takes-then, number_law}
+use Rattle.oe_fronts.proofs.FrontFacts.{pair_law, found_as, finds_as}
+use Rattle.oe_fronts.proofs.KeyFacts.{warehouse_key_law, district_key_law, customer_key_law, history_key_law}
+use Rattle.oe_fronts.proofs.KeyFacts.{new_order_key_law, order_key_law, order_line_key_law, stock_key_law}
 use Rattle.oe_fronts.proofs.RowFacts.{warehouse_law, district_law, customer_law, order_law, order_line_law, stock_law}
 use Rattle.oe_model.specs.Lengths.{optional_length, key_length, row_length, before_length, record_length}
 use Rattle.oe_layout.specs.Links.{previous_image, IsPrevious, previous_at}
@@ -36,32 +39,67 @@ own_contents b = contents (record_of_own b)
 abbrev IsOf : RecordKind → OwnRecord → Type 0
 IsOf k b = (kind_of (record_of_own b) ≡ k) × IsInRanges (record_of_own b)
 
-contents_found : (k : RecordKind) (bytes : List ℕ) → IsBytes bytes → (b : OwnRecord) (rest : List ℕ) → contents_at k bytes ≡ Some (b, rest)
+contents_found : (k : RecordKind) (bytes : List ℕ) → IsBytes bytes → (b : OwnRecord) (rest : List ℕ)
+    → contents_at k bytes ≡ Some (b, rest)
     → IsOf k b × (bytes ≡ own_contents b ++ rest)
-contents_found kind.InsertedHistory bytes fits b rest e = found_as (λ x. own.InsertedHistory x) (IsOf kind.InsertedHistory) own_contents (λ x h. (refl, (h, tt))) (λ x. refl) history_key_law bytes fits b rest e
-contents_found kind.InsertedNewOrder bytes fits b rest e = found_as (λ x. own.InsertedNewOrder x) (IsOf kind.InsertedNewOrder) own_contents (λ x h. (refl, (h, tt))) (λ x. refl) new_order_key_law bytes fits b rest e
-contents_found kind.InsertedOrder bytes fits b rest e = found_as (λ x. own.InsertedOrder x) (IsOf kind.InsertedOrder) own_contents (λ x h. (refl, (h, tt))) (λ x. refl) order_key_law bytes fits b rest e
-contents_found kind.InsertedOrderLine bytes fits b rest e = found_as (λ x. own.InsertedOrderLine x) (IsOf kind.InsertedOrderLine) own_contents (λ x h. (refl, (h, tt))) (λ x. refl) order_line_key_law bytes fits b rest e
-contents_found kind.UpdatedWarehouse bytes fits b rest e = found_as (λ x. own.UpdatedWarehouse x.0 x.1) (IsOf kind.UpdatedWarehouse) own_contents (λ x h. (refl, (h.0, h.1))) (λ x. refl) (pair_law warehouse_key_law warehouse_law) bytes fits b rest e
-contents_found kind.UpdatedDistrict bytes fits b rest e = found_as (λ x. own.UpdatedDistrict x.0 x.1) (IsOf kind.UpdatedDistrict) own_contents (λ x h. (refl, (h.0, h.1))) (λ x. refl) (pair_law district_key_law district_law) bytes fits b rest e
-contents_found kind.UpdatedCustomer bytes fits b rest e = found_as (λ x. own.UpdatedCustomer x.0 x.1) (IsOf kind.UpdatedCustomer) own_contents (λ x h. (refl, (h.0, h.1))) (λ x. refl) (pair_law customer_key_law customer_law) bytes fits b rest e
-contents_found kind.UpdatedOrder bytes fits b rest e = found_as (λ x. own.UpdatedOrder x.0 x.1) (IsOf kind.UpdatedOrder) own_contents (λ x h. (refl, (h.0, h.1))) (λ x. refl) (pair_law order_key_law order_law) bytes fits b rest e
-contents_found kind.UpdatedOrderLine bytes fits b rest e = found_as (λ x. own.UpdatedOrderLine x.0 x.1) (IsOf kind.UpdatedOrderLine) own_contents (λ x h. (refl, (h.0, h.1))) (λ x. refl) (pair_law order_line_key_law order_line_law) bytes fits b rest e
-contents_found kind.UpdatedStock bytes fits b rest e = found_as (λ x. own.UpdatedStock x.0 x.1) (IsOf kind.UpdatedStock) own_contents (λ x h. (refl, (h.0, h.1))) (λ x. refl) (pair_law stock_key_law stock_law) bytes fits b rest e
-contents_found kind.DeletedNewOrder bytes fits b rest e = found_as (λ x. own.DeletedNewOrder x) (IsOf kind.DeletedNewOrder) own_contents (λ x h. (refl, (h, tt))) (λ x. append-nil (new_order_key x)) new_order_key_law bytes fits b rest e
+contents_found kind.InsertedHistory bytes fits b rest e = found_as (λ x. own.InsertedHistory x)
+    (IsOf kind.InsertedHistory) own_contents (λ x h. (refl, (h, tt))) (λ x. refl) history_key_law bytes fits b rest e
+contents_found kind.InsertedNewOrder bytes fits b rest e = found_as (λ x. own.InsertedNewOrder x)
+    (IsOf kind.InsertedNewOrder) own_contents (λ x h. (refl, (h, tt))) (λ x. refl) new_order_key_law bytes fits b rest e
+contents_found kind.InsertedOrder bytes fits b rest e = found_as (λ x. own.InsertedOrder x) (IsOf kind.InsertedOrder)
+    own_contents (λ x h. (refl, (h, tt))) (λ x. refl) order_key_law bytes fits b rest e
+contents_found kind.InsertedOrderLine bytes fits b rest e = found_as (λ x. own.InsertedOrderLine x)
+    (IsOf kind.InsertedOrderLine) own_contents (λ x h. (refl, (h, tt))) (λ x. refl) order_line_key_law bytes fits b rest
+    e
+contents_found kind.UpdatedWarehouse bytes fits b rest e = found_as (λ x. own.UpdatedWarehouse x.0 x.1)
+    (IsOf kind.UpdatedWarehouse) own_contents (λ x h. (refl, (h.0, h.1))) (λ x. refl)
+    (pair_law warehouse_key_law warehouse_law) bytes fits b rest e
+contents_found kind.UpdatedDistrict bytes fits b rest e = found_as (λ x. own.UpdatedDistrict x.0 x.1)
+    (IsOf kind.UpdatedDistrict) own_contents (λ x h. (refl, (h.0, h.1))) (λ x. refl)
+    (pair_law district_key_law district_law) bytes fits b rest e
+contents_found kind.UpdatedCustomer bytes fits b rest e = found_as (λ x. own.UpdatedCustomer x.0 x.1)
+    (IsOf kind.UpdatedCustomer) own_contents (λ x h. (refl, (h.0, h.1))) (λ x. refl)
+    (pair_law customer_key_law customer_law) bytes fits b rest e
+contents_found kind.UpdatedOrder bytes fits b rest e = found_as (λ x. own.UpdatedOrder x.0 x.1) (IsOf kind.UpdatedOrder)
+    own_contents (λ x h. (refl, (h.0, h.1))) (λ x. refl) (pair_law order_key_law order_law) bytes fits b rest e
+contents_found kind.UpdatedOrderLine bytes fits b rest e = found_as (λ x. own.UpdatedOrderLine x.0 x.1)
+    (IsOf kind.UpdatedOrderLine) own_contents (λ x h. (refl, (h.0, h.1))) (λ x. refl)
+    (pair_law order_line_key_law order_line_law) bytes fits b rest e
+contents_found kind.UpdatedStock bytes fits b rest e = found_as (λ x. own.UpdatedStock x.0 x.1) (IsOf kind.UpdatedStock)
+    own_contents (λ x h. (refl, (h.0, h.1))) (λ x. refl) (pair_law stock_key_law stock_law) bytes fits b rest e
+contents_found kind.DeletedNewOrder bytes fits b rest e = found_as (λ x. own.DeletedNewOrder x)
+    (IsOf kind.DeletedNewOrder) own_contents (λ x h. (refl, (h, tt))) (λ x. append-nil (new_order_key x))
+    new_order_key_law bytes fits b rest e
 
-contents_again : (b : OwnRecord) (rest : List ℕ) → IsInRanges (record_of_own b) → contents_at (kind_of (record_of_own b)) (own_contents b ++ rest) ≡ Some (b, rest)
-contents_again (own.InsertedHistory k) rest h = finds_as (λ x. own.InsertedHistory x) history_key_law k (own_contents (own.InsertedHistory k) ++ rest) rest h.0 refl
-contents_again (own.InsertedNewOrder k) rest h = finds_as (λ x. own.InsertedNewOrder x) new_order_key_law k (own_contents (own.InsertedNewOrder k) ++ rest) rest h.0 refl
-contents_again (own.InsertedOrder k) rest h = finds_as (λ x. own.InsertedOrder x) order_key_law k (own_contents (own.InsertedOrder k) ++ rest) rest h.0 refl
-contents_again (own.InsertedOrderLine k) rest h = finds_as (λ x. own.InsertedOrderLine x) order_line_key_law k (own_contents (own.InsertedOrderLine k) ++ rest) rest h.0 refl
-contents_again (own.UpdatedWarehouse k r) rest h = finds_as (λ x. own.UpdatedWarehouse x.0 x.1) (pair_law warehouse_key_law warehouse_law) (k, r) (own_contents (own.UpdatedWarehouse k r) ++ rest) rest (h.0, h.1) refl
-contents_again (own.UpdatedDistrict k r) rest h = finds_as (λ x. own.UpdatedDistrict x.0 x.1) (pair_law district_key_law district_law) (k, r) (own_contents (own.UpdatedDistrict k r) ++ rest) rest (h.0, h.1) refl
-contents_again (own.UpdatedCustomer k r) rest h = finds_as (λ x. own.UpdatedCustomer x.0 x.1) (pair_law customer_key_law customer_law) (k, r) (own_contents (own.UpdatedCustomer k r) ++ rest) rest (h.0, h.1) refl
-contents_again (own.UpdatedOrder k r) rest h = finds_as (λ x. own.UpdatedOrder x.0 x.1) (pair_law order_key_law order_law) (k, r) (own_contents (own.UpdatedOrder k r) ++ rest) rest (h.0, h.1) refl
-contents_again (own.UpdatedOrderLine k r) rest h = finds_as (λ x. own.UpdatedOrderLine x.0 x.1) (pair_law order_line_key_law order_line_law) (k, r) (own_contents (own.UpdatedOrderLine k r) ++ rest) rest (h.0, h.1) refl
-contents_again (own.UpdatedStock k r) rest h = finds_as (λ x. own.UpdatedStock x.0 x.1) (pair_law stock_key_law stock_law) (k, r) (own_contents (own.UpdatedStock k r) ++ rest) rest (h.0, h.1) refl
-contents_again (own.DeletedNewOrder k) rest h = finds_as (λ x. own.DeletedNewOrder x) new_order_key_law k (own_contents (own.DeletedNewOrder k) ++ rest) rest h.0 (ap (λ (l : List ℕ). l ++ rest) (append-nil (new_order_key k)))
+contents_again : (b : OwnRecord) (rest : List ℕ) → IsInRanges (record_of_own b)
+    → contents_at (kind_of (record_of_own b)) (own_contents b ++ rest) ≡ Some (b, rest)
+contents_again (own.InsertedHistory k) rest h = finds_as (λ x. own.InsertedHistory x) history_key_law k
+    (own_contents (own.InsertedHistory k) ++ rest) rest h.0 refl
+contents_again (own.InsertedNewOrder k) rest h = finds_as (λ x. own.InsertedNewOrder x) new_order_key_law k
+    (own_contents (own.InsertedNewOrder k) ++ rest) rest h.0 refl
+contents_again (own.InsertedOrder k) rest h = finds_as (λ x. own.InsertedOrder x) order_key_law k
+    (own_contents (own.InsertedOrder k) ++ rest) rest h.0 refl
+contents_again (own.InsertedOrderLine k) rest h = finds_as (λ x. own.InsertedOrderLine x) order_line_key_law k
+    (own_contents (own.InsertedOrderLine k) ++ rest) rest h.0 refl
+contents_again (own.UpdatedWarehouse k r) rest h = finds_as (λ x. own.UpdatedWarehouse x.0 x.1)
+    (pair_law warehouse_key_law warehouse_law) (k, r) (own_contents (own.UpdatedWarehouse k r) ++ rest) rest (h.0, h.1)
+    refl
+contents_again (own.UpdatedDistrict k r) rest h = finds_as (λ x. own.UpdatedDistrict x.0 x.1)
+    (pair_law district_key_law district_law) (k, r) (own_contents (own.UpdatedDistrict k r) ++ rest) rest (h.0, h.1)
+    refl
+contents_again (own.UpdatedCustomer k r) rest h = finds_as (λ x. own.UpdatedCustomer x.0 x.1)
+    (pair_law customer_key_law customer_law) (k, r) (own_contents (own.UpdatedCustomer k r) ++ rest) rest (h.0, h.1)
+    refl
+contents_again (own.UpdatedOrder k r) rest h = finds_as (λ x. own.UpdatedOrder x.0 x.1)
+    (pair_law order_key_law order_law) (k, r) (own_contents (own.UpdatedOrder k r) ++ rest) rest (h.0, h.1) refl
+contents_again (own.UpdatedOrderLine k r) rest h = finds_as (λ x. own.UpdatedOrderLine x.0 x.1)
+    (pair_law order_line_key_law order_line_law) (k, r) (own_contents (own.UpdatedOrderLine k r) ++ rest) rest
+    (h.0, h.1) refl
+contents_again (own.UpdatedStock k r) rest h = finds_as (λ x. own.UpdatedStock x.0 x.1)
+    (pair_law stock_key_law stock_law) (k, r) (own_contents (own.UpdatedStock k r) ++ rest) rest (h.0, h.1) refl
+contents_again (own.DeletedNewOrder k) rest h = finds_as (λ x. own.DeletedNewOrder x) new_order_key_law k
+    (own_contents (own.DeletedNewOrder k) ++ rest) rest h.0
+    (ap (λ (l : List ℕ). l ++ rest) (append-nil (new_order_key k)))
 
 -- what is behind a text is bytes, as the whole is
 behind_fits : (bytes front rest : List ℕ) → IsBytes bytes → bytes ≡ front ++ rest → IsBytes rest
@@ -74,7 +112,8 @@ contents_law k = record {
   takes = λ bytes x fits e.
       let f = contents_found k bytes fits x.0 x.1 e in
       (f.0, record { parts = f.1; rest_fits = behind_fits bytes (own_contents x.0) x.1 fits f.1 });
-  again = λ b rest h. subst (λ (j : RecordKind). contents_at j (own_contents b ++ rest) ≡ Some (b, rest)) h.0 (contents_again b rest h.1);
+  again = λ b rest h. subst (λ (j : RecordKind). contents_at j (own_contents b ++ rest) ≡ Some (b, rest)) h.0
+      (contents_again b rest h.1);
 }
 
 -- ---- what stands between the lengths
@@ -85,10 +124,12 @@ IsBody v = IsPrevious v.0 × IsInRanges (record_of_own v.1)
 abbrev own_body : Previous × OwnRecord → List ℕ
 own_body v = body_image v.0 (record_of_own v.1)
 
-body_takes : (bytes : List ℕ) (v : (Previous × OwnRecord) × List ℕ) → IsBytes bytes → body_at bytes ≡ Some v → IsBody v.0 × Takes bytes (own_body v.0) v.1
+body_takes : (bytes : List ℕ) (v : (Previous × OwnRecord) × List ℕ) → IsBytes bytes → body_at bytes ≡ Some v
+    → IsBody v.0 × Takes bytes (own_body v.0) v.1
 unfolding body_at
 body_takes bytes v fits e =
-    let k = bind_some (kind_at bytes) (λ k. previous_at k.1 >>= λ p. contents_at k.0 p.1 >>= λ b. Some ((p.0, b.0), b.1)) v e in
+    let k = bind_some (kind_at bytes)
+    (λ k. previous_at k.1 >>= λ p. contents_at k.0 p.1 >>= λ b. Some ((p.0, b.0), b.1)) v e in
     let p = bind_some (previous_at k.0.1) (λ p. contents_at k.0.0 p.1 >>= λ b. Some ((p.0, b.0), b.1)) v k.2 in
     let b = bind_some (contents_at k.0.0 p.0.1) (λ b. Some ((p.0.0, b.0), b.1)) v p.2 in
     let tk = kind_law.takes bytes k.0 fits k.1 in
@@ -97,8 +138,10 @@ body_takes bytes v fits e =
     let whole = Takes-then bytes (kind_image k.0.0) k.0.1 (previous_image p.0.0 ++ own_contents b.0.0) b.0.1 tk.1
     (Takes-then k.0.1 (previous_image p.0.0) p.0.1 (own_contents b.0.0) b.0.1 tp.1 tb.1) in
     let same = some_is ((p.0.0, b.0.0), b.0.1) v b.2 in
-    let named = subst (λ (j : RecordKind). Takes bytes (kind_image j ++ (previous_image p.0.0 ++ own_contents b.0.0)) b.0.1) (sym tb.0.0) whole in
-    subst (λ (w : (Previous × OwnRecord) × List ℕ). IsBody w.0 × Takes bytes (own_body w.0) w.1) same ((tp.0, tb.0.1), named)
+    let named = subst (λ (j : RecordKind). Takes bytes (kind_image j ++ (previous_image p.0.0 ++ own_contents b.0.0))
+    b.0.1) (sym tb.0.0) whole in
+    subst (λ (w : (Previous × OwnRecord) × List ℕ). IsBody w.0 × Takes bytes (own_body w.0) w.1) same
+    ((tp.0, tb.0.1), named)
 
 body_again : (v : Previous × OwnRecord) (rest : List ℕ) → IsBody v → body_at (own_body v ++ rest) ≡ Some (v, rest)
 unfolding body_at
@@ -139,7 +182,8 @@ pub record IsFramedBy (size : ℕ) (x : Whole × List ℕ) (v : Previous × OwnR
   pub end : length x.1 ≡ 0
   pub value : x.0.1.0 ≡ v
 
-test_some : (size : ℕ) (x : Whole × List ℕ) (b : Bool) (v : Previous × OwnRecord) → (b ≡ true → ((x.0.0 == size && x.0.1.1 == size) && length x.1 == 0) ≡ true)
+test_some : (size : ℕ) (x : Whole × List ℕ) (b : Bool) (v : Previous × OwnRecord)
+    → (b ≡ true → ((x.0.0 == size && x.0.1.1 == size) && length x.1 == 0) ≡ true)
     → cond b (Some x.0.1.0) None ≡ Some v → IsFramedBy size x v
 test_some size x true v f e =
     let t = both (x.0.0 == size && x.0.1.1 == size) (length x.1 == 0) (f refl) in
@@ -147,11 +191,14 @@ test_some size x true v f e =
     record { first = eqb-true _ _ u.0; last = eqb-true _ _ u.1; end = eqb-true _ _ t.1; value = some_is x.0.1.0 v e }
 test_some size x false v f e = absurd cc
 
-framed_some : (size : ℕ) (r : Option (Whole × List ℕ)) (v : Previous × OwnRecord) → framed_by size r ≡ Some v → (x : Whole × List ℕ) × (r ≡ Some x) × IsFramedBy size x v
+framed_some : (size : ℕ) (r : Option (Whole × List ℕ)) (v : Previous × OwnRecord) → framed_by size r ≡ Some v
+    → (x : Whole × List ℕ) × (r ≡ Some x) × IsFramedBy size x v
 framed_some size None v e = absurd cc
-framed_some size (Some x) v e = (x, refl, test_some size x ((x.0.0 == size && x.0.1.1 == size) && length x.1 == 0) v (λ h. h) e)
+framed_some size (Some x) v e =
+    (x, refl, test_some size x ((x.0.0 == size && x.0.1.1 == size) && length x.1 == 0) v (λ h. h) e)
 
-whole_is : (bytes : List ℕ) (n m : ℕ) (v : Previous × OwnRecord) (rest : List ℕ) → n ≡ length bytes → m ≡ length bytes → length rest ≡ 0 → IsBody v
+whole_is : (bytes : List ℕ) (n m : ℕ) (v : Previous × OwnRecord) (rest : List ℕ) → n ≡ length bytes → m ≡ length bytes
+    → length rest ≡ 0 → IsBody v
     → bytes ≡ whole_image (n, (v, m)) ++ rest → bytes ≡ record_image v.0 (record_of_own v.1)
 whole_is bytes n m v (c ∷ rest) a b z h e = absurd (omega arith)
 whole_is bytes n m v [] a b z h e =
@@ -161,7 +208,8 @@ whole_is bytes n m v [] a b z h e =
     alone ∙ ap (λ (i : ℕ). number 2 i ++ (own_body v ++ number 2 m)) (a ∙ size)
     ∙ ap (λ (i : ℕ). number 2 (record_length (record_of_own v.1)) ++ (own_body v ++ number 2 i)) (b ∙ size)
 
-record_found : (bytes : List ℕ) → IsBytes bytes → (v : Previous × OwnRecord) → record_at bytes ≡ Some v → IsBody v × (bytes ≡ record_image v.0 (record_of_own v.1))
+record_found : (bytes : List ℕ) → IsBytes bytes → (v : Previous × OwnRecord) → record_at bytes ≡ Some v
+    → IsBody v × (bytes ≡ record_image v.0 (record_of_own v.1))
 unfolding record_at
 record_found bytes fits v e =
     let f = framed_some (length bytes) (whole_at bytes) v e in
@@ -176,8 +224,26 @@ optional_short width None = omega arith
 optional_short width (Some x) = omega arith
 
 row_short : (r : Row) → IsRow r → row_length r ≤ 683
-row_short (row.Warehouse r) h = omega (arith, h.name.at_most, h.address.street_1.at_most, h.address.street_2.at_most, h.address.city.at_most, h.address.state.at_most, h.address.zip.at_most)
-row_short (row.District r) h = omega (arith, h.name.at_most, h.address.street_1.at_most, h.address.street_2.at_most, h.address.city.at_most, h.address.state.at_most, h.address.zip.at_most)
+row_short (row.Warehouse r) h =
+    omega (
+      arith,
+      h.name.at_most,
+      h.address.street_1.at_most,
+      h.address.street_2.at_most,
+      h.address.city.at_most,
+      h.address.state.at_most,
+      h.address.zip.at_most,
+    )
+row_short (row.District r) h =
+    omega (
+      arith,
+      h.name.at_most,
+      h.address.street_1.at_most,
+      h.address.street_2.at_most,
+      h.address.city.at_most,
+      h.address.state.at_most,
+      h.address.zip.at_most,
+    )
 row_short (row.Customer r) h =
     omega (
       arith,
@@ -225,15 +291,18 @@ same_number n = grind (arith, nat_tests)
 framed_again : (n : ℕ) (v : Previous × OwnRecord) → framed_by n (Some ((n, (v, n)), [])) ≡ Some v
 framed_again n v = rw (same_number n) refl
 
-pub record_finds : (v : Previous × OwnRecord) (bytes : List ℕ) → IsBody v → bytes ≡ record_image v.0 (record_of_own v.1) → record_at bytes ≡ Some v
+pub record_finds : (v : Previous × OwnRecord) (bytes : List ℕ) → IsBody v → bytes ≡ record_image v.0 (record_of_own v.1)
+    → record_at bytes ≡ Some v
 unfolding record_at
 record_finds v bytes h e =
     let n = record_length (record_of_own v.1) in
     let small = record_short (record_of_own v.1) h.1 in
     let alone : bytes ≡ whole_image (n, (v, n)) ++ [] = e ∙ sym (append-nil (whole_image (n, (v, n)))) in
-    let read : whole_at bytes ≡ Some ((n, (v, n)), []) = ap whole_at alone ∙ whole_law.again (n, (v, n)) [] (omega (arith, small), (h, omega (arith, small))) in
+    let read : whole_at bytes ≡ Some ((n, (v, n)), []) = ap whole_at alone
+    ∙ whole_law.again (n, (v, n)) [] (omega (arith, small), (h, omega (arith, small))) in
     let size : length bytes ≡ n = ap length e ∙ (record_long v.0 (record_of_own v.1) h.1).is in
-    ap (λ (r : Option (Whole × List ℕ)). framed_by (length bytes) r) read ∙ ap (λ (i : ℕ). framed_by i (Some ((n, (v, n)), []))) size ∙ framed_again n v
+    ap (λ (r : Option (Whole × List ℕ)). framed_by (length bytes) r) read
+    ∙ ap (λ (i : ℕ). framed_by i (Some ((n, (v, n)), []))) size ∙ framed_again n v
 
 pub record_exact : (bytes : List ℕ) → IsBytes bytes → ReadsRecord bytes (record_at bytes)
 record_exact bytes fits = record {

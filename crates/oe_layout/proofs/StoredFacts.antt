@@ -1,5 +1,6 @@
 -- What stored bytes tell, and where its parts stand.
-use Rattle.std.proofs.Common.{◌≡◌, ℕ, ◌-◌, List, ◌++◌, length, take, drop, Option, Some, None, Bor, refl, sym, ap, subst, ◌∙◌, append_assoc}
+use Rattle.std.proofs.Common.{◌≡◌, ℕ, ◌-◌, List, ◌++◌, length, take, drop, Option, Some, None, Bor, refl, sym, ap}
+use Rattle.std.proofs.Common.{subst, ◌∙◌, append_assoc}
 use Rattle.std.specs.Option.{option_map, IsSome}
 use Rattle.std.proofs.lemmas.List.{drop_at, take_rest}
 use Rattle.oe_extent.specs.Images.{number}
@@ -28,14 +29,16 @@ use Rattle.oe_layout.proofs.RecordFacts.{record_finds}
 
 -- ---- which record it is
 
-pub told_by : (bytes : List ℕ) (p : Previous) (b : OwnRecord) → IsPrevious p → IsInRanges (record_of_own b) → bytes ≡ record_image p (record_of_own b)
+pub told_by : (bytes : List ℕ) (p : Previous) (b : OwnRecord) → IsPrevious p → IsInRanges (record_of_own b)
+    → bytes ≡ record_image p (record_of_own b)
     → told bytes ≡ record_of_own b
 told_by bytes p b hp hb e = ap told_of (record_finds (p, b) bytes (hp, hb) e)
 
 pub told_is : (bytes : List ℕ) (h : IsStoredRecord bytes) → told bytes ≡ record_of_own h.before
 told_is bytes h = told_by bytes h.previous h.before h.link h.ranges h.image
 
-pub IsStored-told : (bytes : List ℕ) → IsStoredRecord bytes → (p : Previous) × (bytes ≡ record_image p (told bytes)) × IsInRanges (told bytes)
+pub IsStored-told : (bytes : List ℕ) → IsStoredRecord bytes → (p : Previous) × (bytes ≡ record_image p (told bytes))
+    × IsInRanges (told bytes)
 IsStored-told bytes h =
     let same = sym (told_is bytes h) in
     (h.previous, h.image ∙ ap (record_image h.previous) same, subst IsInRanges same h.ranges)
@@ -51,21 +54,28 @@ read_is bytes r h reads =
 abbrev length_image : Record → List ℕ
 length_image b = number 2 (record_length b)
 
-parts : (p : Previous) (b : Record) → record_image p b ≡ length_image b ++ (kind_image (kind_of b) ++ ((previous_image p ++ contents b) ++ length_image b))
-parts p b = ap (λ (l : List ℕ). length_image b ++ l) (append_assoc (kind_image (kind_of b)) (previous_image p ++ contents b) (length_image b))
+parts : (p : Previous) (b : Record) → record_image p b ≡ length_image b
+    ++ (kind_image (kind_of b) ++ ((previous_image p ++ contents b) ++ length_image b))
+parts p b = ap (λ (l : List ℕ). length_image b ++ l)
+    (append_assoc (kind_image (kind_of b)) (previous_image p ++ contents b) (length_image b))
 
 front : (p : Previous) (b : Record)
-    → record_image p b ≡ (length_image b ++ (kind_image (kind_of b) ++ previous_image p)) ++ (contents b ++ length_image b)
+    → record_image p b ≡ (length_image b ++ (kind_image (kind_of b) ++ previous_image p))
+    ++ (contents b ++ length_image b)
 front p b =
     let k = kind_image (kind_of b) in
     let rest = contents b ++ length_image b in
-    let second : (previous_image p ++ contents b) ++ length_image b ≡ previous_image p ++ rest = append_assoc (previous_image p) (contents b) (length_image b) in
-    let third : k ++ (previous_image p ++ rest) ≡ (k ++ previous_image p) ++ rest = sym (append_assoc k (previous_image p) rest) in
+    let second : (previous_image p ++ contents b) ++ length_image b ≡ previous_image p ++ rest =
+    append_assoc (previous_image p) (contents b) (length_image b) in
+    let third : k ++ (previous_image p ++ rest) ≡ (k ++ previous_image p) ++ rest =
+    sym (append_assoc k (previous_image p) rest) in
     parts p b ∙ ap (λ (l : List ℕ). length_image b ++ (k ++ l)) second ∙ ap (λ (l : List ℕ). length_image b ++ l) third
     ∙ sym (append_assoc (length_image b) (k ++ previous_image p) rest)
 
-front_length : (p : Previous) (b : Record) → length (length_image b ++ (kind_image (kind_of b) ++ previous_image p)) ≡ 16
-front_length p b = (joined_long (number_long 2 (record_length b)) (joined_long (kind_long (kind_of b)) (link_long (link_numbers p)))).is
+front_length : (p : Previous) (b : Record)
+    → length (length_image b ++ (kind_image (kind_of b) ++ previous_image p)) ≡ 16
+front_length p b = (joined_long (number_long 2 (record_length b))
+    (joined_long (kind_long (kind_of b)) (link_long (link_numbers p)))).is
 
 -- the kind stands behind the length
 pub kind_there : (bytes : List ℕ) → IsStoredRecord bytes
@@ -86,11 +96,13 @@ link_there bytes p b hp e =
     let k = kind_image (kind_of b) in
     let rest = contents b ++ length_image b in
     let here : record_image p b ≡ (length_image b ++ k) ++ (previous_image p ++ rest) =
-    parts p b ∙ ap (λ (l : List ℕ). length_image b ++ (k ++ l)) (append_assoc (previous_image p) (contents b) (length_image b))
+    parts p b ∙ ap (λ (l : List ℕ). length_image b ++ (k ++ l))
+    (append_assoc (previous_image p) (contents b) (length_image b))
     ∙ sym (append_assoc (length_image b) k (previous_image p ++ rest)) in
     let behind : take (length bytes - 4) (drop 4 bytes) ≡ previous_image p ++ rest =
     take_rest bytes 4 ∙ ap (drop 4) (e ∙ here)
-    ∙ drop_at (length_image b ++ k) (previous_image p ++ rest) 4 (joined_long (number_long 2 (record_length b)) (kind_long (kind_of b))).is in
+    ∙ drop_at (length_image b ++ k) (previous_image p ++ rest) 4
+    (joined_long (number_long 2 (record_length b)) (kind_long (kind_of b))).is in
     (rest, ap previous_at behind ∙ previous_law.again p rest hp)
 
 -- the key stands behind the link
@@ -100,13 +112,15 @@ contents_there bytes h =
     let s = IsStored-told bytes h in
     let b = told bytes in
     take_rest bytes 16 ∙ ap (drop 16) (s.1 ∙ front s.0 b)
-    ∙ drop_at (length_image b ++ (kind_image (kind_of b) ++ previous_image s.0)) (contents b ++ length_image b) 16 (front_length s.0 b)
+    ∙ drop_at (length_image b ++ (kind_image (kind_of b) ++ previous_image s.0)) (contents b ++ length_image b) 16
+    (front_length s.0 b)
 
 key_first : (k : List ℕ) (r : Option Row) (tail : List ℕ) → (rest : List ℕ) × (followed k r ++ tail ≡ k ++ rest)
 key_first k None tail = (tail, refl)
 key_first k (Some r) tail = (row_image r ++ tail, append_assoc k (row_image r) tail)
 
-pub key_there : (b : Record) → (rest : List ℕ) × (contents b ++ number 2 (record_length b) ≡ key_image (record_key b) ++ rest)
+pub key_there : (b : Record) → (rest : List ℕ)
+    × (contents b ++ number 2 (record_length b) ≡ key_image (record_key b) ++ rest)
 key_there b = key_first (key_image (record_key b)) (row_before b) (number 2 (record_length b))
 
 pub table_is : (b : Record) → table_of (record_key b) ≡ table_changed (kind_of b)
@@ -137,7 +151,8 @@ deleted_is (model.DeletedNewOrder k v) = refl
 
 -- ---- what was read of the front of bytes
 
-pub seen_first : {X : Type 0} (r : Option (X × Bor (List ℕ))) (u : X × Bor (List ℕ)) (x : X) (rest : List ℕ) → r ≡ Some u
+pub seen_first : {X : Type 0} (r : Option (X × Bor (List ℕ))) (u : X × Bor (List ℕ)) (x : X) (rest : List ℕ)
+    → r ≡ Some u
     → option_map {U = X × List ℕ} (λ x. (x.0, x.1.now)) r ≡ Some (x, rest) → u.0 ≡ x
 seen_first None u x rest e f = absurd cc
 seen_first {X = X} (Some v) u x rest e f =
@@ -145,18 +160,22 @@ seen_first {X = X} (Some v) u x rest e f =
     let two : ◌≡◌ {A = X × List ℕ} (v.0, v.1.now) (x, rest) = some_is (v.0, v.1.now) (x, rest) f in
     ap (λ (p : X × Bor (List ℕ)). p.0) (sym one) ∙ ap (λ (p : X × List ℕ). p.0) two
 
-pub some_front : {X : Type 0} (r : Option (X × Bor (List ℕ))) (v : X × List ℕ) → option_map {U = X × List ℕ} (λ x. (x.0, x.1.now)) r ≡ Some v → IsSome r
+pub some_front : {X : Type 0} (r : Option (X × Bor (List ℕ))) (v : X × List ℕ)
+    → option_map {U = X × List ℕ} (λ x. (x.0, x.1.now)) r ≡ Some v → IsSome r
 some_front None v e = absurd cc
 some_front (Some u) v e = refl
 
-pub none_front : {X : Type 0} (r : Option (X × Bor (List ℕ))) (v : X × List ℕ) → r ≡ None → option_map {U = X × List ℕ} (λ x. (x.0, x.1.now)) r ≡ Some v → ⊥
+pub none_front : {X : Type 0} (r : Option (X × Bor (List ℕ))) (v : X × List ℕ) → r ≡ None
+    → option_map {U = X × List ℕ} (λ x. (x.0, x.1.now)) r ≡ Some v → ⊥
 none_front None v n e = absurd cc
 none_front (Some u) v n e = absurd cc
 
 -- ---- the key
 
-pub key_read : (b : Record) (t : Table) (bytes : List ℕ) (r : Option (Key × List ℕ)) → IsKey (record_key b) → t ≡ table_changed (kind_of b)
-    → bytes ≡ contents b ++ number 2 (record_length b) → Reads (IsKeyOf t) key_image bytes r → (rest : List ℕ) × (r ≡ Some (record_key b, rest))
+pub key_read : (b : Record) (t : Table) (bytes : List ℕ) (r : Option (Key × List ℕ)) → IsKey (record_key b)
+    → t ≡ table_changed (kind_of b)
+    → bytes ≡ contents b ++ number 2 (record_length b) → Reads (IsKeyOf t) key_image bytes r
+    → (rest : List ℕ) × (r ≡ Some (record_key b, rest))
 key_read b t bytes r fits et e reads =
     let k = key_there b in
     (k.0, reads.finds (record_key b) k.0 (table_is b ∙ sym et, fits) (e ∙ k.1))

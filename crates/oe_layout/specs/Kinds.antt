@@ -5,7 +5,10 @@ use Rattle.oe_fronts.specs.Fronts.{pair_at}
 use Rattle.oe_layout.specs.Links.{read_as}
 use Rattle.oe_model.specs.Changes as model
 use Rattle.oe_layout.specs.declared.kinds.RecordKind.{RecordKind}
-use Rattle.oe_layout.specs.declared.kinds.RecordKind.TheVariants.{InsertedHistory, InsertedNewOrder, InsertedOrder, InsertedOrderLine, UpdatedWarehouse, UpdatedDistrict, UpdatedCustomer, UpdatedOrder, UpdatedOrderLine, UpdatedStock, DeletedNewOrder}
+use Rattle.oe_layout.specs.declared.kinds.RecordKind.TheVariants.{InsertedHistory, InsertedNewOrder, InsertedOrder}
+use Rattle.oe_layout.specs.declared.kinds.RecordKind.TheVariants.{InsertedOrderLine, UpdatedWarehouse, UpdatedDistrict}
+use Rattle.oe_layout.specs.declared.kinds.RecordKind.TheVariants.{UpdatedCustomer, UpdatedOrder, UpdatedOrderLine}
+use Rattle.oe_layout.specs.declared.kinds.RecordKind.TheVariants.{UpdatedStock, DeletedNewOrder}
 
 -- 1 inserted, 2 updated, 3 deleted; and the table, of the nine in the order of clause 1.3.1, from 1 on
 abbrev pub kind_numbers : RecordKind → ℕ × ℕ

@@ -10,7 +10,8 @@ use Rattle.oe_layout.specs.declared.links.Previous.TheVariants.{Nothing, Own, Co
 abbrev pub LinkNumbers : Type 0
 LinkNumbers = ℕ × (ℕ × ℕ)
 
--- where there is no previous record, all bits of the address are 1 and the moment is 0; where it is of the same transaction, all bits of
+-- where there is no previous record, all bits of the address are 1 and the moment is 0; where it is of the same
+-- transaction, all bits of
 -- the moment are 1
 abbrev pub link_numbers : Previous → LinkNumbers
 link_numbers Nothing = (65_535, (65_535, 0))

@@ -3,7 +3,8 @@ use Rattle.std.specs.Prelude.{◌≡◌, ◌==◌, ◌&&◌, ℕ, List, length, 
 use Rattle.oe_extent.specs.declared.sizes.TheConstants.{LENGTH_BYTES}
 use Rattle.oe_extent.specs.Images.{number_at}
 use Rattle.oe_fronts.specs.Fronts.{◌>>=◌, seen, pair_at}
-use Rattle.oe_fronts.specs.KeyFronts.{history_key_at, new_order_key_at, order_key_at, order_line_key_at, warehouse_key_at, district_key_at, customer_key_at, stock_key_at}
+use Rattle.oe_fronts.specs.KeyFronts.{history_key_at, new_order_key_at, order_key_at, order_line_key_at}
+use Rattle.oe_fronts.specs.KeyFronts.{warehouse_key_at, district_key_at, customer_key_at, stock_key_at}
 use Rattle.oe_fronts.specs.RowFronts.{warehouse_at, district_at, customer_at, order_at, order_line_at, stock_at}
 use Rattle.oe_layout.specs.Links.{previous_at, IsPrevious}
 use Rattle.oe_layout.specs.Kinds.{kind_at}

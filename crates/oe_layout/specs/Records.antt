@@ -27,7 +27,8 @@ contents b = followed (key_image (model.record_key b)) (model.row_before b)
 abbrev pub body_image : Previous → model.Record → List ℕ
 body_image p b = kind_image (kind_of b) ++ (previous_image p ++ contents b)
 
--- The image of an undo record: its length, its kind, its link to the previous record, the key, the row before, and its length again.
+-- The image of an undo record: its length, its kind, its link to the previous record, the key, the row before, and its
+-- length again.
 abbrev pub record_image : Previous → model.Record → List ℕ
 record_image p b =
     number LENGTH_BYTES (record_length b) ++ (body_image p b ++ number LENGTH_BYTES (record_length b))

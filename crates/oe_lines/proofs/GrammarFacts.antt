@@ -1,5 +1,7 @@
 -- What is read is said, and what is said is read.
-use Rattle.std.proofs.Common.{◌≡◌, ℕ, zero, suc, ◌+◌, ◌==◌, ◌^◌, ◌<◌, ◌≤◌, ◌⊎◌, inl, inr, List, [], ◌∷◌, ◌++◌, map, length, Bool, true, false, cond, Option, Some, None, IfSome, decimal, codes, nat_le, sym, subst, ap, ◌∙◌, refl, append-nil, append_assoc, le-leb, arith, lit<}
+use Rattle.std.proofs.Common.{◌≡◌, ℕ, zero, suc, ◌+◌, ◌==◌, ◌^◌, ◌<◌, ◌≤◌, ◌⊎◌, inl, inr, List, [], ◌∷◌, ◌++◌, map}
+use Rattle.std.proofs.Common.{length, Bool, true, false, cond, Option, Some, None, IfSome, decimal, codes, nat_le, sym}
+use Rattle.std.proofs.Common.{subst, ap, ◌∙◌, refl, append-nil, append_assoc, le-leb, arith, lit<}
 use Rattle.std.specs.Option.{option_map}
 use Rattle.std.specs.Int.{IsInRange}
 use Rattle.std.specs.List.{All, join_with_byte}
@@ -34,16 +36,28 @@ use Rattle.oe_lines.specs.declared.commands.MomentChoice.{MomentChoice}
 use Rattle.oe_lines.specs.declared.commands.MomentChoice.TheVariants as moment
 use Rattle.oe_rows.specs.declared.scales.Scale.{Scale}
 use Rattle.oe_model.specs.Population.{IsScale}
-use Rattle.oe_model.specs.Requests.{IsDistrict, IsChoice, IsPayment, IsRequestLine, IsNewOrder, IsDelivery, IsDeliveries}
-use Rattle.oe_lines.specs.Grammar.{Says, HasForm, IsRequest, IsQuery, IsMoment, words_of, request_words, query_words, customer_word, line_word, moment_word}
-use Rattle.oe_lines.specs.Reading.{begun, number_or_name, last_number_or_name, table_of, moment_of, moment_before, condition_of, audit_of, opening_of, district_of, customer_of, last_customer_of, status_of, level_of, query_of, reading_of, payment_of, line_of, line_and, lines_within, lines_of, new_order_of, delivery_of, deliveries_of, all_or_one, request_of, beginning_of, terminal_of, rare_command_of, command_of, run_of, begun_payment_of}
-use Rattle.oe_lines.specs.Words.{is_word, within, number_of, number_then, number_before, last_number, amount_before, stamp_of, stamp_before, last_name_of, name_before}
+use Rattle.oe_model.specs.Requests.{IsDistrict, IsChoice, IsPayment, IsRequestLine, IsNewOrder, IsDelivery}
+use Rattle.oe_model.specs.Requests.{IsDeliveries}
+use Rattle.oe_lines.specs.Grammar.{Says, HasForm, IsRequest, IsQuery, IsMoment, words_of, request_words, query_words}
+use Rattle.oe_lines.specs.Grammar.{customer_word, line_word, moment_word}
+use Rattle.oe_lines.specs.Reading.{begun, number_or_name, last_number_or_name, table_of, moment_of, moment_before}
+use Rattle.oe_lines.specs.Reading.{condition_of, audit_of, opening_of, district_of, customer_of, last_customer_of}
+use Rattle.oe_lines.specs.Reading.{status_of, level_of, query_of, reading_of, payment_of, line_of, line_and}
+use Rattle.oe_lines.specs.Reading.{lines_within, lines_of, new_order_of, delivery_of, deliveries_of, all_or_one}
+use Rattle.oe_lines.specs.Reading.{request_of, beginning_of, terminal_of, rare_command_of, command_of, run_of}
+use Rattle.oe_lines.specs.Reading.{begun_payment_of}
+use Rattle.oe_lines.specs.Words.{is_word, within, number_of, number_then, number_before, last_number, amount_before}
+use Rattle.oe_lines.specs.Words.{stamp_of, stamp_before, last_name_of, name_before}
 use Rattle.oe_lines.proofs.StampFacts.{stamp_found, stamp_only, stamp_of-longer, stamp_before_found, stamp_before_only}
-use Rattle.oe_lines.proofs.NameFacts.{last_name_found, last_name_only, name_found, name_only, name_no_number, name_no_last}
+use Rattle.oe_lines.proofs.NameFacts.{last_name_found, last_name_only, name_found, name_only, name_no_number}
+use Rattle.oe_lines.proofs.NameFacts.{name_no_last}
 use Rattle.oe_values.specs.Text.{IsLastName}
 use Rattle.oe_values.specs.Front.{after_of, decimal_of, alone}
-use Rattle.oe_values.proofs.FrontFacts.{bind_some, some_same, chosen, guarded, ends, alone_found, after_found, after_only, decimal_found, decimal_only}
-use Rattle.oe_lines.proofs.WordFacts.{map_some, word_is, within_found, within_only, number_found, number_only, then_found, then_only, before_found, before_only, last_found, last_only, amount_found, amount_only}
+use Rattle.oe_values.proofs.FrontFacts.{bind_some, some_same, chosen, guarded, ends, alone_found, after_found}
+use Rattle.oe_values.proofs.FrontFacts.{after_only, decimal_found, decimal_only}
+use Rattle.oe_lines.proofs.WordFacts.{map_some, word_is, within_found, within_only, number_found, number_only}
+use Rattle.oe_lines.proofs.WordFacts.{then_found, then_only, before_found, before_only, last_found, last_only}
+use Rattle.oe_lines.proofs.WordFacts.{amount_found, amount_only}
 
 -- the next link of a chain of tests on a word
 named : {A : Type 0} (s w : List ℕ) (x z : A) (rest : Option A) → cond (is_word s w) (Some x) rest ≡ Some z
@@ -89,7 +103,8 @@ table_only table.Stock = refl
 
 -- words at the front of a line
 
-begun_some : {A : Type 0} (o : Option (List ℕ)) (read : List ℕ → Option A) (other : Option A) (x : A) → begun o read other ≡ Some x
+begun_some : {A : Type 0} (o : Option (List ℕ)) (read : List ℕ → Option A) (other : Option A) (x : A)
+    → begun o read other ≡ Some x
     → ((r : List ℕ) × (o ≡ Some r) × (read r ≡ Some x)) ⊎ (other ≡ Some x)
 begun_some None read other x e = inr e
 begun_some (Some r) read other x e = inl (r, refl, e)
@@ -113,7 +128,8 @@ moment_found s m e = elim (chosen (is_word s (codes "now")) _ _ (Some m) e) [
       let end = alone_found p.0.0 a.0 p.0.1 a.1 in
       let range = within_found 0 999_999_999_999 a.0 w.0 w.1 in
       let same = some_same (moment.At w.0) m w.2 in (
-        f.0 ∙ ap (λ z. decimal p.0.0 ++ z) end.0 ∙ append-nil (decimal p.0.0) ∙ ap decimal (end.1 ∙ range.0) ∙ ap moment_word same,
+        f.0 ∙ ap (λ z. decimal p.0.0 ++ z) end.0 ∙ append-nil (decimal p.0.0) ∙ ap decimal (end.1 ∙ range.0)
+            ∙ ap moment_word same,
         rw (← same) range.2,
       )
 ]
@@ -122,25 +138,35 @@ no_word : (n : ℕ) → n < 10 ^ 15 → (b : Bool) → is_word (decimal n) (code
 unfolding decimal_of
 no_word n h false e = refl
 no_word n h true e =
-    let read : decimal_of (codes "now" ++ []) ≡ Some (n, []) = rw (word_is (decimal n) (codes "now") e) at (decimal_only n [] h refl) in
+    let read : decimal_of (codes "now" ++ []) ≡ Some (n, []) = rw (word_is (decimal n) (codes "now") e) at
+    (decimal_only n [] h refl) in
     cc
 
 moment_only : (m : MomentChoice) → IsMoment m → moment_of (moment_word m) ≡ Some m
 unfolding moment_of
 moment_only moment.Now h = unfold is_word in refl
 moment_only (moment.At n) h =
-    rw (no_word n (omega arith) _ refl, ← append-nil (decimal n), decimal_only n [] (omega arith) refl, within_only 0 999_999_999_999 n (omega arith) h)
+    rw (
+      no_word n (omega arith) _ refl,
+      ← append-nil (decimal n),
+      decimal_only n [] (omega arith) refl,
+      within_only 0
+          999_999_999_999 n (omega arith) h,
+    )
     refl
 
 -- a number is not `now` before a space
-no_now : (n : ℕ) (s : List ℕ) (o : Option (List ℕ)) → n < 10 ^ 15 → after_of (codes "now ") (decimal n ++ 32 ∷ s) ≡ o → o ≡ None
+no_now : (n : ℕ) (s : List ℕ) (o : Option (List ℕ)) → n < 10 ^ 15 → after_of (codes "now ") (decimal n ++ 32 ∷ s) ≡ o
+    → o ≡ None
 unfolding decimal_of
 no_now n s None h e = refl
 no_now n s (Some r) h e =
-    let read : decimal_of (codes "now " ++ r) ≡ Some (n, 32 ∷ s) = rw (after_found (codes "now ") (decimal n ++ 32 ∷ s) r e) at (decimal_only n (32 ∷ s) h refl) in
+    let read : decimal_of (codes "now " ++ r) ≡ Some (n, 32 ∷ s) =
+    rw (after_found (codes "now ") (decimal n ++ 32 ∷ s) r e) at (decimal_only n (32 ∷ s) h refl) in
     cc
 
-moment_before_found : (s : List ℕ) (p : MomentChoice × List ℕ) → moment_before s ≡ Some p → (s ≡ moment_word p.0 ++ 32 ∷ p.1) × IsMoment p.0
+moment_before_found : (s : List ℕ) (p : MomentChoice × List ℕ) → moment_before s ≡ Some p
+    → (s ≡ moment_word p.0 ++ 32 ∷ p.1) × IsMoment p.0
 unfolding moment_before
 moment_before_found s p e = elim (begun_some (after_of (codes "now ") s) _ _ p e) [
   | inl h ↦ rw (← some_same (moment.Now, h.0) p h.2) (after_found (codes "now ") s h.0 h.1, tt)
@@ -151,19 +177,27 @@ moment_before_found s p e = elim (begun_some (after_of (codes "now ") s) _ _ p e
       let f = decimal_found s n.0.0 n.0.1 n.1 in
       let range = within_found 0 999_999_999_999 n.0.0 w.0 w.1 in
       rw (← some_same (moment.At w.0, a.0) p a.2) (
-        f.0 ∙ ap (λ z. decimal n.0.0 ++ z) (after_found (codes " ") n.0.1 a.0 a.1) ∙ ap (λ z. decimal z ++ 32 ∷ a.0) range.0,
+        f.0 ∙ ap (λ z. decimal n.0.0 ++ z) (after_found (codes " ") n.0.1 a.0 a.1)
+            ∙ ap (λ z. decimal z ++ 32 ∷ a.0) range.0,
         range.2,
       )
 ]
 
-moment_before_only : (m : MomentChoice) (r : List ℕ) → IsMoment m → moment_before (moment_word m ++ 32 ∷ r) ≡ Some (m, r)
+moment_before_only : (m : MomentChoice) (r : List ℕ) → IsMoment m
+    → moment_before (moment_word m ++ 32 ∷ r) ≡ Some (m, r)
 unfolding moment_before
 moment_before_only moment.Now r h = refl
 moment_before_only (moment.At n) r h =
-    rw (no_now n r _ (omega arith) refl, decimal_only n (32 ∷ r) (omega arith) refl, within_only 0 999_999_999_999 n (omega arith) h) refl
+    rw (
+      no_now n r _ (omega arith) refl,
+      decimal_only n (32 ∷ r) (omega arith) refl,
+      within_only 0 999_999_999_999 n
+          (omega arith) h,
+    ) refl
 
 -- a line of a word and a moment
-of_moment_found : (made : MomentChoice → Command) (word s : List ℕ) (c : Command) → ((m : MomentChoice) → IsMoment m → Says (word ++ 32 ∷ moment_word m) (made m))
+of_moment_found : (made : MomentChoice → Command) (word s : List ℕ) (c : Command)
+    → ((m : MomentChoice) → IsMoment m → Says (word ++ 32 ∷ moment_word m) (made m))
     → option_map made (moment_of s) ≡ Some c → Says (word ++ 32 ∷ s) c
 of_moment_found made word s c says e =
     let m = map_some made (moment_of s) c e in
@@ -171,7 +205,8 @@ of_moment_found made word s c says e =
     says_at _ _ c (made m.0) (ap (λ z. word ++ 32 ∷ z) g.0) m.2 (says m.0 g.1)
 
 -- the next link of a chain of tests on a number
-numbered : (n k : ℕ) (x c : Condition) (rest : Option Condition) → condition_number x ≡ k → cond (n == k) (Some x) rest ≡ Some c
+numbered : (n k : ℕ) (x c : Condition) (rest : Option Condition) → condition_number x ≡ k
+    → cond (n == k) (Some x) rest ≡ Some c
     → (rest ≡ Some c → n ≡ condition_number c) → n ≡ condition_number c
 numbered n k x c rest is e later = elim (chosen (n == k) (Some x) rest (Some c) e) [
   | inl h ↦ eqb-true n k h.0 ∙ sym is ∙ ap condition_number (some_same x c h.1)
@@ -229,13 +264,20 @@ audit_found s d e =
     let f = before_found 1 12 s n.0.0 n.0.1 n.1 in
     let g = moment_found n.0.1 m.0 m.1 in
     let number = condition_found n.0.0 c.0 c.1 in
-    let spelled = f.0 ∙ ap (λ z. decimal z ++ 32 ∷ n.0.1) number ∙ ap (λ z. decimal (condition_number c.0) ++ 32 ∷ z) g.0 in
-    says_at _ _ d (command.Audit c.0 m.0) (ap (λ z. codes "audit" ++ 32 ∷ z) spelled) (some_same _ d m.2) (record { form = g.1; spelled = refl })
+    let spelled = f.0 ∙ ap (λ z. decimal z ++ 32 ∷ n.0.1) number ∙ ap (λ z. decimal (condition_number c.0) ++ 32 ∷ z)
+    g.0 in
+    says_at _ _ d (command.Audit c.0 m.0) (ap (λ z. codes "audit" ++ 32 ∷ z) spelled) (some_same _ d m.2)
+    (record { form = g.1; spelled = refl })
 
-audit_only : (c : Condition) (m : MomentChoice) → IsMoment m → audit_of (decimal (condition_number c) ++ 32 ∷ moment_word m) ≡ Some (command.Audit c m)
+audit_only : (c : Condition) (m : MomentChoice) → IsMoment m
+    → audit_of (decimal (condition_number c) ++ 32 ∷ moment_word m) ≡ Some (command.Audit c m)
 unfolding audit_of
 audit_only c m k =
-    rw (before_only 1 12 (condition_number c) (moment_word m) (omega arith) (number_small c), condition_only c, moment_only m k) refl
+    rw (
+      before_only 1 12 (condition_number c) (moment_word m) (omega arith) (number_small c),
+      condition_only c,
+      moment_only m k,
+    ) refl
 
 -- openings
 
@@ -254,11 +296,17 @@ opening_found s c e =
     let h = before_found 1 100_000 b.0.1 d.0.0 d.0.1 d.1 in
     let i = last_found 2 4_096 d.0.1 x.0 x.1 in
     let spelled =
-    f.0 ∙ ap (λ z. decimal a.0.0 ++ 32 ∷ z) (g.0 ∙ ap (λ z. decimal b.0.0 ++ 32 ∷ z) (h.0 ∙ ap (λ z. decimal d.0.0 ++ 32 ∷ z) i.0)) in
-    says_at _ _ c (command.Open (record { warehouses = a.0.0; customers = b.0.0; items = d.0.0 }) x.0) (ap (λ z. codes "open" ++ 32 ∷ z) spelled) (some_same _ c x.2)
-    (record { form = (record { warehouses = (f.1, f.2); customers = (g.1, g.2); items = (h.1, h.2) }, (i.1, i.2)); spelled = refl })
+    f.0 ∙ ap (λ z. decimal a.0.0 ++ 32 ∷ z)
+    (g.0 ∙ ap (λ z. decimal b.0.0 ++ 32 ∷ z) (h.0 ∙ ap (λ z. decimal d.0.0 ++ 32 ∷ z) i.0)) in
+    says_at _ _ c (command.Open (record { warehouses = a.0.0; customers = b.0.0; items = d.0.0 }) x.0)
+    (ap (λ z. codes "open" ++ 32 ∷ z) spelled) (some_same _ c x.2)
+    (record {
+      form = (record { warehouses = (f.1, f.2); customers = (g.1, g.2); items = (h.1, h.2) }, (i.1, i.2));
+      spelled = refl;
+    })
 
-opening_only : (s : Scale) (x : ℕ) → IsScale s → IsInRange 2 4_096 x → opening_of (scale_words s (decimal x)) ≡ Some (command.Open s x)
+opening_only : (s : Scale) (x : ℕ) → IsScale s → IsInRange 2 4_096 x
+    → opening_of (scale_words s (decimal x)) ≡ Some (command.Open s x)
 unfolding opening_of
 opening_only s x h k =
     rw (
@@ -274,7 +322,8 @@ opening_only s x h k =
 abbrev district_words : DistrictKey → List ℕ → List ℕ
 district_words d rest = decimal d.warehouse ++ 32 ∷ (decimal d.district ++ 32 ∷ rest)
 
-district_found : (s : List ℕ) (p : DistrictKey × List ℕ) → district_of s ≡ Some p → (s ≡ district_words p.0 p.1) × IsDistrict p.0
+district_found : (s : List ℕ) (p : DistrictKey × List ℕ) → district_of s ≡ Some p
+    → (s ≡ district_words p.0 p.1) × IsDistrict p.0
 unfolding district_of
 district_found s p e =
     let a = bind_some (number_before 1 16 s) _ p e in
@@ -294,11 +343,13 @@ payment_words p =
     district_words p.district (district_words p.customer_district
     (customer_word p.customer ++ 32 ∷ (money_text p.amount ++ 32 ∷ stamp_text p.stamp)))
 
-customer_found : (s : List ℕ) (p : CustomerChoice × List ℕ) → customer_of s ≡ Some p → (s ≡ customer_word p.0 ++ 32 ∷ p.1) × IsChoice p.0
+customer_found : (s : List ℕ) (p : CustomerChoice × List ℕ) → customer_of s ≡ Some p
+    → (s ≡ customer_word p.0 ++ 32 ∷ p.1) × IsChoice p.0
 unfolding customer_of
 customer_found s p e = go (number_before 1 3_000 s) refl e
   where
-    go : (o : Option (ℕ × List ℕ)) → number_before 1 3_000 s ≡ o → number_or_name o (name_before s) ≡ Some p → (s ≡ customer_word p.0 ++ 32 ∷ p.1) × IsChoice p.0
+    go : (o : Option (ℕ × List ℕ)) → number_before 1 3_000 s ≡ o → number_or_name o (name_before s) ≡ Some p
+        → (s ≡ customer_word p.0 ++ 32 ∷ p.1) × IsChoice p.0
     go (Some c) f e =
         let g = before_found 1 3_000 s c.0 c.1 f in
         rw (← some_same (choice.Number c.0, c.1) p e) (g.0, (g.1, g.2))
@@ -326,14 +377,22 @@ payment_found s p e =
     let i = amount_found 100 500_000 c.0.1 d.0.0 d.0.1 d.1 in
     let j = stamp_found d.0.1 t.0 t.1 in
     let last = h.0 ∙ ap (λ z. customer_word c.0.0 ++ 32 ∷ z) (i.0 ∙ ap (λ z. money_text d.0.0 ++ 32 ∷ z) j.0) in
-    let same = some_same (record { district = a.0.0; customer_district = b.0.0; customer = c.0.0; amount = d.0.0; stamp = t.0 }) p t.2 in
+    let same = some_same (record {
+      district = a.0.0;
+      customer_district = b.0.0;
+      customer = c.0.0;
+      amount = d.0.0;
+      stamp = t.0;
+    }) p t.2 in
     rw (← same) (
       f.0 ∙ ap (district_words a.0.0) (g.0 ∙ ap (district_words b.0.0) last),
       record { district = f.1; customer_district = g.1; customer = h.1; amount = (i.1, i.2); stamp = j.1 },
     )
 
-payment_only : (at home : DistrictKey) (c : CustomerChoice) (amount stamp : ℕ) → IsDistrict at → IsDistrict home → IsChoice c → IsInRange 100 500_000 amount → stamp < 6_342_969_600
-    → payment_of (district_words at (district_words home (customer_word c ++ 32 ∷ (money_text amount ++ 32 ∷ stamp_text stamp))))
+payment_only : (at home : DistrictKey) (c : CustomerChoice) (amount stamp : ℕ) → IsDistrict at → IsDistrict home
+    → IsChoice c → IsInRange 100 500_000 amount → stamp < 6_342_969_600
+    → payment_of (district_words at
+    (district_words home (customer_word c ++ 32 ∷ (money_text amount ++ 32 ∷ stamp_text stamp))))
     ≡ Some (record { district = at; customer_district = home; customer = c; amount = amount; stamp = stamp })
 unfolding payment_of
 payment_only at home c amount stamp p q r s t =
@@ -348,11 +407,13 @@ payment_only at home c amount stamp p q r s t =
 
 -- queries
 
-last_customer_found : (s : List ℕ) (c : CustomerChoice) → last_customer_of s ≡ Some c → (s ≡ customer_word c) × IsChoice c
+last_customer_found : (s : List ℕ) (c : CustomerChoice) → last_customer_of s ≡ Some c
+    → (s ≡ customer_word c) × IsChoice c
 unfolding last_customer_of
 last_customer_found s c e = go (last_number 1 3_000 s) refl e
   where
-    go : (o : Option ℕ) → last_number 1 3_000 s ≡ o → last_number_or_name o (last_name_of s) ≡ Some c → (s ≡ customer_word c) × IsChoice c
+    go : (o : Option ℕ) → last_number 1 3_000 s ≡ o → last_number_or_name o (last_name_of s) ≡ Some c
+        → (s ≡ customer_word c) × IsChoice c
     go (Some n) f e =
         let g = last_found 1 3_000 s n f in
         rw (← some_same (choice.Number n) c e) (g.0, (g.1, g.2))
@@ -367,23 +428,27 @@ unfolding last_customer_of
 last_customer_only (choice.Number n) h = rw (last_only 1 3_000 n (omega arith) h) refl
 last_customer_only (choice.LastName name) h = rw (name_no_last 1 3_000 name h, last_name_only name h) refl
 
-status_found : (s : List ℕ) (q : StatusQuery) → status_of s ≡ Some q → (s ≡ district_words q.district (customer_word q.customer)) × (IsDistrict q.district × IsChoice q.customer)
+status_found : (s : List ℕ) (q : StatusQuery) → status_of s ≡ Some q
+    → (s ≡ district_words q.district (customer_word q.customer)) × (IsDistrict q.district × IsChoice q.customer)
 unfolding status_of
 status_found s q e =
     let a = bind_some (district_of s) _ q e in
     let c = bind_some (last_customer_of a.0.1) _ q a.2 in
     let f = district_found s a.0 a.1 in
     let g = last_customer_found a.0.1 c.0 c.1 in
-    rw (← some_same (record { district = a.0.0; customer = c.0 }) q c.2) (f.0 ∙ ap (district_words a.0.0) g.0, (f.1, g.1))
+    rw (← some_same (record { district = a.0.0; customer = c.0 }) q c.2)
+    (f.0 ∙ ap (district_words a.0.0) g.0, (f.1, g.1))
 
-level_found : (s : List ℕ) (q : LevelQuery) → level_of s ≡ Some q → (s ≡ district_words q.district (decimal q.threshold)) × (IsDistrict q.district × IsInRange 10 20 q.threshold)
+level_found : (s : List ℕ) (q : LevelQuery) → level_of s ≡ Some q
+    → (s ≡ district_words q.district (decimal q.threshold)) × (IsDistrict q.district × IsInRange 10 20 q.threshold)
 unfolding level_of
 level_found s q e =
     let a = bind_some (district_of s) _ q e in
     let t = bind_some (last_number 10 20 a.0.1) _ q a.2 in
     let f = district_found s a.0 a.1 in
     let g = last_found 10 20 a.0.1 t.0 t.1 in
-    rw (← some_same (record { district = a.0.0; threshold = t.0 }) q t.2) (f.0 ∙ ap (district_words a.0.0) g.0, (f.1, (g.1, g.2)))
+    rw (← some_same (record { district = a.0.0; threshold = t.0 }) q t.2)
+    (f.0 ∙ ap (district_words a.0.0) g.0, (f.1, (g.1, g.2)))
 
 query_found : (s : List ℕ) (q : Query) → query_of s ≡ Some q → (s ≡ join_with_byte 32 (query_words q)) × IsQuery q
 unfolding query_of
@@ -403,11 +468,14 @@ query_found s q e = elim (begun_some (after_of (codes "status ") s) _ _ q e) [
 
 query_only : (q : Query) → IsQuery q → query_of (join_with_byte 32 (query_words q)) ≡ Some q
 unfolding query_of status_of level_of
-query_only (query.Status q) h = rw (district_only q.district (customer_word q.customer) h.0, last_customer_only q.customer h.1) refl
-query_only (query.Level q) h = rw (district_only q.district (decimal q.threshold) h.0, last_only 10 20 q.threshold (omega arith) h.1) refl
+query_only (query.Status q) h =
+    rw (district_only q.district (customer_word q.customer) h.0, last_customer_only q.customer h.1) refl
+query_only (query.Level q) h =
+    rw (district_only q.district (decimal q.threshold) h.0, last_only 10 20 q.threshold (omega arith) h.1) refl
 
 -- a query's words stand behind the moment
-read_words : (m : MomentChoice) (q : Query) → join_with_byte 32 (words_of (command.Read m q)) ≡ codes "read" ++ 32 ∷ (moment_word m ++ 32 ∷ join_with_byte 32 (query_words q))
+read_words : (m : MomentChoice) (q : Query) → join_with_byte 32 (words_of (command.Read m q)) ≡ codes "read"
+    ++ 32 ∷ (moment_word m ++ 32 ∷ join_with_byte 32 (query_words q))
 read_words m (query.Status q) = refl
 read_words m (query.Level q) = refl
 
@@ -419,16 +487,19 @@ reading_found s c e =
     let f = moment_before_found s m.0 m.1 in
     let g = query_found m.0.1 q.0 q.1 in
     let spelled = f.0 ∙ ap (λ z. moment_word m.0.0 ++ 32 ∷ z) g.0 in
-    says_at _ _ c (command.Read m.0.0 q.0) (ap (λ z. codes "read" ++ 32 ∷ z) spelled ∙ sym (read_words m.0.0 q.0)) (some_same _ c q.2)
+    says_at _ _ c (command.Read m.0.0 q.0) (ap (λ z. codes "read" ++ 32 ∷ z) spelled ∙ sym (read_words m.0.0 q.0))
+    (some_same _ c q.2)
     (record { form = (f.1, g.1); spelled = refl })
 
-reading_only : (m : MomentChoice) (q : Query) → IsMoment m → IsQuery q → reading_of (moment_word m ++ 32 ∷ join_with_byte 32 (query_words q)) ≡ Some (command.Read m q)
+reading_only : (m : MomentChoice) (q : Query) → IsMoment m → IsQuery q
+    → reading_of (moment_word m ++ 32 ∷ join_with_byte 32 (query_words q)) ≡ Some (command.Read m q)
 unfolding reading_of
 reading_only m q h k = rw (moment_before_only m _ h, query_only q k) refl
 
 -- orders
 
-line_found : (s : List ℕ) (p : RequestLine × List ℕ) → line_of s ≡ Some p → (s ≡ line_word p.0 ++ p.1) × IsRequestLine p.0
+line_found : (s : List ℕ) (p : RequestLine × List ℕ) → line_of s ≡ Some p
+    → (s ≡ line_word p.0 ++ p.1) × IsRequestLine p.0
 unfolding line_of
 line_found s p e =
     let a = bind_some (number_then 58 1 16 s) _ p e in
@@ -440,11 +511,13 @@ line_found s p e =
     let item : a.0.1 ≡ (decimal b.0.0 ++ 58 ∷ decimal c.0.0) ++ c.0.1 =
     g.0 ∙ ap (λ z. decimal b.0.0 ++ 58 ∷ z) h.0 ∙ sym (append_assoc (decimal b.0.0) (58 ∷ decimal c.0.0) c.0.1) in
     rw (← some_same (record { supply = a.0.0; item = b.0.0; quantity = c.0.0 }, c.0.1) p c.2) (
-      f.0 ∙ ap (λ z. decimal a.0.0 ++ 58 ∷ z) item ∙ sym (append_assoc (decimal a.0.0) (58 ∷ (decimal b.0.0 ++ 58 ∷ decimal c.0.0)) c.0.1),
+      f.0 ∙ ap (λ z. decimal a.0.0 ++ 58 ∷ z) item
+          ∙ sym (append_assoc (decimal a.0.0) (58 ∷ (decimal b.0.0 ++ 58 ∷ decimal c.0.0)) c.0.1),
       record { supply = (f.1, f.2); item = (g.1, g.2); quantity = (h.1, h.2) },
     )
 
-line_only : (l : RequestLine) (rest : List ℕ) → IsRequestLine l → ends rest ≡ true → line_of (line_word l ++ rest) ≡ Some (l, rest)
+line_only : (l : RequestLine) (rest : List ℕ) → IsRequestLine l → ends rest ≡ true
+    → line_of (line_word l ++ rest) ≡ Some (l, rest)
 unfolding line_of
 line_only l rest h e =
     rw (
@@ -467,16 +540,19 @@ and_found : (n : ℕ) (l : RequestLine) (s : List ℕ) (ls : List RequestLine) �
     → ((t : List ℕ) (ks : List RequestLine) → lines_within n t ≡ Some ks → AreLines t n ks)
     → line_and l (lines_within n) s ≡ Some ls → AreLines (line_word l ++ s) (suc n) ls
 and_found n l [] ls h more e =
-    rw (← some_same (l ∷ []) ls e) (append-nil (line_word l), All-cons IsRequestLine l [] h (All-nil IsRequestLine), omega arith, omega arith)
+    rw (← some_same (l ∷ []) ls e)
+    (append-nil (line_word l), All-cons IsRequestLine l [] h (All-nil IsRequestLine), omega arith, omega arith)
 and_found n l (b ∷ s) ls h more e =
     let a = bind_some (after_of (codes " ") (b ∷ s)) _ ls e in
     let m = bind_some (lines_within n a.0) _ ls a.2 in
     let f = more a.0 m.0 m.1 in
     let spaced : b ∷ s ≡ 32 ∷ a.0 = after_found (codes " ") (b ∷ s) a.0 a.1 in
-    let one : line_word l ++ b ∷ s ≡ lines_text (l ∷ m.0) = ap (λ z. line_word l ++ z) spaced ∙ joined l m.0 a.0 f.0 f.3 in
+    let one : line_word l ++ b ∷ s ≡ lines_text (l ∷ m.0) = ap (λ z. line_word l ++ z) spaced
+    ∙ joined l m.0 a.0 f.0 f.3 in
     rw (← some_same (l ∷ m.0) ls m.2) (one, All-cons IsRequestLine l m.0 h f.1, omega (arith, f.2), omega arith)
   where
-    joined : (l : RequestLine) (ks : List RequestLine) (t : List ℕ) → t ≡ lines_text ks → 0 < length ks → line_word l ++ 32 ∷ t ≡ lines_text (l ∷ ks)
+    joined : (l : RequestLine) (ks : List RequestLine) (t : List ℕ) → t ≡ lines_text ks → 0 < length ks
+        → line_word l ++ 32 ∷ t ≡ lines_text (l ∷ ks)
     joined l [] t e h = absurd (omega (arith, h))
     joined l (k ∷ ks) t e h = ap (λ z. line_word l ++ 32 ∷ z) e
 
@@ -488,14 +564,20 @@ within_lines_found (suc n) s ls e =
     let g = and_found n a.0.0 a.0.1 ls f.1 (within_lines_found n) a.2 in
     (f.0 ∙ g.0, g.1, g.2, g.3)
 
-within_lines_only : (n : ℕ) (l : RequestLine) (ls : List RequestLine) → length (l ∷ ls) ≤ n → All IsRequestLine (l ∷ ls) → lines_within n (lines_text (l ∷ ls)) ≡ Some (l ∷ ls)
+within_lines_only : (n : ℕ) (l : RequestLine) (ls : List RequestLine) → length (l ∷ ls) ≤ n → All IsRequestLine (l ∷ ls)
+    → lines_within n (lines_text (l ∷ ls)) ≡ Some (l ∷ ls)
 within_lines_only zero l ls h k = absurd (omega (arith, h))
 within_lines_only (suc n) l [] h k =
     rw (← append-nil (line_word l), line_only l [] (All-head IsRequestLine l [] k) refl) refl
 within_lines_only (suc n) l (m ∷ ms) h k =
-    rw (line_only l (32 ∷ lines_text (m ∷ ms)) (All-head IsRequestLine l (m ∷ ms) k) refl, within_lines_only n m ms (omega (arith, h)) (All-tail IsRequestLine l (m ∷ ms) k)) refl
+    rw (
+      line_only l (32 ∷ lines_text (m ∷ ms)) (All-head IsRequestLine l (m ∷ ms) k) refl,
+      within_lines_only n m ms
+          (omega (arith, h)) (All-tail IsRequestLine l (m ∷ ms) k),
+    ) refl
 
-lines_found : (s : List ℕ) (ls : List RequestLine) → lines_of s ≡ Some ls → (s ≡ lines_text ls) × All IsRequestLine ls × IsInRange 5 15 (length ls)
+lines_found : (s : List ℕ) (ls : List RequestLine) → lines_of s ≡ Some ls
+    → (s ≡ lines_text ls) × All IsRequestLine ls × IsInRange 5 15 (length ls)
 unfolding lines_of
 lines_found s ls e =
     let a = bind_some (lines_within 15 s) _ ls e in
@@ -503,13 +585,15 @@ lines_found s ls e =
     let f = within_lines_found 15 s a.0 a.1 in
     rw (← some_same a.0 ls g.1) (f.0, f.1, (leb-true 5 (length a.0) g.0, f.2))
 
-lines_only : (ls : List RequestLine) → All IsRequestLine ls → IsInRange 5 15 (length ls) → lines_of (lines_text ls) ≡ Some ls
+lines_only : (ls : List RequestLine) → All IsRequestLine ls → IsInRange 5 15 (length ls)
+    → lines_of (lines_text ls) ≡ Some ls
 unfolding lines_of
 lines_only [] h k = absurd (omega (arith, k.0))
 lines_only (l ∷ ls) h k = rw (within_lines_only 15 l ls k.1 h, le-leb 5 (length (l ∷ ls)) k.0) refl
 
 abbrev new_order_words : NewOrderRequest → List ℕ
-new_order_words q = district_words q.district (decimal q.customer ++ 32 ∷ (stamp_text q.stamp ++ 32 ∷ lines_text q.lines))
+new_order_words q = district_words q.district
+    (decimal q.customer ++ 32 ∷ (stamp_text q.stamp ++ 32 ∷ lines_text q.lines))
 
 new_order_found : (s : List ℕ) (q : NewOrderRequest) → new_order_of s ≡ Some q → (s ≡ new_order_words q) × IsNewOrder q
 unfolding new_order_of
@@ -561,14 +645,20 @@ delivery_found s q e =
 delivery_only : (q : DeliveryRequest) → IsDelivery q → delivery_of (delivery_words q) ≡ Some q
 unfolding delivery_of
 delivery_only q h =
-    rw (district_only q.district _ h.district, before_only 1 10 q.carrier _ (omega arith) h.carrier, stamp_only q.stamp h.stamp) refl
+    rw (
+      district_only q.district _ h.district,
+      before_only 1 10 q.carrier _ (omega arith) h.carrier,
+      stamp_only q.stamp
+          h.stamp,
+    ) refl
 
 -- deliveries of all ten districts
 
 abbrev deliveries_words : DeliveriesRequest → List ℕ
 deliveries_words q = decimal q.warehouse.warehouse ++ 32 ∷ (decimal q.carrier ++ 32 ∷ stamp_text q.stamp)
 
-deliveries_found : (s : List ℕ) (q : DeliveriesRequest) → deliveries_of s ≡ Some q → (s ≡ deliveries_words q) × IsDeliveries q
+deliveries_found : (s : List ℕ) (q : DeliveriesRequest) → deliveries_of s ≡ Some q
+    → (s ≡ deliveries_words q) × IsDeliveries q
 unfolding deliveries_of
 deliveries_found s q e =
     let a = bind_some (number_before 1 16 s) _ q e in
@@ -579,12 +669,20 @@ deliveries_found s q e =
     let h = stamp_found b.0.1 t.0 t.1 in
     let last = g.0 ∙ ap (λ z. decimal b.0.0 ++ 32 ∷ z) h.0 in
     let same = some_same (record { warehouse = record { warehouse = a.0.0 }; carrier = b.0.0; stamp = t.0 }) q t.2 in
-    rw (← same) (f.0 ∙ ap (λ z. decimal a.0.0 ++ 32 ∷ z) last, record { warehouse = (f.1, f.2); carrier = (g.1, g.2); stamp = h.1 })
+    rw (← same) (
+      f.0 ∙ ap (λ z. decimal a.0.0 ++ 32 ∷ z) last,
+      record { warehouse = (f.1, f.2); carrier = (g.1, g.2); stamp = h.1 },
+    )
 
 deliveries_only : (q : DeliveriesRequest) → IsDeliveries q → deliveries_of (deliveries_words q) ≡ Some q
 unfolding deliveries_of
 deliveries_only q h =
-    rw (before_only 1 16 q.warehouse.warehouse _ (omega arith) h.warehouse, before_only 1 10 q.carrier _ (omega arith) h.carrier, stamp_only q.stamp h.stamp) refl
+    rw (
+      before_only 1 16 q.warehouse.warehouse _ (omega arith) h.warehouse,
+      before_only 1 10 q.carrier _ (omega arith)
+          h.carrier,
+      stamp_only q.stamp h.stamp,
+    ) refl
 
 -- where one district is named, a carrier stands before the stamp
 no_deliveries : (q : DeliveryRequest) → IsDelivery q → deliveries_of (delivery_words q) ≡ None
@@ -600,17 +698,21 @@ no_deliveries q h =
 -- requests
 
 -- the words are spelled with a space between each two
-spelled_order : (q : NewOrderRequest) → 0 < length q.lines → join_with_byte 32 (request_words (request.NewOrder q)) ≡ codes "neworder" ++ 32 ∷ new_order_words q
+spelled_order : (q : NewOrderRequest) → 0 < length q.lines
+    → join_with_byte 32 (request_words (request.NewOrder q)) ≡ codes "neworder" ++ 32 ∷ new_order_words q
 spelled_order q h = by_lines q.lines h
   where
     by_lines : (ls : List RequestLine) → 0 < length ls
-        → join_with_byte 32 (request_words (request.NewOrder (record { district = q.district; customer = q.customer; stamp = q.stamp; lines = ls })))
-        ≡ codes "neworder" ++ 32 ∷ district_words q.district (decimal q.customer ++ 32 ∷ (stamp_text q.stamp ++ 32 ∷ lines_text ls))
+        → join_with_byte 32 (request_words
+        (request.NewOrder (record { district = q.district; customer = q.customer; stamp = q.stamp; lines = ls })))
+        ≡ codes "neworder" ++ 32 ∷ district_words q.district
+        (decimal q.customer ++ 32 ∷ (stamp_text q.stamp ++ 32 ∷ lines_text ls))
     by_lines [] h = absurd (omega (arith, h))
     by_lines (l ∷ ls) h = refl
 
 -- a delivery, of all ten districts or of one
-carried : (s t : List ℕ) (r : Request) → s ≡ codes "delivery" ++ 32 ∷ t → (o : Option DeliveriesRequest) → deliveries_of t ≡ o
+carried : (s t : List ℕ) (r : Request) → s ≡ codes "delivery" ++ 32 ∷ t → (o : Option DeliveriesRequest)
+    → deliveries_of t ≡ o
     → all_or_one o (delivery_of t) ≡ Some r → (s ≡ join_with_byte 32 (request_words r)) × IsRequest r
 carried s t r word (Some q) e h =
     let f = deliveries_found t q e in
@@ -620,7 +722,8 @@ carried s t r word None e h =
     let f = delivery_found t q.0 q.1 in
     rw (← q.2) (word ∙ ap (λ z. codes "delivery" ++ 32 ∷ z) f.0, f.1)
 
-request_found : (s : List ℕ) (r : Request) → request_of s ≡ Some r → (s ≡ join_with_byte 32 (request_words r)) × IsRequest r
+request_found : (s : List ℕ) (r : Request) → request_of s ≡ Some r
+    → (s ≡ join_with_byte 32 (request_words r)) × IsRequest r
 unfolding request_of
 request_found s r e = elim (begun_some (after_of (codes "payment ") s) _ _ r e) [
   | inl h ↦
@@ -632,7 +735,11 @@ request_found s r e = elim (begun_some (after_of (codes "payment ") s) _ _ r e) 
         let q = map_some (λ q. request.NewOrder q) (new_order_of h.0) r h.2 in
         let f = new_order_found h.0 q.0 q.1 in
         let count = f.1.count in
-        rw (← q.2) (after_found (codes "neworder ") s h.0 h.1 ∙ ap (λ z. codes "neworder" ++ 32 ∷ z) f.0 ∙ sym (spelled_order q.0 (omega (arith, count.0))), f.1)
+        rw (← q.2) (
+          after_found (codes "neworder ") s h.0 h.1 ∙ ap (λ z. codes "neworder" ++ 32 ∷ z) f.0
+              ∙ sym (spelled_order q.0 (omega (arith, count.0))),
+          f.1,
+        )
     | inr e ↦ elim (begun_some (after_of (codes "delivery ") s) _ None r e) [
       | inl h ↦ carried s h.0 r (after_found (codes "delivery ") s h.0 h.1) (deliveries_of h.0) refl h.2
       | inr e ↦ cc
@@ -643,7 +750,8 @@ request_found s r e = elim (begun_some (after_of (codes "payment ") s) _ _ r e) 
 request_only : (r : Request) → IsRequest r → request_of (join_with_byte 32 (request_words r)) ≡ Some r
 unfolding request_of
 request_only (request.Payment p) h =
-    rw (payment_only p.district p.customer_district p.customer p.amount p.stamp h.district h.customer_district h.customer h.amount h.stamp) refl
+    rw (payment_only p.district p.customer_district p.customer p.amount p.stamp h.district h.customer_district
+    h.customer h.amount h.stamp) refl
 request_only (request.NewOrder q) h =
     let count = h.count in
     ap request_of (spelled_order q (omega (arith, count.0))) ∙ rw (new_order_only q h) refl
@@ -652,7 +760,8 @@ request_only (request.Deliveries q) h = rw (deliveries_only q h) refl
 request_only (request.Rename q) h = elim h [ ]
 
 -- a request's words stand behind the terminal
-begun_words : (t : ℕ) (r : Request) → IsRequest r → join_with_byte 32 (words_of (command.Begin t r)) ≡ codes "begin" ++ 32 ∷ (decimal t ++ 32 ∷ join_with_byte 32 (request_words r))
+begun_words : (t : ℕ) (r : Request) → IsRequest r → join_with_byte 32 (words_of (command.Begin t r)) ≡ codes "begin"
+    ++ 32 ∷ (decimal t ++ 32 ∷ join_with_byte 32 (request_words r))
 begun_words t (request.Payment p) h = refl
 begun_words t (request.NewOrder q) h = refl
 begun_words t (request.Delivery q) h = refl
@@ -667,36 +776,44 @@ beginning_found s c e =
     let f = before_found 1 64 s t.0.0 t.0.1 t.1 in
     let g = request_found t.0.1 r.0 r.1 in
     let spelled = f.0 ∙ ap (λ z. decimal t.0.0 ++ 32 ∷ z) g.0 in
-    says_at _ _ c (command.Begin t.0.0 r.0) (ap (λ z. codes "begin" ++ 32 ∷ z) spelled ∙ sym (begun_words t.0.0 r.0 g.1)) (some_same _ c r.2)
+    says_at _ _ c (command.Begin t.0.0 r.0) (ap (λ z. codes "begin" ++ 32 ∷ z) spelled
+    ∙ sym (begun_words t.0.0 r.0 g.1)) (some_same _ c r.2)
     (record { form = ((f.1, f.2), g.1); spelled = refl })
 
-beginning_only : (t : ℕ) (r : Request) → IsInRange 1 64 t → IsRequest r → beginning_of (decimal t ++ 32 ∷ join_with_byte 32 (request_words r)) ≡ Some (command.Begin t r)
+beginning_only : (t : ℕ) (r : Request) → IsInRange 1 64 t → IsRequest r
+    → beginning_of (decimal t ++ 32 ∷ join_with_byte 32 (request_words r)) ≡ Some (command.Begin t r)
 unfolding beginning_of
 beginning_only t r h k = rw (before_only 1 64 t _ (omega arith) h, request_only r k) refl
 
 -- lines
 
 -- a line of a word and a terminal
-terminal_found : (made : ℕ → Command) (word line rest : List ℕ) (c : Command) → line ≡ word ++ 32 ∷ rest → ((t : ℕ) → IsInRange 1 64 t → Says (word ++ 32 ∷ decimal t) (made t))
+terminal_found : (made : ℕ → Command) (word line rest : List ℕ) (c : Command) → line ≡ word ++ 32 ∷ rest
+    → ((t : ℕ) → IsInRange 1 64 t → Says (word ++ 32 ∷ decimal t) (made t))
     → terminal_of made rest ≡ Some c → Says line c
 terminal_found made word line rest c e says f =
     let t = map_some made (last_number 1 64 rest) c f in
     let g = last_found 1 64 rest t.0 t.1 in
     says_at line _ c (made t.0) (e ∙ ap (λ z. word ++ 32 ∷ z) g.0) t.2 (says t.0 (g.1, g.2))
 
-dumped_found : (s : List ℕ) (c : Command) → option_map (λ t. command.Dump t) (table_of s) ≡ Some c → Says (codes "dump" ++ 32 ∷ s) c
+dumped_found : (s : List ℕ) (c : Command) → option_map (λ t. command.Dump t) (table_of s) ≡ Some c
+    → Says (codes "dump" ++ 32 ∷ s) c
 dumped_found s c e =
     let t = map_some (λ t. command.Dump t) (table_of s) c e in
-    says_at _ _ c (command.Dump t.0) (ap (λ z. codes "dump" ++ 32 ∷ z) (table_found s t.0 t.1)) t.2 (record { form = tt; spelled = refl })
+    says_at _ _ c (command.Dump t.0) (ap (λ z. codes "dump" ++ 32 ∷ z) (table_found s t.0 t.1)) t.2
+    (record { form = tt; spelled = refl })
 
 rare_found : (s : List ℕ) (c : Command) → rare_command_of s ≡ Some c → Says s c
 unfolding rare_command_of
 rare_found s c e = elim (begun_some (after_of (codes "save ") s) _ _ c e) [
-  | inl h ↦ terminal_found (λ t. command.Save t) (codes "save") s h.0 c (after_found (codes "save ") s h.0 h.1) (λ t r. record { form = r; spelled = refl }) h.2
+  | inl h ↦ terminal_found (λ t. command.Save t) (codes "save") s h.0 c (after_found (codes "save ") s h.0 h.1)
+      (λ t r. record { form = r; spelled = refl }) h.2
   | inr e ↦ elim (begun_some (after_of (codes "back ") s) _ _ c e) [
-    | inl h ↦ terminal_found (λ t. command.Back t) (codes "back") s h.0 c (after_found (codes "back ") s h.0 h.1) (λ t r. record { form = r; spelled = refl }) h.2
+    | inl h ↦ terminal_found (λ t. command.Back t) (codes "back") s h.0 c (after_found (codes "back ") s h.0 h.1)
+        (λ t r. record { form = r; spelled = refl }) h.2
     | inr e ↦ elim (begun_some (after_of (codes "rollback ") s) _ _ c e) [
-      | inl h ↦ terminal_found (λ t. command.Rollback t) (codes "rollback") s h.0 c (after_found (codes "rollback ") s h.0 h.1) (λ t r. record { form = r; spelled = refl }) h.2
+      | inl h ↦ terminal_found (λ t. command.Rollback t) (codes "rollback") s h.0 c
+          (after_found (codes "rollback ") s h.0 h.1) (λ t r. record { form = r; spelled = refl }) h.2
       | inr e ↦ elim (begun_some (after_of (codes "open ") s) _ _ c e) [
         | inl h ↦ rw (after_found (codes "open ") s h.0 h.1) (opening_found h.0 c h.2)
         | inr e ↦ elim (begun_some (after_of (codes "dump ") s) _ _ c e) [
@@ -706,9 +823,13 @@ rare_found s c e = elim (begun_some (after_of (codes "save ") s) _ _ c e) [
             | inr e ↦ elim (begun_some (after_of (codes "read ") s) _ _ c e) [
               | inl h ↦ rw (after_found (codes "read ") s h.0 h.1) (reading_found h.0 c h.2)
               | inr e ↦ elim (begun_some (after_of (codes "purge ") s) _ _ c e) [
-                | inl h ↦ rw (after_found (codes "purge ") s h.0 h.1) (of_moment_found (λ m. command.Purge m) (codes "purge") h.0 c (λ m r. record { form = r; spelled = refl }) h.2)
+                | inl h ↦ rw (after_found (codes "purge ") s h.0 h.1)
+                    (of_moment_found (λ m. command.Purge m) (codes "purge") h.0 c
+                    (λ m r. record { form = r; spelled = refl }) h.2)
                 | inr e ↦ elim (begun_some (after_of (codes "rewind ") s) _ None c e) [
-                  | inl h ↦ rw (after_found (codes "rewind ") s h.0 h.1) (of_moment_found (λ m. command.Rewind m) (codes "rewind") h.0 c (λ m r. record { form = r; spelled = refl }) h.2)
+                  | inl h ↦ rw (after_found (codes "rewind ") s h.0 h.1)
+                      (of_moment_found (λ m. command.Rewind m) (codes "rewind") h.0 c
+                      (λ m r. record { form = r; spelled = refl }) h.2)
                   | inr e ↦ cc
                 ]
               ]
@@ -725,9 +846,11 @@ unfolding command_of
 found s c e = elim (begun_some (after_of (codes "begin ") s) _ _ c e) [
   | inl h ↦ rw (after_found (codes "begin ") s h.0 h.1) (beginning_found h.0 c h.2)
   | inr e ↦ elim (begun_some (after_of (codes "run ") s) _ _ c e) [
-    | inl h ↦ terminal_found (λ t. command.Run t) (codes "run") s h.0 c (after_found (codes "run ") s h.0 h.1) (λ t r. record { form = r; spelled = refl }) h.2
+    | inl h ↦ terminal_found (λ t. command.Run t) (codes "run") s h.0 c (after_found (codes "run ") s h.0 h.1)
+        (λ t r. record { form = r; spelled = refl }) h.2
     | inr e ↦ elim (begun_some (after_of (codes "next ") s) _ _ c e) [
-      | inl h ↦ terminal_found (λ t. command.Next t) (codes "next") s h.0 c (after_found (codes "next ") s h.0 h.1) (λ t r. record { form = r; spelled = refl }) h.2
+      | inl h ↦ terminal_found (λ t. command.Next t) (codes "next") s h.0 c (after_found (codes "next ") s h.0 h.1)
+          (λ t r. record { form = r; spelled = refl }) h.2
       | inr e ↦ rare_found s c e
     ]
   ]
@@ -741,7 +864,8 @@ begin_only : (t : ℕ) (r : Request) → IsInRange 1 64 t → IsRequest r
 unfolding command_of
 begin_only t r h k = ap command_of (begun_words t r k) ∙ rw (beginning_only t r h k) refl
 
-read_only : (m : MomentChoice) (q : Query) → IsMoment m → IsQuery q → command_of (join_with_byte 32 (words_of (command.Read m q))) ≡ Some (command.Read m q)
+read_only : (m : MomentChoice) (q : Query) → IsMoment m → IsQuery q
+    → command_of (join_with_byte 32 (words_of (command.Read m q))) ≡ Some (command.Read m q)
 unfolding command_of rare_command_of
 read_only m q h k = ap command_of (read_words m q) ∙ rw (reading_only m q h k) refl
 
@@ -803,7 +927,8 @@ payment_begun_found s b e =
     let f = before_found 1 64 r.0 t.0.0 t.0.1 t.1 in
     let g = payment_found q.0 p.0 p.1 in
     let words = after_found (codes "payment ") t.0.1 q.0 q.1 ∙ ap (λ z. codes "payment" ++ 32 ∷ z) g.0 in
-    let spelled = after_found (codes "begin ") s r.0 r.1 ∙ ap (λ z. codes "begin" ++ 32 ∷ z) (f.0 ∙ ap (λ z. decimal t.0.0 ++ 32 ∷ z) words) in
+    let spelled = after_found (codes "begin ") s r.0 r.1 ∙ ap (λ z. codes "begin" ++ 32 ∷ z)
+    (f.0 ∙ ap (λ z. decimal t.0.0 ++ 32 ∷ z) words) in
     let says : SaysPayment s (t.0.0, p.0) = record { form = ((f.1, f.2), g.1); spelled = spelled } in
     subst (SaysPayment s) (some_same (t.0.0, p.0) b p.2) says
 
@@ -813,7 +938,8 @@ unfolding begun_payment_of
 payment_spelled t p h k =
     rw (
       before_only 1 64 t _ (omega arith) h,
-      payment_only p.district p.customer_district p.customer p.amount p.stamp k.district k.customer_district k.customer k.amount k.stamp,
+      payment_only p.district p.customer_district p.customer p.amount p.stamp k.district k.customer_district k.customer
+          k.amount k.stamp,
     )
     refl
 
@@ -821,5 +947,6 @@ pub payment_is_said : (o : Option (ℕ × PaymentRequest)) (s : List ℕ) → o 
 payment_is_said None s e = tt
 payment_is_said (Some b) s e = payment_begun_found s b (sym e)
 
-pub said_is_payment : (s : List ℕ) (t : ℕ) (p : PaymentRequest) → Says s (command.Begin t (request.Payment p)) → begun_payment_of s ≡ Some (t, p)
+pub said_is_payment : (s : List ℕ) (t : ℕ) (p : PaymentRequest) → Says s (command.Begin t (request.Payment p))
+    → begun_payment_of s ≡ Some (t, p)
 said_is_payment s t p h = rw h.spelled (payment_spelled t p h.form.0 h.form.1)

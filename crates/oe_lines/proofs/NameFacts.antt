@@ -1,5 +1,7 @@
 -- A last name before a space is read, and nothing else is read as one.
-use Rattle.std.proofs.Common.{◌≡◌, ◌↔◌, ℕ, ◌+◌, ◌≤◌, List, [], ◌∷◌, ◌++◌, length, take, drop, true, false, ◌&&◌, Option, Some, None, IsSome, IfSome, codes, nat_le, eqb, sym, ap, ◌∙◌, refl, arith, le-leb, lt-ltb, length-append}
+use Rattle.std.proofs.Common.{◌≡◌, ◌↔◌, ℕ, ◌+◌, ◌≤◌, List, [], ◌∷◌, ◌++◌, length, take, drop, true, false, ◌&&◌, Option}
+use Rattle.std.proofs.Common.{Some, None, IsSome, IfSome, codes, nat_le, eqb, sym, ap, ◌∙◌, refl, arith, le-leb, lt-ltb}
+use Rattle.std.proofs.Common.{length-append}
 use Rattle.std.specs.Prelude.{◌==◌, position}
 use Rattle.std.specs.Char.{is_ascii_digit}
 use Rattle.std.specs.List.{All, list_all, position_or_len}
@@ -11,7 +13,8 @@ use Rattle.std.proofs.lemmas.List.Elements.{All-nil, All-cons, All-head, All-tai
 use Rattle.oe_values.specs.Text.{IsCapital, IsPrintable, IsText, IsLastName}
 use Rattle.oe_values.specs.Front.{after_of, decimal_of}
 use Rattle.oe_values.proofs.FrontFacts.{bind_some, some_same, guarded, both, after_found}
-use Rattle.oe_lines.specs.Words.{number_of, number_then, number_before, last_number, is_capital, last_name_of, name_before}
+use Rattle.oe_lines.specs.Words.{number_of, number_then, number_before, last_number, is_capital, last_name_of}
+use Rattle.oe_lines.specs.Words.{name_before}
 
 -- letters
 
@@ -23,7 +26,8 @@ is_letter b h = rw (le-leb 65 b h.0, le-leb b 90 h.1) refl
 
 letters : (s : List ℕ) → list_all is_capital s ≡ true → All IsCapital s
 letters [] e = All-nil IsCapital
-letters (b ∷ s) e = let r : (is_capital b ≡ true) × (list_all is_capital s ≡ true) = both _ _ e in All-cons IsCapital b s (letter b r.0) (letters s r.1)
+letters (b ∷ s) e = let r : (is_capital b ≡ true) × (list_all is_capital s ≡ true) = both _ _ e in
+    All-cons IsCapital b s (letter b r.0) (letters s r.1)
 
 are_letters : (s : List ℕ) → All IsCapital s → list_all is_capital s ≡ true
 are_letters [] h = refl
@@ -33,7 +37,8 @@ are_printable : (s : List ℕ) → All IsCapital s → All IsPrintable s
 are_printable [] h = All-nil IsPrintable
 are_printable (b ∷ s) h =
     let first : IsCapital b = All-head IsCapital b s h in
-    All-cons IsPrintable b s (omega (arith, first.0), omega (arith, first.1)) (are_printable s (All-tail IsCapital b s h))
+    All-cons IsPrintable b s (omega (arith, first.0), omega (arith, first.1))
+    (are_printable s (All-tail IsCapital b s h))
 
 -- last names
 
@@ -42,8 +47,14 @@ unfolding last_name_of
 last_name_found s n e =
     let g = guarded ((nat_le 1 (length s) && nat_le (length s) 16) && list_all is_capital s) (Some s) n e in
     let a : ((nat_le 1 (length s) && nat_le (length s) 16) ≡ true) × (list_all is_capital s ≡ true) = both _ _ g.0 in
-    let b : (nat_le 1 (length s) ≡ true) × (nat_le (length s) 16 ≡ true) = both _ _ a.0 in
-    (some_same s n g.1, record { at_least = leb-true 1 (length s) b.0; at_most = leb-true (length s) 16 b.1; capitals = letters s a.1 })
+    let b : (nat_le 1 (length s) ≡ true) × (nat_le (length s) 16 ≡ true) = both _ _ a.0 in (
+      some_same s n g.1,
+      record {
+        at_least = leb-true 1 (length s) b.0;
+        at_most = leb-true (length s) 16 b.1;
+        capitals = letters s a.1;
+      },
+    )
 
 pub last_name_only : (s : List ℕ) → IsLastName s → last_name_of s ≡ Some s
 unfolding last_name_of
@@ -63,11 +74,14 @@ no_some (Some n) e h = cc
 
 -- bytes of no text are no name
 pub last_name_of-none : (s : List ℕ) → IsSome {T = List ℕ} None ↔ IsText 1 16 s → None ≡ last_name_of s
-last_name_of-none s variant = sym (none_is (last_name_of s) (λ n e. no_some None refl (variant.1 (name_is_text s (last_name_found s n e).1))))
+last_name_of-none s variant =
+    sym (none_is (last_name_of s) (λ n e. no_some None refl (variant.1 (name_is_text s (last_name_found s n e).1))))
 
 -- what a reading gives that finds each name and nothing else
-pub last_name_of-read : (s : List ℕ) (o : Option (List ℕ)) → IsSome o ↔ IsLastName s → IfSome o (λ n. n ≡ s) → o ≡ last_name_of s
-last_name_of-read s None variant value = sym (none_is (last_name_of s) (λ n e. no_some None refl (variant.1 (last_name_found s n e).1)))
+pub last_name_of-read : (s : List ℕ) (o : Option (List ℕ)) → IsSome o ↔ IsLastName s → IfSome o (λ n. n ≡ s)
+    → o ≡ last_name_of s
+last_name_of-read s None variant value = sym
+    (none_is (last_name_of s) (λ n e. no_some None refl (variant.1 (last_name_found s n e).1)))
 last_name_of-read s (Some n) variant value = ap Some value ∙ sym (last_name_only s (variant.0 refl))
 
 -- before a space
@@ -82,7 +96,8 @@ name_found s name r e =
     let pair : ◌≡◌ {A = List ℕ × List ℕ} (l.0, a.0) (name, r) = some_same (l.0, a.0) (name, r) a.2 in
     let own : IsLastName l.0 = rw (← f.0) f.1 in
     let first : l.0 ≡ name = ap (λ (x : List ℕ × List ℕ). x.0) pair in (
-      sym (take-append-drop n.0 s) ∙ ap (λ z. z ++ drop n.0 s) f.0 ∙ ap (λ z. l.0 ++ z) (after_found (codes " ") (drop n.0 s) a.0 a.1)
+      sym (take-append-drop n.0 s) ∙ ap (λ z. z ++ drop n.0 s) f.0 ∙ ap (λ z. l.0 ++ z)
+          (after_found (codes " ") (drop n.0 s) a.0 a.1)
           ∙ ap (λ (x : List ℕ × List ℕ). x.0 ++ 32 ∷ x.1) pair,
       rw (← first) own,
     )
@@ -98,11 +113,20 @@ before_space (b ∷ s) r h =
     rw (no_space b first.0) (omega (arith, rest))
 
 at_space : (s r : List ℕ) → All IsCapital s → position (λ b. b == 32) (s ++ 32 ∷ r) ≡ Some (length s)
-at_space s r h = rw (before_space s r h, lt-ltb (length s) (length (s ++ 32 ∷ r)) (omega (arith, length-append s (32 ∷ r)))) refl
+at_space s r h = rw (
+  before_space s r h,
+  lt-ltb (length s) (length (s ++ 32 ∷ r))
+      (omega (arith, length-append s (32 ∷ r))),
+) refl
 
 pub name_only : (name r : List ℕ) → IsLastName name → name_before (name ++ 32 ∷ r) ≡ Some (name, r)
 unfolding name_before
-name_only name r h = rw (at_space name r h.capitals, take-append_seam name (32 ∷ r), drop-append_seam name (32 ∷ r), last_name_only name h) refl
+name_only name r h = rw (
+  at_space name r h.capitals,
+  take-append_seam name (32 ∷ r),
+  drop-append_seam name (32 ∷ r),
+  last_name_only name h,
+) refl
 
 -- a name is no number
 

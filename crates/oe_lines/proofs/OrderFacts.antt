@@ -1,5 +1,7 @@
 -- The lines of an order are read one after another.
-use Rattle.std.proofs.Common.{◌≡◌, ℕ, zero, suc, ◌+◌, ◌-◌, ◌<◌, ◌≤◌, List, [], ◌∷◌, ◌++◌, length, Bool, true, false, cond, Option, Some, None, IsSome, IfSome, codes, nat_le, sym, ap, ◌∙◌, refl, append_assoc, length-append, le-leb, arith}
+use Rattle.std.proofs.Common.{◌≡◌, ℕ, zero, suc, ◌+◌, ◌-◌, ◌<◌, ◌≤◌, List, [], ◌∷◌, ◌++◌, length, Bool, true, false}
+use Rattle.std.proofs.Common.{cond, Option, Some, None, IsSome, IfSome, codes, nat_le, sym, ap, ◌∙◌, refl, append_assoc}
+use Rattle.std.proofs.Common.{length-append, le-leb, arith}
 use Rattle.std.specs.Prelude.{◌↔◌}
 use Rattle.std.proofs.lemmas.Bool.{leb-true}
 use Rattle.std.specs.Option.{option_map}
@@ -24,24 +26,28 @@ more read h = omega (arith, h)
 pub stopped : (read : List RequestLine) (s : List ℕ) → length read < 15 → None ≡ line_of s → lines_after read s ≡ None
 stopped read s h e = rw (more read h, ← e) refl
 
-pub at_last : (read : List RequestLine) (s rest : List ℕ) (l : RequestLine) → length read < 15 → Some (l, rest) ≡ line_of s → length rest ≡ 0
+pub at_last : (read : List RequestLine) (s rest : List ℕ) (l : RequestLine) → length read < 15
+    → Some (l, rest) ≡ line_of s → length rest ≡ 0
     → lines_after read s ≡ Some (read ++ l ∷ [])
 at_last read s [] l h e k = rw (more read h, ← e) refl
 at_last read s (b ∷ rest) l h e k = absurd (omega (arith, k))
 
-pub parted : (read : List RequestLine) (s rest : List ℕ) (l : RequestLine) → length read < 15 → Some (l, rest) ≡ line_of s → 0 < length rest → None ≡ after_of (codes " ") rest
+pub parted : (read : List RequestLine) (s rest : List ℕ) (l : RequestLine) → length read < 15
+    → Some (l, rest) ≡ line_of s → 0 < length rest → None ≡ after_of (codes " ") rest
     → lines_after read s ≡ None
 parted read s [] l h e k f = absurd (omega (arith, k))
 parted read s (b ∷ rest) l h e k f = rw (more read h, ← e, ← f) refl
 
-pub went_on : (read : List RequestLine) (s rest r : List ℕ) (l : RequestLine) → length read < 15 → Some (l, rest) ≡ line_of s → Some r ≡ after_of (codes " ") rest
+pub went_on : (read : List RequestLine) (s rest r : List ℕ) (l : RequestLine) → length read < 15
+    → Some (l, rest) ≡ line_of s → Some r ≡ after_of (codes " ") rest
     → lines_after read s ≡ lines_after (read ++ l ∷ []) r
 went_on read s [] r l h e f = cc
 went_on read s (b ∷ rest) r l h e f =
     let one : 14 - length read ≡ 15 - length (read ++ l ∷ []) = omega (arith, length-append read (l ∷ [])) in
     rw (more read h, ← e, ← f, one) (moved (lines_within (15 - length (read ++ l ∷ [])) r))
   where
-    moved : (o : Option (List RequestLine)) → option_map (λ ls. read ++ ls) (o >>= (λ ls. Some (l ∷ ls))) ≡ option_map (λ ls. (read ++ l ∷ []) ++ ls) o
+    moved : (o : Option (List RequestLine)) → option_map (λ ls. read ++ ls) (o >>= (λ ls. Some (l ∷ ls))) ≡ option_map
+        (λ ls. (read ++ l ∷ []) ++ ls) o
     moved None = refl
     moved (Some ls) = ap (λ z. Some z) (sym (append_assoc read (l ∷ []) ls))
 
@@ -61,7 +67,8 @@ unfolding lines_of
 some_of s ls e = rw e refl
 
 -- what is answered where a list is read if it has five to fifteen
-pub read_five : (o : Option (List RequestLine)) (ls : List RequestLine) → length ls ≤ 15 → (IsSome o ↔ ((5 ≤ length ls) × (length ls ≤ 15))) → IfSome o (λ l. l ≡ ls) → o ≡ five ls
+pub read_five : (o : Option (List RequestLine)) (ls : List RequestLine) → length ls ≤ 15
+    → (IsSome o ↔ ((5 ≤ length ls) × (length ls ≤ 15))) → IfSome o (λ l. l ≡ ls) → o ≡ five ls
 read_five None ls m v e = none_of_five (nat_le 5 (length ls)) refl
   where
     none_of_five : (b : Bool) → nat_le 5 (length ls) ≡ b → None ≡ cond b (Some ls) None

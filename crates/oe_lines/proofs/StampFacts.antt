@@ -1,5 +1,7 @@
 -- A stamp's text is read, and no other.
-use Rattle.std.proofs.Common.{◌≡◌, refl, sym, ◌∙◌, ap, ℕ, ◌+◌, ◌-◌, ◌*◌, ◌/◌, ◌%◌, ◌<◌, ◌≤◌, List, ◌∷◌, ◌++◌, length, take, drop, codes, IfSome, ◌⊎◌, inl, inr, Bool, true, false, ◌&&◌, cond, Option, Some, None, nat_lt, arith, lt-ltb, ltb-true, length-append}
+use Rattle.std.proofs.Common.{◌≡◌, refl, sym, ◌∙◌, ap, ℕ, ◌+◌, ◌-◌, ◌*◌, ◌/◌, ◌%◌, ◌<◌, ◌≤◌, List, ◌∷◌, ◌++◌, length}
+use Rattle.std.proofs.Common.{take, drop, codes, IfSome, ◌⊎◌, inl, inr, Bool, true, false, ◌&&◌, cond, Option, Some}
+use Rattle.std.proofs.Common.{None, nat_lt, arith, lt-ltb, ltb-true, length-append}
 use Rattle.std.specs.Str.{bytes_eq}
 use Rattle.std.proofs.lemmas.Slice.Eq.{bytes_eq-Decides}
 use Rattle.oe_values.specs.Front.{after_of}
@@ -22,10 +24,23 @@ counted_says s n r =
     let years = year_small r.year r.month r.day r.counted.is_date in
     let months = month_small r.year r.month r.day r.counted.is_date in
     let days = day_small r.year r.month r.day r.counted.is_date in
-    let year : (48 + r.year / 100 / 10 - 48) * 10 + (48 + r.year / 100 % 10 - 48) ≡ r.year / 100 = pair (r.year / 100) (omega arith) in
+    let year : (48 + r.year / 100 / 10 - 48) * 10 + (48 + r.year / 100 % 10 - 48) ≡ r.year / 100 =
+    pair (r.year / 100) (omega arith) in
     let of_century = pair (r.year % 100) (omega arith) in
     let whole : r.year / 100 * 100 + r.year % 100 ≡ r.year = omega arith in
-    rw (r.spelled, year, of_century, whole, pair r.month months, pair r.day days, pair r.hour clock.0, pair r.minute clock.1, pair r.second clock.2, ← r.counted.count)
+    rw (
+      r.spelled,
+      year,
+      of_century,
+      whole,
+      pair r.month months,
+      pair r.day days,
+      pair r.hour clock.0,
+      pair r.minute
+          clock.1,
+      pair r.second clock.2,
+      ← r.counted.count,
+    )
 
 picked : (p q : Bool) (m n : ℕ) → cond (p && q) (Some m) None ≡ Some n → (p ≡ true) × (q ≡ true) × (m ≡ n)
 picked true true m n e = (refl, refl, cc)
@@ -36,13 +51,17 @@ pub stamp_of-says : (s : List ℕ) (n : ℕ) → SaysStamp s n → stamp_of s �
 unfolding stamp_of
 stamp_of-says s n r =
     let one : stamp_text n ≡ s = says_alone (stamp_text n) s n (stamp_text_says n r.counted.before_2101) r in
-    rw (counted_says s n r, lt-ltb n 6_342_969_600 r.counted.before_2101, (bytes_eq-Decides (stamp_text n) s).1 one) refl
+    rw (counted_says s n r, lt-ltb n 6_342_969_600 r.counted.before_2101, (bytes_eq-Decides (stamp_text n) s).1 one)
+    refl
 
 pub stamp_found : (s : List ℕ) (n : ℕ) → stamp_of s ≡ Some n → (s ≡ stamp_text n) × (n < 6_342_969_600)
 unfolding stamp_of
 stamp_found s n e =
-    let p = picked (nat_lt (counted s) 6_342_969_600) (bytes_eq (stamp_text (counted s)) s) (counted s) n e in
-    (sym ((bytes_eq-Decides (stamp_text (counted s)) s).0 p.1) ∙ ap stamp_text p.2, ltb-true n 6_342_969_600 (rw (← p.2) p.0))
+    let p = picked (nat_lt (counted s) 6_342_969_600) (bytes_eq (stamp_text (counted s)) s) (counted s) n e in (
+      sym ((bytes_eq-Decides (stamp_text (counted s)) s).0 p.1) ∙ ap stamp_text p.2,
+      ltb-true n 6_342_969_600
+          (rw (← p.2) p.0),
+    )
 
 pub stamp_only : (n : ℕ) → n < 6_342_969_600 → stamp_of (stamp_text n) ≡ Some n
 stamp_only n h = stamp_of-says (stamp_text n) n (stamp_text_says n h)
@@ -57,13 +76,15 @@ stamp_of-none s h =
     (λ n e. let f = stamp_found s n e in h n (rw f.0 (stamp_text_says n f.1)))
 
 -- what a reading gives that finds each stamp and nothing else
-pub stamp_of-read : (s : List ℕ) (o : Option ℕ) → IfSome o (SaysStamp s) → ((n : ℕ) → SaysStamp s n → o ≡ Some n) → o ≡ stamp_of s
+pub stamp_of-read : (s : List ℕ) (o : Option ℕ) → IfSome o (SaysStamp s) → ((n : ℕ) → SaysStamp s n → o ≡ Some n)
+    → o ≡ stamp_of s
 stamp_of-read s None some reads = sym (stamp_of-none s (λ n r. cc (reads n r)))
 stamp_of-read s (Some n) some reads = sym (stamp_of-says s n some)
 
 -- before a space
 
-pub stamp_before_found : (s : List ℕ) (n : ℕ) (r : List ℕ) → stamp_before s ≡ Some (n, r) → (s ≡ stamp_text n ++ 32 ∷ r) × (n < 6_342_969_600)
+pub stamp_before_found : (s : List ℕ) (n : ℕ) (r : List ℕ) → stamp_before s ≡ Some (n, r)
+    → (s ≡ stamp_text n ++ 32 ∷ r) × (n < 6_342_969_600)
 unfolding stamp_before
 stamp_before_found s n r e = elim (chosen (nat_lt (length s) 19) None _ (Some (n, r)) e) [
   | inl h ↦ cc
@@ -73,7 +94,8 @@ stamp_before_found s n r e = elim (chosen (nat_lt (length s) 19) None _ (Some (n
       let f = stamp_found (take 19 s) t.0 t.1 in
       let pair = some_same (t.0, a.0) (n, r) a.2 in
       let same : t.0 ≡ n = ap (λ (x : ℕ × List ℕ). x.0) pair in (
-        sym (take-append-drop 19 s) ∙ ap (λ z. z ++ drop 19 s) f.0 ∙ ap (λ z. stamp_text t.0 ++ z) (after_found (codes " ") (drop 19 s) a.0 a.1)
+        sym (take-append-drop 19 s) ∙ ap (λ z. z ++ drop 19 s) f.0 ∙ ap (λ z. stamp_text t.0 ++ z)
+            (after_found (codes " ") (drop 19 s) a.0 a.1)
             ∙ ap (λ (x : ℕ × List ℕ). stamp_text x.0 ++ 32 ∷ x.1) pair,
         omega (arith, same, f.1),
       )
@@ -94,7 +116,12 @@ unfolding stamp_before
 stamp_before_only n r h =
     let f = says_19 (stamp_text n) n (stamp_text_says n h) in
     let whole = f.1 (32 ∷ r) in
-    rw (long (length (stamp_text n ++ 32 ∷ r)) (omega (arith, f.0, length-append (stamp_text n) (32 ∷ r))), whole.0, whole.1, stamp_only n h) refl
+    rw (
+      long (length (stamp_text n ++ 32 ∷ r)) (omega (arith, f.0, length-append (stamp_text n) (32 ∷ r))),
+      whole.0,
+      whole.1,
+      stamp_only n h,
+    ) refl
 
 -- nor is a stamp's text behind a word
 pub stamp_of-longer : (w : List ℕ) (n : ℕ) → n < 6_342_969_600 → stamp_of (w ++ 32 ∷ stamp_text n) ≡ None

@@ -46,7 +46,8 @@ request_words (request.NewOrder q) =
     codes "neworder" ∷ decimal q.district.warehouse ∷ decimal q.district.district ∷ decimal q.customer
     ∷ stamp_text q.stamp ∷ map line_word q.lines
 request_words (request.Delivery q) =
-    codes "delivery" ∷ decimal q.district.warehouse ∷ decimal q.district.district ∷ decimal q.carrier ∷ stamp_text q.stamp ∷ []
+    codes "delivery" ∷ decimal q.district.warehouse ∷ decimal q.district.district ∷ decimal q.carrier ∷ stamp_text
+    q.stamp ∷ []
 request_words (request.Deliveries q) =
     codes "delivery" ∷ decimal q.warehouse.warehouse ∷ decimal q.carrier ∷ stamp_text q.stamp ∷ []
 request_words (request.Rename r) = []

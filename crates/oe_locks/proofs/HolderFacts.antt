@@ -1,5 +1,6 @@
 -- Modes of the terminals that hold one name.
-use Rattle.std.proofs.Common.{◌≡◌, ◌≢◌, ℕ, ◌==◌, inl, inr, Bool, true, false, if◌then◌else◌, None, Some, refl, sym, ap, ◌∙◌}
+use Rattle.std.proofs.Common.{◌≡◌, ◌≢◌, ℕ, ◌==◌, inl, inr, Bool, true, false, if◌then◌else◌, None, Some, refl, sym, ap}
+use Rattle.std.proofs.Common.{◌∙◌}
 use Rattle.std.proofs.lemmas.Bool.{cases_eq, cond-true, cond-false, eq-eqb, ne_eqb, eqb-false, false≢true}
 use Rattle.oe_rows.specs.declared.locks.Mode.{Mode}
 use Rattle.oe_rows.specs.declared.locks.Mode.TheVariants.{Shared, Exclusive}
@@ -24,12 +25,17 @@ alone_is h t m free = elim (cases_eq h t) [
 
 -- a terminal that is alone stays so
 pub stays_alone : (h t : ℕ) → IsFree (mode_among (Alone h)) t Shared
-    → (u : ℕ) → mode_among (Alone h) u ≡ (if u == t then Some (risen Shared (mode_among (Alone h) u)) else mode_among (Alone h) u)
+    → (u : ℕ) → mode_among (Alone h)
+    u ≡ (if u == t then Some (risen Shared (mode_among (Alone h) u)) else mode_among (Alone h) u)
 stays_alone h t free u = elim (cases_eq u t) [
   | inl e ↦
-      let own : mode_among (Alone h) u ≡ Some Exclusive = ap (mode_among (Alone h)) (e ∙ sym (alone_is h t Shared free)) ∙ alone_has h in
-      own ∙ (ap (λ o. Some (risen Shared o)) (sym own) ∙ sym (cond-true (u == t) (Some (risen Shared (mode_among (Alone h) u))) (mode_among (Alone h) u) (eq-eqb u t e)))
-  | inr ne ↦ sym (cond-false (u == t) (Some (risen Shared (mode_among (Alone h) u))) (mode_among (Alone h) u) (ne_eqb u t ne))
+      let own : mode_among (Alone h) u ≡ Some Exclusive = ap (mode_among (Alone h)) (e ∙ sym (alone_is h t Shared free))
+      ∙ alone_has h in
+      own ∙ (ap (λ o. Some (risen Shared o)) (sym own)
+      ∙ sym (cond-true (u == t) (Some (risen Shared (mode_among (Alone h) u))) (mode_among (Alone h) u)
+      (eq-eqb u t e)))
+  | inr ne ↦ sym (cond-false (u == t) (Some (risen Shared (mode_among (Alone h) u))) (mode_among (Alone h) u)
+      (ne_eqb u t ne))
 ]
 
 -- nobody is left where a terminal that is alone lets go
@@ -46,12 +52,14 @@ other_alone h t ne none =
     let some : Some Exclusive ≡ None = sym (alone_has h) ∙ none h (eqb-false h t ne) in
     cc
 
-pub other_together : (set rest t u : ℕ) → ((v : ℕ) → has rest v ≡ (if v == t then false else has set v)) → IsLeast rest u
+pub other_together : (set rest t u : ℕ) → ((v : ℕ) → has rest v ≡ (if v == t then false else has set v))
+    → IsLeast rest u
     → ((v : ℕ) → v ≢ t → mode_among (Together set) v ≡ None) → ⊥
 other_together set rest t u is least none = elim (cases_eq u t) [
   | inl e ↦ false≢true (sym (is u ∙ cond-true (u == t) false (has set u) (eq-eqb u t e)) ∙ least.in_set)
   | inr ne ↦
-      let in_set : has set u ≡ true = sym (is u ∙ cond-false (u == t) false (has set u) (ne_eqb u t ne)) ∙ least.in_set in
+      let in_set : has set u ≡ true = sym (is u ∙ cond-false (u == t) false (has set u) (ne_eqb u t ne))
+      ∙ least.in_set in
       let some : Some Shared ≡ None = sym (ap (λ b. if b then Some Shared else None) in_set) ∙ none u ne in
       cc
 ]

@@ -25,7 +25,8 @@ lookup_is_name q es = ap (λ f. lookup f es) (fun_ext (eq_is_name q))
 pair : (a b x y : ℕ) → ((a == x) && (b == y)) ≡ true → ◌≡◌ {A = ℕ × ℕ} (a, b) (x, y)
 pair a b x y h =
     let p = and_parts (a == x) (b == y) h in
-    ap (λ (n : ℕ). let r : ℕ × ℕ = (n, b) in r) (eqb-true a x p.0) ∙ ap (λ (n : ℕ). let r : ℕ × ℕ = (x, n) in r) (eqb-true b y p.1)
+    ap (λ (n : ℕ). let r : ℕ × ℕ = (n, b) in r) (eqb-true a x p.0) ∙ ap (λ (n : ℕ). let r : ℕ × ℕ = (x, n) in r)
+    (eqb-true b y p.1)
 
 triple : (a b c x y z : ℕ) → ((a == x) && ((b == y) && (c == z))) ≡ true → ◌≡◌ {A = ℕ × (ℕ × ℕ)} (a, (b, c)) (x, (y, z))
 triple a b c x y z h =
@@ -35,9 +36,11 @@ triple a b c x y z h =
 
 -- names that pass the test are one name
 pub name_true : (a b : Name) → is_name a b ≡ true → a ≡ b
-name_true (Warehouse a) (Warehouse b) h = ap (λ (n : ℕ). Warehouse (record { warehouse = n })) (eqb-true a.warehouse b.warehouse h)
+name_true (Warehouse a) (Warehouse b) h = ap (λ (n : ℕ). Warehouse (record { warehouse = n }))
+    (eqb-true a.warehouse b.warehouse h)
 name_true (District a) (District b) h =
-    ap (λ (p : ℕ × ℕ). District (record { warehouse = p.0; district = p.1 })) (pair a.warehouse a.district b.warehouse b.district h)
+    ap (λ (p : ℕ × ℕ). District (record { warehouse = p.0; district = p.1 }))
+    (pair a.warehouse a.district b.warehouse b.district h)
 name_true (Customer a) (Customer b) h =
     ap (λ (p : ℕ × (ℕ × ℕ)). Customer (record { warehouse = p.0; district = p.1.0; customer = p.1.1 }))
     (triple a.warehouse a.district a.customer b.warehouse b.district b.customer h)
@@ -45,7 +48,8 @@ name_true (Order a) (Order b) h =
     ap (λ (p : ℕ × (ℕ × ℕ)). Order (record { warehouse = p.0; district = p.1.0; order = p.1.1 }))
     (triple a.warehouse a.district a.order b.warehouse b.district b.order h)
 name_true (Queue a) (Queue b) h =
-    ap (λ (p : ℕ × ℕ). Queue (record { warehouse = p.0; district = p.1 })) (pair a.warehouse a.district b.warehouse b.district h)
+    ap (λ (p : ℕ × ℕ). Queue (record { warehouse = p.0; district = p.1 }))
+    (pair a.warehouse a.district b.warehouse b.district h)
 name_true (Stock a) (Stock b) h =
     ap (λ (p : ℕ × ℕ). Stock (record { warehouse = p.0; item = p.1 })) (pair a.warehouse a.item b.warehouse b.item h)
 name_true _ _ h = absurd (false≢true h)

@@ -1,9 +1,12 @@
 -- Bits of a set of terminals.
-use Rattle.std.proofs.Common.{◌≡◌, ◌≢◌, ℕ, suc, zero, ◌+◌, ◌*◌, ◌/◌, ◌%◌, ◌^◌, ◌<◌, ◌≤◌, min, ◌==◌, inl, inr, Bool, true, false, if◌then◌else◌, Option, None, Some, IsSome, ◌↔◌, refl, sym, ap, ◌∙◌, arith, bit_and, bit_or, w64}
+use Rattle.std.proofs.Common.{◌≡◌, ◌≢◌, ℕ, suc, zero, ◌+◌, ◌*◌, ◌/◌, ◌%◌, ◌^◌, ◌<◌, ◌≤◌, min, ◌==◌, inl, inr, Bool}
+use Rattle.std.proofs.Common.{true, false, if◌then◌else◌, Option, None, Some, IsSome, ◌↔◌, refl, sym, ap, ◌∙◌, arith}
+use Rattle.std.proofs.Common.{bit_and, bit_or, w64}
 use Rattle.std.specs.Prelude.{IfSome, MatchOption}
 use Rattle.std.specs.Int.{bit_at, bit_not, trailing_zeros}
 use Rattle.std.proofs.lemmas.Bool.{cases_eq, cases_lt, cond-true, cond-false, eq-eqb, ne_eqb, false≢true}
-use Rattle.std.proofs.lemmas.Nat.Bits.{shr_and_one, bit_at_and, bit_at_set_same, bit_at_set_other, bit_at_clear_same, bit_at_clear_other, bit_at_above, bit_at-trailing_zeros, bit_at-zero}
+use Rattle.std.proofs.lemmas.Nat.Bits.{shr_and_one, bit_at_and, bit_at_set_same, bit_at_set_other, bit_at_clear_same}
+use Rattle.std.proofs.lemmas.Nat.Bits.{bit_at_clear_other, bit_at_above, bit_at-trailing_zeros, bit_at-zero}
 use Rattle.oe_locks.specs.Holders.{has, IsLeast}
 
 -- the slot of the terminal t is k
@@ -12,11 +15,13 @@ module _ (n k t : ℕ) (within : k < 64) (slot : k + 1 ≡ t) where
   has-at = let at : suc k ≡ t = omega arith in ap (λ z. z == 1) (shr_and_one n k) ∙ ap (has n) at
 
   -- a bit at t's slot, and at another's
-  here : (m : ℕ) (i : ℕ) (b : Bool) → i ≡ k → (bit_at m k == 1) ≡ b → has m (suc i) ≡ (if suc i == t then b else has n (suc i))
+  here : (m : ℕ) (i : ℕ) (b : Bool) → i ≡ k → (bit_at m k == 1) ≡ b
+      → has m (suc i) ≡ (if suc i == t then b else has n (suc i))
   here m i b s e =
       ap (λ z. bit_at m z == 1) s ∙ e ∙ sym (cond-true (suc i == t) b (has n (suc i)) (eq-eqb (suc i) t (omega arith)))
 
-  elsewhere : (m : ℕ) (i : ℕ) (b : Bool) → i ≢ k → bit_at m i ≡ bit_at n i → has m (suc i) ≡ (if suc i == t then b else has n (suc i))
+  elsewhere : (m : ℕ) (i : ℕ) (b : Bool) → i ≢ k → bit_at m i ≡ bit_at n i
+      → has m (suc i) ≡ (if suc i == t then b else has n (suc i))
   elsewhere m i b ne e =
       let apart : suc i ≢ t = omega arith in
       ap (λ z. z == 1) e ∙ sym (cond-false (suc i == t) b (has n (suc i)) (ne_eqb (suc i) t apart))
@@ -34,15 +39,19 @@ module _ (n k t : ℕ) (within : k < 64) (slot : k + 1 ≡ t) where
   cleared_above : (i : ℕ) → n < 2 ^ 64 → 64 ≤ i → bit_at (bit_and n (bit_not w64 (1 * 2 ^ k % 2 ^ 64))) i ≡ bit_at n i
   cleared_above i b l =
       let none : bit_at n i ≡ 0 = bit_at_above n 64 i b l in
-      let least : bit_at (bit_and n (bit_not w64 (1 * 2 ^ k % 2 ^ 64))) i ≡ min (bit_at n i) (bit_at (bit_not w64 (1 * 2 ^ k % 2 ^ 64)) i) = bit_at_and n (bit_not w64 (1 * 2 ^ k % 2 ^ 64)) i in
+      let least : bit_at (bit_and n (bit_not w64 (1 * 2 ^ k % 2 ^ 64))) i ≡ min (bit_at n i)
+      (bit_at (bit_not w64 (1 * 2 ^ k % 2 ^ 64)) i) = bit_at_and n (bit_not w64 (1 * 2 ^ k % 2 ^ 64)) i in
       omega arith
 
-  pub has-without : n < 2 ^ 64 → (u : ℕ) → has (bit_and n (bit_not w64 (1 * 2 ^ k % 2 ^ 64))) u ≡ (if u == t then false else has n u)
+  pub has-without : n < 2 ^ 64 → (u : ℕ) → has (bit_and n (bit_not w64 (1 * 2 ^ k % 2 ^ 64)))
+      u ≡ (if u == t then false else has n u)
   has-without b zero = nobody (bit_and n (bit_not w64 (1 * 2 ^ k % 2 ^ 64))) false
   has-without b (suc i) = elim (cases_eq i k) [
-    | inl s ↦ here (bit_and n (bit_not w64 (1 * 2 ^ k % 2 ^ 64))) i false s (ap (λ z. z == 1) (bit_at_clear_same w64 n k within))
+    | inl s ↦ here (bit_and n (bit_not w64 (1 * 2 ^ k % 2 ^ 64))) i false s
+        (ap (λ z. z == 1) (bit_at_clear_same w64 n k within))
     | inr ne ↦ elim (cases_lt i 64) [
-      | inl l ↦ elsewhere (bit_and n (bit_not w64 (1 * 2 ^ k % 2 ^ 64))) i false ne (bit_at_clear_other w64 n k within i l ne)
+      | inl l ↦ elsewhere (bit_and n (bit_not w64 (1 * 2 ^ k % 2 ^ 64))) i false ne
+          (bit_at_clear_other w64 n k within i l ne)
       | inr l ↦ elsewhere (bit_and n (bit_not w64 (1 * 2 ^ k % 2 ^ 64))) i false ne (cleared_above i b l)
     ]
   ]
@@ -53,7 +62,8 @@ has-zero zero = refl
 has-zero (suc i) = ap (λ z. z == 1) (bit_at-zero i)
 
 -- the terminal of the lowest bit is the least
-pub least_is : (n v : ℕ) (o : Option ℕ) → 0 < n → n < 2 ^ 64 → trailing_zeros w64 n + 1 ≡ v → (IsSome o ↔ ((1 ≤ v) × (v ≤ 64))) → IfSome o (λ m. m ≡ v)
+pub least_is : (n v : ℕ) (o : Option ℕ) → 0 < n → n < 2 ^ 64 → trailing_zeros w64 n + 1 ≡ v
+    → (IsSome o ↔ ((1 ≤ v) × (v ≤ 64))) → IfSome o (λ m. m ≡ v)
     → MatchOption o ((u : ℕ) → has n u ≡ false) (IsLeast n)
 least_is n v None pos b e range is =
     let found = bit_at-trailing_zeros w64 n pos b in
@@ -66,7 +76,8 @@ least_is n v (Some m) pos b e range is =
       least = below;
     }
   where
-    found : (trailing_zeros w64 n < 64) × (bit_at n (trailing_zeros w64 n) ≡ 1) × ((i : ℕ) → i < trailing_zeros w64 n → bit_at n i ≡ 0)
+    found : (trailing_zeros w64 n < 64) × (bit_at n (trailing_zeros w64 n) ≡ 1)
+        × ((i : ℕ) → i < trailing_zeros w64 n → bit_at n i ≡ 0)
     found = bit_at-trailing_zeros w64 n pos b
 
     at : m ≡ suc (trailing_zeros w64 n)

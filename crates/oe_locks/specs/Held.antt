@@ -15,7 +15,8 @@ use Rattle.oe_locks.specs.Holders.{mode_by}
 abbrev pub is_name : Name → Name → Bool
 is_name (Warehouse a) (Warehouse b) = a.warehouse == b.warehouse
 is_name (District a) (District b) = (a.warehouse == b.warehouse) && (a.district == b.district)
-is_name (Customer a) (Customer b) = (a.warehouse == b.warehouse) && ((a.district == b.district) && (a.customer == b.customer))
+is_name (Customer a) (Customer b) = (a.warehouse == b.warehouse) &&
+    ((a.district == b.district) && (a.customer == b.customer))
 is_name (Order a) (Order b) = (a.warehouse == b.warehouse) && ((a.district == b.district) && (a.order == b.order))
 is_name (Queue a) (Queue b) = (a.warehouse == b.warehouse) && (a.district == b.district)
 is_name (Stock a) (Stock b) = (a.warehouse == b.warehouse) && (a.item == b.item)
@@ -76,7 +77,8 @@ pub record IsInTheWay (locks : Holdings) (t : ℕ) (n : Name) (m : Mode) (u : �
   pub conflicts : go_together m (held locks u n) ≡ false
   pub least : (v : ℕ) → v < u → v ≢ t → go_together m (held locks v n) ≡ true
 
--- the terminal has taken the name in the greater of the mode asked for and the mode held, and holds every other name as before
+-- the terminal has taken the name in the greater of the mode asked for and the mode held, and holds every other name as
+-- before
 abbrev pub Takes : Holdings → Holdings → ℕ → Name → Mode → Type 0
 Takes old new t n m = (q : Name) → held new t q ≡ (if is_name q n then Some (risen m (held old t q)) else held old t q)
 
@@ -88,7 +90,8 @@ GivesBack old new t n m = (q : Name) → held new t q ≡ (if is_name q n then m
 abbrev pub OthersKeep : Holdings → Holdings → ℕ → Type 0
 OthersKeep old new t = (u : ℕ) → u ≢ t → (q : Name) → held new u q ≡ held old u q
 
--- why a name is refused: another terminal is in the way, or memory is wanted for a name that is free and is not yet held
+-- why a name is refused: another terminal is in the way, or memory is wanted for a name that is free and is not yet
+-- held
 abbrev pub IsCause : Holdings → ℕ → Name → Mode → Refusal → Type 0
 IsCause locks t n m (Busy name u) = (name ≡ n) × IsInTheWay locks t n m u
 IsCause locks t n m NoMemory = IsFreeFor locks t n m × (held locks t n ≡ None)

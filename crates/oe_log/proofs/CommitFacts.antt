@@ -1,5 +1,6 @@
 -- Commits that are made, given up or opened again.
-use Rattle.std.proofs.Common.{◌≡◌, ℕ, zero, suc, ◌+◌, ◌-◌, ◌<◌, ◌≤◌, List, [], ◌∷◌, length, map, drop, take, get_or, set, refl, sym, ap, ◌∙◌, subst, arith}
+use Rattle.std.proofs.Common.{◌≡◌, ℕ, zero, suc, ◌+◌, ◌-◌, ◌<◌, ◌≤◌, List, [], ◌∷◌, length, map, drop, take, get_or}
+use Rattle.std.proofs.Common.{set, refl, sym, ap, ◌∙◌, subst, arith}
 use Rattle.std.specs.List.{AllByRecursion}
 use Rattle.std.proofs.lemmas.List.{length-map, length-set, map-set}
 use Rattle.oe_extent.specs.Ring as ring
@@ -19,7 +20,8 @@ drop_map : {X Y : Type 0} (f : X → Y) (xs : List X) → map f (drop 1 xs) ≡ 
 drop_map f [] = refl
 drop_map f (x ∷ xs) = refl
 
-are_taken : (n : ℕ) (xs : List (List (ring.Addressed))) → AllByRecursion AreRecords xs → AllByRecursion AreRecords (take n xs)
+are_taken : (n : ℕ) (xs : List (List (ring.Addressed))) → AllByRecursion AreRecords xs
+    → AllByRecursion AreRecords (take n xs)
 are_taken zero xs h = tt
 are_taken (suc n) [] h = tt
 are_taken (suc n) (x ∷ xs) h = (h.0, are_taken n xs h.1)
@@ -47,7 +49,8 @@ shorter (suc n) [] = omega arith
 shorter (suc n) (x ∷ xs) = omega (arith, shorter n xs)
 
 module _ {r : ring.RingStrings} {lens cls : List ℕ} {opens : ℕ} (newest : ℕ) (k : HoldsRecords r lens cls opens) where
-  pub sealed : (t n room' opens' newest' : ℕ) (r' : ring.RingStrings) (lens' cls' : List ℕ) → t < 65 → n ≡ get_or lens t n → 0 < opens
+  pub sealed : (t n room' opens' newest' : ℕ) (r' : ring.RingStrings) (lens' cls' : List ℕ) → t < 65
+      → n ≡ get_or lens t n → 0 < opens
       → r' ≡ record (ring.sealed_at r t) { room = room' } → room' + 1 ≡ r.room → lens' ≡ set lens t 0 → cls' ≡ n ∷ cls
       → opens' ≡ opens - 1 → newest' ≡ suc newest
       → Stands r' lens' cls' opens' newest' (log.sealed (lists_of r opens newest) t)
@@ -58,8 +61,10 @@ module _ {r : ring.RingStrings} {lens cls : List ℕ} {opens : ℕ} (newest : �
         kept = record {
           slots = length-set r.active t [] ∙ k.slots;
           extents = k.extents;
-          lens_are = ed ∙ ap (λ (l : List ℕ). set l t 0) k.lens_are ∙ sym (map-set (λ (ss : List (ring.Addressed)). length ss) r.active t []);
-          committed_lens_are = ec ∙ ap (λ (m : ℕ). m ∷ cls) len ∙ ap (λ (l : List ℕ). length (get_or r.active t []) ∷ l) k.committed_lens_are;
+          lens_are = ed ∙ ap (λ (l : List ℕ). set l t 0) k.lens_are ∙ sym
+              (map-set (λ (ss : List (ring.Addressed)). length ss) r.active t []);
+          committed_lens_are = ec ∙ ap (λ (m : ℕ). m ∷ cls) len ∙ ap (λ (l : List ℕ). length (get_or r.active t []) ∷ l)
+              k.committed_lens_are;
           active_are = are_set r.active t [] k.active_are tt;
           committed_are = (are_at r.active t k.active_are, k.committed_are);
           room = omega (arith, k.room, room, eo, some);
@@ -77,7 +82,8 @@ module _ {r : ring.RingStrings} {lens cls : List ℕ} {opens : ℕ} (newest : �
       → ring.capacity_of r' ≡ ring.capacity_of r → cls' ≡ take (length cls - 1) cls
       → Stands r' lens cls' opens newest (log.without_oldest (lists_of r opens newest))
   without_oldest room' r' cls' er eroom ec =
-      let size : length cls ≡ length r.committed = ap length k.committed_lens_are ∙ length-map r.committed (λ (ss : List (ring.Addressed)). length ss) in
+      let size : length cls ≡ length r.committed = ap length k.committed_lens_are
+      ∙ length-map r.committed (λ (ss : List (ring.Addressed)). length ss) in
       let fewer = shorter (length r.committed - 1) r.committed in
       let kept : length cls' ≡ length (take (length r.committed - 1) r.committed) =
       ap length (ec ∙ ap (λ (n : ℕ). take (n - 1) cls) size ∙ ap (take (length r.committed - 1)) k.committed_lens_are
@@ -107,7 +113,8 @@ module _ {r : ring.RingStrings} {lens cls : List ℕ} {opens : ℕ} (newest : �
   empty_slot t e = none_in (get_or r.active t []) (are_at r.active t k.active_are) (sym (at_slot r.active t) ∙ e)
 
   pub reopened : (t n room' opens' newest' : ℕ) (r' : ring.RingStrings) (lens' cls' : List ℕ) → cls ≡ n ∷ cls'
-      → r' ≡ record (ring.reopened_at r t) { room = room' } → ring.capacity_of r' ≡ ring.capacity_of r → lens' ≡ set lens t n
+      → r' ≡ record (ring.reopened_at r t) { room = room' } → ring.capacity_of r' ≡ ring.capacity_of r
+      → lens' ≡ set lens t n
       → opens' ≡ suc opens → newest' ≡ newest - 1
       → Stands r' lens' cls' opens' newest' (log.reopened (lists_of r opens newest) t)
   reopened t n room' opens' newest' r' lens' cls' ec er eroom ed eo en =
@@ -130,7 +137,8 @@ module _ {r : ring.RingStrings} {lens cls : List ℕ} {opens : ℕ} (newest : �
         view = λ i. record {
           extents = r.extents;
           opens = eo i;
-          active = (map-set records_in r.active t ss ∙ ap (set (map records_in r.active) t) (sym (at_slot r.committed 0))) i;
+          active = (map-set records_in r.active t ss ∙ ap (set (map records_in r.active) t)
+              (sym (at_slot r.committed 0))) i;
           committed = drop_map records_in r.committed i;
           newest = en i;
         };

@@ -21,7 +21,8 @@ abbrev recs : TerminalState → List Logged
 recs s = seen_in s.active
 
 -- a sum over what is seen of each
-sum_seen : {A : Type 0} (see : A → List Logged) (xs : List A) → sum_by (λ rs. extents_of rs) (map see xs) ≡ sum_by (λ x. extents_of (see x)) xs
+sum_seen : {A : Type 0} (see : A → List Logged) (xs : List A)
+    → sum_by (λ rs. extents_of rs) (map see xs) ≡ sum_by (λ x. extents_of (see x)) xs
 sum_seen see [] = refl
 sum_seen see (x ∷ xs) =
     omega (
@@ -31,23 +32,30 @@ sum_seen see (x ∷ xs) =
       sum_by-cons (λ x. extents_of (see x)) x xs,
     )
 
-module _ {hs : List TerminalHead} {cs : List Head} {capacity : ℕ} {r : ring.RingStrings} {opens newest : ℕ} (K : IsKept hs cs capacity r opens newest) where
-  same_active : sum_by (λ ss. (ring.filled (ring.lengths_of ss)).0) r.active ≡ sum_by (λ s. extents_of (recs s)) (states hs (map records_in r.active))
+module _ {hs : List TerminalHead} {cs : List Head} {capacity : ℕ} {r : ring.RingStrings} {opens newest : ℕ}
+    (K : IsKept hs cs capacity r opens newest) where
+  same_active : sum_by (λ ss. (ring.filled (ring.lengths_of ss)).0) r.active ≡ sum_by (λ s. extents_of (recs s))
+      (states hs (map records_in r.active))
   same_active =
       sym (same_used r.active K.lie.active_are)
-      ∙ ap (λ rss. sum_by (λ (rs : List Logged). extents_of rs) rss) (sym (states-records hs (map records_in r.active) (as_many (inside K)) K.empty))
+      ∙ ap (λ rss. sum_by (λ (rs : List Logged). extents_of rs) rss)
+      (sym (states-records hs (map records_in r.active) (as_many (inside K)) K.empty))
       ∙ sum_seen recs (states hs (map records_in r.active))
 
-  same_committed : sum_by (λ ss. (ring.filled (ring.lengths_of ss)).0) r.committed ≡ sum_by (λ c. extents_of (records_of c)) (commits cs (map records_in r.committed))
+  same_committed : sum_by (λ ss. (ring.filled (ring.lengths_of ss)).0) r.committed ≡ sum_by
+      (λ c. extents_of (records_of c)) (commits cs (map records_in r.committed))
   same_committed =
       sym (same_used r.committed K.lie.committed_are)
-      ∙ ap (λ rss. sum_by (λ (rs : List Logged). extents_of rs) rss) (sym (commits-records cs (map records_in r.committed) (inside K).records.one_by_one))
+      ∙ ap (λ rss. sum_by (λ (rs : List Logged). extents_of rs) rss)
+      (sym (commits-records cs (map records_in r.committed) (inside K).records.one_by_one))
       ∙ sum_seen records_of (commits cs (map records_in r.committed))
 
-  same_rest : (t : ℕ) → (ring.filled (lengths (records_at (stored hs cs r) t))).1 ≡ (ring.filled (ring.lengths_of (get_or r.active t []))).1
+  same_rest : (t : ℕ) → (ring.filled (lengths (records_at (stored hs cs r) t))).1
+      ≡ (ring.filled (ring.lengths_of (get_or r.active t []))).1
   same_rest t =
       ap (λ (rs : List Logged). (ring.filled (lengths rs)).1) (records_are (inside K) t ∙ at_slot r.active t)
-      ∙ ap (λ (ls : List ℕ). (ring.filled ls).1) (lengths_are (get_or r.active t []) (are_at r.active t K.lie.active_are))
+      ∙ ap (λ (ls : List ℕ). (ring.filled ls).1)
+      (lengths_are (get_or r.active t []) (are_at r.active t K.lie.active_are))
 
   pub full_here : (t n : ℕ) → ring.IsFull r t n → IsFull (stored hs cs r) t n
   full_here t n f = (omega (arith, f.0, same_rest t), omega (arith, f.1, same_active, same_committed))
@@ -57,8 +65,10 @@ module _ {hs : List TerminalHead} {cs : List Head} {capacity : ℕ} {r : ring.Ri
 
   pub fresh : (a : Address) → ring.IsFresh r a → IsFresh (stored hs cs r) (record_address a)
   fresh a f = record {
-    active = λ t. subst (StandElsewhere (record_address a)) (sym (records_are (inside K) t)) (all_elsewhere a r.active K.lie.active_are f.active t);
+    active = λ t. subst (StandElsewhere (record_address a)) (sym (records_are (inside K) t))
+        (all_elsewhere a r.active K.lie.active_are f.active t);
     committed = λ later.
-        subst (λ (rss : List (List Logged)). StandElsewhere (record_address a) (get_or rss later [])) (sym (seen_committed (inside K)))
+        subst (λ (rss : List (List Logged)). StandElsewhere (record_address a) (get_or rss later []))
+        (sym (seen_committed (inside K)))
         (all_elsewhere a r.committed K.lie.committed_are f.committed later);
   }

@@ -1,11 +1,14 @@
 -- Terminals and commits keep of themselves what they promise when the state of one terminal is replaced.
-use Rattle.std.proofs.Common.{◌≡◌, ◌≢◌, ℕ, zero, suc, ◌==◌, take, ◌+◌, ◌-◌, ◌*◌, ◌<◌, ◌≤◌, refl, sym, ap, ◌∙◌, subst, inl, inr, arith, rules, cond, replicate, List, [], ◌∷◌, length, get_or, set, Bool, true, false, Option, None, Some, is_some}
+use Rattle.std.proofs.Common.{◌≡◌, ◌≢◌, ℕ, zero, suc, ◌==◌, take, ◌+◌, ◌-◌, ◌*◌, ◌<◌, ◌≤◌, refl, sym, ap, ◌∙◌, subst}
+use Rattle.std.proofs.Common.{inl, inr, arith, rules, cond, replicate, List, [], ◌∷◌, length, get_or, set, Bool, true}
+use Rattle.std.proofs.Common.{false, Option, None, Some, is_some}
 use Rattle.std.specs.Option.{IsSome}
 use Rattle.std.specs.Prelude.{slice_get}
 use Rattle.std.proofs.Math.Nat.{add-suc, add-zero}
 use Rattle.std.specs.List.{All, sum_by}
 use Rattle.std.proofs.lemmas.Bool.{cases_eq, cases_lt, cond-true, cond-false, eq-eqb, ne_eqb}
-use Rattle.std.proofs.lemmas.List.{length-set, length-replicate, get_or-set_same, get_or-set_other, get_or-replicate, get_or_past}
+use Rattle.std.proofs.lemmas.List.{length-set, length-replicate, get_or-set_same, get_or-set_other, get_or-replicate}
+use Rattle.std.proofs.lemmas.List.{get_or_past}
 use Rattle.std.proofs.lemmas.Option.{slice_get-get_or, slice_get_past}
 use Rattle.std.proofs.lemmas.List.Sums.{sum_by-set, sum_by-le, get_or-le-sum_by, count_by-le-length}
 use Rattle.std.proofs.lemmas.List.Folds.{sum_by-replicate}
@@ -19,7 +22,8 @@ at_set : (P : ℕ → TerminalHead → Type 0) (hs : List TerminalHead) (t : ℕ
     → ((u : ℕ) → P u (head_at hs u)) → (u : ℕ) → P u (head_at (set hs t h) u)
 at_set P hs t h within new old u =
     elim (cases_eq u t) [
-      | inl e ↦ subst (λ v. P v (head_at (set hs t h) v)) (sym e) (subst (P t) (sym (get_or-set_same hs t h idle_head within)) new)
+      | inl e ↦ subst (λ v. P v (head_at (set hs t h) v)) (sym e)
+          (subst (P t) (sym (get_or-set_same hs t h idle_head within)) new)
       | inr ne ↦ subst (P u) (sym (get_or-set_other hs t u h idle_head ne)) (old u)
     ]
 
@@ -29,8 +33,10 @@ one a = cond (is_some a) 1 0
 -- a terminal's state x is replaced by h
 pub replaced : (hs : List TerminalHead) (cs ds : List Head) (k n o k' n' o' t : ℕ) (x h : TerminalHead)
     → AreHeads hs cs k n o → 1 ≤ t → t ≤ 64 → x ≡ head_at hs t → h.count < 4_294_967_296
-    → ((a : SegmentOwner) → h.active ≡ Some a → IsOf t h.count a) → All (IsCounted (set hs t h)) ds → AreNumbered (λ u. (head_at (set hs t h) u).count) ds
-    → n' + x.count ≡ n + h.count → length ds ≤ n' → o' + one x.active ≡ o + one h.active → length ds + o' ≤ k' → AreHeads (set hs t h) ds k' n' o'
+    → ((a : SegmentOwner) → h.active ≡ Some a → IsOf t h.count a) → All (IsCounted (set hs t h)) ds
+    → AreNumbered (λ u. (head_at (set hs t h) u).count) ds
+    → n' + x.count ≡ n + h.count → length ds ≤ n' → o' + one x.active ≡ o + one h.active → length ds + o' ≤ k'
+    → AreHeads (set hs t h) ds k' n' o'
 replaced hs cs ds k n o k' n' o' t x h K low high is small of counted numbered moved kept opens spare =
     let size : length hs ≡ 65 = K.size in
     let within : t < length hs = omega arith in
@@ -55,7 +61,8 @@ replaced hs cs ds k n o k' n' o' t x h K low high is small of counted numbered m
     }
 
 -- the commits are counted still
-counted_still : (hs : List TerminalHead) (cs : List Head) (t : ℕ) (x h : TerminalHead) → t < length hs → x ≡ head_at hs t → x.count ≤ h.count
+counted_still : (hs : List TerminalHead) (cs : List Head) (t : ℕ) (x h : TerminalHead) → t < length hs
+    → x ≡ head_at hs t → x.count ≤ h.count
     → All (IsCounted hs) cs → All (IsCounted (set hs t h)) cs
 counted_still hs cs t x h within is more old =
     let here : (head_at hs t).count ≤ h.count = subst (λ z. z.count ≤ h.count) is more in
@@ -65,7 +72,8 @@ counted_still hs cs t x h within is more old =
     (λ c k. let below = all c.terminal in let was = k.number in record { first = k.first; number = omega arith }) cs old
 
 -- and their numbers are the same where a terminal's count stays
-numbered_still : (hs : List TerminalHead) (cs : List Head) (t : ℕ) (x h : TerminalHead) → t < length hs → x ≡ head_at hs t → h.count ≡ x.count
+numbered_still : (hs : List TerminalHead) (cs : List Head) (t : ℕ) (x h : TerminalHead) → t < length hs
+    → x ≡ head_at hs t → h.count ≡ x.count
     → AreNumbered (λ u. (head_at hs u).count) cs → AreNumbered (λ u. (head_at (set hs t h) u).count) cs
 numbered_still hs cs t x h within is same old =
     let here : h.count ≡ (head_at hs t).count = same ∙ ap (λ z. z.count) is in
@@ -74,24 +82,32 @@ numbered_still hs cs t x h within is same old =
     λ later c e. old later c e ∙ sym (all c.terminal)
 
 -- a commit's number is the count of its terminal, and those before it are as they were
-numbered_more : (f g : ℕ → ℕ) (cs : List Head) (d : Head) (t : ℕ) → d.terminal ≡ t → d.number ≡ g t → g t ≡ suc (f t) → ((u : ℕ) → u ≢ t → g u ≡ f u)
+numbered_more : (f g : ℕ → ℕ) (cs : List Head) (d : Head) (t : ℕ) → d.terminal ≡ t → d.number ≡ g t → g t ≡ suc (f t)
+    → ((u : ℕ) → u ≢ t → g u ≡ f u)
     → AreNumbered f cs → AreNumbered g (d ∷ cs)
 numbered_more f g cs d t terminal number more others old later c e = go later e
   where
     front : slice_get (d ∷ cs) 0 ≡ Some c → c.number + heads_of c.terminal [] ≡ g c.terminal
-    front h = let same : d ≡ c = cc in subst (λ z. z.number + 0 ≡ g z.terminal) same (add-zero d.number ∙ (number ∙ ap g (sym terminal)))
+    front h = let same : d ≡ c = cc in subst (λ z. z.number + 0 ≡ g z.terminal) same
+        (add-zero d.number ∙ (number ∙ ap g (sym terminal)))
 
-    past : (j : ℕ) → slice_get cs j ≡ Some c → c.number + cond (c.terminal == d.terminal) (suc (heads_of c.terminal (take j cs))) (heads_of c.terminal (take j cs)) ≡ g c.terminal
+    past : (j : ℕ) → slice_get cs j ≡ Some c → c.number + cond (c.terminal == d.terminal)
+        (suc (heads_of c.terminal (take j cs))) (heads_of c.terminal (take j cs)) ≡ g c.terminal
     past j h =
         let was : c.number + heads_of c.terminal (take j cs) ≡ f c.terminal = old j c h in
         elim (cases_eq c.terminal t) [
           | inl p ↦
               let here : c.terminal ≡ d.terminal = p ∙ sym terminal in
-              ap (λ z. c.number + z) (cond-true (c.terminal == d.terminal) (suc (heads_of c.terminal (take j cs))) (heads_of c.terminal (take j cs)) (eq-eqb c.terminal d.terminal here))
-              ∙ (add-suc c.number (heads_of c.terminal (take j cs)) ∙ (ap suc was ∙ (ap (λ z. suc (f z)) p ∙ (sym more ∙ ap g (sym p)))))
+              ap (λ z. c.number + z)
+              (cond-true (c.terminal == d.terminal) (suc (heads_of c.terminal (take j cs)))
+              (heads_of c.terminal (take j cs)) (eq-eqb c.terminal d.terminal here))
+              ∙ (add-suc c.number (heads_of c.terminal (take j cs))
+              ∙ (ap suc was ∙ (ap (λ z. suc (f z)) p ∙ (sym more ∙ ap g (sym p)))))
           | inr ne ↦
               let apart : c.terminal ≢ d.terminal = λ q. ne (q ∙ terminal) in
-              ap (λ z. c.number + z) (cond-false (c.terminal == d.terminal) (suc (heads_of c.terminal (take j cs))) (heads_of c.terminal (take j cs)) (ne_eqb c.terminal d.terminal apart))
+              ap (λ z. c.number + z)
+              (cond-false (c.terminal == d.terminal) (suc (heads_of c.terminal (take j cs)))
+              (heads_of c.terminal (take j cs)) (ne_eqb c.terminal d.terminal apart))
               ∙ (was ∙ sym (others c.terminal ne))
         ]
 
@@ -104,7 +120,9 @@ pub moment_fits : (hs : List TerminalHead) (cs : List Head) (k n o : ℕ) → Ar
 moment_fits hs cs k n o K =
     let size : length hs ≡ 65 = K.size in
     let moments = K.moments in
-    let most = sum_by-le (λ (z : TerminalHead). z.count) 4_294_967_295 hs (All-weaker (λ (z : TerminalHead). z.count < 4_294_967_296) (λ z. z.count ≤ 4_294_967_295) (λ z h. omega arith) hs K.counts) in
+    let most = sum_by-le (λ (z : TerminalHead). z.count) 4_294_967_295 hs
+    (All-weaker (λ (z : TerminalHead). z.count < 4_294_967_296) (λ z. z.count ≤ 4_294_967_295) (λ z h. omega arith)
+    hs K.counts) in
     let all : length hs * 4_294_967_295 ≡ 279_172_874_175 = ap (λ z. z * 4_294_967_295) size in
     omega arith
 
@@ -113,7 +131,8 @@ pub one_of_some : (a : Option SegmentOwner) → IsSome a → one a ≡ 1
 one_of_some None h = search (rules, h)
 one_of_some (Some o) h = refl
 
-pub some_open : (hs : List TerminalHead) (cs : List Head) (k n o t : ℕ) → AreHeads hs cs k n o → t ≤ 64 → IsSome (head_at hs t).active → 1 ≤ o
+pub some_open : (hs : List TerminalHead) (cs : List Head) (k n o t : ℕ) → AreHeads hs cs k n o → t ≤ 64
+    → IsSome (head_at hs t).active → 1 ≤ o
 some_open hs cs k n o t K high active =
     let size : length hs ≡ 65 = K.size in
     let within : t < length hs = omega arith in
@@ -126,19 +145,25 @@ some_open hs cs k n o t K high active =
 none_above : (hs : List TerminalHead) → sum_by (λ (z : TerminalHead). one z.active) hs ≤ length hs
 none_above hs = count_by-le-length (λ (z : TerminalHead). is_some z.active) hs
 
-all_but_two : (hs : List TerminalHead) (t : ℕ) → t < length hs → 1 ≤ t → one (get_or hs 0 idle_head).active ≡ 0 → one (get_or hs t idle_head).active ≡ 0
+all_but_two : (hs : List TerminalHead) (t : ℕ) → t < length hs → 1 ≤ t → one (get_or hs 0 idle_head).active ≡ 0
+    → one (get_or hs t idle_head).active ≡ 0
     → sum_by (λ (z : TerminalHead). one z.active) hs + 2 ≤ length hs
 all_but_two hs t within low nobody closed =
-    let taken : TerminalHead = record { count = 0; active = Some (record { terminal = 0; number = 0 }); deletes = false; len = 0 } in
+    let taken : TerminalHead =
+    record { count = 0; active = Some (record { terminal = 0; number = 0 }); deletes = false; len = 0 } in
     let not_0 : 0 ≢ t = omega arith in
     let first = sum_by-set (λ (z : TerminalHead). one z.active) hs 0 taken idle_head (omega arith) in
-    let second = sum_by-set (λ (z : TerminalHead). one z.active) (set hs 0 taken) t taken idle_head (omega (arith, length-set hs 0 taken)) in
-    let still : one (get_or (set hs 0 taken) t idle_head).active ≡ 0 = ap (λ z. one z.active) (get_or-set_other hs 0 t taken idle_head (λ e. not_0 (sym e))) ∙ closed in
+    let second = sum_by-set (λ (z : TerminalHead). one z.active) (set hs 0 taken) t taken idle_head
+    (omega (arith, length-set hs 0 taken)) in
+    let still : one (get_or (set hs 0 taken) t idle_head).active ≡ 0 =
+    ap (λ z. one z.active) (get_or-set_other hs 0 t taken idle_head (λ e. not_0 (sym e))) ∙ closed in
     let most = none_above (set (set hs 0 taken) t taken) in
-    let same : length (set (set hs 0 taken) t taken) ≡ length hs = length-set (set hs 0 taken) t taken ∙ length-set hs 0 taken in
+    let same : length (set (set hs 0 taken) t taken) ≡ length hs = length-set (set hs 0 taken) t taken
+    ∙ length-set hs 0 taken in
     omega arith
 
-pub few_open : (hs : List TerminalHead) (cs : List Head) (k n o t : ℕ) → AreHeads hs cs k n o → 1 ≤ t → t ≤ 64 → (head_at hs t).active ≡ None → o < 64
+pub few_open : (hs : List TerminalHead) (cs : List Head) (k n o t : ℕ) → AreHeads hs cs k n o → 1 ≤ t → t ≤ 64
+    → (head_at hs t).active ≡ None → o < 64
 few_open hs cs k n o t K low high closed =
     let size : length hs ≡ 65 = K.size in
     let within : t < length hs = omega arith in
@@ -149,7 +174,8 @@ few_open hs cs k n o t K low high closed =
 pub at_most_64 : (hs : List TerminalHead) (cs : List Head) (k n o : ℕ) → AreHeads hs cs k n o → o ≤ 64
 at_most_64 hs cs k n o K =
     let size : length hs ≡ 65 = K.size in
-    let taken : TerminalHead = record { count = 0; active = Some (record { terminal = 0; number = 0 }); deletes = false; len = 0 } in
+    let taken : TerminalHead =
+    record { count = 0; active = Some (record { terminal = 0; number = 0 }); deletes = false; len = 0 } in
     let first = sum_by-set (λ (z : TerminalHead). one z.active) hs 0 taken idle_head (omega arith) in
     let nobody : one (get_or hs 0 idle_head).active ≡ 0 = ap one K.nobody in
     let most = none_above (set hs 0 taken) in
@@ -160,8 +186,10 @@ at_most_64 hs cs k n o K =
 -- ---- what the calls make of them
 
 -- a segment is opened, of the terminal's next number
-pub opened : (hs : List TerminalHead) (cs : List Head) (k n o k' o' t : ℕ) (x : TerminalHead) (m : Bool) (j : ℕ) (b : SegmentOwner)
-    → AreHeads hs cs k n o → 1 ≤ t → t ≤ 64 → x ≡ head_at hs t → (head_at hs t).active ≡ None → (head_at hs t).count < 4_294_967_295
+pub opened : (hs : List TerminalHead) (cs : List Head) (k n o k' o' t : ℕ) (x : TerminalHead) (m : Bool) (j : ℕ)
+    (b : SegmentOwner)
+    → AreHeads hs cs k n o → 1 ≤ t → t ≤ 64 → x ≡ head_at hs t → (head_at hs t).active ≡ None
+    → (head_at hs t).count < 4_294_967_295
     → b.terminal ≡ t → b.number ≡ suc x.count → o' ≡ suc o → length cs + o' ≤ k'
     → AreHeads (set hs t (record { count = x.count; active = Some b; deletes = m; len = j })) cs k' n o'
 opened hs cs k n o k' o' t x m j b K low high is closed below terminal number more spare =
@@ -184,7 +212,8 @@ is_of hs cs k n o t x a K is active =
 
 -- it is said of a terminal's segment whether it deletes
 pub told : (hs : List TerminalHead) (cs : List Head) (k n o t : ℕ) (x : TerminalHead) (m : Bool) (j : ℕ)
-    → AreHeads hs cs k n o → 1 ≤ t → t ≤ 64 → x ≡ head_at hs t → AreHeads (set hs t (record { count = x.count; active = x.active; deletes = m; len = j })) cs k n o
+    → AreHeads hs cs k n o → 1 ≤ t → t ≤ 64 → x ≡ head_at hs t
+    → AreHeads (set hs t (record { count = x.count; active = x.active; deletes = m; len = j })) cs k n o
 told hs cs k n o t x m j K low high is =
     let size : length hs ≡ 65 = K.size in
     let within : t < length hs = omega arith in
@@ -203,15 +232,20 @@ closed hs cs k n o t x m j K low high is active =
     let within : t < length hs = omega arith in
     let one_is : one x.active ≡ 1 = ap (λ z. one z.active) is ∙ one_of_some (head_at hs t).active active in
     let some : 1 ≤ o = some_open hs cs k n o t K high active in
-    let counts : x.count < 4_294_967_296 = subst (λ z. z.count < 4_294_967_296) (sym is) (K.counts t idle_head within) in
+    let counts : x.count < 4_294_967_296 = subst (λ z. z.count < 4_294_967_296) (sym is)
+    (K.counts t idle_head within) in
     let spare = K.spare in
-    replaced hs cs cs k n o k n (o - 1) t x (record { count = x.count; active = None; deletes = m; len = j }) K low high is counts
-    (λ c e. cc) (counted_still hs cs t x (record { count = x.count; active = None; deletes = m; len = j }) within is (omega arith) K.commits)
-    (numbered_still hs cs t x (record { count = x.count; active = None; deletes = m; len = j }) within is refl K.numbers)
+    replaced hs cs cs k n o k n (o - 1) t x (record { count = x.count; active = None; deletes = m; len = j }) K low high
+    is counts
+    (λ c e. cc) (counted_still hs cs t x (record { count = x.count; active = None; deletes = m; len = j }) within is
+    (omega arith) K.commits)
+    (numbered_still hs cs t x (record { count = x.count; active = None; deletes = m; len = j }) within is refl
+    K.numbers)
     refl K.kept (omega arith) (omega arith)
 
 -- an open segment is made that of a commit
-pub sealed : (hs : List TerminalHead) (cs : List Head) (k n o k' n' t : ℕ) (x : TerminalHead) (m : Bool) (j : ℕ) (a : SegmentOwner) (d : Head)
+pub sealed : (hs : List TerminalHead) (cs : List Head) (k n o k' n' t : ℕ) (x : TerminalHead) (m : Bool) (j : ℕ)
+    (a : SegmentOwner) (d : Head)
     → AreHeads hs cs k n o → 1 ≤ t → t ≤ 64 → x ≡ head_at hs t → x.active ≡ Some a
     → d.terminal ≡ a.terminal → d.number ≡ a.number → k' ≡ k → n' ≡ suc n
     → AreHeads (set hs t (record { count = suc x.count; active = None; deletes = m; len = j })) (d ∷ cs) k' n' (o - 1)
@@ -221,7 +255,8 @@ sealed hs cs k n o k' n' t x m j a d K low high is active whose which capacity m
     let h : TerminalHead = record { count = suc x.count; active = None; deletes = m; len = j } in
     let of : IsOf t x.count a = is_of hs cs k n o t x a K is active in
     let one_is : one x.active ≡ 1 = ap one active in
-    let some : IsSome (head_at hs t).active = subst (λ z. IsSome z.active) is (subst IsSome (sym active) (search rules)) in
+    let some : IsSome (head_at hs t).active = subst (λ z. IsSome z.active) is
+    (subst IsSome (sym active) (search rules)) in
     let more : 1 ≤ o = some_open hs cs k n o t K high some in
     let below = of.below in
     let number = of.number in
@@ -229,15 +264,18 @@ sealed hs cs k n o k' n' t x m j a d K low high is active whose which capacity m
     let kept = K.kept in
     let terminal_is : d.terminal ≡ t = whose ∙ of.terminal in
     let now : (head_at (set hs t h) d.terminal).count ≡ suc x.count =
-    ap (λ z. (head_at (set hs t h) z).count) terminal_is ∙ ap (λ z. z.count) (get_or-set_same hs t h idle_head within) in
+    ap (λ z. (head_at (set hs t h) z).count) terminal_is ∙ ap (λ z. z.count)
+    (get_or-set_same hs t h idle_head within) in
     let count_is : x.count ≡ (head_at hs t).count = ap (λ z. z.count) is in
-    let count_now : (head_at (set hs t h) t).count ≡ suc x.count = ap (λ z. z.count) (get_or-set_same hs t h idle_head within) in
+    let count_now : (head_at (set hs t h) t).count ≡ suc x.count = ap (λ z. z.count)
+    (get_or-set_same hs t h idle_head within) in
     let new : IsCounted (set hs t h) d = record { first = omega arith; number = omega arith } in
     replaced hs cs (d ∷ cs) k n o k' n' (o - 1) t x h K low high is (omega arith)
     (λ c e. cc)
     (All-cons (IsCounted (set hs t h)) d cs new (counted_still hs cs t x h within is (omega arith) K.commits))
     (numbered_more (λ u. (head_at hs u).count) (λ u. (head_at (set hs t h) u).count) cs d t terminal_is
-    (which ∙ (number ∙ sym count_now)) (count_now ∙ ap suc count_is) (λ u ne. ap (λ z. z.count) (get_or-set_other hs t u h idle_head ne)) K.numbers)
+    (which ∙ (number ∙ sym count_now)) (count_now ∙ ap suc count_is)
+    (λ u ne. ap (λ z. z.count) (get_or-set_other hs t u h idle_head ne)) K.numbers)
     (omega arith) (omega arith) (omega arith) (omega arith)
 
 -- the front of a list of commits
@@ -247,7 +285,8 @@ found_in_front [] (suc n) j c e = let no : ⊥ = cc in absurd no
 found_in_front (d ∷ cs) (suc n) zero c e = e
 found_in_front (d ∷ cs) (suc n) (suc j) c e = found_in_front cs n j c e
 
-later_in_front : (cs : List Head) (n j : ℕ) (c : Head) → slice_get (take n cs) j ≡ Some c → take j cs ≡ take j (take n cs)
+later_in_front : (cs : List Head) (n j : ℕ) (c : Head) → slice_get (take n cs) j ≡ Some c
+    → take j cs ≡ take j (take n cs)
 later_in_front cs zero j c e = let no : ⊥ = cc in absurd no
 later_in_front [] (suc n) j c e = let no : ⊥ = cc in absurd no
 later_in_front (d ∷ cs) (suc n) zero c e = refl
@@ -259,7 +298,8 @@ shorter (suc n) [] = omega arith
 shorter (suc n) (c ∷ cs) = omega (arith, shorter n cs)
 
 -- only the newest commits are still kept
-pub cut : (hs : List TerminalHead) (cs : List Head) (k n o k' m : ℕ) → AreHeads hs cs k n o → k' ≡ k → AreHeads hs (take m cs) k' n o
+pub cut : (hs : List TerminalHead) (cs : List Head) (k n o k' m : ℕ) → AreHeads hs cs k n o → k' ≡ k
+    → AreHeads hs (take m cs) k' n o
 cut hs cs k n o k' m K same =
     let kept = K.kept in
     let spare = K.spare in
@@ -271,7 +311,8 @@ cut hs cs k n o k' m K same =
       active = K.active;
       commits = All-take (IsCounted hs) m cs K.commits;
       numbers = λ later c e.
-          subst (λ zs. c.number + heads_of c.terminal zs ≡ (head_at hs c.terminal).count) (later_in_front cs m later c e)
+          subst (λ zs. c.number + heads_of c.terminal zs ≡ (head_at hs c.terminal).count)
+          (later_in_front cs m later c e)
           (K.numbers later c (found_in_front cs m later c e));
       moments = K.moments;
       kept = omega arith;
@@ -280,7 +321,8 @@ cut hs cs k n o k' m K same =
     }
 
 -- the commits before the newest have their numbers without it
-numbered_less : (f g : ℕ → ℕ) (d : Head) (ds : List Head) (t : ℕ) → d.terminal ≡ t → f t ≡ suc (g t) → ((u : ℕ) → u ≢ t → g u ≡ f u)
+numbered_less : (f g : ℕ → ℕ) (d : Head) (ds : List Head) (t : ℕ) → d.terminal ≡ t → f t ≡ suc (g t)
+    → ((u : ℕ) → u ≢ t → g u ≡ f u)
     → AreNumbered f (d ∷ ds) → AreNumbered g ds
 numbered_less f g d ds t terminal less others old later c e =
     let k : ℕ = heads_of c.terminal (take later ds) in
@@ -288,23 +330,28 @@ numbered_less f g d ds t terminal less others old later c e =
     elim (cases_eq c.terminal t) [
       | inl p ↦
           let here : c.terminal ≡ d.terminal = p ∙ sym terminal in
-          let one : cond (c.terminal == d.terminal) (suc k) k ≡ suc k = cond-true (c.terminal == d.terminal) (suc k) k (eq-eqb c.terminal d.terminal here) in
+          let one : cond (c.terminal == d.terminal) (suc k) k ≡ suc k =
+          cond-true (c.terminal == d.terminal) (suc k) k (eq-eqb c.terminal d.terminal here) in
           let before : f c.terminal ≡ suc (g c.terminal) = ap f p ∙ (less ∙ ap (λ u. suc (g u)) (sym p)) in
           omega arith
       | inr ne ↦
           let apart : c.terminal ≢ d.terminal = λ q. ne (q ∙ terminal) in
-          ap (λ z. c.number + z) (sym (cond-false (c.terminal == d.terminal) (suc k) k (ne_eqb c.terminal d.terminal apart))) ∙ (was ∙ sym (others c.terminal ne))
+          ap (λ z. c.number + z)
+          (sym (cond-false (c.terminal == d.terminal) (suc k) k (ne_eqb c.terminal d.terminal apart)))
+          ∙ (was ∙ sym (others c.terminal ne))
     ]
 
 -- each is counted, by its number
-counted_by_number : (hs us : List TerminalHead) (cs : List Head) → All (IsCounted hs) cs → AreNumbered (λ u. (head_at us u).count) cs → All (IsCounted us) cs
+counted_by_number : (hs us : List TerminalHead) (cs : List Head) → All (IsCounted hs) cs
+    → AreNumbered (λ u. (head_at us u).count) cs → All (IsCounted us) cs
 counted_by_number hs us cs old numbers i d within =
     let h = old i d within in
     let number = numbers i (get_or cs i d) (slice_get-get_or cs i d within) in
     record { first = h.first; number = omega arith }
 
 -- the newest commit is its terminal's open segment again, and not counted
-pub reopened : (hs : List TerminalHead) (cs : List Head) (k n o k' n' o' t : ℕ) (x : TerminalHead) (m : Bool) (j : ℕ) (b : SegmentOwner) (d : Head)
+pub reopened : (hs : List TerminalHead) (cs : List Head) (k n o k' n' o' t : ℕ) (x : TerminalHead) (m : Bool) (j : ℕ)
+    (b : SegmentOwner) (d : Head)
     → AreHeads hs (d ∷ cs) k n o → 1 ≤ t → t ≤ 64 → d.terminal ≡ t → x ≡ head_at hs t → (head_at hs t).active ≡ None
     → b.terminal ≡ d.terminal → b.number ≡ d.number → k' ≡ k → n' ≡ n - 1 → o' ≡ suc o
     → AreHeads (set hs t (record { count = x.count - 1; active = Some b; deletes = m; len = j })) cs k' n' o'
@@ -319,8 +366,14 @@ reopened hs cs k n o k' n' o' t x m j b d K low high terminal is closed whose wh
     let there : (head_at hs d.terminal).count ≡ (head_at hs t).count = ap (λ u. (head_at hs u).count) terminal in
     let small : x.count < 4_294_967_296 = subst (λ z. z.count < 4_294_967_296) (sym is) (K.counts t idle_head within) in
     let less : (head_at hs t).count ≡ suc (head_at (set hs t h) t).count =
-    (let now : (head_at (set hs t h) t).count ≡ x.count - 1 = ap (λ z. z.count) (get_or-set_same hs t h idle_head within) in omega arith) in
-    let of : IsOf t (x.count - 1) b = record { terminal = whose ∙ terminal; number = omega (arith, which, number, there, count_is, first); below = omega arith } in
+    (let now : (head_at (set hs t h) t).count ≡ x.count - 1 = ap (λ z. z.count)
+    (get_or-set_same hs t h idle_head within) in omega arith) in
+    let of : IsOf t (x.count - 1) b =
+    record {
+      terminal = whose ∙ terminal;
+      number = omega (arith, which, number, there, count_is, first);
+      below = omega arith;
+    } in
     let numbered : AreNumbered (λ u. (head_at (set hs t h) u).count) cs =
     numbered_less (λ u. (head_at hs u).count) (λ u. (head_at (set hs t h) u).count) d cs t terminal less
     (λ u ne. ap (λ z. z.count) (get_or-set_other hs t u h idle_head ne)) K.numbers in
@@ -343,7 +396,11 @@ is_counted hs cs k n o t x d K terminal is =
     omega arith
 
 pub idle_at : (n t : ℕ) → head_at (replicate n idle_head) t ≡ idle_head
-idle_at n t = elim (cases_lt t n) [ inl h ↦ get_or-replicate n t idle_head idle_head h | inr h ↦ get_or_past (replicate n idle_head) t idle_head (subst (λ z. z ≤ t) (sym (length-replicate n idle_head)) h) ]
+idle_at n t = elim (cases_lt t n) [
+  | inl h ↦ get_or-replicate n t idle_head idle_head h
+  | inr h ↦ get_or_past (replicate n idle_head) t idle_head
+      (subst (λ z. z ≤ t) (sym (length-replicate n idle_head)) h)
+]
 
 -- at the beginning
 first_at : (m k : ℕ) → m ≡ 65 → AreHeads (replicate m idle_head) [] k 0 0
@@ -376,7 +433,8 @@ none_past cs n i e h =
       | inr past ↦ sym (slice_get_past cs i (subst (λ z. z ≤ i) e past))
     ]
 
-pub last_found : (cs : List Head) (n : ℕ) (r : Option Head) → n ≡ length cs → (IsSome r → 0 < n) → ((d : Head) → 0 < n → r ≡ Some (get_or cs (n - 1) d))
+pub last_found : (cs : List Head) (n : ℕ) (r : Option Head) → n ≡ length cs → (IsSome r → 0 < n)
+    → ((d : Head) → 0 < n → r ≡ Some (get_or cs (n - 1) d))
     → r ≡ slice_get cs (length cs - 1)
 last_found [] n None e some value = refl
 last_found [] n (Some x) e some value = absurd (let more : 0 < n = some refl in omega (arith, more, e))

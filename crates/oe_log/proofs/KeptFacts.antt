@@ -1,5 +1,6 @@
 -- What the calls make of heads and of the strings of the ring together.
-use Rattle.std.proofs.Common.{◌≡◌, ℕ, zero, suc, ◌+◌, ◌-◌, ◌<◌, ◌≤◌, refl, sym, ap, ◌∙◌, subst, arith, List, [], ◌∷◌, length, map, get_or, set, take, replicate, Bool, false, Option, None, Some}
+use Rattle.std.proofs.Common.{◌≡◌, ℕ, zero, suc, ◌+◌, ◌-◌, ◌<◌, ◌≤◌, refl, sym, ap, ◌∙◌, subst, arith, List, [], ◌∷◌}
+use Rattle.std.proofs.Common.{length, map, get_or, set, take, replicate, Bool, false, Option, None, Some}
 use Rattle.std.specs.Option.{IsSome}
 use Rattle.std.proofs.lemmas.List.{length-map, map-set, get_or-map, set-get_or}
 use Rattle.oe_extent.specs.declared.extents.Address.{Address}
@@ -25,12 +26,15 @@ use Rattle.oe_log.proofs.CallFacts as calls
 use Rattle.oe_log.proofs.CallFacts.{inside, head_told}
 
 -- the log keeps its promise, and is seen so
-pub record Stands (hs : List TerminalHead) (cs : List Head) (capacity : ℕ) (r : ring.RingStrings) (opens newest : ℕ) (v : SegmentLog) : Type 0 where
+pub record Stands (hs : List TerminalHead) (cs : List Head) (capacity : ℕ) (r : ring.RingStrings) (opens newest : ℕ)
+    (v : SegmentLog) : Type 0 where
   pub kept : IsKept hs cs capacity r opens newest
   pub view : stored hs cs r ≡ v
 
-both : (hs : List TerminalHead) (cs : List Head) (capacity : ℕ) (r : ring.RingStrings) (opens newest : ℕ) (v : SegmentLog)
-    → calls.Stands hs cs capacity (lists_of r opens newest) v → HoldsRecords r (lens_of hs) (committed_lens_of cs) opens → Stands hs cs capacity r opens newest v
+both : (hs : List TerminalHead) (cs : List Head) (capacity : ℕ) (r : ring.RingStrings) (opens newest : ℕ)
+    (v : SegmentLog)
+    → calls.Stands hs cs capacity (lists_of r opens newest) v → HoldsRecords r (lens_of hs) (committed_lens_of cs) opens
+    → Stands hs cs capacity r opens newest v
 both hs cs capacity r opens newest v s h = record {
   kept = record {
     heads = s.kept.heads;
@@ -43,19 +47,23 @@ both hs cs capacity r opens newest v s h = record {
 }
 
 -- how many records a head says
-len_there : (hs : List TerminalHead) (t : ℕ) (x : TerminalHead) → t < length hs → x ≡ get_or hs t x → x.len ≡ get_or (lens_of hs) t x.len
-len_there hs t x within e = ap (λ (z : TerminalHead). z.len) e ∙ sym (get_or-map (λ (z : TerminalHead). z.len) hs t x x.len within)
+len_there : (hs : List TerminalHead) (t : ℕ) (x : TerminalHead) → t < length hs → x ≡ get_or hs t x
+    → x.len ≡ get_or (lens_of hs) t x.len
+len_there hs t x within e = ap (λ (z : TerminalHead). z.len) e ∙ sym
+    (get_or-map (λ (z : TerminalHead). z.len) hs t x x.len within)
 
 lens_set : (hs : List TerminalHead) (t : ℕ) (h : TerminalHead) → lens_of (set hs t h) ≡ set (lens_of hs) t h.len
 lens_set hs t h = map-set (λ (z : TerminalHead). z.len) hs t h
 
 -- a head that says the same
-lens_same : (hs : List TerminalHead) (t : ℕ) (x h : TerminalHead) → t < length hs → x ≡ get_or hs t x → h.len ≡ x.len → lens_of (set hs t h) ≡ lens_of hs
+lens_same : (hs : List TerminalHead) (t : ℕ) (x h : TerminalHead) → t < length hs → x ≡ get_or hs t x → h.len ≡ x.len
+    → lens_of (set hs t h) ≡ lens_of hs
 lens_same hs t x h within e same =
     lens_set hs t h ∙ ap (set (lens_of hs) t) (same ∙ len_there hs t x within e) ∙ set-get_or (lens_of hs) t x.len
 
 -- the same strings, and room for other commits
-moved : (r : ring.RingStrings) (ls cls ls' cls' : List ℕ) (opens room' opens' : ℕ) → HoldsRecords r ls cls opens → ls' ≡ ls → cls' ≡ cls → opens' ≤ room'
+moved : (r : ring.RingStrings) (ls cls ls' cls' : List ℕ) (opens room' opens' : ℕ) → HoldsRecords r ls cls opens
+    → ls' ≡ ls → cls' ≡ cls → opens' ≤ room'
     → HoldsRecords (record r { room = room' }) ls' cls' opens'
 moved r ls cls ls' cls' opens room' opens' k el ec h = record {
   slots = k.slots;
@@ -67,7 +75,8 @@ moved r ls cls ls' cls' opens room' opens' k el ec h = record {
   room = h;
 }
 
-module _ {hs : List TerminalHead} {cs : List Head} {capacity : ℕ} {r : ring.RingStrings} {opens newest : ℕ} (K : IsKept hs cs capacity r opens newest) where
+module _ {hs : List TerminalHead} {cs : List Head} {capacity : ℕ} {r : ring.RingStrings} {opens newest : ℕ}
+    (K : IsKept hs cs capacity r opens newest) where
   pub within : (t : ℕ) → t ≤ 64 → t < length hs
   within t high = calls.within (inside K) t high
 
@@ -76,23 +85,29 @@ module _ {hs : List TerminalHead} {cs : List Head} {capacity : ℕ} {r : ring.Ri
 
   -- as many strings lie in the ring as the head says
   pub len_lies : (t : ℕ) (x : TerminalHead) → t ≤ 64 → x ≡ get_or hs t x → x.len ≡ length (get_or r.active t [])
-  len_lies t x high read = lists.len_at newest K.lie t x.len (omega (arith, high)) (len_there hs t x (within t high) read)
+  len_lies t x high read = lists.len_at newest K.lie t x.len (omega (arith, high))
+      (len_there hs t x (within t high) read)
 
-  pub len_is : (t u : ℕ) (x : TerminalHead) → t ≡ u → t ≤ 64 → x ≡ get_or hs t x → x.len ≡ length (seen.records_at (stored hs cs r) u)
+  pub len_is : (t u : ℕ) (x : TerminalHead) → t ≡ u → t ≤ 64 → x ≡ get_or hs t x
+      → x.len ≡ length (seen.records_at (stored hs cs r) u)
   len_is t u x tu high read =
       lists.len_is newest K.lie t x.len (omega (arith, high)) (len_there hs t x (within t high) read)
       ∙ ap length (sym (calls.records_are (inside K) t)) ∙ ap (λ z. length (seen.records_at (stored hs cs r) z)) tu
 
   -- where the head says none, there is none
-  pub none_newest : (t u : ℕ) (x : TerminalHead) → t ≡ u → t ≤ 64 → x ≡ get_or hs t x → x.len ≡ 0 → None ≡ newest_of (seen.records_at (stored hs cs r) u)
-  none_newest t u x tu high read none = lists.none_there (seen.records_at (stored hs cs r) u) (sym (len_is t u x tu high read) ∙ none)
+  pub none_newest : (t u : ℕ) (x : TerminalHead) → t ≡ u → t ≤ 64 → x ≡ get_or hs t x → x.len ≡ 0
+      → None ≡ newest_of (seen.records_at (stored hs cs r) u)
+  none_newest t u x tu high read none = lists.none_there (seen.records_at (stored hs cs r) u)
+      (sym (len_is t u x tu high read) ∙ none)
 
   -- each commit that is seen has its strings
   pub commit_there : (later : ℕ) → later < length (stored hs cs r).committed → later < length r.committed
-  commit_there later h = omega (arith, h, calls.seen_commits (inside K), (inside K).records.one_by_one, length-map r.committed records_in)
+  commit_there later h =
+      omega (arith, h, calls.seen_commits (inside K), (inside K).records.one_by_one, length-map r.committed records_in)
 
   -- as many moments before the newest as commits are kept
-  pub horizon_value : (n m : ℕ) → m ≡ length cs → n ≡ newest - m → n + length (stored hs cs r).committed ≡ seen.total_count (stored hs cs r)
+  pub horizon_value : (n m : ℕ) → m ≡ length cs → n ≡ newest - m
+      → n + length (stored hs cs r).committed ≡ seen.total_count (stored hs cs r)
   horizon_value n m em en =
       let size : length (stored hs cs r).committed ≡ length cs = calls.seen_commits (inside K) in
       let total : seen.total_count (stored hs cs r) ≡ newest = calls.total_is (inside K) in
@@ -111,7 +126,8 @@ module _ {hs : List TerminalHead} {cs : List Head} {capacity : ℕ} {r : ring.Ri
   some_moment d cs' e = omega (arith, ap length e, K.heads.kept)
 
   -- another list of commits, and room for more in the ring
-  pub same : (capacity' room' : ℕ) (cs' : List Head) (r' : ring.RingStrings) → cs' ≡ cs → length cs' + opens ≤ capacity' → r' ≡ record r { room = room' } → opens ≤ room'
+  pub same : (capacity' room' : ℕ) (cs' : List Head) (r' : ring.RingStrings) → cs' ≡ cs → length cs' + opens ≤ capacity'
+      → r' ≡ record r { room = room' } → opens ≤ room'
       → Stands hs cs' capacity' r' opens newest (stored hs cs r)
   same capacity' room' cs' r' ec spare er room =
       rw (ec, er)
@@ -129,7 +145,8 @@ module _ {hs : List TerminalHead} {cs : List Head} {capacity : ℕ} {r : ring.Ri
             opens_are = K.heads.opens_are;
             spare = omega (arith, spare, ap length ec);
           };
-          lie = moved r (lens_of hs) (committed_lens_of cs) (lens_of hs) (committed_lens_of cs) opens room' opens K.lie refl refl room;
+          lie = moved r (lens_of hs) (committed_lens_of cs) (lens_of hs) (committed_lens_of cs) opens room' opens K.lie
+              refl refl room;
           empty = K.empty;
           open_deletes = K.open_deletes;
           commit_deletes = K.commit_deletes;
@@ -137,9 +154,12 @@ module _ {hs : List TerminalHead} {cs : List Head} {capacity : ℕ} {r : ring.Ri
         view = refl;
       }
 
-  pub opened : (t u capacity' more room' : ℕ) (x : TerminalHead) (b : SegmentOwner) (hs' : List TerminalHead) (cs' : List Head) (r' : ring.RingStrings)
-      → t ≡ u → 1 ≤ t → t ≤ 64 → x ≡ get_or hs t x → seen.active_at (stored hs cs r) u ≡ None → seen.count_at (stored hs cs r) u < 4_294_967_295
-      → b.terminal ≡ u → b.number ≡ x.count + 1 → hs' ≡ set hs t (record { count = x.count; active = Some b; deletes = false; len = x.len }) → cs' ≡ cs
+  pub opened : (t u capacity' more room' : ℕ) (x : TerminalHead) (b : SegmentOwner) (hs' : List TerminalHead)
+      (cs' : List Head) (r' : ring.RingStrings)
+      → t ≡ u → 1 ≤ t → t ≤ 64 → x ≡ get_or hs t x → seen.active_at (stored hs cs r) u ≡ None
+      → seen.count_at (stored hs cs r) u < 4_294_967_295
+      → b.terminal ≡ u → b.number ≡ x.count + 1
+      → hs' ≡ set hs t (record { count = x.count; active = Some b; deletes = false; len = x.len }) → cs' ≡ cs
       → more ≡ opens + 1 → length cs' + more ≤ capacity' → r' ≡ record r { room = room' } → more ≤ room'
       → Stands hs' cs' capacity' r' more newest (seen.opened (stored hs cs r) u)
   opened t u capacity' more room' x b hs' cs' r' tu low high read none below whose which eh ec em spare er room =
@@ -147,7 +167,8 @@ module _ {hs : List TerminalHead} {cs : List Head} {capacity : ℕ} {r : ring.Ri
       let lists_are : lists_of r' more newest ≡ log.opened (lists_of r opens newest) =
       (λ i. lists_of (er i) ((em ∙ one_more opens) i) newest) in
       both hs' cs' capacity' r' more newest (seen.opened (stored hs cs r) u)
-      (calls.opened (inside K) t u capacity' more x b hs' cs' (lists_of r' more newest) tu low high read none below whose which eh ec em spare lists_are)
+      (calls.opened (inside K) t u capacity' more x b hs' cs' (lists_of r' more newest) tu low high read none below
+      whose which eh ec em spare lists_are)
       (subst (λ z. HoldsRecords z (lens_of hs') (committed_lens_of cs') more) (sym er)
       (moved r (lens_of hs) (committed_lens_of cs) (lens_of hs') (committed_lens_of cs') opens room' more K.lie
       (ap lens_of eh ∙ lens_same hs t x h (within t high) read refl) (ap committed_lens_of ec) room))
@@ -156,7 +177,8 @@ module _ {hs : List TerminalHead} {cs : List Head} {capacity : ℕ} {r : ring.Ri
       one_more n = omega arith
 
   pub dropped : (t u : ℕ) (x : TerminalHead) (hs' : List TerminalHead)
-      → t ≡ u → 1 ≤ t → t ≤ 64 → x ≡ get_or hs t x → IsSome (seen.active_at (stored hs cs r) u) → seen.records_at (stored hs cs r) u ≡ []
+      → t ≡ u → 1 ≤ t → t ≤ 64 → x ≡ get_or hs t x → IsSome (seen.active_at (stored hs cs r) u)
+      → seen.records_at (stored hs cs r) u ≡ []
       → hs' ≡ set hs t (record { count = x.count; active = None; deletes = x.deletes; len = x.len })
       → Stands hs' cs capacity r (opens - 1) newest (seen.dropped (stored hs cs r) u)
   dropped t u x hs' tu low high read some none eh =
@@ -166,77 +188,107 @@ module _ {hs : List TerminalHead} {cs : List Head} {capacity : ℕ} {r : ring.Ri
       (moved r (lens_of hs) (committed_lens_of cs) (lens_of hs') (committed_lens_of cs) opens r.room (opens - 1) K.lie
       (ap lens_of eh ∙ lens_same hs t x h (within t high) read refl) refl (omega (arith, K.lie.room)))
 
-  pub pushed : (t u : ℕ) (x : TerminalHead) (m : Bool) (a : Address) (p : Previous) (l : LentRecord) (r' : ring.RingStrings) → t ≡ u → 1 ≤ t → t ≤ 64 → x ≡ get_or hs t x
-      → IsSome (seen.active_at (stored hs cs r) u) → (m ≡ false → x.deletes ≡ false) → (m ≡ false → deleted_new_order (record_of_lent l) ≡ None)
+  pub pushed : (t u : ℕ) (x : TerminalHead) (m : Bool) (a : Address) (p : Previous) (l : LentRecord)
+      (r' : ring.RingStrings) → t ≡ u → 1 ≤ t → t ≤ 64 → x ≡ get_or hs t x
+      → IsSome (seen.active_at (stored hs cs r) u) → (m ≡ false → x.deletes ≡ false)
+      → (m ≡ false → deleted_new_order (record_of_lent l) ≡ None)
       → IsPrevious p → IsInRanges (record_of_lent l) → r' ≡ ring.pushed_at r t a (record_image p (record_of_lent l))
-      → Stands (set hs t (head_told x m (x.len + 1))) cs capacity r' opens newest (seen.pushed (stored hs cs r) u (logged (record_address a) p (record_of_lent l)))
+      → Stands (set hs t (head_told x m (x.len + 1))) cs capacity r' opens newest
+      (seen.pushed (stored hs cs r) u (logged (record_address a) p (record_of_lent l)))
   pushed t u x m a p l r' tu low high read some before none hp hb er =
-      let there = lists.pushed newest K.lie t x.len r' a p l (omega (arith, high)) (len_there hs t x (within t high) read) hp hb er in
+      let there = lists.pushed newest K.lie t x.len r' a p l (omega (arith, high))
+      (len_there hs t x (within t high) read) hp hb er in
       let v = seen.pushed (stored hs cs r) u (logged (record_address a) p (record_of_lent l)) in
       both (set hs t (head_told x m (x.len + 1))) cs capacity r' opens newest v
-      (calls.pushed (inside K) t u x m (x.len + 1) (logged (record_address a) p (record_of_lent l)) (lists_of r' opens newest) tu low high read some before none there.view)
-      (subst (λ (ls : List ℕ). HoldsRecords r' ls (committed_lens_of cs) opens) (sym (lens_set hs t (head_told x m (x.len + 1)))) there.kept)
+      (calls.pushed (inside K) t u x m (x.len + 1) (logged (record_address a) p (record_of_lent l))
+      (lists_of r' opens newest) tu low high read some before none there.view)
+      (subst (λ (ls : List ℕ). HoldsRecords r' ls (committed_lens_of cs) opens)
+      (sym (lens_set hs t (head_told x m (x.len + 1)))) there.kept)
 
-  pub few : (t : ℕ) (x : TerminalHead) (a : Address) (p : Previous) (l : LentRecord) (r' : ring.RingStrings) → t ≤ 64 → x ≡ get_or hs t x
-      → IsPrevious p → IsInRanges (record_of_lent l) → r' ≡ ring.pushed_at r t a (record_image p (record_of_lent l)) → ring.used_of r' ≤ r'.extents
+  pub few : (t : ℕ) (x : TerminalHead) (a : Address) (p : Previous) (l : LentRecord) (r' : ring.RingStrings) → t ≤ 64
+      → x ≡ get_or hs t x
+      → IsPrevious p → IsInRanges (record_of_lent l) → r' ≡ ring.pushed_at r t a (record_image p (record_of_lent l))
+      → ring.used_of r' ≤ r'.extents
       → x.len + 1 ≤ 16_777_216
   few t x a p l r' high read hp hb er used =
-      lists.pushed_few newest K.lie t x.len r' a p l (omega (arith, high)) (len_there hs t x (within t high) read) hp hb er used
+      lists.pushed_few newest K.lie t x.len r' a p l (omega (arith, high)) (len_there hs t x (within t high) read) hp hb
+      er used
 
   pub popped : (t u n : ℕ) (x : TerminalHead) (r' : ring.RingStrings) → t ≡ u → 1 ≤ t → t ≤ 64 → x ≡ get_or hs t x
       → IsSome (seen.active_at (stored hs cs r) u) → n ≡ x.len - 1 → r' ≡ ring.popped_at r t
       → Stands (set hs t (head_told x x.deletes n)) cs capacity r' opens newest (seen.popped (stored hs cs r) u)
   popped t u n x r' tu low high read some en er =
-      let there = lists.popped newest K.lie t x.len r' (omega (arith, high)) (len_there hs t x (within t high) read) er in
+      let there = lists.popped newest K.lie t x.len r' (omega (arith, high)) (len_there hs t x (within t high) read)
+      er in
       both (set hs t (head_told x x.deletes n)) cs capacity r' opens newest (seen.popped (stored hs cs r) u)
       (calls.popped (inside K) t u x n (lists_of r' opens newest) tu low high read some there.view)
-      (subst (λ (ls : List ℕ). HoldsRecords r' ls (committed_lens_of cs) opens) (sym (lens_set hs t (head_told x x.deletes n) ∙ ap (set (lens_of hs) t) en)) there.kept)
+      (subst (λ (ls : List ℕ). HoldsRecords r' ls (committed_lens_of cs) opens)
+      (sym (lens_set hs t (head_told x x.deletes n) ∙ ap (set (lens_of hs) t) en)) there.kept)
 
-  pub not_popped : (t u : ℕ) (x : TerminalHead) → t ≡ u → t ≤ 64 → x ≡ get_or hs t x → x.len ≡ 0 → stored hs cs r ≡ seen.popped (stored hs cs r) u
+  pub not_popped : (t u : ℕ) (x : TerminalHead) → t ≡ u → t ≤ 64 → x ≡ get_or hs t x → x.len ≡ 0
+      → stored hs cs r ≡ seen.popped (stored hs cs r) u
   not_popped t u x tu high read none =
-      calls.none_popped (inside K) u (lists.none_of (seen.records_at (stored hs cs r) u) (sym (len_is t u x tu high read) ∙ none))
+      calls.none_popped (inside K) u
+      (lists.none_of (seen.records_at (stored hs cs r) u) (sym (len_is t u x tu high read) ∙ none))
 
   -- ---- commits
 
-  pub sealed : (t u m k newest' opens' room' : ℕ) (x : TerminalHead) (a : SegmentOwner) (left : Option SegmentOwner) (d : Head) (capacity' : ℕ) (hs' : List TerminalHead) (cs' : List Head) (r' : ring.RingStrings)
+  pub sealed : (t u m k newest' opens' room' : ℕ) (x : TerminalHead) (a : SegmentOwner) (left : Option SegmentOwner)
+      (d : Head) (capacity' : ℕ) (hs' : List TerminalHead) (cs' : List Head) (r' : ring.RingStrings)
       → t ≡ u → 1 ≤ t → t ≤ 64 → x ≡ get_or hs t x → x.active ≡ Some a → left ≡ None → m ≡ x.count + 1
       → d.terminal ≡ a.terminal → d.number ≡ a.number → d.deletes ≡ x.deletes → d.len ≡ x.len
-      → hs' ≡ set hs t (record { count = m; active = left; deletes = x.deletes; len = k }) → k ≡ 0 → cs' ≡ d ∷ cs → capacity' ≡ capacity
-      → r' ≡ record (ring.sealed_at r t) { room = room' } → room' + 1 ≡ r.room → newest' ≡ newest + 1 → opens' ≡ opens - 1 → 0 < opens
+      → hs' ≡ set hs t (record { count = m; active = left; deletes = x.deletes; len = k }) → k ≡ 0 → cs' ≡ d ∷ cs
+      → capacity' ≡ capacity
+      → r' ≡ record (ring.sealed_at r t) { room = room' } → room' + 1 ≡ r.room → newest' ≡ newest + 1
+      → opens' ≡ opens - 1 → 0 < opens
       → Stands hs' cs' capacity' r' opens' newest' (seen.sealed (stored hs cs r) u d.request d.reply)
-  sealed t u m k newest' opens' room' x a left d capacity' hs' cs' r' tu low high read active none more whose which says long eh ek ec ecap er room en eo some =
+  sealed t u m k newest' opens' room' x a left d capacity' hs' cs' r' tu low high read active none more whose which says
+      long eh ek ec ecap er room en eo some =
       let emptied : hs' ≡ set hs t (record { count = m; active = left; deletes = x.deletes; len = 0 }) =
       eh ∙ ap (λ z. set hs t (record { count = m; active = left; deletes = x.deletes; len = z })) ek in
-      let there = commits.sealed newest K.lie t x.len room' opens' newest' r' (lens_of hs') (committed_lens_of cs') (omega (arith, high)) (len_there hs t x (within t high) read) some
-      er room (ap lens_of emptied ∙ lens_set hs t _) (ap committed_lens_of ec ∙ ap (λ (n : ℕ). n ∷ committed_lens_of cs) long) eo (en ∙ one_more newest) in
+      let there = commits.sealed newest K.lie t x.len room' opens' newest' r' (lens_of hs') (committed_lens_of cs')
+      (omega (arith, high)) (len_there hs t x (within t high) read) some
+      er room (ap lens_of emptied ∙ lens_set hs t _)
+      (ap committed_lens_of ec ∙ ap (λ (n : ℕ). n ∷ committed_lens_of cs) long) eo (en ∙ one_more newest) in
       both hs' cs' capacity' r' opens' newest' (seen.sealed (stored hs cs r) u d.request d.reply)
-      (calls.sealed (inside K) t u m x a left d capacity' hs' cs' (lists_of r' opens' newest') tu low high read active none more whose which says emptied ec ecap there.view)
+      (calls.sealed (inside K) t u m x a left d capacity' hs' cs' (lists_of r' opens' newest') tu low high read active
+      none more whose which says emptied ec ecap there.view)
       there.kept
     where
       one_more : (n : ℕ) → n + 1 ≡ suc n
       one_more n = omega arith
 
-  pub cut : (m room' capacity' : ℕ) (cs' : List Head) (r' : ring.RingStrings) → m ≡ length cs → cs' ≡ take (m - 1) cs → capacity' ≡ capacity
+  pub cut : (m room' capacity' : ℕ) (cs' : List Head) (r' : ring.RingStrings) → m ≡ length cs → cs' ≡ take (m - 1) cs
+      → capacity' ≡ capacity
       → r' ≡ ring.without_oldest r room' → ring.capacity_of r' ≡ ring.capacity_of r
-      → Stands hs cs' capacity' r' opens newest (seen.with_newest (length (stored hs cs r).committed - 1) (stored hs cs r))
+      → Stands hs cs' capacity' r' opens newest
+      (seen.with_newest (length (stored hs cs r).committed - 1) (stored hs cs r))
   cut m room' capacity' cs' r' em ec ecap er room =
       let taken : committed_lens_of cs' ≡ take (length (committed_lens_of cs) - 1) (committed_lens_of cs) =
-      ap committed_lens_of (ec ∙ ap (λ n. take (n - 1) cs) em) ∙ commits.take_map (λ (c : Head). c.len) (length cs - 1) cs
+      ap committed_lens_of (ec ∙ ap (λ n. take (n - 1) cs) em) ∙ commits.take_map (λ (c : Head). c.len) (length cs - 1)
+      cs
       ∙ ap (λ n. take (n - 1) (committed_lens_of cs)) (sym (length-map cs (λ (c : Head). c.len))) in
       let there = commits.without_oldest newest K.lie room' r' (committed_lens_of cs') er room taken in
       both hs cs' capacity' r' opens newest (seen.with_newest (length (stored hs cs r).committed - 1) (stored hs cs r))
       (calls.cut (inside K) m capacity' cs' (lists_of r' opens newest) em ec ecap there.view) there.kept
 
-  pub reopened : (hs' : List TerminalHead) (cs' : List Head) (d : Head) (capacity' room' newest' opens' t u n : ℕ) (x : TerminalHead) (m : Bool) (b : SegmentOwner) (r' : ring.RingStrings)
-      → cs ≡ d ∷ cs' → capacity' ≡ capacity → t ≡ u → 1 ≤ t → t ≤ 64 → d.terminal ≡ u → x ≡ get_or hs t x → (head_at hs t).active ≡ None → b ≡ head_owner d
-      → m ≡ d.deletes → n ≡ d.len → hs' ≡ set hs t (record { count = x.count - 1; active = Some b; deletes = m; len = n })
-      → r' ≡ record (ring.reopened_at r t) { room = room' } → ring.capacity_of r' ≡ ring.capacity_of r → newest' ≡ newest - 1 → opens' ≡ opens + 1
+  pub reopened : (hs' : List TerminalHead) (cs' : List Head) (d : Head) (capacity' room' newest' opens' t u n : ℕ)
+      (x : TerminalHead) (m : Bool) (b : SegmentOwner) (r' : ring.RingStrings)
+      → cs ≡ d ∷ cs' → capacity' ≡ capacity → t ≡ u → 1 ≤ t → t ≤ 64 → d.terminal ≡ u → x ≡ get_or hs t x
+      → (head_at hs t).active ≡ None → b ≡ head_owner d
+      → m ≡ d.deletes → n ≡ d.len
+      → hs' ≡ set hs t (record { count = x.count - 1; active = Some b; deletes = m; len = n })
+      → r' ≡ record (ring.reopened_at r t) { room = room' } → ring.capacity_of r' ≡ ring.capacity_of r
+      → newest' ≡ newest - 1 → opens' ≡ opens + 1
       → Stands hs' cs' capacity' r' opens' newest' (seen.reopened (stored hs cs r) (stored hs cs r).committed)
-  reopened hs' cs' d capacity' room' newest' opens' t u n x m b r' ec ecap tu low high whose read closed same says long eh er room en eo =
-      let there = commits.reopened newest K.lie t d.len room' opens' newest' r' (lens_of hs') (committed_lens_of cs') (ap committed_lens_of ec) er room
+  reopened hs' cs' d capacity' room' newest' opens' t u n x m b r' ec ecap tu low high whose read closed same says long
+      eh er room en eo =
+      let there = commits.reopened newest K.lie t d.len room' opens' newest' r' (lens_of hs') (committed_lens_of cs')
+      (ap committed_lens_of ec) er room
       (ap lens_of eh ∙ lens_set hs t _ ∙ ap (set (lens_of hs) t) long) (eo ∙ one_more opens) en in
       both hs' cs' capacity' r' opens' newest' (seen.reopened (stored hs cs r) (stored hs cs r).committed)
-      (calls.reopened hs hs' cs cs' d capacity capacity' r.extents opens newest (map records_in r.active) (map records_in r.committed) t u n x m b (lists_of r' opens' newest') (inside K)
+      (calls.reopened hs hs' cs cs' d capacity capacity' r.extents opens newest (map records_in r.active)
+      (map records_in r.committed) t u n x m b (lists_of r' opens' newest') (inside K)
       ec ecap tu low high whose read closed same says eh there.view) there.kept
     where
       one_more : (n : ℕ) → n + 1 ≡ suc n
@@ -247,7 +299,8 @@ idle_lens : (n : ℕ) → lens_of (replicate n idle_head) ≡ replicate n 0
 idle_lens zero = refl
 idle_lens (suc n) = ap (λ (l : List ℕ). 0 ∷ l) (idle_lens n)
 
-pub new_is : (extents room capacity : ℕ) (hs : List TerminalHead) (cs : List Head) (r : ring.RingStrings) → extents ≤ 4096 → hs ≡ idle_heads → cs ≡ []
+pub new_is : (extents room capacity : ℕ) (hs : List TerminalHead) (cs : List Head) (r : ring.RingStrings)
+    → extents ≤ 4096 → hs ≡ idle_heads → cs ≡ []
     → r ≡ record (ring.no_strings extents 65) { room = room } → Stands hs cs capacity r 0 0 (seen.no_segments extents)
 unfolding idle_heads no_lists
 new_is extents room capacity hs cs r most eh ec er =

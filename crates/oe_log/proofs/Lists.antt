@@ -1,4 +1,5 @@
--- The records by terminal and by commit, and what calls do to them: a step between the strings of the ring and what is seen.
+-- The records by terminal and by commit, and what calls do to them: a step between the strings of the ring and what is
+-- seen.
 use Rattle.std.specs.Prelude.{◌-◌, ℕ, suc, List, [], ◌∷◌, length, map, take, drop, get_or, set, replicate}
 use Rattle.oe_values.specs.declared.numbers.TheConstants.{TERMINALS}
 use Rattle.oe_extent.specs.Ring.{RingStrings}

@@ -21,7 +21,8 @@ pub record IsString (ss : List (ring.Addressed)) (a : RecordAddress) (p : Previo
 
 module _ (a : RecordAddress) (p : Previous) (b : Record) where
   first_or_older : (s : ring.Addressed) (ss : List (ring.Addressed)) (h : IsStoredRecord s.bytes)
-      → IsAmong (logged a p b) (record_of s.address s.bytes h ∷ records_in ss) → (IsAmong (logged a p b) (records_in ss) → IsString ss a p b) → IsString (s ∷ ss) a p b
+      → IsAmong (logged a p b) (record_of s.address s.bytes h ∷ records_in ss)
+      → (IsAmong (logged a p b) (records_in ss) → IsString ss a p b) → IsString (s ∷ ss) a p b
   first_or_older s ss h (inl e) older = record {
     bytes = s.bytes;
     stands = inl (ap (λ (r : Logged). record { address = ring_address r.address; bytes = s.bytes }) e);
@@ -38,11 +39,13 @@ module _ (a : RecordAddress) (p : Previous) (b : Record) where
   string_of (s ∷ ss) h k =
       first_or_older s ss h.0 (subst (IsAmong (logged a p b)) (seen s ss h.0) k) (string_of ss h.1)
 
-  pub string_at : (xs : List (List (ring.Addressed))) (i : ℕ) → AllByRecursion AreRecords xs → IsAmong (logged a p b) (get_or (map records_in xs) i [])
+  pub string_at : (xs : List (List (ring.Addressed))) (i : ℕ) → AllByRecursion AreRecords xs
+      → IsAmong (logged a p b) (get_or (map records_in xs) i [])
       → IsString (get_or xs i []) a p b
   string_at xs i h k = string_of (get_or xs i []) (are_at xs i h) (subst (IsAmong (logged a p b)) (at_slot xs i) k)
 
-pub has_string : (a : RecordAddress) (xs : List (List (ring.Addressed))) (i : ℕ) → AllByRecursion AreRecords xs → HasAddress (get_or (map records_in xs) i []) a
+pub has_string : (a : RecordAddress) (xs : List (List (ring.Addressed))) (i : ℕ) → AllByRecursion AreRecords xs
+    → HasAddress (get_or (map records_in xs) i []) a
     → ring.HasAddress (get_or xs i []) (ring_address a)
 has_string a xs i h has =
     let s = string_at a has.previous has.before xs i h has.there in
@@ -50,15 +53,20 @@ has_string a xs i h has =
 
 -- ---- where it lies
 
-pub is_stored : (a : RecordAddress) (xs : List (List (ring.Addressed))) (i : ℕ) (bytes : List ℕ) → AllByRecursion AreRecords xs
-    → HasAddress (get_or (map records_in xs) i []) a → ring.IsStringAt (get_or xs i []) (ring_address a) bytes → IsStoredRecord bytes
+pub is_stored : (a : RecordAddress) (xs : List (List (ring.Addressed))) (i : ℕ) (bytes : List ℕ)
+    → AllByRecursion AreRecords xs
+    → HasAddress (get_or (map records_in xs) i []) a → ring.IsStringAt (get_or xs i []) (ring_address a) bytes
+    → IsStoredRecord bytes
 is_stored a xs i bytes h has there =
     let s = string_at a has.previous has.before xs i h has.there in
     subst IsStoredRecord (sym (there s.bytes s.stands)) s.is
 
-pub linked_there : (a : RecordAddress) (p : Previous) (b : Record) (xs : List (List (ring.Addressed))) (i : ℕ) (bytes : List ℕ) (x : Previous × Record)
-    → AllByRecursion AreRecords xs → IsAmong (logged a p b) (get_or (map records_in xs) i []) → ring.IsStringAt (get_or xs i []) (ring_address a) bytes
+pub linked_there : (a : RecordAddress) (p : Previous) (b : Record) (xs : List (List (ring.Addressed))) (i : ℕ)
+    (bytes : List ℕ) (x : Previous × Record)
+    → AllByRecursion AreRecords xs → IsAmong (logged a p b) (get_or (map records_in xs) i [])
+    → ring.IsStringAt (get_or xs i []) (ring_address a) bytes
     → IsToldLinked bytes x → x ≡ (p, b)
 linked_there a p b xs i bytes x h k there told =
     let s = string_at a p b xs i h k in
-    told s.is.previous s.is.before s.is.link s.is.ranges (there s.bytes s.stands ∙ s.is.image) ∙ (λ j. (s.previous j, s.before j))
+    told s.is.previous s.is.before s.is.link s.is.ranges (there s.bytes s.stands ∙ s.is.image)
+    ∙ (λ j. (s.previous j, s.before j))

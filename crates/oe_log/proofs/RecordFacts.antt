@@ -1,5 +1,6 @@
 -- Strings of the ring that are records.
-use Rattle.std.proofs.Common.{◌≡◌, ℕ, zero, suc, ◌<◌, List, [], ◌∷◌, length, map, drop, get_or, set, Option, Some, option_map, refl, sym, ap, ◌∙◌, subst, arith}
+use Rattle.std.proofs.Common.{◌≡◌, ℕ, zero, suc, ◌<◌, List, [], ◌∷◌, length, map, drop, get_or, set, Option, Some}
+use Rattle.std.proofs.Common.{option_map, refl, sym, ap, ◌∙◌, subst, arith}
 use Rattle.std.specs.List.{AllByRecursion}
 use Rattle.oe_extent.specs.declared.extents.Address.{Address}
 use Rattle.oe_extent.specs.Ring as ring
@@ -38,7 +39,8 @@ owned (lent.UpdatedStock k x) = (own.UpdatedStock k x.now, refl)
 owned (lent.DeletedNewOrder k) = (own.DeletedNewOrder k, refl)
 
 -- what was lent is a record, once it is written
-pub written_is : (p : Previous) (l : LentRecord) → IsPrevious p → IsInRanges (record_of_lent l) → IsStoredRecord (record_image p (record_of_lent l))
+pub written_is : (p : Previous) (l : LentRecord) → IsPrevious p → IsInRanges (record_of_lent l)
+    → IsStoredRecord (record_image p (record_of_lent l))
 written_is p l hp hb =
     let o = owned l in
     record {
@@ -57,7 +59,8 @@ record_of a s h = record { address = record_address a; previous = h.previous; be
 is_read : (s : List ℕ) (h : IsStoredRecord s) → record_at s ≡ Some (h.previous, h.before)
 is_read s h = record_finds (h.previous, h.before) s (h.link, h.ranges) h.image
 
-pub seen : (s : ring.Addressed) (ss : List (ring.Addressed)) (h : IsStoredRecord s.bytes) → records_in (s ∷ ss) ≡ record_of s.address s.bytes h ∷ records_in ss
+pub seen : (s : ring.Addressed) (ss : List (ring.Addressed)) (h : IsStoredRecord s.bytes)
+    → records_in (s ∷ ss) ≡ record_of s.address s.bytes h ∷ records_in ss
 seen s ss h = ap (λ (r : Option (Previous × OwnRecord)). before_others s.address r (records_in ss)) (is_read s.bytes h)
 
 long : (s : List ℕ) (h : IsStoredRecord s) → record_length (record_of_own h.before) ≡ length s
@@ -67,7 +70,8 @@ pub some_bytes : (s : List ℕ) → IsStoredRecord s → 0 < length s
 some_bytes s h = omega (arith, long s h)
 
 -- a record that was lent is seen where it was written
-pub seen_lent : (a : Address) (p : Previous) (l : LentRecord) (ss : List (ring.Addressed)) → IsPrevious p → IsInRanges (record_of_lent l)
+pub seen_lent : (a : Address) (p : Previous) (l : LentRecord) (ss : List (ring.Addressed)) → IsPrevious p
+    → IsInRanges (record_of_lent l)
     → records_in (record { address = a; bytes = record_image p (record_of_lent l) } ∷ ss)
     ≡ record { address = record_address a; previous = p; before = record_of_lent l } ∷ records_in ss
 unfolding owned written_is
@@ -76,7 +80,8 @@ seen_lent a p l ss hp hb =
     seen (record { address = a; bytes = record_image p (record_of_lent l) }) ss (written_is p l hp hb)
     ∙ ap (λ (b : Record). record { address = record_address a; previous = p; before = b } ∷ records_in ss) o.1
 
-pub lent_long : (p : Previous) (l : LentRecord) → IsInRanges (record_of_lent l) → length (record_image p (record_of_lent l)) ≡ record_length (record_of_lent l)
+pub lent_long : (p : Previous) (l : LentRecord) → IsInRanges (record_of_lent l)
+    → length (record_image p (record_of_lent l)) ≡ record_length (record_of_lent l)
 lent_long p l h = (record_long p (record_of_lent l) h).is
 
 -- ---- a segment's records
@@ -104,13 +109,15 @@ none_in [] h e = refl
 none_in (s ∷ ss) h e = absurd (let size = ap length (sym (seen s ss h.0) ∙ e) in omega (arith, size))
 
 -- the newest string is read as the newest record
-newest_read : (bytes : List ℕ) (r : Option (Previous × OwnRecord)) (h : IsStoredRecord bytes) → ReadsRecord bytes r → r ≡ Some (h.previous, h.before)
+newest_read : (bytes : List ℕ) (r : Option (Previous × OwnRecord)) (h : IsStoredRecord bytes) → ReadsRecord bytes r
+    → r ≡ Some (h.previous, h.before)
 newest_read bytes r h reads = reads.finds h.previous h.before h.link h.ranges h.image
 
 abbrev told : Option (Previous × OwnRecord) → Option (Previous × Record)
 told r = option_map (λ x. (x.0, record_of_own x.1)) r
 
-pub newest_is : (ss : List (ring.Addressed)) (bytes : List ℕ) (r : Option (Previous × OwnRecord)) → AreRecords ss → 0 < length ss
+pub newest_is : (ss : List (ring.Addressed)) (bytes : List ℕ) (r : Option (Previous × OwnRecord)) → AreRecords ss
+    → 0 < length ss
     → ring.newest_bytes ss ≡ bytes → ReadsRecord bytes r → told r ≡ newest_of (records_in ss)
 newest_is [] bytes r h some e reads = absurd (omega (arith, some))
 newest_is (s ∷ ss) bytes r h some e reads =
@@ -125,14 +132,17 @@ ring_address a = record { extent = a.extent; offset = a.offset }
 same_address : (a b : Address) → record_address a ≡ record_address b → a ≡ b
 same_address a b e = ap ring_address e
 
-pub elsewhere : (a : Address) (ss : List (ring.Addressed)) → AreRecords ss → ring.StandElsewhere a ss → StandElsewhere (record_address a) (records_in ss)
+pub elsewhere : (a : Address) (ss : List (ring.Addressed)) → AreRecords ss → ring.StandElsewhere a ss
+    → StandElsewhere (record_address a) (records_in ss)
 elsewhere a [] h k = tt
 elsewhere a (s ∷ ss) h k =
-    subst (StandElsewhere (record_address a)) (sym (seen s ss h.0)) ((λ e. k.0 (same_address s.address a e)), elsewhere a ss h.1 k.1)
+    subst (StandElsewhere (record_address a)) (sym (seen s ss h.0))
+    ((λ e. k.0 (same_address s.address a e)), elsewhere a ss h.1 k.1)
 
 -- ---- the segments of all terminals, or of all commits
 
-pub at_slot : (xs : List (List (ring.Addressed))) (t : ℕ) → get_or (map records_in xs) t [] ≡ records_in (get_or xs t [])
+pub at_slot : (xs : List (List (ring.Addressed))) (t : ℕ)
+    → get_or (map records_in xs) t [] ≡ records_in (get_or xs t [])
 at_slot [] t = refl
 at_slot (x ∷ xs) zero = refl
 at_slot (x ∷ xs) (suc t) = at_slot xs t
@@ -142,11 +152,14 @@ are_at [] t h = tt
 are_at (x ∷ xs) zero h = h.0
 are_at (x ∷ xs) (suc t) h = are_at xs t h.1
 
-pub are_set : (xs : List (List (ring.Addressed))) (t : ℕ) (x : List (ring.Addressed)) → AllByRecursion AreRecords xs → AreRecords x → AllByRecursion AreRecords (set xs t x)
+pub are_set : (xs : List (List (ring.Addressed))) (t : ℕ) (x : List (ring.Addressed)) → AllByRecursion AreRecords xs
+    → AreRecords x → AllByRecursion AreRecords (set xs t x)
 are_set [] t x h k = tt
 are_set (y ∷ ys) zero x h k = (k, h.1)
 are_set (y ∷ ys) (suc t) x h k = (h.0, are_set ys t x h.1 k)
 
-pub all_elsewhere : (a : Address) (xs : List (List (ring.Addressed))) → AllByRecursion AreRecords xs → ((t : ℕ) → ring.StandElsewhere a (get_or xs t []))
+pub all_elsewhere : (a : Address) (xs : List (List (ring.Addressed))) → AllByRecursion AreRecords xs
+    → ((t : ℕ) → ring.StandElsewhere a (get_or xs t []))
     → (t : ℕ) → StandElsewhere (record_address a) (get_or (map records_in xs) t [])
-all_elsewhere a xs h k t = subst (StandElsewhere (record_address a)) (sym (at_slot xs t)) (elsewhere a (get_or xs t []) (are_at xs t h) (k t))
+all_elsewhere a xs h k t = subst (StandElsewhere (record_address a)) (sym (at_slot xs t))
+    (elsewhere a (get_or xs t []) (are_at xs t h) (k t))

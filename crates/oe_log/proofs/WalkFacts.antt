@@ -22,7 +22,8 @@ all_told (s ∷ ss) h =
     ∙ sym (ap befores (seen s ss h.0))
 
 -- those of one of several segments
-pub stored_here : (xs : List (List (ring.Addressed))) (i : ℕ) → AllByRecursion AreRecords xs → AllByRecursion IsStoredRecord (ring.strings_of (get_or xs i []))
+pub stored_here : (xs : List (List (ring.Addressed))) (i : ℕ) → AllByRecursion AreRecords xs
+    → AllByRecursion IsStoredRecord (ring.strings_of (get_or xs i []))
 stored_here xs i h = all_stored (get_or xs i []) (are_at xs i h)
 
 pub told_here : (xs : List (List (ring.Addressed))) (i : ℕ) → AllByRecursion AreRecords xs

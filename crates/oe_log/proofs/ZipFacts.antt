@@ -1,5 +1,6 @@
 -- Transactions beside their records.
-use Rattle.std.proofs.Common.{◌≡◌, ℕ, zero, suc, ◌+◌, ◌==◌, refl, sym, ap, ◌∙◌, cond, arith, List, [], ◌∷◌, length, map, get_or, set, take, Option, None, Some, is_some}
+use Rattle.std.proofs.Common.{◌≡◌, ℕ, zero, suc, ◌+◌, ◌==◌, refl, sym, ap, ◌∙◌, cond, arith, List, [], ◌∷◌, length, map}
+use Rattle.std.proofs.Common.{get_or, set, take, Option, None, Some, is_some}
 use Rattle.std.specs.Prelude.{slice_get, option_map}
 use Rattle.std.specs.List.{sum_by, count_by}
 use Rattle.std.proofs.lemmas.List.Sums.{sum_by-cons}
@@ -20,9 +21,11 @@ states-set [] rss t h rs = refl
 states-set (k ∷ hs) [] zero h rs = refl
 states-set (k ∷ hs) [] (suc t) h rs = refl
 states-set (k ∷ hs) (qs ∷ rss) zero h rs = refl
-states-set (k ∷ hs) (qs ∷ rss) (suc t) h rs = ap (λ (z : List TerminalState). state_with k qs ∷ z) (states-set hs rss t h rs)
+states-set (k ∷ hs) (qs ∷ rss) (suc t) h rs = ap (λ (z : List TerminalState). state_with k qs ∷ z)
+    (states-set hs rss t h rs)
 
-pub states-length : (hs : List TerminalHead) (rss : List Records) → length rss ≡ length hs → length (states hs rss) ≡ length hs
+pub states-length : (hs : List TerminalHead) (rss : List Records) → length rss ≡ length hs
+    → length (states hs rss) ≡ length hs
 states-length [] rss e = refl
 states-length (h ∷ hs) [] e = absurd (omega (arith, e))
 states-length (h ∷ hs) (rs ∷ rss) e = ap suc (states-length hs rss (omega (arith, e)))
@@ -34,7 +37,8 @@ states-at (h ∷ hs) [] t e = absurd (omega (arith, e))
 states-at (h ∷ hs) (rs ∷ rss) zero e = refl
 states-at (h ∷ hs) (rs ∷ rss) (suc t) e = states-at hs rss t (omega (arith, e))
 
-pub states-total : (hs : List TerminalHead) (rss : List Records) → length rss ≡ length hs → sum_by (λ (s : TerminalState). s.count) (states hs rss) ≡ sum_by (λ (h : TerminalHead). h.count) hs
+pub states-total : (hs : List TerminalHead) (rss : List Records) → length rss ≡ length hs
+    → sum_by (λ (s : TerminalState). s.count) (states hs rss) ≡ sum_by (λ (h : TerminalHead). h.count) hs
 states-total [] rss e = refl
 states-total (h ∷ hs) [] e = absurd (omega (arith, e))
 states-total (h ∷ hs) (rs ∷ rss) e =
@@ -46,7 +50,9 @@ seen_open : (rs : Records) (a : Option SegmentOwner) → is_some (option_map (op
 seen_open rs None = refl
 seen_open rs (Some n) = refl
 
-pub states-opens : (hs : List TerminalHead) (rss : List Records) → length rss ≡ length hs → count_by (λ (s : TerminalState). is_some s.active) (states hs rss) ≡ count_by (λ (h : TerminalHead). is_some h.active) hs
+pub states-opens : (hs : List TerminalHead) (rss : List Records) → length rss ≡ length hs
+    → count_by (λ (s : TerminalState). is_some s.active) (states hs rss) ≡ count_by
+    (λ (h : TerminalHead). is_some h.active) hs
 states-opens [] rss e = refl
 states-opens (h ∷ hs) [] e = absurd (omega (arith, e))
 states-opens (h ∷ hs) (rs ∷ rss) e =
@@ -54,53 +60,63 @@ states-opens (h ∷ hs) (rs ∷ rss) e =
     ∙ (λ i. cond (seen_open rs h.active i) 1 0 + states-opens hs rss (omega (arith, e)) i)
     ∙ sym (sum_by-cons (λ (k : TerminalHead). cond (is_some k.active) 1 0) h hs)
 
-pub seen_records : (rs : Records) (a : Option SegmentOwner) → (a ≡ None → rs ≡ []) → records_in (option_map (open_with rs) a) ≡ rs
+pub seen_records : (rs : Records) (a : Option SegmentOwner) → (a ≡ None → rs ≡ [])
+    → records_in (option_map (open_with rs) a) ≡ rs
 seen_records rs None h = sym (h refl)
 seen_records rs (Some n) h = refl
 
-pub states-records : (hs : List TerminalHead) (rss : List Records) → length rss ≡ length hs → ((t : ℕ) → (head_at hs t).active ≡ None → get_or rss t [] ≡ [])
+pub states-records : (hs : List TerminalHead) (rss : List Records) → length rss ≡ length hs
+    → ((t : ℕ) → (head_at hs t).active ≡ None → get_or rss t [] ≡ [])
     → map (λ (s : TerminalState). records_in s.active) (states hs rss) ≡ rss
 states-records [] [] e k = refl
 states-records [] (rs ∷ rss) e k = absurd (omega (arith, e))
 states-records (h ∷ hs) [] e k = absurd (omega (arith, e))
-states-records (h ∷ hs) (rs ∷ rss) e k = λ i. seen_records rs h.active (k 0) i ∷ states-records hs rss (omega (arith, e)) (λ t. k (suc t)) i
+states-records (h ∷ hs) (rs ∷ rss) e k = λ i. seen_records rs h.active (k 0) i ∷ states-records hs rss
+    (omega (arith, e)) (λ t. k (suc t)) i
 
 -- other records in an open segment
-pub seen_other : (rs qs : Records) (a : Option SegmentOwner) → option_map (open_with qs) a ≡ option_map {T = Open} (λ o. record o { records = qs }) (option_map (open_with rs) a)
+pub seen_other : (rs qs : Records) (a : Option SegmentOwner)
+    → option_map (open_with qs) a ≡ option_map {T = Open} (λ o. record o { records = qs }) (option_map (open_with rs) a)
 seen_other rs qs None = refl
 seen_other rs qs (Some n) = refl
 
 -- ---- commits
 
-pub commits-length : (cs : List Head) (rss : List Records) → length rss ≡ length cs → length (commits cs rss) ≡ length cs
+pub commits-length : (cs : List Head) (rss : List Records) → length rss ≡ length cs
+    → length (commits cs rss) ≡ length cs
 commits-length [] rss e = refl
 commits-length (c ∷ cs) [] e = absurd (omega (arith, e))
 commits-length (c ∷ cs) (rs ∷ rss) e = ap suc (commits-length cs rss (omega (arith, e)))
 
-pub commits-take : (n : ℕ) (cs : List Head) (rss : List Records) → commits (take n cs) (take n rss) ≡ take n (commits cs rss)
+pub commits-take : (n : ℕ) (cs : List Head) (rss : List Records)
+    → commits (take n cs) (take n rss) ≡ take n (commits cs rss)
 commits-take zero cs rss = refl
 commits-take (suc n) [] rss = refl
 commits-take (suc n) (c ∷ cs) [] = refl
 commits-take (suc n) (c ∷ cs) (rs ∷ rss) = ap (λ (z : List Committed). commit_with c rs ∷ z) (commits-take n cs rss)
 
-pub commits-records : (cs : List Head) (rss : List Records) → length rss ≡ length cs → map records_of (commits cs rss) ≡ rss
+pub commits-records : (cs : List Head) (rss : List Records) → length rss ≡ length cs
+    → map records_of (commits cs rss) ≡ rss
 commits-records [] [] e = refl
 commits-records [] (rs ∷ rss) e = absurd (omega (arith, e))
 commits-records (c ∷ cs) [] e = absurd (omega (arith, e))
 commits-records (c ∷ cs) (rs ∷ rss) e = ap (λ (z : List Records). rs ∷ z) (commits-records cs rss (omega (arith, e)))
 
 -- how many are a terminal's
-pub commits-count : (t n : ℕ) (cs : List Head) (rss : List Records) → length rss ≡ length cs → commits_of t (take n (commits cs rss)) ≡ heads_of t (take n cs)
+pub commits-count : (t n : ℕ) (cs : List Head) (rss : List Records) → length rss ≡ length cs
+    → commits_of t (take n (commits cs rss)) ≡ heads_of t (take n cs)
 commits-count t zero cs rss e = refl
 commits-count t (suc n) [] rss e = refl
 commits-count t (suc n) (c ∷ cs) [] e = absurd (omega (arith, e))
-commits-count t (suc n) (c ∷ cs) (rs ∷ rss) e = ap (λ (k : ℕ). cond (t == c.terminal) (suc k) k) (commits-count t n cs rss (omega (arith, e)))
+commits-count t (suc n) (c ∷ cs) (rs ∷ rss) e = ap (λ (k : ℕ). cond (t == c.terminal) (suc k) k)
+    (commits-count t n cs rss (omega (arith, e)))
 
 abbrev pub head_owner : Head → SegmentOwner
 head_owner c = record { terminal = c.terminal; number = c.number }
 
 -- whose each is
-pub commits-owner : (n : ℕ) (cs : List Head) (rss : List Records) → length rss ≡ length cs → option_map owner_of (slice_get (commits cs rss) n) ≡ option_map head_owner (slice_get cs n)
+pub commits-owner : (n : ℕ) (cs : List Head) (rss : List Records) → length rss ≡ length cs
+    → option_map owner_of (slice_get (commits cs rss) n) ≡ option_map head_owner (slice_get cs n)
 commits-owner n [] rss e = refl
 commits-owner n (c ∷ cs) [] e = absurd (omega (arith, e))
 commits-owner zero (c ∷ cs) (rs ∷ rss) e = refl

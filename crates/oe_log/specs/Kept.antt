@@ -1,5 +1,6 @@
 -- How segments are kept: their transactions as heads, beside their records, which lie in the ring.
-use Rattle.std.specs.Prelude.{◌≡◌, ℕ, suc, ◌+◌, ◌<◌, ◌≤◌, ◌==◌, cond, Bool, false, List, [], ◌∷◌, length, map, take, replicate, slice_get, get_or, option_map, None, Some, is_some}
+use Rattle.std.specs.Prelude.{◌≡◌, ℕ, suc, ◌+◌, ◌<◌, ◌≤◌, ◌==◌, cond, Bool, false, List, [], ◌∷◌, length, map, take}
+use Rattle.std.specs.Prelude.{replicate, slice_get, get_or, option_map, None, Some, is_some}
 use Rattle.std.specs.List.{All, sum_by, count_by}
 use Rattle.oe_values.specs.declared.numbers.TheConstants.{TERMINALS}
 use Rattle.oe_extent.specs.Ring as ring
@@ -35,7 +36,13 @@ states (h ∷ hs) [] = []
 states (h ∷ hs) (rs ∷ rss) = state_with h rs ∷ states hs rss
 
 abbrev pub commit_with : Head → List Logged → Committed
-commit_with c rs = record { terminal = c.terminal; number = c.number; request = c.request; reply = c.reply; records = rs }
+commit_with c rs = record {
+  terminal = c.terminal;
+  number = c.number;
+  request = c.request;
+  reply = c.reply;
+  records = rs;
+}
 
 abbrev pub commits : List Head → List (List Logged) → List Committed
 commits [] rss = []
@@ -80,7 +87,8 @@ heads_of t (c ∷ cs) = cond (t == c.terminal) (suc (heads_of t cs)) (heads_of t
 
 -- the number of each commit, newest first, is its terminal's count less the terminal's newer commits
 abbrev pub AreNumbered : (ℕ → ℕ) → List Head → Type 0
-AreNumbered counts cs = (later : ℕ) (c : Head) → slice_get cs later ≡ Some c → c.number + heads_of c.terminal (take later cs) ≡ counts c.terminal
+AreNumbered counts cs = (later : ℕ) (c : Head) → slice_get cs later ≡ Some c
+    → c.number + heads_of c.terminal (take later cs) ≡ counts c.terminal
 
 -- of the transactions alone
 pub record AreHeads (hs : List TerminalHead) (cs : List Head) (capacity newest opens : ℕ) : Type 0 where
@@ -98,7 +106,8 @@ pub record AreHeads (hs : List TerminalHead) (cs : List Head) (capacity newest o
 -- a commit that does not say that it deletes has no record of a deleted row
 abbrev pub CommitsTell : List Head → List (List Logged) → Type 0
 CommitsTell cs rss =
-    (later : ℕ) (c : Head) → slice_get cs later ≡ Some c → c.deletes ≡ false → DeletesNothing (model_records (get_or rss later []))
+    (later : ℕ) (c : Head) → slice_get cs later ≡ Some c → c.deletes ≡ false
+    → DeletesNothing (model_records (get_or rss later []))
 
 -- how many records each has
 abbrev pub lens_of : List TerminalHead → List ℕ
@@ -108,11 +117,13 @@ abbrev pub committed_lens_of : List Head → List ℕ
 committed_lens_of cs = map (λ c. c.len) cs
 
 -- of all that is kept
-pub record IsKept (hs : List TerminalHead) (cs : List Head) (capacity : ℕ) (r : ring.RingStrings) (opens newest : ℕ) : Type 0 where
+pub record IsKept (hs : List TerminalHead) (cs : List Head) (capacity : ℕ) (r : ring.RingStrings)
+    (opens newest : ℕ) : Type 0 where
   pub heads : AreHeads hs cs capacity newest opens
   pub lie : HoldsRecords r (lens_of hs) (committed_lens_of cs) opens
   -- a terminal without an open segment has no records
   pub empty : (t : ℕ) → (head_at hs t).active ≡ None → get_or (map records_in r.active) t [] ≡ []
   -- what does not say that it deletes has no record of a deleted row
-  pub open_deletes : (t : ℕ) → (head_at hs t).deletes ≡ false → DeletesNothing (model_records (get_or (map records_in r.active) t []))
+  pub open_deletes : (t : ℕ) → (head_at hs t).deletes ≡ false
+      → DeletesNothing (model_records (get_or (map records_in r.active) t []))
   pub commit_deletes : CommitsTell cs (map records_in r.committed)

@@ -8,7 +8,8 @@ use Rattle.oe_theory.specs.Next.{filled}
 use Rattle.oe_theory.specs.Undo.{Undo, lengths_of, used_of, put_records, no_records}
 use Rattle.oe_theory.specs.Store.{counts_before}
 use Rattle.oe_log.specs.Records.{Logged}
-use Rattle.oe_log.specs.Log.{Open, Committed, SegmentLog, active_at, records_at, no_segments, opened, pushed, popped, sealed, dropped, with_newest, reopened, IsFull}
+use Rattle.oe_log.specs.Log.{Open, Committed, SegmentLog, active_at, records_at, no_segments, opened, pushed, popped}
+use Rattle.oe_log.specs.Log.{sealed, dropped, with_newest, reopened, IsFull}
 use Rattle.oe_log.specs.Stands.{model_records, undo_of, undo_in, seals_of, counts_of}
 
 -- two logs stand for the same
@@ -25,37 +26,53 @@ pub record StandsWith (w v : SegmentLog) (t : ℕ) (bs : List (system.Record)) :
 
 -- a log stands for another with one commit more
 pub record StandsSealed (w v : SegmentLog) (t : ℕ) (q : Request) (y : Reply) : Type 0 where
-  pub undo : undo_of w ≡ record { active = set t [] (undo_of v).active; history = (undo_of v).active t ∷ (undo_of v).history }
-  pub seals : seals_of w ≡ record { tx = record { terminal = t; number = suc (counts_of v t); request = q }; reply = y } ∷ seals_of v
+  pub undo : undo_of w ≡ record {
+    active = set t [] (undo_of v).active;
+    history = (undo_of v).active t ∷ (undo_of v).history;
+  }
+  pub seals : seals_of w ≡ record { tx = record { terminal = t; number = suc (counts_of v t); request = q }; reply = y }
+      ∷ seals_of v
   pub counts : counts_of w ≡ bump t (counts_of v)
 
--- a log stands for another's newest n commits, with the records of the same open transactions; the others are counted still
+-- a log stands for another's newest n commits, with the records of the same open transactions; the others are counted
+-- still
 pub record StandsCut (w v : SegmentLog) (n : ℕ) : Type 0 where
   pub undo : undo_of w ≡ record { active = (undo_of v).active; history = take n (undo_of v).history }
   pub seals : seals_of w ≡ take n (seals_of v)
   pub counts : counts_of w ≡ counts_of v
 
--- a log stands for another without its newest commit, whose records are its terminal's open ones, and which is no longer counted
+-- a log stands for another without its newest commit, whose records are its terminal's open ones, and which is no
+-- longer counted
 pub record StandsReopened (w v : SegmentLog) (c : Committed) : Type 0 where
-  pub undo : undo_of w ≡ record { active = set c.terminal (model_records c.records) (undo_of v).active; history = drop 1 (undo_of v).history }
+  pub undo : undo_of w ≡ record {
+    active = set c.terminal (model_records c.records) (undo_of v).active;
+    history = drop 1 (undo_of v).history;
+  }
   pub seals : seals_of w ≡ drop 1 (seals_of v)
   pub counts : counts_of w ≡ counts_before system (counts_of v) (take 1 (seals_of v))
 
 pub record Calls_are_steps : Type 0 where
-  pub begun : (e : ℕ) → (undo_of (no_segments e) ≡ no_records system) × (seals_of (no_segments e) ≡ []) × (counts_of (no_segments e) ≡ (λ t. 0))
+  pub begun : (e : ℕ) → (undo_of (no_segments e) ≡ no_records system) × (seals_of (no_segments e) ≡ [])
+      × (counts_of (no_segments e) ≡ (λ t. 0))
   pub opens : (v : SegmentLog) (t : ℕ) → active_at v t ≡ None → StandAlike (opened v t) v
-  pub pushes : (v : SegmentLog) (t : ℕ) (o : Open) (r : Logged) → active_at v t ≡ Some o → StandsWith (pushed v t r) v t (r.before ∷ (undo_of v).active t)
-  pub pops : (v : SegmentLog) (t : ℕ) (o : Open) → active_at v t ≡ Some o → StandsWith (popped v t) v t (drop 1 ((undo_of v).active t))
-  pub seals : (v : SegmentLog) (t : ℕ) (o : Open) (q : Request) (y : Reply) → active_at v t ≡ Some o → StandsSealed (sealed v t q y) v t q y
+  pub pushes : (v : SegmentLog) (t : ℕ) (o : Open) (r : Logged) → active_at v t ≡ Some o
+      → StandsWith (pushed v t r) v t (r.before ∷ (undo_of v).active t)
+  pub pops : (v : SegmentLog) (t : ℕ) (o : Open) → active_at v t ≡ Some o
+      → StandsWith (popped v t) v t (drop 1 ((undo_of v).active t))
+  pub seals : (v : SegmentLog) (t : ℕ) (o : Open) (q : Request) (y : Reply) → active_at v t ≡ Some o
+      → StandsSealed (sealed v t q y) v t q y
   pub drops : (v : SegmentLog) (t : ℕ) → records_at v t ≡ [] → StandAlike (dropped v t) v
   -- giving up the oldest commits, one after another, is what a purge makes of them
   pub cuts : (v : SegmentLog) (n : ℕ) → StandsCut (with_newest n v) v n
   -- opening the newest again is the first part of what a rewind does with it
-  pub reopens : (v : SegmentLog) (c : Committed) (cs : List Committed) → v.committed ≡ c ∷ cs → c.terminal < length v.terminals → StandsReopened (reopened v v.committed) v c
+  pub reopens : (v : SegmentLog) (c : Committed) (cs : List Committed) → v.committed ≡ c ∷ cs
+      → c.terminal < length v.terminals → StandsReopened (reopened v v.committed) v c
 
--- in the machine whose records lie in extents: a record of that length fits neither the rest of the terminal's last extent nor a free one
+-- in the machine whose records lie in extents: a record of that length fits neither the rest of the terminal's last
+-- extent nor a free one
 abbrev pub IsFullIn : Undo (machine InExtents) → ℕ → ℕ → ℕ → Type 0
-IsFullIn u extents t n = ((filled (machine InExtents) (lengths_of (machine InExtents) (u.active t))).1 < n) × (extents ≤ used_of (machine InExtents) u)
+IsFullIn u extents t n = ((filled (machine InExtents) (lengths_of (machine InExtents) (u.active t))).1 < n)
+    × (extents ≤ used_of (machine InExtents) u)
 
 -- the log is full exactly where that machine's ring is
 abbrev pub Full_as_the_machine : Type 0

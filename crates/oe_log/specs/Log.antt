@@ -1,5 +1,6 @@
 -- Transactions' segments as plain data, and what their calls do to them.
-use Rattle.std.specs.Prelude.{◌<◌, ◌≤◌, ℕ, suc, ◌+◌, ◌-◌, ◌==◌, cond, List, [], ◌∷◌, map, get_or, set, take, drop, replicate, option_map, Option, None, Some, is_some}
+use Rattle.std.specs.Prelude.{◌<◌, ◌≤◌, ℕ, suc, ◌+◌, ◌-◌, ◌==◌, cond, List, [], ◌∷◌, map, get_or, set, take, drop}
+use Rattle.std.specs.Prelude.{replicate, option_map, Option, None, Some, is_some}
 use Rattle.std.specs.List.{sum_by, count_by}
 use Rattle.oe_values.specs.declared.numbers.TheConstants.{TERMINALS}
 use Rattle.oe_requests.specs.declared.requests.Request.{Request}
@@ -120,7 +121,8 @@ abbrev pub sealed : SegmentLog → ℕ → Request → Reply → SegmentLog
 sealed v t q y =
     record {
       terminals = set v.terminals t (record { count = suc (count_at v t); active = None });
-      committed = record { terminal = t; number = suc (count_at v t); request = q; reply = y; records = records_at v t } ∷ v.committed;
+      committed = record { terminal = t; number = suc (count_at v t); request = q; reply = y; records = records_at v t }
+          ∷ v.committed;
       extents = v.extents;
     }
 

@@ -11,7 +11,15 @@ use Rattle.oe_log.specs.Stands.{undo_of, seals_of, counts_of}
 
 -- rows and a log as a store of the theory of transactions, beside the slots of open transactions
 abbrev pub store_with : Rows → SegmentLog → (ℕ → Option (Slot system)) → Store system
-store_with r v slots = record { tables = r; undo = undo_of v; slots = slots; seals = seals_of v; counts = counts_of v; extents = v.extents }
+store_with r v slots =
+    record {
+      tables = r;
+      undo = undo_of v;
+      slots = slots;
+      seals = seals_of v;
+      counts = counts_of v;
+      extents = v.extents;
+    }
 
 -- the number of all commits so far
 abbrev pub newest : SegmentLog → ℕ

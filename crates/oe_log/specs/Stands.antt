@@ -24,11 +24,17 @@ deleted_keys bs = filter_map deleted_new_order bs
 
 -- the records of each open transaction and of each commit
 abbrev pub undo_of : SegmentLog → Undo system
-undo_of v = record { active = λ t. model_records (records_at v t); history = map (λ c. model_records c.records) v.committed }
+undo_of v = record {
+  active = λ t. model_records (records_at v t);
+  history = map (λ c. model_records c.records) v.committed;
+}
 
 -- the same, for the machine of any layout of records
 abbrev pub undo_in : (layout : Layout) → SegmentLog → Undo (machine layout)
-undo_in layout v = record { active = λ t. model_records (records_at v t); history = map (λ c. model_records c.records) v.committed }
+undo_in layout v = record {
+  active = λ t. model_records (records_at v t);
+  history = map (λ c. model_records c.records) v.committed;
+}
 
 abbrev pub seal_of : Committed → Seal system
 seal_of c = record { tx = record { terminal = c.terminal; number = c.number; request = c.request }; reply = c.reply }

@@ -30,7 +30,8 @@ records_in (s ∷ ss) = before_others s.address (record_at s.bytes) (records_in 
 abbrev pub AreRecords : List Addressed → Type 0
 AreRecords ss = AllByRecursion (λ s. IsStoredRecord s.bytes) ss
 
--- the ring holds as many records of each terminal and of each commit as these lengths say, and has room for `opens` commits more
+-- the ring holds as many records of each terminal and of each commit as these lengths say, and has room for `opens`
+-- commits more
 pub record HoldsRecords (r : RingStrings) (lens committed_lens : List ℕ) (opens : ℕ) : Type 0 where
   pub slots : length r.active ≡ suc TERMINALS
   pub extents : r.extents ≤ 4096

@@ -1,5 +1,6 @@
 -- Each change is accepted or refused for a cause, and what is accepted keeps the schema.
-use Rattle.std.proofs.Common.{◌≡◌, ℕ, zero, suc, refl, sym, ◌∙◌, ap, subst, true, false, List, [], ◌∷◌, Option, Some, None, inl, inr, arith, length}
+use Rattle.std.proofs.Common.{◌≡◌, ℕ, zero, suc, refl, sym, ◌∙◌, ap, subst, true, false, List, [], ◌∷◌, Option, Some}
+use Rattle.std.proofs.Common.{None, inl, inr, arith, length}
 use Rattle.std.specs.Prelude.{◌≢◌, ◌⊎◌, ◌<◌, IsSome, is_some, option_map, slice_index_or}
 use Rattle.std.specs.List.{Contains}
 use Rattle.std.specs.declared.cmp.Ordering.{Ordering}
@@ -15,13 +16,21 @@ use Rattle.oe_rows.specs.declared.customers.Customer.{Customer}
 use Rattle.oe_rows.specs.declared.orders.Order.{Order}
 use Rattle.oe_requests.specs.declared.refusals.Refusal.{Refusal}
 use Rattle.oe_requests.specs.declared.refusals.Refusal.TheVariants.{NoSuchRow, RowExists, Reference, KeyColumn}
-use Rattle.oe_rows.proofs.KeyFacts.{warehouse_total, exact_warehouse, district_total, exact_district, customer_total, exact_customer, history_total, exact_history, new_order_total, exact_new_order, order_total, exact_order, order_line_total, exact_order_line, stock_total, exact_stock}
-use Rattle.oe_model.specs.Keys.{warehouse_of_district, district_of_customer, customer_of_order, order_of_new_order, order_of_line, supply_of_line, warehouse_of_stock, item_of_stock, customer_in, district_of_order}
+use Rattle.oe_rows.proofs.KeyFacts.{warehouse_total, exact_warehouse, district_total, exact_district, customer_total}
+use Rattle.oe_rows.proofs.KeyFacts.{exact_customer, history_total, exact_history, new_order_total, exact_new_order}
+use Rattle.oe_rows.proofs.KeyFacts.{order_total, exact_order, order_line_total, exact_order_line, stock_total}
+use Rattle.oe_rows.proofs.KeyFacts.{exact_stock}
+use Rattle.oe_model.specs.Keys.{warehouse_of_district, district_of_customer, customer_of_order, order_of_new_order}
+use Rattle.oe_model.specs.Keys.{order_of_line, supply_of_line, warehouse_of_stock, item_of_stock, customer_in}
+use Rattle.oe_model.specs.Keys.{district_of_order}
 use Rattle.oe_model.specs.Rows.{Rows, row_at}
-use Rattle.oe_model.specs.Changes.{Change, InsertHistory, InsertNewOrder, InsertOrder, InsertOrderLine, UpdateWarehouse, UpdateDistrict, UpdateCustomer, UpdateOrder, UpdateOrderLine, UpdateStock, DeleteNewOrder, key_of, changed}
+use Rattle.oe_model.specs.Changes.{Change, InsertHistory, InsertNewOrder, InsertOrder, InsertOrderLine, UpdateWarehouse}
+use Rattle.oe_model.specs.Changes.{UpdateDistrict, UpdateCustomer, UpdateOrder, UpdateOrderLine, UpdateStock}
+use Rattle.oe_model.specs.Changes.{DeleteNewOrder, key_of, changed}
 use Rattle.oe_model.specs.Meets.{Meets, Accepts, Cause, is_insert, referred}
 use Rattle.oe_model.proofs.MapFacts.{is_self}
-use Rattle.oe_model.proofs.PresenceFacts.{present_some, missing, present_or_absent, some-map, key_cases, each_row, each_left, present_insert, present_before}
+use Rattle.oe_model.proofs.PresenceFacts.{present_some, missing, present_or_absent, some-map, key_cases, each_row}
+use Rattle.oe_model.proofs.PresenceFacts.{each_left, present_insert, present_before}
 
 -- equality of texts and of numbers is decided
 decided : {K : Type 0} {R : K → K → Ordering} → IsTotalOrder R → IsAntisymmetric R → (a b : K) → (a ≡ b) ⊎ (a ≢ b)
@@ -29,7 +38,8 @@ decided {R = R} o exact a b = go (key_cases o exact a b)
   where
     go : (a ≡ b) ⊎ (eq_by_cmp R a b ≡ false) → (a ≡ b) ⊎ (a ≢ b)
     go (inl e) = inl e
-    go (inr n) = inr (λ e. let no : true ≡ false = sym (is_self o exact b) ∙ ap (λ z. eq_by_cmp R z b) (sym e) ∙ n in let z : ⊥ = cc in z)
+    go (inr n) = inr (λ e. let no : true ≡ false = sym (is_self o exact b) ∙ ap (λ z. eq_by_cmp R z b) (sym e) ∙ n in
+        let z : ⊥ = cc in z)
 
 texts_decided : (a b : List ℕ) → (a ≡ b) ⊎ (a ≢ b)
 texts_decided = decided nat_list_cmp_total (slice_cmp-IsAntisymmetric nat_cmp-IsAntisymmetric)
@@ -52,7 +62,8 @@ module _ {A : Type 0} (c : A → Row) (o : Option A) where
   not_there e = ap (option_map c) e
 
 -- an insert that refers to one row, or to two
-insert_one : {A B : Type 0} (P : Type 0) (d : Change) (r : Rows) (k j : Key) (a : Option A) (b : Option B) → (a ≡ None → IsSome b → P)
+insert_one : {A B : Type 0} (P : Type 0) (d : Change) (r : Rows) (k j : Key) (a : Option A) (b : Option B)
+    → (a ≡ None → IsSome b → P)
     → (IsSome a → Cause d r (RowExists k)) → (b ≡ None → Cause d r (Reference j)) → P ⊎ ((e : Refusal) × Cause d r e)
 insert_one P d r k j a b ok exists refers = go (present_or_absent a) (present_or_absent b)
   where
@@ -62,7 +73,8 @@ insert_one P d r k j a b ok exists refers = go (present_or_absent a) (present_or
     go (inr h) (inr g) = inr (Reference j, refers g)
 
 -- an update or a delete of a row that has to be there
-update_one : {A : Type 0} (P : Type 0) (d : Change) (r : Rows) (k : Key) (a : Option A) → (a ≡ None → Cause d r (NoSuchRow k))
+update_one : {A : Type 0} (P : Type 0) (d : Change) (r : Rows) (k : Key) (a : Option A)
+    → (a ≡ None → Cause d r (NoSuchRow k))
     → ((x : A) → a ≡ Some x → P ⊎ ((e : Refusal) × Cause d r e)) → P ⊎ ((e : Refusal) × Cause d r e)
 update_one P d r k None absent ok = inr (NoSuchRow k, absent refl)
 update_one P d r k (Some x) absent ok = ok x refl
@@ -70,58 +82,120 @@ update_one P d r k (Some x) absent ok = ok x refl
 pub judged : (c : Change) (r : Rows) → Judged c r
 judged (InsertHistory k x) r =
     let d : Change = InsertHistory k x in
-    pick (present_or_absent (get r.histories k)) (present_or_absent (get r.customers x.customer)) (present_or_absent (get r.districts x.district))
+    pick (present_or_absent (get r.histories k)) (present_or_absent (get r.customers x.customer))
+    (present_or_absent (get r.districts x.district))
   where
-    pick : IsSome (get r.histories k) ⊎ (get r.histories k ≡ None) → IsSome (get r.customers x.customer) ⊎ (get r.customers x.customer ≡ None)
+    pick : IsSome (get r.histories k) ⊎ (get r.histories k ≡ None) → IsSome (get r.customers x.customer)
+        ⊎ (get r.customers x.customer ≡ None)
         → IsSome (get r.districts x.district) ⊎ (get r.districts x.district ≡ None) → Judged (InsertHistory k x) r
     pick (inl h) _ _ = inr (RowExists (key.History k), (refl, refl, there row.History (get r.histories k) h))
-    pick (inr h) (inr g) _ = inr (Reference (key.Customer x.customer), (first_of (key.Customer x.customer) (key.District x.district ∷ []), not_there row.Customer (get r.customers x.customer) g))
-    pick (inr h) (inl g) (inr f) = inr (Reference (key.District x.district), (second_of (key.Customer x.customer) (key.District x.district) [], not_there row.District (get r.districts x.district) f))
+    pick (inr h) (inr g) _ =
+        inr (
+          Reference (key.Customer x.customer),
+          (
+            first_of (key.Customer x.customer) (key.District x.district ∷ []),
+            not_there row.Customer
+                (get r.customers x.customer) g,
+          ),
+        )
+    pick (inr h) (inl g) (inr f) =
+        inr (
+          Reference (key.District x.district),
+          (
+            second_of (key.Customer x.customer) (key.District x.district) [],
+            not_there row.District
+                (get r.districts x.district) f,
+          ),
+        )
     pick (inr h) (inl g) (inl f) = inl (h, g, f)
 judged (InsertNewOrder k x) r =
-    insert_one (Accepts (InsertNewOrder k x) r) (InsertNewOrder k x) r (key.NewOrder k) (key.Order (order_of_new_order k)) (get r.new_orders k) (get r.orders (order_of_new_order k)) (λ h g. (h, g))
-    (λ h. (refl, refl, there row.NewOrder (get r.new_orders k) h)) (λ g. (first_of (key.Order (order_of_new_order k)) [], not_there row.Order (get r.orders (order_of_new_order k)) g))
+    insert_one (Accepts (InsertNewOrder k x) r) (InsertNewOrder k x) r (key.NewOrder k)
+    (key.Order (order_of_new_order k)) (get r.new_orders k) (get r.orders (order_of_new_order k)) (λ h g. (h, g))
+    (λ h. (refl, refl, there row.NewOrder (get r.new_orders k) h))
+    (λ g. (
+      first_of (key.Order (order_of_new_order k)) [],
+      not_there row.Order (get r.orders (order_of_new_order k))
+          g,
+    ))
 judged (InsertOrder k x) r =
-    insert_one (Accepts (InsertOrder k x) r) (InsertOrder k x) r (key.Order k) (key.Customer (customer_of_order k x)) (get r.orders k) (get r.customers (customer_of_order k x)) (λ h g. (h, g))
-    (λ h. (refl, refl, there row.Order (get r.orders k) h)) (λ g. (first_of (key.Customer (customer_of_order k x)) [], not_there row.Customer (get r.customers (customer_of_order k x)) g))
-judged (InsertOrderLine k x) r = pick (present_or_absent (get r.order_lines k)) (present_or_absent (get r.orders (order_of_line k))) (present_or_absent (get r.stocks (supply_of_line x)))
+    insert_one (Accepts (InsertOrder k x) r) (InsertOrder k x) r (key.Order k) (key.Customer (customer_of_order k x))
+    (get r.orders k) (get r.customers (customer_of_order k x)) (λ h g. (h, g))
+    (λ h. (refl, refl, there row.Order (get r.orders k) h))
+    (λ g. (
+      first_of (key.Customer (customer_of_order k x)) [],
+      not_there row.Customer
+          (get r.customers (customer_of_order k x)) g,
+    ))
+judged (InsertOrderLine k x) r = pick (present_or_absent (get r.order_lines k))
+    (present_or_absent (get r.orders (order_of_line k))) (present_or_absent (get r.stocks (supply_of_line x)))
   where
-    pick : IsSome (get r.order_lines k) ⊎ (get r.order_lines k ≡ None) → IsSome (get r.orders (order_of_line k)) ⊎ (get r.orders (order_of_line k) ≡ None)
-        → IsSome (get r.stocks (supply_of_line x)) ⊎ (get r.stocks (supply_of_line x) ≡ None) → Judged (InsertOrderLine k x) r
+    pick : IsSome (get r.order_lines k) ⊎ (get r.order_lines k ≡ None)
+        → IsSome (get r.orders (order_of_line k)) ⊎ (get r.orders (order_of_line k) ≡ None)
+        → IsSome (get r.stocks (supply_of_line x)) ⊎ (get r.stocks (supply_of_line x) ≡ None)
+        → Judged (InsertOrderLine k x) r
     pick (inl h) _ _ = inr (RowExists (key.OrderLine k), (refl, refl, there row.OrderLine (get r.order_lines k) h))
-    pick (inr h) (inr g) _ = inr (Reference (key.Order (order_of_line k)), (first_of (key.Order (order_of_line k)) (key.Stock (supply_of_line x) ∷ []), not_there row.Order (get r.orders (order_of_line k)) g))
-    pick (inr h) (inl g) (inr f) = inr (Reference (key.Stock (supply_of_line x)), (second_of (key.Order (order_of_line k)) (key.Stock (supply_of_line x)) [], not_there row.Stock (get r.stocks (supply_of_line x)) f))
+    pick (inr h) (inr g) _ =
+        inr (
+          Reference (key.Order (order_of_line k)),
+          (
+            first_of (key.Order (order_of_line k)) (key.Stock (supply_of_line x) ∷ []),
+            not_there row.Order
+                (get r.orders (order_of_line k)) g,
+          ),
+        )
+    pick (inr h) (inl g) (inr f) =
+        inr (
+          Reference (key.Stock (supply_of_line x)),
+          (
+            second_of (key.Order (order_of_line k)) (key.Stock (supply_of_line x)) [],
+            not_there row.Stock
+                (get r.stocks (supply_of_line x)) f,
+          ),
+        )
     pick (inr h) (inl g) (inl f) = inl (h, g, f)
 judged (UpdateWarehouse k x) r =
-    update_one (Accepts (UpdateWarehouse k x) r) (UpdateWarehouse k x) r (key.Warehouse k) (get r.warehouses k) (λ e. (refl, refl, not_there row.Warehouse (get r.warehouses k) e)) (λ y e. inl (ap is_some e))
+    update_one (Accepts (UpdateWarehouse k x) r) (UpdateWarehouse k x) r (key.Warehouse k) (get r.warehouses k)
+    (λ e. (refl, refl, not_there row.Warehouse (get r.warehouses k) e)) (λ y e. inl (ap is_some e))
 judged (UpdateDistrict k x) r =
-    update_one (Accepts (UpdateDistrict k x) r) (UpdateDistrict k x) r (key.District k) (get r.districts k) (λ e. (refl, refl, not_there row.District (get r.districts k) e)) (λ y e. inl (ap is_some e))
+    update_one (Accepts (UpdateDistrict k x) r) (UpdateDistrict k x) r (key.District k) (get r.districts k)
+    (λ e. (refl, refl, not_there row.District (get r.districts k) e)) (λ y e. inl (ap is_some e))
 judged (UpdateCustomer k x) r =
-    update_one (Accepts (UpdateCustomer k x) r) (UpdateCustomer k x) r (key.Customer k) (get r.customers k) (λ e. (refl, refl, not_there row.Customer (get r.customers k) e))
+    update_one (Accepts (UpdateCustomer k x) r) (UpdateCustomer k x) r (key.Customer k) (get r.customers k)
+    (λ e. (refl, refl, not_there row.Customer (get r.customers k) e))
     (λ y e. pick y e (texts_decided x.name.last y.name.last) (texts_decided x.name.first y.name.first))
   where
-    pick : (y : Customer) → get r.customers k ≡ Some y → (x.name.last ≡ y.name.last) ⊎ (x.name.last ≢ y.name.last) → (x.name.first ≡ y.name.first) ⊎ (x.name.first ≢ y.name.first) → Judged (UpdateCustomer k x) r
+    pick : (y : Customer) → get r.customers k ≡ Some y → (x.name.last ≡ y.name.last) ⊎ (x.name.last ≢ y.name.last)
+        → (x.name.first ≡ y.name.first) ⊎ (x.name.first ≢ y.name.first) → Judged (UpdateCustomer k x) r
     pick y e (inr n) _ = inr (KeyColumn, (y, e, inl n))
     pick y e (inl l) (inr n) = inr (KeyColumn, (y, e, inr n))
     pick y e (inl l) (inl f) = inl (y, e, l, f)
 judged (UpdateOrder k x) r =
-    update_one (Accepts (UpdateOrder k x) r) (UpdateOrder k x) r (key.Order k) (get r.orders k) (λ e. (refl, refl, not_there row.Order (get r.orders k) e))
+    update_one (Accepts (UpdateOrder k x) r) (UpdateOrder k x) r (key.Order k) (get r.orders k)
+    (λ e. (refl, refl, not_there row.Order (get r.orders k) e))
     (λ y e. pick y e (decided nat_cmp_total nat_cmp-IsAntisymmetric x.customer y.customer))
   where
-    pick : (y : Order) → get r.orders k ≡ Some y → (x.customer ≡ y.customer) ⊎ (x.customer ≢ y.customer) → Judged (UpdateOrder k x) r
+    pick : (y : Order) → get r.orders k ≡ Some y → (x.customer ≡ y.customer) ⊎ (x.customer ≢ y.customer)
+        → Judged (UpdateOrder k x) r
     pick y e (inl s) = inl (y, e, s)
     pick y e (inr n) = inr (KeyColumn, (y, e, n))
 judged (UpdateOrderLine k x) r =
-    update_one (Accepts (UpdateOrderLine k x) r) (UpdateOrderLine k x) r (key.OrderLine k) (get r.order_lines k) (λ e. (refl, refl, not_there row.OrderLine (get r.order_lines k) e))
+    update_one (Accepts (UpdateOrderLine k x) r) (UpdateOrderLine k x) r (key.OrderLine k) (get r.order_lines k)
+    (λ e. (refl, refl, not_there row.OrderLine (get r.order_lines k) e))
     (λ y e. pick (ap is_some e) (present_or_absent (get r.stocks (supply_of_line x))))
   where
-    pick : IsSome (get r.order_lines k) → IsSome (get r.stocks (supply_of_line x)) ⊎ (get r.stocks (supply_of_line x) ≡ None) → Judged (UpdateOrderLine k x) r
+    pick : IsSome (get r.order_lines k) → IsSome (get r.stocks (supply_of_line x))
+        ⊎ (get r.stocks (supply_of_line x) ≡ None) → Judged (UpdateOrderLine k x) r
     pick h (inl g) = inl (h, g)
-    pick h (inr g) = inr (Reference (key.Stock (supply_of_line x)), (first_of (key.Stock (supply_of_line x)) [], not_there row.Stock (get r.stocks (supply_of_line x)) g))
+    pick h (inr g) = inr (
+      Reference (key.Stock (supply_of_line x)),
+      (first_of (key.Stock (supply_of_line x)) [], not_there row.Stock (get r.stocks (supply_of_line x)) g),
+    )
 judged (UpdateStock k x) r =
-    update_one (Accepts (UpdateStock k x) r) (UpdateStock k x) r (key.Stock k) (get r.stocks k) (λ e. (refl, refl, not_there row.Stock (get r.stocks k) e)) (λ y e. inl (ap is_some e))
+    update_one (Accepts (UpdateStock k x) r) (UpdateStock k x) r (key.Stock k) (get r.stocks k)
+    (λ e. (refl, refl, not_there row.Stock (get r.stocks k) e)) (λ y e. inl (ap is_some e))
 judged (DeleteNewOrder k) r =
-    update_one (Accepts (DeleteNewOrder k) r) (DeleteNewOrder k) r (key.NewOrder k) (get r.new_orders k) (λ e. (refl, refl, not_there row.NewOrder (get r.new_orders k) e)) (λ y e. inl (ap is_some e))
+    update_one (Accepts (DeleteNewOrder k) r) (DeleteNewOrder k) r (key.NewOrder k) (get r.new_orders k)
+    (λ e. (refl, refl, not_there row.NewOrder (get r.new_orders k) e)) (λ y e. inl (ap is_some e))
 
 -- what an accepted change finds at its key, and at those that it refers to
 found_there : (c : Change) (r : Rows) → Accepts c r → is_insert c ≡ false → IsSome (row_at r (key_of c))
@@ -155,10 +229,12 @@ AllThere r [] = Unit {0}
 AllThere r (k ∷ ks) = IsSome (row_at r k) × AllThere r ks
 
 found_referred : (c : Change) (r : Rows) → Accepts c r → AllThere r (referred c)
-found_referred (InsertHistory k x) r a = (there row.Customer (get r.customers x.customer) a.1, (there row.District (get r.districts x.district) a.2, tt))
+found_referred (InsertHistory k x) r a =
+    (there row.Customer (get r.customers x.customer) a.1, (there row.District (get r.districts x.district) a.2, tt))
 found_referred (InsertNewOrder k x) r a = (there row.Order (get r.orders (order_of_new_order k)) a.1, tt)
 found_referred (InsertOrder k x) r a = (there row.Customer (get r.customers (customer_of_order k x)) a.1, tt)
-found_referred (InsertOrderLine k x) r a = (there row.Order (get r.orders (order_of_line k)) a.1, (there row.Stock (get r.stocks (supply_of_line x)) a.2, tt))
+found_referred (InsertOrderLine k x) r a =
+    (there row.Order (get r.orders (order_of_line k)) a.1, (there row.Stock (get r.stocks (supply_of_line x)) a.2, tt))
 found_referred (UpdateOrderLine k x) r a = (there row.Stock (get r.stocks (supply_of_line x)) a.1, tt)
 found_referred (UpdateWarehouse k x) r a = tt
 found_referred (UpdateDistrict k x) r a = tt
@@ -168,7 +244,8 @@ found_referred (UpdateStock k x) r a = tt
 found_referred (DeleteNewOrder k) r a = tt
 
 -- a key of the list is there
-listed_there : (r : Rows) (ks : List Key) (k : Key) (i : ℕ) → AllThere r ks → i < length ks → slice_index_or ks i k ≡ k → IsSome (row_at r k)
+listed_there : (r : Rows) (ks : List Key) (k : Key) (i : ℕ) → AllThere r ks → i < length ks → slice_index_or ks i k ≡ k
+    → IsSome (row_at r k)
 listed_there r [] k i all h e = absurd (let no : ⊥ = omega arith in no)
 listed_there r (j ∷ ks) k zero all h e = subst (λ (z : Key). IsSome (row_at r z)) e all.0
 listed_there r (j ∷ ks) k (suc i) all h e = listed_there r ks k i all.1 (omega arith) e
@@ -199,13 +276,16 @@ keeps_columns (DeleteNewOrder k) r a c = c
 pub not_both : (c : Change) (r : Rows) (e : Refusal) → Accepts c r → Cause c r e → ⊥
 not_both c r (NoSuchRow k) a h = missing (row_at r (key_of c)) (found_there c r a h.1) (ap (row_at r) (sym h.0) ∙ h.2)
 not_both c r (RowExists k) a h = missing (row_at r k) h.2 (ap (row_at r) h.0 ∙ found_absent c r a h.1)
-not_both c r (Reference k) a h = missing (row_at r k) (listed_there r (referred c) k h.0.0 (found_referred c r a) h.0.1 h.0.2) h.1
+not_both c r (Reference k) a h = missing (row_at r k)
+    (listed_there r (referred c) k h.0.0 (found_referred c r a) h.0.1 h.0.2) h.1
 not_both c r KeyColumn a h = keeps_columns c r a h
 not_both c r _ a h = h
 
 pub accepted_meets : (c : Change) (r : Rows) → Accepts c r → Meets r → Meets (changed c r)
 accepted_meets (InsertHistory k x) r a m = record {
-  histories = each_row history_total exact_history (λ j y. IsSome (get r.customers y.customer) × IsSome (get r.districts y.district)) r.histories k x (a.1, a.2) m.histories;
+  histories = each_row history_total exact_history
+      (λ j y. IsSome (get r.customers y.customer) × IsSome (get r.districts y.district)) r.histories k x (a.1, a.2)
+      m.histories;
   districts = m.districts;
   customers = m.customers;
   new_orders = m.new_orders;
@@ -215,7 +295,8 @@ accepted_meets (InsertHistory k x) r a m = record {
   ten_districts = m.ten_districts;
 }
 accepted_meets (InsertNewOrder k x) r a m = record {
-  new_orders = each_row new_order_total exact_new_order (λ j y. IsSome (get r.orders (order_of_new_order j))) r.new_orders k x a.1 m.new_orders;
+  new_orders = each_row new_order_total exact_new_order (λ j y. IsSome (get r.orders (order_of_new_order j)))
+      r.new_orders k x a.1 m.new_orders;
   districts = m.districts;
   customers = m.customers;
   histories = m.histories;
@@ -225,9 +306,11 @@ accepted_meets (InsertNewOrder k x) r a m = record {
   ten_districts = m.ten_districts;
 }
 accepted_meets (InsertOrder k x) r a m = record {
-  orders = each_row order_total exact_order (λ j y. IsSome (get r.customers (customer_of_order j y))) r.orders k x a.1 m.orders;
+  orders = each_row order_total exact_order (λ j y. IsSome (get r.customers (customer_of_order j y))) r.orders k x a.1
+      m.orders;
   new_orders = λ j y e. present_insert order_total exact_order r.orders k x (order_of_new_order j) (m.new_orders j y e);
-  order_lines = λ j y e. let h = m.order_lines j y e in (present_insert order_total exact_order r.orders k x (order_of_line j) h.0, h.1);
+  order_lines = λ j y e. let h = m.order_lines j y e in
+      (present_insert order_total exact_order r.orders k x (order_of_line j) h.0, h.1);
   districts = m.districts;
   customers = m.customers;
   histories = m.histories;
@@ -235,7 +318,9 @@ accepted_meets (InsertOrder k x) r a m = record {
   ten_districts = m.ten_districts;
 }
 accepted_meets (InsertOrderLine k x) r a m = record {
-  order_lines = each_row order_line_total exact_order_line (λ j y. IsSome (get r.orders (order_of_line j)) × IsSome (get r.stocks (supply_of_line y))) r.order_lines k x (a.1, a.2) m.order_lines;
+  order_lines = each_row order_line_total exact_order_line
+      (λ j y. IsSome (get r.orders (order_of_line j)) × IsSome (get r.stocks (supply_of_line y))) r.order_lines k x
+      (a.1, a.2) m.order_lines;
   districts = m.districts;
   customers = m.customers;
   histories = m.histories;
@@ -245,9 +330,12 @@ accepted_meets (InsertOrderLine k x) r a m = record {
   ten_districts = m.ten_districts;
 }
 accepted_meets (UpdateWarehouse k x) r a m = record {
-  districts = λ j y e. present_insert warehouse_total exact_warehouse r.warehouses k x (warehouse_of_district j) (m.districts j y e);
-  stocks = λ j y e. let h = m.stocks j y e in (present_insert warehouse_total exact_warehouse r.warehouses k x (warehouse_of_stock j) h.0, h.1);
-  ten_districts = λ j w. m.ten_districts j (present_before warehouse_total exact_warehouse r.warehouses k x (warehouse_of_district j) a w);
+  districts = λ j y e. present_insert warehouse_total exact_warehouse r.warehouses k x (warehouse_of_district j)
+      (m.districts j y e);
+  stocks = λ j y e. let h = m.stocks j y e in
+      (present_insert warehouse_total exact_warehouse r.warehouses k x (warehouse_of_stock j) h.0, h.1);
+  ten_districts = λ j w. m.ten_districts j
+      (present_before warehouse_total exact_warehouse r.warehouses k x (warehouse_of_district j) a w);
   customers = m.customers;
   histories = m.histories;
   new_orders = m.new_orders;
@@ -257,19 +345,26 @@ accepted_meets (UpdateWarehouse k x) r a m = record {
 accepted_meets (UpdateDistrict k x) r a m =
     let old = present_some (get r.districts k) a in
     record {
-      districts = each_row district_total exact_district (λ j y. IsSome (get r.warehouses (warehouse_of_district j))) r.districts k x (m.districts k old.0 old.1) m.districts;
-      customers = λ j y e. present_insert district_total exact_district r.districts k x (district_of_customer j) (m.customers j y e);
-      histories = λ j y e. let h = m.histories j y e in (h.0, present_insert district_total exact_district r.districts k x y.district h.1);
-      ten_districts = λ j w low high. present_insert district_total exact_district r.districts k x j (m.ten_districts j w low high);
+      districts = each_row district_total exact_district (λ j y. IsSome (get r.warehouses (warehouse_of_district j)))
+          r.districts k x (m.districts k old.0 old.1) m.districts;
+      customers = λ j y e. present_insert district_total exact_district r.districts k x (district_of_customer j)
+          (m.customers j y e);
+      histories = λ j y e. let h = m.histories j y e in
+          (h.0, present_insert district_total exact_district r.districts k x y.district h.1);
+      ten_districts = λ j w low high. present_insert district_total exact_district r.districts k x j
+          (m.ten_districts j w low high);
       new_orders = m.new_orders;
       orders = m.orders;
       order_lines = m.order_lines;
       stocks = m.stocks;
     }
 accepted_meets (UpdateCustomer k x) r a m = record {
-  customers = each_row customer_total exact_customer (λ j y. IsSome (get r.districts (district_of_customer j))) r.customers k x (m.customers k a.0 a.1) m.customers;
-  histories = λ j y e. let h = m.histories j y e in (present_insert customer_total exact_customer r.customers k x y.customer h.0, h.1);
-  orders = λ j y e. present_insert customer_total exact_customer r.customers k x (customer_of_order j y) (m.orders j y e);
+  customers = each_row customer_total exact_customer (λ j y. IsSome (get r.districts (district_of_customer j)))
+      r.customers k x (m.customers k a.0 a.1) m.customers;
+  histories = λ j y e. let h = m.histories j y e in
+      (present_insert customer_total exact_customer r.customers k x y.customer h.0, h.1);
+  orders = λ j y e. present_insert customer_total exact_customer r.customers k x (customer_of_order j y)
+      (m.orders j y e);
   districts = m.districts;
   new_orders = m.new_orders;
   order_lines = m.order_lines;
@@ -278,9 +373,11 @@ accepted_meets (UpdateCustomer k x) r a m = record {
 }
 accepted_meets (UpdateOrder k x) r a m = record {
   orders = each_row order_total exact_order (λ j y. IsSome (get r.customers (customer_of_order j y))) r.orders k x
-      (subst (λ (c : ℕ). IsSome (get r.customers (customer_in (district_of_order k) c))) (sym a.2) (m.orders k a.0 a.1)) m.orders;
+      (subst (λ (c : ℕ). IsSome (get r.customers (customer_in (district_of_order k) c))) (sym a.2) (m.orders k a.0 a.1))
+      m.orders;
   new_orders = λ j y e. present_insert order_total exact_order r.orders k x (order_of_new_order j) (m.new_orders j y e);
-  order_lines = λ j y e. let h = m.order_lines j y e in (present_insert order_total exact_order r.orders k x (order_of_line j) h.0, h.1);
+  order_lines = λ j y e. let h = m.order_lines j y e in
+      (present_insert order_total exact_order r.orders k x (order_of_line j) h.0, h.1);
   districts = m.districts;
   customers = m.customers;
   histories = m.histories;
@@ -290,7 +387,8 @@ accepted_meets (UpdateOrder k x) r a m = record {
 accepted_meets (UpdateOrderLine k x) r a m =
     let old = present_some (get r.order_lines k) a.0 in
     record {
-      order_lines = each_row order_line_total exact_order_line (λ j y. IsSome (get r.orders (order_of_line j)) × IsSome (get r.stocks (supply_of_line y))) r.order_lines k x
+      order_lines = each_row order_line_total exact_order_line
+          (λ j y. IsSome (get r.orders (order_of_line j)) × IsSome (get r.stocks (supply_of_line y))) r.order_lines k x
           ((m.order_lines k old.0 old.1).0, a.1) m.order_lines;
       districts = m.districts;
       customers = m.customers;
@@ -303,8 +401,11 @@ accepted_meets (UpdateOrderLine k x) r a m =
 accepted_meets (UpdateStock k x) r a m =
     let old = present_some (get r.stocks k) a in
     record {
-      stocks = each_row stock_total exact_stock (λ j y. IsSome (get r.warehouses (warehouse_of_stock j)) × IsSome (get r.items (item_of_stock j))) r.stocks k x (m.stocks k old.0 old.1) m.stocks;
-      order_lines = λ j y e. let h = m.order_lines j y e in (h.0, present_insert stock_total exact_stock r.stocks k x (supply_of_line y) h.1);
+      stocks = each_row stock_total exact_stock
+          (λ j y. IsSome (get r.warehouses (warehouse_of_stock j)) × IsSome (get r.items (item_of_stock j))) r.stocks k
+          x (m.stocks k old.0 old.1) m.stocks;
+      order_lines = λ j y e. let h = m.order_lines j y e in
+          (h.0, present_insert stock_total exact_stock r.stocks k x (supply_of_line y) h.1);
       districts = m.districts;
       customers = m.customers;
       histories = m.histories;
@@ -313,7 +414,8 @@ accepted_meets (UpdateStock k x) r a m =
       ten_districts = m.ten_districts;
     }
 accepted_meets (DeleteNewOrder k) r a m = record {
-  new_orders = each_left new_order_total exact_new_order (λ j y. IsSome (get r.orders (order_of_new_order j))) r.new_orders k m.new_orders;
+  new_orders = each_left new_order_total exact_new_order (λ j y. IsSome (get r.orders (order_of_new_order j)))
+      r.new_orders k m.new_orders;
   districts = m.districts;
   customers = m.customers;
   histories = m.histories;

@@ -12,12 +12,18 @@ use Rattle.oe_model.specs.System.{system}
 use Rattle.oe_model.proofs.SystemLaws.{laws}
 
 of_good : (f : ℕ → ℕ) (r : Rows) → Good f r → Conditions r
-of_good f r g = record { condition_1 = g.condition_1; condition_2 = g.condition_2; condition_3 = g.condition_3; condition_4 = g.condition_4 }
+of_good f r g = record {
+  condition_1 = g.condition_1;
+  condition_2 = g.condition_2;
+  condition_3 = g.condition_3;
+  condition_4 = g.condition_4;
+}
 
 pub consistent : (w : World system) → IsReached system w → Is_consistent w
 consistent w reached = record {
   of_versions = λ m. of_good _ _ (versions_are_good system laws w reached m);
-  when_quiet = λ quiet. subst Conditions (sym (tables_when_quiet system laws w quiet)) (of_good _ _ (versions_are_good system laws w reached (newest system w)));
+  when_quiet = λ quiet. subst Conditions (sym (tables_when_quiet system laws w quiet))
+      (of_good _ _ (versions_are_good system laws w reached (newest system w)));
 }
 
 pub along_runs : Runs_pass system Is_consistent (IsEnding system)

@@ -1,5 +1,6 @@
 -- How a whole effect is taken apart, the columns that may leave their ranges, and counts of commits.
-use Rattle.std.proofs.Common.{◌≡◌, ℕ, suc, ◌≤◌, refl, sym, ◌∙◌, ap, Bool, true, false, cond, List, [], ◌∷◌, Option, Some, None, arith}
+use Rattle.std.proofs.Common.{◌≡◌, ℕ, suc, ◌≤◌, refl, sym, ◌∙◌, ap, Bool, true, false, cond, List, [], ◌∷◌, Option}
+use Rattle.std.proofs.Common.{Some, None, arith}
 use Rattle.std.specs.Prelude.{◌==◌}
 use Rattle.std.proofs.lemmas.Bool.{eqb-true, eq-eqb}
 use Rattle.oe_theory.specs.World.{bump}
@@ -8,19 +9,23 @@ use Rattle.oe_model.specs.Effects.{◌>>=◌, first_out, in_range}
 use Rattle.oe_model.proofs.EntryFacts.{EachOf}
 
 -- an effect that there is has each of its values, and each row within its ranges
-pub there : {A B : Type 0} (P : Type 0) (o : Option A) (g : A → Option B) (y : B) → (o >>= g) ≡ Some y → ((a : A) → o ≡ Some a → g a ≡ Some y → P) → P
+pub there : {A B : Type 0} (P : Type 0) (o : Option A) (g : A → Option B) (y : B) → (o >>= g) ≡ Some y
+    → ((a : A) → o ≡ Some a → g a ≡ Some y → P) → P
 there P None g y e h = let no : ⊥ = cc in absurd no
 there P (Some a) g y e h = h a refl e
 
 -- values that are looked for one after another may be looked for in two parts
-pub bind_in : {A B C : Type 0} (o : Option A) (f : A → Option B) (g : B → Option C) → ((o >>= f) >>= g) ≡ (o >>= λ a. f a >>= g)
+pub bind_in : {A B C : Type 0} (o : Option A) (f : A → Option B) (g : B → Option C)
+    → ((o >>= f) >>= g) ≡ (o >>= λ a. f a >>= g)
 bind_in None f g = refl
 bind_in (Some a) f g = refl
 
-pub there_in_range : {A B : Type 0} (P : Type 0) (out : A → Option Column) (x : A) (g : A → Option B) (y : B) → (in_range out x >>= g) ≡ Some y → (out x ≡ None → g x ≡ Some y → P) → P
+pub there_in_range : {A B : Type 0} (P : Type 0) (out : A → Option Column) (x : A) (g : A → Option B) (y : B)
+    → (in_range out x >>= g) ≡ Some y → (out x ≡ None → g x ≡ Some y → P) → P
 there_in_range {A = A} P out x g y e h = by_out (out x) refl e
   where
-    by_out : (o : Option Column) → out x ≡ o → ((let v : Option A = elim o [ None ↦ Some x | Some c ↦ None ] in v) >>= g) ≡ Some y → P
+    by_out : (o : Option Column) → out x ≡ o
+        → ((let v : Option A = elim o [ None ↦ Some x | Some c ↦ None ] in v) >>= g) ≡ Some y → P
     by_out None t e = h t e
     by_out (Some c) t e = let no : ⊥ = cc in absurd no
 
@@ -29,7 +34,8 @@ pub made_by : {A B : Type 0} (a c : A) (b d : B) → ◌≡◌ {A = Option (A ×
 made_by {A = A} {B = B} a c b d e = ap (λ (o : Option (A × B)). let v : A = elim o [ None ↦ a | Some p ↦ p.0 ] in v) e
 
 -- the column that is out of its range is one of those that were tested
-pub out_among : (P : Column → Type 0) (es : List (Column × Bool)) → EachOf (λ e. P e.0) es → (c : Column) → first_out es ≡ Some c → P c
+pub out_among : (P : Column → Type 0) (es : List (Column × Bool)) → EachOf (λ e. P e.0) es → (c : Column)
+    → first_out es ≡ Some c → P c
 out_among P [] h c e = let no : ⊥ = cc in absurd no
 out_among P (d ∷ es) h c e = by_test d.1 e (out_among P es h.1 c)
   where

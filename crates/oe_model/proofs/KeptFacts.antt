@@ -8,7 +8,9 @@ use Rattle.oe_requests.specs.declared.refusals.Refusal.{Refusal}
 use Rattle.oe_rows.proofs.KeyFacts.{warehouse_total, exact_warehouse, stock_total, exact_stock}
 use Rattle.oe_model.specs.Keys.{warehouse_of_stock}
 use Rattle.oe_model.specs.Rows.{Rows}
-use Rattle.oe_model.specs.Changes.{Change, InsertHistory, InsertNewOrder, InsertOrder, InsertOrderLine, UpdateWarehouse, UpdateDistrict, UpdateCustomer, UpdateOrder, UpdateOrderLine, UpdateStock, DeleteNewOrder, changed}
+use Rattle.oe_model.specs.Changes.{Change, InsertHistory, InsertNewOrder, InsertOrder, InsertOrderLine, UpdateWarehouse}
+use Rattle.oe_model.specs.Changes.{UpdateDistrict, UpdateCustomer, UpdateOrder, UpdateOrderLine, UpdateStock}
+use Rattle.oe_model.specs.Changes.{DeleteNewOrder, changed}
 use Rattle.oe_model.specs.Meets.{Accepts}
 use Rattle.oe_model.specs.Conditions.{IsStocked}
 use Rattle.oe_model.specs.Positions.{Position}
@@ -22,15 +24,18 @@ module _ (P : Rows → Type 0) (kept : (c : Change) (r : Rows) → Accepts c r �
   after_kept None r fit h = h
   after_kept (Some c) r fit h = kept c r fit h
 
-  pub ends_kept : (Only : Refusal → Type 0) (x : Tx Request) (p : Position) (r : Rows) (end : Option (Rows × Reply)) (s : Rows) (y : Reply) → EndsSo Only x p r end → end ≡ Some (s, y) → P r → P s
+  pub ends_kept : (Only : Refusal → Type 0) (x : Tx Request) (p : Position) (r : Rows) (end : Option (Rows × Reply))
+      (s : Rows) (y : Reply) → EndsSo Only x p r end → end ≡ Some (s, y) → P r → P s
   ends_kept Only x _ _ _ s y (stops_here p r e why z) is h = let no : ⊥ = cc in absurd no
   ends_kept Only x _ _ _ s y (fails_here p r e why a b) is h = let no : ⊥ = cc in absurd no
   ends_kept Only x _ _ _ s y (ends_here p r y' a b) is h = subst P (made_by r s y' y is) h
-  ends_kept Only x _ _ _ s y (goes_here p r c q end a b fit rest) is h = ends_kept Only x q (after system c r) end s y rest is (after_kept c r fit h)
+  ends_kept Only x _ _ _ s y (goes_here p r c q end a b fit rest) is h =
+      ends_kept Only x q (after system c r) end s y rest is (after_kept c r fit h)
 
 -- STOCK rows stay, and no warehouse or item comes
 pub accepted_stocked : (c : Change) (r : Rows) → Accepts c r → IsStocked r → IsStocked (changed c r)
-accepted_stocked (UpdateWarehouse k x) r a h = λ j w i. h j (present_before warehouse_total exact_warehouse r.warehouses k x (warehouse_of_stock j) a w) i
+accepted_stocked (UpdateWarehouse k x) r a h =
+    λ j w i. h j (present_before warehouse_total exact_warehouse r.warehouses k x (warehouse_of_stock j) a w) i
 accepted_stocked (UpdateStock k x) r a h = λ j w i. present_insert stock_total exact_stock r.stocks k x j (h j w i)
 accepted_stocked (InsertHistory k x) r a h = h
 accepted_stocked (InsertNewOrder k x) r a h = h

@@ -1,5 +1,6 @@
 -- What a program's stage may read and write: lemmas that serve each program.
-use Rattle.std.proofs.Common.{cond, ◌≡◌, ℕ, refl, sym, ◌∙◌, ap, subst, Bool, true, false, List, [], ◌∷◌, ◌++◌, Option, Some, None, inl, inr}
+use Rattle.std.proofs.Common.{cond, ◌≡◌, ℕ, refl, sym, ◌∙◌, ap, subst, Bool, true, false, List, [], ◌∷◌, ◌++◌, Option}
+use Rattle.std.proofs.Common.{Some, None, inl, inr}
 use Rattle.std.specs.Prelude.{option_map, is_some, IsSome, option_and_then}
 use Rattle.std.specs.FinMap.{get}
 use Rattle.std.specs.Ordering.{eq_by_cmp, nat_cmp}
@@ -37,9 +38,12 @@ use Rattle.oe_requests.specs.declared.refusals.Refusal.{Refusal}
 use Rattle.oe_requests.specs.declared.refusals.Refusal.TheVariants.{NoSuchRow}
 use Rattle.oe_model.specs.Keys.{customer_in, customer_of_order, order_of_new_order, order_of_line, supply_of_line}
 use Rattle.oe_model.specs.Rows.{Rows, row_at, as_customer}
-use Rattle.oe_model.specs.Changes.{Change, InsertHistory, InsertNewOrder, InsertOrder, InsertOrderLine, UpdateWarehouse, UpdateDistrict, UpdateCustomer, UpdateOrder, UpdateOrderLine, UpdateStock, DeleteNewOrder, key_of, row_of}
+use Rattle.oe_model.specs.Changes.{Change, InsertHistory, InsertNewOrder, InsertOrder, InsertOrderLine, UpdateWarehouse}
+use Rattle.oe_model.specs.Changes.{UpdateDistrict, UpdateCustomer, UpdateOrder, UpdateOrderLine, UpdateStock}
+use Rattle.oe_model.specs.Changes.{DeleteNewOrder, key_of, row_of}
 use Rattle.oe_model.specs.Meets.{Accepts}
-use Rattle.oe_model.specs.Locks.{governs, Facet, WarehouseThere, DistrictThere, CustomerThere, CustomerNamed, StockThere, WholeItem, There, First, Whole, facet_key, part, first_if_named}
+use Rattle.oe_model.specs.Locks.{governs, Facet, WarehouseThere, DistrictThere, CustomerThere, CustomerNamed}
+use Rattle.oe_model.specs.Locks.{StockThere, WholeItem, There, First, Whole, facet_key, part, first_if_named}
 use Rattle.oe_model.specs.Positions.{Position}
 use Rattle.oe_model.specs.Effects.{Doing, given, within}
 use Rattle.oe_model.specs.Choice.{middle, chosen}
@@ -49,7 +53,8 @@ use Rattle.oe_model.specs.System.{system, ask, taken}
 use Rattle.oe_model.proofs.EntryFacts.{EachOf}
 use Rattle.oe_model.proofs.NamesFacts.{same_namesakes}
 use Rattle.oe_model.proofs.PresenceFacts.{some-map}
-use Rattle.oe_model.proofs.RowFacts.{out-map, un_warehouse, un_district, un_customer, un_history, un_new_order, un_order, un_order_line, un_item, un_stock}
+use Rattle.oe_model.proofs.RowFacts.{out-map, un_warehouse, un_district, un_customer, un_history, un_new_order}
+use Rattle.oe_model.proofs.RowFacts.{un_order, un_order_line, un_item, un_stock}
 
 abbrev pub IsAskedNow : Tx Request → Position → Rows → Type 0
 IsAskedNow x p r = IsAsked system (all_held system) (ask x p r)
@@ -61,15 +66,18 @@ held_then x p r = with_asked system (ask x p r) (taken x p)
 abbrev pub HeldThen : Tx Request → Position → Rows → Name → Mode → Type 0
 HeldThen x p r = Holds system (held_then x p r)
 
-pub holds_asked : (a : Ask Name Refusal) (hs : List (Hold Name)) (n : Name) (m w : Mode) → a ≡ Take n m → IsEnough (Some m) w → Holds system (with_asked system a hs) n w
-holds_asked a hs n m w e h = subst (λ (b : Ask Name Refusal). Holds system (with_asked system b hs) n w) (sym e) (inl (refl, h))
+pub holds_asked : (a : Ask Name Refusal) (hs : List (Hold Name)) (n : Name) (m w : Mode) → a ≡ Take n m
+    → IsEnough (Some m) w → Holds system (with_asked system a hs) n w
+holds_asked a hs n m w e h = subst (λ (b : Ask Name Refusal). Holds system (with_asked system b hs) n w) (sym e)
+    (inl (refl, h))
 
 pub holds_more : (xs ys : List (Hold Name)) (n : Name) (w : Mode) → Holds system ys n w → Holds system (xs ++ ys) n w
 holds_more [] ys n w h = h
 holds_more (x ∷ xs) ys n w h = inr (holds_more xs ys n w h)
 
 -- one more hold at the end of the first part is one more hold
-pub holds_last : (xs ys : List (Hold Name)) (y : Hold Name) (n : Name) (w : Mode) → Holds system ((xs ++ y ∷ []) ++ ys) n w → Holds system (y ∷ (xs ++ ys)) n w
+pub holds_last : (xs ys : List (Hold Name)) (y : Hold Name) (n : Name) (w : Mode)
+    → Holds system ((xs ++ y ∷ []) ++ ys) n w → Holds system (y ∷ (xs ++ ys)) n w
 holds_last [] ys y n w h = h
 holds_last (x ∷ xs) ys y n w (inl h) = inr (inl h)
 holds_last (x ∷ xs) ys y n w (inr h) = swap (holds_last xs ys y n w h)
@@ -88,7 +96,8 @@ holds_weaker [] n h = h
 holds_weaker (y ∷ hs) n (inl h) = inl (h.0, enough y.mode h.1)
 holds_weaker (y ∷ hs) n (inr h) = inr (holds_weaker hs n h)
 
-may_read : (hs : List (Hold Name)) (x : Tx Request) (g : Guard Name) → MayWrite system (Holds system hs) x g → MayRead system (Holds system hs) x g
+may_read : (hs : List (Hold Name)) (x : Tx Request) (g : Guard Name) → MayWrite system (Holds system hs) x g
+    → MayRead system (Holds system hs) x g
 may_read hs x Free h = h
 may_read hs x (Under n) h = holds_weaker hs n h
 may_read hs x (Own t k) h = h
@@ -97,7 +106,8 @@ may_read hs x (Own t k) h = h
 pub given_same : {A : Type 0} (e : Refusal) (a b : Option A) (f : A → Doing) → a ≡ b → given e a f ≡ given e b f
 given_same e a b f h = ap (λ o. given e o f) h
 
-pub given_goes : {A : Type 0} (e : Refusal) (o : Option A) (f : A → Doing) (c : Option Change) (q : Position) → given e o f ≡ Go c q → (a : A) × (o ≡ Some a) × (f a ≡ Go c q)
+pub given_goes : {A : Type 0} (e : Refusal) (o : Option A) (f : A → Doing) (c : Option Change) (q : Position)
+    → given e o f ≡ Go c q → (a : A) × (o ≡ Some a) × (f a ≡ Go c q)
 given_goes e None f c q h = let no : ⊥ = cc in absurd no
 given_goes e (Some a) f c q h = (a, refl, h)
 
@@ -115,7 +125,8 @@ Knows P (InsertNewOrder k x) = P (name.Order (order_of_new_order k)) Shared
 Knows P _ = Unit {0}
 
 -- what a row may do that holds these names: it holds what comes next, writes where it may, and only what may change
-pub record IsLawfulBy (x : Tx Request) (hs : List (Hold Name)) (r : Rows) (c : Option Change) (q : Position) : Type 0 where
+pub record IsLawfulBy (x : Tx Request) (hs : List (Hold Name)) (r : Rows) (c : Option Change) (q : Position) : Type
+    0 where
   pub takes : (n : Name) (m : Mode) → Holds system (taken x q) n m → Holds system hs n m
   pub writes : (d : Change) → c ≡ Some d → MayWrite system (Holds system hs) x (governs (key_of d))
   pub knows : (d : Change) → c ≡ Some d → Knows (Holds system hs) d
@@ -125,14 +136,16 @@ abbrev pub IsLawful : Tx Request → Position → Rows → Option Change → Pos
 IsLawful x p r c q = IsLawfulBy x (held_then x p r) r c q
 
 module _ (x : Tx Request) (hs : List (Hold Name)) (r : Rows) where
-  pub lawful_as : (c d : Option Change) (q z : Position) → (let a : Doing = Go d z in a) ≡ Go c q → IsLawfulBy x hs r d z → IsLawfulBy x hs r c q
+  pub lawful_as : (c d : Option Change) (q z : Position) → (let a : Doing = Go d z in a) ≡ Go c q
+      → IsLawfulBy x hs r d z → IsLawfulBy x hs r c q
   lawful_as c d q z e h =
       let one : d ≡ c = cc in
       let two : z ≡ q = cc in
       subst (λ (v : Option Change). IsLawfulBy x hs r v q) one (subst (λ (v : Position). IsLawfulBy x hs r d v) two h)
 
   -- a row that makes no change
-  pub changes_none : (q : Position) → ((n : Name) (m : Mode) → Holds system (taken x q) n m → Holds system hs n m) → IsLawfulBy x hs r None q
+  pub changes_none : (q : Position) → ((n : Name) (m : Mode) → Holds system (taken x q) n m → Holds system hs n m)
+      → IsLawfulBy x hs r None q
   changes_none q h = record {
     takes = h;
     writes = λ d e. let no : ⊥ = cc in absurd no;
@@ -141,24 +154,31 @@ module _ (x : Tx Request) (hs : List (Hold Name)) (r : Rows) where
   }
 
   -- a row that makes one change
-  pub changes_one : (d : Change) (q : Position) → ((n : Name) (m : Mode) → Holds system (taken x q) n m → Holds system hs n m)
-      → MayWrite system (Holds system hs) x (governs (key_of d)) → Knows (Holds system hs) d → Keeps d (row_at r (key_of d)) → IsLawfulBy x hs r (Some d) q
+  pub changes_one : (d : Change) (q : Position)
+      → ((n : Name) (m : Mode) → Holds system (taken x q) n m → Holds system hs n m)
+      → MayWrite system (Holds system hs) x (governs (key_of d)) → Knows (Holds system hs) d
+      → Keeps d (row_at r (key_of d)) → IsLawfulBy x hs r (Some d) q
   changes_one d q h w j k = record {
     takes = h;
-    writes = λ c e. let one : d ≡ c = cc in subst (λ (v : Change). MayWrite system (Holds system hs) x (governs (key_of v))) one w;
+    writes = λ c e. let one : d ≡ c = cc in
+        subst (λ (v : Change). MayWrite system (Holds system hs) x (governs (key_of v))) one w;
     knows = λ c e. let one : d ≡ c = cc in subst (λ (v : Change). Knows (Holds system hs) v) one j;
     keeps = λ c e. let one : d ≡ c = cc in subst (λ (v : Change). Keeps v (row_at r (key_of v))) one k;
   }
 
 -- the same, by the position
-pub lawful_at : (x : Tx Request) (p : Position) (r : Rows) (c d : Option Change) (q z : Position) → (let a : Doing = Go d z in a) ≡ Go c q → IsLawful x p r d z → IsLawful x p r c q
+pub lawful_at : (x : Tx Request) (p : Position) (r : Rows) (c d : Option Change) (q z : Position)
+    → (let a : Doing = Go d z in a) ≡ Go c q → IsLawful x p r d z → IsLawful x p r c q
 lawful_at x p r c d q z e h = lawful_as x (held_then x p r) r c d q z e h
 
-pub lawful_none : (x : Tx Request) (p : Position) (r : Rows) (q : Position) → ((n : Name) (m : Mode) → Holds system (taken x q) n m → HeldThen x p r n m) → IsLawful x p r None q
+pub lawful_none : (x : Tx Request) (p : Position) (r : Rows) (q : Position)
+    → ((n : Name) (m : Mode) → Holds system (taken x q) n m → HeldThen x p r n m) → IsLawful x p r None q
 lawful_none x p r q h = changes_none x (held_then x p r) r q h
 
-pub lawful_one : (x : Tx Request) (p : Position) (r : Rows) (d : Change) (q : Position) → ((n : Name) (m : Mode) → Holds system (taken x q) n m → HeldThen x p r n m)
-    → MayWrite system (HeldThen x p r) x (governs (key_of d)) → Knows (HeldThen x p r) d → Keeps d (row_at r (key_of d)) → IsLawful x p r (Some d) q
+pub lawful_one : (x : Tx Request) (p : Position) (r : Rows) (d : Change) (q : Position)
+    → ((n : Name) (m : Mode) → Holds system (taken x q) n m → HeldThen x p r n m)
+    → MayWrite system (HeldThen x p r) x (governs (key_of d)) → Knows (HeldThen x p r) d → Keeps d (row_at r (key_of d))
+    → IsLawful x p r (Some d) q
 lawful_one x p r d q h w j k = changes_one x (held_then x p r) r d q h w j k
 
 -- keys with a facet
@@ -183,11 +203,13 @@ no_facet : (d : Change) (before : Option Row) → is_faceted (key_of d) ≡ fals
 no_facet d before e f h = let z : true ≡ false = sym (faceted f) ∙ ap is_faceted h ∙ e in let no : ⊥ = cc in absurd no
 
 module _ (before : Option Row) where
-  pub keeps_history : (k : HistoryKey) (x : Rattle.oe_rows.specs.declared.histories.History.History) → Keeps (InsertHistory k x) before
+  pub keeps_history : (k : HistoryKey) (x : Rattle.oe_rows.specs.declared.histories.History.History)
+      → Keeps (InsertHistory k x) before
   unfolding is_faceted
   keeps_history k x = no_facet (InsertHistory k x) before refl
 
-  pub keeps_new_order : (k : NewOrderKey) (x : Rattle.oe_rows.specs.declared.orders.NewOrder.NewOrder) → Keeps (InsertNewOrder k x) before
+  pub keeps_new_order : (k : NewOrderKey) (x : Rattle.oe_rows.specs.declared.orders.NewOrder.NewOrder)
+      → Keeps (InsertNewOrder k x) before
   unfolding is_faceted
   keeps_new_order k x = no_facet (InsertNewOrder k x) before refl
 
@@ -203,32 +225,39 @@ module _ (before : Option Row) where
   unfolding is_faceted
   keeps_carrier k x = no_facet (UpdateOrder k x) before refl
 
-  pub keeps_line : (k : OrderLineKey) (x : Rattle.oe_rows.specs.declared.orders.OrderLine.OrderLine) → Keeps (InsertOrderLine k x) before
+  pub keeps_line : (k : OrderLineKey) (x : Rattle.oe_rows.specs.declared.orders.OrderLine.OrderLine)
+      → Keeps (InsertOrderLine k x) before
   unfolding is_faceted
   keeps_line k x = no_facet (InsertOrderLine k x) before refl
 
-  pub keeps_date : (k : OrderLineKey) (x : Rattle.oe_rows.specs.declared.orders.OrderLine.OrderLine) → Keeps (UpdateOrderLine k x) before
+  pub keeps_date : (k : OrderLineKey) (x : Rattle.oe_rows.specs.declared.orders.OrderLine.OrderLine)
+      → Keeps (UpdateOrderLine k x) before
   unfolding is_faceted
   keeps_date k x = no_facet (UpdateOrderLine k x) before refl
 
 -- a row that was there is still there
-pub keeps_warehouse : (r : Rows) (k : WarehouseKey) (x y : Warehouse) → get r.warehouses k ≡ Some x → Keeps (UpdateWarehouse k y) (row_at r (key.Warehouse k))
-keeps_warehouse r k x y e (WarehouseThere j) h = ap (λ (v : Option Warehouse). There (is_some (option_map row.Warehouse v))) (sym e)
+pub keeps_warehouse : (r : Rows) (k : WarehouseKey) (x y : Warehouse) → get r.warehouses k ≡ Some x
+    → Keeps (UpdateWarehouse k y) (row_at r (key.Warehouse k))
+keeps_warehouse r k x y e (WarehouseThere j) h =
+    ap (λ (v : Option Warehouse). There (is_some (option_map row.Warehouse v))) (sym e)
 keeps_warehouse r k x y e (DistrictThere j) h = let no : ⊥ = cc in absurd no
 keeps_warehouse r k x y e (CustomerThere j) h = let no : ⊥ = cc in absurd no
 keeps_warehouse r k x y e (CustomerNamed j last) h = let no : ⊥ = cc in absurd no
 keeps_warehouse r k x y e (StockThere j) h = let no : ⊥ = cc in absurd no
 keeps_warehouse r k x y e (WholeItem j) h = let no : ⊥ = cc in absurd no
 
-pub keeps_district : (r : Rows) (k : DistrictKey) (x y : District) → get r.districts k ≡ Some x → Keeps (UpdateDistrict k y) (row_at r (key.District k))
+pub keeps_district : (r : Rows) (k : DistrictKey) (x y : District) → get r.districts k ≡ Some x
+    → Keeps (UpdateDistrict k y) (row_at r (key.District k))
 keeps_district r k x y e (WarehouseThere j) h = let no : ⊥ = cc in absurd no
-keeps_district r k x y e (DistrictThere j) h = ap (λ (v : Option District). There (is_some (option_map row.District v))) (sym e)
+keeps_district r k x y e (DistrictThere j) h = ap (λ (v : Option District). There (is_some (option_map row.District v)))
+    (sym e)
 keeps_district r k x y e (CustomerThere j) h = let no : ⊥ = cc in absurd no
 keeps_district r k x y e (CustomerNamed j last) h = let no : ⊥ = cc in absurd no
 keeps_district r k x y e (StockThere j) h = let no : ⊥ = cc in absurd no
 keeps_district r k x y e (WholeItem j) h = let no : ⊥ = cc in absurd no
 
-pub keeps_stock : (r : Rows) (k : StockKey) (x y : Stock) → get r.stocks k ≡ Some x → Keeps (UpdateStock k y) (row_at r (key.Stock k))
+pub keeps_stock : (r : Rows) (k : StockKey) (x y : Stock) → get r.stocks k ≡ Some x
+    → Keeps (UpdateStock k y) (row_at r (key.Stock k))
 keeps_stock r k x y e (WarehouseThere j) h = let no : ⊥ = cc in absurd no
 keeps_stock r k x y e (DistrictThere j) h = let no : ⊥ = cc in absurd no
 keeps_stock r k x y e (CustomerThere j) h = let no : ⊥ = cc in absurd no
@@ -237,44 +266,53 @@ keeps_stock r k x y e (StockThere j) h = ap (λ (v : Option Stock). There (is_so
 keeps_stock r k x y e (WholeItem j) h = let no : ⊥ = cc in absurd no
 
 -- a customer keeps its names too
-pub keeps_customer : (r : Rows) (k : CustomerKey) (x y : Customer) → get r.customers k ≡ Some x → y.name.last ≡ x.name.last → y.name.first ≡ x.name.first
+pub keeps_customer : (r : Rows) (k : CustomerKey) (x y : Customer) → get r.customers k ≡ Some x
+    → y.name.last ≡ x.name.last → y.name.first ≡ x.name.first
     → Keeps (UpdateCustomer k y) (row_at r (key.Customer k))
 keeps_customer r k x y e a b (WarehouseThere j) h = let no : ⊥ = cc in absurd no
 keeps_customer r k x y e a b (DistrictThere j) h = let no : ⊥ = cc in absurd no
-keeps_customer r k x y e a b (CustomerThere j) h = ap (λ (v : Option Customer). There (is_some (option_map row.Customer v))) (sym e)
+keeps_customer r k x y e a b (CustomerThere j) h =
+    ap (λ (v : Option Customer). There (is_some (option_map row.Customer v))) (sym e)
 keeps_customer r k x y e a b (CustomerNamed j last) h =
     (λ i. First (cond (eq_by_cmp (slice_cmp nat_cmp) (a i) last) (Some (b i)) None))
-    ∙ ap (λ (v : Option Customer). First (first_if_named last (option_and_then as_customer (option_map row.Customer v)))) (sym e)
+    ∙ ap (λ (v : Option Customer). First
+    (first_if_named last (option_and_then as_customer (option_map row.Customer v)))) (sym e)
 keeps_customer r k x y e a b (StockThere j) h = let no : ⊥ = cc in absurd no
 keeps_customer r k x y e a b (WholeItem j) h = let no : ⊥ = cc in absurd no
 
 -- what maps tell that are alike
 module _ (P : Name → Mode → Type 0) (x : Tx Request) (r s : Rows) (alike : Alike system P x r s) where
-  same_there : {A : Type 0} (c : A → Row) (f : Facet) (a b : Option A) → There (is_some (option_map c a)) ≡ There (is_some (option_map c b)) → is_some a ≡ is_some b
+  same_there : {A : Type 0} (c : A → Row) (f : Facet) (a b : Option A)
+      → There (is_some (option_map c a)) ≡ There (is_some (option_map c b)) → is_some a ≡ is_some b
   same_there c f a b h =
       let e : is_some (option_map c a) ≡ is_some (option_map c b) = cc in
       sym (some-map c a) ∙ e ∙ some-map c b
 
   pub alike_customer : (k : CustomerKey) → is_some (get r.customers k) ≡ is_some (get s.customers k)
-  alike_customer k = same_there row.Customer (CustomerThere k) (get r.customers k) (get s.customers k) (alike.parts (CustomerThere k) tt)
+  alike_customer k = same_there row.Customer (CustomerThere k) (get r.customers k) (get s.customers k)
+      (alike.parts (CustomerThere k) tt)
 
   pub alike_district : (k : DistrictKey) → is_some (get r.districts k) ≡ is_some (get s.districts k)
-  alike_district k = same_there row.District (DistrictThere k) (get r.districts k) (get s.districts k) (alike.parts (DistrictThere k) tt)
+  alike_district k = same_there row.District (DistrictThere k) (get r.districts k) (get s.districts k)
+      (alike.parts (DistrictThere k) tt)
 
   pub alike_stock : (k : StockKey) → is_some (get r.stocks k) ≡ is_some (get s.stocks k)
   alike_stock k = same_there row.Stock (StockThere k) (get r.stocks k) (get s.stocks k) (alike.parts (StockThere k) tt)
 
-  alike_named : (k : CustomerKey) (last : List ℕ) → first_if_named last (get r.customers k) ≡ first_if_named last (get s.customers k)
+  alike_named : (k : CustomerKey) (last : List ℕ)
+      → first_if_named last (get r.customers k) ≡ first_if_named last (get s.customers k)
   alike_named k last =
       let u : Option (List ℕ) = first_if_named last (option_and_then as_customer (row_at r (key.Customer k))) in
       let v : Option (List ℕ) = first_if_named last (option_and_then as_customer (row_at s (key.Customer k))) in
       let h : First u ≡ First v = alike.parts (CustomerNamed k last) tt in
       let e : u ≡ v = cc in
-      ap (first_if_named last) (sym (out-map row.Customer as_customer (λ _. refl) (get r.customers k))) ∙ e ∙ ap (first_if_named last) (out-map row.Customer as_customer (λ _. refl) (get s.customers k))
+      ap (first_if_named last) (sym (out-map row.Customer as_customer (λ _. refl) (get r.customers k))) ∙ e
+      ∙ ap (first_if_named last) (out-map row.Customer as_customer (λ _. refl) (get s.customers k))
 
   alike_item : (k : ItemKey) → get r.items k ≡ get s.items k
   alike_item k =
-      let e : row_at r (key.Item k) ≡ row_at s (key.Item k) = let h : Whole (row_at r (key.Item k)) ≡ Whole (row_at s (key.Item k)) = alike.parts (WholeItem k) tt in cc in
+      let e : row_at r (key.Item k) ≡ row_at s (key.Item k) =
+      let h : Whole (row_at r (key.Item k)) ≡ Whole (row_at s (key.Item k)) = alike.parts (WholeItem k) tt in cc in
       un_item (get r.items k) (get s.items k) e
 
   pub alike_item_at : (n : ℕ) → item_at n r.items ≡ item_at n s.items
@@ -286,8 +324,10 @@ module _ (P : Name → Mode → Type 0) (x : Tx Request) (r s : Rows) (alike : A
 
   pub alike_chosen : (h : DistrictKey) (who : CustomerChoice) → chosen h who r.customers ≡ chosen h who s.customers
   alike_chosen h (Number c) =
-      number_if c (get r.customers (customer_in h c)) ∙ ap (λ (b : Bool). cond b (Some c) None) (alike_customer (customer_in h c)) ∙ sym (number_if c (get s.customers (customer_in h c)))
-  alike_chosen h (LastName last) = ap middle (same_namesakes h last r.customers s.customers alike_customer (λ k. alike_named k last))
+      number_if c (get r.customers (customer_in h c)) ∙ ap (λ (b : Bool). cond b (Some c) None)
+      (alike_customer (customer_in h c)) ∙ sym (number_if c (get s.customers (customer_in h c)))
+  alike_chosen h (LastName last) = ap middle
+      (same_namesakes h last r.customers s.customers alike_customer (λ k. alike_named k last))
 
 -- the tables accept a change of a row that may be written on both, or on neither
 module _ (hs : List (Hold Name)) (x : Tx Request) (r s : Rows) (alike : Alike system (Holds system hs) x r s) where
@@ -308,27 +348,41 @@ module _ (hs : List (Hold Name)) (x : Tx Request) (r s : Rows) (alike : Alike sy
   )
   accepts_alike (InsertNewOrder k y) w j a = (
     sym (un_new_order (get r.new_orders k) (get s.new_orders k) (own_row (InsertNewOrder k y) w)) ∙ a.0,
-    subst (λ v. IsSome v) (un_order (get r.orders (order_of_new_order k)) (get s.orders (order_of_new_order k)) (alike.rows (key.Order (order_of_new_order k)) j)) a.1,
+    subst (λ v. IsSome v)
+        (un_order (get r.orders (order_of_new_order k)) (get s.orders (order_of_new_order k))
+        (alike.rows (key.Order (order_of_new_order k)) j)) a.1,
   )
   accepts_alike (InsertOrder k y) w j a = (
     sym (un_order (get r.orders k) (get s.orders k) (own_row (InsertOrder k y) w)) ∙ a.0,
-    present (get r.customers (customer_of_order k y)) (get s.customers (customer_of_order k y)) (alike_customer P x r s alike (customer_of_order k y)) a.1,
+    present (get r.customers (customer_of_order k y)) (get s.customers (customer_of_order k y))
+        (alike_customer P x r s alike (customer_of_order k y)) a.1,
   )
   accepts_alike (InsertOrderLine k y) w j a = (
     sym (un_order_line (get r.order_lines k) (get s.order_lines k) (own_row (InsertOrderLine k y) w)) ∙ a.0,
-    subst (λ v. IsSome v) (un_order (get r.orders (order_of_line k)) (get s.orders (order_of_line k)) (alike.rows (key.Order (order_of_line k)) (may_read hs x (governs (key.OrderLine k)) w))) a.1,
-    present (get r.stocks (supply_of_line y)) (get s.stocks (supply_of_line y)) (alike_stock P x r s alike (supply_of_line y)) a.2,
+    subst (λ v. IsSome v)
+        (un_order (get r.orders (order_of_line k)) (get s.orders (order_of_line k))
+        (alike.rows (key.Order (order_of_line k)) (may_read hs x (governs (key.OrderLine k)) w))) a.1,
+    present (get r.stocks (supply_of_line y)) (get s.stocks (supply_of_line y))
+        (alike_stock P x r s alike (supply_of_line y)) a.2,
   )
-  accepts_alike (UpdateWarehouse k y) w j a = subst (λ v. IsSome v) (un_warehouse (get r.warehouses k) (get s.warehouses k) (own_row (UpdateWarehouse k y) w)) a
-  accepts_alike (UpdateDistrict k y) w j a = subst (λ v. IsSome v) (un_district (get r.districts k) (get s.districts k) (own_row (UpdateDistrict k y) w)) a
-  accepts_alike (UpdateCustomer k y) w j a = (a.0, sym (un_customer (get r.customers k) (get s.customers k) (own_row (UpdateCustomer k y) w)) ∙ a.1, a.2, a.3)
-  accepts_alike (UpdateOrder k y) w j a = (a.0, sym (un_order (get r.orders k) (get s.orders k) (own_row (UpdateOrder k y) w)) ∙ a.1, a.2)
+  accepts_alike (UpdateWarehouse k y) w j a = subst (λ v. IsSome v)
+      (un_warehouse (get r.warehouses k) (get s.warehouses k) (own_row (UpdateWarehouse k y) w)) a
+  accepts_alike (UpdateDistrict k y) w j a =
+      subst (λ v. IsSome v) (un_district (get r.districts k) (get s.districts k) (own_row (UpdateDistrict k y) w)) a
+  accepts_alike (UpdateCustomer k y) w j a =
+      (a.0, sym (un_customer (get r.customers k) (get s.customers k) (own_row (UpdateCustomer k y) w)) ∙ a.1, a.2, a.3)
+  accepts_alike (UpdateOrder k y) w j a =
+      (a.0, sym (un_order (get r.orders k) (get s.orders k) (own_row (UpdateOrder k y) w)) ∙ a.1, a.2)
   accepts_alike (UpdateOrderLine k y) w j a = (
-    subst (λ v. IsSome v) (un_order_line (get r.order_lines k) (get s.order_lines k) (own_row (UpdateOrderLine k y) w)) a.0,
-    present (get r.stocks (supply_of_line y)) (get s.stocks (supply_of_line y)) (alike_stock P x r s alike (supply_of_line y)) a.1,
+    subst (λ v. IsSome v) (un_order_line (get r.order_lines k) (get s.order_lines k) (own_row (UpdateOrderLine k y) w))
+        a.0,
+    present (get r.stocks (supply_of_line y)) (get s.stocks (supply_of_line y))
+        (alike_stock P x r s alike (supply_of_line y)) a.1,
   )
-  accepts_alike (UpdateStock k y) w j a = subst (λ v. IsSome v) (un_stock (get r.stocks k) (get s.stocks k) (own_row (UpdateStock k y) w)) a
-  accepts_alike (DeleteNewOrder k) w j a = subst (λ v. IsSome v) (un_new_order (get r.new_orders k) (get s.new_orders k) (own_row (DeleteNewOrder k) w)) a
+  accepts_alike (UpdateStock k y) w j a = subst (λ v. IsSome v)
+      (un_stock (get r.stocks k) (get s.stocks k) (own_row (UpdateStock k y) w)) a
+  accepts_alike (DeleteNewOrder k) w j a = subst (λ v. IsSome v)
+      (un_new_order (get r.new_orders k) (get s.new_orders k) (own_row (DeleteNewOrder k) w)) a
 
 -- what turns a request away reads what never changes
 absent_same : (ws : List ℕ) (r s : Rows) → IsSameEver system r s → first_absent ws r ≡ first_absent ws s
@@ -347,7 +401,8 @@ query_rejection_same (Status q) r s h = absent_same (q.district.warehouse ∷ []
 query_rejection_same (Level q) r s h = absent_same (q.district.warehouse ∷ []) r s h
 
 -- and where none is absent each is there
-pub all_there : (ws : List ℕ) (r : Rows) → first_absent ws r ≡ None → EachOf (λ w. IsSome (get r.warehouses (warehouse_no w))) ws
+pub all_there : (ws : List ℕ) (r : Rows) → first_absent ws r ≡ None
+    → EachOf (λ w. IsSome (get r.warehouses (warehouse_no w))) ws
 all_there [] r h = tt
 all_there (w ∷ ws) r h = by_test (is_some (row_at r (key.Warehouse (warehouse_no w)))) refl h (all_there ws r)
   where
@@ -355,6 +410,7 @@ all_there (w ∷ ws) r h = by_test (is_some (row_at r (key.Warehouse (warehouse_
     k = key.Warehouse (warehouse_no w)
 
     by_test : (b : Bool) → is_some (row_at r k) ≡ b → cond b (first_absent ws r) (Some (NoSuchRow k)) ≡ None
-        → (first_absent ws r ≡ None → EachOf (λ v. IsSome (get r.warehouses (warehouse_no v))) ws) → EachOf (λ v. IsSome (get r.warehouses (warehouse_no v))) (w ∷ ws)
+        → (first_absent ws r ≡ None → EachOf (λ v. IsSome (get r.warehouses (warehouse_no v))) ws)
+        → EachOf (λ v. IsSome (get r.warehouses (warehouse_no v))) (w ∷ ws)
     by_test true e g rest = (sym (some-map row.Warehouse (get r.warehouses (warehouse_no w))) ∙ e, rest g)
     by_test false e g rest = let no : ⊥ = cc in absurd no

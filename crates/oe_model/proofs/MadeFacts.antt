@@ -34,14 +34,19 @@ all_made (b ∷ bs) r h = (one h.1, all_made bs (put_back b r) h.2)
 
 -- the terminals, this one first
 all_from : (w : World system) (u : Undo system) → IsReached system w → Keeps system w u → (t : ℕ)
-    → EachRecord IsRecord ((u.active t ++ open_records system (set t [] u.active) (all_below system terminal_limit)) ++ commit_records system u.history)
+    → EachRecord IsRecord ((u.active t ++ open_records system (set t [] u.active) (all_below system terminal_limit))
+    ++ commit_records system u.history)
 all_from w u r k t =
     all_made _ (tables system w)
-    (each_goes_back system laws Meets (record { between = λ f r g. g.meets; kept = accepted_meets }) w u (t ∷ all_below system terminal_limit) r k
+    (each_goes_back system laws Meets (record { between = λ f r g. g.meets; kept = accepted_meets }) w u
+    (t ∷ all_below system terminal_limit) r k
     (λ v o e. inr (below system laws terminal_limit v ((reached_sound system laws w r).each v o e).terminal.1)))
 
 pub records_are_made : Records_are_made
 records_are_made w u r k = (
-  λ t. front IsRecord (u.active t) _ (front IsRecord (u.active t ++ open_records system (set t [] u.active) (all_below system terminal_limit)) _ (all_from w u r k t)),
-  back IsRecord (u.active 0 ++ open_records system (set 0 [] u.active) (all_below system terminal_limit)) _ (all_from w u r k 0),
+  λ t. front IsRecord (u.active t) _
+      (front IsRecord (u.active t ++ open_records system (set t [] u.active) (all_below system terminal_limit)) _
+      (all_from w u r k t)),
+  back IsRecord (u.active 0 ++ open_records system (set 0 [] u.active) (all_below system terminal_limit)) _
+      (all_from w u r k 0),
 )

@@ -1,11 +1,13 @@
 -- Facts of finite maps: a map of each row, entries put in, and extensionality.
-use Rattle.std.proofs.Common.{◌≡◌, refl, sym, ◌∙◌, ap, subst, true, false, cond, List, [], ◌∷◌, ◌++◌, map, Option, Some, None}
+use Rattle.std.proofs.Common.{◌≡◌, refl, sym, ◌∙◌, ap, subst, true, false, cond, List, [], ◌∷◌, ◌++◌, map, Option, Some}
+use Rattle.std.proofs.Common.{None}
 use Rattle.std.specs.Prelude.{T, ◌&&◌, option_map}
 use Rattle.std.specs.declared.cmp.Ordering.{Ordering}
 use Rattle.std.specs.declared.cmp.Ordering.TheVariants.{Less, Equal, Greater}
 use Rattle.std.specs.Cmp.{IsTotalOrder, eq_by_cmp_equiv}
 use Rattle.std.specs.Ordering.{eq_by_cmp, is_lt, is_eq}
-use Rattle.std.specs.FinMap.{FinMap, IsAntisymmetric, get, insert, remove, entries, entries_sorted, get-entries, get-from_sorted, get-insert, get-remove, same_map}
+use Rattle.std.specs.FinMap.{FinMap, IsAntisymmetric, get, insert, remove, entries, entries_sorted, get-entries}
+use Rattle.std.specs.FinMap.{get-from_sorted, get-insert, get-remove, same_map}
 use Rattle.std.specs.FinMap.Entries.{find, is_sorted, below_all, same_entries}
 use Rattle.oe_model.specs.Maps.{each, with_all}
 use Rattle.oe_model.specs.Rows.{with_row}
@@ -25,12 +27,15 @@ module _ {K X Y : Type 0} (R : K → K → Ordering) (f : K → X → Y) where
 
   pub sorted-mapped : (es : List (K × X)) → is_sorted R (mapped es) ≡ is_sorted R es
   sorted-mapped [] = refl
-  sorted-mapped (e ∷ es) = ap (λ b. b && is_sorted R (mapped es)) (below-mapped e.0 es) ∙ ap (λ b. below_all R e.0 es && b) (sorted-mapped es)
+  sorted-mapped (e ∷ es) = ap (λ b. b && is_sorted R (mapped es)) (below-mapped e.0 es)
+      ∙ ap (λ b. below_all R e.0 es && b) (sorted-mapped es)
 
-  pub find-mapped : IsAntisymmetric R → (q : K) (es : List (K × X)) → find R q (mapped es) ≡ option_map (f q) (find R q es)
+  pub find-mapped : IsAntisymmetric R → (q : K) (es : List (K × X))
+      → find R q (mapped es) ≡ option_map (f q) (find R q es)
   find-mapped exact q [] = refl
   find-mapped exact q (e ∷ es) =
-      elim (eq_by_cmp R q e.0) as (λ b. eq_by_cmp R q e.0 ≡ b → cond b (Some (f e.0 e.1)) (find R q (mapped es)) ≡ option_map (f q) (cond b (Some e.1) (find R q es))) [
+      elim (eq_by_cmp R q e.0) as (λ b. eq_by_cmp R q e.0 ≡ b
+      → cond b (Some (f e.0 e.1)) (find R q (mapped es)) ≡ option_map (f q) (cond b (Some e.1) (find R q es))) [
         | true ↦ λ t. ap (λ k. Some (f k e.1)) (sym (exact q e.0 (tied (R q e.0) t)))
         | false ↦ λ t. find-mapped exact q es
       ] refl
@@ -45,10 +50,13 @@ module _ {K X : Type 0} (R : K → K → Ordering) (f : K → X → X) (exact : 
       ∙ find-mapped R f exact q (entries m) ∙ ap (option_map (f q)) (sym (get-entries m q))
 
 -- maps whose rows are alike by f are the same list under f
-pub same_mapped : {K X Y : Type 0} {R : K → K → Ordering} → IsTotalOrder R → IsAntisymmetric R → (f : K → X → Y) (m n : FinMap R X)
-    → ((q : K) → option_map (f q) (get m q) ≡ option_map (f q) (get n q)) → mapped R f (entries m) ≡ mapped R f (entries n)
+pub same_mapped : {K X Y : Type 0} {R : K → K → Ordering} → IsTotalOrder R → IsAntisymmetric R
+    → (f : K → X → Y) (m n : FinMap R X)
+    → ((q : K) → option_map (f q) (get m q) ≡ option_map (f q) (get n q))
+    → mapped R f (entries m) ≡ mapped R f (entries n)
 same_mapped {R = R} o exact f m n h =
-    same_entries R o exact (mapped R f (entries m)) (mapped R f (entries n)) (still_sorted R f m) (still_sorted R f n) (λ q.
+    same_entries R o exact (mapped R f (entries m)) (mapped R f (entries n)) (still_sorted R f m) (still_sorted R f n)
+    (λ q.
     find-mapped R f exact q (entries m) ∙ ap (option_map (f q)) (sym (get-entries m q)) ∙ h q
     ∙ ap (option_map (f q)) (get-entries n q) ∙ sym (find-mapped R f exact q (entries n)))
 
@@ -66,17 +74,22 @@ module _ {K X : Type 0} {R : K → K → Ordering} (o : IsTotalOrder R) (exact :
   pub same : (m n : FinMap R X) → ((q : K) → get m q ≡ get n q) → m ≡ n
   same = same_map o exact
 
-  pub map_get-insert : {Y : Type 0} (c : X → Y) (m : FinMap R X) (k : K) (v : X) (q : K) → option_map c (get (insert m k v) q) ≡ cond (eq_by_cmp R q k) (Some (c v)) (option_map c (get m q))
+  pub map_get-insert : {Y : Type 0} (c : X → Y) (m : FinMap R X) (k : K) (v : X) (q : K)
+      → option_map c (get (insert m k v) q) ≡ cond (eq_by_cmp R q k) (Some (c v)) (option_map c (get m q))
   map_get-insert c m k v q =
       ap (option_map c) (get-insert o m k v q)
-      ∙ elim (eq_by_cmp R q k) as (λ b. option_map c (cond b (Some v) (get m q)) ≡ cond b (Some (c v)) (option_map c (get m q))) [ true ↦ refl | false ↦ refl ]
+      ∙ elim (eq_by_cmp R q k) as (λ b. option_map c (cond b (Some v) (get m q)) ≡ cond b (Some (c v))
+      (option_map c (get m q))) [ true ↦ refl | false ↦ refl ]
 
-  pub map_get-remove : {Y : Type 0} (c : X → Y) (m : FinMap R X) (k : K) (q : K) → option_map c (get (remove m k) q) ≡ cond (eq_by_cmp R q k) None (option_map c (get m q))
+  pub map_get-remove : {Y : Type 0} (c : X → Y) (m : FinMap R X) (k : K) (q : K)
+      → option_map c (get (remove m k) q) ≡ cond (eq_by_cmp R q k) None (option_map c (get m q))
   map_get-remove c m k q =
       ap (option_map c) (get-remove o m k q)
-      ∙ elim (eq_by_cmp R q k) as (λ b. option_map c (cond b None (get m q)) ≡ cond b None (option_map c (get m q))) [ true ↦ refl | false ↦ refl ]
+      ∙ elim (eq_by_cmp R q k) as (λ b. option_map c (cond b None (get m q)) ≡ cond b None (option_map c (get m q)))
+      [ true ↦ refl | false ↦ refl ]
 
-  pub map_get-with_row : {Y : Type 0} (c : X → Y) (m : FinMap R X) (k : K) (v : Option X) (q : K) → option_map c (get (with_row k v m) q) ≡ cond (eq_by_cmp R q k) (option_map c v) (option_map c (get m q))
+  pub map_get-with_row : {Y : Type 0} (c : X → Y) (m : FinMap R X) (k : K) (v : Option X) (q : K)
+      → option_map c (get (with_row k v m) q) ≡ cond (eq_by_cmp R q k) (option_map c v) (option_map c (get m q))
   map_get-with_row c m k None q = map_get-remove c m k q
   map_get-with_row c m k (Some v) q = map_get-insert c m k v q
 

@@ -1,5 +1,6 @@
 -- Who has a last name in a district is told by which customers there are, and by C_FIRST of those with that name.
-use Rattle.std.proofs.Common.{◌≡◌, ℕ, refl, sym, ◌∙◌, ap, Bool, true, false, cond, List, [], ◌∷◌, Option, Some, None, inl, inr}
+use Rattle.std.proofs.Common.{◌≡◌, ℕ, refl, sym, ◌∙◌, ap, Bool, true, false, cond, List, [], ◌∷◌, Option, Some, None}
+use Rattle.std.proofs.Common.{inl, inr}
 use Rattle.std.specs.Prelude.{◌⊎◌, ◌&&◌, is_some, option_map}
 use Rattle.std.specs.List.{filter_map, cons_option}
 use Rattle.std.specs.Ordering.{eq_by_cmp, nat_cmp}
@@ -20,35 +21,48 @@ module _ (h : DistrictKey) (last : List ℕ) where
   abbrev found : CustomerKey → Option Customer → Option (List ℕ × ℕ)
   found k v = option_map (λ first. (first, k.customer)) (first_if_named last v)
 
-  in_district : (k : CustomerKey) (x : Customer) → eq_by_cmp district_cmp (district_of_customer k) h ≡ true → named h last k x ≡ found k (Some x)
+  in_district : (k : CustomerKey) (x : Customer) → eq_by_cmp district_cmp (district_of_customer k) h ≡ true
+      → named h last k x ≡ found k (Some x)
   in_district k x e =
-      ap (λ b. cond {A = Option (List ℕ × ℕ)} (b && eq_by_cmp (slice_cmp nat_cmp) x.name.last last) (Some (x.name.first, k.customer)) None) e ∙ by_name (eq_by_cmp (slice_cmp nat_cmp) x.name.last last)
+      ap (λ b. cond {A = Option (List ℕ × ℕ)} (b && eq_by_cmp (slice_cmp nat_cmp) x.name.last last)
+      (Some (x.name.first, k.customer)) None) e ∙ by_name (eq_by_cmp (slice_cmp nat_cmp) x.name.last last)
     where
-      by_name : (b : Bool) → cond {A = Option (List ℕ × ℕ)} b (Some (x.name.first, k.customer)) None ≡ option_map (λ first. (first, k.customer)) (cond b (Some x.name.first) None)
+      by_name : (b : Bool) → cond {A = Option (List ℕ × ℕ)} b (Some (x.name.first, k.customer)) None ≡ option_map
+          (λ first. (first, k.customer)) (cond b (Some x.name.first) None)
       by_name true = refl
       by_name false = refl
 
-  elsewhere : (k : CustomerKey) (x : Customer) → eq_by_cmp district_cmp (district_of_customer k) h ≡ false → named h last k x ≡ None
-  elsewhere k x e = ap (λ b. cond {A = Option (List ℕ × ℕ)} (b && eq_by_cmp (slice_cmp nat_cmp) x.name.last last) (Some (x.name.first, k.customer)) None) e
+  elsewhere : (k : CustomerKey) (x : Customer) → eq_by_cmp district_cmp (district_of_customer k) h ≡ false
+      → named h last k x ≡ None
+  elsewhere k x e = ap (λ b. cond {A = Option (List ℕ × ℕ)} (b && eq_by_cmp (slice_cmp nat_cmp) x.name.last last)
+      (Some (x.name.first, k.customer)) None) e
 
-  by_rows : (k : CustomerKey) (u v : Option Customer) → is_some u ≡ is_some v → first_if_named last u ≡ first_if_named last v
-      → (district_of_customer k ≡ h) ⊎ (eq_by_cmp district_cmp (district_of_customer k) h ≡ false) → option_map (named h last k) u ≡ option_map (named h last k) v
+  by_rows : (k : CustomerKey) (u v : Option Customer) → is_some u ≡ is_some v
+      → first_if_named last u ≡ first_if_named last v
+      → (district_of_customer k ≡ h) ⊎ (eq_by_cmp district_cmp (district_of_customer k) h ≡ false)
+      → option_map (named h last k) u ≡ option_map (named h last k) v
   by_rows k None None p n c = refl
   by_rows k None (Some y) p n c = let no : ⊥ = cc in absurd no
   by_rows k (Some x) None p n c = let no : ⊥ = cc in absurd no
   by_rows k (Some x) (Some y) p n (inl s) =
-      let e : eq_by_cmp district_cmp (district_of_customer k) h ≡ true = ap (λ (d : DistrictKey). eq_by_cmp district_cmp d h) s ∙ is_self district_total exact_district h in
+      let e : eq_by_cmp district_cmp (district_of_customer k) h ≡ true =
+      ap (λ (d : DistrictKey). eq_by_cmp district_cmp d h) s ∙ is_self district_total exact_district h in
       ap Some (in_district k x e ∙ ap (option_map (λ first. (first, k.customer))) n ∙ sym (in_district k y e))
   by_rows k (Some x) (Some y) p n (inr t) = ap Some (elsewhere k x t ∙ sym (elsewhere k y t))
 
-  taken_from : (es : List (CustomerKey × Customer)) → filter_map (λ e. named h last e.0 e.1) es ≡ filter_map (λ e. e.1) (mapped customer_cmp (named h last) es)
+  taken_from : (es : List (CustomerKey × Customer))
+      → filter_map (λ e. named h last e.0 e.1) es ≡ filter_map (λ e. e.1) (mapped customer_cmp (named h last) es)
   taken_from [] = refl
   taken_from (e ∷ es) = ap (cons_option (named h last e.0 e.1)) (taken_from es)
 
-  pub same_namesakes : (a b : FinMap customer_cmp Customer) → ((k : CustomerKey) → is_some (get a k) ≡ is_some (get b k))
-      → ((k : CustomerKey) → first_if_named last (get a k) ≡ first_if_named last (get b k)) → namesakes h last a ≡ namesakes h last b
+  pub same_namesakes : (a b : FinMap customer_cmp Customer)
+      → ((k : CustomerKey) → is_some (get a k) ≡ is_some (get b k))
+      → ((k : CustomerKey) → first_if_named last (get a k) ≡ first_if_named last (get b k))
+      → namesakes h last a ≡ namesakes h last b
   same_namesakes a b p n =
       taken_from (entries a)
       ∙ ap (λ (es : List (CustomerKey × Option (List ℕ × ℕ))). filter_map (λ e. e.1) es)
-      (same_mapped customer_total exact_customer (named h last) a b (λ k. by_rows k (get a k) (get b k) (p k) (n k) (key_cases district_total exact_district (district_of_customer k) h)))
+      (same_mapped customer_total exact_customer (named h last) a b
+      (λ k. by_rows k (get a k) (get b k) (p k) (n k)
+      (key_cases district_total exact_district (district_of_customer k) h)))
       ∙ sym (taken_from (entries b))

@@ -19,10 +19,13 @@ use Rattle.oe_rows.proofs.KeyFacts.{customer_total, exact_customer, district_tot
 use Rattle.oe_model.specs.Keys.{warehouse_of_district, customer_in}
 use Rattle.oe_model.specs.Rows.{Rows}
 use Rattle.oe_model.specs.Changes.{UpdateWarehouse, UpdateDistrict, UpdateCustomer, InsertHistory}
-use Rattle.oe_model.specs.Positions.{Position, InPayment, PaymentWarehouse, PaymentDistrict, PaymentCustomer, PaymentHistory, PaymentEnd}
+use Rattle.oe_model.specs.Positions.{Position, InPayment, PaymentWarehouse, PaymentDistrict, PaymentCustomer}
+use Rattle.oe_model.specs.Positions.{PaymentHistory, PaymentEnd}
 use Rattle.oe_model.specs.Requests.{OfPayment, PaymentMayRefuse}
 use Rattle.oe_model.specs.Choice.{chosen}
-use Rattle.oe_model.specs.Payment.{is_money, is_balance, is_count, payment_effect, paid_warehouse, paid_district, paid_customer, paid_warehouse_out, paid_district_out, paid_customer_out, paid_reply, history_data, history_row, history_key}
+use Rattle.oe_model.specs.Payment.{is_money, is_balance, is_count, payment_effect, paid_warehouse, paid_district}
+use Rattle.oe_model.specs.Payment.{paid_customer, paid_warehouse_out, paid_district_out, paid_customer_out, paid_reply}
+use Rattle.oe_model.specs.Payment.{history_data, history_row, history_key}
 use Rattle.oe_model.proofs.PresenceFacts.{present_own, missing}
 use Rattle.oe_model.proofs.EffectFacts.{out_among}
 use Rattle.oe_model.proofs.StepFacts.{EndsSo, ends_given, ends_within, ends_found}
@@ -35,33 +38,50 @@ of_district : (y : District) (c : Column) → paid_district_out y ≡ Some c →
 of_district y c e = out_among OfPayment ((column.DistrictYtd, is_money y.ytd) ∷ []) (tt, tt) c e
 
 of_customer : (y : Customer) (c : Column) → paid_customer_out y ≡ Some c → OfPayment c
-of_customer y c e = out_among OfPayment ((column.Balance, is_balance y.account.balance) ∷ (column.YtdPayment, is_money y.account.ytd_payment) ∷ (column.PaymentCount, is_count y.account.payment_count) ∷ []) (tt, (tt, (tt, tt))) c e
+of_customer y c e = out_among OfPayment
+    ((column.Balance, is_balance y.account.balance) ∷ (column.YtdPayment, is_money y.account.ytd_payment)
+    ∷ (column.PaymentCount, is_count y.account.payment_count) ∷ []) (tt, (tt, (tt, tt))) c e
 
 pub payment_ends : (x : Tx Request) (q : PaymentRequest) (r : Rows)
-    → get r.histories (history_key x.terminal x.number) ≡ None → IsSome (get r.warehouses (warehouse_of_district q.district)) → IsSome (get r.districts q.district)
+    → get r.histories (history_key x.terminal x.number) ≡ None
+    → IsSome (get r.warehouses (warehouse_of_district q.district)) → IsSome (get r.districts q.district)
     → EndsSo PaymentMayRefuse x (InPayment q PaymentWarehouse) r (payment_effect x.terminal x.number q r)
 payment_ends x q r unused warehouse_there district_there =
     let p0 : Position = InPayment q PaymentWarehouse in
-    ends_given PaymentMayRefuse x p0 r tt (NoSuchRow (key.Warehouse (warehouse_of_district q.district))) (get r.warehouses (warehouse_of_district q.district)) _ _ (missing _ warehouse_there) refl (λ w w_at a.
-    ends_within PaymentMayRefuse x p0 r tt paid_warehouse_out (paid_warehouse q w) _ _ (of_warehouse (paid_warehouse q w)) a (λ _ b.
-    let r1 : Rows = record r { warehouses = insert r.warehouses (warehouse_of_district q.district) (paid_warehouse q w) } in
+    ends_given PaymentMayRefuse x p0 r tt (NoSuchRow (key.Warehouse (warehouse_of_district q.district)))
+    (get r.warehouses (warehouse_of_district q.district)) _ _ (missing _ warehouse_there) refl (λ w w_at a.
+    ends_within PaymentMayRefuse x p0 r tt paid_warehouse_out (paid_warehouse q w) _ _
+    (of_warehouse (paid_warehouse q w)) a (λ _ b.
+    let r1 : Rows = record r
+    { warehouses = insert r.warehouses (warehouse_of_district q.district) (paid_warehouse q w) } in
     let p1 : Position = InPayment q (PaymentDistrict w.name) in
-    goes_here p0 r (Some (UpdateWarehouse (warehouse_of_district q.district) (paid_warehouse q w))) p1 _ tt b warehouse_there (
-    ends_given PaymentMayRefuse x p1 r1 tt (NoSuchRow (key.District q.district)) (get r.districts q.district) _ _ (missing _ district_there) refl (λ d d_at a.
-    ends_within PaymentMayRefuse x p1 r1 tt paid_district_out (paid_district q d) _ _ (of_district (paid_district q d)) a (λ _ b.
+    goes_here p0 r (Some (UpdateWarehouse (warehouse_of_district q.district) (paid_warehouse q w))) p1 _ tt b
+    warehouse_there (
+    ends_given PaymentMayRefuse x p1 r1 tt (NoSuchRow (key.District q.district)) (get r.districts q.district) _ _
+    (missing _ district_there) refl (λ d d_at a.
+    ends_within PaymentMayRefuse x p1 r1 tt paid_district_out (paid_district q d) _ _ (of_district (paid_district q d))
+    a (λ _ b.
     let r2 : Rows = record r1 { districts = insert r.districts q.district (paid_district q d) } in
     let p2 : Position = InPayment q (PaymentCustomer w.name d.name) in
     goes_here p1 r1 (Some (UpdateDistrict q.district (paid_district q d))) p2 _ tt b district_there (
-    ends_found PaymentMayRefuse x p2 r2 NoCustomer NoCustomer (chosen q.customer_district q.customer r.customers) (λ c. name.Customer (customer_in q.customer_district c)) Exclusive _ _ tt refl refl (λ c _ k a.
-    ends_given PaymentMayRefuse x p2 r2 k NoCustomer (get r.customers (customer_in q.customer_district c)) _ _ (λ _. tt) a (λ u u_at a.
-    ends_within PaymentMayRefuse x p2 r2 k paid_customer_out (paid_customer c q u) _ _ (of_customer (paid_customer c q u)) a (λ _ b.
+    ends_found PaymentMayRefuse x p2 r2 NoCustomer NoCustomer (chosen q.customer_district q.customer r.customers)
+    (λ c. name.Customer (customer_in q.customer_district c)) Exclusive _ _ tt refl refl (λ c _ k a.
+    ends_given PaymentMayRefuse x p2 r2 k NoCustomer (get r.customers (customer_in q.customer_district c)) _ _ (λ _. tt)
+    a (λ u u_at a.
+    ends_within PaymentMayRefuse x p2 r2 k paid_customer_out (paid_customer c q u) _ _
+    (of_customer (paid_customer c q u)) a (λ _ b.
     let u1 : Customer = paid_customer c q u in
     let r3 : Rows = record r2 { customers = insert r.customers (customer_in q.customer_district c) u1 } in
     let info : List ℕ = history_data w.name d.name in
     let p3 : Position = InPayment q (PaymentHistory info (paid_reply c u1)) in
     let p4 : Position = InPayment q (PaymentEnd (paid_reply c u1)) in
-    let r4 : Rows = record r3 { histories = insert r.histories (history_key x.terminal x.number) (history_row q c info) } in
+    let r4 : Rows = record r3
+    { histories = insert r.histories (history_key x.terminal x.number) (history_row q c info) } in
     goes_here p2 r2 (Some (UpdateCustomer (customer_in q.customer_district c) u1)) p3 _ k b (u, u_at, refl, refl) (
-    goes_here p3 r3 (Some (InsertHistory (history_key x.terminal x.number) (history_row q c info))) p4 _ tt refl
-    (unused, present_own customer_total exact_customer r.customers (customer_in q.customer_district c) u1, present_own district_total exact_district r.districts q.district (paid_district q d)) (
+    goes_here p3 r3 (Some (InsertHistory (history_key x.terminal x.number) (history_row q c info))) p4 _ tt refl (
+      unused,
+      present_own customer_total exact_customer r.customers (customer_in q.customer_district c) u1,
+      present_own
+          district_total exact_district r.districts q.district (paid_district q d),
+    ) (
     ends_here p4 r4 (reply.Payment (paid_reply c u1)) tt refl)))))))))))

@@ -52,7 +52,8 @@ module _ {K X : Type 0} {R : K → K → Ordering} (o : IsTotalOrder R) (exact :
   gone_own m k = get-remove o m k k ∙ ap (λ b. cond b None (get m k)) (is_self o exact k)
 
   -- what is left after a removal was there before, at another key
-  pub gone_before : (m : FinMap R X) (k q : K) → IsSome (get (remove m k) q) → (eq_by_cmp R q k ≡ false) × IsSome (get m q)
+  pub gone_before : (m : FinMap R X) (k q : K) → IsSome (get (remove m k) q)
+      → (eq_by_cmp R q k ≡ false) × IsSome (get m q)
   gone_before m k q p = go (key_cases o exact q k)
     where
       go : (q ≡ k) ⊎ (eq_by_cmp R q k ≡ false) → (eq_by_cmp R q k ≡ false) × IsSome (get m q)
@@ -60,17 +61,20 @@ module _ {K X : Type 0} {R : K → K → Ordering} (o : IsTotalOrder R) (exact :
       go (inr t) = (t, subst (λ (v : Option X). IsSome v) (gone_other m k q t) p)
 
   -- a row is the one that was put, or stood there before
-  pub own_or_old : (m : FinMap R X) (k : K) (v : X) (q : K) (x : X) → get (insert m k v) q ≡ Some x → ((q ≡ k) × (v ≡ x)) ⊎ ((eq_by_cmp R q k ≡ false) × (get m q ≡ Some x))
+  pub own_or_old : (m : FinMap R X) (k : K) (v : X) (q : K) (x : X) → get (insert m k v) q ≡ Some x
+      → ((q ≡ k) × (v ≡ x)) ⊎ ((eq_by_cmp R q k ≡ false) × (get m q ≡ Some x))
   own_or_old m k v q x e = by_key (key_cases o exact q k)
     where
-      by_key : (q ≡ k) ⊎ (eq_by_cmp R q k ≡ false) → ((q ≡ k) × (v ≡ x)) ⊎ ((eq_by_cmp R q k ≡ false) × (get m q ≡ Some x))
+      by_key : (q ≡ k) ⊎ (eq_by_cmp R q k ≡ false) → ((q ≡ k) × (v ≡ x))
+          ⊎ ((eq_by_cmp R q k ≡ false) × (get m q ≡ Some x))
       by_key (inl s) =
           let h : Some v ≡ Some x = sym (get_own o exact m k v) ∙ ap (get (insert m k v)) (sym s) ∙ e in
           inl (s, (let z : v ≡ x = cc in z))
       by_key (inr t) = inr (t, sym (get_other m k v q t) ∙ e)
 
   -- what holds of the row that was put, and of each row before, holds of each row
-  pub each_row : (P : K → X → Type 0) (m : FinMap R X) (k : K) (v : X) → P k v → ((q : K) (x : X) → get m q ≡ Some x → P q x) → (q : K) (x : X) → get (insert m k v) q ≡ Some x → P q x
+  pub each_row : (P : K → X → Type 0) (m : FinMap R X) (k : K) (v : X) → P k v
+      → ((q : K) (x : X) → get m q ≡ Some x → P q x) → (q : K) (x : X) → get (insert m k v) q ≡ Some x → P q x
   each_row P m k v own old q x e = go (own_or_old m k v q x e)
     where
       go : ((q ≡ k) × (v ≡ x)) ⊎ ((eq_by_cmp R q k ≡ false) × (get m q ≡ Some x)) → P q x
@@ -78,7 +82,8 @@ module _ {K X : Type 0} {R : K → K → Ordering} (o : IsTotalOrder R) (exact :
       go (inr h) = old q x h.1
 
   -- and what holds of each row holds of each that is left
-  pub each_left : (P : K → X → Type 0) (m : FinMap R X) (k : K) → ((q : K) (x : X) → get m q ≡ Some x → P q x) → (q : K) (x : X) → get (remove m k) q ≡ Some x → P q x
+  pub each_left : (P : K → X → Type 0) (m : FinMap R X) (k : K) → ((q : K) (x : X) → get m q ≡ Some x → P q x)
+      → (q : K) (x : X) → get (remove m k) q ≡ Some x → P q x
   each_left P m k old q x e =
       let t = gone_before m k q (some_present (get (remove m k) q) x e) in
       old q x (sym (gone_other m k q t.0) ∙ e)
@@ -94,7 +99,8 @@ module _ {K X : Type 0} {R : K → K → Ordering} (o : IsTotalOrder R) (exact :
   present_own m k v = ap is_some (get_own o exact m k v)
 
   -- a row that takes another's place leaves no new key
-  pub present_before : (m : FinMap R X) (k : K) (v : X) (q : K) → IsSome (get m k) → IsSome (get (insert m k v) q) → IsSome (get m q)
+  pub present_before : (m : FinMap R X) (k : K) (v : X) (q : K) → IsSome (get m k) → IsSome (get (insert m k v) q)
+      → IsSome (get m q)
   present_before m k v q here h = go (key_cases o exact q k)
     where
       go : (q ≡ k) ⊎ (eq_by_cmp R q k ≡ false) → IsSome (get m q)
@@ -102,7 +108,8 @@ module _ {K X : Type 0} {R : K → K → Ordering} (o : IsTotalOrder R) (exact :
       go (inr t) = subst (λ (u : Option X). IsSome u) (get_other m k v q t) h
 
   -- a row of a map of each row
-  pub row_of_each : (f : K → X → X) (m : FinMap R X) (q : K) (x : X) → get (each f m) q ≡ Some x → (y : X) × (get m q ≡ Some y) × (f q y ≡ x)
+  pub row_of_each : (f : K → X → X) (m : FinMap R X) (q : K) (x : X) → get (each f m) q ≡ Some x
+      → (y : X) × (get m q ≡ Some y) × (f q y ≡ x)
   row_of_each f m q x e = by_row (get m q) refl (sym (get-each R f exact m q) ∙ e)
     where
       by_row : (v : Option X) → get m q ≡ v → option_map (f q) v ≡ Some x → (y : X) × (get m q ≡ Some y) × (f q y ≡ x)

@@ -1,5 +1,6 @@
 -- In a list without repetition, under a total order, each rank below the length is that of an element.
-use Rattle.std.proofs.Common.{◌≡◌, ℕ, zero, suc, ◌+◌, ◌-◌, ◌<◌, ◌≤◌, refl, sym, ◌∙◌, ap, subst, Bool, true, false, cond, List, [], ◌∷◌, length, inl, inr, arith}
+use Rattle.std.proofs.Common.{◌≡◌, ℕ, zero, suc, ◌+◌, ◌-◌, ◌<◌, ◌≤◌, refl, sym, ◌∙◌, ap, subst, Bool, true, false, cond}
+use Rattle.std.proofs.Common.{List, [], ◌∷◌, length, inl, inr, arith}
 use Rattle.std.specs.Prelude.{◌⊎◌, count_by}
 use Rattle.std.specs.declared.cmp.Ordering.{Ordering}
 use Rattle.std.specs.declared.cmp.Ordering.TheVariants.{Less, Equal, Greater}
@@ -14,31 +15,38 @@ module _ {A : Type 0} where
   count_cons f x xs = sum_by-cons (λ x. cond (f x) 1 0) x xs
 
   -- what passes one test and so the other
-  count_le : (f g : A → Bool) (xs : List A) → ((z : A) → IsAmong z xs → f z ≡ true → g z ≡ true) → count_by f xs ≤ count_by g xs
+  count_le : (f g : A → Bool) (xs : List A) → ((z : A) → IsAmong z xs → f z ≡ true → g z ≡ true)
+      → count_by f xs ≤ count_by g xs
   count_le f g [] h = omega arith
   count_le f g (x ∷ xs) h = by_test (f x) (g x) refl refl (count_le f g xs (λ z i. h z (inr i)))
     where
-      by_test : (a b : Bool) → f x ≡ a → g x ≡ b → count_by f xs ≤ count_by g xs → count_by f (x ∷ xs) ≤ count_by g (x ∷ xs)
+      by_test : (a b : Bool) → f x ≡ a → g x ≡ b → count_by f xs ≤ count_by g xs
+          → count_by f (x ∷ xs) ≤ count_by g (x ∷ xs)
       by_test true true s t rest =
           let a = count_cons f x xs in let b = count_cons g x xs in
-          let c : cond {A = ℕ} (f x) 1 0 ≡ 1 = ap (λ b. cond b 1 0) s in let d : cond {A = ℕ} (g x) 1 0 ≡ 1 = ap (λ b. cond b 1 0) t in omega arith
+          let c : cond {A = ℕ} (f x) 1 0 ≡ 1 = ap (λ b. cond b 1 0) s in
+          let d : cond {A = ℕ} (g x) 1 0 ≡ 1 = ap (λ b. cond b 1 0) t in omega arith
       by_test true false s t rest = let e : true ≡ false = sym (h x (inl refl) s) ∙ t in let no : ⊥ = cc in absurd no
       by_test false b s t rest =
           let a = count_cons f x xs in let b = count_cons g x xs in
           let c : cond {A = ℕ} (f x) 1 0 ≡ 0 = ap (λ b. cond b 1 0) s in omega arith
 
-  count_lt : (f g : A → Bool) (xs : List A) (y : A) → IsAmong y xs → f y ≡ false → g y ≡ true → ((z : A) → IsAmong z xs → f z ≡ true → g z ≡ true) → count_by f xs + 1 ≤ count_by g xs
+  count_lt : (f g : A → Bool) (xs : List A) (y : A) → IsAmong y xs → f y ≡ false → g y ≡ true
+      → ((z : A) → IsAmong z xs → f z ≡ true → g z ≡ true) → count_by f xs + 1 ≤ count_by g xs
   count_lt f g [] y i s t h = absurd i
   count_lt f g (x ∷ xs) y (inl e) s t h =
       let rest = count_le f g xs (λ z i. h z (inr i)) in
       let a = count_cons f x xs in let b = count_cons g x xs in
-      let c : cond {A = ℕ} (f x) 1 0 ≡ 0 = ap (λ b. cond b 1 0) (ap f e ∙ s) in let d : cond {A = ℕ} (g x) 1 0 ≡ 1 = ap (λ b. cond b 1 0) (ap g e ∙ t) in omega arith
+      let c : cond {A = ℕ} (f x) 1 0 ≡ 0 = ap (λ b. cond b 1 0) (ap f e ∙ s) in
+      let d : cond {A = ℕ} (g x) 1 0 ≡ 1 = ap (λ b. cond b 1 0) (ap g e ∙ t) in omega arith
   count_lt f g (x ∷ xs) y (inr i) s t h = by_test (f x) (g x) refl refl (count_lt f g xs y i s t (λ z j. h z (inr j)))
     where
-      by_test : (a b : Bool) → f x ≡ a → g x ≡ b → count_by f xs + 1 ≤ count_by g xs → count_by f (x ∷ xs) + 1 ≤ count_by g (x ∷ xs)
+      by_test : (a b : Bool) → f x ≡ a → g x ≡ b → count_by f xs + 1 ≤ count_by g xs
+          → count_by f (x ∷ xs) + 1 ≤ count_by g (x ∷ xs)
       by_test true true s t rest =
           let a = count_cons f x xs in let b = count_cons g x xs in
-          let c : cond {A = ℕ} (f x) 1 0 ≡ 1 = ap (λ b. cond b 1 0) s in let d : cond {A = ℕ} (g x) 1 0 ≡ 1 = ap (λ b. cond b 1 0) t in omega arith
+          let c : cond {A = ℕ} (f x) 1 0 ≡ 1 = ap (λ b. cond b 1 0) s in
+          let d : cond {A = ℕ} (g x) 1 0 ≡ 1 = ap (λ b. cond b 1 0) t in omega arith
       by_test true false s t rest = let e : true ≡ false = sym (h x (inl refl) s) ∙ t in let no : ⊥ = cc in absurd no
       by_test false b s t rest =
           let a = count_cons f x xs in let b = count_cons g x xs in
@@ -96,7 +104,8 @@ module _ {A : Type 0} {R : A → A → Ordering} (o : IsTotalOrder R) (exact : I
       by_test true t = refl
       by_test false t =
           let back = one_way x y apart t in
-          let more = count_lt (λ z. before z y) (λ z. before z x) xs y i (not_itself y) back (λ z _ s. along z y x s back) in
+          let more = count_lt (λ z. before z y) (λ z. before z x) xs y i (not_itself y) back
+          (λ z _ s. along z y x s back) in
           absurd (let no : ⊥ = omega arith in no)
 
   rank_with : (x y : A) (xs : List A) (b : Bool) → before x y ≡ b → rank y (x ∷ xs) ≡ cond b 1 0 + rank y xs
@@ -112,7 +121,8 @@ module _ {A : Type 0} {R : A → A → Ordering} (o : IsTotalOrder R) (exact : I
   apart_from : (x y : A) (xs : List A) → (IsAmong x xs → ⊥) → IsAmong y xs → y ≡ x → ⊥
   apart_from x y xs n i e = n (subst (λ z. IsAmong z xs) e i)
 
-  step : (x : A) (xs : List A) → (IsAmong x xs → ⊥) → ((j : ℕ) → j < length xs → HasRank xs j) → (j : ℕ) → j < length xs + 1 → (j < rank x xs) ⊎ ((j ≡ rank x xs) ⊎ (rank x xs < j)) → HasRank (x ∷ xs) j
+  step : (x : A) (xs : List A) → (IsAmong x xs → ⊥) → ((j : ℕ) → j < length xs → HasRank xs j) → (j : ℕ)
+      → j < length xs + 1 → (j < rank x xs) ⊎ ((j ≡ rank x xs) ⊎ (rank x xs < j)) → HasRank (x ∷ xs) j
   step x xs new rest j low (inl less) =
       let all = rank_low xs x in
       let h = rest j (let z : j < length xs = omega arith in z) in
@@ -128,7 +138,8 @@ module _ {A : Type 0} {R : A → A → Ordering} (o : IsTotalOrder R) (exact : I
       let h = rest (j - 1) (let z : j - 1 < length xs = omega arith in z) in
       let y : A = h.0 in
       let is : rank y xs ≡ j - 1 = h.2 in
-      let b = higher_after x y xs h.1 (λ e. apart_from x y xs new h.1 (sym e)) (let z : rank x xs ≤ rank y xs = omega arith in z) in
+      let b = higher_after x y xs h.1 (λ e. apart_from x y xs new h.1 (sym e))
+      (let z : rank x xs ≤ rank y xs = omega arith in z) in
       let r = rank_with x y xs true b in
       (y, inr h.1, (let z : rank y (x ∷ xs) ≡ j = omega arith in z))
 

@@ -15,9 +15,18 @@ use Rattle.oe_rows.specs.declared.keys.Key.{Key}
 use Rattle.oe_rows.specs.declared.keys.Key.TheVariants as key
 use Rattle.oe_rows.specs.declared.rows.Row.{Row}
 use Rattle.oe_rows.specs.declared.rows.Row.TheVariants as row
-use Rattle.oe_rows.proofs.KeyFacts.{warehouse_total, exact_warehouse, district_total, exact_district, customer_total, exact_customer, history_total, exact_history, new_order_total, exact_new_order, order_total, exact_order, order_line_total, exact_order_line, item_total, exact_item, stock_total, exact_stock}
-use Rattle.oe_model.specs.Rows.{Rows, is_key, row_at, as_warehouse, as_district, as_customer, as_history, as_new_order, as_order, as_order_line, as_stock}
-use Rattle.oe_model.specs.Changes.{Change, InsertHistory, InsertNewOrder, InsertOrder, InsertOrderLine, UpdateWarehouse, UpdateDistrict, UpdateCustomer, UpdateOrder, UpdateOrderLine, UpdateStock, DeleteNewOrder, key_of, row_of, changed, Record, InsertedHistory, InsertedNewOrder, InsertedOrder, InsertedOrderLine, UpdatedWarehouse, UpdatedDistrict, UpdatedCustomer, UpdatedOrder, UpdatedOrderLine, UpdatedStock, DeletedNewOrder, IsRecord, record_of, record_key, row_before, put_back, redo}
+use Rattle.oe_rows.proofs.KeyFacts.{warehouse_total, exact_warehouse, district_total, exact_district, customer_total}
+use Rattle.oe_rows.proofs.KeyFacts.{exact_customer, history_total, exact_history, new_order_total, exact_new_order}
+use Rattle.oe_rows.proofs.KeyFacts.{order_total, exact_order, order_line_total, exact_order_line, item_total}
+use Rattle.oe_rows.proofs.KeyFacts.{exact_item, stock_total, exact_stock}
+use Rattle.oe_model.specs.Rows.{Rows, is_key, row_at, as_warehouse, as_district, as_customer, as_history, as_new_order}
+use Rattle.oe_model.specs.Rows.{as_order, as_order_line, as_stock}
+use Rattle.oe_model.specs.Changes.{Change, InsertHistory, InsertNewOrder, InsertOrder, InsertOrderLine, UpdateWarehouse}
+use Rattle.oe_model.specs.Changes.{UpdateDistrict, UpdateCustomer, UpdateOrder, UpdateOrderLine, UpdateStock}
+use Rattle.oe_model.specs.Changes.{DeleteNewOrder, key_of, row_of, changed, Record, InsertedHistory, InsertedNewOrder}
+use Rattle.oe_model.specs.Changes.{InsertedOrder, InsertedOrderLine, UpdatedWarehouse, UpdatedDistrict, UpdatedCustomer}
+use Rattle.oe_model.specs.Changes.{UpdatedOrder, UpdatedOrderLine, UpdatedStock, DeletedNewOrder, IsRecord, record_of}
+use Rattle.oe_model.specs.Changes.{record_key, row_before, put_back, redo}
 use Rattle.oe_model.specs.Meets.{Accepts}
 use Rattle.oe_model.proofs.MapFacts.{is_self, is_same, same, map_get-insert, map_get-remove, map_get-with_row}
 
@@ -44,32 +53,50 @@ key_true (key.Item a) (key.Item b) e = ap key.Item (is_same item_total exact_ite
 key_true (key.Stock a) (key.Stock b) e = ap key.Stock (is_same stock_total exact_stock a b e)
 key_true _ _ e = cc
 
-pub at_changed : (c : Change) (r : Rows) (k : Key) → row_at (changed c r) k ≡ cond (is_key k (key_of c)) (row_of c) (row_at r k)
-at_changed (InsertHistory a x) r (key.History k) = map_get-insert history_total exact_history row.History r.histories a x k
-at_changed (InsertNewOrder a x) r (key.NewOrder k) = map_get-insert new_order_total exact_new_order row.NewOrder r.new_orders a x k
+pub at_changed : (c : Change) (r : Rows) (k : Key)
+    → row_at (changed c r) k ≡ cond (is_key k (key_of c)) (row_of c) (row_at r k)
+at_changed (InsertHistory a x) r (key.History k) = map_get-insert history_total exact_history row.History r.histories a
+    x k
+at_changed (InsertNewOrder a x) r (key.NewOrder k) = map_get-insert new_order_total exact_new_order row.NewOrder
+    r.new_orders a x k
 at_changed (InsertOrder a x) r (key.Order k) = map_get-insert order_total exact_order row.Order r.orders a x k
-at_changed (InsertOrderLine a x) r (key.OrderLine k) = map_get-insert order_line_total exact_order_line row.OrderLine r.order_lines a x k
-at_changed (UpdateWarehouse a x) r (key.Warehouse k) = map_get-insert warehouse_total exact_warehouse row.Warehouse r.warehouses a x k
-at_changed (UpdateDistrict a x) r (key.District k) = map_get-insert district_total exact_district row.District r.districts a x k
-at_changed (UpdateCustomer a x) r (key.Customer k) = map_get-insert customer_total exact_customer row.Customer r.customers a x k
+at_changed (InsertOrderLine a x) r (key.OrderLine k) = map_get-insert order_line_total exact_order_line row.OrderLine
+    r.order_lines a x k
+at_changed (UpdateWarehouse a x) r (key.Warehouse k) = map_get-insert warehouse_total exact_warehouse row.Warehouse
+    r.warehouses a x k
+at_changed (UpdateDistrict a x) r (key.District k) = map_get-insert district_total exact_district row.District
+    r.districts a x k
+at_changed (UpdateCustomer a x) r (key.Customer k) = map_get-insert customer_total exact_customer row.Customer
+    r.customers a x k
 at_changed (UpdateOrder a x) r (key.Order k) = map_get-insert order_total exact_order row.Order r.orders a x k
-at_changed (UpdateOrderLine a x) r (key.OrderLine k) = map_get-insert order_line_total exact_order_line row.OrderLine r.order_lines a x k
+at_changed (UpdateOrderLine a x) r (key.OrderLine k) = map_get-insert order_line_total exact_order_line row.OrderLine
+    r.order_lines a x k
 at_changed (UpdateStock a x) r (key.Stock k) = map_get-insert stock_total exact_stock row.Stock r.stocks a x k
-at_changed (DeleteNewOrder a) r (key.NewOrder k) = map_get-remove new_order_total exact_new_order row.NewOrder r.new_orders a k
+at_changed (DeleteNewOrder a) r (key.NewOrder k) = map_get-remove new_order_total exact_new_order row.NewOrder
+    r.new_orders a k
 at_changed _ r _ = refl
 
-pub at_put_back : (b : Record) (r : Rows) (k : Key) → row_at (put_back b r) k ≡ cond (is_key k (record_key b)) (row_before b) (row_at r k)
-at_put_back (InsertedHistory a v) r (key.History k) = map_get-with_row history_total exact_history row.History r.histories a v k
-at_put_back (InsertedNewOrder a v) r (key.NewOrder k) = map_get-with_row new_order_total exact_new_order row.NewOrder r.new_orders a v k
+pub at_put_back : (b : Record) (r : Rows) (k : Key)
+    → row_at (put_back b r) k ≡ cond (is_key k (record_key b)) (row_before b) (row_at r k)
+at_put_back (InsertedHistory a v) r (key.History k) = map_get-with_row history_total exact_history row.History
+    r.histories a v k
+at_put_back (InsertedNewOrder a v) r (key.NewOrder k) = map_get-with_row new_order_total exact_new_order row.NewOrder
+    r.new_orders a v k
 at_put_back (InsertedOrder a v) r (key.Order k) = map_get-with_row order_total exact_order row.Order r.orders a v k
-at_put_back (InsertedOrderLine a v) r (key.OrderLine k) = map_get-with_row order_line_total exact_order_line row.OrderLine r.order_lines a v k
-at_put_back (UpdatedWarehouse a v) r (key.Warehouse k) = map_get-with_row warehouse_total exact_warehouse row.Warehouse r.warehouses a v k
-at_put_back (UpdatedDistrict a v) r (key.District k) = map_get-with_row district_total exact_district row.District r.districts a v k
-at_put_back (UpdatedCustomer a v) r (key.Customer k) = map_get-with_row customer_total exact_customer row.Customer r.customers a v k
+at_put_back (InsertedOrderLine a v) r (key.OrderLine k) = map_get-with_row order_line_total exact_order_line
+    row.OrderLine r.order_lines a v k
+at_put_back (UpdatedWarehouse a v) r (key.Warehouse k) = map_get-with_row warehouse_total exact_warehouse row.Warehouse
+    r.warehouses a v k
+at_put_back (UpdatedDistrict a v) r (key.District k) = map_get-with_row district_total exact_district row.District
+    r.districts a v k
+at_put_back (UpdatedCustomer a v) r (key.Customer k) = map_get-with_row customer_total exact_customer row.Customer
+    r.customers a v k
 at_put_back (UpdatedOrder a v) r (key.Order k) = map_get-with_row order_total exact_order row.Order r.orders a v k
-at_put_back (UpdatedOrderLine a v) r (key.OrderLine k) = map_get-with_row order_line_total exact_order_line row.OrderLine r.order_lines a v k
+at_put_back (UpdatedOrderLine a v) r (key.OrderLine k) = map_get-with_row order_line_total exact_order_line
+    row.OrderLine r.order_lines a v k
 at_put_back (UpdatedStock a v) r (key.Stock k) = map_get-with_row stock_total exact_stock row.Stock r.stocks a v k
-at_put_back (DeletedNewOrder a v) r (key.NewOrder k) = map_get-with_row new_order_total exact_new_order row.NewOrder r.new_orders a v k
+at_put_back (DeletedNewOrder a v) r (key.NewOrder k) = map_get-with_row new_order_total exact_new_order row.NewOrder
+    r.new_orders a v k
 at_put_back _ r _ = refl
 
 -- a constructor of rows tells its argument
@@ -128,17 +155,25 @@ record_key_of (UpdateStock k x) v = refl
 record_key_of (DeleteNewOrder k) v = refl
 
 pub before : (c : Change) (r : Rows) → row_before (record_of c (row_at r (key_of c))) ≡ row_at r (key_of c)
-before (InsertHistory k x) r = ap (option_map row.History) (out-map row.History as_history (λ _. refl) (get r.histories k))
-before (InsertNewOrder k x) r = ap (option_map row.NewOrder) (out-map row.NewOrder as_new_order (λ _. refl) (get r.new_orders k))
+before (InsertHistory k x) r = ap (option_map row.History)
+    (out-map row.History as_history (λ _. refl) (get r.histories k))
+before (InsertNewOrder k x) r = ap (option_map row.NewOrder)
+    (out-map row.NewOrder as_new_order (λ _. refl) (get r.new_orders k))
 before (InsertOrder k x) r = ap (option_map row.Order) (out-map row.Order as_order (λ _. refl) (get r.orders k))
-before (InsertOrderLine k x) r = ap (option_map row.OrderLine) (out-map row.OrderLine as_order_line (λ _. refl) (get r.order_lines k))
-before (UpdateWarehouse k x) r = ap (option_map row.Warehouse) (out-map row.Warehouse as_warehouse (λ _. refl) (get r.warehouses k))
-before (UpdateDistrict k x) r = ap (option_map row.District) (out-map row.District as_district (λ _. refl) (get r.districts k))
-before (UpdateCustomer k x) r = ap (option_map row.Customer) (out-map row.Customer as_customer (λ _. refl) (get r.customers k))
+before (InsertOrderLine k x) r = ap (option_map row.OrderLine)
+    (out-map row.OrderLine as_order_line (λ _. refl) (get r.order_lines k))
+before (UpdateWarehouse k x) r = ap (option_map row.Warehouse)
+    (out-map row.Warehouse as_warehouse (λ _. refl) (get r.warehouses k))
+before (UpdateDistrict k x) r = ap (option_map row.District)
+    (out-map row.District as_district (λ _. refl) (get r.districts k))
+before (UpdateCustomer k x) r = ap (option_map row.Customer)
+    (out-map row.Customer as_customer (λ _. refl) (get r.customers k))
 before (UpdateOrder k x) r = ap (option_map row.Order) (out-map row.Order as_order (λ _. refl) (get r.orders k))
-before (UpdateOrderLine k x) r = ap (option_map row.OrderLine) (out-map row.OrderLine as_order_line (λ _. refl) (get r.order_lines k))
+before (UpdateOrderLine k x) r = ap (option_map row.OrderLine)
+    (out-map row.OrderLine as_order_line (λ _. refl) (get r.order_lines k))
 before (UpdateStock k x) r = ap (option_map row.Stock) (out-map row.Stock as_stock (λ _. refl) (get r.stocks k))
-before (DeleteNewOrder k) r = ap (option_map row.NewOrder) (out-map row.NewOrder as_new_order (λ _. refl) (get r.new_orders k))
+before (DeleteNewOrder k) r = ap (option_map row.NewOrder)
+    (out-map row.NewOrder as_new_order (λ _. refl) (get r.new_orders k))
 
 -- the record of an accepted insert has no row before, and that of an accepted update or delete has one
 pub made : (c : Change) (r : Rows) → Accepts c r → IsRecord (record_of c (row_at r (key_of c)))
@@ -150,7 +185,8 @@ made (UpdateWarehouse k x) r a = ap is_some (out-map row.Warehouse as_warehouse 
 made (UpdateDistrict k x) r a = ap is_some (out-map row.District as_district (λ _. refl) (get r.districts k)) ∙ a
 made (UpdateCustomer k x) r a = ap is_some (out-map row.Customer as_customer (λ _. refl) (get r.customers k) ∙ a.1)
 made (UpdateOrder k x) r a = ap is_some (out-map row.Order as_order (λ _. refl) (get r.orders k) ∙ a.1)
-made (UpdateOrderLine k x) r a = ap is_some (out-map row.OrderLine as_order_line (λ _. refl) (get r.order_lines k)) ∙ a.0
+made (UpdateOrderLine k x) r a = ap is_some (out-map row.OrderLine as_order_line (λ _. refl) (get r.order_lines k))
+    ∙ a.0
 made (UpdateStock k x) r a = ap is_some (out-map row.Stock as_stock (λ _. refl) (get r.stocks k)) ∙ a
 made (DeleteNewOrder k) r a = ap is_some (out-map row.NewOrder as_new_order (λ _. refl) (get r.new_orders k)) ∙ a
 
@@ -158,34 +194,53 @@ pub redoes : (c : Change) (v : Option Row) (r : Rows) → row_at r (key_of c) �
 redoes (InsertHistory k x) v r e = ap (option_map (InsertHistory k)) (un_history (get r.histories k) (Some x) e)
 redoes (InsertNewOrder k x) v r e = ap (option_map (InsertNewOrder k)) (un_new_order (get r.new_orders k) (Some x) e)
 redoes (InsertOrder k x) v r e = ap (option_map (InsertOrder k)) (un_order (get r.orders k) (Some x) e)
-redoes (InsertOrderLine k x) v r e = ap (option_map (InsertOrderLine k)) (un_order_line (get r.order_lines k) (Some x) e)
+redoes (InsertOrderLine k x) v r e = ap (option_map (InsertOrderLine k))
+    (un_order_line (get r.order_lines k) (Some x) e)
 redoes (UpdateWarehouse k x) v r e = ap (option_map (UpdateWarehouse k)) (un_warehouse (get r.warehouses k) (Some x) e)
 redoes (UpdateDistrict k x) v r e = ap (option_map (UpdateDistrict k)) (un_district (get r.districts k) (Some x) e)
 redoes (UpdateCustomer k x) v r e = ap (option_map (UpdateCustomer k)) (un_customer (get r.customers k) (Some x) e)
 redoes (UpdateOrder k x) v r e = ap (option_map (UpdateOrder k)) (un_order (get r.orders k) (Some x) e)
-redoes (UpdateOrderLine k x) v r e = ap (option_map (UpdateOrderLine k)) (un_order_line (get r.order_lines k) (Some x) e)
+redoes (UpdateOrderLine k x) v r e = ap (option_map (UpdateOrderLine k))
+    (un_order_line (get r.order_lines k) (Some x) e)
 redoes (UpdateStock k x) v r e = ap (option_map (UpdateStock k)) (un_stock (get r.stocks k) (Some x) e)
 redoes (DeleteNewOrder k) v r e = refl
 
 -- two tables that answer alike at each key are equal
 pub same_rows : (r s : Rows) → ((k : Key) → row_at r k ≡ row_at s k) → r ≡ s
 same_rows r s h =
-    let a : r.warehouses ≡ s.warehouses = same warehouse_total exact_warehouse _ _ (λ k. un_warehouse _ _ (h (key.Warehouse k))) in
-    let b : r.districts ≡ s.districts = same district_total exact_district _ _ (λ k. un_district _ _ (h (key.District k))) in
-    let c : r.customers ≡ s.customers = same customer_total exact_customer _ _ (λ k. un_customer _ _ (h (key.Customer k))) in
-    let d : r.histories ≡ s.histories = same history_total exact_history _ _ (λ k. un_history _ _ (h (key.History k))) in
-    let e : r.new_orders ≡ s.new_orders = same new_order_total exact_new_order _ _ (λ k. un_new_order _ _ (h (key.NewOrder k))) in
+    let a : r.warehouses ≡ s.warehouses = same warehouse_total exact_warehouse _ _
+    (λ k. un_warehouse _ _ (h (key.Warehouse k))) in
+    let b : r.districts ≡ s.districts = same district_total exact_district _ _
+    (λ k. un_district _ _ (h (key.District k))) in
+    let c : r.customers ≡ s.customers = same customer_total exact_customer _ _
+    (λ k. un_customer _ _ (h (key.Customer k))) in
+    let d : r.histories ≡ s.histories = same history_total exact_history _ _
+    (λ k. un_history _ _ (h (key.History k))) in
+    let e : r.new_orders ≡ s.new_orders = same new_order_total exact_new_order _ _
+    (λ k. un_new_order _ _ (h (key.NewOrder k))) in
     let f : r.orders ≡ s.orders = same order_total exact_order _ _ (λ k. un_order _ _ (h (key.Order k))) in
-    let g : r.order_lines ≡ s.order_lines = same order_line_total exact_order_line _ _ (λ k. un_order_line _ _ (h (key.OrderLine k))) in
+    let g : r.order_lines ≡ s.order_lines = same order_line_total exact_order_line _ _
+    (λ k. un_order_line _ _ (h (key.OrderLine k))) in
     let j : r.items ≡ s.items = same item_total exact_item _ _ (λ k. un_item _ _ (h (key.Item k))) in
     let l : r.stocks ≡ s.stocks = same stock_total exact_stock _ _ (λ k. un_stock _ _ (h (key.Stock k))) in
-    λ i. record { warehouses = a i; districts = b i; customers = c i; histories = d i; new_orders = e i; orders = f i; order_lines = g i; items = j i; stocks = l i }
+    λ i. record {
+      warehouses = a i;
+      districts = b i;
+      customers = c i;
+      histories = d i;
+      new_orders = e i;
+      orders = f i;
+      order_lines = g i;
+      items = j i;
+      stocks = l i;
+    }
 
 -- a change and its undo are the identity
 pub undone : (c : Change) (r : Rows) → put_back (record_of c (row_at r (key_of c))) (changed c r) ≡ r
 undone c r = same_rows _ _ (λ k.
     at_put_back b (changed c r) k
-    ∙ ap (λ (j : Key). cond (is_key k j) (row_before b) (row_at (changed c r) k)) (record_key_of c (row_at r (key_of c)))
+    ∙ ap (λ (j : Key). cond (is_key k j) (row_before b) (row_at (changed c r) k))
+    (record_key_of c (row_at r (key_of c)))
     ∙ ap (λ (v : Option Row). cond (is_key k (key_of c)) v (row_at (changed c r) k)) (before c r)
     ∙ ap (cond (is_key k (key_of c)) (row_at r (key_of c))) (at_changed c r k)
     ∙ by_key k (is_key k (key_of c)) refl)
@@ -193,6 +248,7 @@ undone c r = same_rows _ _ (λ k.
     b : Record
     b = record_of c (row_at r (key_of c))
 
-    by_key : (k : Key) (t : Bool) → is_key k (key_of c) ≡ t → cond t (row_at r (key_of c)) (cond t (row_of c) (row_at r k)) ≡ row_at r k
+    by_key : (k : Key) (t : Bool) → is_key k (key_of c) ≡ t
+        → cond t (row_at r (key_of c)) (cond t (row_of c) (row_at r k)) ≡ row_at r k
     by_key k true e = ap (row_at r) (sym (key_true k (key_of c) e))
     by_key k false e = refl

@@ -1,5 +1,6 @@
 -- What the formulas of rows come to.
-use Rattle.std.proofs.Common.{◌≡◌, ◌≢◌, ℕ, zero, suc, ◌+◌, ◌-◌, ◌*◌, ◌≤◌, ◌<◌, refl, sym, ◌∙◌, ap, Bool, true, false, cond, List, [], ◌∷◌, ◌++◌, length, take, sum, inl, inr, arith}
+use Rattle.std.proofs.Common.{◌≡◌, ◌≢◌, ℕ, zero, suc, ◌+◌, ◌-◌, ◌*◌, ◌≤◌, ◌<◌, refl, sym, ◌∙◌, ap, Bool, true, false}
+use Rattle.std.proofs.Common.{cond, List, [], ◌∷◌, ◌++◌, length, take, sum, inl, inr, arith}
 use Rattle.std.specs.Prelude.{◌⊎◌, ◌&&◌, ◌||◌, ◌==◌, fold, nat_le}
 use Rattle.std.proofs.lemmas.Int.{ints}
 use Rattle.std.proofs.lemmas.Bool.{leb-true, leb-false, eqb-true, eq-eqb}
@@ -16,7 +17,8 @@ use Rattle.oe_model.specs.NewOrder.{supplied, asked, begins_with, occurs_in}
 use Rattle.oe_model.specs.Rules.{Payment_is_exact, IsSupplied, AreSmall, Stock_is_exact, Text_occurs}
 
 -- what a cut of 500 leaves
-cut_at : (n : ℕ) (xs : List ℕ) → (cut : List ℕ) × (xs ≡ take n xs ++ cut) × (length (take n xs) ≤ n) × ((cut ≡ []) ⊎ (length (take n xs) ≡ n))
+cut_at : (n : ℕ) (xs : List ℕ) → (cut : List ℕ) × (xs ≡ take n xs ++ cut) × (length (take n xs) ≤ n)
+    × ((cut ≡ []) ⊎ (length (take n xs) ≡ n))
 cut_at zero xs = (xs, refl, omega arith, inr refl)
 cut_at (suc n) [] = ([], refl, omega arith, inl refl)
 cut_at (suc n) (x ∷ xs) = more (cut_at n xs)
@@ -26,14 +28,18 @@ cut_at (suc n) (x ∷ xs) = more (cut_at n xs)
     ends (inr e) = inr (omega arith)
 
     more : (cut : List ℕ) × (xs ≡ take n xs ++ cut) × (length (take n xs) ≤ n) × ((cut ≡ []) ⊎ (length (take n xs) ≡ n))
-        → (cut : List ℕ) × (x ∷ xs ≡ (x ∷ take n xs) ++ cut) × (length (x ∷ take n xs) ≤ suc n) × ((cut ≡ []) ⊎ (length (x ∷ take n xs) ≡ suc n))
+        → (cut : List ℕ) × (x ∷ xs ≡ (x ∷ take n xs) ++ cut) × (length (x ∷ take n xs) ≤ suc n)
+        × ((cut ≡ []) ⊎ (length (x ∷ take n xs) ≡ suc n))
     more h = let low = h.2 in (h.0, ap (λ ys. x ∷ ys) h.1, omega arith, ends h.3)
 
 data_of : (c : ℕ) (q : PaymentRequest) (k : Credit) (old : List ℕ) → k ≡ Bad
-    → (cut : List ℕ) × (credit_entry (record { customer = customer_in q.customer_district c; district = q.district }) q.amount ++ old ≡ paid_data c q k old ++ cut)
+    → (cut : List ℕ) × (credit_entry (record { customer = customer_in q.customer_district c; district = q.district })
+    q.amount ++ old ≡ paid_data c q k old ++ cut)
     × (length (paid_data c q k old) ≤ 500) × ((cut ≡ []) ⊎ (length (paid_data c q k old) ≡ 500))
 data_of c q Good old e = let no : ⊥ = cc in absurd no
-data_of c q Bad old e = cut_at 500 (credit_entry (record { customer = customer_in q.customer_district c; district = q.district }) q.amount ++ old)
+data_of c q Bad old e =
+    cut_at 500 (credit_entry (record { customer = customer_in q.customer_district c; district = q.district }) q.amount
+    ++ old)
 
 data_stays : (c : ℕ) (q : PaymentRequest) (k : Credit) (old : List ℕ) → k ≡ Good → paid_data c q k old ≡ old
 data_stays c q Good old e = refl
@@ -52,34 +58,47 @@ payment_is_exact = record {
 }
 
 -- the stock rule
-one_line : (b : Bool) (q n : ℕ) → n ≤ 10 → nat_le (n + 10) q ≡ b → (m : ℕ) × (cond b (q - n) (q + 91 - n) + n ≡ q + 91 * m)
+one_line : (b : Bool) (q n : ℕ) → n ≤ 10 → nat_le (n + 10) q ≡ b → (m : ℕ)
+    × (cond b (q - n) (q + 91 - n) + n ≡ q + 91 * m)
 one_line true q n s e = let h = leb-true (n + 10) q e in (0, omega arith)
 one_line false q n s e = (1, omega arith)
 
-all_lines : (home : ℕ) (k : StockKey) (ns : List ℕ) (x : Stock) → AreSmall ns → IsSupplied ns x (fold (supplied home k) x ns)
-all_lines home k [] x s = record { ytd = omega arith; orders = omega arith; refills = 0; quantity = omega arith; texts = (refl, refl) }
+all_lines : (home : ℕ) (k : StockKey) (ns : List ℕ) (x : Stock) → AreSmall ns
+    → IsSupplied ns x (fold (supplied home k) x ns)
+all_lines home k [] x s =
+    record { ytd = omega arith; orders = omega arith; refills = 0; quantity = omega arith; texts = (refl, refl) }
 all_lines home k (n ∷ ns) x s =
     let y : Stock = supplied home k x n in
     let rest : IsSupplied ns y (fold (supplied home k) y ns) = all_lines home k ns y s.1 in
     let total : sum (n ∷ ns) ≡ n + sum ns = sum_by-cons (λ x. x) n ns in
-    let one : (m : ℕ) × (y.quantity + n ≡ x.quantity + 91 * m) = one_line (nat_le (n + 10) x.quantity) x.quantity n s.0 refl in
+    let one : (m : ℕ) × (y.quantity + n ≡ x.quantity + 91 * m) = one_line (nat_le (n + 10) x.quantity) x.quantity n s.0
+    refl in
     let m : ℕ = one.0 in
     let is : y.quantity + n ≡ x.quantity + 91 * m = one.1 in
     let ytd : (fold (supplied home k) y ns).ytd ≡ (x.ytd + n) + sum ns = rest.ytd in
     let orders : (fold (supplied home k) y ns).order_count ≡ (x.order_count + 1) + length ns = rest.orders in
     let quantity : (fold (supplied home k) y ns).quantity + sum ns ≡ y.quantity + 91 * rest.refills = rest.quantity in
-    record { ytd = omega arith; orders = omega arith; refills = m + rest.refills; quantity = omega arith; texts = rest.texts }
+    record {
+      ytd = omega arith;
+      orders = omega arith;
+      refills = m + rest.refills;
+      quantity = omega arith;
+      texts = rest.texts;
+    }
 
-remote_at : (b : Bool) (home : ℕ) (k : StockKey) → (k.warehouse == home) ≡ b → (ns : List ℕ) (x : Stock) → (fold (supplied home k) x ns).remote_count ≡ x.remote_count + cond b 0 (length ns)
+remote_at : (b : Bool) (home : ℕ) (k : StockKey) → (k.warehouse == home) ≡ b → (ns : List ℕ) (x : Stock)
+    → (fold (supplied home k) x ns).remote_count ≡ x.remote_count + cond b 0 (length ns)
 remote_at true home k e [] x = omega arith
 remote_at false home k e [] x = omega arith
 remote_at true home k e (n ∷ ns) x =
     let rest = remote_at true home k e ns (supplied home k x n) in
-    let own : (supplied home k x n).remote_count ≡ x.remote_count = ap (λ b. cond b x.remote_count (x.remote_count + 1)) e in
+    let own : (supplied home k x n).remote_count ≡ x.remote_count = ap (λ b. cond b x.remote_count (x.remote_count + 1))
+    e in
     omega arith
 remote_at false home k e (n ∷ ns) x =
     let rest = remote_at false home k e ns (supplied home k x n) in
-    let own : (supplied home k x n).remote_count ≡ x.remote_count + 1 = ap (λ b. cond b x.remote_count (x.remote_count + 1)) e in
+    let own : (supplied home k x n).remote_count ≡ x.remote_count + 1 =
+    ap (λ b. cond b x.remote_count (x.remote_count + 1)) e in
     omega arith
 
 is_remote : (a b : ℕ) → a ≢ b → (a == b) ≡ false
@@ -89,14 +108,18 @@ is_remote a b n = by_test (a == b) refl
     by_test true e = absurd (n (eqb-true a b e))
     by_test false e = refl
 
-rule : (b : Bool) (q n : ℕ) → nat_le (n + 10) q ≡ b → ((n + 10 ≤ q) → cond b (q - n) (q + 91 - n) + n ≡ q) × ((q < n + 10) → n ≤ 10 → cond b (q - n) (q + 91 - n) + n ≡ q + 91)
-rule true q n e = let h = leb-true (n + 10) q e in ((λ _. omega arith), (λ less _. absurd (let no : ⊥ = omega arith in no)))
-rule false q n e = let h = leb-false (n + 10) q e in ((λ low. absurd (let no : ⊥ = omega arith in no)), (λ _ small. omega arith))
+rule : (b : Bool) (q n : ℕ) → nat_le (n + 10) q ≡ b → ((n + 10 ≤ q) → cond b (q - n) (q + 91 - n) + n ≡ q)
+    × ((q < n + 10) → n ≤ 10 → cond b (q - n) (q + 91 - n) + n ≡ q + 91)
+rule true q n e = let h = leb-true (n + 10) q e in
+    ((λ _. omega arith), (λ less _. absurd (let no : ⊥ = omega arith in no)))
+rule false q n e = let h = leb-false (n + 10) q e in
+    ((λ low. absurd (let no : ⊥ = omega arith in no)), (λ _ small. omega arith))
 
 pub stock_is_exact : Stock_is_exact
 stock_is_exact = record {
   supplied_by = λ home ls k x s. all_lines home k (asked k ls) x s;
-  home = λ ls k x. let h = remote_at true k.warehouse k (eq-eqb k.warehouse k.warehouse refl) (asked k ls) x in omega arith;
+  home = λ ls k x. let h = remote_at true k.warehouse k (eq-eqb k.warehouse k.warehouse refl) (asked k ls) x in
+      omega arith;
   remote = λ home ls k x n. remote_at false home k (is_remote k.warehouse home n) (asked k ls) x;
   enough = λ home n k x h. (rule (nat_le (n + 10) x.quantity) x.quantity n refl).0 h;
   refilled = λ home n k x h s. (rule (nat_le (n + 10) x.quantity) x.quantity n refl).1 h s;
@@ -108,7 +131,9 @@ begins [] ys e = (ys, refl)
 begins (x ∷ xs) [] e = let no : ⊥ = cc in absurd no
 begins (x ∷ xs) (y ∷ ys) e = by_test (x == y) refl e (begins xs ys)
   where
-    by_test : (b : Bool) → (x == y) ≡ b → (b && begins_with xs ys) ≡ true → (begins_with xs ys ≡ true → (after : List ℕ) × (ys ≡ xs ++ after)) → (after : List ℕ) × (y ∷ ys ≡ (x ∷ xs) ++ after)
+    by_test : (b : Bool) → (x == y) ≡ b → (b && begins_with xs ys) ≡ true
+        → (begins_with xs ys ≡ true → (after : List ℕ) × (ys ≡ xs ++ after))
+        → (after : List ℕ) × (y ∷ ys ≡ (x ∷ xs) ++ after)
     by_test true t e rest = let h = rest e in (h.0, (λ i. sym (eqb-true x y t) i ∷ h.1 i))
     by_test false t e rest = let no : ⊥ = cc in absurd no
 
@@ -116,11 +141,13 @@ begins_there : (xs after : List ℕ) → begins_with xs (xs ++ after) ≡ true
 begins_there [] after = refl
 begins_there (x ∷ xs) after = ap (λ b. b && begins_with xs (xs ++ after)) (eq-eqb x x refl) ∙ begins_there xs after
 
-occurs_found : (xs ys : List ℕ) → occurs_in xs ys ≡ true → (before : List ℕ) × ((after : List ℕ) × (ys ≡ before ++ (xs ++ after)))
+occurs_found : (xs ys : List ℕ) → occurs_in xs ys ≡ true → (before : List ℕ)
+    × ((after : List ℕ) × (ys ≡ before ++ (xs ++ after)))
 occurs_found xs [] e = let h = begins xs [] e in ([], (h.0, h.1))
 occurs_found xs (y ∷ ys) e = by_test (begins_with xs (y ∷ ys)) refl e (occurs_found xs ys)
   where
-    by_test : (b : Bool) → begins_with xs (y ∷ ys) ≡ b → (b || occurs_in xs ys) ≡ true → (occurs_in xs ys ≡ true → (before : List ℕ) × ((after : List ℕ) × (ys ≡ before ++ (xs ++ after))))
+    by_test : (b : Bool) → begins_with xs (y ∷ ys) ≡ b → (b || occurs_in xs ys) ≡ true
+        → (occurs_in xs ys ≡ true → (before : List ℕ) × ((after : List ℕ) × (ys ≡ before ++ (xs ++ after))))
         → (before : List ℕ) × ((after : List ℕ) × (y ∷ ys ≡ before ++ (xs ++ after)))
     by_test true t e rest = let h = begins xs (y ∷ ys) t in ([], (h.0, h.1))
     by_test false t e rest = let h = rest e in (y ∷ h.0, (h.1.0, ap (λ zs. y ∷ zs) h.1.1))
@@ -135,7 +162,8 @@ occurs_first xs (y ∷ ys) e = ap (λ b. b || occurs_in xs ys) e
 
 occurs_there : (xs before after : List ℕ) → occurs_in xs (before ++ (xs ++ after)) ≡ true
 occurs_there xs [] after = occurs_first xs (xs ++ after) (begins_there xs after)
-occurs_there xs (y ∷ before) after = ap (λ b. begins_with xs (y ∷ (before ++ (xs ++ after))) || b) (occurs_there xs before after) ∙ or_true (begins_with xs (y ∷ (before ++ (xs ++ after))))
+occurs_there xs (y ∷ before) after = ap (λ b. begins_with xs (y ∷ (before ++ (xs ++ after))) || b)
+    (occurs_there xs before after) ∙ or_true (begins_with xs (y ∷ (before ++ (xs ++ after))))
 
 pub text_occurs : Text_occurs
 text_occurs = record { found = occurs_found; there = occurs_there }

@@ -1,12 +1,14 @@
 -- Sums over the rows of a finite map, and how a change of one row changes them.
-use Rattle.std.proofs.Common.{◌≡◌, ℕ, ◌+◌, refl, sym, ◌∙◌, ap, subst, Bool, true, false, cond, List, [], ◌∷◌, Option, Some, None, arith}
+use Rattle.std.proofs.Common.{◌≡◌, ℕ, ◌+◌, refl, sym, ◌∙◌, ap, subst, Bool, true, false, cond, List, [], ◌∷◌, Option}
+use Rattle.std.proofs.Common.{Some, None, arith}
 use Rattle.std.specs.Prelude.{T, ◌&&◌, sum_by}
 use Rattle.std.specs.declared.cmp.Ordering.{Ordering}
 use Rattle.std.specs.declared.cmp.Ordering.TheVariants.{Less, Equal, Greater}
 use Rattle.std.specs.Cmp.{IsTotalOrder}
 use Rattle.std.specs.Ordering.{eq_by_cmp, is_lt, is_eq}
 use Rattle.std.proofs.lemmas.List.Sums.{sum_by-cons}
-use Rattle.std.specs.FinMap.{FinMap, IsAntisymmetric, get, entries, entries_sorted, get-entries, insert, entries-insert, remove, entries-from_sorted, get-insert, get-remove}
+use Rattle.std.specs.FinMap.{FinMap, IsAntisymmetric, get, entries, entries_sorted, get-entries, insert, entries-insert}
+use Rattle.std.specs.FinMap.{remove, entries-from_sorted, get-insert, get-remove}
 use Rattle.std.specs.FinMap.Entries.{find, put, is_sorted, below_all, by_order}
 use Rattle.oe_model.specs.Maps.{each, sum_of}
 use Rattle.oe_model.proofs.MapFacts.{mapped, still_sorted, same, is_same, is_self}
@@ -28,9 +30,11 @@ module _ {K X : Type 0} (f : K → X → ℕ) where
   sum_none [] h = refl
   sum_none (e ∷ es) h = let a = sum-cons e es in let b = sum_none es h.1 in let c : f e.0 e.1 ≡ 0 = h.0 in omega arith
 
-  pub sum_same : (g : K → X → ℕ) (es : List (K × X)) → EachOf (λ e. f e.0 e.1 ≡ g e.0 e.1) es → sum_in es ≡ sum_by (λ e. g e.0 e.1) es
+  pub sum_same : (g : K → X → ℕ) (es : List (K × X)) → EachOf (λ e. f e.0 e.1 ≡ g e.0 e.1) es
+      → sum_in es ≡ sum_by (λ e. g e.0 e.1) es
   sum_same g [] h = refl
-  sum_same g (e ∷ es) h = let a = sum-cons e es in let b = sum_by-cons (λ (e : K × X). g e.0 e.1) e es in let c = sum_same g es h.1 in let d : f e.0 e.1 ≡ g e.0 e.1 = h.0 in omega arith
+  sum_same g (e ∷ es) h = let a = sum-cons e es in let b = sum_by-cons (λ (e : K × X). g e.0 e.1) e es in
+      let c = sum_same g es h.1 in let d : f e.0 e.1 ≡ g e.0 e.1 = h.0 in omega arith
 
 first_part : (a b : Bool) → T (a && b) → T a
 first_part true b p = tt
@@ -53,7 +57,9 @@ module _ {K X : Type 0} {R : K → K → Ordering} (o : IsTotalOrder R) (exact :
 
   below_less : (k e : K) (es : List (K × X)) → R k e ≡ Less → T (below_all R e es) → T (below_all R k es)
   below_less k e [] l h = tt
-  below_less k e (d ∷ es) l h = pair _ _ (subst (λ r. T (is_lt r)) (sym (o.trans k e d.0 l (less (R e d.0) (first_part _ _ h)))) tt) (below_less k e es l (second_part _ _ h))
+  below_less k e (d ∷ es) l h =
+      pair _ _ (subst (λ r. T (is_lt r)) (sym (o.trans k e d.0 l (less (R e d.0) (first_part _ _ h)))) tt)
+      (below_less k e es l (second_part _ _ h))
     where
       less : (r : Ordering) → T (is_lt r) → r ≡ Less
       less Less p = refl
@@ -64,13 +70,16 @@ module _ {K X : Type 0} {R : K → K → Ordering} (o : IsTotalOrder R) (exact :
       pair true b p q = q
       pair false b p q = p
 
-  put-sum : (k : K) (v : X) (es : List (K × X)) → T (is_sorted R es) → sum_in f (put R k v es) + number_at f k (find R k es) ≡ sum_in f es + f k v
+  put-sum : (k : K) (v : X) (es : List (K × X)) → T (is_sorted R es)
+      → sum_in f (put R k v es) + number_at f k (find R k es) ≡ sum_in f es + f k v
   put-sum k v [] h = let a = sum-cons f (k, v) [] in omega arith
   put-sum k v (e ∷ es) h =
-      elim (R k e.0) as (λ r. R k e.0 ≡ r → sum_in f (by_order r ((k, v) ∷ e ∷ es) ((e.0, v) ∷ es) (e ∷ put R k v es)) + number_at f k (cond (is_eq r) (Some e.1) (find R k es)) ≡ sum_in f (e ∷ es) + f k v) [
+      elim (R k e.0) as (λ r. R k e.0 ≡ r → sum_in f (by_order r ((k, v) ∷ e ∷ es) ((e.0, v) ∷ es) (e ∷ put R k v es))
+      + number_at f k (cond (is_eq r) (Some e.1) (find R k es)) ≡ sum_in f (e ∷ es) + f k v) [
         | Less ↦ λ t.
             let a : sum_in f ((k, v) ∷ e ∷ es) ≡ f k v + sum_in f (e ∷ es) = sum-cons f (k, v) (e ∷ es) in
-            let b : number_at f k (find R k es) ≡ 0 = ap (λ u. number_at f k u) (absent_below k es (below_less k e.0 es t (first_part _ _ h))) in
+            let b : number_at f k (find R k es) ≡ 0 = ap (λ u. number_at f k u)
+            (absent_below k es (below_less k e.0 es t (first_part _ _ h))) in
             omega arith
         | Equal ↦ λ t.
             let a = sum-cons f (e.0, v) es in
@@ -81,12 +90,14 @@ module _ {K X : Type 0} {R : K → K → Ordering} (o : IsTotalOrder R) (exact :
         | Greater ↦ λ t.
             let a = sum-cons f e (put R k v es) in
             let b = sum-cons f e es in
-            let c : sum_in f (put R k v es) + number_at f k (find R k es) ≡ sum_in f es + f k v = put-sum k v es (second_part (below_all R e.0 es) (is_sorted R es) h) in
+            let c : sum_in f (put R k v es) + number_at f k (find R k es) ≡ sum_in f es + f k v =
+            put-sum k v es (second_part (below_all R e.0 es) (is_sorted R es) h) in
             omega arith
       ] refl
 
   -- the sum after a row was put, beside the old row's number
-  pub sum-insert : (m : FinMap R X) (k : K) (v : X) → sum_of f (insert m k v) + number_at f k (get m k) ≡ sum_of f m + f k v
+  pub sum-insert : (m : FinMap R X) (k : K) (v : X)
+      → sum_of f (insert m k v) + number_at f k (get m k) ≡ sum_of f m + f k v
   sum-insert m k v =
       ap (λ es. sum_in f es + number_at f k (get m k)) (entries-insert o m k v)
       ∙ ap (λ u. sum_in f (put R k v (entries m)) + number_at f k u) (get-entries m k)
@@ -97,7 +108,9 @@ module _ {K X : Type 0} {R : K → K → Ordering} (o : IsTotalOrder R) (exact :
   sum-remove m k = by_row (get m k) refl
     where
       same_back : (x : X) → get m k ≡ Some x → insert (remove m k) k x ≡ m
-      same_back x e = same o exact _ _ (λ q. get-insert o (remove m k) k x q ∙ ap (cond (eq_by_cmp R q k) (Some x)) (get-remove o m k q) ∙ by_key q (eq_by_cmp R q k) (eq_by_cmp R k q) refl)
+      same_back x e = same o exact _ _ (λ q. get-insert o (remove m k) k x q
+          ∙ ap (cond (eq_by_cmp R q k) (Some x)) (get-remove o m k q) ∙ by_key q (eq_by_cmp R q k) (eq_by_cmp R k q)
+          refl)
         where
           by_key : (q : K) (b c : Bool) → eq_by_cmp R q k ≡ b → cond b (Some x) (cond b None (get m q)) ≡ get m q
           by_key q true c t = sym e ∙ ap (get m) (sym (is_same o exact q k t))
@@ -114,17 +127,22 @@ module _ {K X : Type 0} {R : K → K → Ordering} (o : IsTotalOrder R) (exact :
       by_row None e = let a : sum_of f (remove m k) ≡ sum_of f m = ap (sum_of f) (same_gone e) in omega arith
       by_row (Some x) e =
           let a = sum-insert (remove m k) k x in
-          let b : number_at f k (get (remove m k) k) ≡ 0 = ap (number_at f k) (get-remove o m k k ∙ ap (λ c. cond c None (get m k)) (is_self o exact k)) in
+          let b : number_at f k (get (remove m k) k) ≡ 0 = ap (number_at f k)
+          (get-remove o m k k ∙ ap (λ c. cond c None (get m k)) (is_self o exact k)) in
           let c : sum_of f (insert (remove m k) k x) ≡ sum_of f m = ap (sum_of f) (same_back x e) in
           omega arith
 
   pub sum-none : (m : FinMap R X) → ((k : K) (x : X) → get m k ≡ Some x → f k x ≡ 0) → sum_of f m ≡ 0
-  sum-none m h = sum_none f (entries m) (each_of (λ e. get m e.0 ≡ Some e.1) (λ e. f e.0 e.1 ≡ 0) (λ e g. h e.0 e.1 g) (entries m) (entries_at o m))
+  sum-none m h = sum_none f (entries m)
+      (each_of (λ e. get m e.0 ≡ Some e.1) (λ e. f e.0 e.1 ≡ 0) (λ e g. h e.0 e.1 g) (entries m) (entries_at o m))
 
   -- the sum of rows that each became another
-  pub sum-each : (g : K → X → X) (m : FinMap R X) → ((k : K) (x : X) → f k (g k x) ≡ f k x) → sum_of f (each g m) ≡ sum_of f m
-  sum-each g m h = ap (sum_in f) (entries-from_sorted R (mapped R g (entries m)) (still_sorted R g m)) ∙ along (entries m)
+  pub sum-each : (g : K → X → X) (m : FinMap R X) → ((k : K) (x : X) → f k (g k x) ≡ f k x)
+      → sum_of f (each g m) ≡ sum_of f m
+  sum-each g m h = ap (sum_in f) (entries-from_sorted R (mapped R g (entries m)) (still_sorted R g m))
+      ∙ along (entries m)
     where
       along : (es : List (K × X)) → sum_in f (mapped R g es) ≡ sum_in f es
       along [] = refl
-      along (e ∷ es) = let a = sum-cons f (e.0, g e.0 e.1) (mapped R g es) in let b = sum-cons f e es in let c = along es in let d : f e.0 (g e.0 e.1) ≡ f e.0 e.1 = h e.0 e.1 in omega arith
+      along (e ∷ es) = let a = sum-cons f (e.0, g e.0 e.1) (mapped R g es) in let b = sum-cons f e es in
+          let c = along es in let d : f e.0 (g e.0 e.1) ≡ f e.0 e.1 = h e.0 e.1 in omega arith

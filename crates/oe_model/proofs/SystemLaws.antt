@@ -1,5 +1,6 @@
 -- The machine's laws, put together.
-use Rattle.std.proofs.Common.{◌≡◌, ℕ, suc, ◌<◌, ◌≤◌, arith, refl, ap, Bool, true, false, cond, List, [], ◌∷◌, map, Option, Some, None, inl}
+use Rattle.std.proofs.Common.{◌≡◌, ℕ, suc, ◌<◌, ◌≤◌, arith, refl, ap, Bool, true, false, cond, List, [], ◌∷◌, map}
+use Rattle.std.proofs.Common.{Option, Some, None, inl}
 use Rattle.std.specs.Prelude.{IsSome, is_some, nat_le}
 use Rattle.std.specs.FinMap.{FinMap, get}
 use Rattle.oe_theory.specs.Machine.{Go, Tx}
@@ -16,12 +17,14 @@ use Rattle.oe_requests.specs.declared.requests.Request.{Request}
 use Rattle.oe_requests.specs.declared.requests.Request.TheVariants as request
 use Rattle.oe_requests.specs.declared.requests.RequestLine.{RequestLine}
 use Rattle.oe_requests.specs.declared.replies.Reply.{Reply}
-use Rattle.oe_rows.proofs.KeyFacts.{warehouse_total, exact_warehouse, district_total, exact_district, customer_total, exact_customer, order_total, exact_order, stock_total, exact_stock}
+use Rattle.oe_rows.proofs.KeyFacts.{warehouse_total, exact_warehouse, district_total, exact_district, customer_total}
+use Rattle.oe_rows.proofs.KeyFacts.{exact_customer, order_total, exact_order, stock_total, exact_stock}
 use Rattle.oe_model.specs.Rows.{Rows}
 use Rattle.oe_model.specs.Changes.{Change}
 use Rattle.oe_model.specs.Meets.{Meets}
 use Rattle.oe_model.specs.Locks.{is_name}
-use Rattle.oe_model.specs.Positions.{Position, InPayment, InNewOrder, InDelivery, InDeliveries, DeliveriesEnd, NoProgram}
+use Rattle.oe_model.specs.Positions.{Position, InPayment, InNewOrder, InDelivery, InDeliveries, DeliveriesEnd}
+use Rattle.oe_model.specs.Positions.{NoProgram}
 use Rattle.oe_model.specs.Payment.{history_key}
 use Rattle.oe_model.specs.NewOrder.{stock_of, item_at}
 use Rattle.oe_model.specs.Delivery.{alone}
@@ -32,10 +35,12 @@ use Rattle.oe_model.specs.System.{system, start_of, ask, act, taken, effect_of}
 use Rattle.oe_model.specs.Headline.{IsReadyFor, Programs_end}
 use Rattle.oe_model.proofs.MapFacts.{is_self, is_same}
 use Rattle.oe_model.proofs.EntryFacts.{EachOf}
-use Rattle.oe_model.proofs.RowFacts.{key_true, key_refl, at_changed, record_key_of, before, at_put_back, redoes, same_rows}
+use Rattle.oe_model.proofs.RowFacts.{key_true, key_refl, at_changed, record_key_of, before, at_put_back, redoes}
+use Rattle.oe_model.proofs.RowFacts.{same_rows}
 use Rattle.oe_model.proofs.ChangeFacts.{accepted_meets}
 use Rattle.oe_model.proofs.StepFacts.{EndsSo}
-use Rattle.oe_model.proofs.LawFacts.{IsAskedNow, HeldThen, IsLawful, accepts_alike, rejection_same, query_rejection_same, all_there}
+use Rattle.oe_model.proofs.LawFacts.{IsAskedNow, HeldThen, IsLawful, accepts_alike, rejection_same}
+use Rattle.oe_model.proofs.LawFacts.{query_rejection_same, all_there}
 use Rattle.oe_model.proofs.PaymentFacts.{payment_ends}
 use Rattle.oe_model.proofs.PaymentLaws.{payment_ask_same, payment_act_same, payment_lawful}
 use Rattle.oe_model.proofs.PaymentGood.{payment_good}
@@ -43,7 +48,8 @@ use Rattle.oe_model.proofs.NewOrderFacts.{HasStock, new_order_ends}
 use Rattle.oe_model.proofs.NewOrderLaws.{new_order_ask_same, new_order_act_same, new_order_lawful}
 use Rattle.oe_model.proofs.NewOrderGood.{is_fresh, new_order_good}
 use Rattle.oe_model.proofs.DeliveryFacts.{delivery_ends}
-use Rattle.oe_model.proofs.DeliveryLaws.{delivery_ask_same, district_act_same, alone_takes, among_takes, district_lawful}
+use Rattle.oe_model.proofs.DeliveryLaws.{delivery_ask_same, district_act_same, alone_takes, among_takes}
+use Rattle.oe_model.proofs.DeliveryLaws.{district_lawful}
 use Rattle.oe_model.proofs.DeliveryGood.{delivery_good}
 use Rattle.oe_model.proofs.DeliveriesFacts.{deliveries_end, deliveries_good}
 use Rattle.oe_model.proofs.KeptFacts.{ends_kept, accepted_stocked}
@@ -66,19 +72,23 @@ name_true (name.Stock a) (name.Stock b) e = ap name.Stock (is_same stock_total e
 name_true _ _ e = cc
 
 -- an item that is found is there
-item_there : (n : ℕ) (items : FinMap item_cmp Item) (x : Item) → item_at n items ≡ Some x → IsSome (get items (record { item = n }))
+item_there : (n : ℕ) (items : FinMap item_cmp Item) (x : Item) → item_at n items ≡ Some x
+    → IsSome (get items (record { item = n }))
 item_there n items x e = by_test (nat_le n 100000) e
   where
-    by_test : (b : Bool) → cond b (get items (record { item = n })) None ≡ Some x → IsSome (get items (record { item = n }))
+    by_test : (b : Bool) → cond b (get items (record { item = n })) None ≡ Some x
+        → IsSome (get items (record { item = n }))
     by_test true e = ap is_some e
     by_test false e = let no : ⊥ = cc in absurd no
 
-have_stock : (r : Rows) → IsStocked r → (ls : List RequestLine) → EachOf (λ w. IsSome (get r.warehouses (warehouse_no w))) (map (λ l. l.supply) ls) → EachOf (HasStock r) ls
+have_stock : (r : Rows) → IsStocked r → (ls : List RequestLine)
+    → EachOf (λ w. IsSome (get r.warehouses (warehouse_no w))) (map (λ l. l.supply) ls) → EachOf (HasStock r) ls
 have_stock r s [] h = tt
 have_stock r s (l ∷ ls) h = ((λ item e. s (stock_of l) h.0 (item_there l.item r.items item e)), have_stock r s ls h.1)
 
 -- the district of a request is there
-district_there : (r : Rows) → Meets r → (h : DistrictKey) → IsSome (get r.warehouses (warehouse_no h.warehouse)) → IsDistrict h → IsSome (get r.districts h)
+district_there : (r : Rows) → Meets r → (h : DistrictKey) → IsSome (get r.warehouses (warehouse_no h.warehouse))
+    → IsDistrict h → IsSome (get r.districts h)
 district_there r m h w d = m.ten_districts h w d.1.0 d.1.1
 
 -- each program, run alone from what it needs, ends with its whole effect
@@ -87,14 +97,17 @@ ends_by : (t k : ℕ) (q : Request) (r : Rows)
     IsReadyFor x r → IsRequest q → rejection q r ≡ None → EndsSo (MayRefuse q) x (start_of q) r (effect_of t k q r))
 ends_by t k (request.Payment q) r g valid known =
     let there = all_there (warehouses_of (request.Payment q)) r known in
-    payment_ends (record { terminal = t; number = k; request = request.Payment q }) q r g.unused there.0 (district_there r g.meets q.district there.0 valid.district)
+    payment_ends (record { terminal = t; number = k; request = request.Payment q }) q r g.unused there.0
+    (district_there r g.meets q.district there.0 valid.district)
 ends_by t k (request.NewOrder q) r g valid known =
     let there = all_there (warehouses_of (request.NewOrder q)) r known in
     new_order_ends (record { terminal = t; number = k; request = request.NewOrder q }) q r
-    (λ d e. is_fresh r g.meets g.conditions.condition_2 q.district d e) there.0 (district_there r g.meets q.district there.0 valid.district) (have_stock r g.stocked q.lines there.1)
+    (λ d e. is_fresh r g.meets g.conditions.condition_2 q.district d e) there.0
+    (district_there r g.meets q.district there.0 valid.district) (have_stock r g.stocked q.lines there.1)
 ends_by t k (request.Delivery q) r g valid known =
     delivery_ends (record { terminal = t; number = k; request = request.Delivery q }) q r g.meets
-ends_by t k (request.Deliveries q) r g valid known = deliveries_end (record { terminal = t; number = k; request = request.Deliveries q }) q r g.meets
+ends_by t k (request.Deliveries q) r g valid known = deliveries_end
+    (record { terminal = t; number = k; request = request.Deliveries q }) q r g.meets
 ends_by t k (request.Rename q) r g valid known = absurd valid
 
 pub programs_end : Programs_end
@@ -107,27 +120,38 @@ ready f x r g =
     let h = g.good in
     record {
       meets = h.meets;
-      conditions = record { condition_1 = h.condition_1; condition_2 = h.condition_2; condition_3 = h.condition_3; condition_4 = h.condition_4 };
+      conditions = record {
+        condition_1 = h.condition_1;
+        condition_2 = h.condition_2;
+        condition_3 = h.condition_3;
+        condition_4 = h.condition_4;
+      };
       stocked = h.stocked;
-      unused = h.unused (history_key x.terminal x.number) g.terminal.0 (let less : f x.terminal < x.number = omega arith in less);
+      unused = h.unused (history_key x.terminal x.number) g.terminal.0
+          (let less : f x.terminal < x.number = omega arith in less);
     }
 
-pub ends : (f : ℕ → ℕ) (x : Tx Request) (r : Rows) → IsGood system f x r → EndsSo (MayRefuse x.request) x (start_of x.request) r (effect_of x.terminal x.number x.request r)
+pub ends : (f : ℕ → ℕ) (x : Tx Request) (r : Rows) → IsGood system f x r
+    → EndsSo (MayRefuse x.request) x (start_of x.request) r (effect_of x.terminal x.number x.request r)
 ends f x r g = programs_end x r (ready f x r g) g.valid g.known
 
 -- each whole effect keeps what holds between transactions
-good_by : (f : ℕ → ℕ) (t k : ℕ) (q : Request) (r after : Rows) (y : Reply) → Good f r → k ≡ suc (f t) → Meets after → IsStocked after → effect_of t k q r ≡ Some (after, y) → Good (bump t f) after
+good_by : (f : ℕ → ℕ) (t k : ℕ) (q : Request) (r after : Rows) (y : Reply) → Good f r → k ≡ suc (f t) → Meets after
+    → IsStocked after → effect_of t k q r ≡ Some (after, y) → Good (bump t f) after
 good_by f t k (request.Payment q) r after y g n m s e = payment_good f t k q r after y g n m s e
 good_by f t k (request.NewOrder q) r after y g n m s e = new_order_good f t q r after y g m s e
 good_by f t k (request.Delivery q) r after y g n m s e = delivery_good f t q r after y g m s e
 good_by f t k (request.Deliveries q) r after y g n m s e = deliveries_good f t q r after y g e
 good_by f t k (request.Rename q) r after y g n m s e = let no : ⊥ = cc in absurd no
 
-pub stays : (f : ℕ → ℕ) (x : Tx Request) (r after : Rows) (y : Reply) → IsGood system f x r → effect_of x.terminal x.number x.request r ≡ Some (after, y) → Good (bump x.terminal f) after
+pub stays : (f : ℕ → ℕ) (x : Tx Request) (r after : Rows) (y : Reply) → IsGood system f x r
+    → effect_of x.terminal x.number x.request r ≡ Some (after, y) → Good (bump x.terminal f) after
 stays f x r after y g e =
     good_by f x.terminal x.number x.request r after y g.good g.number
-    (ends_kept Meets accepted_meets (MayRefuse x.request) x (start_of x.request) r (effect_of x.terminal x.number x.request r) after y (ends f x r g) e g.good.meets)
-    (ends_kept IsStocked accepted_stocked (MayRefuse x.request) x (start_of x.request) r (effect_of x.terminal x.number x.request r) after y (ends f x r g) e g.good.stocked)
+    (ends_kept Meets accepted_meets (MayRefuse x.request) x (start_of x.request) r
+    (effect_of x.terminal x.number x.request r) after y (ends f x r g) e g.good.meets)
+    (ends_kept IsStocked accepted_stocked (MayRefuse x.request) x (start_of x.request) r
+    (effect_of x.terminal x.number x.request r) after y (ends f x r g) e g.good.stocked)
     e
 
 starts_by : (x : Tx Request) (q : Request) → taken x (start_of q) ≡ []
@@ -137,7 +161,8 @@ starts_by x (request.Delivery q) = refl
 starts_by x (request.Deliveries q) = refl
 starts_by x (request.Rename q) = refl
 
-ask_same : (x : Tx Request) (p : Position) (r s : Rows) → Alike system (Holds system (taken x p)) x r s → ask x p r ≡ ask x p s
+ask_same : (x : Tx Request) (p : Position) (r s : Rows) → Alike system (Holds system (taken x p)) x r s
+    → ask x p r ≡ ask x p s
 ask_same x (InPayment q p) r s h = payment_ask_same x q p r s h
 ask_same x (InNewOrder q p) r s h = new_order_ask_same x q p r s h
 ask_same x (InDelivery q p) r s h = delivery_ask_same q p r s
@@ -145,7 +170,8 @@ ask_same x (InDeliveries q done p) r s h = delivery_ask_same (at_hand q done) p 
 ask_same x (DeliveriesEnd done) r s h = refl
 ask_same x NoProgram r s h = refl
 
-act_same : (x : Tx Request) (p : Position) (r s : Rows) → IsAskedNow x p r → Alike system (HeldThen x p r) x r s → act x p r ≡ act x p s
+act_same : (x : Tx Request) (p : Position) (r s : Rows) → IsAskedNow x p r → Alike system (HeldThen x p r) x r s
+    → act x p r ≡ act x p s
 act_same x (InPayment q p) r s k h = payment_act_same x q p r s k h
 act_same x (InNewOrder q p) r s k h = new_order_act_same x q p r s k h
 act_same x (InDelivery q p) r s k h = district_act_same x (alone q) q p r s h
@@ -153,11 +179,13 @@ act_same x (InDeliveries q done p) r s k h = district_act_same x (among_ten q do
 act_same x (DeliveriesEnd done) r s k h = refl
 act_same x NoProgram r s k h = refl
 
-lawful : (x : Tx Request) (p : Position) (r : Rows) → (c : Option Change) (z : Position) → IsAskedNow x p r → act x p r ≡ Go c z → IsLawful x p r c z
+lawful : (x : Tx Request) (p : Position) (r : Rows) → (c : Option Change) (z : Position) → IsAskedNow x p r
+    → act x p r ≡ Go c z → IsLawful x p r c z
 lawful x (InPayment q p) r c z k e = payment_lawful x q p r c z k e
 lawful x (InNewOrder q p) r c z k e = new_order_lawful x q p r c z k e
 lawful x (InDelivery q p) r c z k e = district_lawful x (alone q) q (alone_takes x q) p r c z e
-lawful x (InDeliveries q done p) r c z k e = district_lawful x (among_ten q done) (at_hand q done) (among_takes x q done) p r c z e
+lawful x (InDeliveries q done p) r c z k e = district_lawful x (among_ten q done) (at_hand q done)
+    (among_takes x q done) p r c z e
 lawful x (DeliveriesEnd done) r c z k e = let no : ⊥ = cc in absurd no
 lawful x NoProgram r c z k e = absurd k
 
@@ -178,9 +206,11 @@ laws = record {
   act_same = act_same;
   next_takes = λ x p r c q k e. (lawful x p r c q k e).takes;
   may_write = λ x p r c q k e. (lawful x p r (Some c) q k e).writes c refl;
-  keeps_part = λ x r s c q h k e f own. inl ((lawful x s.position (overlay system s.changes r) (Some c) q k e).keeps c refl f own);
+  keeps_part = λ x r s c q h k e f own. inl
+      ((lawful x s.position (overlay system s.changes r) (Some c) q k e).keeps c refl f own);
   accepts_same = λ x p r s c q k h e a.
-      accepts_alike (with_asked system (ask x p r) (taken x p)) x r s h c ((lawful x p r (Some c) q k e).writes c refl) ((lawful x p r (Some c) q k e).knows c refl) a;
+      accepts_alike (with_asked system (ask x p r) (taken x p)) x r s h c ((lawful x p r (Some c) q k e).writes c refl)
+      ((lawful x p r (Some c) q k e).knows c refl) a;
   rejection_same = rejection_same;
   query_rejection_same = query_rejection_same;
   ends = ends;

@@ -1,5 +1,6 @@
 -- Audits: whether a condition holds, and otherwise the first row, in key order, at which it fails.
-use Rattle.std.specs.Prelude.{ℕ, suc, ◌+◌, ◌-◌, ◌==◌, pos, ◌+ℤ◌, ◌-ℤ◌, Bool, true, false, not, ◌&&◌, List, map, find, Option, None, Some, option_map, is_some, is_none, nat_le}
+use Rattle.std.specs.Prelude.{ℕ, suc, ◌+◌, ◌-◌, ◌==◌, pos, ◌+ℤ◌, ◌-ℤ◌, Bool, true, false, not, ◌&&◌, List, map, find}
+use Rattle.std.specs.Prelude.{Option, None, Some, option_map, is_some, is_none, nat_le}
 use Rattle.std.specs.List.{list_any}
 use Rattle.std.specs.declared.cmp.Ordering.{Ordering}
 use Rattle.std.specs.Ordering.{eq_by_cmp, int_eq}
@@ -21,7 +22,8 @@ use Rattle.oe_rows.specs.declared.orders.OrderLine.{OrderLine}
 use Rattle.oe_model.specs.Keys.{district_of_order, district_of_new_order, order_of_line, new_order_in}
 use Rattle.oe_model.specs.Rows.{Rows}
 use Rattle.oe_model.specs.Conditions.{ytd_of, new_orders_of, lines_asked, lines_there}
-use Rattle.oe_model.specs.FurtherConditions.{lines_of_order, paid_in_warehouse, paid_in_district, paid_by, delivered_for}
+use Rattle.oe_model.specs.FurtherConditions.{lines_of_order, paid_in_warehouse, paid_in_district, paid_by}
+use Rattle.oe_model.specs.FurtherConditions.{delivered_for}
 
 pub data Condition : Type 0 where
   First : Condition
@@ -53,7 +55,8 @@ abbrev pub order_numbers : DistrictKey → FinMap order_cmp Order → List ℕ
 order_numbers h m = map (λ e. e.0.order) (entries (retain_keys m (λ k. eq_by_cmp district_cmp (district_of_order k) h)))
 
 abbrev pub new_order_numbers : DistrictKey → FinMap new_order_cmp NewOrder → List ℕ
-new_order_numbers h m = map (λ e. e.0.order) (entries (retain_keys m (λ k. eq_by_cmp district_cmp (district_of_new_order k) h)))
+new_order_numbers h m = map (λ e. e.0.order)
+    (entries (retain_keys m (λ k. eq_by_cmp district_cmp (district_of_new_order k) h)))
 
 abbrev pub greatest : List ℕ → Option ℕ
 greatest ns = find (λ n. not (list_any (λ m. nat_le (suc n) m) ns)) ns

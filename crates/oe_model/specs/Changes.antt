@@ -21,7 +21,8 @@ use Rattle.oe_rows.specs.declared.keys.Key.{Key}
 use Rattle.oe_rows.specs.declared.keys.Key.TheVariants as key
 use Rattle.oe_rows.specs.declared.rows.Row.{Row}
 use Rattle.oe_rows.specs.declared.rows.Row.TheVariants as row
-use Rattle.oe_model.specs.Rows.{Rows, with_row, as_warehouse, as_district, as_customer, as_history, as_new_order, as_order, as_order_line, as_stock}
+use Rattle.oe_model.specs.Rows.{Rows, with_row, as_warehouse, as_district, as_customer, as_history, as_new_order}
+use Rattle.oe_model.specs.Rows.{as_order, as_order_line, as_stock}
 
 -- a change of one row, of those that transactions make
 pub data Change : Type 0 where

@@ -1,5 +1,6 @@
 -- Which customer is meant, by number or by last name (clauses 2.5.2.2 and 2.6.2.2).
-use Rattle.std.specs.Prelude.{ℕ, ◌+◌, ◌/◌, ◌==◌, Bool, cond, ◌&&◌, List, length, count_by, find, Option, None, Some, option_map}
+use Rattle.std.specs.Prelude.{ℕ, ◌+◌, ◌/◌, ◌==◌, Bool, cond, ◌&&◌, List, length, count_by, find, Option, None, Some}
+use Rattle.std.specs.Prelude.{option_map}
 use Rattle.std.specs.List.{filter_map}
 use Rattle.std.specs.Ordering.{eq_by_cmp, nat_cmp, ordering_then, is_lt}
 use Rattle.std.specs.Cmp.Lexicographic.{slice_cmp}
@@ -14,7 +15,9 @@ use Rattle.oe_model.specs.Keys.{district_of_customer, customer_in}
 
 -- C_FIRST and C_ID of a customer of the district with this C_LAST
 abbrev pub named : DistrictKey → List ℕ → CustomerKey → Customer → Option (List ℕ × ℕ)
-named h last k x = cond (eq_by_cmp district_cmp (district_of_customer k) h && eq_by_cmp (slice_cmp nat_cmp) x.name.last last) (Some (x.name.first, k.customer)) None
+named h last k x = cond
+    (eq_by_cmp district_cmp (district_of_customer k) h && eq_by_cmp (slice_cmp nat_cmp) x.name.last last)
+    (Some (x.name.first, k.customer)) None
 
 -- of each of them
 abbrev pub namesakes : DistrictKey → List ℕ → FinMap customer_cmp Customer → List (List ℕ × ℕ)

@@ -1,4 +1,5 @@
--- Consistency conditions 1 to 4 (clauses 3.3.2.1 to 3.3.2.4), populations, and what holds of the tables between transactions.
+-- Consistency conditions 1 to 4 (clauses 3.3.2.1 to 3.3.2.4), populations, and what holds of the tables between
+-- transactions.
 use Rattle.std.specs.Prelude.{◌≡◌, ℕ, ◌+◌, ◌-◌, ◌<◌, ◌≤◌, cond, None, Some, IsSome}
 use Rattle.std.specs.Ordering.{eq_by_cmp}
 use Rattle.std.specs.FinMap.{get}
@@ -10,7 +11,8 @@ use Rattle.oe_rows.specs.declared.keys.StockKey.{StockKey}
 use Rattle.oe_rows.specs.declared.warehouses.Warehouse.{Warehouse}
 use Rattle.oe_rows.specs.declared.districts.District.{District}
 use Rattle.oe_rows.specs.declared.histories.History.{History}
-use Rattle.oe_model.specs.Keys.{warehouse_of_district, district_of_order, district_of_new_order, order_of_line, order_in, new_order_in, warehouse_of_stock, item_of_stock}
+use Rattle.oe_model.specs.Keys.{warehouse_of_district, district_of_order, district_of_new_order, order_of_line}
+use Rattle.oe_model.specs.Keys.{order_in, new_order_in, warehouse_of_stock, item_of_stock}
 use Rattle.oe_model.specs.Rows.{Rows}
 use Rattle.oe_model.specs.Maps.{sum_of}
 use Rattle.oe_model.specs.Meets.{Meets}
@@ -59,15 +61,18 @@ lines_there r h = sum_of (λ k y. if_of h (district_of_order (order_of_line k)) 
 abbrev pub Condition_1_at : Rows → WarehouseKey → Warehouse → Type 0
 Condition_1_at r w x = x.ytd ≡ ytd_of r w
 
--- condition 2 of a district: D_NEXT_O_ID - 1 is the greatest O_ID, and the greatest NO_O_ID where there is a NEW-ORDER row
+-- condition 2 of a district: D_NEXT_O_ID - 1 is the greatest O_ID, and the greatest NO_O_ID where there is a NEW-ORDER
+-- row
 pub record Condition_2_at (r : Rows) (h : DistrictKey) (x : District) : Type 0 where
   pub orders : IsAfterGreatest (HasOrder r h) x.next_order
   pub new_orders : (o : ℕ) → HasNewOrder r h o → IsAfterGreatest (HasNewOrder r h) x.next_order
 
--- condition 3 of a district: where there is a NEW-ORDER row, the greatest NO_O_ID less the least, and 1, is their number
+-- condition 3 of a district: where there is a NEW-ORDER row, the greatest NO_O_ID less the least, and 1, is their
+-- number
 abbrev pub Condition_3_at : Rows → DistrictKey → Type 0
 Condition_3_at r h =
-    (greatest least : ℕ) → IsGreatest (HasNewOrder r h) greatest → IsLeast (HasNewOrder r h) least → greatest - least + 1 ≡ new_orders_of r h
+    (greatest least : ℕ) → IsGreatest (HasNewOrder r h) greatest → IsLeast (HasNewOrder r h) least
+    → greatest - least + 1 ≡ new_orders_of r h
 
 -- condition 4 of a district: the sum of O_OL_CNT is the number of ORDER-LINE rows
 abbrev pub Condition_4_at : Rows → DistrictKey → Type 0
@@ -88,9 +93,11 @@ Condition_4 r = (h : DistrictKey) → IsSome (get r.districts h) → Condition_4
 
 -- each warehouse has a STOCK row for each ITEM row
 abbrev pub IsStocked : Rows → Type 0
-IsStocked r = (k : StockKey) → IsSome (get r.warehouses (warehouse_of_stock k)) → IsSome (get r.items (item_of_stock k)) → IsSome (get r.stocks k)
+IsStocked r = (k : StockKey) → IsSome (get r.warehouses (warehouse_of_stock k)) → IsSome (get r.items (item_of_stock k))
+    → IsSome (get r.stocks k)
 
--- tables to begin from: the schema, conditions 1 to 4 (by the second each district has an order), and HISTORY rows of terminal 0 alone
+-- tables to begin from: the schema, conditions 1 to 4 (by the second each district has an order), and HISTORY rows of
+-- terminal 0 alone
 pub record IsPopulation (r : Rows) : Type 0 where
   pub meets : Meets r
   pub condition_1 : Condition_1 r

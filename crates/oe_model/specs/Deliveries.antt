@@ -1,4 +1,5 @@
--- Delivery of all ten districts of a warehouse as one transaction (clause 2.7): its whole effect, and where its program goes on. A stage of
+-- Delivery of all ten districts of a warehouse as one transaction (clause 2.7): its whole effect, and where its program
+-- goes on. A stage of
 -- it is one of the district at hand.
 use Rattle.std.specs.Prelude.{ℕ, ◌+◌, ◌==◌, cond, List, [], ◌∷◌, ◌++◌, length, Option, Some}
 use Rattle.oe_requests.specs.declared.requests.DeliveryRequest.{DeliveryRequest}
@@ -11,13 +12,18 @@ use Rattle.oe_model.specs.Positions.{Position, DeliveryQueue, InDeliveries, Deli
 use Rattle.oe_model.specs.Effects.{◌>>=◌}
 use Rattle.oe_model.specs.Delivery.{Setting, district_effect}
 
--- the districts of a warehouse, in the order in which they are delivered; shut, so that no proof goes through them one by one
+-- the districts of a warehouse, in the order in which they are delivered; shut, so that no proof goes through them one
+-- by one
 unfoldable pub districts : List ℕ
 districts = 1 ∷ 2 ∷ 3 ∷ 4 ∷ 5 ∷ 6 ∷ 7 ∷ 8 ∷ 9 ∷ 10 ∷ []
 
 -- what is asked of one district
 abbrev pub in_district : DeliveriesRequest → ℕ → DeliveryRequest
-in_district q d = record { district = record { warehouse = q.warehouse.warehouse; district = d }; carrier = q.carrier; stamp = q.stamp }
+in_district q d = record {
+  district = record { warehouse = q.warehouse.warehouse; district = d };
+  carrier = q.carrier;
+  stamp = q.stamp;
+}
 
 -- the effects of these districts one after another, none where one has none, with what each district answers
 abbrev pub in_turn : DeliveriesRequest → List ℕ → Rows → Option (Rows × List DistrictDelivery)

@@ -1,4 +1,5 @@
--- Delivery of one district (clause 2.7): its whole effect, and its program, a stage at a time. The program serves a transaction of that
+-- Delivery of one district (clause 2.7): its whole effect, and its program, a stage at a time. The program serves a
+-- transaction of that
 -- district alone and one of all ten districts.
 use Rattle.std.specs.Prelude.{ℕ, ◌+◌, pos, ◌+ℤ◌, cond, List, [], ◌∷◌, map, sum_by, Option, None, Some}
 use Rattle.std.specs.Ordering.{eq_by_cmp}
@@ -29,7 +30,8 @@ use Rattle.oe_model.specs.Rows.{Rows}
 use Rattle.oe_model.specs.Maps.{each}
 use Rattle.oe_model.specs.Changes.{DeleteNewOrder, UpdateOrder, UpdateOrderLine, UpdateCustomer}
 use Rattle.oe_model.specs.Locks.{hold}
-use Rattle.oe_model.specs.Positions.{Position, DeliveryPosition, DeliveryQueue, DeliveryNothing, DeliveryOrder, DeliveryLine, DeliveryEnd, InDelivery}
+use Rattle.oe_model.specs.Positions.{Position, DeliveryPosition, DeliveryQueue, DeliveryNothing, DeliveryOrder}
+use Rattle.oe_model.specs.Positions.{DeliveryLine, DeliveryEnd, InDelivery}
 use Rattle.oe_model.specs.Effects.{◌>>=◌, first_out, in_range, Doing, given, within}
 use Rattle.oe_model.specs.Payment.{is_balance, is_count}
 
@@ -63,7 +65,8 @@ delivered_to sum x = record x {
 
 -- the first column of such a customer that leaves its range
 abbrev pub delivered_out : Customer → Option Column
-delivered_out x = first_out ((column.Balance, is_balance x.account.balance) ∷ (column.DeliveryCount, is_count x.account.delivery_count) ∷ [])
+delivered_out x = first_out
+    ((column.Balance, is_balance x.account.balance) ∷ (column.DeliveryCount, is_count x.account.delivery_count) ∷ [])
 
 -- what a district answers of an order that was delivered
 abbrev pub delivered : ℕ → ℕ → ℕ → DistrictDelivery
@@ -79,7 +82,8 @@ delivery_of q o r = do
     record r {
       new_orders = remove r.new_orders (new_order_in q.district o);
       orders = insert r.orders (order_in q.district o) (carried q.carrier order);
-      order_lines = each (λ k x. cond (eq_by_cmp order_cmp (order_of_line k) (order_in q.district o)) (dated q.stamp x) x) r.order_lines;
+      order_lines = each (λ k x. cond (eq_by_cmp order_cmp (order_of_line k) (order_in q.district o)) (dated q.stamp x)
+          x) r.order_lines;
       customers = insert r.customers (customer_in q.district order.customer) customer';
     },
     delivered o order.customer (worth (lines_of (order_in q.district o) r.order_lines)),
@@ -93,7 +97,8 @@ district_effect q r = elim (oldest q.district r.new_orders) [ None ↦ Some (r, 
 abbrev pub delivery_effect : DeliveryRequest → Rows → Option (Rows × Reply)
 delivery_effect q r = district_effect q r >>= λ e. Some (e.0, reply.Delivery e.1)
 
--- the transaction that a district's delivery is part of: its position where the district's is known, the one that it goes on to once
+-- the transaction that a district's delivery is part of: its position where the district's is known, the one that it
+-- goes on to once
 -- the district is done, and the reply that it is ready with at the district's end
 pub record Setting : Type 0 where
   pub here : DeliveryPosition → Position
@@ -131,11 +136,14 @@ district_act t q (DeliveryOrder o) r =
     Go (Some (UpdateOrder (order_in q.district o) (carried q.carrier x)))
     (t.here (DeliveryLine o x.customer (map (λ e. e.0.number) (lines_of (order_in q.district o) r.order_lines)) 0)))
 district_act t q (DeliveryLine o c (n ∷ ns) sum) r =
-    given (NoSuchRow (key.OrderLine (line_in (order_in q.district o) n))) (get r.order_lines (line_in (order_in q.district o) n)) (λ x.
-    Go (Some (UpdateOrderLine (line_in (order_in q.district o) n) (dated q.stamp x))) (t.here (DeliveryLine o c ns (sum + x.amount))))
+    given (NoSuchRow (key.OrderLine (line_in (order_in q.district o) n)))
+    (get r.order_lines (line_in (order_in q.district o) n)) (λ x.
+    Go (Some (UpdateOrderLine (line_in (order_in q.district o) n) (dated q.stamp x)))
+    (t.here (DeliveryLine o c ns (sum + x.amount))))
 district_act t q (DeliveryLine o c [] sum) r =
     given (NoSuchRow (key.Customer (customer_in q.district c))) (get r.customers (customer_in q.district c)) (λ x.
-    within (delivered_out (delivered_to sum x)) (Go (Some (UpdateCustomer (customer_in q.district c) (delivered_to sum x))) (t.next (delivered o c sum))))
+    within (delivered_out (delivered_to sum x))
+    (Go (Some (UpdateCustomer (customer_in q.district c) (delivered_to sum x))) (t.next (delivered o c sum))))
 district_act t q (DeliveryEnd o c sum) r = Ready (t.answer (delivered o c sum))
 
 abbrev pub delivery_act : DeliveryRequest → DeliveryPosition → Rows → Doing

@@ -1,4 +1,5 @@
--- What follows of every run of terminals' steps, from any population: the theory's theorems at this machine, by their subjects.
+-- What follows of every run of terminals' steps, from any population: the theory's theorems at this machine, by their
+-- subjects.
 use Rattle.std.specs.Prelude.{◌≡◌, ℕ, None, List, [], ◌∷◌}
 use Rattle.std.specs.FinMap.{get}
 use Rattle.oe_theory.specs.Machine.{Tx}
@@ -6,10 +7,19 @@ use Rattle.oe_theory.specs.World.{World, at, tables}
 use Rattle.oe_theory.specs.Next.{IsQuiet}
 use Rattle.oe_theory.specs.Laws.{Laws, Ends}
 use Rattle.oe_theory.specs.Undo.{Undo, Keeps, commit_records}
-use Rattle.oe_theory.specs.Theorems.{IsReached, Opening_is_reached, Run_is_reached, Rollback_leaves_no_trace, Commit_is_whole, Abort_has_no_effect, Open_is_known, Abort_is_its_own, Changes_are_accepted, History_is_serial, Nothing_is_recorded, Records_follow, World_has_records, Tables_follow, Undo_forgets, Undo_goes_back, Base_is_unwound, Version_is_unwound, Row_is_unwound, Holds_of_tables, Holds_while_undone, Holds_while_rewound, Used_is_of_records, Extents_suffice, Full_is_full, Quiet_tables, Rewind_restores, Purge_leaves_later, Tests_hold_from_base, Versions_are_good, Want_stands_for, Each_is_answered, Answers_are_determined, Scripts_are_answered}
+use Rattle.oe_theory.specs.Theorems.{IsReached, Opening_is_reached, Run_is_reached, Rollback_leaves_no_trace}
+use Rattle.oe_theory.specs.Theorems.{Commit_is_whole, Abort_has_no_effect, Open_is_known, Abort_is_its_own}
+use Rattle.oe_theory.specs.Theorems.{Changes_are_accepted, History_is_serial, Nothing_is_recorded, Records_follow}
+use Rattle.oe_theory.specs.Theorems.{World_has_records, Tables_follow, Undo_forgets, Undo_goes_back, Base_is_unwound}
+use Rattle.oe_theory.specs.Theorems.{Version_is_unwound, Row_is_unwound, Holds_of_tables, Holds_while_undone}
+use Rattle.oe_theory.specs.Theorems.{Holds_while_rewound, Used_is_of_records, Extents_suffice, Full_is_full}
+use Rattle.oe_theory.specs.Theorems.{Quiet_tables, Rewind_restores, Purge_leaves_later, Tests_hold_from_base}
+use Rattle.oe_theory.specs.Theorems.{Versions_are_good, Want_stands_for, Each_is_answered, Answers_are_determined}
+use Rattle.oe_theory.specs.Theorems.{Scripts_are_answered}
 use Rattle.oe_theory.specs.RecordTheorems.{Row_without_record, Records_are_apart, Each_goes_back}
 use Rattle.oe_theory.specs.StepTheorems.{Steps_are_counted, IsEnding, Endings_are_whole, Runs_pass}
-use Rattle.oe_theory.specs.StoreTheorems.{World_is_stored, Store_follows, Opening_stands, Steps_of_the_store, Facts_of_the_store, Each_goes_back_here}
+use Rattle.oe_theory.specs.StoreTheorems.{World_is_stored, Store_follows, Opening_stands, Steps_of_the_store}
+use Rattle.oe_theory.specs.StoreTheorems.{Facts_of_the_store, Each_goes_back_here}
 use Rattle.oe_requests.specs.declared.requests.Request.{Request}
 use Rattle.oe_model.specs.Rows.{Rows}
 use Rattle.oe_model.specs.Changes.{Record, IsRecord}
@@ -19,7 +29,8 @@ use Rattle.oe_model.specs.Requests.{IsRequest, MayRefuse, rejection}
 use Rattle.oe_model.specs.Conditions.{IsPopulation, IsStocked, Good, Condition_1, Condition_2, Condition_3, Condition_4}
 use Rattle.oe_model.specs.System.{Layout, machine, system, start_of, effect_of}
 
--- the machine of each layout meets the local laws of the theory; so each program, run alone, is its whole effect, a row at a time
+-- the machine of each layout meets the local laws of the theory; so each program, run alone, is its whole effect, a row
+-- at a time
 abbrev pub System_is_lawful : Type 0
 System_is_lawful = (layout : Layout) → Laws (machine layout)
 
@@ -30,7 +41,8 @@ pub record Conditions (r : Rows) : Type 0 where
   pub condition_3 : Condition_3 r
   pub condition_4 : Condition_4 r
 
--- what a program alone needs of the tables: the schema, conditions 1 to 4, a STOCK row for each ITEM row of each warehouse, and
+-- what a program alone needs of the tables: the schema, conditions 1 to 4, a STOCK row for each ITEM row of each
+-- warehouse, and
 -- no HISTORY row of its own transaction
 pub record IsReadyFor (x : Tx Request) (r : Rows) : Type 0 where
   pub meets : Meets r
@@ -38,7 +50,8 @@ pub record IsReadyFor (x : Tx Request) (r : Rows) : Type 0 where
   pub stocked : IsStocked r
   pub unused : get r.histories (history_key x.terminal x.number) ≡ None
 
--- a program alone, of a request that is within its ranges and not rejected, ends with exactly its whole effect, or with none and
+-- a program alone, of a request that is within its ranges and not rejected, ends with exactly its whole effect, or with
+-- none and
 -- a refusal that it may end with; and the tables accept each of its changes
 abbrev pub Programs_end : Type 0
 Programs_end =
@@ -120,7 +133,8 @@ pub record Schema_always_holds : Type 0 where
   pub of_tables : Holds_of_tables system Meets
   pub while_undone : Holds_while_undone system Meets
   pub while_rewound : Holds_while_rewound system Meets
-  -- and between any two of all stored records that are put back in turn, of which each finds the row that its change left
+  -- and between any two of all stored records that are put back in turn, of which each finds the row that its change
+  -- left
   pub in_turn : Each_goes_back system Meets
   pub in_turn_here : Each_goes_back_here system Meets
 

@@ -44,7 +44,8 @@ conflict Exclusive m = true
 abbrev pub hold : Name → theory.Mode → Hold Name
 hold n m = record { name = n; mode = m }
 
--- the name that a row lies under, present or absent: a queue's is that of all NEW-ORDER rows of its district, an order's that of
+-- the name that a row lies under, present or absent: a queue's is that of all NEW-ORDER rows of its district, an
+-- order's that of
 -- its ORDER row and its lines. ITEM rows never change, and a HISTORY row is its own transaction's
 abbrev pub governs : Key → Guard Name
 governs (key.Warehouse k) = Under (name.Warehouse k)
@@ -57,7 +58,8 @@ governs (key.OrderLine k) = Under (name.Order (order_of_line k))
 governs (key.Item k) = Free
 governs (key.Stock k) = Under (name.Stock k)
 
--- what can be read of a row without its lock: whether a row is there, of the tables whose rows never come or go, C_FIRST of a
+-- what can be read of a row without its lock: whether a row is there, of the tables whose rows never come or go,
+-- C_FIRST of a
 -- customer with this last name, and the whole of an item
 pub data Facet : Type 0 where
   WarehouseThere : WarehouseKey → Facet

@@ -20,16 +20,23 @@ use Rattle.oe_rows.specs.declared.keys.Key.{Key}
 use Rattle.oe_rows.specs.declared.keys.Key.TheVariants as key
 use Rattle.oe_requests.specs.declared.refusals.Refusal.{Refusal}
 use Rattle.oe_requests.specs.declared.refusals.Refusal.TheVariants.{NoSuchRow, RowExists, Reference, KeyColumn}
-use Rattle.oe_model.specs.Keys.{warehouse_of_district, district_of_customer, order_of_new_order, customer_of_order, order_of_line, supply_of_line, warehouse_of_stock, item_of_stock}
+use Rattle.oe_model.specs.Keys.{warehouse_of_district, district_of_customer, order_of_new_order, customer_of_order}
+use Rattle.oe_model.specs.Keys.{order_of_line, supply_of_line, warehouse_of_stock, item_of_stock}
 use Rattle.oe_model.specs.Rows.{Rows, row_at}
-use Rattle.oe_model.specs.Changes.{Change, InsertHistory, InsertNewOrder, InsertOrder, InsertOrderLine, UpdateWarehouse, UpdateDistrict, UpdateCustomer, UpdateOrder, UpdateOrderLine, UpdateStock, DeleteNewOrder, key_of}
+use Rattle.oe_model.specs.Changes.{Change, InsertHistory, InsertNewOrder, InsertOrder, InsertOrderLine, UpdateWarehouse}
+use Rattle.oe_model.specs.Changes.{UpdateDistrict, UpdateCustomer, UpdateOrder, UpdateOrderLine, UpdateStock}
+use Rattle.oe_model.specs.Changes.{DeleteNewOrder, key_of}
 
 -- each reference finds its row, and each warehouse has ten districts
 pub record Meets (r : Rows) : Type 0 where
-  pub districts : (k : DistrictKey) (x : District) → get r.districts k ≡ Some x → IsSome (get r.warehouses (warehouse_of_district k))
-  pub customers : (k : CustomerKey) (x : Customer) → get r.customers k ≡ Some x → IsSome (get r.districts (district_of_customer k))
-  pub histories : (k : HistoryKey) (x : History) → get r.histories k ≡ Some x → IsSome (get r.customers x.customer) × IsSome (get r.districts x.district)
-  pub new_orders : (k : NewOrderKey) (x : NewOrder) → get r.new_orders k ≡ Some x → IsSome (get r.orders (order_of_new_order k))
+  pub districts : (k : DistrictKey) (x : District) → get r.districts k ≡ Some x
+      → IsSome (get r.warehouses (warehouse_of_district k))
+  pub customers : (k : CustomerKey) (x : Customer) → get r.customers k ≡ Some x
+      → IsSome (get r.districts (district_of_customer k))
+  pub histories : (k : HistoryKey) (x : History) → get r.histories k ≡ Some x
+      → IsSome (get r.customers x.customer) × IsSome (get r.districts x.district)
+  pub new_orders : (k : NewOrderKey) (x : NewOrder) → get r.new_orders k ≡ Some x
+      → IsSome (get r.orders (order_of_new_order k))
   pub orders : (k : OrderKey) (x : Order) → get r.orders k ≡ Some x → IsSome (get r.customers (customer_of_order k x))
   pub order_lines : (k : OrderLineKey) (x : OrderLine) → get r.order_lines k ≡ Some x
       → IsSome (get r.orders (order_of_line k)) × IsSome (get r.stocks (supply_of_line x))
@@ -38,16 +45,20 @@ pub record Meets (r : Rows) : Type 0 where
   pub ten_districts : (k : DistrictKey) → IsSome (get r.warehouses (warehouse_of_district k))
       → 1 ≤ k.district → k.district ≤ 10 → IsSome (get r.districts k)
 
--- a change is accepted: an insert where its key is absent and what it refers to is there, an update where its key is there,
+-- a change is accepted: an insert where its key is absent and what it refers to is there, an update where its key is
+-- there,
 -- O_C_ID, C_LAST and C_FIRST stay and what it refers to is there, a delete where its key is there
 abbrev pub Accepts : Change → Rows → Type 0
-Accepts (InsertHistory k x) r = (get r.histories k ≡ None) × IsSome (get r.customers x.customer) × IsSome (get r.districts x.district)
+Accepts (InsertHistory k x) r = (get r.histories k ≡ None) × IsSome (get r.customers x.customer)
+    × IsSome (get r.districts x.district)
 Accepts (InsertNewOrder k x) r = (get r.new_orders k ≡ None) × IsSome (get r.orders (order_of_new_order k))
 Accepts (InsertOrder k x) r = (get r.orders k ≡ None) × IsSome (get r.customers (customer_of_order k x))
-Accepts (InsertOrderLine k x) r = (get r.order_lines k ≡ None) × IsSome (get r.orders (order_of_line k)) × IsSome (get r.stocks (supply_of_line x))
+Accepts (InsertOrderLine k x) r = (get r.order_lines k ≡ None) × IsSome (get r.orders (order_of_line k))
+    × IsSome (get r.stocks (supply_of_line x))
 Accepts (UpdateWarehouse k x) r = IsSome (get r.warehouses k)
 Accepts (UpdateDistrict k x) r = IsSome (get r.districts k)
-Accepts (UpdateCustomer k x) r = (y : Customer) × (get r.customers k ≡ Some y) × (x.name.last ≡ y.name.last) × (x.name.first ≡ y.name.first)
+Accepts (UpdateCustomer k x) r = (y : Customer) × (get r.customers k ≡ Some y) × (x.name.last ≡ y.name.last)
+    × (x.name.first ≡ y.name.first)
 Accepts (UpdateOrder k x) r = (y : Order) × (get r.orders k ≡ Some y) × (x.customer ≡ y.customer)
 Accepts (UpdateOrderLine k x) r = IsSome (get r.order_lines k) × IsSome (get r.stocks (supply_of_line x))
 Accepts (UpdateStock k x) r = IsSome (get r.stocks k)
@@ -72,7 +83,8 @@ referred _ = []
 
 -- an update changes a column that is part of an index's key: O_C_ID, C_LAST or C_FIRST
 abbrev pub ChangesKeyColumn : Change → Rows → Type 0
-ChangesKeyColumn (UpdateCustomer k x) r = (y : Customer) × (get r.customers k ≡ Some y) × ((x.name.last ≢ y.name.last) ⊎ (x.name.first ≢ y.name.first))
+ChangesKeyColumn (UpdateCustomer k x) r = (y : Customer) × (get r.customers k ≡ Some y)
+    × ((x.name.last ≢ y.name.last) ⊎ (x.name.first ≢ y.name.first))
 ChangesKeyColumn (UpdateOrder k x) r = (y : Order) × (get r.orders k ≡ Some y) × (x.customer ≢ y.customer)
 ChangesKeyColumn _ r = ⊥
 

@@ -1,5 +1,6 @@
 -- New-Order (clause 2.4): its whole effect, and its program, a stage at a time.
-use Rattle.std.specs.Prelude.{ℕ, ◌+◌, ◌-◌, ◌*◌, ◌==◌, Bool, true, false, cond, ◌&&◌, ◌||◌, List, [], ◌∷◌, ◌++◌, map, length, fold, get_or, Option, None, Some, nat_le, codes}
+use Rattle.std.specs.Prelude.{ℕ, ◌+◌, ◌-◌, ◌*◌, ◌==◌, Bool, true, false, cond, ◌&&◌, ◌||◌, List, [], ◌∷◌, ◌++◌, map}
+use Rattle.std.specs.Prelude.{length, fold, get_or, Option, None, Some, nat_le, codes}
 use Rattle.std.specs.List.{list_all}
 use Rattle.std.specs.Ordering.{eq_by_cmp}
 use Rattle.std.specs.FinMap.{FinMap, get, insert}
@@ -37,7 +38,9 @@ use Rattle.oe_model.specs.Rows.{Rows}
 use Rattle.oe_model.specs.Maps.{each, with_all}
 use Rattle.oe_model.specs.Changes.{InsertNewOrder, InsertOrder, InsertOrderLine, UpdateDistrict, UpdateStock}
 use Rattle.oe_model.specs.Locks.{hold}
-use Rattle.oe_model.specs.Positions.{Seen, Filled, NewOrderPosition, NewOrderWarehouse, NewOrderDistrict, NewOrderCustomer, NewOrderOrder, NewOrderQueue, NewOrderStock, NewOrderLine, InNewOrder}
+use Rattle.oe_model.specs.Positions.{Seen, Filled, NewOrderPosition, NewOrderWarehouse, NewOrderDistrict}
+use Rattle.oe_model.specs.Positions.{NewOrderCustomer, NewOrderOrder, NewOrderQueue, NewOrderStock, NewOrderLine}
+use Rattle.oe_model.specs.Positions.{InNewOrder}
 use Rattle.oe_model.specs.Effects.{◌>>=◌, first_out, in_range, Doing, given, within}
 use Rattle.oe_model.specs.Payment.{is_count}
 
@@ -66,7 +69,8 @@ after_lines home ls k x = fold (supplied home k) x (asked k ls)
 -- the first column of a stock row that leaves its range
 abbrev pub stock_out : Stock → Option Column
 stock_out x =
-    first_out ((column.StockYtd, nat_le x.ytd 99999999) ∷ (column.OrderCount, is_count x.order_count) ∷ (column.RemoteCount, is_count x.remote_count) ∷ [])
+    first_out ((column.StockYtd, nat_le x.ytd 99999999) ∷ (column.OrderCount, is_count x.order_count)
+    ∷ (column.RemoteCount, is_count x.remote_count) ∷ [])
 
 -- the item of this number; one past I_ID's range is unused (clause 2.4.1.5)
 abbrev pub item_at : ℕ → FinMap item_cmp Item → Option Item
@@ -84,7 +88,8 @@ occurs_in xs (y ∷ ys) = begins_with xs (y ∷ ys) || occurs_in xs ys
 
 -- B where I_DATA and S_DATA both have ORIGINAL, else G (clause 2.4.2.2)
 abbrev pub brand : Item → Stock → Brand
-brand item stock = cond (occurs_in (codes "ORIGINAL") item.data && occurs_in (codes "ORIGINAL") stock.data) Original Generic
+brand item stock = cond (occurs_in (codes "ORIGINAL") item.data && occurs_in (codes "ORIGINAL") stock.data) Original
+    Generic
 
 -- line n, with its stock row after the line
 abbrev pub fill : NewOrderRequest → ℕ → RequestLine → Item → Stock → Filled
@@ -199,11 +204,13 @@ new_order_ask q (NewOrderLine s before done l f ls) r = Plain
 -- the work of each stage
 abbrev pub new_order_act : NewOrderRequest → NewOrderPosition → Rows → Doing
 new_order_act q NewOrderWarehouse r =
-    given (NoSuchRow (key.Warehouse (warehouse_of_district q.district))) (get r.warehouses (warehouse_of_district q.district)) (λ x.
+    given (NoSuchRow (key.Warehouse (warehouse_of_district q.district)))
+    (get r.warehouses (warehouse_of_district q.district)) (λ x.
     Go None (InNewOrder q (NewOrderDistrict x.tax)))
 new_order_act q (NewOrderDistrict w) r =
     given (NoSuchRow (key.District q.district)) (get r.districts q.district) (λ x.
-    within (next_out (with_next x)) (Go (Some (UpdateDistrict q.district (with_next x))) (InNewOrder q (NewOrderCustomer x.next_order w x.tax))))
+    within (next_out (with_next x))
+    (Go (Some (UpdateDistrict q.district (with_next x))) (InNewOrder q (NewOrderCustomer x.next_order w x.tax))))
 new_order_act q (NewOrderCustomer o w d) r =
     given NoCustomer (get r.customers (customer_in q.district q.customer)) (λ x.
     Go None (InNewOrder q (NewOrderOrder (record {
@@ -214,16 +221,19 @@ new_order_act q (NewOrderCustomer o w d) r =
       last = x.name.last;
       credit = x.credit;
     }))))
-new_order_act q (NewOrderOrder s) r = Go (Some (InsertOrder (order_in q.district s.order) (order_row q))) (InNewOrder q (NewOrderQueue s))
+new_order_act q (NewOrderOrder s) r = Go (Some (InsertOrder (order_in q.district s.order) (order_row q)))
+    (InNewOrder q (NewOrderQueue s))
 new_order_act q (NewOrderQueue s) r =
-    Go (Some (InsertNewOrder (new_order_in q.district s.order) new_order_row)) (InNewOrder q (NewOrderStock s [] [] q.lines))
+    Go (Some (InsertNewOrder (new_order_in q.district s.order) new_order_row))
+    (InNewOrder q (NewOrderStock s [] [] q.lines))
 new_order_act q (NewOrderStock s before done []) r = Ready (reply.NewOrder (ordered_reply s done))
 new_order_act q (NewOrderStock s before done (l ∷ ls)) r =
     given InvalidItem (item_at l.item r.items) (λ item.
     given (NoSuchRow (key.Stock (stock_of l))) (get r.stocks (stock_of l)) (λ x.
     let x' : Stock = supplied q.district.warehouse (stock_of l) x l.quantity in
     within (stock_out x')
-    (Go (Some (UpdateStock (stock_of l) x')) (InNewOrder q (NewOrderLine s before done l (fill q (length before + 1) l item x') ls)))))
+    (Go (Some (UpdateStock (stock_of l) x'))
+    (InNewOrder q (NewOrderLine s before done l (fill q (length before + 1) l item x') ls)))))
 new_order_act q (NewOrderLine s before done l f ls) r =
     Go (Some (InsertOrderLine (line_in (order_in q.district s.order) f.number) f.row))
     (InNewOrder q (NewOrderStock s (before ++ l ∷ []) (done ++ f.reply ∷ []) ls))
@@ -246,5 +256,6 @@ new_order_taken q position =
       | NewOrderOrder s ↦ three
       | NewOrderQueue s ↦ four s.order
       | NewOrderStock s before done ls ↦ stock_holds before ++ five s.order
-      | NewOrderLine s before done l f ls ↦ hold (name.Stock (stock_of l)) Exclusive ∷ (stock_holds before ++ five s.order)
+      | NewOrderLine s before done l f ls ↦ hold (name.Stock (stock_of l))
+          Exclusive ∷ (stock_holds before ++ five s.order)
     ]

@@ -1,5 +1,6 @@
 -- Payment (clause 2.5): its whole effect, and its program, a stage at a time.
-use Rattle.std.specs.Prelude.{ℕ, ◌+◌, pos, neg_ℤ, ◌-ℤ◌, ℤ, Bool, ◌&&◌, List, [], ◌∷◌, ◌++◌, Option, None, Some, nat_le, int_le, codes}
+use Rattle.std.specs.Prelude.{ℕ, ◌+◌, pos, neg_ℤ, ◌-ℤ◌, ℤ, Bool, ◌&&◌, List, [], ◌∷◌, ◌++◌, Option, None, Some, nat_le}
+use Rattle.std.specs.Prelude.{int_le, codes}
 use Rattle.std.specs.FinMap.{get, insert}
 use Rattle.oe_theory.specs.Machine.{Exclusive, Ask, Stop, Plain, Take, Go, Ready, Hold}
 use Rattle.oe_rows.specs.Credit.{bad_credit_data}
@@ -25,7 +26,8 @@ use Rattle.oe_model.specs.Keys.{warehouse_of_district, customer_in}
 use Rattle.oe_model.specs.Rows.{Rows}
 use Rattle.oe_model.specs.Changes.{InsertHistory, UpdateWarehouse, UpdateDistrict, UpdateCustomer}
 use Rattle.oe_model.specs.Locks.{hold}
-use Rattle.oe_model.specs.Positions.{PaymentPosition, PaymentWarehouse, PaymentDistrict, PaymentCustomer, PaymentHistory, PaymentEnd, InPayment}
+use Rattle.oe_model.specs.Positions.{PaymentPosition, PaymentWarehouse, PaymentDistrict, PaymentCustomer}
+use Rattle.oe_model.specs.Positions.{PaymentHistory, PaymentEnd, InPayment}
 use Rattle.oe_model.specs.Effects.{◌>>=◌, first_out, in_range, Doing, given, within}
 use Rattle.oe_model.specs.Choice.{chosen}
 
@@ -39,7 +41,8 @@ paid_district q x = record x { ytd = x.ytd + q.amount }
 -- C_DATA: of a customer with bad credit the payment goes in at the left (clause 2.5.2.2)
 abbrev pub paid_data : ℕ → PaymentRequest → Credit → List ℕ → List ℕ
 paid_data c q Good old = old
-paid_data c q Bad old = bad_credit_data old (record { customer = customer_in q.customer_district c; district = q.district }) q.amount
+paid_data c q Bad old = bad_credit_data old
+    (record { customer = customer_in q.customer_district c; district = q.district }) q.amount
 
 abbrev pub paid_customer : ℕ → PaymentRequest → Customer → Customer
 paid_customer c q x = record x {
@@ -70,14 +73,22 @@ paid_district_out x = first_out ((column.DistrictYtd, is_money x.ytd) ∷ [])
 abbrev pub paid_customer_out : Customer → Option Column
 paid_customer_out x =
     first_out ((column.Balance, is_balance x.account.balance)
-    ∷ (column.YtdPayment, is_money x.account.ytd_payment) ∷ (column.PaymentCount, is_count x.account.payment_count) ∷ [])
+    ∷ (column.YtdPayment, is_money x.account.ytd_payment) ∷ (column.PaymentCount, is_count x.account.payment_count)
+    ∷ [])
 
 -- H_DATA: W_NAME, four spaces, D_NAME
 abbrev pub history_data : List ℕ → List ℕ → List ℕ
 history_data warehouse district = warehouse ++ codes "    " ++ district
 
 abbrev pub history_row : PaymentRequest → ℕ → List ℕ → History
-history_row q c info = record { customer = customer_in q.customer_district c; district = q.district; date = q.stamp; amount = q.amount; «data» = info }
+history_row q c info =
+    record {
+      customer = customer_in q.customer_district c;
+      district = q.district;
+      date = q.stamp;
+      amount = q.amount;
+      «data» = info;
+    }
 
 -- of transaction k of terminal t
 abbrev pub history_key : ℕ → ℕ → HistoryKey
@@ -121,9 +132,11 @@ payment_ask q (PaymentEnd y) r = Plain
 -- the work of each stage
 abbrev pub payment_act : ℕ → ℕ → PaymentRequest → PaymentPosition → Rows → Doing
 payment_act t k q PaymentWarehouse r =
-    given (NoSuchRow (key.Warehouse (warehouse_of_district q.district))) (get r.warehouses (warehouse_of_district q.district)) (λ x.
+    given (NoSuchRow (key.Warehouse (warehouse_of_district q.district)))
+    (get r.warehouses (warehouse_of_district q.district)) (λ x.
     within (paid_warehouse_out (paid_warehouse q x))
-    (Go (Some (UpdateWarehouse (warehouse_of_district q.district) (paid_warehouse q x))) (InPayment q (PaymentDistrict x.name))))
+    (Go (Some (UpdateWarehouse (warehouse_of_district q.district) (paid_warehouse q x)))
+    (InPayment q (PaymentDistrict x.name))))
 payment_act t k q (PaymentDistrict w) r =
     given (NoSuchRow (key.District q.district)) (get r.districts q.district) (λ x.
     within (paid_district_out (paid_district q x))
@@ -134,7 +147,8 @@ payment_act t k q (PaymentCustomer w d) r =
     within (paid_customer_out (paid_customer c q x))
     (Go (Some (UpdateCustomer (customer_in q.customer_district c) (paid_customer c q x)))
     (InPayment q (PaymentHistory (history_data w d) (paid_reply c (paid_customer c q x)))))))
-payment_act t k q (PaymentHistory d y) r = Go (Some (InsertHistory (history_key t k) (history_row q y.customer d))) (InPayment q (PaymentEnd y))
+payment_act t k q (PaymentHistory d y) r = Go (Some (InsertHistory (history_key t k) (history_row q y.customer d)))
+    (InPayment q (PaymentEnd y))
 payment_act t k q (PaymentEnd y) r = Ready (reply.Payment y)
 
 -- the locks that were taken before each stage, the last one first

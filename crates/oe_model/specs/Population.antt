@@ -1,6 +1,9 @@
--- The population that a database begins with, by formulas of this project's own where clause 4.3.3.1 draws values at random.
--- A scale says how many warehouses, customers in each district, and items there are; each district has as many orders as customers.
-use Rattle.std.specs.Prelude.{◌≡◌, ℕ, zero, suc, ◌+◌, ◌-◌, ◌*◌, ◌/◌, ◌%◌, ◌≤◌, ◌==◌, nat_le, Bool, true, not, ◌&&◌, cond, Option, None, Some, option_map, List, [], ◌∷◌, ◌++◌, map, get_or, codes, pos, neg_ℤ}
+-- The population that a database begins with, by formulas of this project's own where clause 4.3.3.1 draws values at
+-- random.
+-- A scale says how many warehouses, customers in each district, and items there are; each district has as many orders
+-- as customers.
+use Rattle.std.specs.Prelude.{◌≡◌, ℕ, zero, suc, ◌+◌, ◌-◌, ◌*◌, ◌/◌, ◌%◌, ◌≤◌, ◌==◌, nat_le, Bool, true, not, ◌&&◌}
+use Rattle.std.specs.Prelude.{cond, Option, None, Some, option_map, List, [], ◌∷◌, ◌++◌, map, get_or, codes, pos, neg_ℤ}
 use Rattle.std.specs.List.{range_with_len}
 use Rattle.std.specs.Ordering.{eq_by_cmp}
 use Rattle.oe_rows.specs.Key.{history_cmp}
@@ -28,7 +31,8 @@ use Rattle.oe_rows.specs.declared.items.Item.{Item}
 use Rattle.oe_rows.specs.declared.items.Stock.{Stock}
 use Rattle.oe_rows.specs.declared.rows.Row.{Row}
 use Rattle.oe_rows.specs.declared.rows.Row.TheVariants as row
-use Rattle.oe_model.specs.Keys.{warehouse_of_district, district_of_customer, order_of_new_order, district_of_order, order_of_line, warehouse_of_stock, item_of_stock}
+use Rattle.oe_model.specs.Keys.{warehouse_of_district, district_of_customer, order_of_new_order, district_of_order}
+use Rattle.oe_model.specs.Keys.{order_of_line, warehouse_of_stock, item_of_stock}
 use Rattle.oe_model.specs.Rows.{Rows, row_at}
 
 -- a scale in the ranges of W_ID, C_ID and I_ID
@@ -73,7 +77,13 @@ last_name n = syllable (n / 100) ++ syllable (n / 10 % 10) ++ syllable (n % 10)
 -- one address for each W_ID, D_ID or C_ID
 abbrev pub address_of : ℕ → Address
 address_of n =
-    record { street_1 = codes "STREET1"; street_2 = codes "STREET2"; city = codes "CITY"; state = codes "ST"; zip = dec n 4 ++ codes "11111" }
+    record {
+      street_1 = codes "STREET1";
+      street_2 = codes "STREET2";
+      city = codes "CITY";
+      state = codes "ST";
+      zip = dec n 4 ++ codes "11111";
+    }
 
 -- S_DIST_01 to S_DIST_10, of the stock in warehouse w of item i: d is the district
 unfoldable pub dist_text : ℕ → ℕ → ℕ → List ℕ
@@ -87,12 +97,23 @@ start = 3_155_673_600
 
 -- a warehouse that took in 100.00 for each customer of a district
 abbrev pub warehouse_of : Scale → ℕ → Warehouse
-warehouse_of s w = record { name = codes "WARE" ++ dec w 2; address = address_of w; tax = (100 * w) % 2_001; ytd = s.customers * 10_000 }
+warehouse_of s w = record {
+  name = codes "WARE" ++ dec w 2;
+  address = address_of w;
+  tax = (100 * w) % 2_001;
+  ytd = s.customers * 10_000;
+}
 
 -- a district that took in 10.00 for each customer
 abbrev pub district_of : Scale → ℕ → District
 district_of s d =
-    record { name = codes "DIST" ++ dec d 2; address = address_of d; tax = (50 * d) % 2_001; ytd = s.customers * 1_000; next_order = s.customers + 1 }
+    record {
+      name = codes "DIST" ++ dec d 2;
+      address = address_of d;
+      tax = (50 * d) % 2_001;
+      ytd = s.customers * 1_000;
+      next_order = s.customers + 1;
+    }
 
 -- one customer in ten has bad credit
 abbrev pub has_bad_credit : ℕ → Bool
@@ -102,27 +123,53 @@ has_bad_credit c = c % 10 == 0
 abbrev pub customer_of : ℕ → Customer
 customer_of c =
     record {
-      name = record { first = codes "F" ++ dec (10_000 - c) 5; middle = codes "OE"; last = last_name ((c - 1) % 1_000) };
+      name = record {
+        first = codes "F" ++ dec (10_000 - c) 5;
+        middle = codes "OE";
+        last = last_name ((c - 1) % 1_000);
+      };
       address = address_of c;
       phone = dec c 16;
       since = start;
       credit = cond (has_bad_credit c) Bad Good;
-      account = record { credit_limit = 5_000_000; discount = (10 * c) % 5_001; balance = neg_ℤ (pos 1_000); ytd_payment = 1_000; payment_count = 1; delivery_count = 0 };
+      account = record {
+        credit_limit = 5_000_000;
+        discount = (10 * c) % 5_001;
+        balance = neg_ℤ (pos 1_000);
+        ytd_payment = 1_000;
+        payment_count = 1;
+        delivery_count = 0;
+      };
       «data» = letters (cond (has_bad_credit c) 500 300) c;
     }
 
 -- the payment of 10.00 of a customer in its own district
 abbrev pub history_of : CustomerKey → History
-history_of c = record { customer = c; district = district_of_customer c; date = start; amount = 1_000; «data» = codes "INITIAL HISTORY" }
+history_of c = record {
+  customer = c;
+  district = district_of_customer c;
+  date = start;
+  amount = 1_000;
+  «data» = codes "INITIAL HISTORY";
+}
 
 -- the key of that row: terminal 0, ordinal 1, and a number that counts all customers from 1, in the order of their keys
 abbrev pub history_key : Scale → CustomerKey → HistoryKey
-history_key s c = record { terminal = 0; number = ((c.warehouse - 1) * 10 + (c.district - 1)) * s.customers + c.customer; ordinal = 1 }
+history_key s c = record {
+  terminal = 0;
+  number = ((c.warehouse - 1) * 10 + (c.district - 1)) * s.customers
+      + c.customer;
+  ordinal = 1;
+}
 
 -- the customer that a number counts
 abbrev pub counted_customer : Scale → ℕ → CustomerKey
 counted_customer s n =
-    record { warehouse = 1 + (n - 1) / s.customers / 10; district = 1 + (n - 1) / s.customers % 10; customer = 1 + (n - 1) % s.customers }
+    record {
+      warehouse = 1 + (n - 1) / s.customers / 10;
+      district = 1 + (n - 1) / s.customers % 10;
+      customer = 1 + (n - 1) % s.customers;
+    }
 
 -- the last order that is delivered: three in ten are not, rounded down
 abbrev pub last_delivered : Scale → ℕ
@@ -138,7 +185,13 @@ lines_of o = 5 + o % 11
 -- the order of this number, by the customer of this number
 abbrev pub order_of : Scale → ℕ → Order
 order_of s o =
-    record { customer = o; entry = start; carrier = cond (is_delivered s o) (Some (1 + o % 10)) None; line_count = lines_of o; all_local = true }
+    record {
+      customer = o;
+      entry = start;
+      carrier = cond (is_delivered s o) (Some (1 + o % 10)) None;
+      line_count = lines_of o;
+      all_local = true;
+    }
 
 -- OL_I_ID of line n of order o
 abbrev pub item_of_line : Scale → ℕ → ℕ → ℕ
@@ -195,7 +248,8 @@ has_customer s k = has_district s (district_of_customer k) && counts_to s.custom
 
 abbrev pub has_history : Scale → HistoryKey → Bool
 has_history s k =
-    has_customer s (counted_customer s k.number) && eq_by_cmp history_cmp k (history_key s (counted_customer s k.number))
+    has_customer s (counted_customer s k.number) && eq_by_cmp history_cmp k
+    (history_key s (counted_customer s k.number))
 
 abbrev pub has_order : Scale → OrderKey → Bool
 has_order s k = has_district s (district_of_order k) && counts_to s.customers k.order
@@ -223,7 +277,8 @@ abbrev pub formula : Scale → Key → Option Row
 formula s (key.Warehouse k) = option_map row.Warehouse (where_there (has_warehouse s k) (warehouse_of s k.warehouse))
 formula s (key.District k) = option_map row.District (where_there (has_district s k) (district_of s k.district))
 formula s (key.Customer k) = option_map row.Customer (where_there (has_customer s k) (customer_of k.customer))
-formula s (key.History k) = option_map row.History (where_there (has_history s k) (history_of (counted_customer s k.number)))
+formula s (key.History k) = option_map row.History
+    (where_there (has_history s k) (history_of (counted_customer s k.number)))
 formula s (key.NewOrder k) = option_map row.NewOrder (where_there (has_new_order s k) (record {}))
 formula s (key.Order k) = option_map row.Order (where_there (has_order s k) (order_of s k.order))
 formula s (key.OrderLine k) = option_map row.OrderLine (where_there (has_line s k) (line_of s k))

@@ -25,7 +25,8 @@ IsKey (key.Customer k) = IsCustomerKey k
 IsKey (key.History k) = (k.terminal ≡ 0) × IsInRange 0 4_294_967_295 k.number × (k.ordinal ≡ 1)
 IsKey (key.NewOrder k) = IsDistrictKey (district_of_new_order k) × IsInRange 1 10_000_000 k.order
 IsKey (key.Order k) = IsDistrictKey (district_of_order k) × IsInRange 1 10_000_000 k.order
-IsKey (key.OrderLine k) = IsDistrictKey (district_of_order (order_of_line k)) × IsInRange 1 10_000_000 k.order × IsInRange 1 15 k.number
+IsKey (key.OrderLine k) = IsDistrictKey (district_of_order (order_of_line k)) × IsInRange 1 10_000_000 k.order
+    × IsInRange 1 15 k.number
 IsKey (key.Item k) = IsInRange 1 100_000 k.item
 IsKey (key.Stock k) = IsInRange 1 16 k.warehouse × IsInRange 1 100_000 k.item
 

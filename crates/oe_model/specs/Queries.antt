@@ -1,5 +1,6 @@
 -- Order-Status (clause 2.6) and Stock-Level (clause 2.8), on the tables of one moment.
-use Rattle.std.specs.Prelude.{ℕ, suc, ◌+◌, ◌==◌, Bool, not, ◌&&◌, List, filter, map, find, count_by, Option, None, Some, nat_le}
+use Rattle.std.specs.Prelude.{ℕ, suc, ◌+◌, ◌==◌, Bool, not, ◌&&◌, List, filter, map, find, count_by, Option, None, Some}
+use Rattle.std.specs.Prelude.{nat_le}
 use Rattle.std.specs.List.{list_any}
 use Rattle.std.specs.Ordering.{eq_by_cmp}
 use Rattle.std.specs.FinMap.{FinMap, get, entries}
@@ -40,32 +41,52 @@ orders_of k orders = filter (λ e. eq_by_cmp customer_cmp (customer_of_order e.0
 
 -- that of them of which none has a larger O_ID
 abbrev pub last_order : CustomerKey → FinMap order_cmp Order → Option (OrderKey × Order)
-last_order k orders = find (λ e. not (list_any (λ g. nat_le (suc e.0.order) g.0.order) (orders_of k orders))) (orders_of k orders)
+last_order k orders = find (λ e. not (list_any (λ g. nat_le (suc e.0.order) g.0.order) (orders_of k orders)))
+    (orders_of k orders)
 
 abbrev pub status_line : OrderLine → StatusLine
-status_line x = record { supply = x.supply; item = x.item; quantity = x.quantity; amount = x.amount; delivery = x.delivery }
+status_line x = record {
+  supply = x.supply;
+  item = x.item;
+  quantity = x.quantity;
+  amount = x.amount;
+  delivery = x.delivery;
+}
 
 -- what is told of an order, with its lines by OL_NUMBER
 abbrev pub status_of : FinMap order_line_cmp OrderLine → Option (OrderKey × Order) → Option OrderStatus
 status_of lines None = None
-status_of lines (Some e) = Some (record { number = e.0.order; entry = e.1.entry; carrier = e.1.carrier; lines = map (λ l. status_line l.1) (lines_of e.0 lines) })
+status_of lines (Some e) =
+    Some (record {
+      number = e.0.order;
+      entry = e.1.entry;
+      carrier = e.1.carrier;
+      lines = map (λ l. status_line l.1) (lines_of e.0 lines);
+    })
 
 abbrev pub order_status : StatusQuery → Rows → Outcome QueryReply Refusal
 order_status q r =
     found NoCustomer (chosen q.district q.customer r.customers) (λ c.
     found NoCustomer (get r.customers (customer_in q.district c)) (λ x.
-    Here (told.Status (record { customer = c; balance = x.account.balance; order = status_of r.order_lines (last_order (customer_in q.district c) r.orders) }))))
+    Here (told.Status (record {
+      customer = c;
+      balance = x.account.balance;
+      order = status_of r.order_lines (last_order (customer_in q.district c) r.orders);
+    }))))
 
 -- a line of the district's last 20 orders, where the next one has this number
 abbrev pub is_recent : DistrictKey → ℕ → OrderLineKey → Bool
-is_recent h next k = eq_by_cmp district_cmp (district_of_order (order_of_line k)) h && nat_le next (k.order + 20) && nat_le (suc k.order) next
+is_recent h next k = eq_by_cmp district_cmp (district_of_order (order_of_line k)) h && nat_le next (k.order + 20) &&
+    nat_le (suc k.order) next
 
 abbrev pub recent_lines : DistrictKey → ℕ → FinMap order_line_cmp OrderLine → List (OrderLineKey × OrderLine)
 recent_lines h next lines = filter (λ e. is_recent h next e.0) (entries lines)
 
--- a STOCK row of the district's warehouse whose S_QUANTITY is below the threshold and whose item one of these lines names
+-- a STOCK row of the district's warehouse whose S_QUANTITY is below the threshold and whose item one of these lines
+-- names
 abbrev pub is_low : LevelQuery → List (OrderLineKey × OrderLine) → StockKey × Stock → Bool
-is_low q lines e = (e.0.warehouse == q.district.warehouse) && nat_le (suc e.1.quantity) q.threshold && list_any (λ l. l.1.item == e.0.item) lines
+is_low q lines e = (e.0.warehouse == q.district.warehouse) && nat_le (suc e.1.quantity) q.threshold && list_any
+    (λ l. l.1.item == e.0.item) lines
 
 -- the number of them is that of the items, since a warehouse has one STOCK row of an item
 abbrev pub stock_level : LevelQuery → Rows → Outcome QueryReply Refusal

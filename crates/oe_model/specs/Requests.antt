@@ -90,7 +90,8 @@ warehouse_no w = record { warehouse = w }
 -- the first of them that doesn't exist
 abbrev pub first_absent : List ℕ → Rows → Option Refusal
 first_absent [] r = None
-first_absent (w ∷ ws) r = cond (is_some (row_at r (key.Warehouse (warehouse_no w)))) (first_absent ws r) (Some (NoSuchRow (key.Warehouse (warehouse_no w))))
+first_absent (w ∷ ws) r = cond (is_some (row_at r (key.Warehouse (warehouse_no w)))) (first_absent ws r)
+    (Some (NoSuchRow (key.Warehouse (warehouse_no w))))
 
 abbrev pub rejection : Request → Rows → Option Refusal
 rejection q r = first_absent (warehouses_of q) r

@@ -4,7 +4,8 @@ use Rattle.oe_rows.specs.declared.keys.Key.{Key}
 use Rattle.oe_rows.specs.declared.rows.Row.{Row}
 use Rattle.oe_requests.specs.declared.refusals.Refusal.{Refusal}
 use Rattle.oe_model.specs.Rows.{Rows, is_key, row_at}
-use Rattle.oe_model.specs.Changes.{Change, key_of, row_of, changed, Record, IsRecord, record_of, record_key, row_before, put_back, redo}
+use Rattle.oe_model.specs.Changes.{Change, key_of, row_of, changed, Record, IsRecord, record_of, record_key, row_before}
+use Rattle.oe_model.specs.Changes.{put_back, redo}
 use Rattle.oe_model.specs.Meets.{Meets, Accepts, Cause}
 use Rattle.std.specs.Prelude.{Some}
 
@@ -12,7 +13,8 @@ use Rattle.std.specs.Prelude.{Some}
 pub record Tables_are_a_map : Type 0 where
   pub key_true : (a b : Key) → is_key a b ≡ true → a ≡ b
   pub key_refl : (a : Key) → is_key a a ≡ true
-  pub at_changed : (c : Change) (r : Rows) (k : Key) → row_at (changed c r) k ≡ cond (is_key k (key_of c)) (row_of c) (row_at r k)
+  pub at_changed : (c : Change) (r : Rows) (k : Key)
+      → row_at (changed c r) k ≡ cond (is_key k (key_of c)) (row_of c) (row_at r k)
   -- tables that have the same row at each key are the same
   pub same_rows : (r s : Rows) → ((k : Key) → row_at r k ≡ row_at s k) → r ≡ s
 
@@ -20,10 +22,12 @@ pub record Tables_are_a_map : Type 0 where
 pub record Records_undo : Type 0 where
   pub key : (c : Change) (v : Option Row) → record_key (record_of c v) ≡ key_of c
   pub before : (c : Change) (r : Rows) → row_before (record_of c (row_at r (key_of c))) ≡ row_at r (key_of c)
-  pub at_put_back : (b : Record) (r : Rows) (k : Key) → row_at (put_back b r) k ≡ cond (is_key k (record_key b)) (row_before b) (row_at r k)
+  pub at_put_back : (b : Record) (r : Rows) (k : Key)
+      → row_at (put_back b r) k ≡ cond (is_key k (record_key b)) (row_before b) (row_at r k)
   -- that of an accepted insert has no row before, that of an accepted update or delete has one
   pub made : (c : Change) (r : Rows) → Accepts c r → IsRecord (record_of c (row_at r (key_of c)))
-  pub redoes : (c : Change) (v : Option Row) (r : Rows) → row_at r (key_of c) ≡ row_of c → redo (record_of c v) r ≡ Some c
+  pub redoes : (c : Change) (v : Option Row) (r : Rows) → row_at r (key_of c) ≡ row_of c
+      → redo (record_of c v) r ≡ Some c
   -- a change and its undo are the identity
   pub undone : (c : Change) (r : Rows) → put_back (record_of c (row_at r (key_of c))) (changed c r) ≡ r
 

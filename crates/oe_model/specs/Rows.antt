@@ -1,9 +1,11 @@
--- The nine tables (clause 1.3), and the tables as one map from key to row. The ranges of columns are those of the rows' types.
+-- The nine tables (clause 1.3), and the tables as one map from key to row. The ranges of columns are those of the rows'
+-- types.
 use Rattle.std.specs.Prelude.{Bool, false, Option, None, Some, option_map}
 use Rattle.std.specs.Ordering.{eq_by_cmp}
 use Rattle.std.specs.declared.cmp.Ordering.{Ordering}
 use Rattle.std.specs.FinMap.{FinMap, get, insert, remove}
-use Rattle.oe_rows.specs.Key.{warehouse_cmp, district_cmp, customer_cmp, history_cmp, new_order_cmp, order_cmp, order_line_cmp, item_cmp, stock_cmp}
+use Rattle.oe_rows.specs.Key.{warehouse_cmp, district_cmp, customer_cmp, history_cmp, new_order_cmp, order_cmp}
+use Rattle.oe_rows.specs.Key.{order_line_cmp, item_cmp, stock_cmp}
 use Rattle.oe_rows.specs.declared.warehouses.Warehouse.{Warehouse}
 use Rattle.oe_rows.specs.declared.districts.District.{District}
 use Rattle.oe_rows.specs.declared.customers.Customer.{Customer}

@@ -1,5 +1,6 @@
 -- What the formulas of rows come to, in other words than their definitions.
-use Rattle.std.specs.Prelude.{◌≡◌, ◌≢◌, ◌↔◌, ℕ, ◌+◌, ◌*◌, ◌≤◌, ◌<◌, pos, ◌+ℤ◌, true, List, [], ◌∷◌, ◌++◌, length, sum, None, Some, IsTrue, codes, ◌⊎◌, ◌/◌, count_by, not}
+use Rattle.std.specs.Prelude.{◌≡◌, ◌≢◌, ◌↔◌, ℕ, ◌+◌, ◌*◌, ◌≤◌, ◌<◌, pos, ◌+ℤ◌, true, List, [], ◌∷◌, ◌++◌, length, sum}
+use Rattle.std.specs.Prelude.{None, Some, IsTrue, codes, ◌⊎◌, ◌/◌, count_by, not}
 use Rattle.std.specs.List.{All}
 use Rattle.std.specs.FinMap.{FinMap, get}
 use Rattle.oe_theory.specs.Machine.{Here}
@@ -41,10 +42,13 @@ use Rattle.oe_model.specs.Conditions.{HasNewOrder, IsLeast}
 -- a payment (clause 2.5.2.2)
 pub record Payment_is_exact : Type 0 where
   -- the amount goes from the balance to the year-to-date payment, and comes to the warehouse and the district
-  pub balance : (c : ℕ) (q : PaymentRequest) (x : Customer) → (paid_customer c q x).account.balance +ℤ pos q.amount ≡ x.account.balance
+  pub balance : (c : ℕ) (q : PaymentRequest) (x : Customer)
+      → (paid_customer c q x).account.balance +ℤ pos q.amount ≡ x.account.balance
   pub together : (c : ℕ) (q : PaymentRequest) (x : Customer)
-      → (paid_customer c q x).account.balance +ℤ pos (paid_customer c q x).account.ytd_payment ≡ x.account.balance +ℤ pos x.account.ytd_payment
-  pub count : (c : ℕ) (q : PaymentRequest) (x : Customer) → (paid_customer c q x).account.payment_count ≡ x.account.payment_count + 1
+      → (paid_customer c q x).account.balance +ℤ pos (paid_customer c q x).account.ytd_payment ≡ x.account.balance +ℤ
+      pos x.account.ytd_payment
+  pub count : (c : ℕ) (q : PaymentRequest) (x : Customer)
+      → (paid_customer c q x).account.payment_count ≡ x.account.payment_count + 1
   pub warehouse : (q : PaymentRequest) (x : Warehouse) → (paid_warehouse q x).ytd ≡ q.amount + x.ytd
   pub district : (q : PaymentRequest) (x : District) → (paid_district q x).ytd ≡ q.amount + x.ytd
   -- the data of a good credit stays
@@ -52,16 +56,22 @@ pub record Payment_is_exact : Type 0 where
   -- that of a bad credit begins with the payment and goes on with the old data; what is cut off is past 500 bytes
   pub bad : (c : ℕ) (q : PaymentRequest) (x : Customer) → x.credit ≡ Bad
       → (cut : List ℕ)
-      × (credit_entry (record { customer = customer_in q.customer_district c; district = q.district }) q.amount ++ x.data ≡ (paid_customer c q x).data ++ cut)
+      × (credit_entry (record { customer = customer_in q.customer_district c; district = q.district }) q.amount
+      ++ x.data ≡ (paid_customer c q x).data ++ cut)
       × (length (paid_customer c q x).data ≤ 500) × ((cut ≡ []) ⊎ (length (paid_customer c q x).data ≡ 500))
   -- no other column changes
   pub others : (c : ℕ) (q : PaymentRequest) (x : Customer)
       → record (paid_customer c q x) {
-        account = record (paid_customer c q x).account { balance = x.account.balance; ytd_payment = x.account.ytd_payment; payment_count = x.account.payment_count };
+        account = record (paid_customer c q x).account {
+          balance = x.account.balance;
+          ytd_payment = x.account.ytd_payment;
+          payment_count = x.account.payment_count;
+        };
         «data» = x.data;
       } ≡ x
 
--- a stock row after quantities that were asked of it: S_YTD rises by their sum, S_ORDER_CNT by their number, and S_QUANTITY falls
+-- a stock row after quantities that were asked of it: S_YTD rises by their sum, S_ORDER_CNT by their number, and
+-- S_QUANTITY falls
 -- by their sum but for a multiple of 91
 pub record IsSupplied (ns : List ℕ) (x y : Stock) : Type 0 where
   pub ytd : y.ytd ≡ x.ytd + sum ns
@@ -77,23 +87,29 @@ AreSmall (n ∷ ns) = (n ≤ 10) × AreSmall ns
 
 -- the stock rule (clause 2.4.2.2)
 pub record Stock_is_exact : Type 0 where
-  pub supplied_by : (home : ℕ) (ls : List RequestLine) (k : StockKey) (x : Stock) → AreSmall (asked k ls) → IsSupplied (asked k ls) x (after_lines home ls k x)
+  pub supplied_by : (home : ℕ) (ls : List RequestLine) (k : StockKey) (x : Stock) → AreSmall (asked k ls)
+      → IsSupplied (asked k ls) x (after_lines home ls k x)
   -- S_REMOTE_CNT rises by the lines of another warehouse's districts
-  pub home : (ls : List RequestLine) (k : StockKey) (x : Stock) → (after_lines k.warehouse ls k x).remote_count ≡ x.remote_count
+  pub home : (ls : List RequestLine) (k : StockKey) (x : Stock)
+      → (after_lines k.warehouse ls k x).remote_count ≡ x.remote_count
   pub remote : (home : ℕ) (ls : List RequestLine) (k : StockKey) (x : Stock) → k.warehouse ≢ home
       → (after_lines home ls k x).remote_count ≡ x.remote_count + length (asked k ls)
   -- 10 or more are left above a line's quantity, or 91 come in
-  pub enough : (home n : ℕ) (k : StockKey) (x : Stock) → n + 10 ≤ x.quantity → (supplied home k x n).quantity + n ≡ x.quantity
-  pub refilled : (home n : ℕ) (k : StockKey) (x : Stock) → x.quantity < n + 10 → n ≤ 10 → (supplied home k x n).quantity + n ≡ x.quantity + 91
+  pub enough : (home n : ℕ) (k : StockKey) (x : Stock) → n + 10 ≤ x.quantity
+      → (supplied home k x n).quantity + n ≡ x.quantity
+  pub refilled : (home n : ℕ) (k : StockKey) (x : Stock) → x.quantity < n + 10 → n ≤ 10
+      → (supplied home k x n).quantity + n ≡ x.quantity + 91
 
 -- a text stands in another where something comes before and after it
 pub record Text_occurs : Type 0 where
-  pub found : (xs ys : List ℕ) → occurs_in xs ys ≡ true → (before : List ℕ) × ((after : List ℕ) × (ys ≡ before ++ (xs ++ after)))
+  pub found : (xs ys : List ℕ) → occurs_in xs ys ≡ true → (before : List ℕ)
+      × ((after : List ℕ) × (ys ≡ before ++ (xs ++ after)))
   pub there : (xs before after : List ℕ) → occurs_in xs (before ++ (xs ++ after)) ≡ true
 
 -- the order is local where each of its lines is supplied by its own warehouse
 abbrev pub Order_is_local : Type 0
-Order_is_local = (q : NewOrderRequest) → IsTrue (order_row q).all_local ↔ All (λ l. l.supply ≡ q.district.warehouse) q.lines
+Order_is_local = (q : NewOrderRequest) → IsTrue (order_row q).all_local ↔ All (λ l. l.supply ≡ q.district.warehouse)
+    q.lines
 
 -- a delivery takes the district's least NO_O_ID, and none where there is no NEW-ORDER row
 pub record Oldest_is_least : Type 0 where
@@ -106,21 +122,27 @@ pub record Delivery_is_exact : Type 0 where
   pub count : (sum : ℕ) (x : Customer) → (delivered_to sum x).account.delivery_count ≡ x.account.delivery_count + 1
   pub others : (sum : ℕ) (x : Customer)
       → record (delivered_to sum x) {
-        account = record (delivered_to sum x).account { balance = x.account.balance; delivery_count = x.account.delivery_count };
+        account = record (delivered_to sum x).account
+            { balance = x.account.balance; delivery_count = x.account.delivery_count };
       } ≡ x
   -- each line of the order that was delivered is dated, and no other line changes
   pub lines : (q : DeliveryRequest) (r after : Rows) (y : Reply) (o : ℕ) (k : OrderLineKey) (x : OrderLine)
       → oldest q.district r.new_orders ≡ Some o → delivery_effect q r ≡ Some (after, y)
-      → get r.order_lines k ≡ Some x → (order_of_line k ≡ order_in q.district o → get after.order_lines k ≡ Some (dated q.stamp x))
+      → get r.order_lines k ≡ Some x
+      → (order_of_line k ≡ order_in q.district o → get after.order_lines k ≡ Some (dated q.stamp x))
       × (order_of_line k ≢ order_in q.district o → get after.order_lines k ≡ Some x)
 
--- the customer that is chosen by last name has that C_LAST, and with those before it, by C_FIRST and C_ID, is half of the
+-- the customer that is chosen by last name has that C_LAST, and with those before it, by C_FIRST and C_ID, is half of
+-- the
 -- district's customers with that name, rounded up; and one is chosen where there is any (clause 2.5.2.2)
 pub record Name_is_middle : Type 0 where
-  pub some : (m : FinMap customer_cmp Customer) (h : DistrictKey) (last : List ℕ) (c : ℕ) → chosen h (LastName last) m ≡ Some c
+  pub some : (m : FinMap customer_cmp Customer) (h : DistrictKey) (last : List ℕ) (c : ℕ)
+      → chosen h (LastName last) m ≡ Some c
       → (x : Customer) × (get m (customer_in h c) ≡ Some x) × (x.name.last ≡ last)
-      × (count_by (λ y. comes_before y (x.name.first, c)) (namesakes h last m) + 1 ≡ (length (namesakes h last m) + 1) / 2)
-  pub none : (m : FinMap customer_cmp Customer) (h : DistrictKey) (last : List ℕ) (c : ℕ) (x : Customer) → chosen h (LastName last) m ≡ None
+      × (count_by (λ y. comes_before y (x.name.first, c)) (namesakes h last m) + 1 ≡ (length (namesakes h last m) + 1)
+      / 2)
+  pub none : (m : FinMap customer_cmp Customer) (h : DistrictKey) (last : List ℕ) (c : ℕ) (x : Customer)
+      → chosen h (LastName last) m ≡ None
       → get m (customer_in h c) ≡ Some x → x.name.last ≡ last → ⊥
 
 -- an order of the customer, of which no order has a larger O_ID
@@ -135,7 +157,8 @@ pub record Order_is_last : Type 0 where
   pub none : (r : Rows) (k : CustomerKey) → last_order k r.orders ≡ None
       → (j : OrderKey) (y : Order) → get r.orders j ≡ Some y → customer_of_order j y ≡ k → ⊥
 
--- an item that Stock-Level counts: a line of the district's last 20 orders names it, and the district's warehouse has less of it than
+-- an item that Stock-Level counts: a line of the district's last 20 orders names it, and the district's warehouse has
+-- less of it than
 -- the threshold
 pub record IsLow (q : LevelQuery) (r : Rows) (next i : ℕ) : Type 0 where
   pub line_key : OrderLineKey
@@ -169,7 +192,8 @@ Modes_conflict = (a b : Mode) → go_together (mode_of a) (Some (mode_of b)) ≡
 pub record Worked : Type 0 where
   -- 24 of an item, and 10 and then 5 ordered
   pub first : (k : StockKey) (x : Stock) → (supplied 1 k (record x { quantity = 24 }) 10).quantity ≡ 14
-  pub second : (k : StockKey) (x : Stock) → (supplied 1 k (supplied 1 k (record x { quantity = 24 }) 10) 5).quantity ≡ 100
+  pub second : (k : StockKey) (x : Stock) → (supplied 1 k (supplied 1 k (record x { quantity = 24 }) 10) 5).quantity
+      ≡ 100
   -- of four namesakes the second is taken, of three the second, of two the first
   pub of_four : middle ((codes "B", 7) ∷ (codes "A", 9) ∷ (codes "B", 3) ∷ (codes "C", 1) ∷ []) ≡ Some 3
   pub of_three : middle ((codes "F09999", 1) ∷ (codes "F08999", 1001) ∷ (codes "F07999", 2001) ∷ []) ≡ Some 1001

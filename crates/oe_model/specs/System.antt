@@ -16,11 +16,14 @@ use Rattle.oe_requests.specs.declared.replies.QueryReply.{QueryReply}
 use Rattle.oe_requests.specs.declared.refusals.Refusal.{Refusal}
 use Rattle.oe_requests.specs.declared.refusals.Refusal.TheVariants.{NoCustomer, Overflow, NotOpen}
 use Rattle.oe_model.specs.Rows.{Rows, is_key, row_at}
-use Rattle.oe_model.specs.Changes.{Change, key_of, row_of, changed, Record, record_of, record_key, row_before, put_back, redo}
+use Rattle.oe_model.specs.Changes.{Change, key_of, row_of, changed, Record, record_of, record_key, row_before, put_back}
+use Rattle.oe_model.specs.Changes.{redo}
 use Rattle.oe_model.specs.Lengths.{record_length}
 use Rattle.oe_model.specs.Meets.{Accepts}
 use Rattle.oe_model.specs.Locks.{is_name, governs, Facet, Part, facet_key, part, governs_part}
-use Rattle.oe_model.specs.Positions.{Position, InPayment, InNewOrder, InDelivery, InDeliveries, DeliveriesEnd, NoProgram, PaymentWarehouse, PaymentHistory, NewOrderWarehouse, NewOrderOrder, NewOrderQueue, NewOrderLine, DeliveryQueue}
+use Rattle.oe_model.specs.Positions.{Position, InPayment, InNewOrder, InDelivery, InDeliveries, DeliveriesEnd}
+use Rattle.oe_model.specs.Positions.{NoProgram, PaymentWarehouse, PaymentHistory, NewOrderWarehouse, NewOrderOrder}
+use Rattle.oe_model.specs.Positions.{NewOrderQueue, NewOrderLine, DeliveryQueue}
 use Rattle.oe_model.specs.Effects.{Doing}
 use Rattle.oe_model.specs.Payment.{payment_effect, payment_ask, payment_act, payment_taken}
 use Rattle.oe_model.specs.NewOrder.{new_order_effect, new_order_ask, new_order_act, new_order_taken}
@@ -55,7 +58,8 @@ act x (InDeliveries q done p) r = district_act (among_ten q done) (at_hand q don
 act x (DeliveriesEnd done) r = Ready (reply.Deliveries done)
 act x NoProgram r = Fail NotOpen
 
--- the locks that were taken on the way to a position; of ten districts, at the district at hand: the others stay held, and no stage needs
+-- the locks that were taken on the way to a position; of ten districts, at the district at hand: the others stay held,
+-- and no stage needs
 -- them
 abbrev pub taken : Tx Request → Position → List (Hold Name)
 taken x (InPayment q p) = payment_taken q p
@@ -78,7 +82,8 @@ abbrev pub marks : Position → Bool
 marks (InDeliveries q done DeliveryQueue) = true
 marks _ = false
 
--- The stages that insert a row may need memory for its place in a table. No other stage takes any but for a name that is new: the memory for
+-- The stages that insert a row may need memory for its place in a table. No other stage takes any but for a name that
+-- is new: the memory for
 -- undo records is taken with their ring.
 abbrev pub may_allocate : Position → Bool
 may_allocate (InPayment q (PaymentHistory d y)) = true
@@ -87,7 +92,8 @@ may_allocate (InNewOrder q (NewOrderQueue s)) = true
 may_allocate (InNewOrder q (NewOrderLine s before done l f ls)) = true
 may_allocate _ = false
 
--- a want of memory may stand in place of a column that leaves its range, and of a customer that is absent and given by number
+-- a want of memory may stand in place of a column that leaves its range, and of a customer that is absent and given by
+-- number
 abbrev pub by_number : CustomerChoice → Bool
 by_number (Number c) = true
 by_number (LastName last) = false
@@ -98,7 +104,8 @@ yields (InPayment q p) NoCustomer = by_number q.customer
 yields (InNewOrder q p) NoCustomer = true
 yields _ _ = false
 
--- how undo records lie in memory, which gives each its length: as values of the program, outside of any ring, or as bytes in extents
+-- how undo records lie in memory, which gives each its length: as values of the program, outside of any ring, or as
+-- bytes in extents
 pub data Layout : Type 0 where
   AsValues : Layout
   InExtents : Layout

@@ -16,12 +16,18 @@ use Rattle.oe_rows.specs.declared.customers.Customer.{Customer}
 use Rattle.oe_rows.specs.declared.orders.Order.{Order}
 use Rattle.oe_rows.specs.declared.orders.OrderLine.{OrderLine}
 use Rattle.oe_model.specs.Rows.{Rows}
-use Rattle.oe_model.specs.Conditions.{Condition_1_at, Condition_2_at, Condition_3_at, Condition_4_at, Condition_1, Condition_2, Condition_3, Condition_4}
-use Rattle.oe_model.specs.FurtherConditions.{Condition_5_at, Condition_6_at, Condition_7_at, Condition_8_at, Condition_9_at, Condition_10_at, Condition_12_at, Condition_5, Condition_6, Condition_7, Condition_8, Condition_9, Condition_10, Condition_12}
-use Rattle.oe_model.specs.Audits.{Condition, First, Second, Third, Fourth, Fifth, Sixth, Seventh, Eighth, Ninth, Tenth, Twelfth, Holds, Fails, passes_1, passes_2, passes_3, passes_4, passes_5, passes_6, passes_7, passes_8, passes_9, passes_10, passes_12, verdict}
+use Rattle.oe_model.specs.Conditions.{Condition_1_at, Condition_2_at, Condition_3_at, Condition_4_at, Condition_1}
+use Rattle.oe_model.specs.Conditions.{Condition_2, Condition_3, Condition_4}
+use Rattle.oe_model.specs.FurtherConditions.{Condition_5_at, Condition_6_at, Condition_7_at, Condition_8_at}
+use Rattle.oe_model.specs.FurtherConditions.{Condition_9_at, Condition_10_at, Condition_12_at, Condition_5, Condition_6}
+use Rattle.oe_model.specs.FurtherConditions.{Condition_7, Condition_8, Condition_9, Condition_10, Condition_12}
+use Rattle.oe_model.specs.Audits.{Condition, First, Second, Third, Fourth, Fifth, Sixth, Seventh, Eighth, Ninth, Tenth}
+use Rattle.oe_model.specs.Audits.{Twelfth, Holds, Fails, passes_1, passes_2, passes_3, passes_4, passes_5, passes_6}
+use Rattle.oe_model.specs.Audits.{passes_7, passes_8, passes_9, passes_10, passes_12, verdict}
 
 -- this key's row fails, and no row before it in key order does
-pub record IsFirstFailing {K X : Type 0} {R : K → K → Ordering} (P : K → X → Type 0) (m : FinMap R X) (k : K) : Type 0 where
+pub record IsFirstFailing {K X : Type 0} {R : K → K → Ordering} (P : K → X → Type 0) (m : FinMap R X) (k : K) : Type
+    0 where
   pub row : X
   pub is_row : get m k ≡ Some row
   pub fails : P k row → ⊥
@@ -41,7 +47,8 @@ IsMet Ninth r = Condition_9 r
 IsMet Tenth r = Condition_10 r
 IsMet Twelfth r = Condition_12 r
 
--- the first row at which the condition fails: for conditions 1 and 8 a WAREHOUSE row, for 2, 3, 4 and 9 a DISTRICT row, for 5 and 6
+-- the first row at which the condition fails: for conditions 1 and 8 a WAREHOUSE row, for 2, 3, 4 and 9 a DISTRICT row,
+-- for 5 and 6
 -- an ORDER row, for 7 an ORDER-LINE row, for 10 and 12 a CUSTOMER row
 abbrev pub IsFirstRow : Condition → Rows → Key → Type 0
 IsFirstRow First r (key.Warehouse w) = IsFirstFailing (Condition_1_at r) r.warehouses w

@@ -1,5 +1,6 @@
 -- A step of one seat keeps the rule, where what it changes suits each other seat.
-use Rattle.std.proofs.Common.{◌≡◌, ◌≢◌, ◌⊎◌, ℕ, ◌+◌, ◌*◌, ◌<◌, ◌≤◌, true, true≢false, [], ◌∷◌, ◌++◌, zero, suc, inl, inr, List, length, sym, refl, ap, ◌∙◌, subst, ⊎_elim, arith, le_trans}
+use Rattle.std.proofs.Common.{◌≡◌, ◌≢◌, ◌⊎◌, ℕ, ◌+◌, ◌*◌, ◌<◌, ◌≤◌, true, true≢false, [], ◌∷◌, ◌++◌, zero, suc, inl}
+use Rattle.std.proofs.Common.{inr, List, length, sym, refl, ap, ◌∙◌, subst, ⊎_elim, arith, le_trans}
 use Rattle.std.specs.Prelude.{slice_set}
 use mathlib.Core.Logic.{dite}
 use mathlib.Core.Option.{some, some-ne-none, some-injective}
@@ -13,21 +14,27 @@ use Rattle.oe_moments.specs.declared.notes.DeskNotes.{DeskNotes}
 use Rattle.oe_moments.specs.declared.notes.KeeperNotes.{KeeperNotes}
 use Rattle.oe_moments.specs.declared.notes.Notes.{Notes}
 use Rattle.oe_moments.specs.declared.notes.Notes.TheVariants.{Gone, Dealer, Desk, Keeper}
-use Rattle.oe_moments.specs.Rule.{most, newest, claim, purged, pin_at, pin_word, Guards, IsMoment, SureAbove, FitsDesk, FitsKeeper, Fits, Watched, Apart, AreWords, Kept}
+use Rattle.oe_moments.specs.Rule.{most, newest, claim, purged, pin_at, pin_word, Guards, IsMoment, SureAbove, FitsDesk}
+use Rattle.oe_moments.specs.Rule.{FitsKeeper, Fits, Watched, Apart, AreWords, Kept}
 
 -- the seat id goes from v to w, and the words to ws: it is enough to look at one other seat
-pub kept_step : (desks : ℕ) (s : State ℕ Notes) (id : ℕ) (v w : Notes) (ws : List ℕ) → Kept desks s → get_elem? s.views id ≡ some v → AreWords desks ws → Fits desks ws w
+pub kept_step : (desks : ℕ) (s : State ℕ Notes) (id : ℕ) (v w : Notes) (ws : List ℕ) → Kept desks s
+    → get_elem? s.views id ≡ some v → AreWords desks ws → Fits desks ws w
     → ((u : Notes) → Fits desks s.words u → Apart v u → Apart u v → Fits desks ws u × Apart w u × Apart u w)
     → Kept desks (record { words = ws; homes = s.homes; views = slice_set s.views id w })
 kept_step desks s id v w ws k at words fits others =
-    let other : (j : ℕ) (u : Notes) → j ≢ id → get_elem? s.views j ≡ some u → Fits desks ws u × Apart w u × Apart u w = λ j u ne e. others u (k.fits j u e) (k.apart id j v u at e (λ q. ne (sym q))) (k.apart j id u v e at ne) in
+    let other : (j : ℕ) (u : Notes) → j ≢ id → get_elem? s.views j ≡ some u
+    → Fits desks ws u × Apart w u × Apart u w = λ j u ne e. others u (k.fits j u e)
+    (k.apart id j v u at e (λ q. ne (sym q))) (k.apart j id u v e at ne) in
     record {
       words = words;
-      fits = λ j u e. ⊎_elim (λ (t : (j ≡ id) × (w ≡ u)). subst (Fits desks ws) t.1 fits) (λ (t : (j ≢ id) × (get_elem? s.views j ≡ some u)). (other j u t.0 t.1).0) (at_set s.views id j w u e);
+      fits = λ j u e. ⊎_elim (λ (t : (j ≡ id) × (w ≡ u)). subst (Fits desks ws) t.1 fits)
+          (λ (t : (j ≢ id) × (get_elem? s.views j ≡ some u)). (other j u t.0 t.1).0) (at_set s.views id j w u e);
       apart = λ i j a b ea eb ne. ⊎_elim
           (λ (t : (i ≡ id) × (w ≡ a)). ⊎_elim
           (λ (r : (j ≡ id) × (w ≡ b)). absurd (ne (t.0 ∙ sym r.0)))
-          (λ (r : (j ≢ id) × (get_elem? s.views j ≡ some b)). subst (λ (x : Notes). Apart x b) t.1 (other j b r.0 r.1).1)
+          (λ (r : (j ≢ id) × (get_elem? s.views j ≡ some b)). subst (λ (x : Notes). Apart x b) t.1
+          (other j b r.0 r.1).1)
           (at_set s.views id j w b eb))
           (λ (t : (i ≢ id) × (get_elem? s.views i ≡ some a)). ⊎_elim
           (λ (r : (j ≡ id) × (w ≡ b)). subst (Apart a) r.1 (other i a t.0 t.1).2)
@@ -61,16 +68,23 @@ pub record DeskTurn (ws ws' : List ℕ) (p p' : DeskNotes) : Type 0 where
   pub moment : IsMoment p'.pin
   pub carry : (limit : ℕ) → limit ≤ claim ws → Guards limit p.claim p.pin → Guards limit p'.claim p'.pin
 
-sure_after : (ws ws' : List ℕ) (p p' : DeskNotes) (limit k : ℕ) → DeskTurn ws ws' p p' → SureAbove ws limit k → (p.number < k → Guards limit p'.claim p'.pin) → SureAbove ws' limit k
+sure_after : (ws ws' : List ℕ) (p p' : DeskNotes) (limit k : ℕ) → DeskTurn ws ws' p p' → SureAbove ws limit k
+    → (p.number < k → Guards limit p'.claim p'.pin) → SureAbove ws' limit k
 sure_after ws ws' p p' limit k t old guards d n lt e =
     dite (ℕ_discrete d p.number)
-    (λ (same : d ≡ p.number). sure_of limit p'.claim p'.pin n (guards (subst (λ (x : ℕ). x < k) same lt)) (sym t.word ∙ (ap (λ (x : ℕ). pin_at ws' x) (sym same) ∙ e)))
+    (λ (same : d ≡ p.number). sure_of limit p'.claim p'.pin n (guards (subst (λ (x : ℕ). x < k) same lt))
+    (sym t.word ∙ (ap (λ (x : ℕ). pin_at ws' x) (sym same) ∙ e)))
     (λ ne. old d n lt (sym (t.move.pins d ne) ∙ e))
 
-desk_others : (desks : ℕ) (ws ws' : List ℕ) (p p' : DeskNotes) → AreWords desks ws → DeskTurn ws ws' p p' → (u : Notes) → Fits desks ws u → Apart (Desk p) u → Apart u (Desk p) → Fits desks ws' u × Apart (Desk p') u × Apart u (Desk p')
+desk_others : (desks : ℕ) (ws ws' : List ℕ) (p p' : DeskNotes) → AreWords desks ws → DeskTurn ws ws' p p' → (u : Notes)
+    → Fits desks ws u → Apart (Desk p) u → Apart u (Desk p) → Fits desks ws' u × Apart (Desk p') u × Apart u (Desk p')
 desk_others desks ws ws' p p' words t Gone f a b = (tt, tt, tt)
 desk_others desks ws ws' p p' words t (Dealer o) f a b = (
-  record { dealt = f.dealt; free = λ d le lt. t.move.pins d (λ e. omega arith) ∙ f.free d le lt; unpurged = λ off. t.move.purged_is ∙ f.unpurged off },
+  record {
+    dealt = f.dealt;
+    free = λ d le lt. t.move.pins d (λ e. omega arith) ∙ f.free d le lt;
+    unpurged = λ off. t.move.purged_is ∙ f.unpurged off;
+  },
   tt,
   subst (λ (x : ℕ). x < o.dealt) (sym t.number) b,
 )
@@ -87,31 +101,37 @@ desk_others desks ws ws' p p' words t (Desk q) f a b = (
   (λ e. b (e ∙ t.number)),
 )
 desk_others desks ws ws' p p' words t (Keeper k) f a b =
-    let watched : Watched p' k = λ on lt. t.carry k.least (f.scan on).least (a on (subst (λ (x : ℕ). x < k.passed) t.number lt)) in (
+    let watched : Watched p' k = λ on lt. t.carry k.least (f.scan on).least
+    (a on (subst (λ (x : ℕ). x < k.passed) t.number lt)) in (
       record {
         horizon = f.horizon ∙ sym t.move.purged_is;
         scan = λ on. record {
           least = subst (λ (x : ℕ). k.least ≤ x) (sym t.move.claim_is) (f.scan on).least;
           passed = (f.scan on).passed;
-          sure = sure_after ws ws' p p' k.least k.passed t (f.scan on).sure (λ lt. watched on (subst (λ (x : ℕ). x < k.passed) (sym t.number) lt));
+          sure = sure_after ws ws' p p' k.least k.passed t (f.scan on).sure
+              (λ lt. watched on (subst (λ (x : ℕ). x < k.passed) (sym t.number) lt));
         };
       },
       watched,
       tt,
     )
 
-pub desk_turn : (desks : ℕ) (s : State ℕ Notes) (id : ℕ) (p p' : DeskNotes) (ws : List ℕ) → Kept desks s → get_elem? s.views id ≡ some (Desk p) → DeskTurn s.words ws p p'
+pub desk_turn : (desks : ℕ) (s : State ℕ Notes) (id : ℕ) (p p' : DeskNotes) (ws : List ℕ) → Kept desks s
+    → get_elem? s.views id ≡ some (Desk p) → DeskTurn s.words ws p p'
     → Kept desks (record { words = ws; homes = s.homes; views = slice_set s.views id (Desk p') })
 desk_turn desks s id p p' ws k at t =
     let f : FitsDesk desks s.words p = k.fits id (Desk p) at in
-    let guards : Guards (purged ws) p'.claim p'.pin = subst (λ (x : ℕ). Guards x p'.claim p'.pin) (sym t.move.purged_is) (t.carry (purged s.words) k.words.purged_fits f.guards) in
+    let guards : Guards (purged ws) p'.claim p'.pin = subst (λ (x : ℕ). Guards x p'.claim p'.pin) (sym t.move.purged_is)
+    (t.carry (purged s.words) k.words.purged_fits f.guards) in
     kept_step desks s id (Desk p) (Desk p') ws k at
     record {
       size = t.move.size ∙ k.words.size;
       newest_fits = t.move.newest_fits;
       claim_fits = subst (λ (x : ℕ). x ≤ most) (sym t.move.claim_is) k.words.claim_fits;
-      purged_fits = subst (λ (x : ℕ). purged ws ≤ x) (sym t.move.claim_is) (subst (λ (x : ℕ). x ≤ claim s.words) (sym t.move.purged_is) k.words.purged_fits);
-      sure = sure_after s.words ws p p' (purged ws) desks t (subst (λ (x : ℕ). SureAbove s.words x desks) (sym t.move.purged_is) k.words.sure) (λ _. guards);
+      purged_fits = subst (λ (x : ℕ). purged ws ≤ x) (sym t.move.claim_is)
+          (subst (λ (x : ℕ). x ≤ claim s.words) (sym t.move.purged_is) k.words.purged_fits);
+      sure = sure_after s.words ws p p' (purged ws) desks t
+          (subst (λ (x : ℕ). SureAbove s.words x desks) (sym t.move.purged_is) k.words.sure) (λ _. guards);
     }
     record {
       number = subst (λ (x : ℕ). x < desks) (sym t.number) f.number;
@@ -134,10 +154,13 @@ pub record KeeperTurn (desks : ℕ) (ws ws' : List ℕ) (k k' : KeeperNotes) : T
   pub horizon : k'.horizon ≡ purged ws'
   pub scan : k'.scanning ≡ true → (k'.least ≤ claim ws') × (k'.passed ≤ desks)
   -- a pin's guards of the old horizon and, where it was passed, of the old least are guards of the new ones
-  pub least : k'.scanning ≡ true → (d c : ℕ) (t : PinState) → d < desks → d < k'.passed → pin_at ws d ≡ pin_word t → (k.scanning ≡ true → d < k.passed → Guards k.least c t) → Guards k'.least c t
-  pub purges : (d c : ℕ) (t : PinState) → d < desks → Guards (purged ws) c t → (k.scanning ≡ true → d < k.passed → Guards k.least c t) → Guards (purged ws') c t
+  pub least : k'.scanning ≡ true → (d c : ℕ) (t : PinState) → d < desks → d < k'.passed → pin_at ws d ≡ pin_word t
+      → (k.scanning ≡ true → d < k.passed → Guards k.least c t) → Guards k'.least c t
+  pub purges : (d c : ℕ) (t : PinState) → d < desks → Guards (purged ws) c t
+      → (k.scanning ≡ true → d < k.passed → Guards k.least c t) → Guards (purged ws') c t
 
-pub keeper_turn : (desks : ℕ) (s : State ℕ Notes) (id : ℕ) (k k' : KeeperNotes) (ws : List ℕ) → Kept desks s → get_elem? s.views id ≡ some (Keeper k) → KeeperTurn desks s.words ws k k'
+pub keeper_turn : (desks : ℕ) (s : State ℕ Notes) (id : ℕ) (k k' : KeeperNotes) (ws : List ℕ) → Kept desks s
+    → get_elem? s.views id ≡ some (Keeper k) → KeeperTurn desks s.words ws k k'
     → Kept desks (record { words = ws; homes = s.homes; views = slice_set s.views id (Keeper k') })
 keeper_turn desks s id k k' ws r at t =
     let f : FitsKeeper desks s.words k = r.fits id (Keeper k) at in
@@ -147,21 +170,32 @@ keeper_turn desks s id k k' ws r at t =
       newest_fits = subst (λ (x : ℕ). x ≤ most) (sym t.newest_is) r.words.newest_fits;
       claim_fits = t.claim_fits;
       purged_fits = t.purged_fits;
-      sure = λ d n lt e. t.purges d 0 (Sure n) lt (r.words.sure d n lt (sym (t.pins d) ∙ e)) (λ on below. (f.scan on).sure d n below (sym (t.pins d) ∙ e));
+      sure = λ d n lt e. t.purges d 0 (Sure n) lt (r.words.sure d n lt (sym (t.pins d) ∙ e))
+          (λ on below. (f.scan on).sure d n below (sym (t.pins d) ∙ e));
     }
     record {
       horizon = t.horizon;
       scan = λ on. record {
         least = (t.scan on).0;
         passed = (t.scan on).1;
-        sure = λ d n lt e. t.least on d 0 (Sure n) (let q = (t.scan on).1 in omega arith) lt (sym (t.pins d) ∙ e) (λ was below. (f.scan was).sure d n below (sym (t.pins d) ∙ e));
+        sure = λ d n lt e. t.least on d 0 (Sure n) (let q = (t.scan on).1 in omega arith) lt (sym (t.pins d) ∙ e)
+            (λ was below. (f.scan was).sure d n below (sym (t.pins d) ∙ e));
       };
     }
     others
   where
-    others : (u : Notes) → Fits desks s.words u → Apart (Keeper k) u → Apart u (Keeper k) → Fits desks ws u × Apart (Keeper k') u × Apart u (Keeper k')
+    others : (u : Notes) → Fits desks s.words u → Apart (Keeper k) u → Apart u (Keeper k)
+        → Fits desks ws u × Apart (Keeper k') u × Apart u (Keeper k')
     others Gone f a b = (tt, tt, tt)
-    others (Dealer o) f a b = (record { dealt = f.dealt; free = λ d le lt. t.pins d ∙ f.free d le lt; unpurged = λ off. absurd (true≢false (sym b ∙ off)) }, tt, b)
+    others (Dealer o) f a b = (
+      record {
+        dealt = f.dealt;
+        free = λ d le lt. t.pins d ∙ f.free d le lt;
+        unpurged = λ off. absurd (true≢false (sym b ∙ off));
+      },
+      tt,
+      b,
+    )
     others (Desk q) f a b = (
       record {
         number = f.number;
@@ -176,18 +210,22 @@ keeper_turn desks s id k k' ws r at t =
     )
     others (Keeper l) f a b = absurd a
 
-at_push : (l : List Notes) (a b : Notes) (j : ℕ) → get_elem? (l ++ a ∷ []) j ≡ some b → (get_elem? l j ≡ some b) ⊎ ((j ≡ length l) × (a ≡ b))
+at_push : (l : List Notes) (a b : Notes) (j : ℕ) → get_elem? (l ++ a ∷ []) j ≡ some b
+    → (get_elem? l j ≡ some b) ⊎ ((j ≡ length l) × (a ≡ b))
 at_push [] a b zero e = inr (refl, some-injective a b e)
 at_push [] a b (suc j) e = absurd (some-ne-none b (sym e))
 at_push (x ∷ xs) a b zero e = inl e
-at_push (x ∷ xs) a b (suc j) e = ⊎_elim (λ h. inl h) (λ (t : (j ≡ length xs) × (a ≡ b)). inr (ap suc t.0, t.1)) (at_push xs a b j e)
+at_push (x ∷ xs) a b (suc j) e = ⊎_elim (λ h. inl h) (λ (t : (j ≡ length xs) × (a ≡ b)). inr (ap suc t.0, t.1))
+    (at_push xs a b j e)
 
 -- a new seat
-kept_push : (desks : ℕ) (s : State ℕ Notes) (w : Notes) → Kept desks s → Fits desks s.words w → ((j : ℕ) (u : Notes) → get_elem? s.views j ≡ some u → Apart w u × Apart u w)
+kept_push : (desks : ℕ) (s : State ℕ Notes) (w : Notes) → Kept desks s → Fits desks s.words w
+    → ((j : ℕ) (u : Notes) → get_elem? s.views j ≡ some u → Apart w u × Apart u w)
     → Kept desks (record { words = s.words; homes = s.homes; views = s.views ++ w ∷ [] })
 kept_push desks s w k fits others = record {
   words = k.words;
-  fits = λ j u e. ⊎_elim (λ was. k.fits j u was) (λ (t : (j ≡ length s.views) × (w ≡ u)). subst (Fits desks s.words) t.1 fits) (at_push s.views w u j e);
+  fits = λ j u e. ⊎_elim (λ was. k.fits j u was)
+      (λ (t : (j ≡ length s.views) × (w ≡ u)). subst (Fits desks s.words) t.1 fits) (at_push s.views w u j e);
   apart = λ i j a b ea eb ne. ⊎_elim
       (λ (was : get_elem? s.views i ≡ some a). ⊎_elim
       (λ (is : get_elem? s.views j ≡ some b). k.apart i j a b was is ne)
@@ -201,13 +239,19 @@ kept_push desks s w k fits others = record {
 }
 
 -- a seat is cut in two
-pub kept_split : (desks : ℕ) (s : State ℕ Notes) (id : ℕ) (v left right : Notes) → Kept desks s → get_elem? s.views id ≡ some v → Fits desks s.words left → Fits desks s.words right → Apart left right → Apart right left
-    → ((u : Notes) → Fits desks s.words u → Apart v u → Apart u v → (Apart left u × Apart u left) × (Apart right u × Apart u right))
+pub kept_split : (desks : ℕ) (s : State ℕ Notes) (id : ℕ) (v left right : Notes) → Kept desks s
+    → get_elem? s.views id ≡ some v → Fits desks s.words left → Fits desks s.words right → Apart left right
+    → Apart right left
+    → ((u : Notes) → Fits desks s.words u → Apart v u → Apart u v → (Apart left u × Apart u left)
+    × (Apart right u × Apart u right))
     → Kept desks (record { words = s.words; homes = s.homes; views = slice_set s.views id left ++ right ∷ [] })
 kept_split desks s id v left right k at fl fr lr rl others =
-    let half : Kept desks (record { words = s.words; homes = s.homes; views = slice_set s.views id left }) = kept_step desks s id v left s.words k at k.words fl (λ u f a b. (f, (others u f a b).0.0, (others u f a b).0.1)) in
+    let half : Kept desks (record { words = s.words; homes = s.homes; views = slice_set s.views id left }) =
+    kept_step desks s id v left s.words k at k.words fl
+    (λ u f a b. (f, (others u f a b).0.0, (others u f a b).0.1)) in
     kept_push desks (record { words = s.words; homes = s.homes; views = slice_set s.views id left }) right half fr
     (λ j u e. ⊎_elim
     (λ (t : (j ≡ id) × (left ≡ u)). subst (λ (x : Notes). Apart right x × Apart x right) t.1 (rl, lr))
-    (λ (t : (j ≢ id) × (get_elem? s.views j ≡ some u)). (others u (k.fits j u t.1) (k.apart id j v u at t.1 (λ q. t.0 (sym q))) (k.apart j id u v t.1 at t.0)).1)
+    (λ (t : (j ≢ id) × (get_elem? s.views j ≡ some u)).
+    (others u (k.fits j u t.1) (k.apart id j v u at t.1 (λ q. t.0 (sym q))) (k.apart j id u v t.1 at t.0)).1)
     (at_set s.views id j left u e))

@@ -1,5 +1,8 @@
 -- Each step keeps the rule of the words, and tells what its play says.
-use Rattle.std.proofs.Common.{◌≡◌, ◌≢◌, ◌⊎◌, ℕ, ◌+◌, ◌-◌, ◌*◌, ◌/◌, ◌<◌, ◌≤◌, ◌^◌, eqb, ◌==◌, Bool, true, false, true≢false, List, [], ◌∷◌, ◌++◌, length, zero, suc, replicate, set, get_or, sym, refl, ap, ◌∙◌, subst, ⊎_elim, arith, le_trans, le_refl, length-set, get_or-set_same, get_or-set_other}
+use Rattle.std.proofs.Common.{◌≡◌, ◌≢◌, ◌⊎◌, ℕ, ◌+◌, ◌-◌, ◌*◌, ◌/◌, ◌<◌, ◌≤◌, ◌^◌, eqb, ◌==◌, Bool, true, false}
+use Rattle.std.proofs.Common.{true≢false, List, [], ◌∷◌, ◌++◌, length, zero, suc, replicate, set, get_or, sym, refl, ap}
+use Rattle.std.proofs.Common.{◌∙◌, subst, ⊎_elim, arith, le_trans, le_refl, length-set, get_or-set_same}
+use Rattle.std.proofs.Common.{get_or-set_other}
 use Rattle.std.specs.Prelude.{slice_index, slice_set, max}
 use Rattle.std.proofs.lemmas.List.{set-get_or}
 use Rattle.std.proofs.lemmas.Bool.Decides.{nat_tests}
@@ -15,7 +18,11 @@ use Rattle.oe_moments.specs.declared.notes.KeeperNotes.{KeeperNotes}
 use Rattle.oe_moments.specs.declared.notes.DealerNotes.{DealerNotes}
 use Rattle.oe_moments.specs.declared.notes.Notes.{Notes}
 use Rattle.oe_moments.specs.declared.notes.Notes.TheVariants.{Gone, Dealer, Desk, Keeper}
-use Rattle.oe_moments.specs.Rule.{most, newest, claim, purged, pin_at, pin_word, Guards, IsMoment, FitsDesk, FitsKeeper, FitsDealer, Fits, Apart, AreWords, Kept, saw, with_pin, looked_pin, looked, sees_newest, tells, announces, looks, makes_sure, clears, reads_purged, raised, claimed, lowered, scanned, settled, claims, scans, settles, finds, dealer_first, dealt_on, next_desk, keeper_out, first_keeper}
+use Rattle.oe_moments.specs.Rule.{most, newest, claim, purged, pin_at, pin_word, Guards, IsMoment, FitsDesk, FitsKeeper}
+use Rattle.oe_moments.specs.Rule.{FitsDealer, Fits, Apart, AreWords, Kept, saw, with_pin, looked_pin, looked}
+use Rattle.oe_moments.specs.Rule.{sees_newest, tells, announces, looks, makes_sure, clears, reads_purged, raised}
+use Rattle.oe_moments.specs.Rule.{claimed, lowered, scanned, settled, claims, scans, settles, finds, dealer_first}
+use Rattle.oe_moments.specs.Rule.{dealt_on, next_desk, keeper_out, first_keeper}
 use Rattle.oe_moments.proofs.KeepFacts.{kept_split, DeskMove, DeskTurn, desk_turn, KeeperTurn, keeper_turn}
 
 abbrev desk_or : DeskNotes → Notes → DeskNotes
@@ -31,10 +38,12 @@ keeper_or d (Dealer o) = d
 keeper_or d (Desk p) = d
 
 -- what holds of the notes that a holder has, holds of any that it has
-for_desk : (v : Notes) (p : DeskNotes) → v ≡ Desk p → (Q : DeskNotes → Type 0) → Q p → (q : DeskNotes) → v ≡ Desk q → Q q
+for_desk : (v : Notes) (p : DeskNotes) → v ≡ Desk p → (Q : DeskNotes → Type 0) → Q p → (q : DeskNotes) → v ≡ Desk q
+    → Q q
 for_desk v p is Q x q is' = subst Q (ap (desk_or p) (sym is ∙ is')) x
 
-for_keeper : (v : Notes) (k : KeeperNotes) → v ≡ Keeper k → (Q : KeeperNotes → Type 0) → Q k → (l : KeeperNotes) → v ≡ Keeper l → Q l
+for_keeper : (v : Notes) (k : KeeperNotes) → v ≡ Keeper k → (Q : KeeperNotes → Type 0) → Q k → (l : KeeperNotes)
+    → v ≡ Keeper l → Q l
 for_keeper v k is Q x l is' = subst Q (ap (keeper_or k) (sym is ∙ is')) x
 
 -- a load leaves the words
@@ -42,14 +51,29 @@ still : (ws : List ℕ) (i : ℕ) → slice_set ws i (slice_index ws i) ≡ ws
 still ws i = set-get_or ws i 0
 
 unmoved : (desks : ℕ) (ws : List ℕ) (d : ℕ) → AreWords desks ws → DeskMove ws ws d
-unmoved desks ws d words = record { size = refl; newest_up = le_refl _; newest_fits = words.newest_fits; claim_is = refl; purged_is = refl; pins = λ e ne. refl }
+unmoved desks ws d words =
+    record {
+      size = refl;
+      newest_up = le_refl _;
+      newest_fits = words.newest_fits;
+      claim_is = refl;
+      purged_is = refl;
+      pins = λ e ne. refl;
+    }
 
 -- a load of the word i by a desk
-desk_load : (desks : ℕ) (s : State ℕ Notes) (id i : ℕ) (p p' : DeskNotes) → Kept desks s → get_elem? s.views id ≡ some (Desk p) → DeskTurn s.words s.words p p'
-    → Kept desks (record { words = slice_set s.words i (slice_index s.words i); homes = s.homes; views = slice_set s.views id (Desk p') })
-desk_load desks s id i p p' k at t = desk_turn desks s id p p' (slice_set s.words i (slice_index s.words i)) k at (subst (λ (ws : List ℕ). DeskTurn s.words ws p p') (sym (still s.words i)) t)
+desk_load : (desks : ℕ) (s : State ℕ Notes) (id i : ℕ) (p p' : DeskNotes) → Kept desks s
+    → get_elem? s.views id ≡ some (Desk p) → DeskTurn s.words s.words p p'
+    → Kept desks (record {
+      words = slice_set s.words i (slice_index s.words i);
+      homes = s.homes;
+      views = slice_set s.views id (Desk p');
+    })
+desk_load desks s id i p p' k at t = desk_turn desks s id p p' (slice_set s.words i (slice_index s.words i)) k at
+    (subst (λ (ws : List ℕ). DeskTurn s.words ws p p') (sym (still s.words i)) t)
 
-pub loads_newest : (desks slots id : ℕ) (me : Me ℕ Notes) (p : DeskNotes) → me.0 ≡ Desk p → Allows (Kept desks) slots id me 0 (λ n. n) (sees_newest (step 0 0 0 0 none) me)
+pub loads_newest : (desks slots id : ℕ) (me : Me ℕ Notes) (p : DeskNotes) → me.0 ≡ Desk p
+    → Allows (Kept desks) slots id me 0 (λ n. n) (sees_newest (step 0 0 0 0 none) me)
 loads_newest desks slots id me p is s k _ at _ =
     let at' : get_elem? s.views id ≡ some (Desk p) = at ∙ ap some is in
     let f : FitsDesk desks s.words p = k.fits id (Desk p) at' in
@@ -66,10 +90,12 @@ loads_newest desks slots id me p is s k _ at _ =
         moment = f.moment;
         carry = λ limit _ g. g;
       }),
-      for_desk me.0 p is (λ (q : DeskNotes). (Desk (saw n p) ≡ Desk (saw n q)) × (q.seen ≤ n) × (n ≤ most)) (refl, f.seen, k.words.newest_fits),
+      for_desk me.0 p is (λ (q : DeskNotes). (Desk (saw n p) ≡ Desk (saw n q)) × (q.seen ≤ n) × (n ≤ most))
+          (refl, f.seen, k.words.newest_fits),
     )
 
-pub loads_claim : (desks slots id : ℕ) (me : Me ℕ Notes) (p : DeskNotes) → me.0 ≡ Desk p → Allows (Kept desks) slots id me 1 (λ n. n) (looks (step 0 0 0 0 none) me)
+pub loads_claim : (desks slots id : ℕ) (me : Me ℕ Notes) (p : DeskNotes) → me.0 ≡ Desk p
+    → Allows (Kept desks) slots id me 1 (λ n. n) (looks (step 0 0 0 0 none) me)
 loads_claim desks slots id me p is s k _ at _ =
     let at' : get_elem? s.views id ≡ some (Desk p) = at ∙ ap some is in
     let f : FitsDesk desks s.words p = k.fits id (Desk p) at' in
@@ -86,7 +112,8 @@ loads_claim desks slots id me p is s k _ at _ =
         moment = moment p.pin f.moment;
         carry = λ limit below g. carry limit c p.claim below p.pin g;
       }),
-      for_desk me.0 p is (λ (q : DeskNotes). (Desk (looked c p) ≡ Desk (looked c q)) × (c ≤ most)) (refl, k.words.claim_fits),
+      for_desk me.0 p is (λ (q : DeskNotes). (Desk (looked c p) ≡ Desk (looked c q)) × (c ≤ most))
+          (refl, k.words.claim_fits),
     )
   where
     same : (t : PinState) → pin_word t ≡ pin_word (looked_pin t)
@@ -108,7 +135,8 @@ loads_claim desks slots id me p is s k _ at _ =
     carry limit c old below (Sure n) g = g
 
 -- under a sure pin what is purged is not above it
-pub loads_purged : (desks slots id : ℕ) (me : Me ℕ Notes) (p : DeskNotes) → me.0 ≡ Desk p → Allows (Kept desks) slots id me 2 (λ n. n) (reads_purged (step 0 0 0 0 none) me)
+pub loads_purged : (desks slots id : ℕ) (me : Me ℕ Notes) (p : DeskNotes) → me.0 ≡ Desk p
+    → Allows (Kept desks) slots id me 2 (λ n. n) (reads_purged (step 0 0 0 0 none) me)
 loads_purged desks slots id me p is s k _ at _ =
     let at' : get_elem? s.views id ≡ some (Desk p) = at ∙ ap some is in
     let f : FitsDesk desks s.words p = k.fits id (Desk p) at' in (
@@ -127,7 +155,8 @@ loads_purged desks slots id me p is s k _ at _ =
       (
         sym is,
         le_trans k.words.purged_fits k.words.claim_fits,
-        for_desk me.0 p is (λ (q : DeskNotes). (n : ℕ) → q.pin ≡ Sure n → purged s.words ≤ n) (λ n sure. subst (λ (t : PinState). Guards (purged s.words) p.claim t) sure f.guards),
+        for_desk me.0 p is (λ (q : DeskNotes). (n : ℕ) → q.pin ≡ Sure n → purged s.words ≤ n)
+            (λ n sure. subst (λ (t : PinState). Guards (purged s.words) p.claim t) sure f.guards),
       ),
     )
 
@@ -149,9 +178,14 @@ pin_write desks ws d x words = record {
 }
 
 -- a desk stores its pin for the stage t
-stores : (desks : ℕ) (s : State ℕ Notes) (id : ℕ) (p : DeskNotes) (t : PinState) (x : ℕ) → Kept desks s → get_elem? s.views id ≡ some (Desk p) → x ≡ pin_word t → IsMoment t
+stores : (desks : ℕ) (s : State ℕ Notes) (id : ℕ) (p : DeskNotes) (t : PinState) (x : ℕ) → Kept desks s
+    → get_elem? s.views id ≡ some (Desk p) → x ≡ pin_word t → IsMoment t
     → ((limit : ℕ) → Guards limit p.claim p.pin → Guards limit p.claim t)
-    → Kept desks (record { words = slice_set s.words (p.number + 3) x; homes = s.homes; views = slice_set s.views id (Desk (with_pin t p)) })
+    → Kept desks (record {
+      words = slice_set s.words (p.number + 3) x;
+      homes = s.homes;
+      views = slice_set s.views id (Desk (with_pin t p));
+    })
 stores desks s id p t x k at is moment carry =
     let f : FitsDesk desks s.words p = k.fits id (Desk p) at in
     let m = pin_write desks s.words p.number x k.words in
@@ -165,19 +199,24 @@ stores desks s id p t x k at is moment carry =
       carry = λ limit _ g. carry limit g;
     })
 
-pub stores_announced : (desks slots id : ℕ) (me : Me ℕ Notes) (p : DeskNotes) (word x : ℕ) → me.0 ≡ Desk p → word ≡ p.number + 3 → x ≡ 2 * p.seen + 1 → p.seen ≤ most → Allows (Kept desks) slots id me word (λ _. x) (λ _. announces (step 0 0 0 0 none) me x)
+pub stores_announced : (desks slots id : ℕ) (me : Me ℕ Notes) (p : DeskNotes) (word x : ℕ) → me.0 ≡ Desk p
+    → word ≡ p.number + 3 → x ≡ 2 * p.seen + 1 → p.seen ≤ most
+    → Allows (Kept desks) slots id me word (λ _. x) (λ _. announces (step 0 0 0 0 none) me x)
 stores_announced desks slots id me p word x is where_is what fits s k _ at _ =
     let at' : get_elem? s.views id ≡ some (Desk p) = at ∙ ap some is in
     let w : Notes = Desk (with_pin (Announced p.seen) p) in (
       w,
       keeps,
       tt,
-      subst (λ (i : ℕ). Kept desks (record { words = slice_set s.words i x; homes = s.homes; views = slice_set s.views id w })) (sym where_is)
+      subst (λ (i : ℕ). Kept desks
+          (record { words = slice_set s.words i x; homes = s.homes; views = slice_set s.views id w })) (sym where_is)
           (stores desks s id p (Announced p.seen) x k at' what fits (λ _ _. tt)),
       for_desk me.0 p is (λ (q : DeskNotes). w ≡ Desk (with_pin (Announced q.seen) q)) refl,
     )
 
-pub stores_sure : (desks slots id : ℕ) (me : Me ℕ Notes) (p : DeskNotes) (n word x : ℕ) → me.0 ≡ Desk p → p.pin ≡ Looked n → p.claim ≤ n → word ≡ p.number + 3 → x ≡ 2 * n + 2 → Allows (Kept desks) slots id me word (λ _. x) (λ _. makes_sure (step 0 0 0 0 none) me x)
+pub stores_sure : (desks slots id : ℕ) (me : Me ℕ Notes) (p : DeskNotes) (n word x : ℕ) → me.0 ≡ Desk p
+    → p.pin ≡ Looked n → p.claim ≤ n → word ≡ p.number + 3 → x ≡ 2 * n + 2
+    → Allows (Kept desks) slots id me word (λ _. x) (λ _. makes_sure (step 0 0 0 0 none) me x)
 stores_sure desks slots id me p n word x is looked_is below where_is what s k _ at _ =
     let at' : get_elem? s.views id ≡ some (Desk p) = at ∙ ap some is in
     let f : FitsDesk desks s.words p = k.fits id (Desk p) at' in
@@ -186,8 +225,10 @@ stores_sure desks slots id me p n word x is looked_is below where_is what s k _ 
       w,
       keeps,
       tt,
-      subst (λ (i : ℕ). Kept desks (record { words = slice_set s.words i x; homes = s.homes; views = slice_set s.views id w })) (sym where_is)
-          (stores desks s id p (Sure n) x k at' what moment (λ limit g. (subst (Guards limit p.claim) looked_is g) below)),
+      subst (λ (i : ℕ). Kept desks
+          (record { words = slice_set s.words i x; homes = s.homes; views = slice_set s.views id w })) (sym where_is)
+          (stores desks s id p (Sure n) x k at' what moment
+          (λ limit g. (subst (Guards limit p.claim) looked_is g) below)),
       for_desk me.0 p is (λ (q : DeskNotes). (m : ℕ) → q.pin ≡ Looked m → w ≡ Desk (with_pin (Sure m) q))
           (λ m e. ap (λ (t : PinState). Desk (with_pin (Sure (moment_or t)) p)) (sym looked_is ∙ e)),
     )
@@ -198,19 +239,22 @@ stores_sure desks slots id me p n word x is looked_is below where_is what s k _ 
     moment_or (Looked m) = m
     moment_or (Sure m) = m
 
-pub stores_free : (desks slots id : ℕ) (me : Me ℕ Notes) (p : DeskNotes) (word x : ℕ) → me.0 ≡ Desk p → word ≡ p.number + 3 → x ≡ 0 → Allows (Kept desks) slots id me word (λ _. x) (λ _. clears (step 0 0 0 0 none) me x)
+pub stores_free : (desks slots id : ℕ) (me : Me ℕ Notes) (p : DeskNotes) (word x : ℕ) → me.0 ≡ Desk p
+    → word ≡ p.number + 3 → x ≡ 0 → Allows (Kept desks) slots id me word (λ _. x) (λ _. clears (step 0 0 0 0 none) me x)
 stores_free desks slots id me p word x is where_is what s k _ at _ =
     let at' : get_elem? s.views id ≡ some (Desk p) = at ∙ ap some is in
     let w : Notes = Desk (with_pin Free p) in (
       w,
       keeps,
       tt,
-      subst (λ (i : ℕ). Kept desks (record { words = slice_set s.words i x; homes = s.homes; views = slice_set s.views id w })) (sym where_is)
+      subst (λ (i : ℕ). Kept desks
+          (record { words = slice_set s.words i x; homes = s.homes; views = slice_set s.views id w })) (sym where_is)
           (stores desks s id p Free x k at' what tt (λ _ _. tt)),
       for_desk me.0 p is (λ (q : DeskNotes). w ≡ Desk (with_pin Free q)) refl,
     )
 
-pub raises_newest : (desks slots id : ℕ) (me : Me ℕ Notes) (p : DeskNotes) (m : ℕ) → me.0 ≡ Desk p → m ≤ most → Allows (Kept desks) slots id me 0 (λ n. max n m) (tells (step 0 0 m 0 none) me)
+pub raises_newest : (desks slots id : ℕ) (me : Me ℕ Notes) (p : DeskNotes) (m : ℕ) → me.0 ≡ Desk p → m ≤ most
+    → Allows (Kept desks) slots id me 0 (λ n. max n m) (tells (step 0 0 m 0 none) me)
 raises_newest desks slots id me p m is fits s k _ at _ =
     let at' : get_elem? s.views id ≡ some (Desk p) = at ∙ ap some is in
     let f : FitsDesk desks s.words p = k.fits id (Desk p) at' in
@@ -269,7 +313,8 @@ lowered_guards least c (Announced n) = tt
 lowered_guards least c (Looked n) = λ _. lowered_at least n (2 * n + 1) (Rattle.std.proofs.Common.inl refl)
 lowered_guards least c (Sure n) = lowered_at least n (2 * n + 2) (Rattle.std.proofs.Common.inr refl)
 
-pub raises_claim : (desks slots id : ℕ) (me : Me ℕ Notes) (k : KeeperNotes) (m : ℕ) → me.0 ≡ Keeper k → m ≤ most → Allows (Kept desks) slots id me 1 (raised m) (claims (step 0 0 m 0 none) me)
+pub raises_claim : (desks slots id : ℕ) (me : Me ℕ Notes) (k : KeeperNotes) (m : ℕ) → me.0 ≡ Keeper k → m ≤ most
+    → Allows (Kept desks) slots id me 1 (raised m) (claims (step 0 0 m 0 none) me)
 raises_claim desks slots id me k m is fits s r _ at _ =
     let at' : get_elem? s.views id ≡ some (Keeper k) = at ∙ ap some is in
     let f : FitsKeeper desks s.words k = r.fits id (Keeper k) at' in
@@ -290,7 +335,8 @@ raises_claim desks slots id me k m is fits s r _ at _ =
         newest_is = word_other s.words 1 0 x (λ e. omega arith);
         claim_up = subst (λ (y : ℕ). c ≤ y) (sym now) (omega arith);
         claim_fits = subst (λ (y : ℕ). y ≤ most) (sym now) (omega arith);
-        purged_fits = subst (λ (y : ℕ). purged ws ≤ y) (sym now) (subst (λ (y : ℕ). y ≤ x) (sym purged_is) (omega arith));
+        purged_fits = subst (λ (y : ℕ). purged ws ≤ y) (sym now)
+            (subst (λ (y : ℕ). y ≤ x) (sym purged_is) (omega arith));
         pins = λ d. word_other s.words 1 (d + 3) x (λ q. omega arith);
         horizon = f.horizon ∙ sym purged_is;
         scan = λ _. (subst (λ (y : ℕ). m ≤ y) (sym now) (omega arith), omega arith);
@@ -301,11 +347,19 @@ raises_claim desks slots id me k m is fits s r _ at _ =
     )
 
 -- a load by the keeper
-keeper_load : (desks : ℕ) (s : State ℕ Notes) (id i : ℕ) (k k' : KeeperNotes) → Kept desks s → get_elem? s.views id ≡ some (Keeper k) → KeeperTurn desks s.words s.words k k'
-    → Kept desks (record { words = slice_set s.words i (slice_index s.words i); homes = s.homes; views = slice_set s.views id (Keeper k') })
-keeper_load desks s id i k k' r at t = keeper_turn desks s id k k' (slice_set s.words i (slice_index s.words i)) r at (subst (λ (ws : List ℕ). KeeperTurn desks s.words ws k k') (sym (still s.words i)) t)
+keeper_load : (desks : ℕ) (s : State ℕ Notes) (id i : ℕ) (k k' : KeeperNotes) → Kept desks s
+    → get_elem? s.views id ≡ some (Keeper k) → KeeperTurn desks s.words s.words k k'
+    → Kept desks (record {
+      words = slice_set s.words i (slice_index s.words i);
+      homes = s.homes;
+      views = slice_set s.views id (Keeper k');
+    })
+keeper_load desks s id i k k' r at t = keeper_turn desks s id k k' (slice_set s.words i (slice_index s.words i)) r at
+    (subst (λ (ws : List ℕ). KeeperTurn desks s.words ws k k') (sym (still s.words i)) t)
 
-pub scans_pin : (desks slots id : ℕ) (me : Me ℕ Notes) (k : KeeperNotes) (word : ℕ) → me.0 ≡ Keeper k → k.scanning ≡ true → k.passed < desks → word ≡ k.passed + 3 → Allows (Kept desks) slots id me word (λ n. n) (scans (step 0 0 0 0 none) me)
+pub scans_pin : (desks slots id : ℕ) (me : Me ℕ Notes) (k : KeeperNotes) (word : ℕ) → me.0 ≡ Keeper k
+    → k.scanning ≡ true → k.passed < desks → word ≡ k.passed + 3
+    → Allows (Kept desks) slots id me word (λ n. n) (scans (step 0 0 0 0 none) me)
 scans_pin desks slots id me k word is on more where_is s r _ at _ =
     let at' : get_elem? s.views id ≡ some (Keeper k) = at ∙ ap some is in
     let f : FitsKeeper desks s.words k = r.fits id (Keeper k) at' in
@@ -313,9 +367,11 @@ scans_pin desks slots id me k word is on more where_is s r _ at _ =
     let x_is : x ≡ pin_at s.words k.passed = ap (λ (i : ℕ). slice_index s.words i) where_is in
     let k' : KeeperNotes = scanned x k in
     let less : lowered k.least x ≤ k.least = lowered_less k.least x in
-    let kept : (d q : ℕ) (t : PinState) → d < k.passed + 1 → pin_at s.words d ≡ pin_word t → (k.scanning ≡ true → d < k.passed → Guards k.least q t) → Guards (lowered k.least x) q t
+    let kept : (d q : ℕ) (t : PinState) → d < k.passed + 1 → pin_at s.words d ≡ pin_word t
+    → (k.scanning ≡ true → d < k.passed → Guards k.least q t) → Guards (lowered k.least x) q t
     = λ d q t lt is_word old. dite (ℕ_discrete d k.passed)
-    (λ (same : d ≡ k.passed). subst (λ (y : ℕ). Guards (lowered k.least y) q t) (sym (x_is ∙ (ap (λ (e : ℕ). pin_at s.words e) (sym same) ∙ is_word))) (lowered_guards k.least q t))
+    (λ (same : d ≡ k.passed). subst (λ (y : ℕ). Guards (lowered k.least y) q t)
+    (sym (x_is ∙ (ap (λ (e : ℕ). pin_at s.words e) (sym same) ∙ is_word))) (lowered_guards k.least q t))
     (λ ne. guards_less k.least (lowered k.least x) q t less (old on (omega arith))) in (
       Keeper k',
       keeps,
@@ -335,7 +391,9 @@ scans_pin desks slots id me k word is on more where_is s r _ at _ =
       for_keeper me.0 k is (λ (l : KeeperNotes). Keeper k' ≡ Keeper (scanned x l)) refl,
     )
 
-pub stores_purged : (desks slots id : ℕ) (me : Me ℕ Notes) (k : KeeperNotes) (x : ℕ) → me.0 ≡ Keeper k → k.scanning ≡ true → k.passed ≡ desks → x ≡ max k.horizon k.least → Allows (Kept desks) slots id me 2 (λ _. x) (λ _. settles (step 0 0 0 0 none) me x)
+pub stores_purged : (desks slots id : ℕ) (me : Me ℕ Notes) (k : KeeperNotes) (x : ℕ) → me.0 ≡ Keeper k
+    → k.scanning ≡ true → k.passed ≡ desks → x ≡ max k.horizon k.least
+    → Allows (Kept desks) slots id me 2 (λ _. x) (λ _. settles (step 0 0 0 0 none) me x)
 stores_purged desks slots id me k x is on all what s r _ at _ =
     let at' : get_elem? s.views id ≡ some (Keeper k) = at ∙ ap some is in
     let f : FitsKeeper desks s.words k = r.fits id (Keeper k) at' in
@@ -362,12 +420,14 @@ stores_purged desks slots id me k x is on all what s r _ at _ =
         horizon = sym what ∙ sym now;
         scan = λ off. absurd (true≢false (sym off));
         least = λ off. absurd (true≢false (sym off));
-        purges = λ d q t lt g watched. subst (λ (y : ℕ). Guards y q t) (sym (now ∙ x_is)) (guards_max (purged s.words) k.least q t g (watched on (omega arith)));
+        purges = λ d q t lt g watched. subst (λ (y : ℕ). Guards y q t) (sym (now ∙ x_is))
+            (guards_max (purged s.words) k.least q t g (watched on (omega arith)));
       }),
       for_keeper me.0 k is (λ (l : KeeperNotes). Keeper k' ≡ Keeper (settled l)) refl,
     )
 
-pub finds_pin : (desks slots id : ℕ) (me : Me ℕ Notes) (k : KeeperNotes) (d word : ℕ) → me.0 ≡ Keeper k → d < desks → word ≡ d + 3 → Allows (Kept desks) slots id me word (λ n. n) (finds (step 0 0 0 0 none) me)
+pub finds_pin : (desks slots id : ℕ) (me : Me ℕ Notes) (k : KeeperNotes) (d word : ℕ) → me.0 ≡ Keeper k → d < desks
+    → word ≡ d + 3 → Allows (Kept desks) slots id me word (λ n. n) (finds (step 0 0 0 0 none) me)
 finds_pin desks slots id me k d word is lt where_is s r _ at _ =
     let at' : get_elem? s.views id ≡ some (Keeper k) = at ∙ ap some is in
     let f : FitsKeeper desks s.words k = r.fits id (Keeper k) at' in (
@@ -389,7 +449,8 @@ finds_pin desks slots id me k d word is lt where_is s r _ at _ =
       (
         sym is,
         for_keeper me.0 k is (λ (l : KeeperNotes). (n : ℕ) → slice_index s.words word ≡ 2 * n + 2 → l.horizon ≤ n)
-            (λ n e. subst (λ (y : ℕ). y ≤ n) (sym f.horizon) (r.words.sure d n lt (ap (λ (i : ℕ). slice_index s.words i) (sym where_is) ∙ e))),
+            (λ n e. subst (λ (y : ℕ). y ≤ n) (sym f.horizon)
+            (r.words.sure d n lt (ap (λ (i : ℕ). slice_index s.words i) (sym where_is) ∙ e))),
       ),
     )
 
@@ -415,28 +476,42 @@ opens desks =
         purged_fits = subst (λ (x : ℕ). x ≤ claim ws) (sym (at 2)) (omega arith);
         sure = λ d n lt e. subst (λ (x : ℕ). x ≤ n) (sym (at 2)) (omega arith);
       };
-      fits = λ i v e. subst (Fits desks ws) (one_view dealer_first i v e).1 (record { dealt = omega arith; free = λ d _ _. at (d + 3); unpurged = λ _. at 2 });
+      fits = λ i v e. subst (Fits desks ws) (one_view dealer_first i v e).1
+          (record { dealt = omega arith; free = λ d _ _. at (d + 3); unpurged = λ _. at 2 });
       apart = λ i j v w ei ej ne. absurd (ne ((one_view dealer_first i v ei).0 ∙ sym (one_view dealer_first j w ej).0));
     }
 
-deals_at : (desks id : ℕ) (o : DealerNotes) → o.dealt < desks → Splits (Kept desks) id (Dealer o) (dealt_on (Dealer o)) (next_desk (Dealer o))
+deals_at : (desks id : ℕ) (o : DealerNotes) → o.dealt < desks
+    → Splits (Kept desks) id (Dealer o) (dealt_on (Dealer o)) (next_desk (Dealer o))
 deals_at desks id o more s k at =
     let f : FitsDealer desks s.words o = k.fits id (Dealer o) at in
     kept_split desks s id (Dealer o) (dealt_on (Dealer o)) (next_desk (Dealer o)) k at
     (record { dealt = omega arith; free = λ d le lt. f.free d (omega arith) lt; unpurged = f.unpurged })
-    (record { number = more; seen = omega arith; claimed = omega arith; word = f.free o.dealt (le_refl _) more; moment = tt; guards = tt })
+    (record {
+      number = more;
+      seen = omega arith;
+      claimed = omega arith;
+      word = f.free o.dealt (le_refl _) more;
+      moment = tt;
+      guards = tt;
+    })
     (omega arith) tt others
   where
-    others : (u : Notes) → Fits desks s.words u → Apart (Dealer o) u → Apart u (Dealer o) → (Apart (dealt_on (Dealer o)) u × Apart u (dealt_on (Dealer o))) × (Apart (next_desk (Dealer o)) u × Apart u (next_desk (Dealer o)))
+    others : (u : Notes) → Fits desks s.words u → Apart (Dealer o) u → Apart u (Dealer o)
+        → (Apart (dealt_on (Dealer o)) u × Apart u (dealt_on (Dealer o)))
+        × (Apart (next_desk (Dealer o)) u × Apart u (next_desk (Dealer o)))
     others Gone f a b = ((tt, tt), (tt, tt))
     others (Dealer r) f a b = absurd a
     others (Desk q) f a b = ((omega arith, tt), ((λ e. omega arith), (λ e. omega arith)))
     others (Keeper l) f a b = ((a, tt), ((λ _ _. tt), tt))
 
-pub deals_desk : (desks id : ℕ) (v : Notes) (o : DealerNotes) → v ≡ Dealer o → o.dealt < desks → Splits (Kept desks) id v (dealt_on v) (next_desk v)
-deals_desk desks id v o is more = subst (λ (x : Notes). Splits (Kept desks) id x (dealt_on x) (next_desk x)) (sym is) (deals_at desks id o more)
+pub deals_desk : (desks id : ℕ) (v : Notes) (o : DealerNotes) → v ≡ Dealer o → o.dealt < desks
+    → Splits (Kept desks) id v (dealt_on v) (next_desk v)
+deals_desk desks id v o is more = subst (λ (x : Notes). Splits (Kept desks) id x (dealt_on x) (next_desk x)) (sym is)
+    (deals_at desks id o more)
 
-deals_keeper_at : (desks id : ℕ) (o : DealerNotes) → o.keeper ≡ false → Splits (Kept desks) id (Dealer o) (keeper_out (Dealer o)) (first_keeper (Dealer o))
+deals_keeper_at : (desks id : ℕ) (o : DealerNotes) → o.keeper ≡ false
+    → Splits (Kept desks) id (Dealer o) (keeper_out (Dealer o)) (first_keeper (Dealer o))
 deals_keeper_at desks id o off s k at =
     let f : FitsDealer desks s.words o = k.fits id (Dealer o) at in
     kept_split desks s id (Dealer o) (keeper_out (Dealer o)) (first_keeper (Dealer o)) k at
@@ -444,14 +519,18 @@ deals_keeper_at desks id o off s k at =
     (record { horizon = sym (f.unpurged off); scan = λ on. absurd (true≢false (sym on)) })
     refl tt others
   where
-    others : (u : Notes) → Fits desks s.words u → Apart (Dealer o) u → Apart u (Dealer o) → (Apart (keeper_out (Dealer o)) u × Apart u (keeper_out (Dealer o))) × (Apart (first_keeper (Dealer o)) u × Apart u (first_keeper (Dealer o)))
+    others : (u : Notes) → Fits desks s.words u → Apart (Dealer o) u → Apart u (Dealer o)
+        → (Apart (keeper_out (Dealer o)) u × Apart u (keeper_out (Dealer o)))
+        × (Apart (first_keeper (Dealer o)) u × Apart u (first_keeper (Dealer o)))
     others Gone f a b = ((tt, tt), (tt, tt))
     others (Dealer r) f a b = absurd a
     others (Desk q) f a b = ((a, tt), (tt, (λ on _. absurd (true≢false (sym on)))))
     others (Keeper l) f a b = absurd (true≢false (sym a ∙ off))
 
-pub deals_keeper : (desks id : ℕ) (v : Notes) (o : DealerNotes) → v ≡ Dealer o → o.keeper ≡ false → Splits (Kept desks) id v (keeper_out v) (first_keeper v)
-deals_keeper desks id v o is off = subst (λ (x : Notes). Splits (Kept desks) id x (keeper_out x) (first_keeper x)) (sym is) (deals_keeper_at desks id o off)
+pub deals_keeper : (desks id : ℕ) (v : Notes) (o : DealerNotes) → v ≡ Dealer o → o.keeper ≡ false
+    → Splits (Kept desks) id v (keeper_out v) (first_keeper v)
+deals_keeper desks id v o is off = subst (λ (x : Notes). Splits (Kept desks) id x (keeper_out x) (first_keeper x))
+    (sym is) (deals_keeper_at desks id o off)
 
 pub not_announced : (t : PinState) → ((x : ℕ) → t ≡ Announced x → ⊥) → looked_pin t ≡ t
 not_announced Free not = refl

@@ -1,7 +1,9 @@
 -- The rule of the words: what they keep, and what each step makes of what its seat's holder knows.
--- Word 0 is the newest moment that was told, word 1 what the keeper claims, word 2 the moment up to which it has purged, and word
+-- Word 0 is the newest moment that was told, word 1 what the keeper claims, word 2 the moment up to which it has
+-- purged, and word
 -- d + 3 the pin of desk d: 0 for none, 2 n + 1 for an announced pin of n, and 2 n + 2 for a sure one.
-use Rattle.std.specs.Prelude.{◌≡◌, ◌≢◌, ℕ, ◌+◌, ◌*◌, ◌-◌, ◌/◌, ◌<◌, ◌≤◌, min, max, true, false, List, length, slice_index, ◌==◌, if◌then◌else◌}
+use Rattle.std.specs.Prelude.{◌≡◌, ◌≢◌, ℕ, ◌+◌, ◌*◌, ◌-◌, ◌/◌, ◌<◌, ◌≤◌, min, max, true, false, List, length}
+use Rattle.std.specs.Prelude.{slice_index, ◌==◌, if◌then◌else◌}
 use mathlib.Core.Option.{some}
 use lib.ListN.{get_elem?}
 use Rattle.atomic_table.specs.Table.{State, Me, Step}
@@ -141,11 +143,13 @@ looked c p = record { number = p.number; seen = p.seen; claim = c; pin = looked_
 
 -- a desk reads the newest moment, which is not below what it has seen
 abbrev pub sees_newest : Step ℕ → Me ℕ Notes → ℕ → Me ℕ Notes → Type 0
-sees_newest s v found w = (p : DeskNotes) → v.0 ≡ Desk p → (w.0 ≡ Desk (saw found p)) × (p.seen ≤ found) × (found ≤ most)
+sees_newest s v found w = (p : DeskNotes) → v.0 ≡ Desk p → (w.0 ≡ Desk (saw found p)) × (p.seen ≤ found)
+    × (found ≤ most)
 
 -- a desk raises the newest moment to at least the one told
 abbrev pub tells : Step ℕ → Me ℕ Notes → ℕ → Me ℕ Notes → Type 0
-tells s v found w = (p : DeskNotes) → v.0 ≡ Desk p → (w.0 ≡ Desk (saw (max found s.first) p)) × (p.seen ≤ found) × (found ≤ most)
+tells s v found w = (p : DeskNotes) → v.0 ≡ Desk p → (w.0 ≡ Desk (saw (max found s.first) p)) × (p.seen ≤ found)
+    × (found ≤ most)
 
 abbrev pub announces : Step ℕ → Me ℕ Notes → ℕ → Me ℕ Notes → Type 0
 announces s v found w = (p : DeskNotes) → v.0 ≡ Desk p → w.0 ≡ Desk (with_pin (Announced p.seen) p)
@@ -162,7 +166,8 @@ clears s v found w = (p : DeskNotes) → v.0 ≡ Desk p → w.0 ≡ Desk (with_p
 
 -- under a sure pin what is purged is not above it
 abbrev pub reads_purged : Step ℕ → Me ℕ Notes → ℕ → Me ℕ Notes → Type 0
-reads_purged s v found w = (w.0 ≡ v.0) × (found ≤ most) × ((p : DeskNotes) → v.0 ≡ Desk p → (n : ℕ) → p.pin ≡ Sure n → found ≤ n)
+reads_purged s v found w = (w.0 ≡ v.0) × (found ≤ most)
+    × ((p : DeskNotes) → v.0 ≡ Desk p → (n : ℕ) → p.pin ≡ Sure n → found ≤ n)
 
 -- WHAT EACH STEP OF THE KEEPER MAKES OF ITS NOTES
 

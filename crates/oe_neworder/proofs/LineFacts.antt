@@ -1,5 +1,6 @@
 -- Where the lines of a New-Order stand: the position of the model, and the names that are held there.
-use Rattle.std.proofs.Common.{◌≡◌, ℕ, suc, ◌+◌, ◌<◌, ◌≤◌, List, [], ◌∷◌, ◌++◌, length, take, drop, Option, None, Some, refl, sym, ap, ◌∙◌, subst, inl, inr, ◌⊎◌, arith}
+use Rattle.std.proofs.Common.{◌≡◌, ℕ, suc, ◌+◌, ◌<◌, ◌≤◌, List, [], ◌∷◌, ◌++◌, length, take, drop, Option, None, Some}
+use Rattle.std.proofs.Common.{refl, sym, ap, ◌∙◌, subst, inl, inr, ◌⊎◌, arith}
 use Rattle.std.specs.Prelude.{Ok, Err, slice_get, get_or, IsSome}
 use Rattle.std.proofs.Math.Seq.{take-suc, drop-cons}
 use Rattle.std.proofs.lemmas.List.{length-take-le, length-append, drop_all}
@@ -33,10 +34,12 @@ use Rattle.oe_neworder.specs.declared.fillings.Filling.{Filling}
 -- the list at one of its indices
 module _ {X : Type 0} (xs : List X) (n : ℕ) (x : X) (here : slice_get xs n ≡ Some x) where
   rest_at : drop n xs ≡ x ∷ drop (suc n) xs
-  rest_at = drop-cons xs n x (slice_get_within xs n x here) ∙ ap (λ (z : X). z ∷ drop (suc n) xs) (get_or_from_slice_get xs n x x here)
+  rest_at = drop-cons xs n x (slice_get_within xs n x here) ∙ ap (λ (z : X). z ∷ drop (suc n) xs)
+      (get_or_from_slice_get xs n x x here)
 
   front_at : take (suc n) xs ≡ take n xs ++ x ∷ []
-  front_at = take-suc xs n x (slice_get_within xs n x here) ∙ ap (λ (z : X). take n xs ++ z ∷ []) (get_or_from_slice_get xs n x x here)
+  front_at = take-suc xs n x (slice_get_within xs n x here) ∙ ap (λ (z : X). take n xs ++ z ∷ [])
+      (get_or_from_slice_get xs n x x here)
 
   pub count_at : length (take n xs) + 1 ≡ n + 1
   count_at = ap (λ (k : ℕ). k + 1) (length-take-le n xs (let low = slice_get_within xs n x here in omega (arith, low)))
@@ -44,39 +47,52 @@ module _ {X : Type 0} (xs : List X) (n : ℕ) (x : X) (here : slice_get xs n ≡
 pub rest_past : {X : Type 0} (xs : List X) (n : ℕ) → slice_get xs n ≡ None → drop n xs ≡ []
 rest_past {X} xs n e = go (slice_get_cases xs n).1
   where
-    go : ((x : X) × (n < length xs) × (slice_get xs n ≡ Some x) × (get_or xs n x ≡ x)) ⊎ ((length xs ≤ n) × (slice_get xs n ≡ None)) → drop n xs ≡ []
+    go : ((x : X) × (n < length xs) × (slice_get xs n ≡ Some x) × (get_or xs n x ≡ x))
+        ⊎ ((length xs ≤ n) × (slice_get xs n ≡ None)) → drop n xs ≡ []
     go (inl h) = let both : None ≡ Some h.0 = sym e ∙ h.2 in absurd (let no : ⊥ = cc in no)
     go (inr h) = drop_all n xs h.0
 
 -- no line is filled: the next stage is of STOCK, or there is none
-pub none_at : (s : Seen) (before : List RequestLine) (done : List LineReply) (ls : List RequestLine) → position_at s before done None ls ≡ NewOrderStock s before done ls
+pub none_at : (s : Seen) (before : List RequestLine) (done : List LineReply) (ls : List RequestLine)
+    → position_at s before done None ls ≡ NewOrderStock s before done ls
 none_at s before done [] = refl
 none_at s before done (l ∷ ls) = refl
 
 -- a line of the request is next
 module _ (q : NewOrderRequest) (f : Filling) (l : RequestLine) (here : slice_get q.lines (length f.done) ≡ Some l) where
-  pub stock_at : f.filled ≡ None → line_position q f ≡ NewOrderStock (seen_by f.seen) (take (length f.done) q.lines) f.done (l ∷ drop (suc (length f.done)) q.lines)
+  pub stock_at : f.filled ≡ None → line_position q f ≡ NewOrderStock (seen_by f.seen) (take (length f.done) q.lines)
+      f.done (l ∷ drop (suc (length f.done)) q.lines)
   stock_at e =
-      ap (λ (o : Option Filled). position_at (seen_by f.seen) (take (length f.done) q.lines) f.done o (drop (length f.done) q.lines)) e
+      ap (λ (o : Option Filled). position_at (seen_by f.seen) (take (length f.done) q.lines) f.done o
+      (drop (length f.done) q.lines)) e
       ∙ (none_at (seen_by f.seen) (take (length f.done) q.lines) f.done (drop (length f.done) q.lines)
-      ∙ ap (λ ls. NewOrderStock (seen_by f.seen) (take (length f.done) q.lines) f.done ls) (rest_at q.lines (length f.done) l here))
+      ∙ ap (λ ls. NewOrderStock (seen_by f.seen) (take (length f.done) q.lines) f.done ls)
+      (rest_at q.lines (length f.done) l here))
 
   pub line_at : (g : Filled) → f.filled ≡ Some g
-      → line_position q f ≡ NewOrderLine (seen_by f.seen) (take (length f.done) q.lines) f.done l (filled_by g) (drop (suc (length f.done)) q.lines)
+      → line_position q f ≡ NewOrderLine (seen_by f.seen) (take (length f.done) q.lines) f.done l (filled_by g)
+      (drop (suc (length f.done)) q.lines)
   line_at g e =
-      ap (λ (o : Option Filled). position_at (seen_by f.seen) (take (length f.done) q.lines) f.done o (drop (length f.done) q.lines)) e
-      ∙ ap (λ ls. position_at (seen_by f.seen) (take (length f.done) q.lines) f.done (Some g) ls) (rest_at q.lines (length f.done) l here)
+      ap (λ (o : Option Filled). position_at (seen_by f.seen) (take (length f.done) q.lines) f.done o
+      (drop (length f.done) q.lines)) e
+      ∙ ap (λ ls. position_at (seen_by f.seen) (take (length f.done) q.lines) f.done (Some g) ls)
+      (rest_at q.lines (length f.done) l here)
 
   line_next : (g : Filled) → line_position q (record { seen = f.seen; done = f.done; filled = Some g })
-      ≡ NewOrderLine (seen_by f.seen) (take (length f.done) q.lines) f.done l (filled_by g) (drop (suc (length f.done)) q.lines)
-  line_next g = ap (λ ls. position_at (seen_by f.seen) (take (length f.done) q.lines) f.done (Some g) ls) (rest_at q.lines (length f.done) l here)
+      ≡ NewOrderLine (seen_by f.seen) (take (length f.done) q.lines) f.done l (filled_by g)
+      (drop (suc (length f.done)) q.lines)
+  line_next g = ap (λ ls. position_at (seen_by f.seen) (take (length f.done) q.lines) f.done (Some g) ls)
+      (rest_at q.lines (length f.done) l here)
 
   pub line_done : (y : LineReply) → line_position q (record { seen = f.seen; done = f.done ++ y ∷ []; filled = None })
-      ≡ NewOrderStock (seen_by f.seen) (take (length f.done) q.lines ++ l ∷ []) (f.done ++ y ∷ []) (drop (suc (length f.done)) q.lines)
+      ≡ NewOrderStock (seen_by f.seen) (take (length f.done) q.lines ++ l ∷ []) (f.done ++ y ∷ [])
+      (drop (suc (length f.done)) q.lines)
   line_done y =
-      none_at (seen_by f.seen) (take (length (f.done ++ y ∷ [])) q.lines) (f.done ++ y ∷ []) (drop (length (f.done ++ y ∷ [])) q.lines)
+      none_at (seen_by f.seen) (take (length (f.done ++ y ∷ [])) q.lines) (f.done ++ y ∷ [])
+      (drop (length (f.done ++ y ∷ [])) q.lines)
       ∙ (ap (λ (k : ℕ). NewOrderStock (seen_by f.seen) (take k q.lines) (f.done ++ y ∷ []) (drop k q.lines)) more
-      ∙ ap (λ ls. NewOrderStock (seen_by f.seen) ls (f.done ++ y ∷ []) (drop (suc (length f.done)) q.lines)) (front_at q.lines (length f.done) l here))
+      ∙ ap (λ ls. NewOrderStock (seen_by f.seen) ls (f.done ++ y ∷ []) (drop (suc (length f.done)) q.lines))
+      (front_at q.lines (length f.done) l here))
     where
       more : length (f.done ++ y ∷ []) ≡ suc (length f.done)
       more = let both = length-append f.done (y ∷ []) in omega (arith, both)
@@ -90,46 +106,64 @@ module _ (q : NewOrderRequest) (f : Filling) (l : RequestLine) (here : slice_get
 
   -- its two stages
   module _ (s : EngineState) (x : Handle) where
-    pub fills_on : (s' : EngineState) (g : Filled) (k : ℕ) → k ≡ length f.done + 1 → f.filled ≡ None → Fills q x s l k (Ok g) s'
-        → GoesOn s x (request.NewOrder q) (InNewOrder q (line_position q f)) s' (InNewOrder q (line_position q (record { seen = f.seen; done = f.done; filled = Some g })))
+    pub fills_on : (s' : EngineState) (g : Filled) (k : ℕ) → k ≡ length f.done + 1 → f.filled ≡ None
+        → Fills q x s l k (Ok g) s'
+        → GoesOn s x (request.NewOrder q) (InNewOrder q (line_position q f)) s'
+        (InNewOrder q (line_position q (record { seen = f.seen; done = f.done; filled = Some g })))
     fills_on s' g k number none done =
-        subst (λ p. GoesOn s x (request.NewOrder q) (InNewOrder q p) s' (InNewOrder q (line_position q (record { seen = f.seen; done = f.done; filled = Some g })))) (sym (stock_at none))
-        (subst (λ p. GoesOn s x (request.NewOrder q) (InNewOrder q (NewOrderStock (seen_by f.seen) (take (length f.done) q.lines) f.done (l ∷ drop (suc (length f.done)) q.lines))) s' (InNewOrder q p))
+        subst (λ p. GoesOn s x (request.NewOrder q) (InNewOrder q p) s'
+        (InNewOrder q (line_position q (record { seen = f.seen; done = f.done; filled = Some g })))) (sym
+        (stock_at none))
+        (subst (λ p. GoesOn s x (request.NewOrder q)
+        (InNewOrder q (NewOrderStock (seen_by f.seen) (take (length f.done) q.lines) f.done
+        (l ∷ drop (suc (length f.done)) q.lines))) s' (InNewOrder q p))
         (sym (line_next g))
-        (done (seen_by f.seen) (take (length f.done) q.lines) f.done (drop (suc (length f.done)) q.lines) (count_at q.lines (length f.done) l here ∙ sym number)))
+        (done (seen_by f.seen) (take (length f.done) q.lines) f.done (drop (suc (length f.done)) q.lines)
+        (count_at q.lines (length f.done) l here ∙ sym number)))
 
-    pub fill_refused : (s' : EngineState) (e : Refusal) (k : ℕ) → k ≡ length f.done + 1 → f.filled ≡ None → Fills q x s l k (Err e) s'
+    pub fill_refused : (s' : EngineState) (e : Refusal) (k : ℕ) → k ≡ length f.done + 1 → f.filled ≡ None
+        → Fills q x s l k (Err e) s'
         → IsRefused s x (request.NewOrder q) (InNewOrder q (line_position q f)) e
     fill_refused s' e k number none done =
         subst (λ p. IsRefused s x (request.NewOrder q) (InNewOrder q p) e) (sym (stock_at none))
-        (done.0 (seen_by f.seen) (take (length f.done) q.lines) f.done (drop (suc (length f.done)) q.lines) (count_at q.lines (length f.done) l here ∙ sym number))
+        (done.0 (seen_by f.seen) (take (length f.done) q.lines) f.done (drop (suc (length f.done)) q.lines)
+        (count_at q.lines (length f.done) l here ∙ sym number))
 
     asks_none : (g : Filled) → f.filled ≡ Some g → new_order_ask q (line_position q f) (view_of s).rows ≡ Plain
     asks_none g e = ap (λ p. new_order_ask q p (view_of s).rows) (line_at g e)
 
     inserts : (g : Filled) → f.filled ≡ Some g → new_order_act q (line_position q f) (view_of s).rows
-        ≡ Go (Some (InsertOrderLine (line_in (order_in q.district f.seen.order) g.number) g.row)) (InNewOrder q (line_position q (record { seen = f.seen; done = f.done ++ g.reply ∷ []; filled = None })))
+        ≡ Go (Some (InsertOrderLine (line_in (order_in q.district f.seen.order) g.number) g.row))
+        (InNewOrder q (line_position q (record { seen = f.seen; done = f.done ++ g.reply ∷ []; filled = None })))
     inserts g e =
         ap (λ p. new_order_act q p (view_of s).rows) (line_at g e)
-        ∙ ap (λ p. Go (Some (InsertOrderLine (line_in (order_in q.district f.seen.order) g.number) g.row)) (InNewOrder q p)) (sym (line_done g.reply))
+        ∙ ap (λ p. Go (Some (InsertOrderLine (line_in (order_in q.district f.seen.order) g.number) g.row))
+        (InNewOrder q p)) (sym (line_done g.reply))
 
     pub inserts_on : (s' : EngineState) (g : Filled) (u : Unit {0}) → f.filled ≡ Some g
         → Does s x Plain (Some (InsertOrderLine (line_in (order_in q.district f.seen.order) g.number) g.row)) (Ok u) s'
-        → GoesOn s x (request.NewOrder q) (InNewOrder q (line_position q f)) s' (InNewOrder q (line_position q (record { seen = f.seen; done = f.done ++ g.reply ∷ []; filled = None })))
-    inserts_on s' g u e done = done (request.NewOrder q) (InNewOrder q (line_position q f)) (InNewOrder q (line_position q (record { seen = f.seen; done = f.done ++ g.reply ∷ []; filled = None }))) (asks_none g e) (inserts g e)
+        → GoesOn s x (request.NewOrder q) (InNewOrder q (line_position q f)) s'
+        (InNewOrder q (line_position q (record { seen = f.seen; done = f.done ++ g.reply ∷ []; filled = None })))
+    inserts_on s' g u e done = done (request.NewOrder q) (InNewOrder q (line_position q f))
+        (InNewOrder q (line_position q (record { seen = f.seen; done = f.done ++ g.reply ∷ []; filled = None })))
+        (asks_none g e) (inserts g e)
 
     pub insert_refused : (s' : EngineState) (g : Filled) (r : Refusal) → f.filled ≡ Some g
         → Does s x Plain (Some (InsertOrderLine (line_in (order_in q.district f.seen.order) g.number) g.row)) (Err r) s'
         → IsRefused s x (request.NewOrder q) (InNewOrder q (line_position q f)) r
-    insert_refused s' g r e done = done (request.NewOrder q) (InNewOrder q (line_position q f)) (InNewOrder q (line_position q (record { seen = f.seen; done = f.done ++ g.reply ∷ []; filled = None }))) (asks_none g e) (inserts g e)
+    insert_refused s' g r e done = done (request.NewOrder q) (InNewOrder q (line_position q f))
+        (InNewOrder q (line_position q (record { seen = f.seen; done = f.done ++ g.reply ∷ []; filled = None })))
+        (asks_none g e) (inserts g e)
 
 -- all lines are done
 pub end_at : (q : NewOrderRequest) (f : Filling) → slice_get q.lines (length f.done) ≡ None
     → line_position q f ≡ NewOrderStock (seen_by f.seen) (take (length f.done) q.lines) f.done []
 end_at q f e =
-    ap (λ ls. position_at (seen_by f.seen) (take (length f.done) q.lines) f.done f.filled ls) (rest_past q.lines (length f.done) e)
+    ap (λ ls. position_at (seen_by f.seen) (take (length f.done) q.lines) f.done f.filled ls)
+    (rest_past q.lines (length f.done) e)
 
-pub ready_at : (s : EngineState) (x : Handle) (q : NewOrderRequest) (f : Filling) → slice_get q.lines (length f.done) ≡ None → IsOpen s x
+pub ready_at : (s : EngineState) (x : Handle) (q : NewOrderRequest) (f : Filling)
+    → slice_get q.lines (length f.done) ≡ None → IsOpen s x
     → (y : Reply) × IsReady s x (request.NewOrder q) (InNewOrder q (line_position q f)) y
 ready_at s x q f e o =
     subst (λ p. (y : Reply) × IsReady s x (request.NewOrder q) (InNewOrder q p) y) (sym (end_at q f e))
@@ -139,7 +173,8 @@ ready_at s x q f e o =
 pub lines_begin : (q : NewOrderRequest) (s : formulas.Seen) (d : List LineReply) → d ≡ []
     → line_position q (record { seen = s; done = d; filled = None }) ≡ NewOrderStock (seen_by s) [] [] q.lines
 lines_begin q s d e =
-    ap (λ (z : List LineReply). line_position q (record { seen = s; done = z; filled = None })) e ∙ none_at (seen_by s) [] [] q.lines
+    ap (λ (z : List LineReply). line_position q (record { seen = s; done = z; filled = None })) e
+    ∙ none_at (seen_by s) [] [] q.lines
 
 -- held alone, and held
 alone : (o : Option theory.Mode) → IsEnough o theory.Exclusive → o ≡ Some theory.Exclusive
@@ -148,14 +183,20 @@ alone (Some theory.Exclusive) h = refl
 alone (Some theory.Shared) h = absurd h
 
 -- the order's name is held alone at its NEW-ORDER row, and at the ORDER-LINE row of each line
-pub order_at_queue : (v : View) (t : ℕ) (q : NewOrderRequest) (s : Seen) → HoldsAll v t (new_order_taken q (NewOrderQueue s))
+pub order_at_queue : (v : View) (t : ℕ) (q : NewOrderRequest) (s : Seen)
+    → HoldsAll v t (new_order_taken q (NewOrderQueue s))
     → IsSome (v.held t (name.Order (order_in q.district s.order)))
 order_at_queue v t q s h =
-    subst IsSome (sym (alone (v.held t (name.Order (order_in q.district s.order))) (h (name.Order (order_in q.district s.order)) theory.Exclusive (inl (refl, tt))))) refl
+    subst IsSome (sym (alone (v.held t (name.Order (order_in q.district s.order)))
+    (h (name.Order (order_in q.district s.order)) theory.Exclusive (inl (refl, tt))))) refl
 
-pub order_at_line : (v : View) (t : ℕ) (q : NewOrderRequest) (f : Filling) (l : RequestLine) (g : Filled) → slice_get q.lines (length f.done) ≡ Some l
-    → f.filled ≡ Some g → HoldsAll v t (new_order_taken q (line_position q f)) → v.held t (name.Order (order_in q.district f.seen.order)) ≡ Some theory.Exclusive
+pub order_at_line : (v : View) (t : ℕ) (q : NewOrderRequest) (f : Filling) (l : RequestLine) (g : Filled)
+    → slice_get q.lines (length f.done) ≡ Some l
+    → f.filled ≡ Some g → HoldsAll v t (new_order_taken q (line_position q f))
+    → v.held t (name.Order (order_in q.district f.seen.order)) ≡ Some theory.Exclusive
 order_at_line v t q f l g here e h =
     alone (v.held t (name.Order (order_in q.district f.seen.order)))
-    (subst (λ p. HoldsAll v t (new_order_taken q p)) (line_at q f l here g e) h (name.Order (order_in q.district f.seen.order)) theory.Exclusive
-    (inr (holds_more (stock_holds (take (length f.done) q.lines)) _ (name.Order (order_in q.district f.seen.order)) theory.Exclusive (inr (inl (refl, tt))))))
+    (subst (λ p. HoldsAll v t (new_order_taken q p)) (line_at q f l here g e) h
+    (name.Order (order_in q.district f.seen.order)) theory.Exclusive
+    (inr (holds_more (stock_holds (take (length f.done) q.lines)) _ (name.Order (order_in q.district f.seen.order))
+    theory.Exclusive (inr (inl (refl, tt))))))

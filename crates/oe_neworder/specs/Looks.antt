@@ -15,7 +15,8 @@ use Rattle.oe_formulas.specs.Orders.{seen_by}
 use Rattle.oe_model.specs.Keys.{customer_in}
 use Rattle.oe_model.specs.Rows.{Rows}
 use Rattle.oe_model.specs.Changes.{Change}
-use Rattle.oe_model.specs.Positions.{Seen, NewOrderPosition, NewOrderWarehouse, NewOrderDistrict, NewOrderCustomer, NewOrderOrder, NewOrderStock, NewOrderLine, InNewOrder}
+use Rattle.oe_model.specs.Positions.{Seen, NewOrderPosition, NewOrderWarehouse, NewOrderDistrict, NewOrderCustomer}
+use Rattle.oe_model.specs.Positions.{NewOrderOrder, NewOrderStock, NewOrderLine, InNewOrder}
 use Rattle.oe_model.specs.NewOrder.{new_order_ask, new_order_act}
 use Rattle.oe_engine.specs.Stages.{is_failure}
 use Rattle.oe_neworder.specs.Program.{filled_by}

@@ -5,7 +5,8 @@ use Rattle.oe_requests.specs.declared.requests.NewOrderRequest.{NewOrderRequest}
 use Rattle.oe_requests.specs.declared.replies.LineReply.{LineReply}
 use Rattle.oe_formulas.specs.Orders.{seen_by}
 use Rattle.oe_model.specs.Positions as model
-use Rattle.oe_model.specs.Positions.{NewOrderPosition, NewOrderWarehouse, NewOrderDistrict, NewOrderCustomer, NewOrderOrder, NewOrderQueue, NewOrderStock, NewOrderLine}
+use Rattle.oe_model.specs.Positions.{NewOrderPosition, NewOrderWarehouse, NewOrderDistrict, NewOrderCustomer}
+use Rattle.oe_model.specs.Positions.{NewOrderOrder, NewOrderQueue, NewOrderStock, NewOrderLine}
 use Rattle.oe_neworder.specs.declared.fillings.Filled.{Filled}
 use Rattle.oe_neworder.specs.declared.fillings.Filling.{Filling}
 use Rattle.oe_neworder.specs.declared.programs.Program.{Program}
@@ -15,7 +16,8 @@ use Rattle.oe_neworder.specs.declared.programs.Program.TheVariants as program
 abbrev pub filled_by : Filled → model.Filled
 filled_by f = record { number = f.number; row = f.row; reply = f.reply }
 
--- before the stock of the first line to come, or, where that was taken, before its ORDER-LINE row; at the end no line is to come
+-- before the stock of the first line to come, or, where that was taken, before its ORDER-LINE row; at the end no line
+-- is to come
 abbrev pub position_at : model.Seen → List RequestLine → List LineReply → Option Filled
     → List RequestLine → NewOrderPosition
 position_at s before done f [] = NewOrderStock s before done []

@@ -1,5 +1,6 @@
 -- Whose segments are open, by how many are.
-use Rattle.std.proofs.Common.{◌≡◌, ◌≢◌, ℕ, zero, suc, ◌+◌, refl, sym, ap, ◌∙◌, subst, arith, cond, List, [], ◌∷◌, get_or, Option, None, Some, is_some, IsSome, inl, inr}
+use Rattle.std.proofs.Common.{◌≡◌, ◌≢◌, ℕ, zero, suc, ◌+◌, refl, sym, ap, ◌∙◌, subst, arith, cond, List, [], ◌∷◌}
+use Rattle.std.proofs.Common.{get_or, Option, None, Some, is_some, IsSome, inl, inr}
 use Rattle.std.specs.Prelude.{◌⊎◌}
 use Rattle.std.specs.List.{sum_by}
 use Rattle.std.proofs.lemmas.List.Sums.{sum_by-cons}
@@ -43,10 +44,12 @@ rest_of_one : (a : Option Open) (n : ℕ) → one a + n ≡ 1 → (n ≡ 0) ⊎ 
 rest_of_one None n e = inr (refl, omega arith)
 rest_of_one (Some o) n e = inl (omega arith)
 
-only_among : (ss : List TerminalState) (t s : ℕ) → open_among ss ≡ 1 → IsSome (get_or ss t idle).active → s ≢ t → (get_or ss s idle).active ≡ None
+only_among : (ss : List TerminalState) (t s : ℕ) → open_among ss ≡ 1 → IsSome (get_or ss t idle).active → s ≢ t
+    → (get_or ss s idle).active ≡ None
 only_among [] t s e some other = refl
 only_among (x ∷ ss) zero zero e some other = absurd (other refl)
-only_among (x ∷ ss) zero (suc s) e some other = none_among ss (rest_of_some x.active (open_among ss) some (cons x ss ∙ e)) s
+only_among (x ∷ ss) zero (suc s) e some other =
+    none_among ss (rest_of_some x.active (open_among ss) some (cons x ss ∙ e)) s
 only_among (x ∷ ss) (suc t) zero e some other =
     elim (rest_of_one x.active (open_among ss) (cons x ss ∙ e)) [
       | inl none ↦
@@ -61,6 +64,7 @@ only_among (x ∷ ss) (suc t) (suc s) e some other =
     ]
 
 -- where one is counted, the terminal whose it is is alone with each key
-pub only_one_is_alone : (u : SegmentLog) (t : ℕ) → open_total u ≡ 1 → IsSome (active_at u t) → (key : Key) → IsAlone u t key
+pub only_one_is_alone : (u : SegmentLog) (t : ℕ) → open_total u ≡ 1 → IsSome (active_at u t) → (key : Key)
+    → IsAlone u t key
 only_one_is_alone u t e some key s other =
     subst (λ a. HaveNone key (model_records (records_in a))) (sym (only_among u.terminals t s e some other)) tt

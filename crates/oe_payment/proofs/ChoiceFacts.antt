@@ -15,7 +15,8 @@ use Rattle.oe_model.proofs.MiddleFacts.{name_is_middle}
 use Rattle.oe_payment.specs.Choice.{meant}
 
 -- the payment is of the customer of that C_ID, which has that row
-pub record IsChosen (q : PaymentRequest) (customers : FinMap customer_cmp Customer) (c : ℕ) (x : Customer) : Type 0 where
+pub record IsChosen (q : PaymentRequest) (customers : FinMap customer_cmp Customer) (c : ℕ) (x : Customer) : Type
+    0 where
   pub number : chosen q.customer_district q.customer customers ≡ Some c
   pub row : get customers (customer_in q.customer_district c) ≡ Some x
 
@@ -24,15 +25,19 @@ module _ (h : DistrictKey) (m : FinMap customer_cmp Customer) where
   nobody_of (Number c) e = let no : ⊥ = cc in absurd no
   nobody_of (LastName last) e = e
 
-  absent_of : (who : CustomerChoice) (n : ℕ) → meant h who m ≡ Some n → get m (customer_in h n) ≡ None → chosen h who m ≡ None
-  absent_of (Number c) n e row = subst (λ k. chosen h (Number k) m ≡ None) (sym (some_same c n e)) (ap (option_map (λ x. n)) row)
+  absent_of : (who : CustomerChoice) (n : ℕ) → meant h who m ≡ Some n → get m (customer_in h n) ≡ None
+      → chosen h who m ≡ None
+  absent_of (Number c) n e row = subst (λ k. chosen h (Number k) m ≡ None) (sym (some_same c n e))
+      (ap (option_map (λ x. n)) row)
   absent_of (LastName last) n e row =
       let there = name_is_middle.some m h last n e in
       let both : Some there.0 ≡ None = sym there.1 ∙ row in
       let no : ⊥ = cc in absurd no
 
-  found_of : (who : CustomerChoice) (n : ℕ) (z : Customer) → meant h who m ≡ Some n → get m (customer_in h n) ≡ Some z → chosen h who m ≡ Some n
-  found_of (Number c) n z e row = subst (λ k. chosen h (Number k) m ≡ Some n) (sym (some_same c n e)) (ap (option_map (λ x. n)) row)
+  found_of : (who : CustomerChoice) (n : ℕ) (z : Customer) → meant h who m ≡ Some n → get m (customer_in h n) ≡ Some z
+      → chosen h who m ≡ Some n
+  found_of (Number c) n z e row = subst (λ k. chosen h (Number k) m ≡ Some n) (sym (some_same c n e))
+      (ap (option_map (λ x. n)) row)
   found_of (LastName last) n z e row = e
 
 module _ (q : PaymentRequest) (m : FinMap customer_cmp Customer) where
@@ -41,9 +46,11 @@ module _ (q : PaymentRequest) (m : FinMap customer_cmp Customer) where
   nobody e = nobody_of q.customer_district m q.customer e
 
   -- the number that is given has no row
-  pub absent : (n : ℕ) → meant q.customer_district q.customer m ≡ Some n → get m (customer_in q.customer_district n) ≡ None
+  pub absent : (n : ℕ) → meant q.customer_district q.customer m ≡ Some n
+      → get m (customer_in q.customer_district n) ≡ None
       → chosen q.customer_district q.customer m ≡ None
   absent n e row = absent_of q.customer_district m q.customer n e row
 
-  pub found : (n : ℕ) (z : Customer) → meant q.customer_district q.customer m ≡ Some n → get m (customer_in q.customer_district n) ≡ Some z → IsChosen q m n z
+  pub found : (n : ℕ) (z : Customer) → meant q.customer_district q.customer m ≡ Some n
+      → get m (customer_in q.customer_district n) ≡ Some z → IsChosen q m n z
   found n z e row = record { number = found_of q.customer_district m q.customer n z e row; row = row }

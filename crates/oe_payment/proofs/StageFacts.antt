@@ -23,8 +23,10 @@ use Rattle.oe_model.specs.Keys.{warehouse_of_district, customer_in}
 use Rattle.oe_model.specs.Changes.{InsertHistory, UpdateWarehouse, UpdateDistrict, UpdateCustomer}
 use Rattle.oe_model.specs.Choice.{chosen}
 use Rattle.oe_model.specs.Effects.{Doing, given, within}
-use Rattle.oe_model.specs.Positions.{PaymentWarehouse, PaymentDistrict, PaymentCustomer, PaymentHistory, PaymentEnd, InPayment}
-use Rattle.oe_model.specs.Payment.{paid_warehouse, paid_warehouse_out, paid_district, paid_district_out, paid_customer, paid_customer_out, history_data, history_row, history_key, paid_reply}
+use Rattle.oe_model.specs.Positions.{PaymentWarehouse, PaymentDistrict, PaymentCustomer, PaymentHistory, PaymentEnd}
+use Rattle.oe_model.specs.Positions.{InPayment}
+use Rattle.oe_model.specs.Payment.{paid_warehouse, paid_warehouse_out, paid_district, paid_district_out, paid_customer}
+use Rattle.oe_model.specs.Payment.{paid_customer_out, history_data, history_row, history_key, paid_reply}
 use Rattle.oe_change.specs.declared.writes.Write.TheVariants as write
 use Rattle.oe_formulas.specs.Checks.{checked, paid_with}
 use Rattle.oe_engine.specs.View.{EngineState, view_of, Handle}
@@ -38,38 +40,47 @@ module _ {A : Type 0} (out : A → Option Column) (x : A) (d : A → Doing) wher
   goes_within : (after : A) → ◌≡◌ {A = Result A Column} (Ok after) (checked out x) → within (out x) (d x) ≡ d after
   goes_within after e = go (out x) e
     where
-      go : (o : Option Column) → ◌≡◌ {A = Result A Column} (Ok after) (elim o [ None ↦ Ok x | Some c ↦ Err c ]) → within o (d x) ≡ d after
+      go : (o : Option Column) → ◌≡◌ {A = Result A Column} (Ok after) (elim o [ None ↦ Ok x | Some c ↦ Err c ])
+          → within o (d x) ≡ d after
       go None e = let same : after ≡ x = cc in ap d (sym same)
       go (Some c) e = let no : ⊥ = cc in absurd no
 
-  fails_within : (c : Column) → ◌≡◌ {A = Result A Column} (Err c) (checked out x) → within (out x) (d x) ≡ Fail (Overflow c)
+  fails_within : (c : Column) → ◌≡◌ {A = Result A Column} (Err c) (checked out x)
+      → within (out x) (d x) ≡ Fail (Overflow c)
   fails_within c e = go (out x) e
     where
-      go : (o : Option Column) → ◌≡◌ {A = Result A Column} (Err c) (elim o [ None ↦ Ok x | Some b ↦ Err b ]) → within o (d x) ≡ Fail (Overflow c)
+      go : (o : Option Column) → ◌≡◌ {A = Result A Column} (Err c) (elim o [ None ↦ Ok x | Some b ↦ Err b ])
+          → within o (d x) ≡ Fail (Overflow c)
       go None e = let no : ⊥ = cc in absurd no
       go (Some b) e = let same : c ≡ b = cc in ap (λ z. Fail (Overflow z)) (sym same)
 
 module _ (q : PaymentRequest) (x : Handle) (s : EngineState) where
   -- WAREHOUSE
   abbrev on_warehouse : Warehouse → Warehouse → Doing
-  on_warehouse w after = Go (Some (UpdateWarehouse (warehouse_of_district q.district) after)) (InPayment q (PaymentDistrict w.name))
+  on_warehouse w after = Go (Some (UpdateWarehouse (warehouse_of_district q.district) after))
+      (InPayment q (PaymentDistrict w.name))
 
   abbrev do_warehouse : Warehouse → Doing
   do_warehouse w = within (paid_warehouse_out (paid_warehouse q w)) (on_warehouse w (paid_warehouse q w))
 
   pub warehouse_absent : get (view_of s).rows.warehouses (warehouse_of_district q.district) ≡ None
-      → act_here s x (request.Payment q) (InPayment q PaymentWarehouse) ≡ Fail (NoSuchRow (key.Warehouse (warehouse_of_district q.district)))
+      → act_here s x (request.Payment q) (InPayment q PaymentWarehouse) ≡ Fail
+      (NoSuchRow (key.Warehouse (warehouse_of_district q.district)))
   warehouse_absent e = ap (λ o. given (NoSuchRow (key.Warehouse (warehouse_of_district q.district))) o do_warehouse) e
 
-  pub warehouse_fails : (w : Warehouse) (c : Column) → get (view_of s).rows.warehouses (warehouse_of_district q.district) ≡ Some w
-      → Err c ≡ checked paid_warehouse_out (paid_warehouse q w) → act_here s x (request.Payment q) (InPayment q PaymentWarehouse) ≡ Fail (Overflow c)
+  pub warehouse_fails : (w : Warehouse) (c : Column)
+      → get (view_of s).rows.warehouses (warehouse_of_district q.district) ≡ Some w
+      → Err c ≡ checked paid_warehouse_out (paid_warehouse q w)
+      → act_here s x (request.Payment q) (InPayment q PaymentWarehouse) ≡ Fail (Overflow c)
   warehouse_fails w c e out =
       ap (λ o. given (NoSuchRow (key.Warehouse (warehouse_of_district q.district))) o do_warehouse) e
       ∙ fails_within paid_warehouse_out (paid_warehouse q w) (on_warehouse w) c out
 
-  pub warehouse_stage : (w : Warehouse) (y : ℕ) → get (view_of s).rows.warehouses (warehouse_of_district q.district) ≡ Some w
+  pub warehouse_stage : (w : Warehouse) (y : ℕ)
+      → get (view_of s).rows.warehouses (warehouse_of_district q.district) ≡ Some w
       → Ok (record w { ytd = y }) ≡ checked paid_warehouse_out (paid_warehouse q w)
-      → IsStage q x s PaymentWarehouse (write.WarehouseYtd (warehouse_of_district q.district) y) (UpdateWarehouse (warehouse_of_district q.district) (record w { ytd = y })) (PaymentDistrict w.name)
+      → IsStage q x s PaymentWarehouse (write.WarehouseYtd (warehouse_of_district q.district) y)
+      (UpdateWarehouse (warehouse_of_district q.district) (record w { ytd = y })) (PaymentDistrict w.name)
   warehouse_stage w y e within_range = record {
     asks = refl;
     does = ap (λ o. given (NoSuchRow (key.Warehouse (warehouse_of_district q.district))) o do_warehouse) e
@@ -86,17 +97,21 @@ module _ (q : PaymentRequest) (x : Handle) (s : EngineState) where
     do_district d = within (paid_district_out (paid_district q d)) (on_district d (paid_district q d))
 
     pub district_absent : get (view_of s).rows.districts q.district ≡ None
-        → act_here s x (request.Payment q) (InPayment q (PaymentDistrict name_of)) ≡ Fail (NoSuchRow (key.District q.district))
+        → act_here s x (request.Payment q) (InPayment q (PaymentDistrict name_of)) ≡ Fail
+        (NoSuchRow (key.District q.district))
     district_absent e = ap (λ o. given (NoSuchRow (key.District q.district)) o do_district) e
 
     pub district_fails : (d : District) (c : Column) → get (view_of s).rows.districts q.district ≡ Some d
-        → Err c ≡ checked paid_district_out (paid_district q d) → act_here s x (request.Payment q) (InPayment q (PaymentDistrict name_of)) ≡ Fail (Overflow c)
+        → Err c ≡ checked paid_district_out (paid_district q d)
+        → act_here s x (request.Payment q) (InPayment q (PaymentDistrict name_of)) ≡ Fail (Overflow c)
     district_fails d c e out =
-        ap (λ o. given (NoSuchRow (key.District q.district)) o do_district) e ∙ fails_within paid_district_out (paid_district q d) (on_district d) c out
+        ap (λ o. given (NoSuchRow (key.District q.district)) o do_district) e
+        ∙ fails_within paid_district_out (paid_district q d) (on_district d) c out
 
     pub district_stage : (d : District) (y : ℕ) → get (view_of s).rows.districts q.district ≡ Some d
         → Ok (record d { ytd = y }) ≡ checked paid_district_out (paid_district q d)
-        → IsStage q x s (PaymentDistrict name_of) (write.DistrictYtd q.district y) (UpdateDistrict q.district (record d { ytd = y })) (PaymentCustomer name_of d.name)
+        → IsStage q x s (PaymentDistrict name_of) (write.DistrictYtd q.district y)
+        (UpdateDistrict q.district (record d { ytd = y })) (PaymentCustomer name_of d.name)
     district_stage d y e within_range = record {
       asks = refl;
       does = ap (λ o. given (NoSuchRow (key.District q.district)) o do_district) e
@@ -107,10 +122,15 @@ module _ (q : PaymentRequest) (x : Handle) (s : EngineState) where
   -- CUSTOMER
   module _ (w d : List ℕ) where
     abbrev lock_of : Option ℕ → Ask Name Refusal
-    lock_of o = elim o [ None ↦ Stop NoCustomer | Some c ↦ Take (name.Customer (customer_in q.customer_district c)) Exclusive ]
+    lock_of o = elim o [
+      | None ↦ Stop NoCustomer
+      | Some c ↦ Take (name.Customer (customer_in q.customer_district c))
+          Exclusive
+    ]
 
     abbrev on_customer : ℕ → Customer → Doing
-    on_customer c after = Go (Some (UpdateCustomer (customer_in q.customer_district c) after)) (InPayment q (PaymentHistory (history_data w d) (paid_reply c after)))
+    on_customer c after = Go (Some (UpdateCustomer (customer_in q.customer_district c) after))
+        (InPayment q (PaymentHistory (history_data w d) (paid_reply c after)))
 
     abbrev do_customer : ℕ → Customer → Doing
     do_customer c z = within (paid_customer_out (paid_customer c q z)) (on_customer c (paid_customer c q z))
@@ -118,38 +138,49 @@ module _ (q : PaymentRequest) (x : Handle) (s : EngineState) where
     abbrev do_chosen : ℕ → Doing
     do_chosen c = given NoCustomer (get (view_of s).rows.customers (customer_in q.customer_district c)) (do_customer c)
 
-    customer_stops : chosen q.customer_district q.customer (view_of s).rows.customers ≡ None → ask_here s x (request.Payment q) (InPayment q (PaymentCustomer w d)) ≡ Stop NoCustomer
+    customer_stops : chosen q.customer_district q.customer (view_of s).rows.customers ≡ None
+        → ask_here s x (request.Payment q) (InPayment q (PaymentCustomer w d)) ≡ Stop NoCustomer
     customer_stops e = ap lock_of e
 
-    pub nobody_stops : meant q.customer_district q.customer (view_of s).rows.customers ≡ None → ask_here s x (request.Payment q) (InPayment q (PaymentCustomer w d)) ≡ Stop NoCustomer
+    pub nobody_stops : meant q.customer_district q.customer (view_of s).rows.customers ≡ None
+        → ask_here s x (request.Payment q) (InPayment q (PaymentCustomer w d)) ≡ Stop NoCustomer
     nobody_stops e = customer_stops (nobody q (view_of s).rows.customers e)
 
     pub absent_stops : (n : ℕ) → meant q.customer_district q.customer (view_of s).rows.customers ≡ Some n
-        → get (view_of s).rows.customers (customer_in q.customer_district n) ≡ None → ask_here s x (request.Payment q) (InPayment q (PaymentCustomer w d)) ≡ Stop NoCustomer
+        → get (view_of s).rows.customers (customer_in q.customer_district n) ≡ None
+        → ask_here s x (request.Payment q) (InPayment q (PaymentCustomer w d)) ≡ Stop NoCustomer
     absent_stops n e row = customer_stops (absent q (view_of s).rows.customers n e row)
 
     module _ (n : ℕ) (z : Customer) (h : IsChosen q (view_of s).rows.customers n z) where
-      pub customer_asks : ask_here s x (request.Payment q) (InPayment q (PaymentCustomer w d)) ≡ Take (name.Customer (customer_in q.customer_district n)) Exclusive
+      pub customer_asks : ask_here s x (request.Payment q) (InPayment q (PaymentCustomer w d)) ≡ Take
+          (name.Customer (customer_in q.customer_district n)) Exclusive
       customer_asks = ap lock_of h.number
 
       does_customer : act_here s x (request.Payment q) (InPayment q (PaymentCustomer w d)) ≡ do_customer n z
-      does_customer = ap (λ o. given NoCustomer o do_chosen) h.number ∙ ap (λ o. given NoCustomer o (do_customer n)) h.row
+      does_customer = ap (λ o. given NoCustomer o do_chosen) h.number
+          ∙ ap (λ o. given NoCustomer o (do_customer n)) h.row
 
       pub customer_fails : (c : Column) → Err c ≡ checked paid_customer_out (paid_customer n q z)
           → act_here s x (request.Payment q) (InPayment q (PaymentCustomer w d)) ≡ Fail (Overflow c)
       customer_fails c out = does_customer ∙ fails_within paid_customer_out (paid_customer n q z) (on_customer n) c out
 
-      module _ (a : Account) (within_range : Ok (paid_with n q z a) ≡ checked paid_customer_out (paid_customer n q z)) where
-        goes_customer : act_here s x (request.Payment q) (InPayment q (PaymentCustomer w d)) ≡ on_customer n (paid_with n q z a)
-        goes_customer = does_customer ∙ goes_within paid_customer_out (paid_customer n q z) (on_customer n) (paid_with n q z a) within_range
+      module _ (a : Account)
+          (within_range : Ok (paid_with n q z a) ≡ checked paid_customer_out (paid_customer n q z)) where
+        goes_customer : act_here s x (request.Payment q) (InPayment q (PaymentCustomer w d)) ≡ on_customer n
+            (paid_with n q z a)
+        goes_customer = does_customer ∙ goes_within paid_customer_out (paid_customer n q z) (on_customer n)
+            (paid_with n q z a) within_range
 
         -- of good credit, whose data stay
         pub good_stage : z.credit ≡ Good
-            → IsStage q x s (PaymentCustomer w d) (write.CustomerAccount (customer_in q.customer_district n) a) (UpdateCustomer (customer_in q.customer_district n) (paid_with n q z a)) (PaymentHistory (history_data w d) (paid_reply n (paid_with n q z a)))
+            → IsStage q x s (PaymentCustomer w d) (write.CustomerAccount (customer_in q.customer_district n) a)
+            (UpdateCustomer (customer_in q.customer_district n) (paid_with n q z a))
+            (PaymentHistory (history_data w d) (paid_reply n (paid_with n q z a)))
         good_stage good = record {
           asks = customer_asks;
           does = goes_customer;
-          written = ap (option_map (λ y. UpdateCustomer (customer_in q.customer_district n) (record y { account = a }))) h.row ∙ ap (λ y. Some (UpdateCustomer (customer_in q.customer_district n) y)) (good_data good);
+          written = ap (option_map (λ y. UpdateCustomer (customer_in q.customer_district n) (record y { account = a })))
+              h.row ∙ ap (λ y. Some (UpdateCustomer (customer_in q.customer_district n) y)) (good_data good);
         }
           where
             good_data : z.credit ≡ Good → record z { account = a } ≡ paid_with n q z a
@@ -157,22 +188,30 @@ module _ (q : PaymentRequest) (x : Handle) (s : EngineState) where
 
         -- and of bad credit
         pub bad_stage : (entry : List ℕ) → z.credit ≡ Bad
-            → entry ≡ credit_entry (record { customer = customer_in q.customer_district n; district = q.district }) q.amount
-            → IsStage q x s (PaymentCustomer w d) (write.BadCredit (customer_in q.customer_district n) a entry) (UpdateCustomer (customer_in q.customer_district n) (paid_with n q z a)) (PaymentHistory (history_data w d) (paid_reply n (paid_with n q z a)))
+            → entry ≡ credit_entry (record { customer = customer_in q.customer_district n; district = q.district })
+            q.amount
+            → IsStage q x s (PaymentCustomer w d) (write.BadCredit (customer_in q.customer_district n) a entry)
+            (UpdateCustomer (customer_in q.customer_district n) (paid_with n q z a))
+            (PaymentHistory (history_data w d) (paid_reply n (paid_with n q z a)))
         bad_stage entry bad is = record {
           asks = customer_asks;
           does = goes_customer;
-          written = ap (option_map (λ y. UpdateCustomer (customer_in q.customer_district n) (with_entry a entry y))) h.row ∙ ap (λ y. Some (UpdateCustomer (customer_in q.customer_district n) y)) (bad_data bad is);
+          written = ap (option_map (λ y. UpdateCustomer (customer_in q.customer_district n) (with_entry a entry y)))
+              h.row ∙ ap (λ y. Some (UpdateCustomer (customer_in q.customer_district n) y)) (bad_data bad is);
         }
           where
-            bad_data : z.credit ≡ Bad → entry ≡ credit_entry (record { customer = customer_in q.customer_district n; district = q.district }) q.amount
+            bad_data : z.credit ≡ Bad
+                → entry ≡ credit_entry (record { customer = customer_in q.customer_district n; district = q.district })
+                q.amount
                 → with_entry a entry z ≡ paid_with n q z a
             bad_data bad is = rw (bad, is) refl
 
   -- HISTORY
   pub history_stage : (joined : List ℕ) (y : PaymentReply) (row : History) → row ≡ history_row q y.customer joined
-      → IsStage q x s (PaymentHistory joined y) (write.InsertHistory (history_key x.terminal (suc ((view_of s).counts x.terminal))) row)
-      (InsertHistory (history_key x.terminal (suc ((view_of s).counts x.terminal))) (history_row q y.customer joined)) (PaymentEnd y)
+      → IsStage q x s (PaymentHistory joined y)
+      (write.InsertHistory (history_key x.terminal (suc ((view_of s).counts x.terminal))) row)
+      (InsertHistory (history_key x.terminal (suc ((view_of s).counts x.terminal))) (history_row q y.customer joined))
+      (PaymentEnd y)
   history_stage joined y row is = record {
     asks = refl;
     does = refl;

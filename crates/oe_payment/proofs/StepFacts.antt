@@ -8,7 +8,8 @@ use Rattle.oe_model.specs.Changes.{Change}
 use Rattle.oe_requests.specs.declared.requests.PaymentRequest.{PaymentRequest}
 use Rattle.oe_requests.specs.declared.requests.Request.TheVariants as request
 use Rattle.oe_model.specs.Meets.{Accepts}
-use Rattle.oe_model.specs.Positions.{PaymentPosition, PaymentWarehouse, PaymentDistrict, PaymentCustomer, PaymentHistory, PaymentEnd, InPayment}
+use Rattle.oe_model.specs.Positions.{PaymentPosition, PaymentWarehouse, PaymentDistrict, PaymentCustomer}
+use Rattle.oe_model.specs.Positions.{PaymentHistory, PaymentEnd, InPayment}
 use Rattle.oe_change.specs.declared.writes.Write.{Write}
 use Rattle.oe_engine.specs.View.{EngineState, view_of, Handle, IsOpen}
 use Rattle.oe_engine.specs.Calls.{IsFree, IsFullFor, stage_done, StageRefused}
@@ -24,7 +25,8 @@ use Rattle.oe_payment.specs.Program.{position_at, position_in}
 use Rattle.oe_payment.specs.Stages.{IsStage, Does, stage_after}
 
 -- a payment at its end is ready
-pub is_ready : (s : EngineState) (x : Handle) (q : PaymentRequest) (p : PaymentPosition) → IsOpen s x → IsSome (payment_reply p)
+pub is_ready : (s : EngineState) (x : Handle) (q : PaymentRequest) (p : PaymentPosition) → IsOpen s x
+    → IsSome (payment_reply p)
     → (y : Reply) × IsReady s x (request.Payment q) (InPayment q p) y
 is_ready s x q (PaymentEnd y) o h = (reply.Payment y, record { is_open = o; free = tt; does = refl })
 is_ready s x q PaymentWarehouse o h = let no : ⊥ = cc in absurd no
@@ -33,24 +35,33 @@ is_ready s x q (PaymentCustomer w d) o h = let no : ⊥ = cc in absurd no
 is_ready s x q (PaymentHistory d y) o h = let no : ⊥ = cc in absurd no
 
 -- a stage that was done, and one that was refused
-pub goes_on : (s s' : EngineState) (x : Handle) (q : PaymentRequest) (p p' : PaymentPosition) (w : Write) (c : Change) → IsStage q x s p w c p'
-    → IsOpen s x → IsFree (view_of s) x.terminal (ask_of_write w) → Accepts c (view_of s).rows → (IsFullFor (view_of s) x.terminal c → ⊥)
+pub goes_on : (s s' : EngineState) (x : Handle) (q : PaymentRequest) (p p' : PaymentPosition) (w : Write) (c : Change)
+    → IsStage q x s p w c p'
+    → IsOpen s x → IsFree (view_of s) x.terminal (ask_of_write w) → Accepts c (view_of s).rows
+    → (IsFullFor (view_of s) x.terminal c → ⊥)
     → view_of s' ≡ stage_done x.terminal (ask_of_write w) (Some c) (view_of s) → s'.name ≡ s.name
     → GoesOn s x (request.Payment q) (InPayment q p) s' (InPayment q p')
 goes_on s s' x q p p' w c d o free accepted room done same =
-    stages.goes_on s s' x (ask_of_write w) (Some c) o free accepted room done same (request.Payment q) (InPayment q p) (InPayment q p') d.asks d.does
+    stages.goes_on s s' x (ask_of_write w) (Some c) o free accepted room done same (request.Payment q) (InPayment q p)
+    (InPayment q p') d.asks d.does
 
-pub is_refused : (s : EngineState) (x : Handle) (q : PaymentRequest) (p p' : PaymentPosition) (w : Write) (c : Change) → IsStage q x s p w c p'
-    → (e : Refusal) → stages.IsRoom s x c (ask_of_write w) e → StageRefused s x (ask_of_write w) (Some c) e → IsRefused s x (request.Payment q) (InPayment q p) e
+pub is_refused : (s : EngineState) (x : Handle) (q : PaymentRequest) (p p' : PaymentPosition) (w : Write) (c : Change)
+    → IsStage q x s p w c p'
+    → (e : Refusal) → stages.IsRoom s x c (ask_of_write w) e → StageRefused s x (ask_of_write w) (Some c) e
+    → IsRefused s x (request.Payment q) (InPayment q p) e
 is_refused s x q p p' w c d e room h =
-    stages.refused_change s x (ask_of_write w) c e room h (request.Payment q) (InPayment q p) (InPayment q p') d.asks d.does
+    stages.refused_change s x (ask_of_write w) c e room h (request.Payment q) (InPayment q p) (InPayment q p') d.asks
+    d.does
 
 -- a stage of a payment whose names and reply may have been written: they count once it is done
-pub carried : (q : PaymentRequest) (x : Handle) (s s' : EngineState) (p p' : PaymentPosition) (old : Position) (next : Stage) (at : Stage → Position) (r : Progress)
+pub carried : (q : PaymentRequest) (x : Handle) (s s' : EngineState) (p p' : PaymentPosition) (old : Position)
+    (next : Stage) (at : Stage → Position) (r : Progress)
     → position_in old ≡ p → position_in (at old.stage) ≡ p → position_in (at next) ≡ p' → Does q x s p r s' p'
-    → Progresses (request.Payment q) x s (InPayment q (position_in old)) r s' (InPayment q (position_in (at (stage_after next r old.stage))))
+    → Progresses (request.Payment q) x s (InPayment q (position_in old)) r s'
+    (InPayment q (position_in (at (stage_after next r old.stage))))
 carried q x s s' p p' old next at progress.More e f g h =
-    subst (λ (z : PaymentPosition). GoesOn s x (request.Payment q) (InPayment q z) s' (InPayment q (position_in (at next)))) (sym e)
+    subst (λ (z : PaymentPosition). GoesOn s x (request.Payment q) (InPayment q z) s'
+    (InPayment q (position_in (at next)))) (sym e)
     (subst (λ (z : PaymentPosition). GoesOn s x (request.Payment q) (InPayment q p) s' (InPayment q z)) (sym g) h)
 carried q x s s' p p' old next at progress.Ready e f g h = absurd h
 carried q x s s' p p' old next at (progress.Refused why) e f g h = (
@@ -62,4 +73,8 @@ carried q x s s' p p' old next at (progress.Refused why) e f g h = (
 
 pub ready_at_end : (q : PaymentRequest) (x : Handle) (s : EngineState) (p : Position) → IsOpen s x → p.stage ≡ stage.End
     → Progresses (request.Payment q) x s (InPayment q (position_in p)) progress.Ready s (InPayment q (position_in p))
-ready_at_end q x s p o e = (is_ready s x q (position_in p) o (subst (λ (k : Stage). IsSome (payment_reply (position_at k p))) (sym e) refl), refl, refl)
+ready_at_end q x s p o e = (
+  is_ready s x q (position_in p) o (subst (λ (k : Stage). IsSome (payment_reply (position_at k p))) (sym e) refl),
+  refl,
+  refl,
+)

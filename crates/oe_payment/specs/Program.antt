@@ -1,6 +1,7 @@
 -- What a payment's program stands for.
 use Rattle.oe_model.specs.Payment.{history_data}
-use Rattle.oe_model.specs.Positions.{PaymentPosition, PaymentWarehouse, PaymentDistrict, PaymentCustomer, PaymentHistory, PaymentEnd}
+use Rattle.oe_model.specs.Positions.{PaymentPosition, PaymentWarehouse, PaymentDistrict, PaymentCustomer}
+use Rattle.oe_model.specs.Positions.{PaymentHistory, PaymentEnd}
 use Rattle.oe_payment.specs.declared.positions.Position.{Position}
 use Rattle.oe_payment.specs.declared.positions.Stage.{Stage}
 use Rattle.oe_payment.specs.declared.positions.Stage.TheVariants as stage

@@ -26,8 +26,10 @@ is_failure _ = false
 abbrev pub IsRefusedHere : PaymentRequest → Handle → EngineState → PaymentPosition → Refusal → Type 0
 IsRefusedHere q x s p e = IsRefused s x (request.Payment q) (InPayment q p) e
 
--- the stage at this position is done, and the payment goes on at another; or it is refused, and the engine stands for what it did
-abbrev pub Does : PaymentRequest → Handle → EngineState → PaymentPosition → Progress → EngineState → PaymentPosition → Type 0
+-- the stage at this position is done, and the payment goes on at another; or it is refused, and the engine stands for
+-- what it did
+abbrev pub Does : PaymentRequest → Handle → EngineState → PaymentPosition → Progress → EngineState → PaymentPosition
+    → Type 0
 Does q x s p progress.More s' p' = GoesOn s x (request.Payment q) (InPayment q p) s' (InPayment q p')
 Does q x s p progress.Ready s' p' = ⊥
 Does q x s p (progress.Refused e) s' p' = IsRefusedHere q x s p e × (view_of s' ≡ view_of s) × (s'.name ≡ s.name)
@@ -38,7 +40,8 @@ stage_after next progress.More now = next
 stage_after next progress.Ready now = now
 stage_after next (progress.Refused e) now = now
 
--- the stage at this position asks for the lock of the write, makes the change that the write is, and the payment goes on
+-- the stage at this position asks for the lock of the write, makes the change that the write is, and the payment goes
+-- on
 pub record IsStage (q : PaymentRequest) (x : Handle) (s : EngineState) (p : PaymentPosition)
     (w : Write) (c : Change) (p' : PaymentPosition) : Type 0 where
   pub asks : ask_here s x (request.Payment q) (InPayment q p) ≡ ask_of_write w

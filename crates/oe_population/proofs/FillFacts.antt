@@ -67,12 +67,15 @@ module _ {K X : Type 0} {R : K → K → Ordering} (row : K → X) where
   pub fills_none : (test : K → Bool) (m : FinMap R X) → ((k : K) → test k ≡ false) → Fills test row m m
   fills_none test m none k = rw (none k) refl
 
-  pub fills_by : (test other : K → Bool) (old new : FinMap R X) → ((k : K) → other k ≡ test k) → Fills test row old new → Fills other row old new
+  pub fills_by : (test other : K → Bool) (old new : FinMap R X) → ((k : K) → other k ≡ test k) → Fills test row old new
+      → Fills other row old new
   fills_by test other old new same fills k = fills k ∙ ap (λ b. cond b (Some (row k)) (get old k)) (sym (same k))
 
   -- one row is put
-  pub fills_put : IsTotalOrder R → IsAntisymmetric R → (old new : FinMap R X) (key : K) → new ≡ insert old key (row key) → Fills (λ k. eq_by_cmp R k key) row old new
-  fills_put total exact old new key is k = ap (λ m. get m k) is ∙ get-insert total old key (row key) k ∙ own (eq_by_cmp R k key) refl
+  pub fills_put : IsTotalOrder R → IsAntisymmetric R → (old new : FinMap R X) (key : K) → new ≡ insert old key (row key)
+      → Fills (λ k. eq_by_cmp R k key) row old new
+  fills_put total exact old new key is k = ap (λ m. get m k) is ∙ get-insert total old key (row key) k
+      ∙ own (eq_by_cmp R k key) refl
     where
       own : (b : Bool) → eq_by_cmp R k key ≡ b → cond b (Some (row key)) (get old k) ≡ cond b (Some (row k)) (get old k)
       own true e = ap (λ q. Some (row q)) (sym (exact k key (tied (R k key) e)))
@@ -81,17 +84,22 @@ module _ {K X : Type 0} {R : K → K → Ordering} (row : K → X) where
   module _ (test : K → Bool → Bool) (none : (k : K) → test k false ≡ false) (number_of : K → ℕ) where
     -- at the start of the loop
     pub fill_start : (m : FinMap R X) → Fills (λ k. test k (counts_to 0 (number_of k))) row m m
-    fill_start m = fills_none (λ k. test k (counts_to 0 (number_of k))) m (λ k. ap (test k) (counts_none (number_of k)) ∙ none k)
+    fill_start m = fills_none (λ k. test k (counts_to 0 (number_of k))) m
+        (λ k. ap (test k) (counts_none (number_of k)) ∙ none k)
 
     -- an iteration, which fills the keys of the next number, those that pass `inner`
-    module _ (i : ℕ) (old now : FinMap R X) (inner : K → Bool) (same : (k : K) → test k (number_of k == i + 1) ≡ inner k)
+    module _ (i : ℕ) (old now : FinMap R X) (inner : K → Bool)
+        (same : (k : K) → test k (number_of k == i + 1) ≡ inner k)
         (before : Fills (λ k. test k (counts_to i (number_of k))) row old now) where
-      pub fill_step : (new : FinMap R X) → Fills inner row now new → Fills (λ k. test k (counts_to (i + 1) (number_of k))) row old new
+      pub fill_step : (new : FinMap R X) → Fills inner row now new
+          → Fills (λ k. test k (counts_to (i + 1) (number_of k))) row old new
       fill_step new here k =
-          here k ∙ ap (cond (inner k) (Some (row k))) (before k) ∙ first_then (inner k) (test k (counts_to i (number_of k))) (Some (row k)) (get old k)
+          here k ∙ ap (cond (inner k) (Some (row k))) (before k) ∙ first_then (inner k)
+          (test k (counts_to i (number_of k))) (Some (row k)) (get old k)
           ∙ ap (λ b. cond (b || test k (counts_to i (number_of k))) (Some (row k)) (get old k)) (sym (same k))
           ∙ ap (λ b. cond b (Some (row k)) (get old k))
-          (sym (spread test none k (number_of k == i + 1) (counts_to i (number_of k))) ∙ ap (test k) (sym (counts_more i (number_of k))))
+          (sym (spread test none k (number_of k == i + 1) (counts_to i (number_of k)))
+          ∙ ap (test k) (sym (counts_more i (number_of k))))
 
       -- they are free, where all of the loop were at the start
       pub fill_free : (most : ℕ) → i < most → IsFree (λ k. test k (counts_to most (number_of k))) old → IsFree inner now
@@ -99,9 +107,11 @@ module _ {K X : Type 0} {R : K → K → Ordering} (row : K → X) where
           let e : test k (number_of k == i + 1) ≡ true = same k ∙ passed in
           let here : (number_of k == i + 1) ≡ true = passes test none k (number_of k == i + 1) e in
           let next : number_of k ≡ i + 1 = same_number (number_of k) (i + 1) here in
-          let past : test k (counts_to i (number_of k)) ≡ false = ap (λ n. test k (counts_to i n)) next ∙ ap (test k) (counts_past i) ∙ none k in
+          let past : test k (counts_to i (number_of k)) ≡ false = ap (λ n. test k (counts_to i n)) next
+          ∙ ap (test k) (counts_past i) ∙ none k in
           let within : test k (counts_to most (number_of k)) ≡ true =
-          ap (λ n. test k (counts_to most n)) next ∙ ap (test k) (counts_at most i small) ∙ sym (ap (test k) here) ∙ e in
+          ap (λ n. test k (counts_to most n)) next ∙ ap (test k) (counts_at most i small) ∙ sym (ap (test k) here)
+          ∙ e in
           before k ∙ ap (λ b. cond b (Some (row k)) (get old k)) past ∙ free k within
 
 -- a table without a row

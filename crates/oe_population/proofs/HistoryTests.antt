@@ -13,7 +13,8 @@ use Rattle.oe_rows.specs.declared.histories.History.{History}
 use Rattle.oe_rows.specs.declared.rows.Row.TheVariants as row
 use Rattle.oe_rows.proofs.KeyFacts.{customer_total, exact_customer, history_total, exact_history}
 use Rattle.oe_model.specs.Keys.{district_of_customer, district_of_new_order, customer_in}
-use Rattle.oe_model.specs.Population.{counts_to, has_customer, counted_customer, history_key, is_delivered, last_delivered}
+use Rattle.oe_model.specs.Population.{counts_to, has_customer, counted_customer, history_key, is_delivered}
+use Rattle.oe_model.specs.Population.{last_delivered}
 use Rattle.oe_model.proofs.MapFacts.{is_self, is_same}
 use Rattle.oe_model.proofs.PopulationFacts.{population_is_one}
 use Rattle.oe_population.specs.Group.{is_district, is_new_order}
@@ -28,7 +29,8 @@ three : (a b c : Bool) → a ≡ true → b ≡ true → c ≡ true → ((a && b
 three true true true d e f = refl
 three a b c d e f = cc
 
-module _ (s : Scale) (g : DistrictKey) (i : ℕ) (warehouse : 1 ≤ g.warehouse) (low : 1 ≤ g.district) (high : g.district ≤ 10) (small : i < s.customers) where
+module _ (s : Scale) (g : DistrictKey) (i : ℕ) (warehouse : 1 ≤ g.warehouse) (low : 1 ≤ g.district)
+    (high : g.district ≤ 10) (small : i < s.customers) where
   own : CustomerKey
   own = customer_in g (i + 1)
 
@@ -38,29 +40,41 @@ module _ (s : Scale) (g : DistrictKey) (i : ℕ) (warehouse : 1 ≤ g.warehouse)
 
   has_own : has_customer wide (customer_in g (i + 1)) ≡ true
   unfolding wide
-  has_own = three (counts_to g.warehouse g.warehouse) (counts_to 10 g.district) (counts_to s.customers (i + 1)) (grind (arith, nat_tests)) (grind (arith, nat_tests)) (grind (arith, nat_tests))
+  has_own = three (counts_to g.warehouse g.warehouse) (counts_to 10 g.district) (counts_to s.customers (i + 1))
+      (grind (arith, nat_tests)) (grind (arith, nat_tests)) (grind (arith, nat_tests))
 
   -- the number of its key counts the customer
   pub counted_own : counted_customer s (history_key s (customer_in g (i + 1))).number ≡ customer_in g (i + 1)
   unfolding wide
-  counted_own = ap (λ (h : History). h.customer) (of_some _ _ _ (population_is_one.has_history wide (customer_in g (i + 1)) has_own))
+  counted_own = ap (λ (h : History). h.customer)
+      (of_some _ _ _ (population_is_one.has_history wide (customer_in g (i + 1)) has_own))
 
-  pub same_history : (k : HistoryKey) → ((is_district g (district_of_customer (counted_customer s k.number)) && ((counted_customer s k.number).customer == i + 1)) && eq_by_cmp history_cmp k (history_key s (counted_customer s k.number)))
+  pub same_history : (k : HistoryKey)
+      → ((is_district g (district_of_customer (counted_customer s k.number)) &&
+      ((counted_customer s k.number).customer == i + 1)) && eq_by_cmp history_cmp k (history_key s
+      (counted_customer s k.number)))
       ≡ eq_by_cmp history_cmp k (history_key s (customer_in g (i + 1)))
   same_history k =
-      ap (λ b. b && eq_by_cmp history_cmp k (history_key s (counted_customer s k.number))) (same_customer g (i + 1) (counted_customer s k.number))
+      ap (λ b. b && eq_by_cmp history_cmp k (history_key s (counted_customer s k.number)))
+      (same_customer g (i + 1) (counted_customer s k.number))
       ∙ by_customer (eq_by_cmp customer_cmp (counted_customer s k.number) (customer_in g (i + 1))) refl
     where
-      absent : eq_by_cmp customer_cmp (counted_customer s k.number) (customer_in g (i + 1)) ≡ false → (b : Bool) → eq_by_cmp history_cmp k (history_key s (customer_in g (i + 1))) ≡ b → false ≡ b
+      absent : eq_by_cmp customer_cmp (counted_customer s k.number) (customer_in g (i + 1)) ≡ false → (b : Bool)
+          → eq_by_cmp history_cmp k (history_key s (customer_in g (i + 1))) ≡ b → false ≡ b
       absent e true h =
-          let same : k ≡ history_key s (customer_in g (i + 1)) = is_same history_total exact_history k (history_key s (customer_in g (i + 1))) h in
-          let counted : counted_customer s k.number ≡ customer_in g (i + 1) = ap (λ (q : HistoryKey). counted_customer s q.number) same ∙ counted_own in
-          sym e ∙ ap (λ (c : CustomerKey). eq_by_cmp customer_cmp c (customer_in g (i + 1))) counted ∙ is_self customer_total exact_customer (customer_in g (i + 1))
+          let same : k ≡ history_key s (customer_in g (i + 1)) = is_same history_total exact_history k
+          (history_key s (customer_in g (i + 1))) h in
+          let counted : counted_customer s k.number ≡ customer_in g (i + 1) =
+          ap (λ (q : HistoryKey). counted_customer s q.number) same ∙ counted_own in
+          sym e ∙ ap (λ (c : CustomerKey). eq_by_cmp customer_cmp c (customer_in g (i + 1))) counted
+          ∙ is_self customer_total exact_customer (customer_in g (i + 1))
       absent e false h = refl
 
       by_customer : (b : Bool) → eq_by_cmp customer_cmp (counted_customer s k.number) (customer_in g (i + 1)) ≡ b
-          → (b && eq_by_cmp history_cmp k (history_key s (counted_customer s k.number))) ≡ eq_by_cmp history_cmp k (history_key s (customer_in g (i + 1)))
-      by_customer true e = ap (λ (c : CustomerKey). eq_by_cmp history_cmp k (history_key s c)) (is_same customer_total exact_customer (counted_customer s k.number) (customer_in g (i + 1)) e)
+          → (b && eq_by_cmp history_cmp k (history_key s (counted_customer s k.number))) ≡ eq_by_cmp history_cmp k
+          (history_key s (customer_in g (i + 1)))
+      by_customer true e = ap (λ (c : CustomerKey). eq_by_cmp history_cmp k (history_key s c))
+          (is_same customer_total exact_customer (counted_customer s k.number) (customer_in g (i + 1)) e)
       by_customer false e = absent e (eq_by_cmp history_cmp k (history_key s (customer_in g (i + 1)))) refl
 
 by_first : (a b : Bool) → (a ≡ true → b ≡ true) → (a && b) ≡ a
@@ -71,8 +85,13 @@ undelivered : (s : Scale) (o : ℕ) → last_delivered s < o → not (is_deliver
 undelivered s o h = grind (arith, nat_tests)
 
 -- an order that is not delivered is told by its key alone
-pub same_undelivered : (s : Scale) (key k : NewOrderKey) → last_delivered s < key.order → is_new_order s key k ≡ eq_by_cmp new_order_cmp k key
+pub same_undelivered : (s : Scale) (key k : NewOrderKey) → last_delivered s < key.order
+    → is_new_order s key k ≡ eq_by_cmp new_order_cmp k key
 same_undelivered s key k late =
-    by_first (is_district (district_of_new_order key) (district_of_new_order k) && (k.order == key.order)) (not (is_delivered s k.order))
-    (λ e. ap (λ o. not (is_delivered s o)) (same_number k.order key.order (second_true (is_district (district_of_new_order key) (district_of_new_order k)) (k.order == key.order) e)) ∙ undelivered s key.order late)
+    by_first (is_district (district_of_new_order key) (district_of_new_order k) && (k.order == key.order))
+    (not (is_delivered s k.order))
+    (λ e. ap (λ o. not (is_delivered s o))
+    (same_number k.order key.order
+    (second_true (is_district (district_of_new_order key) (district_of_new_order k)) (k.order == key.order) e))
+    ∙ undelivered s key.order late)
     ∙ same_new_order (district_of_new_order key) key.order k

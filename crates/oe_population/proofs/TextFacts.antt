@@ -1,5 +1,6 @@
 -- Texts of the population: their digits, one by one, and their letters.
-use Rattle.std.proofs.Common.{◌≡◌, ℕ, ◌+◌, ◌-◌, ◌/◌, ◌%◌, true, ◌<◌, ◌≤◌, List, [], ◌∷◌, ◌++◌, length, take, drop, set, refl, sym, ap, ◌∙◌, arith, length-append, append_assoc, add-one}
+use Rattle.std.proofs.Common.{◌≡◌, ℕ, ◌+◌, ◌-◌, ◌/◌, ◌%◌, true, ◌<◌, ◌≤◌, List, [], ◌∷◌, ◌++◌, length, take, drop, set}
+use Rattle.std.proofs.Common.{refl, sym, ap, ◌∙◌, arith, length-append, append_assoc, add-one}
 use Rattle.std.specs.Prelude.{map, codes}
 use Rattle.std.specs.Int.{IsInRange}
 use Rattle.std.specs.List.{All, list_all, range_with_len}
@@ -20,7 +21,8 @@ unfolding dec
 dec_more n k = rw add-one
 
 -- one more digit is written, from the right
-pub digit_more : (n k j : ℕ) (xs : List ℕ) → k + 1 ≡ j → k < length xs → dec (n / 10) k ++ drop k (set xs k (48 + n % 10)) ≡ dec n j ++ drop j xs
+pub digit_more : (n k j : ℕ) (xs : List ℕ) → k + 1 ≡ j → k < length xs
+    → dec (n / 10) k ++ drop k (set xs k (48 + n % 10)) ≡ dec n j ++ drop j xs
 digit_more n k j xs e l =
     rw (← e)
     (ap (λ ys. dec (n / 10) k ++ ys) (drop-set xs k (48 + n % 10) l)
@@ -32,7 +34,8 @@ unfolding dec
 digits_all n xs = refl
 
 -- the front of a buffer, once a label and the digits after it are written
-pub written : (n digits k : ℕ) (label xs ys zs : List ℕ) → xs ≡ label → ys ≡ dec n digits → take (length label + digits) (put_mid (length label) k (xs ++ zs) ys) ≡ label ++ dec n digits
+pub written : (n digits k : ℕ) (label xs ys zs : List ℕ) → xs ≡ label → ys ≡ dec n digits
+    → take (length label + digits) (put_mid (length label) k (xs ++ zs) ys) ≡ label ++ dec n digits
 written n digits k label xs ys zs e f =
     let t = dec_text n digits in
     let low = t.at_least in
@@ -42,7 +45,8 @@ written n digits k label xs ys zs e f =
     ∙ ap (λ l. l ++ dec n digits) (take_at label zs _ refl))
 
 -- a label and what follows it
-pub labelled : (least most k : ℕ) (label xs : List ℕ) → IsInRange least most (length label + k) → list_all is_printable label ≡ true → IsText k k xs → IsText least most (label ++ xs)
+pub labelled : (least most k : ℕ) (label xs : List ℕ) → IsInRange least most (length label + k)
+    → list_all is_printable label ≡ true → IsText k k xs → IsText least most (label ++ xs)
 labelled least most k label xs fits e t =
     let l : All IsPrintable label = grind (arith, common_steps) in
     let long = length-append label xs in
@@ -54,7 +58,8 @@ pub same_text : (least most : ℕ) (xs ys : List ℕ) → xs ≡ ys → IsText l
 same_text least most xs ys e t = rw e t
 
 -- the parts of a district's information, as they are written
-pub dist_parts : (w d i : ℕ) (ws ds is : List ℕ) → ws ≡ dec w 2 → ds ≡ dec d 2 → is ≡ dec i 7 → codes "STOCK-DIST-" ++ (ws ++ 45 ∷ (ds ++ 45 ∷ (is ++ []))) ≡ dist_text w d i
+pub dist_parts : (w d i : ℕ) (ws ds is : List ℕ) → ws ≡ dec w 2 → ds ≡ dec d 2 → is ≡ dec i 7
+    → codes "STOCK-DIST-" ++ (ws ++ 45 ∷ (ds ++ 45 ∷ (is ++ []))) ≡ dist_text w d i
 unfolding dec dist_text
 dist_parts w d i ws ds is e f g = rw (e, f, g) refl
 
@@ -63,7 +68,8 @@ letters_part : (n i most : ℕ) → n + 26 ≤ most → take n (drop (i % 26) (l
 unfolding letters
 letters_part n i most fits =
     let row = map (λ j. 65 + (0 + j) % 26) (range_with_len 0 most) in
-    let long : length (take n (drop (i % 26) row)) ≡ n = simp (length-take, length-drop, length-map-range_with_len) (omega arith) in
+    let long : length (take n (drop (i % 26) row)) ≡ n = simp (length-take, length-drop, length-map-range_with_len)
+    (omega arith) in
     same_lists _ _ (long ∙ sym (length-map-range_with_len (λ j. 65 + (i + j) % 26) 0 n))
     (λ k d h.
     let small : k < n = omega arith in

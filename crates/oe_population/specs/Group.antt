@@ -27,13 +27,15 @@ abbrev pub customers_in : DistrictKey → Scale → CustomerKey → Bool
 customers_in g s k = is_district g (district_of_customer k) && counts_to s.customers k.customer
 
 abbrev pub histories_in : DistrictKey → Scale → HistoryKey → Bool
-histories_in g s k = customers_in g s (counted_customer s k.number) && eq_by_cmp history_cmp k (history_key s (counted_customer s k.number))
+histories_in g s k = customers_in g s (counted_customer s k.number) && eq_by_cmp history_cmp k
+    (history_key s (counted_customer s k.number))
 
 abbrev pub orders_in : DistrictKey → Scale → OrderKey → Bool
 orders_in g s k = is_district g (district_of_order k) && counts_to s.customers k.order
 
 abbrev pub new_orders_in : DistrictKey → Scale → NewOrderKey → Bool
-new_orders_in g s k = (is_district g (district_of_new_order k) && counts_to s.customers k.order) && not (is_delivered s k.order)
+new_orders_in g s k = (is_district g (district_of_new_order k) && counts_to s.customers k.order) && not
+    (is_delivered s k.order)
 
 abbrev pub lines_in : DistrictKey → Scale → OrderLineKey → Bool
 lines_in g s k = orders_in g s (order_of_line k) && counts_to (lines_of k.order) k.number
@@ -44,7 +46,8 @@ no_columns = record {}
 
 -- a key of an order that is not delivered
 abbrev pub is_new_order : Scale → NewOrderKey → NewOrderKey → Bool
-is_new_order s own k = (is_district (district_of_new_order own) (district_of_new_order k) && (k.order == own.order)) && not (is_delivered s k.order)
+is_new_order s own k = (is_district (district_of_new_order own) (district_of_new_order k) && (k.order == own.order)) &&
+    not (is_delivered s k.order)
 
 -- the lines of an order
 abbrev pub lines_under : OrderKey → OrderLineKey → Bool

@@ -16,4 +16,5 @@ module _ {K X : Type 0} (columns : K → X → List (List ℕ)) where
   -- one row is taken off what is left
   pub lines_step : (text : List ℕ) (k : K) (x : X) (es rest : List (K × X)) → es ≡ (k, x) ∷ rest →
       text ++ row_lines columns es ≡ (text ++ line_of (columns k x)) ++ row_lines columns rest
-  lines_step text k x es rest e = ap (λ z. text ++ row_lines columns z) e ∙ sym (append_assoc text (line_of (columns k x)) (row_lines columns rest))
+  lines_step text k x es rest e = ap (λ z. text ++ row_lines columns z) e
+      ∙ sym (append_assoc text (line_of (columns k x)) (row_lines columns rest))

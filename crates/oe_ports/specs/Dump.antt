@@ -7,7 +7,9 @@ use Rattle.oe_rows.specs.declared.keys.Table.{Table}
 use Rattle.oe_rows.specs.declared.keys.Table.TheVariants as table
 use Rattle.oe_model.specs.Rows.{Rows}
 use Rattle.oe_texts.specs.Column.{line_of}
-use Rattle.oe_texts.specs.Dump.{warehouse_columns, district_columns, customer_columns, history_columns, new_order_columns, order_columns, order_line_columns, item_columns, stock_columns, count_line}
+use Rattle.oe_texts.specs.Dump.{warehouse_columns, district_columns, customer_columns, history_columns}
+use Rattle.oe_texts.specs.Dump.{new_order_columns, order_columns, order_line_columns, item_columns, stock_columns}
+use Rattle.oe_texts.specs.Dump.{count_line}
 
 -- a line for each row
 abbrev pub row_lines : {K X : Type 0} → (K → X → List (List ℕ)) → List (K × X) → List ℕ

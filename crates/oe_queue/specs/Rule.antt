@@ -9,7 +9,8 @@ use Rattle.oe_queue.specs.declared.rules.Knowledge.{Knowledge}
 use Rattle.oe_queue.specs.declared.rules.Knowledge.TheVariants.{Gone, Sending, Taking}
 use Rattle.oe_queue.specs.Order.{messages_of}
 
--- the taker: a terminal that got no sender yet has submitted nothing, and a sender that is gone had submitted what it told
+-- the taker: a terminal that got no sender yet has submitted nothing, and a sender that is gone had submitted what it
+-- told
 pub record IsTaker (queued : List Message) (t : Taken) : Type 0 where
   pub unmade : (terminal : ℕ) → t.senders < terminal → messages_of terminal (t.messages ++ queued) ≡ []
   pub told : (s : Submitted) → t.told ≡ Some s
@@ -40,7 +41,8 @@ Agree queued Gone v = Unit {0}
 -- what each of them knows holds, and what any two of them know
 pub record Kept (queued : List Message) (views : List Knowledge) : Type 0 where
   pub each : (i : ℕ) (v : Knowledge) → get_elem? views i ≡ some v → IsSound queued v
-  pub pairs : (i j : ℕ) (v w : Knowledge) → get_elem? views i ≡ some v → get_elem? views j ≡ some w → i ≢ j → Agree queued v w
+  pub pairs : (i j : ℕ) (v w : Knowledge) → get_elem? views i ≡ some v → get_elem? views j ≡ some w → i ≢ j
+      → Agree queued v w
 
 -- the taker of a new queue
 abbrev pub nothing_taken : Taken

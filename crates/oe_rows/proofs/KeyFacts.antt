@@ -1,8 +1,10 @@
 -- Each key's order is total, and tells all keys apart.
 use Rattle.std.specs.Cmp.{IsTotalOrder, nat_cmp_total}
 use Rattle.std.proofs.lemmas.Cmp.{on_total, then_total}
-use Rattle.oe_rows.specs.Key.{warehouse_cmp, district_cmp, customer_cmp, history_cmp, new_order_cmp, order_cmp, order_line_cmp, item_cmp, stock_cmp}
-pub use Rattle.oe_rows.specs.ExactKeys.{exact_warehouse, exact_district, exact_customer, exact_history, exact_new_order, exact_order, exact_order_line, exact_item, exact_stock}
+use Rattle.oe_rows.specs.Key.{warehouse_cmp, district_cmp, customer_cmp, history_cmp, new_order_cmp, order_cmp}
+use Rattle.oe_rows.specs.Key.{order_line_cmp, item_cmp, stock_cmp}
+pub use Rattle.oe_rows.specs.ExactKeys.{exact_warehouse, exact_district, exact_customer, exact_history, exact_new_order}
+pub use Rattle.oe_rows.specs.ExactKeys.{exact_order, exact_order_line, exact_item, exact_stock}
 
 pub warehouse_total : IsTotalOrder warehouse_cmp
 warehouse_total = on_total (λ k. k.warehouse) nat_cmp_total

@@ -4,7 +4,8 @@ use Rattle.std.specs.Ordering.{nat_cmp, ordering_then}
 use Rattle.std.specs.declared.cmp.Ordering.TheVariants.{Equal}
 use Rattle.std.specs.FinMap.{IsAntisymmetric}
 use Rattle.std.proofs.lemmas.Map.Lookups.{exact_pairs, exact_unsigned}
-use Rattle.oe_rows.specs.Key.{warehouse_cmp, district_cmp, customer_cmp, history_cmp, new_order_cmp, order_cmp, order_line_cmp, item_cmp, stock_cmp}
+use Rattle.oe_rows.specs.Key.{warehouse_cmp, district_cmp, customer_cmp, history_cmp, new_order_cmp, order_cmp}
+use Rattle.oe_rows.specs.Key.{order_line_cmp, item_cmp, stock_cmp}
 
 pair : (a b x y : ℕ) → ordering_then (nat_cmp a x) (nat_cmp b y) ≡ Equal
     → ◌≡◌ {A = ℕ × ℕ} (a, b) (x, y)

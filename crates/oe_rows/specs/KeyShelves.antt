@@ -16,7 +16,8 @@ use Rattle.oe_rows.specs.declared.keys.OrderKey.{OrderKey}
 use Rattle.oe_rows.specs.declared.keys.OrderLineKey.{OrderLineKey}
 use Rattle.oe_rows.specs.declared.keys.ItemKey.{ItemKey}
 use Rattle.oe_rows.specs.declared.keys.StockKey.{StockKey}
-use Rattle.oe_rows.specs.Key.{warehouse_cmp, district_cmp, customer_cmp, history_cmp, new_order_cmp, order_cmp, order_line_cmp, item_cmp, stock_cmp}
+use Rattle.oe_rows.specs.Key.{warehouse_cmp, district_cmp, customer_cmp, history_cmp, new_order_cmp, order_cmp}
+use Rattle.oe_rows.specs.Key.{order_line_cmp, item_cmp, stock_cmp}
 
 -- ten shelves for each warehouse, one for each district
 abbrev pub district_shelf : ℕ → ℕ → ℕ

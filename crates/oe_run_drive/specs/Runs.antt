@@ -18,7 +18,8 @@ use Rattle.oe_run_drive.specs.declared.runs.Fault.TheVariants as fault
 
 -- a step that asks for moment 0 leads from the world to one whose newest version these rows are
 abbrev pub IsRewound : World system → Rows → Type 0
-IsRewound w r = (w' : World system) × (a : theory.Answer system) × Next system w (theory.Rewind 0) a w' × (r ≡ latest system w')
+IsRewound w r = (w' : World system) × (a : theory.Answer system) × Next system w (theory.Rewind 0) a w'
+    × (r ≡ latest system w')
 
 -- the first of conditions 1 to 4 that fails in the world, and whether a rewind gives a population of the scale back
 abbrev pub IsEnding : Scale → World system → Ending → Type 0
@@ -31,7 +32,8 @@ IsEnding s w e =
 abbrev pub IsLeft : World system → ℕ → Type 0
 IsLeft w committed = (open_count w ≡ 0) × (newest system w ≡ committed)
 
--- All terminals ended in some world, and the two lines say what it is like: they were written with the status that goes with
+-- All terminals ended in some world, and the two lines say what it is like: they were written with the status that goes
+-- with
 -- them; nothing was, for want of memory; or a beginning of them was.
 abbrev pub DriveRan : Scale → Option Sink → Option Sink → Result Ran Fault → Type 0
 DriveRan s old new (Ok ran) =

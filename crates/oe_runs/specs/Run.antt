@@ -30,7 +30,8 @@ answers_in (i ∷ is) (a ∷ ys) = answer_in i a ∷ answers_in is ys
 answers_in [] ys = []
 answers_in (i ∷ is) [] = []
 
--- a purge leaves the tables and all versions from its moment on; a rewind gives the version of its moment, and leaves those before
+-- a purge leaves the tables and all versions from its moment on; a rewind gives the version of its moment, and leaves
+-- those before
 abbrev pub PastBy : World system → theory.Answer system → World system → Type 0
 PastBy w (theory.Purged m) v =
     (horizon system v ≡ m) × (newest system v ≡ newest system w) × (tables system v ≡ tables system w)
@@ -40,33 +41,42 @@ PastBy w (theory.Rewound m) v =
     × ((k : ℕ) → k ≤ m → at system v k ≡ at system w k)
 PastBy w a v = Unit {0}
 
--- In each world that is passed conditions 1 to 4 (clauses 3.3.2.1 to 3.3.2.4) hold of the version of each moment, and of the tables
--- when none is open. A row that ends its transaction commits its whole effect on the newest version and makes the next moment, or
--- rolls it back where that effect is none, with the program's own refusal there. Purges and rewinds are as `PastBy` says
+-- In each world that is passed conditions 1 to 4 (clauses 3.3.2.1 to 3.3.2.4) hold of the version of each moment, and
+-- of the tables
+-- when none is open. A row that ends its transaction commits its whole effect on the newest version and makes the next
+-- moment, or
+-- rolls it back where that effect is none, with the program's own refusal there. Purges and rewinds are as `PastBy`
+-- says
 abbrev pub AreWhole : World system → List Step → List Answer → World system → Type 0
 AreWhole w [] [] w' = Is_consistent w × (w ≡ w')
 AreWhole w (i ∷ is) (a ∷ ys) w' =
     Is_consistent w
-    × ((v : World system) × Next system w (step_in i) (answer_in i a) v × IsEnding system w (answer_in i a) (step_in i) v × PastBy w (answer_in i a) v × AreWhole v is ys w')
+    × ((v : World system) × Next system w (step_in i) (answer_in i a) v
+    × IsEnding system w (answer_in i a) (step_in i) v × PastBy w (answer_in i a) v × AreWhole v is ys w')
 AreWhole w [] (a ∷ ys) w' = ⊥
 AreWhole w (i ∷ is) [] w' = ⊥
 
--- What follows of a run from a world that steps led to. It is a run of the machine; each of its transactions ends whole, and
+-- What follows of a run from a world that steps led to. It is a run of the machine; each of its transactions ends
+-- whole, and
 -- conditions 1 to 4 hold all the way; and a transaction that is rolled back in it leaves no trace
 pub record Ran (w : World system) (is : List Step) (ys : List Answer) (w' : World system) : Type 0 where
   pub runs : Runs system w (steps_in is) (answers_in is ys) w'
   pub reached : IsReached system w'
   pub whole : AreWhole w is ys w'
-  pub no_trace : (before after : List (theory.Step system)) (said later : List (theory.Answer system)) (t : ℕ) (q : Request)
+  pub no_trace : (before after : List (theory.Step system)) (said later : List (theory.Answer system)) (t : ℕ)
+      (q : Request)
       → length before ≡ length said
       → steps_in is ≡ before ++ Begin t q ∷ after → answers_in is ys ≡ said ++ Begun ∷ later
       → is_rolled_back system t (events system after later) ≡ true
-      → Runs system w (steps_of system (without system (events system before said) t (events system after later))) (answers_of system (without system (events system before said) t (events system after later))) w'
+      → Runs system w (steps_of system (without system (events system before said) t (events system after later)))
+      (answers_of system (without system (events system before said) t (events system after later))) w'
   -- the commits are those of transactions run one at a time
   pub serial : IsSerial system w'.counts w'.base w'.history
-  -- conditions 1 to 4 (clauses 3.3.2.1 to 3.3.2.4) hold of the version of each moment, and of the tables when none is open
+  -- conditions 1 to 4 (clauses 3.3.2.1 to 3.3.2.4) hold of the version of each moment, and of the tables when none is
+  -- open
   pub conditions : (m : ℕ) → Conditions (at system w' m)
   pub when_quiet : IsQuiet system w' → Conditions (tables system w')
-  -- conditions 5 to 10 and 12 (clauses 3.3.2.5 to 3.3.2.10 and 3.3.2.12) hold of the version of each moment, where they held of the
+  -- conditions 5 to 10 and 12 (clauses 3.3.2.5 to 3.3.2.10 and 3.3.2.12) hold of the version of each moment, where they
+  -- held of the
   -- base that the run began on
   pub more : More w.base → (m : ℕ) → More (at system w' m)

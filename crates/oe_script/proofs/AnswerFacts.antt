@@ -1,12 +1,16 @@
 -- Each step of today is answered, and so is each run of them.
-use Rattle.std.proofs.Common.{◌≡◌, ℕ, zero, suc, ◌<◌, ◌≤◌, cond, Bool, true, false, Option, None, Some, List, [], ◌∷◌, refl, sym, subst, inl, inr, arith}
+use Rattle.std.proofs.Common.{◌≡◌, ℕ, zero, suc, ◌<◌, ◌≤◌, cond, Bool, true, false, Option, None, Some, List, [], ◌∷◌}
+use Rattle.std.proofs.Common.{refl, sym, subst, inl, inr, arith}
 use Rattle.std.specs.Prelude.{◌⊎◌, ◌≢◌, is_some, nat_le, count_by}
 use Rattle.std.specs.FinMap.{get, entries}
 use Rattle.std.proofs.lemmas.Bool.{cases_order}
 use Rattle.oe_theory.specs.Machine.{Outcome, Here, Missing}
 use Rattle.oe_theory.specs.World.{World, Open, at, horizon, newest, tables, number}
 use Rattle.oe_theory.specs.Next as theory
-use Rattle.oe_theory.specs.Next.{Next, Begin, Advance, Save, Back, Rollback, Read, Audit, Purge, Rewind, begins, goes_on, commits, saves, goes_back, rolls_back, reads, audits, purges, rewinds, stops, fails, is_busy, is_full, is_rejected, is_open, number_is_rejected, query_is_rejected, misses, not_open, too_old, future, not_quiet, lacks_memory}
+use Rattle.oe_theory.specs.Next.{Next, Begin, Advance, Save, Back, Rollback, Read, Audit, Purge, Rewind, begins}
+use Rattle.oe_theory.specs.Next.{goes_on, commits, saves, goes_back, rolls_back, reads, audits, purges, rewinds, stops}
+use Rattle.oe_theory.specs.Next.{fails, is_busy, is_full, is_rejected, is_open, number_is_rejected, query_is_rejected}
+use Rattle.oe_theory.specs.Next.{misses, not_open, too_old, future, not_quiet, lacks_memory}
 use Rattle.oe_theory.specs.Theorems.{IsReached}
 use Rattle.oe_theory.proofs.Theorems.{each_is_answered, abort_is_its_own}
 use Rattle.oe_rows.specs.declared.keys.Key.TheVariants as key
@@ -30,7 +34,8 @@ use Rattle.oe_requests.specs.declared.audits.Verdict.{Verdict}
 use Rattle.oe_requests.specs.declared.audits.Verdict.TheVariants as verdict
 use Rattle.oe_model.specs.Audits as model
 use Rattle.oe_model.specs.Rows.{Rows, row_at}
-use Rattle.oe_model.specs.Requests.{MayRefuse, PaymentMayRefuse, NewOrderMayRefuse, DeliveryMayRefuse, first_absent, rejection, query_rejection, number_rejection, warehouse_no, warehouses_of}
+use Rattle.oe_model.specs.Requests.{MayRefuse, PaymentMayRefuse, NewOrderMayRefuse, DeliveryMayRefuse, first_absent}
+use Rattle.oe_model.specs.Requests.{rejection, query_rejection, number_rejection, warehouse_no, warehouses_of}
 use Rattle.oe_model.specs.Keys.{customer_in}
 use Rattle.oe_model.specs.Choice.{chosen}
 use Rattle.oe_model.specs.Queries.{found, last_order, status_of, recent_lines, is_low, answer_of}
@@ -57,7 +62,8 @@ own_abort t refusal.InvalidItem h = refl
 own_abort t refusal.NoCustomer h = refl
 own_abort t _ h = absurd h
 
-own_rejection : (t : ℕ) (q : Request) (e : Refusal) → IsOwn e → answer_in (step.Begin t q) (answer.Refused e) ≡ theory.Rejected e
+own_rejection : (t : ℕ) (q : Request) (e : Refusal) → IsOwn e
+    → answer_in (step.Begin t q) (answer.Refused e) ≡ theory.Rejected e
 own_rejection t q (refusal.NoSuchRow k) h = refl
 own_rejection t q (refusal.Overflow c) h = refl
 own_rejection t q refusal.InvalidItem h = refl
@@ -90,7 +96,8 @@ own_absent : (ws : List ℕ) (r : Rows) (e : Refusal) → first_absent ws r ≡ 
 own_absent [] r e h = let no : ⊥ = cc in absurd no
 own_absent (w ∷ ws) r e h = by_test (is_some (row_at r (key.Warehouse (warehouse_no w)))) h (own_absent ws r e)
   where
-    by_test : (b : Bool) → cond b (first_absent ws r) (Some (refusal.NoSuchRow (key.Warehouse (warehouse_no w)))) ≡ Some e → (first_absent ws r ≡ Some e → IsOwn e) → IsOwn e
+    by_test : (b : Bool) → cond b (first_absent ws r) (Some (refusal.NoSuchRow (key.Warehouse (warehouse_no w)))) ≡ Some
+        e → (first_absent ws r ≡ Some e → IsOwn e) → IsOwn e
     by_test true h rest = rest h
     by_test false h rest = let same : refusal.NoSuchRow (key.Warehouse (warehouse_no w)) ≡ e = cc in subst IsOwn same tt
 
@@ -109,7 +116,8 @@ IsTold w i = (x : Answer) × (w' : World system) × Next system w (step_in i) (a
 abbrev Named : Step → theory.Answer system → Type 0
 Named i a = (x : Answer) × (answer_in i x ≡ a)
 
-named_advance : (w : World system) (i : theory.Step system) (a : theory.Answer system) (w' : World system) (t : ℕ) → IsReached system w → Next system w i a w' → i ≡ Advance t → Named (step.Advance t) a
+named_advance : (w : World system) (i : theory.Step system) (a : theory.Answer system) (w' : World system) (t : ℕ)
+    → IsReached system w → Next system w i a w' → i ≡ Advance t → Named (step.Advance t) a
 named_advance w _ _ _ t l (goes_on u o c p e g r room) i = (answer.More, refl)
 named_advance w _ _ _ t l (commits u o y e g r) i = (answer.Committed (suc (newest system w)) y, refl)
 named_advance w _ _ _ t l (stops u o x e r) i =
@@ -158,11 +166,18 @@ unfolding terminal_limit
 in_limit t h = omega (arith, h)
 
 -- a request that its tables turn away, or that is of a terminal with an open transaction, or that begins
-pub told_begin : (w : World system) (t : ℕ) (q : Request) → 1 ≤ t → t ≤ 64 → system.IsRequest q → IsTold w (step.Begin t q)
-told_begin w t q low high b = by_case (rejection q (tables system w)) refl (w.active t) refl (number_rejection (number system w t)) refl
+pub told_begin : (w : World system) (t : ℕ) (q : Request) → 1 ≤ t → t ≤ 64 → system.IsRequest q
+    → IsTold w (step.Begin t q)
+told_begin w t q low high b = by_case (rejection q (tables system w)) refl (w.active t) refl
+    (number_rejection (number system w t)) refl
   where
     rejected : (e : Refusal) → IsOwn e → Next system w (Begin t q) (theory.Rejected e) w → IsTold w (step.Begin t q)
-    rejected e h n = (answer.Refused e, w, subst (λ (z : theory.Answer system). Next system w (Begin t q) z w) (sym (own_rejection t q e h)) n)
+    rejected e h n = (
+      answer.Refused e,
+      w,
+      subst (λ (z : theory.Answer system). Next system w (Begin t q) z w)
+          (sym (own_rejection t q e h)) n,
+    )
 
     by_case : (x : Option Refusal) → rejection q (tables system w) ≡ x → (v : Option (Open system)) → w.active t ≡ v
         → (n : Option Refusal) → number_rejection (number system w t) ≡ n → IsTold w (step.Begin t q)
@@ -178,10 +193,12 @@ told_begin w t q low high b = by_case (rejection q (tables system w)) refl (w.ac
 -- MOMENTS
 
 -- a moment that is asked for is kept, or it is before the horizon, or after the newest
-by_moment : {A : Type 0} (w : World system) (m : ℕ) → (horizon system w ≤ m → m ≤ newest system w → A) → (m < horizon system w → A) → (newest system w < m → A) → A
+by_moment : {A : Type 0} (w : World system) (m : ℕ) → (horizon system w ≤ m → m ≤ newest system w → A)
+    → (m < horizon system w → A) → (newest system w < m → A) → A
 by_moment {A} w m kept early late = by_case (cases_order m (horizon system w)) (cases_order m (newest system w))
   where
-    by_case : (m ≡ horizon system w) ⊎ ((m < horizon system w) ⊎ (horizon system w < m)) → (m ≡ newest system w) ⊎ ((m < newest system w) ⊎ (newest system w < m)) → A
+    by_case : (m ≡ horizon system w) ⊎ ((m < horizon system w) ⊎ (horizon system w < m))
+        → (m ≡ newest system w) ⊎ ((m < newest system w) ⊎ (newest system w < m)) → A
     by_case (inl h) (inl n) = kept (omega arith) (omega arith)
     by_case (inl h) (inr (inl n)) = kept (omega arith) (omega arith)
     by_case (inl h) (inr (inr n)) = late n
@@ -209,7 +226,8 @@ told_audit w c m = by_moment {A = IsTold w (step.Audit c m)} w m kept early late
         let v = model.verdict (condition_of c) (at system w m) in (
           answer.Audited (verdict_out v),
           w,
-          subst (λ (z : model.Verdict). Next system w (Audit m (condition_of c)) (theory.Audited z) w) (sym (in_out v)) (audits m (condition_of c) low high),
+          subst (λ (z : model.Verdict). Next system w (Audit m (condition_of c)) (theory.Audited z) w) (sym (in_out v))
+              (audits m (condition_of c) low high),
         )
 
     early : m < horizon system w → IsTold w (step.Audit c m)
@@ -220,7 +238,8 @@ told_audit w c m = by_moment {A = IsTold w (step.Audit c m)} w m kept early late
 
 -- QUERIES
 
-own_query : (m : ℕ) (q : Query) (e : Refusal) → IsOwn e → answer_in (step.Read m q) (answer.Refused e) ≡ theory.Rejected e
+own_query : (m : ℕ) (q : Query) (e : Refusal) → IsOwn e
+    → answer_in (step.Read m q) (answer.Refused e) ≡ theory.Rejected e
 own_query m q (refusal.NoSuchRow k) h = refl
 own_query m q (refusal.Overflow c) h = refl
 own_query m q refusal.InvalidItem h = refl
@@ -232,7 +251,8 @@ own_turned_away (query.Status q) r e h = own_absent (q.district.warehouse ∷ []
 own_turned_away (query.Level q) r e h = own_absent (q.district.warehouse ∷ []) r e h
 
 -- what is told of what is found, or the refusal where nothing is
-own_told : {A : Type 0} (d : Refusal) (o : Option A) (k : A → QueryReply) (e : Refusal) → IsOwn d → found d o (λ x. Here (k x)) ≡ Missing e → IsOwn e
+own_told : {A : Type 0} (d : Refusal) (o : Option A) (k : A → QueryReply) (e : Refusal) → IsOwn d
+    → found d o (λ x. Here (k x)) ≡ Missing e → IsOwn e
 own_told d None k e own h = let same : d ≡ e = cc in subst IsOwn same own
 own_told d (Some x) k e own h = let no : ⊥ = cc in absurd no
 
@@ -244,17 +264,27 @@ own_chosen (Some c) at k e h = own_told {A = Customer} refusal.NoCustomer (at c)
 own_missing : (q : Query) (r : Rows) (e : Refusal) → answer_of q r ≡ Missing e → IsOwn e
 own_missing (query.Status q) r e h =
     own_chosen (chosen q.district q.customer r.customers) (λ c. get r.customers (customer_in q.district c))
-    (λ c x. told.Status (record { customer = c; balance = x.account.balance; order = status_of r.order_lines (last_order (customer_in q.district c) r.orders) })) e h
+    (λ c x. told.Status (record {
+      customer = c;
+      balance = x.account.balance;
+      order = status_of r.order_lines (last_order (customer_in q.district c) r.orders);
+    })) e h
 own_missing (query.Level q) r e h =
     own_told {A = District} (refusal.NoSuchRow (key.District q.district)) (get r.districts q.district)
-    (λ x. told.Level (count_by (is_low q (recent_lines q.district x.next_order r.order_lines)) (entries r.stocks))) e tt h
+    (λ x. told.Level (count_by (is_low q (recent_lines q.district x.next_order r.order_lines)) (entries r.stocks))) e tt
+    h
 
 -- a query whose warehouse is not there, or of a moment that is not kept, or that finds nothing or its reply
 pub told_read : (w : World system) (m : ℕ) (q : Query) → IsTold w (step.Read m q)
 told_read w m q = by_rejection (query_rejection q (tables system w)) refl
   where
     rejected : (e : Refusal) → IsOwn e → Next system w (Read m q) (theory.Rejected e) w → IsTold w (step.Read m q)
-    rejected e h n = (answer.Refused e, w, subst (λ (z : theory.Answer system). Next system w (Read m q) z w) (sym (own_query m q e h)) n)
+    rejected e h n = (
+      answer.Refused e,
+      w,
+      subst (λ (z : theory.Answer system). Next system w (Read m q) z w)
+          (sym (own_query m q e h)) n,
+    )
 
     by_answer : query_rejection q (tables system w) ≡ None → horizon system w ≤ m → m ≤ newest system w
         → (o : Outcome QueryReply Refusal) → answer_of q (at system w m) ≡ o → IsTold w (step.Read m q)
@@ -264,7 +294,8 @@ told_read w m q = by_rejection (query_rejection q (tables system w)) refl
     by_rejection : (x : Option Refusal) → query_rejection q (tables system w) ≡ x → IsTold w (step.Read m q)
     by_rejection (Some e) r = rejected e (own_turned_away q (tables system w) e r) (query_is_rejected m q e r)
     by_rejection None r =
-        by_moment {A = IsTold w (step.Read m q)} w m (λ low high. by_answer r low high (answer_of q (at system w m)) refl)
+        by_moment {A = IsTold w (step.Read m q)} w m
+        (λ low high. by_answer r low high (answer_of q (at system w m)) refl)
         (λ b. (answer.Refused (refusal.TooOld (horizon system w)), w, too_old (Read m q) m refl r b))
         (λ b. (answer.Refused (refusal.Future (newest system w)), w, future (Read m q) m refl r b))
 
@@ -276,7 +307,8 @@ told_purge w m =
     (λ b. (answer.Refused (refusal.TooOld (horizon system w)), w, too_old (Purge m) m refl tt b))
     (λ b. (answer.Refused (refusal.Future (newest system w)), w, future (Purge m) m refl tt b))
 
-named_rewind : (w : World system) (i : theory.Step system) (a : theory.Answer system) (w' : World system) (m : ℕ) → Next system w i a w' → i ≡ Rewind m → Named (step.Rewind m) a
+named_rewind : (w : World system) (i : theory.Step system) (a : theory.Answer system) (w' : World system) (m : ℕ)
+    → Next system w i a w' → i ≡ Rewind m → Named (step.Rewind m) a
 named_rewind w _ _ _ m (rewinds n q l u) i = (answer.Rewound _, refl)
 named_rewind w _ _ _ m (not_quiet n k e) i = (answer.Refused (refusal.NotQuiet (suc k)), refl)
 named_rewind w _ _ _ m (not_open s u e f) i = (answer.Refused refusal.NotOpen, refl)
@@ -305,23 +337,28 @@ is_more (answer.Rewound m) = inr (λ e. cc)
 is_more (answer.Audited v) = inr (λ e. cc)
 is_more (answer.Refused e) = inr (λ e. cc)
 
-told_run_within : (k : ℕ) (w : World system) (t : ℕ) → left w t < k → IsLive (Some w) → (n : ℕ) × (x : Answer) × (w' : World system) × RunsIn n w t x w'
+told_run_within : (k : ℕ) (w : World system) (t : ℕ) → left w t < k → IsLive (Some w)
+    → (n : ℕ) × (x : Answer) × (w' : World system) × RunsIn n w t x w'
 told_run_within zero w t h l = absurd (omega (arith, h))
 told_run_within (suc k) w t h l = by_answer (told_advance w t l.0) (told_run_within k)
   where
     by_answer : IsTold w (step.Advance t)
-        → ((v : World system) (u : ℕ) → left v u < k → IsLive (Some v) → (n : ℕ) × (x : Answer) × (w' : World system) × RunsIn n v u x w')
+        → ((v : World system) (u : ℕ) → left v u < k → IsLive (Some v)
+        → (n : ℕ) × (x : Answer) × (w' : World system) × RunsIn n v u x w')
         → (n : ℕ) × (x : Answer) × (w' : World system) × RunsIn n w t x w'
     by_answer (x, v, s) rest = by_test (is_more x)
       where
-        by_test : (x ≡ answer.More) ⊎ (x ≢ answer.More) → (n : ℕ) × (y : Answer) × (w' : World system) × RunsIn n w t y w'
+        by_test : (x ≡ answer.More) ⊎ (x ≢ answer.More) → (n : ℕ) × (y : Answer) × (w' : World system)
+            × RunsIn n w t y w'
         by_test (inr other) = (0, x, v, (other, s))
         by_test (inl e) =
-            let more : Next system w (Advance t) theory.More v = subst (λ (z : Answer). Next system w (Advance t) (answer_in (step.Advance t) z) v) e s in
+            let more : Next system w (Advance t) theory.More v =
+            subst (λ (z : Answer). Next system w (Advance t) (answer_in (step.Advance t) z) v) e s in
             let less = falls w v t l more in
             let fewer : left v t < k = omega (arith, less, h) in
             let r = rest v t fewer (live_step w (step.Advance t) theory.More v tt l more) in
             (suc r.0, r.1, r.2, (v, more, r.3))
 
-pub told_run : (w : World system) (t : ℕ) → IsLive (Some w) → (n : ℕ) × (x : Answer) × (w' : World system) × RunsIn n w t x w'
+pub told_run : (w : World system) (t : ℕ) → IsLive (Some w) → (n : ℕ) × (x : Answer) × (w' : World system)
+    × RunsIn n w t x w'
 told_run w t l = told_run_within (suc (left w t)) w t (omega arith) l

@@ -1,5 +1,6 @@
 -- Each line is answered.
-use Rattle.std.proofs.Common.{◌≡◌, Result, Ok, Err, ℕ, ◌+◌, ◌<◌, ◌≤◌, Bool, true, false, Option, None, Some, List, [], ◌∷◌, ◌++◌, length, refl, sym, ap, ◌∙◌, subst, inl, inr, arith}
+use Rattle.std.proofs.Common.{◌≡◌, Result, Ok, Err, ℕ, ◌+◌, ◌<◌, ◌≤◌, Bool, true, false, Option, None, Some, List, []}
+use Rattle.std.proofs.Common.{◌∷◌, ◌++◌, length, refl, sym, ap, ◌∙◌, subst, inl, inr, arith}
 use Rattle.std.specs.Prelude.{◌⊎◌, ◌≢◌, IfSome}
 use Rattle.std.proofs.lemmas.Bool.{cases_order}
 use Rattle.oe_theory.specs.Next.{Next}
@@ -35,13 +36,15 @@ use Rattle.oe_core.specs.declared.advances.Advanced.{Advanced}
 use Rattle.oe_core.specs.declared.advances.Advanced.TheVariants as advanced
 use Rattle.oe_ports.specs.Dump.{dump_text}
 use Rattle.oe_ports.specs.Lines.{bad_line}
-use Rattle.oe_script.specs.Script.{State, moment_in, told, Stepped, IsAllowed, Answers, Asks, LineAnswer, RunOfLines, Holds}
+use Rattle.oe_script.specs.Script.{State, moment_in, told, Stepped, IsAllowed, Answers, Asks, LineAnswer, RunOfLines}
+use Rattle.oe_script.specs.Script.{Holds}
 use Rattle.oe_script.specs.Session.{IsLive}
 use Rattle.oe_ports.specs.Ports.{Sink, Sent, Cut, Streams}
 use Rattle.oe_script.specs.Outcome.{IsAnswer, Replies}
 use Rattle.oe_script.proofs.WorldFacts.{live_step, live_runs}
 use Rattle.oe_ports.proofs.Streaming.{sent_waits, sent_then, sent_cut, cut_more}
-use Rattle.oe_script.proofs.AnswerFacts.{IsTold, told_advance, told_save, told_back, told_rollback, told_begin, told_audit, told_read, told_purge, told_rewind, told_run}
+use Rattle.oe_script.proofs.AnswerFacts.{IsTold, told_advance, told_save, told_back, told_rollback, told_begin}
+use Rattle.oe_script.proofs.AnswerFacts.{told_audit, told_read, told_purge, told_rewind, told_run}
 
 -- THE FORMS OF LINES
 
@@ -62,22 +65,27 @@ is_request (request.Rename q) h = absurd h
 
 -- a line says one thing
 pub one_command : (line : List ℕ) (c d : Command) → Says line c → Says line d → c ≡ d
-one_command line c d h k = let same : ◌≡◌ {A = Option Command} (Some c) (Some d) = sym (said_is_read line c h) ∙ said_is_read line d k in cc
+one_command line c d h k =
+    let same : ◌≡◌ {A = Option Command} (Some c) (Some d) = sym (said_is_read line c h) ∙ said_is_read line d k in cc
 
 -- WHAT LINES KEEP
 
-live_opened : (s : Scale) (extents : ℕ) (r : Rows) → IsScale s → IsPopulated s r → IsLive (Some (opened system r extents))
+live_opened : (s : Scale) (extents : ℕ) (r : Rows) → IsScale s → IsPopulated s r
+    → IsLive (Some (opened system r extents))
 live_opened s extents r h p = (
   opening_is_reached system laws r extents
       (population_is_good r (population_is_one.is_population s r h p)),
   λ t. tt,
 )
 
-live_stepped : (w : World system) (i : Step) (text : List ℕ) (s : State) → IfSome (begins_with i) HasProgram → IsLive (Some w) → Stepped w i text s → IsLive s
+live_stepped : (w : World system) (i : Step) (text : List ℕ) (s : State) → IfSome (begins_with i) HasProgram
+    → IsLive (Some w) → Stepped w i text s → IsLive s
 live_stepped w i text s b l (x, w', serves, e, same) = subst IsLive (sym same) (live_step w i _ w' b l serves)
 
-pub live_answers : (s : State) (c : Command) (text : List ℕ) (s' : State) → HasForm c → IsLive s → Answers s c text s' → IsLive s'
-live_answers None (command.Open scale extents) text s' f l (inl (r, p, e, same)) = subst IsLive (sym same) (live_opened scale extents r f.0 p)
+pub live_answers : (s : State) (c : Command) (text : List ℕ) (s' : State) → HasForm c → IsLive s → Answers s c text s'
+    → IsLive s'
+live_answers None (command.Open scale extents) text s' f l (inl (r, p, e, same)) =
+    subst IsLive (sym same) (live_opened scale extents r f.0 p)
 live_answers None (command.Open scale extents) text s' f l (inr (e, same)) = subst IsLive (sym same) tt
 live_answers None (command.Begin t q) text s' f l a = absurd a
 live_answers None (command.Next t) text s' f l a = absurd a
@@ -91,9 +99,11 @@ live_answers None (command.Read m q) text s' f l a = absurd a
 live_answers None (command.Purge m) text s' f l a = absurd a
 live_answers None (command.Rewind m) text s' f l a = absurd a
 live_answers (Some w) (command.Open scale extents) text s' f l a = absurd a
-live_answers (Some w) (command.Begin t q) text s' f l a = live_stepped w (step.Begin t q) text s' (has_program q f.1) l a
+live_answers (Some w) (command.Begin t q) text s' f l a = live_stepped w (step.Begin t q) text s' (has_program q f.1) l
+    a
 live_answers (Some w) (command.Next t) text s' f l a = live_stepped w (step.Advance t) text s' tt l a
-live_answers (Some w) (command.Run t) text s' f l (n, x, w', r, e, same) = subst IsLive (sym same) (live_runs n w t x w' l r)
+live_answers (Some w) (command.Run t) text s' f l (n, x, w', r, e, same) =
+    subst IsLive (sym same) (live_runs n w t x w' l r)
 live_answers (Some w) (command.Save t) text s' f l a = live_stepped w (step.Save t) text s' tt l a
 live_answers (Some w) (command.Back t) text s' f l a = live_stepped w (step.Back t) text s' tt l a
 live_answers (Some w) (command.Rollback t) text s' f l a = live_stepped w (step.Rollback t) text s' tt l a
@@ -103,13 +113,16 @@ live_answers (Some w) (command.Read m q) text s' f l a = live_stepped w (step.Re
 live_answers (Some w) (command.Purge m) text s' f l a = live_stepped w (step.Purge (moment_in w m)) text s' tt l a
 live_answers (Some w) (command.Rewind m) text s' f l a = live_stepped w (step.Rewind (moment_in w m)) text s' tt l a
 
-pub live_line : (s : State) (n : ℕ) (line text : List ℕ) (s' : State) → IsLive s → LineAnswer s n line text s' → IsLive s'
+pub live_line : (s : State) (n : ℕ) (line text : List ℕ) (s' : State) → IsLive s → LineAnswer s n line text s'
+    → IsLive s'
 live_line s n line text s' l (inl (c, asks, a)) = live_answers s c text s' asks.says.form l a
 live_line s n line text s' l (inr (bad, e, same)) = subst IsLive (sym same) l
 
-pub live_lines : (s : State) (n : ℕ) (lines : List (List ℕ)) (text : List ℕ) (s' : State) → IsLive s → RunOfLines s n lines text s' → IsLive s'
+pub live_lines : (s : State) (n : ℕ) (lines : List (List ℕ)) (text : List ℕ) (s' : State) → IsLive s
+    → RunOfLines s n lines text s' → IsLive s'
 live_lines s n [] text s' l r = subst IsLive (sym r.1) l
-live_lines s n (line ∷ lines) text s' l (mid, first, rest, a, r, e) = live_lines mid (n + 1) lines rest s' (live_line s (n + 1) line first mid l a) r
+live_lines s n (line ∷ lines) text s' l (mid, first, rest, a, r, e) =
+    live_lines mid (n + 1) lines rest s' (live_line s (n + 1) line first mid l a) r
 
 -- EACH LINE IS ANSWERED
 
@@ -120,7 +133,8 @@ stepped : (w : World system) (i : Step) → IsTold w i → (text : List ℕ) × 
 stepped w i (x, w', serves) = (told i x, Some w', (x, w', serves, refl, refl))
 
 answered : (s : State) (c : Command) → HasForm c → IsLive s → IsAllowed s c → IsAnswered s c
-answered None (command.Open scale extents) f l a = (answer_line (answer.Refused refusal.NoMemory), None, inr (refl, refl))
+answered None (command.Open scale extents) f l a =
+    (answer_line (answer.Refused refusal.NoMemory), None, inr (refl, refl))
 answered None (command.Begin t q) f l a = absurd a
 answered None (command.Next t) f l a = absurd a
 answered None (command.Run t) f l a = absurd a
@@ -133,9 +147,11 @@ answered None (command.Read m q) f l a = absurd a
 answered None (command.Purge m) f l a = absurd a
 answered None (command.Rewind m) f l a = absurd a
 answered (Some w) (command.Open scale extents) f l a = absurd a
-answered (Some w) (command.Begin t q) f l a = stepped w (step.Begin t q) (told_begin w t q f.0.0 f.0.1 (is_request q f.1))
+answered (Some w) (command.Begin t q) f l a = stepped w (step.Begin t q)
+    (told_begin w t q f.0.0 f.0.1 (is_request q f.1))
 answered (Some w) (command.Next t) f l a = stepped w (step.Advance t) (told_advance w t l.0)
-answered (Some w) (command.Run t) f l a = let r = told_run w t l in (answer_line r.1, Some r.2, (r.0, r.1, r.2, r.3, refl, refl))
+answered (Some w) (command.Run t) f l a = let r = told_run w t l in
+    (answer_line r.1, Some r.2, (r.0, r.1, r.2, r.3, refl, refl))
 answered (Some w) (command.Save t) f l a = stepped w (step.Save t) (told_save w t)
 answered (Some w) (command.Back t) f l a = stepped w (step.Back t) (told_back w t)
 answered (Some w) (command.Rollback t) f l a = stepped w (step.Rollback t) (told_rollback w t)
@@ -176,7 +192,8 @@ abbrev pub IsLineAnswered : State → ℕ → List ℕ → Type 0
 IsLineAnswered s n line = (text : List ℕ) × (s' : State) × LineAnswer s n line text s'
 
 -- a line that is none of the forms here
-pub refused : (s : State) (n : ℕ) (line : List ℕ) → ((c : Command) → Asks s line c → ⊥) → LineAnswer s n line (bad_line n) s
+pub refused : (s : State) (n : ℕ) (line : List ℕ) → ((c : Command) → Asks s line c → ⊥)
+    → LineAnswer s n line (bad_line n) s
 refused s n line bad = inr (bad, refl, refl)
 
 pub line_answered : (s : State) (n : ℕ) (line : List ℕ) → IsLive s → IsLineAnswered s n line
@@ -185,13 +202,19 @@ line_answered s n line l = by_length (cases_order (length line) 1_024)
     bad : ((c : Command) → Asks s line c → ⊥) → IsLineAnswered s n line
     bad h = (bad_line n, s, refused s n line h)
 
-    by_right : length line ≤ 1_024 → (c : Command) → Says line c → IsAllowed s c ⊎ (IsAllowed s c → ⊥) → IsLineAnswered s n line
-    by_right short c says (inl a) = let r = answered s c says.form l a in (r.0, r.1, inl (c, record { short = short; says = says; allowed = a }, r.2))
-    by_right short c says (inr d) = bad (λ e asks. d (subst (IsAllowed s) (one_command line e c asks.says says) asks.allowed))
+    by_right : length line ≤ 1_024 → (c : Command) → Says line c → IsAllowed s c ⊎ (IsAllowed s c → ⊥)
+        → IsLineAnswered s n line
+    by_right short c says (inl a) = let r = answered s c says.form l a in
+        (r.0, r.1, inl (c, record { short = short; says = says; allowed = a }, r.2))
+    by_right short c says (inr d) =
+        bad (λ e asks. d (subst (IsAllowed s) (one_command line e c asks.says says) asks.allowed))
 
     by_command : length line ≤ 1_024 → (o : Option Command) → o ≡ command_of line → IsLineAnswered s n line
-    by_command short None e = bad (λ c asks. let differs : ◌≡◌ {A = Option Command} None (Some c) = e ∙ said_is_read line c asks.says in let none : ⊥ = cc in none)
-    by_command short (Some c) e = let says : Says line c = read_is_said (Some c) line e in by_right short c says (allowed s c)
+    by_command short None e =
+        bad (λ c asks. let differs : ◌≡◌ {A = Option Command} None (Some c) = e ∙ said_is_read line c asks.says in
+        let none : ⊥ = cc in none)
+    by_command short (Some c) e = let says : Says line c = read_is_said (Some c) line e in
+        by_right short c says (allowed s c)
 
     by_length : (length line ≡ 1_024) ⊎ ((length line < 1_024) ⊎ (1_024 < length line)) → IsLineAnswered s n line
     by_length (inl e) = by_command (omega (arith, e)) (command_of line) refl
@@ -201,12 +224,14 @@ line_answered s n line l = by_length (cases_order (length line) 1_024)
 -- THE ANSWERS OF ADVANCES
 
 -- an advance has its answer
-pub answer_of : (w w' : World system) (t : ℕ) (a : Advanced) (last : Option Reply) → Advances w t a w' last → (x : Answer) × IsAnswer last a x × Next system w (step_in (step.Advance t)) (answer_in (step.Advance t) x) w'
+pub answer_of : (w w' : World system) (t : ℕ) (a : Advanced) (last : Option Reply) → Advances w t a w' last
+    → (x : Answer) × IsAnswer last a x × Next system w (step_in (step.Advance t)) (answer_in (step.Advance t) x) w'
 answer_of w w' t advanced.More last h = (answer.More, refl, h.0)
 answer_of w w' t (advanced.Committed m) last (y, e, (serves, reached)) = (answer.Committed m y, (y, e, refl), serves)
 answer_of w w' t (advanced.Refused e) last h = (answer.Refused e, refl, h.0)
 
-pub not_more : (last : Option Reply) (a : Advanced) (x : Answer) → IsAnswer last a x → a ≢ advanced.More → x ≢ answer.More
+pub not_more : (last : Option Reply) (a : Advanced) (x : Answer) → IsAnswer last a x → a ≢ advanced.More
+    → x ≢ answer.More
 not_more last advanced.More x h n e = n refl
 not_more last (advanced.Committed m) x (y, k, is) n e = let same : answer.Committed m y ≡ answer.More = sym is ∙ e in cc
 not_more last (advanced.Refused r) x is n e = let same : answer.Refused r ≡ answer.More = sym is ∙ e in cc
@@ -214,9 +239,11 @@ not_more last (advanced.Refused r) x is n e = let same : answer.Refused r ≡ an
 -- WHAT GOES OUT
 
 -- a line that is asked for where something is open
-pub taken : (w : World system) (n : ℕ) (line : List ℕ) (asked c : Command) (text : List ℕ) (s' : State) → length line ≤ 1_024 → Says line asked → asked ≡ c → IsAllowed (Some w) c
+pub taken : (w : World system) (n : ℕ) (line : List ℕ) (asked c : Command) (text : List ℕ) (s' : State)
+    → length line ≤ 1_024 → Says line asked → asked ≡ c → IsAllowed (Some w) c
     → Answers (Some w) c text s' → LineAnswer (Some w) n line text s'
-taken w n line asked c text s' short says e a answers = inl (c, record { short = short; says = subst (Says line) e says; allowed = a }, answers)
+taken w n line asked c text s' short says e a answers =
+    inl (c, record { short = short; says = subst (Says line) e says; allowed = a }, answers)
 
 -- a line that fits is held whole
 pub held_line : (held : List ℕ) (over : Bool) (line : List ℕ) → over ≡ false → Holds held over line → held ≡ line
@@ -224,51 +251,68 @@ held_line held false line e h = h.0
 held_line held true line e h = let none : ⊥ = cc in absurd none
 
 -- a line of which nothing came before
-pub fresh_line : (held : List ℕ) (over : Bool) (line last : List ℕ) → over ≡ false → held ≡ [] → Holds held over line → line ++ last ≡ last
+pub fresh_line : (held : List ℕ) (over : Bool) (line last : List ℕ) → over ≡ false → held ≡ [] → Holds held over line
+    → line ++ last ≡ last
 fresh_line held over line last e none h = ap (λ z. z ++ last) (sym (held_line held over line e h) ∙ none)
 
 -- the line was answered, and its text waits
-pub told_here : (w w' : World system) (n : ℕ) (line : List ℕ) (asked c : Command) (sink : Option Sink) (old new text : List ℕ)
-    → length line ≤ 1_024 → Says line asked → asked ≡ c → IsAllowed (Some w) c → Answers (Some w) c text (Some w') → new ≡ old ++ text
+pub told_here : (w w' : World system) (n : ℕ) (line : List ℕ) (asked c : Command) (sink : Option Sink)
+    (old new text : List ℕ)
+    → length line ≤ 1_024 → Says line asked → asked ≡ c → IsAllowed (Some w) c → Answers (Some w) c text (Some w')
+    → new ≡ old ++ text
     → (x : List ℕ) × LineAnswer (Some w) n line x (Some w') × Sent sink old sink new x
 told_here w w' n line asked c sink old new text short says e a answers same =
     (text, taken w n line asked c text (Some w') short says e a answers, sent_waits sink old new text same)
 
-pub dumped_here : {T E : Type 0} (w : World system) (n : ℕ) (line : List ℕ) (asked : Command) (t : Table) (old new : Option Sink) (waited waits text : List ℕ) (r : Result T E)
-    → length line ≤ 1_024 → Says line asked → asked ≡ command.Dump t → text ≡ dump_text t (tables system w) → Streams old waited new waits text r
+pub dumped_here : {T E : Type 0} (w : World system) (n : ℕ) (line : List ℕ) (asked : Command) (t : Table)
+    (old new : Option Sink) (waited waits text : List ℕ) (r : Result T E)
+    → length line ≤ 1_024 → Says line asked → asked ≡ command.Dump t → text ≡ dump_text t (tables system w)
+    → Streams old waited new waits text r
     → Replies (Some w) n line (Some w) old waited new waits r
-dumped_here w n line asked t old new waited waits text (Ok x) short says e is h = (text, taken w n line asked (command.Dump t) text (Some w) short says e tt (is, refl), h)
-dumped_here w n line asked t old new waited waits text (Err x) short says e is h = (refl, text, Some w, taken w n line asked (command.Dump t) text (Some w) short says e tt (is, refl), h)
+dumped_here w n line asked t old new waited waits text (Ok x) short says e is h =
+    (text, taken w n line asked (command.Dump t) text (Some w) short says e tt (is, refl), h)
+dumped_here w n line asked t old new waited waits text (Err x) short says e is h =
+    (refl, text, Some w, taken w n line asked (command.Dump t) text (Some w) short says e tt (is, refl), h)
 
 -- once something is open it can't be opened again
-pub not_opened : (w : World system) (line : List ℕ) (asked : Command) (scale : Scale) (extents : ℕ) → Says line asked → asked ≡ command.Open scale extents → (c : Command) → Asks (Some w) line c → ⊥
+pub not_opened : (w : World system) (line : List ℕ) (asked : Command) (scale : Scale) (extents : ℕ) → Says line asked
+    → asked ≡ command.Open scale extents → (c : Command) → Asks (Some w) line c → ⊥
 not_opened w line asked scale extents says e c asks =
     let same : c ≡ command.Open scale extents = one_command line c asked asks.says says ∙ e in
     subst (IsAllowed (Some w)) same asks.allowed
 
 -- a line that was answered leaves what is live
-pub live_replied : {T E : Type 0} (s : State) (n : ℕ) (line : List ℕ) (s' : State) (old new : Option Sink) (waited waits : List ℕ) (r : Result T E) → IsLive s → Replies s n line s' old waited new waits r → IsLive s'
+pub live_replied : {T E : Type 0} (s : State) (n : ℕ) (line : List ℕ) (s' : State) (old new : Option Sink)
+    (waited waits : List ℕ) (r : Result T E) → IsLive s → Replies s n line s' old waited new waits r → IsLive s'
 live_replied s n line s' old new waited waits (Ok x) l h = live_line s n line h.0 s' l h.1
 live_replied s n line s' old new waited waits (Err e) l h = subst IsLive (sym h.0) l
 
 -- room was made before it
-pub replied_after : {T E : Type 0} (s : State) (n : ℕ) (line : List ℕ) (s' : State) (old mid new : Option Sink) (waited between waits : List ℕ) (r : Result T E)
-    → Sent old waited mid between [] → Replies s n line s' mid between new waits r → Replies s n line s' old waited new waits r
-replied_after s n line s' old mid new waited between waits (Ok x) m h = (h.0, h.1, sent_then old mid new waited between waits [] h.0 m h.2)
-replied_after s n line s' old mid new waited between waits (Err e) m h = (h.0, h.1, h.2, h.3, sent_cut old mid new waited between [] h.1 m h.4)
+pub replied_after : {T E : Type 0} (s : State) (n : ℕ) (line : List ℕ) (s' : State) (old mid new : Option Sink)
+    (waited between waits : List ℕ) (r : Result T E)
+    → Sent old waited mid between [] → Replies s n line s' mid between new waits r
+    → Replies s n line s' old waited new waits r
+replied_after s n line s' old mid new waited between waits (Ok x) m h =
+    (h.0, h.1, sent_then old mid new waited between waits [] h.0 m h.2)
+replied_after s n line s' old mid new waited between waits (Err e) m h =
+    (h.0, h.1, h.2, h.3, sent_cut old mid new waited between [] h.1 m h.4)
 
 -- there was no room, and none could be made
-pub replied_never : (s : State) (n : ℕ) (line : List ℕ) (old new : Option Sink) (waited : List ℕ) → IsLive s → Cut old waited new []
+pub replied_never : (s : State) (n : ℕ) (line : List ℕ) (old new : Option Sink) (waited : List ℕ) → IsLive s
+    → Cut old waited new []
     → (s ≡ s) × (text : List ℕ) × (t : State) × LineAnswer s n line text t × Cut old waited new text
-replied_never s n line old new waited l h = let a = line_answered s n line l in (refl, a.0, a.1, a.2, cut_more old new waited [] a.0 h)
+replied_never s n line old new waited l h = let a = line_answered s n line l in
+    (refl, a.0, a.1, a.2, cut_more old new waited [] a.0 h)
 
 -- a line that is none of the forms
-pub replied_bad : {T E : Type 0} (s : State) (n : ℕ) (line : List ℕ) (old new : Option Sink) (waited waits : List ℕ) (r : Result T E) → ((c : Command) → Asks s line c → ⊥)
+pub replied_bad : {T E : Type 0} (s : State) (n : ℕ) (line : List ℕ) (old new : Option Sink) (waited waits : List ℕ)
+    (r : Result T E) → ((c : Command) → Asks s line c → ⊥)
     → Streams old waited new waits (bad_line n) r → Replies s n line s old waited new waits r
 replied_bad s n line old new waited waits (Ok x) bad h = (bad_line n, refused s n line bad, h)
 replied_bad s n line old new waited waits (Err e) bad h = (refl, bad_line n, s, refused s n line bad, h)
 
 -- a line that is too long is none of them
-pub too_long : (s : State) (held : List ℕ) (over : Bool) (line : List ℕ) → over ≡ true → Holds held over line → (c : Command) → Asks s line c → ⊥
+pub too_long : (s : State) (held : List ℕ) (over : Bool) (line : List ℕ) → over ≡ true → Holds held over line
+    → (c : Command) → Asks s line c → ⊥
 too_long s held true line e h c asks = let short = asks.short in absurd (omega (arith, h, short))
 too_long s held false line e h c asks = let no : ⊥ = cc in no

@@ -13,13 +13,19 @@ use Rattle.oe_script.specs.Script.{State, LineAnswer}
 
 -- a core that was opened on these rows is one that was opened on rows of the scale
 pub on_population : {A E : Type 0} (w : A → World system) (scale : Scale) (x : Rows) (n : ℕ) → IsPopulated scale x
-    → (r : Result A E) → IfOk r (λ c. w c ≡ opened system x n) → IfOk r (λ c. (y : Rows) × IsPopulated scale y × (w c ≡ opened system y n))
+    → (r : Result A E) → IfOk r (λ c. w c ≡ opened system x n)
+    → IfOk r (λ c. (y : Rows) × IsPopulated scale y × (w c ≡ opened system y n))
 on_population w scale x n p (Ok c) e = (x, p, e)
 on_population w scale x n p (Err e) h = h
 
 -- so the line that asks for it is answered
 pub opened_line : (scale : Scale) (extents : ℕ) (w : World system) (asked : Command) (s : State)
-    → ((y : Rows) × IsPopulated scale y × (w ≡ opened system y extents)) → asked ≡ command.Open scale extents → s ≡ Some w
+    → ((y : Rows) × IsPopulated scale y × (w ≡ opened system y extents)) → asked ≡ command.Open scale extents
+    → s ≡ Some w
     → (n : ℕ) (line : List ℕ) → length line ≤ 1_024 → Says line asked → LineAnswer None n line (codes "opened\n") s
 opened_line scale extents w asked s (y, p, e) is same n line short says =
-    inl (command.Open scale extents, record { short = short; says = subst (λ z. Says line z) is says; allowed = tt }, inl (y, p, refl, subst (λ z. s ≡ Some z) e same))
+    inl (
+      command.Open scale extents,
+      record { short = short; says = subst (λ z. Says line z) is says; allowed = tt },
+      inl (y, p, refl, subst (λ z. s ≡ Some z) e same),
+    )

@@ -1,5 +1,6 @@
 -- A session goes on by one byte or one line.
-use Rattle.std.proofs.Common.{◌≡◌, ◌≢◌, ℕ, suc, ◌+◌, Bool, false, List, [], ◌∷◌, ◌++◌, length, Option, None, Result, Ok, Err, append_assoc, sym, ap, ◌∙◌, refl, inl, inr, arith}
+use Rattle.std.proofs.Common.{◌≡◌, ◌≢◌, ℕ, suc, ◌+◌, Bool, false, List, [], ◌∷◌, ◌++◌, length, Option, None, Result, Ok}
+use Rattle.std.proofs.Common.{Err, append_assoc, sym, ap, ◌∙◌, refl, inl, inr, arith}
 use Rattle.std.specs.Prelude.{All, ◌⊎◌}
 use Rattle.std.specs.List.{flat_map}
 use Rattle.std.proofs.lemmas.List.{append-nil, length_push}
@@ -14,13 +15,22 @@ use Rattle.oe_ports.proofs.Streaming.{sent_then, sent_cut, sent_as, cut_as, cut_
 use Rattle.oe_script.proofs.LineFacts.{live_lines, line_answered}
 
 run_more : (s : State) (n : ℕ) (lines : List (List ℕ)) (text : List ℕ) (v u : State) (line last : List ℕ) →
-    RunOfLines s n lines text v → LineAnswer v (n + length lines + 1) line last u → RunOfLines s n (lines ++ line ∷ []) (text ++ last) u
+    RunOfLines s n lines text v → LineAnswer v (n + length lines + 1) line last u
+    → RunOfLines s n (lines ++ line ∷ []) (text ++ last) u
 run_more s n [] text v u line last r a =
-    let here : LineAnswer s (n + 1) line last u = rw (← r.1) (let same : n + 0 + 1 ≡ n + 1 = omega arith in rw same at a) in
+    let here : LineAnswer s (n + 1) line last u =
+    rw (← r.1) (let same : n + 0 + 1 ≡ n + 1 = omega arith in rw same at a) in
     (u, last, [], here, (refl, refl), rw r.0 (sym (append-nil last)))
 run_more s n (x ∷ xs) text v u line last r a =
-    let count : n + suc (length xs) + 1 ≡ n + 1 + length xs + 1 = omega arith in
-    (r.0, r.1, r.2 ++ last, r.3, run_more r.0 (n + 1) xs r.2 v u line last r.4 (rw count at a), rw r.5 (append_assoc r.1 r.2 last))
+    let count : n + suc (length xs) + 1 ≡ n + 1 + length xs + 1 = omega arith in (
+      r.0,
+      r.1,
+      r.2 ++ last,
+      r.3,
+      run_more r.0 (n + 1) xs r.2 v u line last r.4 (rw count at a),
+      rw r.5
+          (append_assoc r.1 r.2 last),
+    )
 
 all_none : {X : Type 0} (P : X → Type 0) → All P []
 all_none P k d h = absurd (omega (arith, h))
@@ -35,7 +45,8 @@ reach_start = record {
   run = (refl, refl);
 }
 
-reach_byte : (input out : List ℕ) (s : State) (n : ℕ) (line : List ℕ) (b : ℕ) → b ≢ 10 → Reached input out s n line → Reached (input ++ b ∷ []) out s n (line ++ b ∷ [])
+reach_byte : (input out : List ℕ) (s : State) (n : ℕ) (line : List ℕ) (b : ℕ) → b ≢ 10 → Reached input out s n line
+    → Reached (input ++ b ∷ []) out s n (line ++ b ∷ [])
 reach_byte input out s n line b h r = record {
   lines = r.lines;
   whole = ap (λ z. z ++ b ∷ []) r.whole ∙ append_assoc (flat_map ended r.lines) line (b ∷ []);
@@ -45,7 +56,8 @@ reach_byte input out s n line b h r = record {
   run = r.run;
 }
 
-reach_bytes : (input out : List ℕ) (s : State) (n : ℕ) (line more : List ℕ) → IsInLine more → Reached input out s n line → Reached (input ++ more) out s n (line ++ more)
+reach_bytes : (input out : List ℕ) (s : State) (n : ℕ) (line more : List ℕ) → IsInLine more → Reached input out s n line
+    → Reached (input ++ more) out s n (line ++ more)
 reach_bytes input out s n line more h r = record {
   lines = r.lines;
   whole = ap (λ z. z ++ more) r.whole ∙ append_assoc (flat_map ended r.lines) line more;
@@ -55,19 +67,23 @@ reach_bytes input out s n line more h r = record {
   run = r.run;
 }
 
-reach_line : (input out : List ℕ) (s v : State) (n : ℕ) (line text : List ℕ) → Reached input out s n line → LineAnswer s (n + 1) line text v →
+reach_line : (input out : List ℕ) (s v : State) (n : ℕ) (line text : List ℕ) → Reached input out s n line
+    → LineAnswer s (n + 1) line text v →
     Reached (input ++ 10 ∷ []) (out ++ text) v (n + 1) []
 reach_line input out s v n line text r a = record {
   lines = r.lines ++ line ∷ [];
   whole = ap (λ z. z ++ 10 ∷ []) r.whole ∙ append_assoc (flat_map ended r.lines) line (10 ∷ [])
-      ∙ ap (λ z. flat_map ended r.lines ++ z) (sym (append-nil (line ++ 10 ∷ []))) ∙ sym (flat_map-append ended r.lines (line ∷ [])) ∙ sym (append-nil _);
+      ∙ ap (λ z. flat_map ended r.lines ++ z) (sym (append-nil (line ++ 10 ∷ [])))
+      ∙ sym (flat_map-append ended r.lines (line ∷ [])) ∙ sym (append-nil _);
   each = All-push IsInLine r.lines line r.each r.tail;
   tail = all_none (λ b. b ≢ 10);
   counted = ap (λ z. z + 1) r.counted ∙ sym (length_push r.lines line);
-  run = run_more None 0 r.lines out s v line text r.run (let same : n + 1 ≡ 0 + length r.lines + 1 = omega (arith, r.counted) in rw same at a);
+  run = run_more None 0 r.lines out s v line text r.run
+      (let same : n + 1 ≡ 0 + length r.lines + 1 = omega (arith, r.counted) in rw same at a);
 }
 
-pub reach_output : (input out : List ℕ) (s : State) (n : ℕ) (line : List ℕ) → Reached input out s n line → Output input (out ++ last_text (n + 1) line)
+pub reach_output : (input out : List ℕ) (s : State) (n : ℕ) (line : List ℕ) → Reached input out s n line
+    → Output input (out ++ last_text (n + 1) line)
 reach_output input out s n line r = record {
   lines = r.lines;
   last = line;
@@ -83,46 +99,63 @@ reach_output input out s n line r = record {
 reached_live : (input out : List ℕ) (s : State) (n : ℕ) (line : List ℕ) → Reached input out s n line → IsLive s
 reached_live input out s n line r = live_lines None 0 r.lines out s tt r.run
 
-reached_as : (input other out : List ℕ) (s : State) (n : ℕ) (line : List ℕ) → input ≡ other → Reached input out s n line → Reached other out s n line
+reached_as : (input other out : List ℕ) (s : State) (n : ℕ) (line : List ℕ) → input ≡ other → Reached input out s n line
+    → Reached other out s n line
 reached_as input other out s n line e r = rw (← e) r
 
 output_as : (input other out text : List ℕ) → input ≡ other → out ≡ text → Output input out → Output other text
 output_as input other out text e f o = rw (← e, ← f) o
 
 -- whatever input follows, there is an output that goes on with this one
-pub reach_rest : (more input out : List ℕ) (s : State) (n : ℕ) (line : List ℕ) → Reached input out s n line → (rest : List ℕ) × Output (input ++ more) (out ++ rest)
-reach_rest [] input out s n line r = (last_text (n + 1) line, output_as input (input ++ []) _ _ (sym (append-nil input)) refl (reach_output input out s n line r))
-reach_rest (b ∷ bs) input out s n line r = by_byte (cases_eq b 10) (λ text v m l q. reach_rest bs (input ++ b ∷ []) text v m l q)
+pub reach_rest : (more input out : List ℕ) (s : State) (n : ℕ) (line : List ℕ) → Reached input out s n line
+    → (rest : List ℕ) × Output (input ++ more) (out ++ rest)
+reach_rest [] input out s n line r = (
+  last_text (n + 1) line,
+  output_as input (input ++ []) _ _ (sym (append-nil input)) refl
+      (reach_output input out s n line r),
+)
+reach_rest (b ∷ bs) input out s n line r = by_byte (cases_eq b 10)
+    (λ text v m l q. reach_rest bs (input ++ b ∷ []) text v m l q)
   where
     by_byte : (b ≡ 10) ⊎ (b ≢ 10)
-        → ((text : List ℕ) (v : State) (m : ℕ) (l : List ℕ) → Reached (input ++ b ∷ []) text v m l → (rest : List ℕ) × Output ((input ++ b ∷ []) ++ bs) (text ++ rest))
+        → ((text : List ℕ) (v : State) (m : ℕ) (l : List ℕ) → Reached (input ++ b ∷ []) text v m l
+        → (rest : List ℕ) × Output ((input ++ b ∷ []) ++ bs) (text ++ rest))
         → (rest : List ℕ) × Output (input ++ b ∷ bs) (out ++ rest)
     by_byte (inr other) more =
         let o = more out s n (line ++ b ∷ []) (reach_byte input out s n line b other r) in
         (o.0, output_as _ (input ++ b ∷ bs) _ (out ++ o.0) (append_assoc input (b ∷ []) bs) refl o.1)
     by_byte (inl e) more =
         let a = line_answered s (n + 1) line (reached_live input out s n line r) in
-        let next = reached_as (input ++ 10 ∷ []) (input ++ b ∷ []) (out ++ a.0) a.1 (n + 1) [] (ap (λ z. input ++ z ∷ []) (sym e)) (reach_line input out s a.1 n line a.0 r a.2) in
-        let o = more (out ++ a.0) a.1 (n + 1) [] next in
-        (a.0 ++ o.0, output_as _ (input ++ b ∷ bs) _ (out ++ (a.0 ++ o.0)) (append_assoc input (b ∷ []) bs) (append_assoc out a.0 o.0) o.1)
+        let next = reached_as (input ++ 10 ∷ []) (input ++ b ∷ []) (out ++ a.0) a.1 (n + 1) []
+        (ap (λ z. input ++ z ∷ []) (sym e)) (reach_line input out s a.1 n line a.0 r a.2) in
+        let o = more (out ++ a.0) a.1 (n + 1) [] next in (
+          a.0 ++ o.0,
+          output_as _ (input ++ b ∷ bs) _ (out ++ (a.0 ++ o.0)) (append_assoc input (b ∷ []) bs)
+              (append_assoc out a.0 o.0) o.1,
+        )
 
 -- bytes within a line
-pub stand_bytes : (start now : Option Sink) (input waits : List ℕ) (core : State) (count : ℕ) (held held' : List ℕ) (over over' : Bool) (more : List ℕ) → IsInLine more →
+pub stand_bytes : (start now : Option Sink) (input waits : List ℕ) (core : State) (count : ℕ) (held held' : List ℕ)
+    (over over' : Bool) (more : List ℕ) → IsInLine more →
     ((line : List ℕ) → Holds held over line → Holds held' over' (line ++ more)) →
-    Standing start input now waits core count held over → Standing start (input ++ more) now waits core count held' over'
+    Standing start input now waits core count held over
+    → Standing start (input ++ more) now waits core count held' over'
 stand_bytes start now input waits core count held held' over over' more h grows s =
     (s.0 ++ more, s.1, reach_bytes input s.1 core count s.0 more h s.2, grows s.0 s.3, s.4)
 
 -- the end of a line, whose last bytes come with it
-pub stand_line : {T E : Type 0} (start now after : Option Sink) (input waits waits' : List ℕ) (core core' : State) (count : ℕ) (held : List ℕ) (over : Bool) (last : List ℕ) (r : Result T E) →
+pub stand_line : {T E : Type 0} (start now after : Option Sink) (input waits waits' : List ℕ) (core core' : State)
+    (count : ℕ) (held : List ℕ) (over : Bool) (last : List ℕ) (r : Result T E) →
     IsInLine last →
     ((line : List ℕ) → Holds held over line → Replies core (count + 1) (line ++ last) core' now waits after waits' r) →
-    Standing start input now waits core count held over → Fed start ((input ++ last) ++ 10 ∷ []) after waits' core' (count + 1) [] false r
+    Standing start input now waits core count held over
+    → Fed start ((input ++ last) ++ 10 ∷ []) after waits' core' (count + 1) [] false r
 stand_line start now after input waits waits' core core' count held over last (Ok x) h answer s =
     let a = answer s.0 s.3 in (
       [],
       s.1 ++ a.0,
-      reach_line (input ++ last) s.1 core core' count (s.0 ++ last) a.0 (reach_bytes input s.1 core count s.0 last h s.2) a.1,
+      reach_line (input ++ last) s.1 core core' count (s.0 ++ last) a.0
+          (reach_bytes input s.1 core count s.0 last h s.2) a.1,
       (refl, omega arith),
       sent_then start now after [] waits waits' s.1 a.0 s.4 a.2,
     )
@@ -130,29 +163,53 @@ stand_line start now after input waits waits' core core' count held over last (E
     let a = answer s.0 s.3 in
     let end = (input ++ last) ++ 10 ∷ [] in
     let o = reach_rest more end (s.1 ++ a.1) a.2 (count + 1) []
-    (reach_line (input ++ last) s.1 core a.2 count (s.0 ++ last) a.1 (reach_bytes input s.1 core count s.0 last h s.2) a.3) in
-    ((s.1 ++ a.1) ++ o.0, o.1, cut_more start after [] (s.1 ++ a.1) o.0 (sent_cut start now after [] waits s.1 a.1 s.4 a.4))
+    (reach_line (input ++ last) s.1 core a.2 count (s.0 ++ last) a.1 (reach_bytes input s.1 core count s.0 last h s.2)
+    a.3) in (
+      (s.1 ++ a.1) ++ o.0,
+      o.1,
+      cut_more start after [] (s.1 ++ a.1) o.0
+          (sent_cut start now after [] waits s.1 a.1 s.4 a.4),
+    )
 
 -- what waits is written
-pub stand_flush : {T E : Type 0} (start now after : Option Sink) (input waits waits' : List ℕ) (core : State) (count : ℕ) (held : List ℕ) (over : Bool) (r : Result T E) →
-    Streams now waits after waits' [] r → Standing start input now waits core count held over → Fed start input after waits' core count held over r
-stand_flush start now after input waits waits' core count held over (Ok x) a s =
-    (s.0, s.1, s.2, s.3, sent_as start after [] waits' (s.1 ++ []) s.1 (append-nil s.1) (sent_then start now after [] waits waits' s.1 [] s.4 a))
+pub stand_flush : {T E : Type 0} (start now after : Option Sink) (input waits waits' : List ℕ) (core : State)
+    (count : ℕ) (held : List ℕ) (over : Bool) (r : Result T E) →
+    Streams now waits after waits' [] r → Standing start input now waits core count held over
+    → Fed start input after waits' core count held over r
+stand_flush start now after input waits waits' core count held over (Ok x) a s = (
+  s.0,
+  s.1,
+  s.2,
+  s.3,
+  sent_as start after [] waits' (s.1 ++ []) s.1 (append-nil s.1)
+      (sent_then start now after [] waits waits' s.1 [] s.4 a),
+)
 stand_flush start now after input waits waits' core count held over (Err x) a s = λ more.
-    let o = reach_rest more input s.1 core count s.0 s.2 in
-    (s.1 ++ o.0, o.1, cut_more start after [] s.1 o.0 (cut_as start after [] (s.1 ++ []) s.1 (append-nil s.1) (sent_cut start now after [] waits s.1 [] s.4 a)))
+    let o = reach_rest more input s.1 core count s.0 s.2 in (
+      s.1 ++ o.0,
+      o.1,
+      cut_more start after [] s.1 o.0
+          (cut_as start after [] (s.1 ++ []) s.1 (append-nil s.1) (sent_cut start now after [] waits s.1 [] s.4 a)),
+    )
 
 -- more input behind a failure
-pub broken_more : (start now : Option Sink) (input more : List ℕ) → Broken start input now → Broken start (input ++ more) now
+pub broken_more : (start now : Option Sink) (input more : List ℕ) → Broken start input now
+    → Broken start (input ++ more) now
 broken_more start now input more b = λ rest.
-    let o = b (more ++ rest) in
-    (o.0, output_as (input ++ (more ++ rest)) ((input ++ more) ++ rest) o.0 o.0 (sym (append_assoc input more rest)) refl o.1, o.2)
+    let o = b (more ++ rest) in (
+      o.0,
+      output_as (input ++ (more ++ rest)) ((input ++ more) ++ rest) o.0 o.0 (sym (append_assoc input more rest))
+          refl o.1,
+      o.2,
+    )
 
-pub broken_as : (start now : Option Sink) (input other : List ℕ) → input ≡ other → Broken start input now → Broken start other now
+pub broken_as : (start now : Option Sink) (input other : List ℕ) → input ≡ other → Broken start input now
+    → Broken start other now
 broken_as start now input other e b = rw (← e) b
 
 -- the end of the input
-pub end_cut : (start now after : Option Sink) (input waits : List ℕ) (core : State) (count : ℕ) (held : List ℕ) (over : Bool) →
+pub end_cut : (start now after : Option Sink) (input waits : List ℕ) (core : State) (count : ℕ) (held : List ℕ)
+    (over : Bool) →
     ((line : List ℕ) → Holds held over line → Cut now waits after (last_text (count + 1) line)) →
     Standing start input now waits core count held over → (out : List ℕ) × Output input out × Cut start [] after out
 end_cut start now after input waits core count held over last s = (
@@ -161,32 +218,45 @@ end_cut start now after input waits core count held over last s = (
   sent_cut start now after [] waits s.1 (last_text (count + 1) s.0) s.4 (last s.0 s.3),
 )
 
-pub end_sent : {T E : Type 0} (start now mid after : Option Sink) (input waits waits' end : List ℕ) (core : State) (count : ℕ) (held : List ℕ) (over : Bool) (r : Result T E) →
-    end ≡ [] → ((line : List ℕ) → Holds held over line → Sent now waits mid waits' (last_text (count + 1) line)) → Streams mid waits' after end [] r →
+pub end_sent : {T E : Type 0} (start now mid after : Option Sink) (input waits waits' end : List ℕ) (core : State)
+    (count : ℕ) (held : List ℕ) (over : Bool) (r : Result T E) →
+    end ≡ [] → ((line : List ℕ) → Holds held over line → Sent now waits mid waits' (last_text (count + 1) line))
+    → Streams mid waits' after end [] r →
     Standing start input now waits core count held over → Ended start input after r
 end_sent start now mid after input waits waits' end core count held over (Ok x) e last flushed s =
     let out = s.1 ++ last_text (count + 1) s.0 in
-    let sent = sent_then start now mid [] waits waits' s.1 (last_text (count + 1) s.0) s.4 (last s.0 s.3) in
-    (out, reach_output input s.1 core count s.0 s.2, sent_nil start after out (rw e at (sent_then start mid after [] waits' end out [] sent flushed)))
+    let sent = sent_then start now mid [] waits waits' s.1 (last_text (count + 1) s.0) s.4 (last s.0 s.3) in (
+      out,
+      reach_output input s.1 core count s.0 s.2,
+      sent_nil start after out
+          (rw e at (sent_then start mid after [] waits' end out [] sent flushed)),
+    )
   where
     sent_nil : (a b : Option Sink) (t : List ℕ) → Sent a [] b [] (t ++ []) → Sent a [] b [] t
     sent_nil a b t p = rw append-nil at p
 end_sent start now mid after input waits waits' end core count held over (Err x) e last flushed s =
     let out = s.1 ++ last_text (count + 1) s.0 in
-    let sent = sent_then start now mid [] waits waits' s.1 (last_text (count + 1) s.0) s.4 (last s.0 s.3) in
-    (out, reach_output input s.1 core count s.0 s.2, cut_nil start after out (sent_cut start mid after [] waits' out [] sent flushed))
+    let sent = sent_then start now mid [] waits waits' s.1 (last_text (count + 1) s.0) s.4 (last s.0 s.3) in (
+      out,
+      reach_output input s.1 core count s.0 s.2,
+      cut_nil start after out
+          (sent_cut start mid after [] waits' out [] sent flushed),
+    )
   where
     cut_nil : (a b : Option Sink) (t : List ℕ) → Cut a [] b (t ++ []) → Cut a [] b t
     cut_nil a b t p = rw append-nil at p
 
 -- the bytes of a piece up to a line's end, and behind it
 pub to_end : (input front last : List ℕ) → ((input ++ front) ++ last) ++ 10 ∷ [] ≡ input ++ ((front ++ last) ++ 10 ∷ [])
-to_end input front last = ap (λ z. z ++ 10 ∷ []) (append_assoc input front last) ∙ append_assoc input (front ++ last) (10 ∷ [])
+to_end input front last = ap (λ z. z ++ 10 ∷ []) (append_assoc input front last)
+    ∙ append_assoc input (front ++ last) (10 ∷ [])
 
-pub past_end : (front last more rest : List ℕ) → rest ≡ last ++ 10 ∷ more → ((front ++ last) ++ 10 ∷ []) ++ more ≡ front ++ rest
+pub past_end : (front last more rest : List ℕ) → rest ≡ last ++ 10 ∷ more
+    → ((front ++ last) ++ 10 ∷ []) ++ more ≡ front ++ rest
 past_end front last more rest e =
     append_assoc (front ++ last) (10 ∷ []) more ∙ append_assoc front last (10 ∷ more) ∙ ap (λ z. front ++ z) (sym e)
 
-pub standing_as : (start now : Option Sink) (input other waits : List ℕ) (core : State) (count : ℕ) (held : List ℕ) (over : Bool) → input ≡ other →
+pub standing_as : (start now : Option Sink) (input other waits : List ℕ) (core : State) (count : ℕ) (held : List ℕ)
+    (over : Bool) → input ≡ other →
     Standing start input now waits core count held over → Standing start other now waits core count held over
 standing_as start now input other waits core count held over e s = rw (← e) s

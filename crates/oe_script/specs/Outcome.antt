@@ -28,8 +28,10 @@ Tells w i w' old new = (x : Answer) × Next system w (step_in i) (answer_in i x)
 abbrev pub TellsRun : World system → ℕ → World system → List ℕ → List ℕ → Type 0
 TellsRun w t w' old new = (n : ℕ) × (x : Answer) × RunsIn n w t x w' × (new ≡ old ++ answer_line x)
 
--- the n-th line is answered, and all of its text went out; where a write failed a front of it did, and the state is as before
-abbrev pub Replies : {T E : Type 0} → State → ℕ → List ℕ → State → Option Sink → List ℕ → Option Sink → List ℕ → Result T E → Type 0
+-- the n-th line is answered, and all of its text went out; where a write failed a front of it did, and the state is as
+-- before
+abbrev pub Replies : {T E : Type 0} → State → ℕ → List ℕ → State → Option Sink → List ℕ → Option Sink → List ℕ
+    → Result T E → Type 0
 Replies s n line s' old waited new waits r = MatchResult r
     (λ _. (text : List ℕ) × LineAnswer s n line text s' × Sent old waited new waits text)
     (λ _. (s' ≡ s) × (text : List ℕ) × (t : State) × LineAnswer s n line text t × Cut old waited new text)

@@ -1,5 +1,6 @@
 -- What a script is answered.
-use Rattle.std.specs.Prelude.{◌≡◌, ◌≢◌, ℕ, zero, suc, ◌+◌, ◌≤◌, ◌<◌, ◌⊎◌, Bool, true, false, All, List, [], ◌∷◌, ◌++◌, length, Option, Some, None, codes}
+use Rattle.std.specs.Prelude.{◌≡◌, ◌≢◌, ℕ, zero, suc, ◌+◌, ◌≤◌, ◌<◌, ◌⊎◌, Bool, true, false, All, List, [], ◌∷◌, ◌++◌}
+use Rattle.std.specs.Prelude.{length, Option, Some, None, codes}
 use Rattle.std.specs.List.{flat_map}
 use Rattle.oe_theory.specs.World.{World, newest, tables}
 use Rattle.oe_theory.specs.Next.{Next}
@@ -45,16 +46,19 @@ told i x = answer_line x
 
 -- the step may be answered by this text, and this state is left
 abbrev pub Stepped : World system → Step → List ℕ → State → Type 0
-Stepped w i text s = (x : Answer) × (w' : World system) × Next system w (step_in i) (answer_in i x) w' × (text ≡ told i x) × (s ≡ Some w')
+Stepped w i text s = (x : Answer) × (w' : World system) × Next system w (step_in i) (answer_in i x) w'
+    × (text ≡ told i x) × (s ≡ Some w')
 
 -- n advances of terminal t that are answered `more`, and one with this answer, which is another
 abbrev pub RunsIn : ℕ → World system → ℕ → Answer → World system → Type 0
 RunsIn zero w t x w' = (x ≢ answer.More) × Next system w (step_in (step.Advance t)) (answer_in (step.Advance t) x) w'
-RunsIn (suc n) w t x w' = (mid : World system) × Next system w (step_in (step.Advance t)) (answer_in (step.Advance t) answer.More) mid × RunsIn n mid t x w'
+RunsIn (suc n) w t x w' = (mid : World system) × Next system w (step_in (step.Advance t))
+    (answer_in (step.Advance t) answer.More) mid × RunsIn n mid t x w'
 
 -- of a run the last answer alone is written
 abbrev pub Ran : World system → ℕ → List ℕ → State → Type 0
-Ran w t text s = (n : ℕ) × (x : Answer) × (w' : World system) × RunsIn n w t x w' × (text ≡ answer_line x) × (s ≡ Some w')
+Ran w t text s = (n : ℕ) × (x : Answer) × (w' : World system) × RunsIn n w t x w' × (text ≡ answer_line x)
+    × (s ≡ Some w')
 
 -- an opening gives a population of that scale, or is refused where memory is, and may then be asked for again
 abbrev pub Opens : Scale → ℕ → List ℕ → State → Type 0
@@ -102,7 +106,8 @@ LineAnswer s n line text s' =
 abbrev pub RunOfLines : State → ℕ → List (List ℕ) → List ℕ → State → Type 0
 RunOfLines s n [] text s' = (text ≡ []) × (s' ≡ s)
 RunOfLines s n (line ∷ lines) text s' =
-    (mid : State) × (first : List ℕ) × (rest : List ℕ) × LineAnswer s (n + 1) line first mid × RunOfLines mid (n + 1) lines rest s' × (text ≡ first ++ rest)
+    (mid : State) × (first : List ℕ) × (rest : List ℕ) × LineAnswer s (n + 1) line first mid
+    × RunOfLines mid (n + 1) lines rest s' × (text ≡ first ++ rest)
 
 -- byte 10 ends a line
 abbrev pub IsInLine : List ℕ → Type 0

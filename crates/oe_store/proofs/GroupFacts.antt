@@ -7,7 +7,8 @@ use Rattle.std.specs.declared.cmp.Ordering.{Ordering}
 use Rattle.std.specs.declared.cmp.Ordering.TheVariants.{Less, Equal, Greater}
 use Rattle.std.specs.declared.ops.Bound.TheVariants.{Included}
 use Rattle.std.specs.Cmp.{IsTotalOrder, eq_by_cmp_equiv, ranked}
-use Rattle.std.specs.FinMap.{FinMap, IsAntisymmetric, get, entries, entries_sorted, get-entries, retain_keys, get-retain_keys}
+use Rattle.std.specs.FinMap.{FinMap, IsAntisymmetric, get, entries, entries_sorted, get-entries, retain_keys}
+use Rattle.std.specs.FinMap.{get-retain_keys}
 use Rattle.std.specs.FinMap.Entries.{find-where_key, is_sorted-where_key, same_entries}
 use Rattle.std.specs.BTreeMap.Range.{range_contains, entries_between}
 use Rattle.oe_rows.specs.Key.{warehouse_cmp, district_cmp, customer_cmp, new_order_cmp, order_cmp, order_line_cmp}
@@ -22,8 +23,11 @@ use Rattle.oe_rows.specs.declared.customers.Customer.{Customer}
 use Rattle.oe_rows.specs.declared.orders.NewOrder.{NewOrder}
 use Rattle.oe_rows.specs.declared.orders.Order.{Order}
 use Rattle.oe_rows.specs.declared.orders.OrderLine.{OrderLine}
-use Rattle.oe_rows.proofs.KeyFacts.{warehouse_total, district_total, exact_district, customer_total, exact_customer, new_order_total, exact_new_order, order_total, exact_order, order_line_total, exact_order_line}
-use Rattle.oe_model.specs.Keys.{warehouse_of_district, district_of_customer, district_of_new_order, district_of_order, order_of_line}
+use Rattle.oe_rows.proofs.KeyFacts.{warehouse_total, district_total, exact_district, customer_total, exact_customer}
+use Rattle.oe_rows.proofs.KeyFacts.{new_order_total, exact_new_order, order_total, exact_order, order_line_total}
+use Rattle.oe_rows.proofs.KeyFacts.{exact_order_line}
+use Rattle.oe_model.specs.Keys.{warehouse_of_district, district_of_customer, district_of_new_order, district_of_order}
+use Rattle.oe_model.specs.Keys.{order_of_line}
 use Rattle.oe_store.specs.Places.{entries_of}
 
 module _ {K X : Type 0} {R : K → K → Ordering} (total : IsTotalOrder R) (exact : IsAntisymmetric R) where
@@ -35,15 +39,18 @@ module _ {K X : Type 0} {R : K → K → Ordering} (total : IsTotalOrder R) (exa
   by_row false false None h = refl
 
   -- two tests that agree at each key with a row keep the same rows
-  pub kept_alike : (m : FinMap R X) (p q : K → Bool) → ((k : K) (x : X) → get m k ≡ Some x → p k ≡ q k) → filter (λ e. p e.0) (entries m) ≡ entries (retain_keys m q)
+  pub kept_alike : (m : FinMap R X) (p q : K → Bool) → ((k : K) (x : X) → get m k ≡ Some x → p k ≡ q k)
+      → filter (λ e. p e.0) (entries m) ≡ entries (retain_keys m q)
   kept_alike m p q agree =
-      same_entries R total exact _ _ (is_sorted-where_key R p (entries m) (entries_sorted m)) (entries_sorted (retain_keys m q)) (λ k.
+      same_entries R total exact _ _ (is_sorted-where_key R p (entries m) (entries_sorted m))
+      (entries_sorted (retain_keys m q)) (λ k.
       find-where_key R p k (λ x e. ap p (sym (exact k x e))) (entries m)
       ∙ ap (λ o. cond (p k) o None) (sym (get-entries m k)) ∙ by_row (p k) (q k) (get m k) (agree k)
       ∙ sym (get-retain_keys m q k (λ x e. ap q (sym (exact k x e)))) ∙ get-entries (retain_keys m q) k)
 
   -- a group whose first key and last enclose exactly its keys
-  pub entries_of_group : {G : Type 0} {S : G → G → Ordering} → IsTotalOrder S → (group_of : K → G) (g : G) (first last : K) (m : FinMap R X)
+  pub entries_of_group : {G : Type 0} {S : G → G → Ordering} → IsTotalOrder S
+      → (group_of : K → G) (g : G) (first last : K) (m : FinMap R X)
       → ((k : K) → IsSome (get m k) → range_contains R (Included first) (Included last) k ≡ is_eq (S g (group_of k)))
       → entries_between R (Included first) (Included last) (entries m) ≡ entries_of S group_of g m
   entries_of_group {S = S} groups group_of g first last m enclosed =
@@ -56,7 +63,8 @@ then_assoc Equal b c = refl
 then_assoc Greater b c = refl
 
 -- between the least and the greatest of a group, by the order of groups first
-pub within : (r x y : Ordering) → is_le x ≡ true → is_lt y ≡ false → (is_le (ordering_then r x) && not (is_lt (ordering_then r y))) ≡ is_eq r
+pub within : (r x y : Ordering) → is_le x ≡ true → is_lt y ≡ false
+    → (is_le (ordering_then r x) && not (is_lt (ordering_then r y))) ≡ is_eq r
 within Less x y low high = refl
 within Equal x y low high = ap (λ b. b && not (is_lt y)) low ∙ ap not high
 within Greater x y low high = refl
@@ -83,32 +91,117 @@ both_most Equal b g h = h
 both_most Greater b g h = refl
 
 -- each group of a table, by the least and the greatest of its numbers
-pub districts_between : (m : FinMap district_cmp District) (g : WarehouseKey) (low high : ℕ) → ((k : DistrictKey) → IsSome (get m k) → IsInRange low high k.district)
-    → entries_between district_cmp (Included (record { warehouse = g.warehouse; district = low })) (Included (record { warehouse = g.warehouse; district = high })) (entries m) ≡ entries_of warehouse_cmp warehouse_of_district g m
+pub districts_between : (m : FinMap district_cmp District) (g : WarehouseKey) (low high : ℕ)
+    → ((k : DistrictKey) → IsSome (get m k) → IsInRange low high k.district)
+    → entries_between district_cmp (Included (record { warehouse = g.warehouse; district = low }))
+    (Included (record { warehouse = g.warehouse; district = high })) (entries m) ≡ entries_of warehouse_cmp
+    warehouse_of_district g m
 districts_between m g low high h =
-    entries_of_group district_total exact_district warehouse_total warehouse_of_district g (record { warehouse = g.warehouse; district = low }) (record { warehouse = g.warehouse; district = high }) m (λ k there. within (warehouse_cmp g (warehouse_of_district k)) (nat_cmp low k.district) (nat_cmp high k.district) (at_least low k.district (h k there).0 (nat_cmp low k.district) refl) (at_most high k.district (h k there).1 (nat_cmp high k.district) refl))
+    entries_of_group district_total exact_district warehouse_total warehouse_of_district g
+    (record { warehouse = g.warehouse; district = low }) (record { warehouse = g.warehouse; district = high }) m
+    (λ k there. within (warehouse_cmp g (warehouse_of_district k)) (nat_cmp low k.district)
+    (nat_cmp high k.district) (at_least low k.district (h k there).0 (nat_cmp low k.district) refl)
+    (at_most high k.district (h k there).1 (nat_cmp high k.district) refl))
 
-pub customers_between : (m : FinMap customer_cmp Customer) (g : DistrictKey) (low high : ℕ) → ((k : CustomerKey) → IsSome (get m k) → IsInRange low high k.customer)
-    → entries_between customer_cmp (Included (record { warehouse = g.warehouse; district = g.district; customer = low })) (Included (record { warehouse = g.warehouse; district = g.district; customer = high })) (entries m) ≡ entries_of district_cmp district_of_customer g m
+pub customers_between : (m : FinMap customer_cmp Customer) (g : DistrictKey) (low high : ℕ)
+    → ((k : CustomerKey) → IsSome (get m k) → IsInRange low high k.customer)
+    → entries_between customer_cmp
+    (Included (record { warehouse = g.warehouse; district = g.district; customer = low }))
+    (Included (record { warehouse = g.warehouse; district = g.district; customer = high })) (entries m) ≡ entries_of
+    district_cmp district_of_customer g m
 customers_between m g low high h =
-    entries_of_group customer_total exact_customer district_total district_of_customer g (record { warehouse = g.warehouse; district = g.district; customer = low }) (record { warehouse = g.warehouse; district = g.district; customer = high }) m (λ k there. rw (then_assoc (nat_cmp g.warehouse k.warehouse) (nat_cmp g.district k.district) (nat_cmp low k.customer), then_assoc (nat_cmp g.warehouse k.warehouse) (nat_cmp g.district k.district) (nat_cmp high k.customer)) (within (district_cmp g (district_of_customer k)) (nat_cmp low k.customer) (nat_cmp high k.customer) (at_least low k.customer (h k there).0 (nat_cmp low k.customer) refl) (at_most high k.customer (h k there).1 (nat_cmp high k.customer) refl)))
+    entries_of_group customer_total exact_customer district_total district_of_customer g
+    (record { warehouse = g.warehouse; district = g.district; customer = low })
+    (record { warehouse = g.warehouse; district = g.district; customer = high }) m
+    (λ k there. rw (
+      then_assoc (nat_cmp g.warehouse k.warehouse) (nat_cmp g.district k.district)
+          (nat_cmp low k.customer),
+      then_assoc (nat_cmp g.warehouse k.warehouse) (nat_cmp g.district k.district)
+          (nat_cmp high k.customer),
+    ) (within (district_cmp g (district_of_customer k)) (nat_cmp low k.customer)
+    (nat_cmp high k.customer) (at_least low k.customer (h k there).0 (nat_cmp low k.customer) refl)
+    (at_most high k.customer (h k there).1 (nat_cmp high k.customer) refl)))
 
-pub orders_between : (m : FinMap order_cmp Order) (g : DistrictKey) (low high : ℕ) → ((k : OrderKey) → IsSome (get m k) → IsInRange low high k.order)
-    → entries_between order_cmp (Included (record { warehouse = g.warehouse; district = g.district; order = low })) (Included (record { warehouse = g.warehouse; district = g.district; order = high })) (entries m) ≡ entries_of district_cmp district_of_order g m
+pub orders_between : (m : FinMap order_cmp Order) (g : DistrictKey) (low high : ℕ)
+    → ((k : OrderKey) → IsSome (get m k) → IsInRange low high k.order)
+    → entries_between order_cmp (Included (record { warehouse = g.warehouse; district = g.district; order = low }))
+    (Included (record { warehouse = g.warehouse; district = g.district; order = high })) (entries m) ≡ entries_of
+    district_cmp district_of_order g m
 orders_between m g low high h =
-    entries_of_group order_total exact_order district_total district_of_order g (record { warehouse = g.warehouse; district = g.district; order = low }) (record { warehouse = g.warehouse; district = g.district; order = high }) m (λ k there. rw (then_assoc (nat_cmp g.warehouse k.warehouse) (nat_cmp g.district k.district) (nat_cmp low k.order), then_assoc (nat_cmp g.warehouse k.warehouse) (nat_cmp g.district k.district) (nat_cmp high k.order)) (within (district_cmp g (district_of_order k)) (nat_cmp low k.order) (nat_cmp high k.order) (at_least low k.order (h k there).0 (nat_cmp low k.order) refl) (at_most high k.order (h k there).1 (nat_cmp high k.order) refl)))
+    entries_of_group order_total exact_order district_total district_of_order g
+    (record { warehouse = g.warehouse; district = g.district; order = low })
+    (record { warehouse = g.warehouse; district = g.district; order = high }) m
+    (λ k there. rw (
+      then_assoc (nat_cmp g.warehouse k.warehouse) (nat_cmp g.district k.district)
+          (nat_cmp low k.order),
+      then_assoc (nat_cmp g.warehouse k.warehouse) (nat_cmp g.district k.district)
+          (nat_cmp high k.order),
+    ) (within (district_cmp g (district_of_order k)) (nat_cmp low k.order)
+    (nat_cmp high k.order) (at_least low k.order (h k there).0 (nat_cmp low k.order) refl)
+    (at_most high k.order (h k there).1 (nat_cmp high k.order) refl)))
 
-pub new_orders_between : (m : FinMap new_order_cmp NewOrder) (g : DistrictKey) (low high : ℕ) → ((k : NewOrderKey) → IsSome (get m k) → IsInRange low high k.order)
-    → entries_between new_order_cmp (Included (record { warehouse = g.warehouse; district = g.district; order = low })) (Included (record { warehouse = g.warehouse; district = g.district; order = high })) (entries m) ≡ entries_of district_cmp district_of_new_order g m
+pub new_orders_between : (m : FinMap new_order_cmp NewOrder) (g : DistrictKey) (low high : ℕ)
+    → ((k : NewOrderKey) → IsSome (get m k) → IsInRange low high k.order)
+    → entries_between new_order_cmp (Included (record { warehouse = g.warehouse; district = g.district; order = low }))
+    (Included (record { warehouse = g.warehouse; district = g.district; order = high })) (entries m) ≡ entries_of
+    district_cmp district_of_new_order g m
 new_orders_between m g low high h =
-    entries_of_group new_order_total exact_new_order district_total district_of_new_order g (record { warehouse = g.warehouse; district = g.district; order = low }) (record { warehouse = g.warehouse; district = g.district; order = high }) m (λ k there. rw (then_assoc (nat_cmp g.warehouse k.warehouse) (nat_cmp g.district k.district) (nat_cmp low k.order), then_assoc (nat_cmp g.warehouse k.warehouse) (nat_cmp g.district k.district) (nat_cmp high k.order)) (within (district_cmp g (district_of_new_order k)) (nat_cmp low k.order) (nat_cmp high k.order) (at_least low k.order (h k there).0 (nat_cmp low k.order) refl) (at_most high k.order (h k there).1 (nat_cmp high k.order) refl)))
+    entries_of_group new_order_total exact_new_order district_total district_of_new_order g
+    (record { warehouse = g.warehouse; district = g.district; order = low })
+    (record { warehouse = g.warehouse; district = g.district; order = high }) m
+    (λ k there. rw (
+      then_assoc (nat_cmp g.warehouse k.warehouse) (nat_cmp g.district k.district)
+          (nat_cmp low k.order),
+      then_assoc (nat_cmp g.warehouse k.warehouse) (nat_cmp g.district k.district)
+          (nat_cmp high k.order),
+    ) (within (district_cmp g (district_of_new_order k)) (nat_cmp low k.order)
+    (nat_cmp high k.order) (at_least low k.order (h k there).0 (nat_cmp low k.order) refl)
+    (at_most high k.order (h k there).1 (nat_cmp high k.order) refl)))
 
-pub lines_between : (m : FinMap order_line_cmp OrderLine) (g : OrderKey) (low high : ℕ) → ((k : OrderLineKey) → IsSome (get m k) → IsInRange low high k.number)
-    → entries_between order_line_cmp (Included (record { warehouse = g.warehouse; district = g.district; order = g.order; number = low })) (Included (record { warehouse = g.warehouse; district = g.district; order = g.order; number = high })) (entries m) ≡ entries_of order_cmp order_of_line g m
+pub lines_between : (m : FinMap order_line_cmp OrderLine) (g : OrderKey) (low high : ℕ)
+    → ((k : OrderLineKey) → IsSome (get m k) → IsInRange low high k.number)
+    → entries_between order_line_cmp
+    (Included (record { warehouse = g.warehouse; district = g.district; order = g.order; number = low }))
+    (Included (record { warehouse = g.warehouse; district = g.district; order = g.order; number = high }))
+    (entries m) ≡ entries_of order_cmp order_of_line g m
 lines_between m g low high h =
-    entries_of_group order_line_total exact_order_line order_total order_of_line g (record { warehouse = g.warehouse; district = g.district; order = g.order; number = low }) (record { warehouse = g.warehouse; district = g.district; order = g.order; number = high }) m (λ k there. rw (then_assoc (nat_cmp g.district k.district) (nat_cmp g.order k.order) (nat_cmp low k.number), then_assoc (nat_cmp g.warehouse k.warehouse) (ordering_then (nat_cmp g.district k.district) (nat_cmp g.order k.order)) (nat_cmp low k.number), then_assoc (nat_cmp g.district k.district) (nat_cmp g.order k.order) (nat_cmp high k.number), then_assoc (nat_cmp g.warehouse k.warehouse) (ordering_then (nat_cmp g.district k.district) (nat_cmp g.order k.order)) (nat_cmp high k.number)) (within (order_cmp g (order_of_line k)) (nat_cmp low k.number) (nat_cmp high k.number) (at_least low k.number (h k there).0 (nat_cmp low k.number) refl) (at_most high k.number (h k there).1 (nat_cmp high k.number) refl)))
+    entries_of_group order_line_total exact_order_line order_total order_of_line g
+    (record { warehouse = g.warehouse; district = g.district; order = g.order; number = low })
+    (record { warehouse = g.warehouse; district = g.district; order = g.order; number = high }) m
+    (λ k there. rw (
+      then_assoc (nat_cmp g.district k.district) (nat_cmp g.order k.order) (nat_cmp low k.number),
+      then_assoc (nat_cmp g.warehouse k.warehouse)
+          (ordering_then (nat_cmp g.district k.district) (nat_cmp g.order k.order)) (nat_cmp low k.number),
+      then_assoc
+          (nat_cmp g.district k.district) (nat_cmp g.order k.order) (nat_cmp high k.number),
+      then_assoc
+          (nat_cmp g.warehouse k.warehouse) (ordering_then (nat_cmp g.district k.district) (nat_cmp g.order k.order))
+          (nat_cmp high k.number),
+    ) (within (order_cmp g (order_of_line k)) (nat_cmp low k.number) (nat_cmp high k.number)
+    (at_least low k.number (h k there).0 (nat_cmp low k.number) refl)
+    (at_most high k.number (h k there).1 (nat_cmp high k.number) refl)))
 
-pub lines_of_district_between : (m : FinMap order_line_cmp OrderLine) (g : DistrictKey) (low_0 low_1 high_0 high_1 : ℕ) → ((k : OrderLineKey) → IsSome (get m k) → IsInRange low_0 high_0 k.order × IsInRange low_1 high_1 k.number)
-    → entries_between order_line_cmp (Included (record { warehouse = g.warehouse; district = g.district; order = low_0; number = low_1 })) (Included (record { warehouse = g.warehouse; district = g.district; order = high_0; number = high_1 })) (entries m) ≡ entries_of district_cmp (λ j. district_of_order (order_of_line j)) g m
+pub lines_of_district_between : (m : FinMap order_line_cmp OrderLine) (g : DistrictKey) (low_0 low_1 high_0 high_1 : ℕ)
+    → ((k : OrderLineKey) → IsSome (get m k) → IsInRange low_0 high_0 k.order × IsInRange low_1 high_1 k.number)
+    → entries_between order_line_cmp
+    (Included (record { warehouse = g.warehouse; district = g.district; order = low_0; number = low_1 }))
+    (Included (record { warehouse = g.warehouse; district = g.district; order = high_0; number = high_1 }))
+    (entries m) ≡ entries_of district_cmp (λ j. district_of_order (order_of_line j)) g m
 lines_of_district_between m g low_0 low_1 high_0 high_1 h =
-    entries_of_group order_line_total exact_order_line district_total (λ j. district_of_order (order_of_line j)) g (record { warehouse = g.warehouse; district = g.district; order = low_0; number = low_1 }) (record { warehouse = g.warehouse; district = g.district; order = high_0; number = high_1 }) m (λ k there. rw (then_assoc (nat_cmp g.warehouse k.warehouse) (nat_cmp g.district k.district) (ordering_then (nat_cmp low_0 k.order) (nat_cmp low_1 k.number)), then_assoc (nat_cmp g.warehouse k.warehouse) (nat_cmp g.district k.district) (ordering_then (nat_cmp high_0 k.order) (nat_cmp high_1 k.number))) (within (district_cmp g (district_of_order (order_of_line k))) (ordering_then (nat_cmp low_0 k.order) (nat_cmp low_1 k.number)) (ordering_then (nat_cmp high_0 k.order) (nat_cmp high_1 k.number)) (both_least (nat_cmp low_0 k.order) (nat_cmp low_1 k.number) (at_least low_0 k.order ((h k there).0).0 (nat_cmp low_0 k.order) refl) (at_least low_1 k.number ((h k there).1).0 (nat_cmp low_1 k.number) refl)) (both_most (nat_cmp high_0 k.order) (nat_cmp high_1 k.number) (at_most high_0 k.order ((h k there).0).1 (nat_cmp high_0 k.order) refl) (at_most high_1 k.number ((h k there).1).1 (nat_cmp high_1 k.number) refl))))
+    entries_of_group order_line_total exact_order_line district_total (λ j. district_of_order (order_of_line j)) g
+    (record { warehouse = g.warehouse; district = g.district; order = low_0; number = low_1 })
+    (record { warehouse = g.warehouse; district = g.district; order = high_0; number = high_1 }) m
+    (λ k there. rw (
+      then_assoc (nat_cmp g.warehouse k.warehouse) (nat_cmp g.district k.district)
+          (ordering_then (nat_cmp low_0 k.order) (nat_cmp low_1 k.number)),
+      then_assoc (nat_cmp g.warehouse k.warehouse)
+          (nat_cmp g.district k.district) (ordering_then (nat_cmp high_0 k.order) (nat_cmp high_1 k.number)),
+    ) (within
+    (district_cmp g (district_of_order (order_of_line k)))
+    (ordering_then (nat_cmp low_0 k.order) (nat_cmp low_1 k.number))
+    (ordering_then (nat_cmp high_0 k.order) (nat_cmp high_1 k.number))
+    (both_least (nat_cmp low_0 k.order) (nat_cmp low_1 k.number)
+    (at_least low_0 k.order ((h k there).0).0 (nat_cmp low_0 k.order) refl)
+    (at_least low_1 k.number ((h k there).1).0 (nat_cmp low_1 k.number) refl)) (both_most (nat_cmp high_0 k.order)
+    (nat_cmp high_1 k.number) (at_most high_0 k.order ((h k there).0).1 (nat_cmp high_0 k.order) refl)
+    (at_most high_1 k.number ((h k there).1).1 (nat_cmp high_1 k.number) refl))))

@@ -4,7 +4,8 @@ use Rattle.std.specs.Int.{IsInRange}
 use Rattle.std.specs.Ordering.{eq_by_cmp}
 use Rattle.std.specs.declared.cmp.Ordering.{Ordering}
 use Rattle.std.specs.FinMap.{FinMap, empty, entries, retain_keys}
-use Rattle.oe_rows.specs.Key.{warehouse_cmp, district_cmp, customer_cmp, history_cmp, new_order_cmp, order_cmp, order_line_cmp, item_cmp, stock_cmp}
+use Rattle.oe_rows.specs.Key.{warehouse_cmp, district_cmp, customer_cmp, history_cmp, new_order_cmp, order_cmp}
+use Rattle.oe_rows.specs.Key.{order_line_cmp, item_cmp, stock_cmp}
 use Rattle.oe_rows.specs.declared.keys.WarehouseKey.{WarehouseKey}
 use Rattle.oe_rows.specs.declared.keys.DistrictKey.{DistrictKey}
 use Rattle.oe_rows.specs.declared.keys.CustomerKey.{CustomerKey}
@@ -88,7 +89,8 @@ abbrev pub GivesUp : Places → Places → Key → Type 0
 GivesUp old new own = (k : Key) → HasPlace new k ↔ (HasPlace old k × ((k ≡ own) → IsSome (row_at (rows old) k)))
 
 -- the rows of one group, in the keys' order: `group_of` is a key's group
-abbrev pub entries_of : {K G X : Type 0} {R : K → K → Ordering} → (G → G → Ordering) → (K → G) → G → FinMap R X → List (K × X)
+abbrev pub entries_of : {K G X : Type 0} {R : K → K → Ordering} → (G → G → Ordering) → (K → G) → G → FinMap R X
+    → List (K × X)
 entries_of cmp group_of group m = entries (retain_keys m (λ k. eq_by_cmp cmp (group_of k) group))
 
 -- no table has a row

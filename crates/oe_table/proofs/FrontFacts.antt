@@ -1,5 +1,7 @@
--- A list without its first n elements: what is written, put or taken out there is so in the whole list, n elements later.
-use Rattle.std.proofs.Common.{◌≡◌, refl, ap, ℕ, suc, zero, ◌<◌, ◌≤◌, ◌+◌, List, [], ◌∷◌, ◌++◌, length, get_or, set, take, drop, arith}
+-- A list without its first n elements: what is written, put or taken out there is so in the whole list, n elements
+-- later.
+use Rattle.std.proofs.Common.{◌≡◌, refl, ap, ℕ, suc, zero, ◌<◌, ◌≤◌, ◌+◌, List, [], ◌∷◌, ◌++◌, length, get_or, set}
+use Rattle.std.proofs.Common.{take, drop, arith}
 use Rattle.std.specs.List.{insert, remove}
 
 module _ {A : Type 0} where
@@ -9,11 +11,13 @@ module _ {A : Type 0} where
   drop-set (suc n) i (suc j) [] x is = refl
   drop-set (suc n) i (suc j) (y ∷ xs) x is = drop-set n i j xs x (omega (arith, is))
 
-  pub drop-insert : (n i j : ℕ) (xs : List A) (x : A) → j ≡ n + i → n ≤ length xs → drop n (insert xs j x) ≡ insert (drop n xs) i x
+  pub drop-insert : (n i j : ℕ) (xs : List A) (x : A) → j ≡ n + i → n ≤ length xs
+      → drop n (insert xs j x) ≡ insert (drop n xs) i x
   drop-insert zero i j xs x is within = let same : j ≡ i = omega (arith, is) in ap (λ k. insert xs k x) same
   drop-insert (suc n) i zero xs x is within = absurd (omega (arith, is))
   drop-insert (suc n) i (suc j) [] x is within = absurd (omega (arith, within))
-  drop-insert (suc n) i (suc j) (y ∷ xs) x is within = drop-insert n i j xs x (omega (arith, is)) (omega (arith, within))
+  drop-insert (suc n) i (suc j) (y ∷ xs) x is within = drop-insert n i j xs x (omega (arith, is))
+      (omega (arith, within))
 
   pub drop-remove : (n i j : ℕ) (xs : List A) → j ≡ n + i → j < length xs → drop n (remove xs j) ≡ remove (drop n xs) i
   drop-remove zero i j xs is within = let same : j ≡ i = omega (arith, is) in ap (λ k. remove xs k) same
@@ -27,11 +31,13 @@ module _ {A : Type 0} where
   drop-next (suc n) zero (y ∷ xs) is within = absurd (omega (arith, is))
   drop-next (suc n) (suc m) (y ∷ xs) is within = drop-next n m xs (omega (arith, is)) (omega (arith, within))
 
-  pub get_or-drop : (n i j : ℕ) (xs : List A) (d : A) → j ≡ n + i → j < length xs → get_or xs j d ≡ get_or (drop n xs) i d
+  pub get_or-drop : (n i j : ℕ) (xs : List A) (d : A) → j ≡ n + i → j < length xs
+      → get_or xs j d ≡ get_or (drop n xs) i d
   get_or-drop zero i j xs d is within = let same : j ≡ i = omega (arith, is) in ap (λ k. get_or xs k d) same
   get_or-drop (suc n) i zero xs d is within = absurd (omega (arith, is))
   get_or-drop (suc n) i (suc j) [] d is within = absurd (omega (arith, within))
-  get_or-drop (suc n) i (suc j) (y ∷ xs) d is within = get_or-drop n i j xs d (omega (arith, is)) (omega (arith, within))
+  get_or-drop (suc n) i (suc j) (y ∷ xs) d is within = get_or-drop n i j xs d (omega (arith, is))
+      (omega (arith, within))
 
   pub drop-within : (n i : ℕ) (xs : List A) → n ≤ length xs → i < length (drop n xs) → n + i < length xs
   drop-within zero i xs le h = omega (arith, h)

@@ -1,5 +1,6 @@
 -- Slots at the beginning of a shelf that have no row: what leaves them so, and that a walk over rows may pass them.
-use Rattle.std.proofs.Common.{◌≡◌, refl, sym, ◌∙◌, ap, Bool, true, false, cond, ℕ, suc, zero, ◌<◌, ◌≤◌, ◌+◌, ◌==◌, min, max, List, [], ◌∷◌, ◌++◌, length, get_or, set, take, drop, arith, Option, Some, None}
+use Rattle.std.proofs.Common.{◌≡◌, refl, sym, ◌∙◌, ap, Bool, true, false, cond, ℕ, suc, zero, ◌<◌, ◌≤◌, ◌+◌, ◌==◌, min}
+use Rattle.std.proofs.Common.{max, List, [], ◌∷◌, ◌++◌, length, get_or, set, take, drop, arith, Option, Some, None}
 use Rattle.std.specs.Prelude.{is_some}
 use Rattle.std.specs.List.{insert}
 use Rattle.std.proofs.lemmas.List.{take-set-le}
@@ -8,7 +9,8 @@ use lib.Dec.{ltb}
 use Rattle.oe_table.specs.Table.{live}
 use Rattle.oe_table.specs.Shelf.{joined, cut_between}
 
-take-insert : {A : Type 0} (n : ℕ) (s : List A) (i : ℕ) (x : A) → n ≤ i → i ≤ length s → take n (insert s i x) ≡ take n s
+take-insert : {A : Type 0} (n : ℕ) (s : List A) (i : ℕ) (x : A) → n ≤ i → i ≤ length s
+    → take n (insert s i x) ≡ take n s
 take-insert zero s i x le within = refl
 take-insert (suc n) s zero x le within = absurd (omega arith)
 take-insert (suc n) [] (suc i) x le within = absurd (omega arith)
@@ -28,22 +30,29 @@ module _ {K R : Type 0} where
   none-before ((key, Some row) ∷ s) (suc n) (suc m) le none = cc
 
   -- one more
-  none-next : (s : List (K × Option R)) (n : ℕ) (e : K × Option R) → n < length s → ((d : K × Option R) → e ≡ get_or s n d) → e.1 ≡ None → live (take n s) ≡ [] → live (take (suc n) s) ≡ []
+  none-next : (s : List (K × Option R)) (n : ℕ) (e : K × Option R) → n < length s
+      → ((d : K × Option R) → e ≡ get_or s n d) → e.1 ≡ None → live (take n s) ≡ [] → live (take (suc n) s) ≡ []
   none-next [] n e within there blank none = absurd (omega arith)
   none-next ((key, None) ∷ s) zero e within there blank none = refl
-  none-next ((key, Some row) ∷ s) zero e within there blank none = let h : e.1 ≡ Some row = ap (λ (y : K × Option R). y.1) (there e) in cc
+  none-next ((key, Some row) ∷ s) zero e within there blank none =
+      let h : e.1 ≡ Some row = ap (λ (y : K × Option R). y.1) (there e) in cc
   none-next ((key, None) ∷ s) (suc n) e within there blank none = none-next s n e (omega arith) there blank none
   none-next ((key, Some row) ∷ s) (suc n) e within there blank none = cc
 
-  pub none-more : (s : List (K × Option R)) (n : ℕ) (e : K × Option R) → n < length s → ((d : K × Option R) → e ≡ get_or s n d) → e.1 ≡ None → live (take n s) ≡ [] → live (take (n + 1) s) ≡ []
-  none-more s n e within there blank none = let next : n + 1 ≡ suc n = omega arith in rw next (none-next s n e within there blank none)
+  pub none-more : (s : List (K × Option R)) (n : ℕ) (e : K × Option R) → n < length s
+      → ((d : K × Option R) → e ≡ get_or s n d) → e.1 ≡ None → live (take n s) ≡ [] → live (take (n + 1) s) ≡ []
+  none-more s n e within there blank none = let next : n + 1 ≡ suc n = omega arith in
+      rw next (none-next s n e within there blank none)
 
   -- what is written or put at a later slot leaves them
-  pub none-set : (s : List (K × Option R)) (n m i : ℕ) (e : K × Option R) → m ≡ min n i → live (take n s) ≡ [] → live (take m (set s i e)) ≡ []
+  pub none-set : (s : List (K × Option R)) (n m i : ℕ) (e : K × Option R) → m ≡ min n i → live (take n s) ≡ []
+      → live (take m (set s i e)) ≡ []
   none-set s n m i e is none = ap live (take-set-le m s i e (omega arith)) ∙ none-before s n m (omega arith) none
 
-  pub none-insert : (s : List (K × Option R)) (n m i : ℕ) (e : K × Option R) → m ≡ min n i → i ≤ length s → live (take n s) ≡ [] → live (take m (insert s i e)) ≡ []
-  none-insert s n m i e is within none = ap live (take-insert m s i e (omega arith) within) ∙ none-before s n m (omega arith) none
+  pub none-insert : (s : List (K × Option R)) (n m i : ℕ) (e : K × Option R) → m ≡ min n i → i ≤ length s
+      → live (take n s) ≡ [] → live (take m (insert s i e)) ≡ []
+  none-insert s n m i e is within none = ap live (take-insert m s i e (omega arith) within)
+      ∙ none-before s n m (omega arith) none
 
   pub live-append : (s t : List (K × Option R)) → live (s ++ t) ≡ live s ++ live t
   live-append [] t = refl
@@ -73,7 +82,8 @@ module _ {K R : Type 0} where
   none-at_all (e ∷ s) (suc i) = none-at_all s i
 
   -- the later start of a walk
-  pub none-between : (s : List (K × Option R)) (i b end n : ℕ) → n ≡ max i (min b end) → live (take b s) ≡ [] → live (drop i (take n s)) ≡ []
+  pub none-between : (s : List (K × Option R)) (i b end n : ℕ) → n ≡ max i (min b end) → live (take b s) ≡ []
+      → live (drop i (take n s)) ≡ []
   none-between s i b end n is none = by (ltb i n) refl
     where
       by : (c : Bool) → ltb i n ≡ c → live (drop i (take n s)) ≡ []
@@ -83,7 +93,8 @@ module _ {K R : Type 0} where
           let same : n ≡ i = omega arith in
           ap (λ m. live (drop i (take m s))) same ∙ none-at_all s i
 
-  passed : (s : List (K × Option R)) (i n : ℕ) → i ≤ n → live (drop i (take n s)) ≡ [] → live (drop n s) ≡ live (drop i s)
+  passed : (s : List (K × Option R)) (i n : ℕ) → i ≤ n → live (drop i (take n s)) ≡ []
+      → live (drop n s) ≡ live (drop i s)
   passed s zero zero le none = refl
   passed s (suc i) zero le none = absurd (omega arith)
   passed [] i (suc n) le none = sym (ap live (drop-nil i))
@@ -92,14 +103,19 @@ module _ {K R : Type 0} where
   passed (e ∷ s) (suc i) (suc n) le none = passed s i n (omega arith) none
 
   -- the rows from the later start on
-  pub rows-cut : (ss : List (List (K × Option R))) (a i n b j : ℕ) → i ≤ n → (a ≡ b → n ≤ j) → live (drop i (take n (get_or ss a []))) ≡ [] → live (cut_between ss a n b j) ≡ live (cut_between ss a i b j)
+  pub rows-cut : (ss : List (List (K × Option R))) (a i n b j : ℕ) → i ≤ n → (a ≡ b → n ≤ j)
+      → live (drop i (take n (get_or ss a []))) ≡ [] → live (cut_between ss a n b j) ≡ live (cut_between ss a i b j)
   rows-cut ss a i n b j le before none = by (a == b) refl
     where
       by : (same : Bool) → (a == b) ≡ same
-          → live (cond same (drop n (take j (get_or ss a []))) (drop n (get_or ss a []) ++ (joined (drop (a + 1) (take b ss)) ++ take j (get_or ss b []))))
-          ≡ live (cond same (drop i (take j (get_or ss a []))) (drop i (get_or ss a []) ++ (joined (drop (a + 1) (take b ss)) ++ take j (get_or ss b []))))
-      by true e = passed (take j (get_or ss a [])) i n le (ap (λ t. live (drop i t)) (take-within (get_or ss a []) n j (before (eqb-true a b e))) ∙ none)
+          → live (cond same (drop n (take j (get_or ss a [])))
+          (drop n (get_or ss a []) ++ (joined (drop (a + 1) (take b ss)) ++ take j (get_or ss b []))))
+          ≡ live (cond same (drop i (take j (get_or ss a [])))
+          (drop i (get_or ss a []) ++ (joined (drop (a + 1) (take b ss)) ++ take j (get_or ss b []))))
+      by true e = passed (take j (get_or ss a [])) i n le
+          (ap (λ t. live (drop i t)) (take-within (get_or ss a []) n j (before (eqb-true a b e))) ∙ none)
       by false e =
           live-append (drop n (get_or ss a [])) (joined (drop (a + 1) (take b ss)) ++ take j (get_or ss b []))
-          ∙ ap (λ t. t ++ live (joined (drop (a + 1) (take b ss)) ++ take j (get_or ss b []))) (passed (get_or ss a []) i n le none)
+          ∙ ap (λ t. t ++ live (joined (drop (a + 1) (take b ss)) ++ take j (get_or ss b [])))
+          (passed (get_or ss a []) i n le none)
           ∙ sym (live-append (drop i (get_or ss a [])) (joined (drop (a + 1) (take b ss)) ++ take j (get_or ss b [])))

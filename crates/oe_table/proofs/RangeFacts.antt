@@ -1,5 +1,6 @@
 -- A range of the keys on shelves: what stands between two cuts.
-use Rattle.std.proofs.Common.{◌≡◌, refl, sym, ◌∙◌, ap, Bool, true, false, not, ◌&&◌, cond, ℕ, suc, zero, ◌<◌, ◌≤◌, ◌+◌, ◌-◌, ◌==◌, min, add-one, List, [], ◌∷◌, ◌++◌, length, get_or, take, drop, arith}
+use Rattle.std.proofs.Common.{◌≡◌, refl, sym, ◌∙◌, ap, Bool, true, false, not, ◌&&◌, cond, ℕ, suc, zero, ◌<◌, ◌≤◌, ◌+◌}
+use Rattle.std.proofs.Common.{◌-◌, ◌==◌, min, add-one, List, [], ◌∷◌, ◌++◌, length, get_or, take, drop, arith}
 use Rattle.std.specs.List.{AllByRecursion, filter}
 use Rattle.std.specs.List.Sorted.{IsStrictlySortedBy}
 use Rattle.std.specs.Map.{keys_of}
@@ -52,11 +53,13 @@ neither true c f = f
 neither false c f = refl
 
 module _ {K X : Type 0} where
-  front-none : (p : K → Bool) (s : List (K × X)) → AllByRecursion (λ k. p k ≡ false) (keys_of s) → front (λ e. p e.0) s ≡ 0
+  front-none : (p : K → Bool) (s : List (K × X)) → AllByRecursion (λ k. p k ≡ false) (keys_of s)
+      → front (λ e. p e.0) s ≡ 0
   front-none p [] h = refl
   front-none p (e ∷ s) h = rw h.0 refl
 
-  front-each : (p : K → Bool) (s : List (K × X)) → AllByRecursion (λ k. p k ≡ true) (keys_of s) → front (λ e. p e.0) s ≡ length s
+  front-each : (p : K → Bool) (s : List (K × X)) → AllByRecursion (λ k. p k ≡ true) (keys_of s)
+      → front (λ e. p e.0) s ≡ length s
   front-each p [] h = refl
   front-each p (e ∷ s) h = rw h.0 (ap suc (front-each p s h.1))
 
@@ -64,69 +67,96 @@ module _ {K X : Type 0} where
   front-within p [] = omega arith
   front-within p (e ∷ s) = front-step (p e.0) (front (λ e. p e.0) s) (length s) (front-within p s)
 
-  pub front-mono : (p q : K → Bool) → ((k : K) → p k ≡ true → q k ≡ true) → (s : List (K × X)) → front (λ e. p e.0) s ≤ front (λ e. q e.0) s
+  pub front-mono : (p q : K → Bool) → ((k : K) → p k ≡ true → q k ≡ true) → (s : List (K × X))
+      → front (λ e. p e.0) s ≤ front (λ e. q e.0) s
   front-mono p q h [] = omega arith
-  front-mono p q h (e ∷ s) = front-both (p e.0) (q e.0) (front (λ e. p e.0) s) (front (λ e. q e.0) s) (h e.0) (front-mono p q h s)
+  front-mono p q h (e ∷ s) = front-both (p e.0) (q e.0) (front (λ e. p e.0) s) (front (λ e. q e.0) s) (h e.0)
+      (front-mono p q h s)
 
   -- what fails p and passes q stands between the fronts of the two
-  window-step : (p q : K → Bool) (e : K × X) (s : List (K × X)) (b c : Bool) → p e.0 ≡ b → q e.0 ≡ c → (b ≡ true → c ≡ true) → (b ≡ false → AllByRecursion (λ k. p k ≡ false) (keys_of s)) → (c ≡ false → AllByRecursion (λ k. q k ≡ false) (keys_of s))
+  window-step : (p q : K → Bool) (e : K × X) (s : List (K × X)) (b c : Bool) → p e.0 ≡ b → q e.0 ≡ c
+      → (b ≡ true → c ≡ true) → (b ≡ false → AllByRecursion (λ k. p k ≡ false) (keys_of s))
+      → (c ≡ false → AllByRecursion (λ k. q k ≡ false) (keys_of s))
       → filter (λ e. not (p e.0) && q e.0) s ≡ drop (front (λ e. p e.0) s) (take (front (λ e. q e.0) s) s)
-      → cond (not b && c) (e ∷ filter (λ e. not (p e.0) && q e.0) s) (filter (λ e. not (p e.0) && q e.0) s) ≡ drop (cond b (suc (front (λ e. p e.0) s)) 0) (take (cond c (suc (front (λ e. q e.0) s)) 0) (e ∷ s))
+      → cond (not b && c) (e ∷ filter (λ e. not (p e.0) && q e.0) s) (filter (λ e. not (p e.0) && q e.0) s) ≡ drop
+      (cond b (suc (front (λ e. p e.0) s)) 0) (take (cond c (suc (front (λ e. q e.0) s)) 0) (e ∷ s))
   window-step p q e s true true pe qe h pn qn rest = rest
   window-step p q e s true false pe qe h pn qn rest = let t = h refl in cc
   window-step p q e s false true pe qe h pn qn rest = ap (λ t. e ∷ t) (rw (front-none p s (pn refl)) at rest)
   window-step p q e s false false pe qe h pn qn rest =
-      filter-none (λ k. not (p k) && q k) s (all-weaker (λ k. q k ≡ false) (λ k. (not (p k) && q k) ≡ false) (λ k f. neither (not (p k)) (q k) f) (keys_of s) (qn refl))
+      filter-none (λ k. not (p k) && q k) s
+      (all-weaker (λ k. q k ≡ false) (λ k. (not (p k) && q k) ≡ false) (λ k f. neither (not (p k)) (q k) f)
+      (keys_of s) (qn refl))
 
-  window : (p q : K → Bool) → ((k : K) → p k ≡ true → q k ≡ true) → (s : List (K × X)) → Falls p s → Falls q s → filter (λ e. not (p e.0) && q e.0) s ≡ drop (front (λ e. p e.0) s) (take (front (λ e. q e.0) s) s)
+  window : (p q : K → Bool) → ((k : K) → p k ≡ true → q k ≡ true) → (s : List (K × X)) → Falls p s → Falls q s
+      → filter (λ e. not (p e.0) && q e.0) s ≡ drop (front (λ e. p e.0) s) (take (front (λ e. q e.0) s) s)
   window p q h [] fp fq = refl
-  window p q h (e ∷ s) fp fq = window-step p q e s (p e.0) (q e.0) refl refl (h e.0) fp.0 fq.0 (window p q h s fp.1 fq.1)
+  window p q h (e ∷ s) fp fq = window-step p q e s (p e.0) (q e.0) refl refl (h e.0) fp.0 fq.0
+      (window p q h s fp.1 fq.1)
 
 -- shelves: those before, those between and those after
 module _ {K X : Type 0} (cmp : K → K → Ordering) (shelf_of : K → ℕ) (test : K → Bool) (a b : ℕ)
-    (under : (k : K) → shelf_of k < a → test k ≡ false) (inner : (k : K) → a < shelf_of k → shelf_of k < b → test k ≡ true) (over : (k : K) → b < shelf_of k → test k ≡ false) where
-  after : (m : ℕ) (ss : List (List (K × X))) → AreShelves cmp shelf_of m ss → b < m → filter (λ e. test e.0) (joined ss) ≡ []
+    (under : (k : K) → shelf_of k < a → test k ≡ false)
+    (inner : (k : K) → a < shelf_of k → shelf_of k < b → test k ≡ true)
+    (over : (k : K) → b < shelf_of k → test k ≡ false) where
+  after : (m : ℕ) (ss : List (List (K × X))) → AreShelves cmp shelf_of m ss → b < m
+      → filter (λ e. test e.0) (joined ss) ≡ []
   unfolding AreShelves
   after m [] h late = refl
   after m (s ∷ ss) h late =
       filter-append (λ e. test e.0) s (joined ss)
-      ∙ ap (λ t. t ++ filter (λ e. test e.0) (joined ss)) (filter-none test s (all-weaker (λ k. shelf_of k ≡ m) (λ k. test k ≡ false) (λ k e. over k (omega arith)) (keys_of s) h.1))
+      ∙ ap (λ t. t ++ filter (λ e. test e.0) (joined ss))
+      (filter-none test s (all-weaker (λ k. shelf_of k ≡ m) (λ k. test k ≡ false) (λ k e. over k (omega arith))
+      (keys_of s) h.1))
       ∙ after (suc m) ss h.2 (omega arith)
 
-  up_to : (m : ℕ) (ss : List (List (K × X))) (i j : ℕ) → AreShelves cmp shelf_of m ss → a < m → b ≡ m + i → filter (λ e. test e.0) (get_or ss i []) ≡ take j (get_or ss i [])
+  up_to : (m : ℕ) (ss : List (List (K × X))) (i j : ℕ) → AreShelves cmp shelf_of m ss → a < m → b ≡ m + i
+      → filter (λ e. test e.0) (get_or ss i []) ≡ take j (get_or ss i [])
       → filter (λ e. test e.0) (joined ss) ≡ joined (take i ss) ++ take j (get_or ss i [])
   unfolding AreShelves
   up_to m [] i j h late is last = sym (ap (λ t. joined t ++ take j []) (take-nil i) ∙ take-nil j)
   up_to m (s ∷ ss) zero j h late is last =
-      filter-append (λ e. test e.0) s (joined ss) ∙ ap (λ t. filter (λ e. test e.0) s ++ t) (after (suc m) ss h.2 (omega arith)) ∙ append-nil (filter (λ e. test e.0) s) ∙ last
+      filter-append (λ e. test e.0) s (joined ss) ∙ ap (λ t. filter (λ e. test e.0) s ++ t)
+      (after (suc m) ss h.2 (omega arith)) ∙ append-nil (filter (λ e. test e.0) s) ∙ last
   up_to m (s ∷ ss) (suc i) j h late is last =
       filter-append (λ e. test e.0) s (joined ss)
-      ∙ ap (λ t. t ++ filter (λ e. test e.0) (joined ss)) (filter-each test s (all-weaker (λ k. shelf_of k ≡ m) (λ k. test k ≡ true) (λ k e. inner k (omega arith) (omega arith)) (keys_of s) h.1))
+      ∙ ap (λ t. t ++ filter (λ e. test e.0) (joined ss))
+      (filter-each test s (all-weaker (λ k. shelf_of k ≡ m) (λ k. test k ≡ true)
+      (λ k e. inner k (omega arith) (omega arith)) (keys_of s) h.1))
       ∙ ap (λ t. s ++ t) (up_to (suc m) ss i j h.2 (omega arith) (omega arith) last)
       ∙ sym (append_assoc s (joined (take i ss)) (take j (get_or ss i [])))
 
   from : (m : ℕ) (ss : List (List (K × X))) (u w i j : ℕ) → AreShelves cmp shelf_of m ss → a ≡ m + u → b ≡ m + w → u < w
-      → filter (λ e. test e.0) (get_or ss u []) ≡ drop i (get_or ss u []) → filter (λ e. test e.0) (get_or ss w []) ≡ take j (get_or ss w [])
-      → filter (λ e. test e.0) (joined ss) ≡ drop i (get_or ss u []) ++ (joined (drop (suc u) (take w ss)) ++ take j (get_or ss w []))
+      → filter (λ e. test e.0) (get_or ss u []) ≡ drop i (get_or ss u [])
+      → filter (λ e. test e.0) (get_or ss w []) ≡ take j (get_or ss w [])
+      → filter (λ e. test e.0) (joined ss) ≡ drop i (get_or ss u [])
+      ++ (joined (drop (suc u) (take w ss)) ++ take j (get_or ss w []))
   unfolding AreShelves
   from m ss u zero i j h isa isb less first last = absurd (omega arith)
   from m [] u (suc w) i j h isa isb less first last = sym (ap (λ t. t ++ take j []) (drop-nil i) ∙ take-nil j)
   from m (s ∷ ss) zero (suc w) i j h isa isb less first last =
-      filter-append (λ e. test e.0) s (joined ss) ∙ ap (λ t. t ++ filter (λ e. test e.0) (joined ss)) first ∙ ap (λ t. drop i s ++ t) (up_to (suc m) ss w j h.2 (omega arith) (omega arith) last)
+      filter-append (λ e. test e.0) s (joined ss) ∙ ap (λ t. t ++ filter (λ e. test e.0) (joined ss)) first
+      ∙ ap (λ t. drop i s ++ t) (up_to (suc m) ss w j h.2 (omega arith) (omega arith) last)
   from m (s ∷ ss) (suc u) (suc w) i j h isa isb less first last =
       filter-append (λ e. test e.0) s (joined ss)
-      ∙ ap (λ t. t ++ filter (λ e. test e.0) (joined ss)) (filter-none test s (all-weaker (λ k. shelf_of k ≡ m) (λ k. test k ≡ false) (λ k e. under k (omega arith)) (keys_of s) h.1))
+      ∙ ap (λ t. t ++ filter (λ e. test e.0) (joined ss))
+      (filter-none test s (all-weaker (λ k. shelf_of k ≡ m) (λ k. test k ≡ false) (λ k e. under k (omega arith))
+      (keys_of s) h.1))
       ∙ from (suc m) ss u w i j h.2 (omega arith) (omega arith) (omega arith) first last
 
-  within : (m : ℕ) (ss : List (List (K × X))) (u i j : ℕ) → AreShelves cmp shelf_of m ss → a ≡ m + u → b ≡ a → filter (λ e. test e.0) (get_or ss u []) ≡ drop i (take j (get_or ss u []))
+  within : (m : ℕ) (ss : List (List (K × X))) (u i j : ℕ) → AreShelves cmp shelf_of m ss → a ≡ m + u → b ≡ a
+      → filter (λ e. test e.0) (get_or ss u []) ≡ drop i (take j (get_or ss u []))
       → filter (λ e. test e.0) (joined ss) ≡ drop i (take j (get_or ss u []))
   unfolding AreShelves
   within m [] u i j h isa isb one = one
   within m (s ∷ ss) zero i j h isa isb one =
-      filter-append (λ e. test e.0) s (joined ss) ∙ ap (λ t. filter (λ e. test e.0) s ++ t) (after (suc m) ss h.2 (omega arith)) ∙ append-nil (filter (λ e. test e.0) s) ∙ one
+      filter-append (λ e. test e.0) s (joined ss) ∙ ap (λ t. filter (λ e. test e.0) s ++ t)
+      (after (suc m) ss h.2 (omega arith)) ∙ append-nil (filter (λ e. test e.0) s) ∙ one
   within m (s ∷ ss) (suc u) i j h isa isb one =
       filter-append (λ e. test e.0) s (joined ss)
-      ∙ ap (λ t. t ++ filter (λ e. test e.0) (joined ss)) (filter-none test s (all-weaker (λ k. shelf_of k ≡ m) (λ k. test k ≡ false) (λ k e. under k (omega arith)) (keys_of s) h.1))
+      ∙ ap (λ t. t ++ filter (λ e. test e.0) (joined ss))
+      (filter-none test s (all-weaker (λ k. shelf_of k ≡ m) (λ k. test k ≡ false) (λ k e. under k (omega arith))
+      (keys_of s) h.1))
       ∙ within (suc m) ss u i j h.2 (omega arith) isb one
 
 -- the tests of a range's ends
@@ -185,17 +215,21 @@ module _ {K : Type 0} (cmp : K → K → Ordering) (total : IsTotalOrder cmp) wh
     under = λ e y less h. ap is_le (below-le cmp total e y key (cmp y key) refl h less);
   }
 
-all-fail : {K : Type 0} (cmp : K → K → Ordering) (h : K → Bool) (key e : K) → IsEnd cmp h key → h e ≡ false → (ks : List K) → AllByRecursion (λ y. cmp e y ≡ Less) ks → AllByRecursion (λ k. h k ≡ false) ks
+all-fail : {K : Type 0} (cmp : K → K → Ordering) (h : K → Bool) (key e : K) → IsEnd cmp h key → h e ≡ false
+    → (ks : List K) → AllByRecursion (λ y. cmp e y ≡ Less) ks → AllByRecursion (λ k. h k ≡ false) ks
 all-fail cmp h key e end off [] up = tt
-all-fail cmp h key e end off (k ∷ ks) up = (fails (h e) (h k) (end.under e k up.0) off, all-fail cmp h key e end off ks up.1)
+all-fail cmp h key e end off (k ∷ ks) up =
+    (fails (h e) (h k) (end.under e k up.0) off, all-fail cmp h key e end off ks up.1)
 
-falls : {K X : Type 0} (cmp : K → K → Ordering) (h : K → Bool) (key : K) → IsEnd cmp h key → (s : List (K × X)) → IsAscending cmp s → Falls h s
+falls : {K X : Type 0} (cmp : K → K → Ordering) (h : K → Bool) (key : K) → IsEnd cmp h key → (s : List (K × X))
+    → IsAscending cmp s → Falls h s
 unfolding IsStrictlySortedBy
 falls cmp h key end [] up = tt
 falls cmp h key end (e ∷ s) up = ((λ off. all-fail cmp h key e.0 end off (keys_of s) up.0), falls cmp h key end s up.1)
 
 -- the slots between two ends are those between their cuts
-module _ {K : Type 0} (cmp : K → K → Ordering) (shelf_of : K → ℕ) (ascends : (j k : K) → shelf_of j < shelf_of k → cmp j k ≡ Less)
+module _ {K : Type 0} (cmp : K → K → Ordering) (shelf_of : K → ℕ)
+    (ascends : (j k : K) → shelf_of j < shelf_of k → cmp j k ≡ Less)
     (low high : K → Bool) (start end : K) (is_start : IsEnd cmp low start) (is_end : IsEnd cmp high end) where
   below : (k : K) → shelf_of k < shelf_of start → (not (low k) && high k) ≡ false
   below k h = rw (is_start.less k (ascends k start h)) refl
@@ -206,36 +240,59 @@ module _ {K : Type 0} (cmp : K → K → Ordering) (shelf_of : K → ℕ) (ascen
   beyond : (k : K) → shelf_of end < shelf_of k → (not (low k) && high k) ≡ false
   beyond k h = neither (not (low k)) (high k) (is_end.more k (ascends end k h))
 
-module _ {K X : Type 0} (cmp : K → K → Ordering) (shelf_of : K → ℕ) (ascends : (j k : K) → shelf_of j < shelf_of k → cmp j k ≡ Less)
-    (low high : K → Bool) (start end : K) (is_start : IsEnd cmp low start) (is_end : IsEnd cmp high end) (goes_on : (k : K) → low k ≡ true → high k ≡ true) where
-  one-shelf : (s : List (K × X)) → IsAscending cmp s → filter (λ e. not (low e.0) && high e.0) s ≡ drop (front (λ e. low e.0) s) (take (front (λ e. high e.0) s) s)
+module _ {K X : Type 0} (cmp : K → K → Ordering) (shelf_of : K → ℕ)
+    (ascends : (j k : K) → shelf_of j < shelf_of k → cmp j k ≡ Less)
+    (low high : K → Bool) (start end : K) (is_start : IsEnd cmp low start) (is_end : IsEnd cmp high end)
+    (goes_on : (k : K) → low k ≡ true → high k ≡ true) where
+  one-shelf : (s : List (K × X)) → IsAscending cmp s
+      → filter (λ e. not (low e.0) && high e.0) s ≡ drop (front (λ e. low e.0) s) (take (front (λ e. high e.0) s) s)
   one-shelf s up = window low high goes_on s (falls cmp low start is_start s up) (falls cmp high end is_end s up)
 
-  first-shelf : (s : List (K × X)) → IsAscending cmp s → AllByRecursion (λ k. shelf_of k ≡ shelf_of start) (keys_of s) → shelf_of start < shelf_of end → filter (λ e. not (low e.0) && high e.0) s ≡ drop (front (λ e. low e.0) s) s
+  first-shelf : (s : List (K × X)) → IsAscending cmp s → AllByRecursion (λ k. shelf_of k ≡ shelf_of start) (keys_of s)
+      → shelf_of start < shelf_of end → filter (λ e. not (low e.0) && high e.0) s ≡ drop (front (λ e. low e.0) s) s
   first-shelf s up on less =
-      one-shelf s up ∙ ap (λ n. drop (front (λ e. low e.0) s) (take n s)) (front-each high s (all-weaker (λ k. shelf_of k ≡ shelf_of start) (λ k. high k ≡ true) (λ k e. is_end.less k (ascends k end (omega arith))) (keys_of s) on))
+      one-shelf s up ∙ ap (λ n. drop (front (λ e. low e.0) s) (take n s))
+      (front-each high s (all-weaker (λ k. shelf_of k ≡ shelf_of start) (λ k. high k ≡ true)
+      (λ k e. is_end.less k (ascends k end (omega arith))) (keys_of s) on))
       ∙ ap (drop (front (λ e. low e.0) s)) (take_all (length s) s (omega arith))
 
-  last-shelf : (s : List (K × X)) → IsAscending cmp s → AllByRecursion (λ k. shelf_of k ≡ shelf_of end) (keys_of s) → shelf_of start < shelf_of end → filter (λ e. not (low e.0) && high e.0) s ≡ take (front (λ e. high e.0) s) s
+  last-shelf : (s : List (K × X)) → IsAscending cmp s → AllByRecursion (λ k. shelf_of k ≡ shelf_of end) (keys_of s)
+      → shelf_of start < shelf_of end → filter (λ e. not (low e.0) && high e.0) s ≡ take (front (λ e. high e.0) s) s
   last-shelf s up on less =
-      one-shelf s up ∙ ap (λ n. drop n (take (front (λ e. high e.0) s) s)) (front-none low s (all-weaker (λ k. shelf_of k ≡ shelf_of end) (λ k. low k ≡ false) (λ k e. is_start.more k (ascends start k (omega arith))) (keys_of s) on))
+      one-shelf s up ∙ ap (λ n. drop n (take (front (λ e. high e.0) s) s))
+      (front-none low s (all-weaker (λ k. shelf_of k ≡ shelf_of end) (λ k. low k ≡ false)
+      (λ k e. is_start.more k (ascends start k (omega arith))) (keys_of s) on))
 
-  cut-step : (ss : List (List (K × X))) → AreShelves cmp shelf_of 0 ss → shelf_of start ≤ shelf_of end → (same : Bool) → (shelf_of start == shelf_of end) ≡ same
+  cut-step : (ss : List (List (K × X))) → AreShelves cmp shelf_of 0 ss → shelf_of start ≤ shelf_of end → (same : Bool)
+      → (shelf_of start == shelf_of end) ≡ same
       → filter (λ e. not (low e.0) && high e.0) (joined ss)
-      ≡ cond same (drop (front (λ e. low e.0) (get_or ss (shelf_of start) [])) (take (front (λ e. high e.0) (get_or ss (shelf_of end) [])) (get_or ss (shelf_of start) [])))
+      ≡ cond same (drop (front (λ e. low e.0) (get_or ss (shelf_of start) []))
+      (take (front (λ e. high e.0) (get_or ss (shelf_of end) [])) (get_or ss (shelf_of start) [])))
       (drop (front (λ e. low e.0) (get_or ss (shelf_of start) [])) (get_or ss (shelf_of start) [])
-      ++ (joined (drop (shelf_of start + 1) (take (shelf_of end) ss)) ++ take (front (λ e. high e.0) (get_or ss (shelf_of end) [])) (get_or ss (shelf_of end) [])))
+      ++ (joined (drop (shelf_of start + 1) (take (shelf_of end) ss))
+      ++ take (front (λ e. high e.0) (get_or ss (shelf_of end) [])) (get_or ss (shelf_of end) [])))
   cut-step ss h le true same =
       let e : shelf_of start ≡ shelf_of end = eqb-true _ _ same in
-      rw (← e) (within cmp shelf_of (λ k. not (low k) && high k) (shelf_of start) (shelf_of end) (below cmp shelf_of ascends low high start end is_start is_end) (amid cmp shelf_of ascends low high start end is_start is_end) (beyond cmp shelf_of ascends low high start end is_start is_end) 0 ss (shelf_of start) _ _ h (omega arith) (sym e) (one-shelf (get_or ss (shelf_of start) []) (shelf-ascends cmp shelf_of 0 ss (shelf_of start) h)))
+      rw (← e) (within cmp shelf_of (λ k. not (low k) && high k) (shelf_of start) (shelf_of end)
+      (below cmp shelf_of ascends low high start end is_start is_end)
+      (amid cmp shelf_of ascends low high start end is_start is_end)
+      (beyond cmp shelf_of ascends low high start end is_start is_end) 0 ss (shelf_of start) _ _ h (omega arith)
+      (sym e) (one-shelf (get_or ss (shelf_of start) []) (shelf-ascends cmp shelf_of 0 ss (shelf_of start) h)))
   cut-step ss h le false same =
       let less : shelf_of start < shelf_of end = omega (arith, eqb-false _ _ same) in
-      rw (add-one) (from cmp shelf_of (λ k. not (low k) && high k) (shelf_of start) (shelf_of end) (below cmp shelf_of ascends low high start end is_start is_end) (amid cmp shelf_of ascends low high start end is_start is_end) (beyond cmp shelf_of ascends low high start end is_start is_end) 0 ss (shelf_of start) (shelf_of end) _ _ h (omega arith) (omega arith) less
-      (first-shelf (get_or ss (shelf_of start) []) (shelf-ascends cmp shelf_of 0 ss (shelf_of start) h) (shelf-keys cmp shelf_of 0 ss (shelf_of start) (shelf_of start) (omega arith) h) less)
-      (last-shelf (get_or ss (shelf_of end) []) (shelf-ascends cmp shelf_of 0 ss (shelf_of end) h) (shelf-keys cmp shelf_of 0 ss (shelf_of end) (shelf_of end) (omega arith) h) less))
+      rw (add-one) (from cmp shelf_of (λ k. not (low k) && high k) (shelf_of start) (shelf_of end)
+      (below cmp shelf_of ascends low high start end is_start is_end)
+      (amid cmp shelf_of ascends low high start end is_start is_end)
+      (beyond cmp shelf_of ascends low high start end is_start is_end) 0 ss (shelf_of start) (shelf_of end) _ _ h
+      (omega arith) (omega arith) less
+      (first-shelf (get_or ss (shelf_of start) []) (shelf-ascends cmp shelf_of 0 ss (shelf_of start) h)
+      (shelf-keys cmp shelf_of 0 ss (shelf_of start) (shelf_of start) (omega arith) h) less)
+      (last-shelf (get_or ss (shelf_of end) []) (shelf-ascends cmp shelf_of 0 ss (shelf_of end) h)
+      (shelf-keys cmp shelf_of 0 ss (shelf_of end) (shelf_of end) (omega arith) h) less))
 
   pub cut-is : (ss : List (List (K × X))) → AreShelves cmp shelf_of 0 ss → shelf_of start ≤ shelf_of end
-      → cut_between ss (shelf_of start) (front (λ e. low e.0) (get_or ss (shelf_of start) [])) (shelf_of end) (front (λ e. high e.0) (get_or ss (shelf_of end) [])) ≡ filter (λ e. not (low e.0) && high e.0) (joined ss)
+      → cut_between ss (shelf_of start) (front (λ e. low e.0) (get_or ss (shelf_of start) [])) (shelf_of end)
+      (front (λ e. high e.0) (get_or ss (shelf_of end) [])) ≡ filter (λ e. not (low e.0) && high e.0) (joined ss)
   cut-is ss h le = sym (cut-step ss h le (shelf_of start == shelf_of end) refl)
 
 gt-le : (r : Ordering) → is_gt r ≡ false → is_le r ≡ true
@@ -252,53 +309,80 @@ not-under : (a b : ℕ) (t : Bool) → ltb b a ≡ t → (b < a → ⊥) → a �
 not-under a b true e h = absurd (h (ltb-true b a e))
 not-under a b false e h = ltb-false b a e
 
-ascending-append : {K X : Type 0} (cmp : K → K → Ordering) (s t : List (K × X)) → IsAscending cmp s → IsAscending cmp t → AllByRecursion (λ k. AllByRecursion (λ y. cmp k y ≡ Less) (keys_of t)) (keys_of s) → IsAscending cmp (s ++ t)
+ascending-append : {K X : Type 0} (cmp : K → K → Ordering) (s t : List (K × X)) → IsAscending cmp s → IsAscending cmp t
+    → AllByRecursion (λ k. AllByRecursion (λ y. cmp k y ≡ Less) (keys_of t)) (keys_of s) → IsAscending cmp (s ++ t)
 unfolding IsStrictlySortedBy
 ascending-append cmp [] t up next h = next
-ascending-append cmp (e ∷ s) t up next h = (keys-append (λ y. cmp e.0 y ≡ Less) s t up.0 h.0, ascending-append cmp s t up.1 next h.1)
+ascending-append cmp (e ∷ s) t up next h =
+    (keys-append (λ y. cmp e.0 y ≡ Less) s t up.0 h.0, ascending-append cmp s t up.1 next h.1)
 
 -- all keys ascend
-pub joined-ascends : {K X : Type 0} (cmp : K → K → Ordering) (shelf_of : K → ℕ) → ((j k : K) → shelf_of j < shelf_of k → cmp j k ≡ Less) → (m : ℕ) (ss : List (List (K × X))) → AreShelves cmp shelf_of m ss → IsAscending cmp (joined ss)
+pub joined-ascends : {K X : Type 0} (cmp : K → K → Ordering) (shelf_of : K → ℕ)
+    → ((j k : K) → shelf_of j < shelf_of k → cmp j k ≡ Less) → (m : ℕ) (ss : List (List (K × X)))
+    → AreShelves cmp shelf_of m ss → IsAscending cmp (joined ss)
 unfolding AreShelves IsStrictlySortedBy
 joined-ascends cmp shelf_of ascends m [] h = tt
 joined-ascends cmp shelf_of ascends m (s ∷ ss) h =
     ascending-append cmp s (joined ss) h.0 (joined-ascends cmp shelf_of ascends (suc m) ss h.2)
     (all-weaker (λ k. shelf_of k ≡ m) (λ k. AllByRecursion (λ y. cmp k y ≡ Less) (keys_of (joined ss)))
-    (λ k e. all-weaker (λ y. suc m ≤ shelf_of y) (λ y. cmp k y ≡ Less) (λ y l. ascends k y (omega arith)) (keys_of (joined ss)) (keys-from cmp shelf_of (suc m) ss h.2)) (keys_of s) h.1)
+    (λ k e. all-weaker (λ y. suc m ≤ shelf_of y) (λ y. cmp k y ≡ Less) (λ y l. ascends k y (omega arith))
+    (keys_of (joined ss)) (keys-from cmp shelf_of (suc m) ss h.2)) (keys_of s) h.1)
 
-module _ {K : Type 0} (cmp : K → K → Ordering) (total : IsTotalOrder cmp) (shelf_of : K → ℕ) (ascends : (j k : K) → shelf_of j < shelf_of k → cmp j k ≡ Less) (from to : K) (forward : IsLeBy cmp from to) where
+module _ {K : Type 0} (cmp : K → K → Ordering) (total : IsTotalOrder cmp) (shelf_of : K → ℕ)
+    (ascends : (j k : K) → shelf_of j < shelf_of k → cmp j k ≡ Less) (from to : K) (forward : IsLeBy cmp from to) where
   pub shelf-forward : shelf_of from ≤ shelf_of to
   shelf-forward = not-under (shelf_of from) (shelf_of to) (ltb (shelf_of to) (shelf_of from)) refl
-      (λ l. let h : is_gt (cmp from to) ≡ true = ap is_gt (reversed cmp total from to ∙ ap ordering_reverse (ascends to from l)) in let g : is_gt (cmp from to) ≡ false = forward in cc)
+      (λ l. let h : is_gt (cmp from to) ≡ true = ap is_gt
+      (reversed cmp total from to ∙ ap ordering_reverse (ascends to from l)) in
+      let g : is_gt (cmp from to) ≡ false = forward in cc)
 
   goes-before : (k : K) → is_lt (cmp k from) ≡ true → is_lt (cmp k to) ≡ true
-  goes-before k h = ap is_lt (below-le cmp total k from to (cmp from to) refl (gt-le (cmp from to) forward) (is-less (cmp k from) h))
+  goes-before k h = ap is_lt
+      (below-le cmp total k from to (cmp from to) refl (gt-le (cmp from to) forward) (is-less (cmp k from) h))
 
   goes-up_to : (k : K) → is_lt (cmp k from) ≡ true → is_le (cmp k to) ≡ true
   goes-up_to k h = less-le (cmp k to) (goes-before k h)
 
-module _ {K X : Type 0} (cmp : K → K → Ordering) (total : IsTotalOrder cmp) (shelf_of : K → ℕ) (ascends : (j k : K) → shelf_of j < shelf_of k → cmp j k ≡ Less) (from to : K) (forward : IsLeBy cmp from to) (ss : List (List (K × X))) where
+module _ {K X : Type 0} (cmp : K → K → Ordering) (total : IsTotalOrder cmp) (shelf_of : K → ℕ)
+    (ascends : (j k : K) → shelf_of j < shelf_of k → cmp j k ≡ Less) (from to : K) (forward : IsLeBy cmp from to)
+    (ss : List (List (K × X))) where
   pub cuts-before : (a b : ℕ) → a ≡ b → lower cmp (get_or ss a []) from ≤ lower cmp (get_or ss b []) to
-  cuts-before a b e = rw e (front-mono (λ k. is_lt (cmp k from)) (λ k. is_lt (cmp k to)) (goes-before cmp total shelf_of ascends from to forward) (get_or ss b []))
+  cuts-before a b e = rw e
+      (front-mono (λ k. is_lt (cmp k from)) (λ k. is_lt (cmp k to))
+      (goes-before cmp total shelf_of ascends from to forward) (get_or ss b []))
 
   pub cuts-up_to : (a b : ℕ) → a ≡ b → lower cmp (get_or ss a []) from ≤ upper cmp (get_or ss b []) to
-  cuts-up_to a b e = rw e (front-mono (λ k. is_lt (cmp k from)) (λ k. is_le (cmp k to)) (goes-up_to cmp total shelf_of ascends from to forward) (get_or ss b []))
+  cuts-up_to a b e = rw e
+      (front-mono (λ k. is_lt (cmp k from)) (λ k. is_le (cmp k to))
+      (goes-up_to cmp total shelf_of ascends from to forward) (get_or ss b []))
 
   pub places-before : AreShelves cmp shelf_of 0 ss
-      → cut_between ss (shelf_of from) (lower cmp (get_or ss (shelf_of from) []) from) (shelf_of to) (lower cmp (get_or ss (shelf_of to) []) to) ≡ entries_between cmp (Included from) (Excluded to) (joined ss)
+      → cut_between ss (shelf_of from) (lower cmp (get_or ss (shelf_of from) []) from) (shelf_of to)
+      (lower cmp (get_or ss (shelf_of to) []) to) ≡ entries_between cmp (Included from) (Excluded to) (joined ss)
   places-before h =
-      cut-is cmp shelf_of ascends (λ k. is_lt (cmp k from)) (λ k. is_lt (cmp k to)) from to (lower-end cmp total from) (lower-end cmp total to) (goes-before cmp total shelf_of ascends from to forward) ss h (shelf-forward cmp total shelf_of ascends from to forward)
-      ∙ filter_agree (λ e. not (is_lt (cmp e.0 from)) && is_lt (cmp e.0 to)) (λ e. range_contains cmp (Included from) (Excluded to) e.0)
-      (λ e. ap (λ b. b && is_lt (cmp e.0 to)) (sym (is_from (cmp e.0 from)) ∙ ap is_le (sym (reversed cmp total from e.0)))
-      ∙ ap (λ b. is_le (cmp from e.0) && b) (sym (is_under (cmp e.0 to)) ∙ ap (λ r. not (is_le r)) (sym (reversed cmp total to e.0)))) (joined ss)
+      cut-is cmp shelf_of ascends (λ k. is_lt (cmp k from)) (λ k. is_lt (cmp k to)) from to (lower-end cmp total from)
+      (lower-end cmp total to) (goes-before cmp total shelf_of ascends from to forward) ss h
+      (shelf-forward cmp total shelf_of ascends from to forward)
+      ∙ filter_agree (λ e. not (is_lt (cmp e.0 from)) && is_lt (cmp e.0 to))
+      (λ e. range_contains cmp (Included from) (Excluded to) e.0)
+      (λ e. ap (λ b. b && is_lt (cmp e.0 to)) (sym (is_from (cmp e.0 from))
+      ∙ ap is_le (sym (reversed cmp total from e.0)))
+      ∙ ap (λ b. is_le (cmp from e.0) && b) (sym (is_under (cmp e.0 to))
+      ∙ ap (λ r. not (is_le r)) (sym (reversed cmp total to e.0)))) (joined ss)
 
   pub places-up_to : AreShelves cmp shelf_of 0 ss
-      → cut_between ss (shelf_of from) (lower cmp (get_or ss (shelf_of from) []) from) (shelf_of to) (upper cmp (get_or ss (shelf_of to) []) to) ≡ entries_between cmp (Included from) (Included to) (joined ss)
+      → cut_between ss (shelf_of from) (lower cmp (get_or ss (shelf_of from) []) from) (shelf_of to)
+      (upper cmp (get_or ss (shelf_of to) []) to) ≡ entries_between cmp (Included from) (Included to) (joined ss)
   places-up_to h =
-      cut-is cmp shelf_of ascends (λ k. is_lt (cmp k from)) (λ k. is_le (cmp k to)) from to (lower-end cmp total from) (upper-end cmp total to) (goes-up_to cmp total shelf_of ascends from to forward) ss h (shelf-forward cmp total shelf_of ascends from to forward)
-      ∙ filter_agree (λ e. not (is_lt (cmp e.0 from)) && is_le (cmp e.0 to)) (λ e. range_contains cmp (Included from) (Included to) e.0)
-      (λ e. ap (λ b. b && is_le (cmp e.0 to)) (sym (is_from (cmp e.0 from)) ∙ ap is_le (sym (reversed cmp total from e.0)))
-      ∙ ap (λ b. is_le (cmp from e.0) && b) (sym (is_up_to (cmp e.0 to)) ∙ ap (λ r. not (is_lt r)) (sym (reversed cmp total to e.0)))) (joined ss)
+      cut-is cmp shelf_of ascends (λ k. is_lt (cmp k from)) (λ k. is_le (cmp k to)) from to (lower-end cmp total from)
+      (upper-end cmp total to) (goes-up_to cmp total shelf_of ascends from to forward) ss h
+      (shelf-forward cmp total shelf_of ascends from to forward)
+      ∙ filter_agree (λ e. not (is_lt (cmp e.0 from)) && is_le (cmp e.0 to))
+      (λ e. range_contains cmp (Included from) (Included to) e.0)
+      (λ e. ap (λ b. b && is_le (cmp e.0 to)) (sym (is_from (cmp e.0 from))
+      ∙ ap is_le (sym (reversed cmp total from e.0)))
+      ∙ ap (λ b. is_le (cmp from e.0) && b) (sym (is_up_to (cmp e.0 to))
+      ∙ ap (λ r. not (is_lt r)) (sym (reversed cmp total to e.0)))) (joined ss)
 
 -- what the cuts of the code are
 pub lower-within : {K X : Type 0} (cmp : K → K → Ordering) (s : List (K × X)) (key : K) → lower cmp s key ≤ length s
@@ -307,24 +391,33 @@ lower-within cmp s key = front-within (λ k. is_lt (cmp k key)) s
 pub upper-within : {K X : Type 0} (cmp : K → K → Ordering) (s : List (K × X)) (key : K) → upper cmp s key ≤ length s
 upper-within cmp s key = front-within (λ k. is_le (cmp k key)) s
 
-pub between-is : {A : Type 0} (xs : List A) (a b e s : ℕ) → e ≡ min b (length xs) → s ≡ min a e → take (e - s) (drop s xs) ≡ drop a (take b xs)
+pub between-is : {A : Type 0} (xs : List A) (a b e s : ℕ) → e ≡ min b (length xs) → s ≡ min a e
+    → take (e - s) (drop s xs) ≡ drop a (take b xs)
 between-is xs a b e s is_e is_s =
     let long : length (take b xs) ≡ e = length-take b xs ∙ sym is_e in
     let fits : s + (e - s) ≡ e = omega arith in
-    sym (drop-take s (e - s) xs) ∙ ap (λ n. drop s (take n xs)) (fits ∙ is_e) ∙ ap (drop s) (take_min b xs) ∙ ap (λ n. drop n (take b xs)) (is_s ∙ ap (min a) (sym long)) ∙ drop_min a (take b xs)
+    sym (drop-take s (e - s) xs) ∙ ap (λ n. drop s (take n xs)) (fits ∙ is_e) ∙ ap (drop s) (take_min b xs)
+    ∙ ap (λ n. drop n (take b xs)) (is_s ∙ ap (min a) (sym long)) ∙ drop_min a (take b xs)
 
-pub shelf-within : {A : Type 0} (s : List A) (i j : ℕ) (f : List A) (g : List (List A)) (h : List A) → i ≤ j → f ≡ take (j - i) (drop i s) → g ≡ [] → h ≡ [] → f ++ (joined g ++ h) ≡ drop i (take j s)
+pub shelf-within : {A : Type 0} (s : List A) (i j : ℕ) (f : List A) (g : List (List A)) (h : List A) → i ≤ j
+    → f ≡ take (j - i) (drop i s) → g ≡ [] → h ≡ [] → f ++ (joined g ++ h) ≡ drop i (take j s)
 shelf-within s i j f g h le first none after =
     let fits : i + (j - i) ≡ j = omega arith in
-    ap (λ t. f ++ (joined t ++ h)) none ∙ ap (λ t. f ++ t) after ∙ append-nil f ∙ first ∙ sym (drop-take i (j - i) s) ∙ ap (λ n. drop i (take n s)) fits
+    ap (λ t. f ++ (joined t ++ h)) none ∙ ap (λ t. f ++ t) after ∙ append-nil f ∙ first ∙ sym (drop-take i (j - i) s)
+    ∙ ap (λ n. drop i (take n s)) fits
 
-pub cut-same : {A : Type 0} (ss : List (List A)) (a i b j : ℕ) (w : List A) → a ≡ b → w ≡ drop i (take j (get_or ss b [])) → w ≡ cut_between ss a i b j
+pub cut-same : {A : Type 0} (ss : List (List A)) (a i b j : ℕ) (w : List A) → a ≡ b
+    → w ≡ drop i (take j (get_or ss b [])) → w ≡ cut_between ss a i b j
 cut-same ss a i b j w e is = rw (eq-eqb a b e) (is ∙ ap (λ n. drop i (take j (get_or ss n []))) (sym e))
 
 apart-test : (a b : ℕ) (t : Bool) → (a == b) ≡ t → (a ≡ b → ⊥) → t ≡ false
 apart-test a b true e h = absurd (h (eqb-true a b e))
 apart-test a b false e h = refl
 
-pub cut-apart : {A : Type 0} (ss : List (List A)) (a i b j : ℕ) (f : List A) (g : List (List A)) (h : List A) → (a ≡ b → ⊥) → f ≡ drop i (get_or ss a []) → g ≡ drop (a + 1) (take b ss) → h ≡ take j (get_or ss b []) → f ++ (joined g ++ h) ≡ cut_between ss a i b j
+pub cut-apart : {A : Type 0} (ss : List (List A)) (a i b j : ℕ) (f : List A) (g : List (List A)) (h : List A)
+    → (a ≡ b → ⊥) → f ≡ drop i (get_or ss a []) → g ≡ drop (a + 1) (take b ss) → h ≡ take j (get_or ss b [])
+    → f ++ (joined g ++ h) ≡ cut_between ss a i b j
 cut-apart ss a i b j f g h other first between last =
-    rw (apart-test a b (a == b) refl other) (ap (λ t. t ++ (joined g ++ h)) first ∙ ap (λ t. drop i (get_or ss a []) ++ (joined t ++ h)) between ∙ ap (λ t. drop i (get_or ss a []) ++ (joined (drop (a + 1) (take b ss)) ++ t)) last)
+    rw (apart-test a b (a == b) refl other) (ap (λ t. t ++ (joined g ++ h)) first
+    ∙ ap (λ t. drop i (get_or ss a []) ++ (joined t ++ h)) between
+    ∙ ap (λ t. drop i (get_or ss a []) ++ (joined (drop (a + 1) (take b ss)) ++ t)) last)

@@ -1,5 +1,6 @@
 -- A table as a finite map and as its places, for keys whose order is total and, where it says so, tells them apart.
-use Rattle.std.proofs.Common.{◌≡◌, refl, sym, ◌∙◌, ap, subst, Bool, true, false, cond, List, [], ◌∷◌, Option, Some, None}
+use Rattle.std.proofs.Common.{◌≡◌, refl, sym, ◌∙◌, ap, subst, Bool, true, false, cond, List, [], ◌∷◌, Option, Some}
+use Rattle.std.proofs.Common.{None}
 use Rattle.std.specs.Option.{IsSome}
 use Rattle.std.specs.Ordering.{eq_by_cmp, is_eq}
 use Rattle.std.specs.declared.cmp.Ordering.{Ordering}
@@ -19,7 +20,8 @@ tied Equal e = refl
 tied Greater e = cc
 
 module _ {R : Type 0} where
-  row_in-cond : (b : Bool) (p : Option R) (rest : Option (Option R)) (m : Option R) → m ≡ row_in rest → cond b p m ≡ row_in (cond b (Some p) rest)
+  row_in-cond : (b : Bool) (p : Option R) (rest : Option (Option R)) (m : Option R) → m ≡ row_in rest
+      → cond b p m ≡ row_in (cond b (Some p) rest)
   row_in-cond true p rest m e = refl
   row_in-cond false p rest m e = e
 
@@ -27,35 +29,42 @@ module _ {R : Type 0} where
   again true row own m h = sym (h refl)
   again false row own m h = refl
 
-  replaced : (b : Bool) (p own : Option R) (old mid new : Option (Option R)) → (b ≡ true → old ≡ Some own) → mid ≡ cond b (Some p) old → new ≡ cond b (Some own) mid → new ≡ old
+  replaced : (b : Bool) (p own : Option R) (old mid new : Option (Option R)) → (b ≡ true → old ≡ Some own)
+      → mid ≡ cond b (Some p) old → new ≡ cond b (Some own) mid → new ≡ old
   replaced true p own old mid new here set back = back ∙ sym (here refl)
   replaced false p own old mid new here set back = back ∙ set
 
-  still : (b : Bool) (p : Option R) (old new : Option (Option R)) → new ≡ cond b (Some p) old → (q : Option R) × (old ≡ Some q) → (q : Option R) × (new ≡ Some q)
+  still : (b : Bool) (p : Option R) (old new : Option (Option R)) → new ≡ cond b (Some p) old
+      → (q : Option R) × (old ≡ Some q) → (q : Option R) × (new ≡ Some q)
   still true p old new set had = (p, set)
   still false p old new set had = (had.0, set ∙ had.1)
 
 module _ {K R : Type 0} (cmp : K → K → Ordering) where
   -- a place that was set leaves the others: each key that had a place has one
-  pub HasPlace-kept : (old new : List (K × Option R)) (key : K) (p : Option R) → SetsPlace cmp old new key p → (q : K) → HasPlace cmp old q → HasPlace cmp new q
+  pub HasPlace-kept : (old new : List (K × Option R)) (key : K) (p : Option R) → SetsPlace cmp old new key p → (q : K)
+      → HasPlace cmp old q → HasPlace cmp new q
   HasPlace-kept old new key p set q had = still (is_eq (cmp key q)) p (place cmp old q) (place cmp new q) (set q) had
 
   -- and a key that does not tie with it is blanked as before
-  pub IsBlanked-kept : (old new : List (K × Option R)) (key : K) (p : Option R) → SetsPlace cmp old new key p → (q : K) → is_eq (cmp key q) ≡ false → IsBlanked cmp old q → IsBlanked cmp new q
+  pub IsBlanked-kept : (old new : List (K × Option R)) (key : K) (p : Option R) → SetsPlace cmp old new key p → (q : K)
+      → is_eq (cmp key q) ≡ false → IsBlanked cmp old q → IsBlanked cmp new q
   IsBlanked-kept old new key p set q apart blank = set q ∙ rw apart blank
 
 module _ {K R : Type 0} {cmp : K → K → Ordering} (total : IsTotalOrder cmp) where
   -- a place that was set is the one at its key
-  pub place-set : (old new : List (K × Option R)) (key : K) (p : Option R) → SetsPlace cmp old new key p → place cmp new key ≡ Some p
+  pub place-set : (old new : List (K × Option R)) (key : K) (p : Option R) → SetsPlace cmp old new key p
+      → place cmp new key ≡ Some p
   place-set old new key p set = set key ∙ rw ((eq_by_cmp_equiv total).refl key) refl
 
-  pub get-put : (m : FinMap cmp R) (key : K) (row : Option R) (q : K) → get (put m key row) q ≡ cond (eq_by_cmp cmp q key) row (get m q)
+  pub get-put : (m : FinMap cmp R) (key : K) (row : Option R) (q : K)
+      → get (put m key row) q ≡ cond (eq_by_cmp cmp q key) row (get m q)
   get-put m key None q = get-remove total m key q
   get-put m key (Some row) q = get-insert total m key row q
 
   pub get-rows_of : (t : List (K × Option R)) (q : K) → get (rows_of cmp t) q ≡ row_in (place cmp t q)
   get-rows_of [] q = get-empty cmp q
-  get-rows_of (e ∷ t) q = get-put (rows_of cmp t) e.0 e.1 q ∙ row_in-cond (eq_by_cmp cmp q e.0) e.1 (place cmp t q) (get (rows_of cmp t) q) (get-rows_of t q)
+  get-rows_of (e ∷ t) q = get-put (rows_of cmp t) e.0 e.1 q ∙ row_in-cond (eq_by_cmp cmp q e.0) e.1 (place cmp t q)
+      (get (rows_of cmp t) q) (get-rows_of t q)
 
   -- a key with a row, a blanked key, and a key with a place and no row
   pub has_row : (t : List (K × Option R)) (q : K) → IsSome (get (rows_of cmp t) q) → IsSome (row_in (place cmp t q))
@@ -64,16 +73,19 @@ module _ {K R : Type 0} {cmp : K → K → Ordering} (total : IsTotalOrder cmp) 
   pub get-IsBlanked : (t : List (K × Option R)) (q : K) → IsBlanked cmp t q → get (rows_of cmp t) q ≡ None
   get-IsBlanked t q blank = get-rows_of t q ∙ ap row_in blank
 
-  pub IsBlanked-from_place : (t : List (K × Option R)) (q : K) → HasPlace cmp t q → get (rows_of cmp t) q ≡ None → IsBlanked cmp t q
+  pub IsBlanked-from_place : (t : List (K × Option R)) (q : K) → HasPlace cmp t q → get (rows_of cmp t) q ≡ None
+      → IsBlanked cmp t q
   IsBlanked-from_place t q had none = had.1 ∙ ap Some (sym (ap row_in had.1) ∙ sym (get-rows_of t q) ∙ none)
 
   module _ (exact : IsAntisymmetric cmp) where
     -- tables with the same row at each key have the same rows
-    pub same_rows : (old new : List (K × Option R)) → ((q : K) → row_in (place cmp new q) ≡ row_in (place cmp old q)) → rows_of cmp new ≡ rows_of cmp old
+    pub same_rows : (old new : List (K × Option R)) → ((q : K) → row_in (place cmp new q) ≡ row_in (place cmp old q))
+        → rows_of cmp new ≡ rows_of cmp old
     same_rows old new h = same_map total exact _ _ (λ q. get-rows_of new q ∙ h q ∙ sym (get-rows_of old q))
 
     -- a table whose one place was set
-    pub rows_of-set_place : (old new : List (K × Option R)) (key : K) (p : Option R) → SetsPlace cmp old new key p → rows_of cmp new ≡ put (rows_of cmp old) key p
+    pub rows_of-set_place : (old new : List (K × Option R)) (key : K) (p : Option R) → SetsPlace cmp old new key p
+        → rows_of cmp new ≡ put (rows_of cmp old) key p
     rows_of-set_place old new key p set = same_map total exact _ _ (λ q.
         get-rows_of new q ∙ ap row_in (set q)
         ∙ sym (row_in-cond (eq_by_cmp cmp key q) p (place cmp old q) (get (rows_of cmp old) q) (get-rows_of old q))
@@ -85,10 +97,12 @@ module _ {K R : Type 0} {cmp : K → K → Ordering} (total : IsTotalOrder cmp) 
     put_back m key row = same_map total exact _ _ (λ q.
         get-put (put m key row) key (get m key) q
         ∙ ap (cond (eq_by_cmp cmp q key) (get m key)) (get-put m key row q)
-        ∙ again (eq_by_cmp cmp q key) row (get m key) (get m q) (λ e. sym (get_tied total m q key (tied (cmp q key) e))))
+        ∙ again (eq_by_cmp cmp q key) row (get m key) (get m q)
+        (λ e. sym (get_tied total m q key (tied (cmp q key) e))))
 
     -- and of the places
-    pub place_back : (old mid new : List (K × Option R)) (key : K) (p own : Option R) → place cmp old key ≡ Some own → SetsPlace cmp old mid key p → SetsPlace cmp mid new key own
+    pub place_back : (old mid new : List (K × Option R)) (key : K) (p own : Option R) → place cmp old key ≡ Some own
+        → SetsPlace cmp old mid key p → SetsPlace cmp mid new key own
         → (q : K) → place cmp new q ≡ place cmp old q
     place_back old mid new key p own here set back q =
         replaced (is_eq (cmp key q)) p own (place cmp old q) (place cmp mid q) (place cmp new q)

@@ -17,4 +17,5 @@ module _ (K R : RattleType) where
   abbrev pub lends_slot : (K.Denot → K.Denot → Ordering) → MutBor (List (K.Denot × Option R.Denot)) → K.Denot
       → Option (MutBor (Option R.Denot)) → Fml
   lends_slot cmp s at r =
-      LendsSo (shelf_row K R) (option_row R) s r (λ new w. new ≡ set_value (is_at (cmp at)) s.now w) (λ new. new ≡ s.now)
+      LendsSo (shelf_row K R) (option_row R) s r (λ new w. new ≡ set_value (is_at (cmp at)) s.now w)
+      (λ new. new ≡ s.now)

@@ -45,7 +45,8 @@ module _ {K R : Type 0} (cmp : K → K → Ordering) where
 
   -- a blanked key has no place any more; a row, and each other key's place, is as before
   abbrev pub GivesUpPlace : List (K × Option R) → List (K × Option R) → K → Type 0
-  GivesUpPlace old new key = (other : K) → place new other ≡ cond (is_at (cmp key) other) (left_of (place old key)) (place old other)
+  GivesUpPlace old new key = (other : K) → place new other ≡ cond (is_at (cmp key) other) (left_of (place old key))
+      (place old other)
 
   -- no blanked key has a place any more, and each row stays in its own
   abbrev pub GivesUpBlanked : List (K × Option R) → List (K × Option R) → Type 0

@@ -1,5 +1,6 @@
 -- The last name of a number is one that a request may give.
-use Rattle.std.proofs.Common.{◌≡◌, ℕ, zero, suc, ◌/◌, ◌%◌, ◌<◌, ◌≤◌, refl, Bool, true, List, [], ◌∷◌, ◌++◌, length, get_or, arith}
+use Rattle.std.proofs.Common.{◌≡◌, ℕ, zero, suc, ◌/◌, ◌%◌, ◌<◌, ◌≤◌, refl, Bool, true, List, [], ◌∷◌, ◌++◌, length}
+use Rattle.std.proofs.Common.{get_or, arith}
 use Rattle.std.specs.Prelude.{◌&&◌, nat_le, All}
 use Rattle.std.specs.List.{list_all}
 use Rattle.std.proofs.lemmas.Bool.{leb-true, and_parts}
@@ -22,17 +23,23 @@ record IsSyllable (xs : List ℕ) : Type 0 where
 
 all_capital : (xs : List ℕ) → list_all is_capital xs ≡ true → All IsCapital xs
 all_capital [] e k d l = absurd (let no : ⊥ = omega arith in no)
-all_capital (x ∷ xs) e zero d l = let t = and_parts (nat_le 65 x) (nat_le x 90) (and_parts (is_capital x) _ e).0 in (leb-true 65 x t.0, leb-true x 90 t.1)
+all_capital (x ∷ xs) e zero d l = let t = and_parts (nat_le 65 x) (nat_le x 90) (and_parts (is_capital x) _ e).0 in
+    (leb-true 65 x t.0, leb-true x 90 t.1)
 all_capital (x ∷ xs) e (suc k) d l = all_capital xs (and_parts (is_capital x) _ e).1 k d (omega arith)
 
 literal : (xs : List ℕ) → is_syllable xs ≡ true → IsSyllable xs
 literal xs e =
     let t = and_parts (nat_le 1 (length xs) && nat_le (length xs) 5) _ e in
     let u = and_parts (nat_le 1 (length xs)) _ t.0 in
-    record { at_least = leb-true 1 (length xs) u.0; at_most = leb-true (length xs) 5 u.1; capitals = all_capital xs t.1 }
+    record {
+      at_least = leb-true 1 (length xs) u.0;
+      at_most = leb-true (length xs) 5 u.1;
+      capitals = all_capital xs t.1;
+    }
 
 -- each of a list that is written out
-one_of : (xss : List (List ℕ)) → list_all is_syllable xss ≡ true → (i : ℕ) → i < length xss → IsSyllable (get_or xss i [])
+one_of : (xss : List (List ℕ)) → list_all is_syllable xss ≡ true → (i : ℕ) → i < length xss
+    → IsSyllable (get_or xss i [])
 one_of [] e i l = absurd (let no : ⊥ = omega arith in no)
 one_of (xs ∷ xss) e zero l = literal xs (and_parts (is_syllable xs) _ e).0
 one_of (xs ∷ xss) e (suc i) l = one_of xss (and_parts (is_syllable xs) _ e).1 i (omega arith)
@@ -56,4 +63,6 @@ three a b c x y z =
     }
 
 pub last_name_is : (n : ℕ) → n < 1_000 → IsLastName (last_name n)
-last_name_is n l = three (syllable (n / 100)) (syllable (n / 10 % 10)) (syllable (n % 10)) (syllable_of_digit (n / 100) (omega arith)) (syllable_of_digit (n / 10 % 10) (omega arith)) (syllable_of_digit (n % 10) (omega arith))
+last_name_is n l = three (syllable (n / 100)) (syllable (n / 10 % 10)) (syllable (n % 10))
+    (syllable_of_digit (n / 100) (omega arith)) (syllable_of_digit (n / 10 % 10) (omega arith))
+    (syllable_of_digit (n % 10) (omega arith))

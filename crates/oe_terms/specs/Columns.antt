@@ -1,4 +1,5 @@
--- The parts of requests, each with the generator after it. At another scale than the standard's, numbers are drawn evenly.
+-- The parts of requests, each with the generator after it. At another scale than the standard's, numbers are drawn
+-- evenly.
 use Rattle.std.specs.Prelude.{ℕ, ◌+◌, ◌-◌, ◌%◌, ◌==◌, nat_le, if◌then◌else◌, min, List}
 use Rattle.rand_pcg.specs.Lcg.{Lcg}
 use Rattle.oe_rows.specs.declared.scales.Scale.{Scale}

@@ -15,7 +15,8 @@ use Rattle.oe_requests.specs.declared.requests.Errand.TheVariants.{Begin, Read, 
 use Rattle.oe_terms.specs.declared.errands.Kind.{Kind}
 use Rattle.oe_terms.specs.declared.errands.Kind.TheVariants as kind
 use Rattle.oe_terms.specs.Draws.{random, words_of}
-use Rattle.oe_terms.specs.Columns.{home, own_district, other, stamp_of, district_in, customer_number, item_number, choice, residence}
+use Rattle.oe_terms.specs.Columns.{home, own_district, other, stamp_of, district_in, customer_number, item_number}
+use Rattle.oe_terms.specs.Columns.{choice, residence}
 
 -- a line: in 1 of 100 the other warehouse supplies it; an item past the last one is unused (clause 2.4.1.5)
 abbrev pub line : Scale → ℕ → Bool → Lcg → RequestLine × Lcg
@@ -62,8 +63,10 @@ payment s terminal r g =
     let d = district_in (home s terminal) g in
     let at = residence s d.0 d.1 in
     let c = choice s.customers at.1 in
-    let amount = random 100 500_000 c.1 in
-    (record { district = d.0; customer_district = at.0; customer = c.0; amount = amount.0; stamp = stamp_of r }, amount.1)
+    let amount = random 100 500_000 c.1 in (
+      record { district = d.0; customer_district = at.0; customer = c.0; amount = amount.0; stamp = stamp_of r },
+      amount.1,
+    )
 
 -- clause 2.6.1
 abbrev pub order_status : Scale → ℕ → Lcg → StatusQuery × Lcg

@@ -30,8 +30,10 @@ abbrev pub HasLine : Scale → RequestLine → Type 0
 HasLine s l = IsInRange 1 s.warehouses l.supply × IsInRange 1 (s.items + 1) l.item
 
 abbrev pub IsRequestOf : Scale → Request → Type 0
-IsRequestOf s (request.NewOrder q) = HasDistrict s q.district × IsInRange 1 s.customers q.customer × All (HasLine s) q.lines
-IsRequestOf s (request.Payment q) = HasDistrict s q.district × HasDistrict s q.customer_district × HasCustomer s q.customer
+IsRequestOf s (request.NewOrder q) = HasDistrict s q.district × IsInRange 1 s.customers q.customer
+    × All (HasLine s) q.lines
+IsRequestOf s (request.Payment q) = HasDistrict s q.district × HasDistrict s q.customer_district
+    × HasCustomer s q.customer
 IsRequestOf s (request.Delivery q) = ⊥
 IsRequestOf s (request.Deliveries q) = ⊥
 IsRequestOf s (request.Rename q) = ⊥

@@ -10,5 +10,6 @@ line_of-between x (z ∷ zs) y ys =
 
 -- columns in the midst of a row, after three others
 pub line_of-midst : (new out w i x : List ℕ) (xs : List (List ℕ)) (y : List ℕ) (ys : List (List ℕ))
-    → new ≡ out ++ tabbed (w ∷ i ∷ []) ++ (x ++ 9 ∷ []) ++ tabbed xs ++ line_of (y ∷ ys) → new ≡ out ++ line_of (w ∷ i ∷ x ∷ (xs ++ y ∷ ys))
+    → new ≡ out ++ tabbed (w ∷ i ∷ []) ++ (x ++ 9 ∷ []) ++ tabbed xs ++ line_of (y ∷ ys)
+    → new ≡ out ++ line_of (w ∷ i ∷ x ∷ (xs ++ y ∷ ys))
 line_of-midst new out w i x xs y ys e = rw (line_of-between x xs y ys) (e ∙ simp append_assoc)

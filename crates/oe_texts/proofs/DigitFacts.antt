@@ -1,5 +1,6 @@
 -- A number in decimal by two digits at a time.
-use Rattle.std.proofs.Common.{◌≡◌, ℕ, List, ◌+◌, ◌/◌, ◌%◌, ◌^◌, ◌<◌, ◌≤◌, ◌++◌, ◌∷◌, [], decimal, length, refl, sym, ap, ◌∙◌, append_assoc, arith, length-append}
+use Rattle.std.proofs.Common.{◌≡◌, ℕ, List, ◌+◌, ◌/◌, ◌%◌, ◌^◌, ◌<◌, ◌≤◌, ◌++◌, ◌∷◌, [], decimal, length, refl, sym, ap}
+use Rattle.std.proofs.Common.{◌∙◌, append_assoc, arith, length-append}
 use Rattle.std.proofs.lemmas.Fmt.{decimal_digit, decimal_step, length-decimal-le}
 use Rattle.oe_values.specs.Stamp.{two_digits}
 
@@ -37,6 +38,8 @@ pub length_of_u64 : (n : ℕ) → n < 2 ^ 64 → length (decimal n) ≤ 20
 length_of_u64 n h = length-decimal-le 20 n (omega arith) (omega arith) h
 
 -- two digits go on after the others
-pub appended : (new front old : List ℕ) (n : ℕ) → 100 ≤ n → n < 2 ^ 64 → front ≡ old ++ decimal (n / 100) → new ≡ front ++ two_digits (n % 100) → new ≡ old ++ decimal n
+pub appended : (new front old : List ℕ) (n : ℕ) → 100 ≤ n → n < 2 ^ 64 → front ≡ old ++ decimal (n / 100)
+    → new ≡ front ++ two_digits (n % 100) → new ≡ old ++ decimal n
 appended new front old n low high e f =
-    f ∙ ap (λ z. z ++ two_digits (n % 100)) e ∙ append_assoc old (decimal (n / 100)) (two_digits (n % 100)) ∙ ap (λ z. old ++ z) (sym (decimal_more n low high))
+    f ∙ ap (λ z. z ++ two_digits (n % 100)) e ∙ append_assoc old (decimal (n / 100)) (two_digits (n % 100))
+    ∙ ap (λ z. old ++ z) (sym (decimal_more n low high))

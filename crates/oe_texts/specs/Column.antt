@@ -1,5 +1,6 @@
 -- The texts of columns (clause 1.3.1).
-use Rattle.std.specs.Prelude.{ℕ, suc, ◌/◌, ◌%◌, List, [], ◌∷◌, ◌++◌, Bool, true, false, Option, None, Some, ℤ, pos, negsuc, codes}
+use Rattle.std.specs.Prelude.{ℕ, suc, ◌/◌, ◌%◌, List, [], ◌∷◌, ◌++◌, Bool, true, false, Option, None, Some, ℤ, pos}
+use Rattle.std.specs.Prelude.{negsuc, codes}
 use Rattle.oe_rows.specs.declared.customers.Credit.{Credit}
 use Rattle.oe_rows.specs.declared.customers.Credit.TheVariants as credit
 use Rattle.oe_rows.specs.Credit.{money_text}

@@ -66,7 +66,8 @@ abbrev pub reference_columns : CustomerKey → DistrictKey → List (List ℕ)
 reference_columns c d =
     decimal c.customer ∷ decimal c.district ∷ decimal c.warehouse ∷ decimal d.district ∷ decimal d.warehouse ∷ []
 
--- the terminal, the transaction's number, the row's ordinal, the customer's key, the district's, H_DATE, H_AMOUNT, H_DATA
+-- the terminal, the transaction's number, the row's ordinal, the customer's key, the district's, H_DATE, H_AMOUNT,
+-- H_DATA
 abbrev pub history_columns : HistoryKey → History → List (List ℕ)
 history_columns k h =
     key_texts (key.History k) ++ reference_columns h.customer h.district

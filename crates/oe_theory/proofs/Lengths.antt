@@ -2,7 +2,8 @@
 use Rattle.std.proofs.Common.{ℕ, Option}
 use Rattle.oe_theory.specs.Machine.{Machine, Mode, Tx, with_lengths}
 use Rattle.oe_theory.specs.World.{State}
-use Rattle.oe_theory.specs.Laws.{Alike, Reached, at_start, one_more, IsGood, Ends, stops_here, fails_here, ends_here, goes_here, Laws}
+use Rattle.oe_theory.specs.Laws.{Alike, Reached, at_start, one_more, IsGood, Ends, stops_here, fails_here, ends_here}
+use Rattle.oe_theory.specs.Laws.{goes_here, Laws}
 use Rattle.oe_theory.specs.RecordTheorems.{Lengths_are_free}
 
 module _ (M : Machine) (f : M.Record → ℕ) where
@@ -16,18 +17,27 @@ module _ (M : Machine) (f : M.Record → ℕ) where
   same_alike P x r s a = record { rows = a.rows; parts = a.parts }
 
   same_good : (g : ℕ → ℕ) (x : Tx M.Request) (r : M.Map) → IsGood N g x r → IsGood M g x r
-  same_good g x r h = record { good = h.good; valid = h.valid; known = h.known; terminal = h.terminal; number = h.number }
+  same_good g x r h = record {
+    good = h.good;
+    valid = h.valid;
+    known = h.known;
+    terminal = h.terminal;
+    number = h.number;
+  }
 
-  same_way : (held : M.Name → Option Mode) (x : Tx M.Request) (r : M.Map) (s : State N) → Reached N held x r s → Reached M held x r (same_state s)
+  same_way : (held : M.Name → Option Mode) (x : Tx M.Request) (r : M.Map) (s : State N) → Reached N held x r s
+      → Reached M held x r (same_state s)
   same_way held x r _ at_start = at_start
   same_way held x r _ (one_more s c p w i e) = one_more (same_state s) c p (same_way held x r s w) i e
 
-  same_end : (x : Tx M.Request) (Only : M.Refusal → Type 0) (Fits : M.Change → M.Map → Type 0) (p : M.Position) (r : M.Map) (end : Option (M.Map × M.Reply))
+  same_end : (x : Tx M.Request) (Only : M.Refusal → Type 0) (Fits : M.Change → M.Map → Type 0) (p : M.Position)
+      (r : M.Map) (end : Option (M.Map × M.Reply))
       → Ends M x Only Fits p r end → Ends N x Only Fits p r end
   same_end x Only Fits _ _ _ (stops_here p r e why s) = stops_here p r e why s
   same_end x Only Fits _ _ _ (fails_here p r e why g b) = fails_here p r e why g b
   same_end x Only Fits _ _ _ (ends_here p r reply g b) = ends_here p r reply g b
-  same_end x Only Fits _ _ _ (goes_here p r c q end g b fit rest) = goes_here p r c q end g b fit (same_end x Only Fits q _ end rest)
+  same_end x Only Fits _ _ _ (goes_here p r c q end g b fit rest) =
+      goes_here p r c q end g b fit (same_end x Only Fits q _ end rest)
 
 pub lengths_are_free : (M : Machine) → Laws M → Lengths_are_free M
 lengths_are_free M L f =

@@ -1,10 +1,13 @@
--- Rewind gives an earlier version back, purge leaves the later ones, and what whole effects keep holds of every version.
-use Rattle.std.proofs.Common.{◌≡◌, ℕ, suc, zero, ◌+◌, ◌-◌, ◌<◌, ◌≤◌, Option, Some, List, [], ◌∷◌, ◌++◌, take, drop, length, length-drop, length-take, refl, sym, ap, ◌∙◌, subst, inl, inr, arith}
+-- Rewind gives an earlier version back, purge leaves the later ones, and what whole effects keep holds of every
+-- version.
+use Rattle.std.proofs.Common.{◌≡◌, ℕ, suc, zero, ◌+◌, ◌-◌, ◌<◌, ◌≤◌, Option, Some, List, [], ◌∷◌, ◌++◌, take, drop}
+use Rattle.std.proofs.Common.{length, length-drop, length-take, refl, sym, ap, ◌∙◌, subst, inl, inr, arith}
 use Rattle.std.specs.Prelude.{◌⊎◌, ◌≢◌}
 use Rattle.std.proofs.lemmas.List.{take-append-drop}
 use Rattle.std.proofs.lemmas.Bool.{cases_eq}
 use Rattle.oe_theory.specs.Machine.{Machine, Tx}
-use Rattle.oe_theory.specs.World.{set, bump, total, Open, Commit, World, map_after, version, counts_after, counts_at, horizon, newest, at, latest, IsSerial, layer, layers, tables}
+use Rattle.oe_theory.specs.World.{set, bump, total, Open, Commit, World, map_after, version, counts_after, counts_at}
+use Rattle.oe_theory.specs.World.{horizon, newest, at, latest, IsSerial, layer, layers, tables}
 use Rattle.oe_theory.specs.Next.{purged, rewound, IsQuiet}
 use Rattle.oe_theory.specs.Laws.{IsGood, Sound, Laws}
 use Rattle.oe_theory.proofs.Sets.{set_same, set_other}
@@ -31,13 +34,15 @@ drop-take_back (suc i) (suc j) (x ∷ xs) h = drop-take_back i j xs (omega (arit
 
 total_set : (n t : ℕ) (v : ℕ) (f : ℕ → ℕ) → n ≤ t → total n (set t v f) ≡ total n f
 total_set zero t v f h = refl
-total_set (suc n) t v f h = omega (arith, total_set n t v f (omega (arith, h)), set_other t v f n (λ e. omega (arith, e, h)))
+total_set (suc n) t v f h =
+    omega (arith, total_set n t v f (omega (arith, h)), set_other t v f n (λ e. omega (arith, e, h)))
 
 total_bump : (n t : ℕ) (f : ℕ → ℕ) → t < n → total n (bump t f) ≡ suc (total n f)
 total_bump zero t f h = absurd (omega (arith, h))
 total_bump (suc n) t f h = go (cases_eq n t) (total_bump n t f)
   where
-    go : (n ≡ t) ⊎ (n ≢ t) → (t < n → total n (bump t f) ≡ suc (total n f)) → total n (bump t f) + bump t f n ≡ suc (total n f + f n)
+    go : (n ≡ t) ⊎ (n ≢ t) → (t < n → total n (bump t f) ≡ suc (total n f))
+        → total n (bump t f) + bump t f n ≡ suc (total n f + f n)
     go (inl e) i = omega (arith, total_set n t (suc (f t)) f (omega (arith, e)), set_same t (suc (f t)) f n e, ap f e)
     go (inr ne) i = omega (arith, i (omega (arith, h, ne)), set_other t (suc (f t)) f n ne)
 
@@ -45,9 +50,16 @@ module _ (M : Machine) (L : Laws M) where
   open M use {Map, Good, whole, terminal_limit}
   open L use {stays_good}
 
-  total_after : (f : ℕ → ℕ) (b : Map) (cs : List (Commit M)) → IsSerial M f b cs → total terminal_limit (counts_after M f cs) ≡ total terminal_limit f + length cs
+  total_after : (f : ℕ → ℕ) (b : Map) (cs : List (Commit M)) → IsSerial M f b cs
+      → total terminal_limit (counts_after M f cs) ≡ total terminal_limit f + length cs
   total_after f b [] s = omega arith
-  total_after f b (c ∷ cs) s = omega (arith, total_bump terminal_limit c.tx.terminal (counts_after M f cs) s.0.terminal.1, total_after f b cs s.1)
+  total_after f b (c ∷ cs) s =
+      omega (
+        arith,
+        total_bump terminal_limit c.tx.terminal (counts_after M f cs) s.0.terminal.1,
+        total_after f b cs
+            s.1,
+      )
 
   serial_drop : (f : ℕ → ℕ) (b : Map) (j : ℕ) (cs : List (Commit M)) → IsSerial M f b cs → IsSerial M f b (drop j cs)
   serial_drop f b zero cs s = s
@@ -72,41 +84,61 @@ module _ (M : Machine) (L : Laws M) where
   rewound_newest w m l h = omega (arith, length-drop (newest M w - m) w.history)
 
   -- after a rewind the moments up to it are as they were, and the tables are those of its moment
-  pub rewound_at : (w : World M) (m k : ℕ) → horizon M w ≤ m → m ≤ newest M w → k ≤ m → at M (rewound M w m) k ≡ at M w k
+  pub rewound_at : (w : World M) (m k : ℕ) → horizon M w ≤ m → m ≤ newest M w → k ≤ m
+      → at M (rewound M w m) k ≡ at M w k
   rewound_at w m k l h b =
       ap (version M w.base)
       (drop-drop (newest M (rewound M w m) - k) (newest M w - m) w.history
       ∙ ap (λ (n : ℕ). drop n w.history) (omega (arith, rewound_newest w m l h)))
 
-  pub purged_horizon : (w : World M) → Sound M w → (m : ℕ) → horizon M w ≤ m → m ≤ newest M w → horizon M (purged M w m) ≡ m
+  pub purged_horizon : (w : World M) → Sound M w → (m : ℕ) → horizon M w ≤ m → m ≤ newest M w
+      → horizon M (purged M w m) ≡ m
   purged_horizon w s m l h =
-      omega (arith, total_after w.counts w.base (drop (newest M w - m) w.history) (serial_drop w.counts w.base (newest M w - m) w.history s.serial), length-drop (newest M w - m) w.history)
+      omega (
+        arith,
+        total_after w.counts w.base (drop (newest M w - m) w.history)
+            (serial_drop w.counts w.base (newest M w - m) w.history s.serial),
+        length-drop (newest M w - m) w.history,
+      )
 
-  pub purged_newest : (w : World M) → Sound M w → (m : ℕ) → horizon M w ≤ m → m ≤ newest M w → newest M (purged M w m) ≡ newest M w
+  pub purged_newest : (w : World M) → Sound M w → (m : ℕ) → horizon M w ≤ m → m ≤ newest M w
+      → newest M (purged M w m) ≡ newest M w
   purged_newest w s m l h = omega (arith, purged_horizon w s m l h, length-take (newest M w - m) w.history)
 
   -- after a purge the moments from it on are as they were
-  pub purged_at : (w : World M) → Sound M w → (m k : ℕ) → horizon M w ≤ m → m ≤ k → k ≤ newest M w → at M (purged M w m) k ≡ at M w k
+  pub purged_at : (w : World M) → Sound M w → (m k : ℕ) → horizon M w ≤ m → m ≤ k → k ≤ newest M w
+      → at M (purged M w m) k ≡ at M w k
   purged_at w s m k l b h =
       let j = newest M w - m in
       let i = newest M w - k in
-      ap (λ (n : ℕ). version M (at M w m) (drop (n - k) (take j w.history))) (purged_newest w s m l (omega (arith, b, h)))
+      ap (λ (n : ℕ). version M (at M w m) (drop (n - k) (take j w.history)))
+      (purged_newest w s m l (omega (arith, b, h)))
       ∙ (version-append M L w.base (drop i (take j w.history)) (drop j w.history)
       ∙ ap (version M w.base) (drop-take_back i j w.history (omega (arith, b))))
 
   -- every version is good
   pub good_at : (w : World M) → Sound M w → (m : ℕ) → Good (counts_at M w m) (at M w m)
-  good_at w s m = good_version M L w.counts w.base (drop (newest M w - m) w.history) s.good (serial_drop w.counts w.base (newest M w - m) w.history s.serial)
+  good_at w s m = good_version M L w.counts w.base (drop (newest M w - m) w.history) s.good
+      (serial_drop w.counts w.base (newest M w - m) w.history s.serial)
 
   -- and what holds of the base, and is kept by every whole effect, holds of every version
-  module _ (P : Map → Type 0) (keeps : (f : ℕ → ℕ) (x : Tx (M.Request)) (r after : Map) (reply : M.Reply) → IsGood M f x r → whole x r ≡ Some (after, reply) → P r → P after) where
-    kept_version : (f : ℕ → ℕ) (b : Map) (cs : List (Commit M)) → Good f b → IsSerial M f b cs → P b → P (version M b cs)
+  module _ (P : Map → Type 0) (keeps : (f : ℕ → ℕ) (x : Tx (M.Request)) (r after : Map) (reply : M.Reply)
+      → IsGood M f x r → whole x r ≡ Some (after, reply) → P r → P after) where
+    kept_version : (f : ℕ → ℕ) (b : Map) (cs : List (Commit M)) → Good f b → IsSerial M f b cs → P b
+        → P (version M b cs)
     kept_version f b [] g s p = p
     kept_version f b (c ∷ cs) g s p =
         let e = s.0.effect in
         subst (λ z. P (map_after M z (version M b cs))) (sym e)
         (keeps (counts_after M f cs) c.tx (version M b cs) s.0.after c.reply
-        (record { good = good_version M L f b cs g s.1; valid = s.0.valid; known = s.0.known; terminal = s.0.terminal; number = s.0.number }) e (kept_version f b cs g s.1 p))
+        (record {
+          good = good_version M L f b cs g s.1;
+          valid = s.0.valid;
+          known = s.0.known;
+          terminal = s.0.terminal;
+          number = s.0.number;
+        }) e (kept_version f b cs g s.1 p))
 
     pub kept_at : (w : World M) → Sound M w → P w.base → (m : ℕ) → P (at M w m)
-    kept_at w s p m = kept_version w.counts w.base (drop (newest M w - m) w.history) s.good (serial_drop w.counts w.base (newest M w - m) w.history s.serial) p
+    kept_at w s p m = kept_version w.counts w.base (drop (newest M w - m) w.history) s.good
+        (serial_drop w.counts w.base (newest M w - m) w.history s.serial) p

@@ -1,12 +1,16 @@
 -- No more extents are used than there are, so where a record finds no room all are used.
-use Rattle.std.proofs.Common.{◌≡◌, ℕ, suc, zero, ◌+◌, ◌-◌, ◌<◌, ◌≤◌, Bool, true, false, cond, Option, None, Some, List, [], ◌∷◌, ◌++◌, take, drop, refl, sym, ap, ◌∙◌, subst, inl, inr, arith}
+use Rattle.std.proofs.Common.{◌≡◌, ℕ, suc, zero, ◌+◌, ◌-◌, ◌<◌, ◌≤◌, Bool, true, false, cond, Option, None, Some, List}
+use Rattle.std.proofs.Common.{[], ◌∷◌, ◌++◌, take, drop, refl, sym, ap, ◌∙◌, subst, inl, inr, arith}
 use Rattle.std.specs.Prelude.{◌⊎◌, ◌≢◌, nat_le}
 use Rattle.std.proofs.lemmas.Bool.{cases_eq, leb-false}
 use Rattle.oe_theory.specs.Machine.{Machine}
 use Rattle.oe_theory.specs.World.{set, Open, Commit, World, overlay, newest, latest, tables}
-use Rattle.oe_theory.specs.Next.{record_on, add_length, begun, filled, used_by, used_active, used_history, used, HasRoom, put_active, Step, Advance, Answer, Undo_full, Next, begins, goes_on, commits, saves, goes_back, rolls_back, purges, rewinds, stops, fails, is_full, Event, Run}
+use Rattle.oe_theory.specs.Next.{record_on, add_length, begun, filled, used_by, used_active, used_history, used}
+use Rattle.oe_theory.specs.Next.{HasRoom, put_active, Step, Advance, Answer, Undo_full, Next, begins, goes_on, commits}
+use Rattle.oe_theory.specs.Next.{saves, goes_back, rolls_back, purges, rewinds, stops, fails, is_full, Event, Run}
 use Rattle.oe_theory.specs.Laws.{Sound, Laws}
-use Rattle.oe_theory.specs.Undo.{Undo, records_of, lengths_of, AreOfCommits, Keeps, used_open, used_commits, used_of, undo_after}
+use Rattle.oe_theory.specs.Undo.{Undo, records_of, lengths_of, AreOfCommits, Keeps, used_open, used_commits, used_of}
+use Rattle.oe_theory.specs.Undo.{undo_after}
 use Rattle.oe_theory.specs.Theorems.{Is_full}
 use Rattle.oe_theory.proofs.Sets.{set_same, set_other}
 use Rattle.oe_theory.proofs.Steps.{next_sound}
@@ -21,33 +25,43 @@ module _ (M : Machine) (L : Laws M) where
   filled_more (x ∷ xs) ys = go (nat_le x (filled M (xs ++ ys)).1) (filled_more xs ys)
     where
       go : (b : Bool) → (filled M ys).0 ≤ (filled M (xs ++ ys)).0
-          → (filled M ys).0 ≤ (cond {A = ℕ × ℕ} b ((filled M (xs ++ ys)).0, (filled M (xs ++ ys)).1 - x) (suc (filled M (xs ++ ys)).0, M.extent - x)).0
+          → (filled M ys).0 ≤ (cond {A = ℕ × ℕ} b ((filled M (xs ++ ys)).0, (filled M (xs ++ ys)).1 - x)
+          (suc (filled M (xs ++ ys)).0, M.extent - x)).0
       go true h = h
       go false h = omega (arith, h)
 
   -- a record that has room takes at most an extent that is free
-  filled_one : (l : ℕ) (ls : List ℕ) → ((filled M (l ∷ ls)).0 ≤ suc (filled M ls).0) × (l ≤ (filled M ls).1 → (filled M (l ∷ ls)).0 ≡ (filled M ls).0)
+  filled_one : (l : ℕ) (ls : List ℕ) → ((filled M (l ∷ ls)).0 ≤ suc (filled M ls).0)
+      × (l ≤ (filled M ls).1 → (filled M (l ∷ ls)).0 ≡ (filled M ls).0)
   filled_one l ls = go (nat_le l (filled M ls).1) refl
     where
       go : (b : Bool) → nat_le l (filled M ls).1 ≡ b
-          → ((cond {A = ℕ × ℕ} b ((filled M ls).0, (filled M ls).1 - l) (suc (filled M ls).0, M.extent - l)).0 ≤ suc (filled M ls).0)
-          × (l ≤ (filled M ls).1 → (cond {A = ℕ × ℕ} b ((filled M ls).0, (filled M ls).1 - l) (suc (filled M ls).0, M.extent - l)).0 ≡ (filled M ls).0)
+          → ((cond {A = ℕ × ℕ} b ((filled M ls).0, (filled M ls).1 - l) (suc (filled M ls).0, M.extent - l)).0 ≤ suc
+          (filled M ls).0)
+          × (l ≤ (filled M ls).1
+          → (cond {A = ℕ × ℕ} b ((filled M ls).0, (filled M ls).1 - l) (suc (filled M ls).0, M.extent - l)).0
+          ≡ (filled M ls).0)
       go true e = (omega arith, λ h. refl)
       go false e = (omega arith, λ h. absurd (let k = leb-false l (filled M ls).1 e in omega (arith, k, h)))
 
   -- one transaction's share in the sum
-  used_above : (active : ℕ → Option (Open M)) (t n : ℕ) (v : Option (Open M)) → n ≤ t → used_active M (set t v active) n ≡ used_active M active n
+  used_above : (active : ℕ → Option (Open M)) (t n : ℕ) (v : Option (Open M)) → n ≤ t
+      → used_active M (set t v active) n ≡ used_active M active n
   used_above active t zero v h = refl
   used_above active t (suc n) v h =
-      let e : used_by M (set t v active n) ≡ used_by M (active n) = ap (used_by M) (set_other t v active n (λ q. omega (arith, q, h))) in
+      let e : used_by M (set t v active n) ≡ used_by M (active n) = ap (used_by M)
+      (set_other t v active n (λ q. omega (arith, q, h))) in
       omega (arith, used_above active t n v (omega (arith, h)), e)
 
-  used_set : (active : ℕ → Option (Open M)) (t n : ℕ) (v : Option (Open M)) → t < n → used_active M (set t v active) n + used_by M (active t) ≡ used_active M active n + used_by M v
+  used_set : (active : ℕ → Option (Open M)) (t n : ℕ) (v : Option (Open M)) → t < n
+      → used_active M (set t v active) n + used_by M (active t) ≡ used_active M active n + used_by M v
   used_set active t zero v h = absurd (omega (arith, h))
   used_set active t (suc n) v h = go (cases_eq n t) (used_set active t n v)
     where
-      go : (n ≡ t) ⊎ (n ≢ t) → (t < n → used_active M (set t v active) n + used_by M (active t) ≡ used_active M active n + used_by M v)
-          → (used_active M (set t v active) n + used_by M (set t v active n)) + used_by M (active t) ≡ (used_active M active n + used_by M (active n)) + used_by M v
+      go : (n ≡ t) ⊎ (n ≢ t)
+          → (t < n → used_active M (set t v active) n + used_by M (active t) ≡ used_active M active n + used_by M v)
+          → (used_active M (set t v active) n + used_by M (set t v active n)) + used_by M
+          (active t) ≡ (used_active M active n + used_by M (active n)) + used_by M v
       go (inl q) i =
           let a : used_by M (set t v active n) ≡ used_by M v = ap (used_by M) (set_same t v active n q) in
           let b : used_by M (active n) ≡ used_by M (active t) = ap (λ z. used_by M (active z)) q in
@@ -61,20 +75,24 @@ module _ (M : Machine) (L : Laws M) where
   none_used (suc n) = omega (arith, none_used n)
 
   -- what is used is what the records fill
-  used_open_same : (w : World M) (u : Undo M) → Keeps M w u → (n : ℕ) → used_active M w.active n ≡ used_open M u.active n
+  used_open_same : (w : World M) (u : Undo M) → Keeps M w u → (n : ℕ)
+      → used_active M w.active n ≡ used_open M u.active n
   used_open_same w u k zero = refl
   used_open_same w u k (suc n) = go (w.active n) refl (used_open_same w u k n)
     where
       go : (v : Option (Open M)) → w.active n ≡ v → used_active M w.active n ≡ used_open M u.active n
           → used_active M w.active n + used_by M v ≡ used_open M u.active n + (filled M (lengths_of M (u.active n))).0
       go None e i =
-          let z : (filled M (lengths_of M (u.active n))).0 ≡ 0 = ap (λ (bs : List Record). (filled M (lengths_of M bs)).0) (k.others n e) in
+          let z : (filled M (lengths_of M (u.active n))).0 ≡ 0 =
+          ap (λ (bs : List Record). (filled M (lengths_of M bs)).0) (k.others n e) in
           omega arith
       go (Some o) e i =
-          let z : (filled M o.lengths).0 ≡ (filled M (lengths_of M (u.active n))).0 = ap (λ ls. (filled M ls).0) (k.opens n o e).lengths in
+          let z : (filled M o.lengths).0 ≡ (filled M (lengths_of M (u.active n))).0 =
+          ap (λ ls. (filled M ls).0) (k.opens n o e).lengths in
           omega arith
 
-  used_commits_same : (b : M.Map) (cs : List (Commit M)) (ss : List (List Record)) → AreOfCommits M b cs ss → used_history M cs ≡ used_commits M ss
+  used_commits_same : (b : M.Map) (cs : List (Commit M)) (ss : List (List Record)) → AreOfCommits M b cs ss
+      → used_history M cs ≡ used_commits M ss
   used_commits_same b [] [] h = refl
   used_commits_same b [] (s ∷ ss) h = absurd h
   used_commits_same b (c ∷ cs) [] h = absurd h
@@ -83,9 +101,11 @@ module _ (M : Machine) (L : Laws M) where
       omega (arith, z, used_commits_same b cs ss h.1)
 
   pub used_same : (w : World M) (u : Undo M) → Keeps M w u → used M w ≡ used_of M u
-  used_same w u k = omega (arith, used_open_same w u k terminal_limit, used_commits_same w.base w.history u.history k.commits)
+  used_same w u k = omega
+      (arith, used_open_same w u k terminal_limit, used_commits_same w.base w.history u.history k.commits)
 
-  used_put : (w : World M) (t : ℕ) (v : Option (Open M)) → t < terminal_limit → used M (put_active M t v w) + used_by M (w.active t) ≡ used M w + used_by M v
+  used_put : (w : World M) (t : ℕ) (v : Option (Open M)) → t < terminal_limit
+      → used M (put_active M t v w) + used_by M (w.active t) ≡ used M w + used_by M v
   used_put w t v h = omega (arith, used_set w.active t terminal_limit v h)
 
   used_take : (j : ℕ) (cs : List (Commit M)) → used_history M (take j cs) ≤ used_history M cs
@@ -98,42 +118,52 @@ module _ (M : Machine) (L : Laws M) where
   used_drop (suc j) [] = omega arith
   used_drop (suc j) (c ∷ cs) = omega (arith, used_drop j cs)
 
-  room_goes : (w : World M) (t : ℕ) (o o' : Open M) (c : Option Change) → t < terminal_limit → w.active t ≡ Some o → o'.lengths ≡ add_length M c (tables M w) o.lengths → HasRoom M w o c
+  room_goes : (w : World M) (t : ℕ) (o o' : Open M) (c : Option Change) → t < terminal_limit → w.active t ≡ Some o
+      → o'.lengths ≡ add_length M c (tables M w) o.lengths → HasRoom M w o c
       → used M w ≤ w.extents → used M (put_active M t (Some o') w) ≤ w.extents
   room_goes w t o o' c b e q room h = go c q room
     where
       was : used_by M (w.active t) ≡ (filled M o.lengths).0
       was = ap (used_by M) e
 
-      go : (c : Option Change) → o'.lengths ≡ add_length M c (tables M w) o.lengths → HasRoom M w o c → used M (put_active M t (Some o') w) ≤ w.extents
+      go : (c : Option Change) → o'.lengths ≡ add_length M c (tables M w) o.lengths → HasRoom M w o c
+          → used M (put_active M t (Some o') w) ≤ w.extents
       go None q room =
           let a : (filled M o'.lengths).0 ≡ (filled M o.lengths).0 = ap (λ ls. (filled M ls).0) q in
           omega (arith, used_put w t (Some o') b, was, a, h)
       go (Some c) q (inl fits) =
-          let a : (filled M o'.lengths).0 ≡ (filled M (size_of (record_on M c (tables M w)) ∷ o.lengths)).0 = ap (λ ls. (filled M ls).0) q in
+          let a : (filled M o'.lengths).0 ≡ (filled M (size_of (record_on M c (tables M w)) ∷ o.lengths)).0 =
+          ap (λ ls. (filled M ls).0) q in
           let d = (filled_one (size_of (record_on M c (tables M w))) o.lengths).1 fits in
           omega (arith, used_put w t (Some o') b, was, a, d, h)
       go (Some c) q (inr free) =
-          let a : (filled M o'.lengths).0 ≡ (filled M (size_of (record_on M c (tables M w)) ∷ o.lengths)).0 = ap (λ ls. (filled M ls).0) q in
+          let a : (filled M o'.lengths).0 ≡ (filled M (size_of (record_on M c (tables M w)) ∷ o.lengths)).0 =
+          ap (λ ls. (filled M ls).0) q in
           let d = (filled_one (size_of (record_on M c (tables M w))) o.lengths).0 in
           omega (arith, used_put w t (Some o') b, was, a, d, free)
 
-  drops : (w : World M) → Sound M w → (t : ℕ) (o : Open M) → w.active t ≡ Some o → used M w ≤ w.extents → used M (put_active M t None w) ≤ w.extents
+  drops : (w : World M) → Sound M w → (t : ℕ) (o : Open M) → w.active t ≡ Some o → used M w ≤ w.extents
+      → used M (put_active M t None w) ≤ w.extents
   drops w s t o e h = omega (arith, used_put w t None (s.each t o e).terminal.1, h)
 
   -- at its mark a transaction fills no more extents
-  marked_less : (w : World M) → Sound M w → (u : Undo M) → Keeps M w u → (t : ℕ) (o : Open M) → w.active t ≡ Some o → (filled M o.mark_lengths).0 ≤ (filled M o.lengths).0
+  marked_less : (w : World M) → Sound M w → (u : Undo M) → Keeps M w u → (t : ℕ) (o : Open M) → w.active t ≡ Some o
+      → (filled M o.mark_lengths).0 ≤ (filled M o.lengths).0
   marked_less w s u k t o e =
       let c = s.each t o e in
       let h = k.opens t o e in
       let later = records_of M (overlay M o.mark.changes (latest M w)) c.since in
       let marked = records_of M (latest M w) o.mark.changes in
       let all : o.lengths ≡ lengths_of M later ++ o.mark_lengths =
-      h.lengths ∙ (ap (lengths_of M) (h.records ∙ (ap (records_of M (latest M w)) c.split ∙ records-append M L c.since o.mark.changes (latest M w)))
+      h.lengths ∙ (ap (lengths_of M)
+      (h.records ∙ (ap (records_of M (latest M w)) c.split ∙ records-append M L c.since o.mark.changes
+      (latest M w)))
       ∙ (lengths-append M L later marked ∙ ap (λ z. lengths_of M later ++ z) (sym h.mark_lengths))) in
-      subst (λ z. (filled M o.mark_lengths).0 ≤ (filled M z).0) (sym all) (filled_more (lengths_of M later) o.mark_lengths)
+      subst (λ z. (filled M o.mark_lengths).0 ≤ (filled M z).0) (sym all)
+      (filled_more (lengths_of M later) o.mark_lengths)
 
-  next_within : (w : World M) → Sound M w → (u : Undo M) → Keeps M w u → used M w ≤ w.extents → (i : Step M) (a : Answer M) (v : World M) → Next M w i a v → used M v ≤ v.extents
+  next_within : (w : World M) → Sound M w → (u : Undo M) → Keeps M w u → used M w ≤ w.extents
+      → (i : Step M) (a : Answer M) (v : World M) → Next M w i a v → used M v ≤ v.extents
   next_within w s u k h _ _ _ (begins t q b) =
       let z : used_by M (w.active t) ≡ 0 = ap (used_by M) b.closed in
       omega (arith, used_put w t (Some (begun M w t q)) b.terminal.1, z, h)
@@ -143,10 +173,21 @@ module _ (M : Machine) (L : Laws M) where
       omega (arith, used_put w t None (s.each t o e).terminal.1, z, h)
   next_within w s u k h _ _ _ (saves t o e) =
       let z : used_by M (w.active t) ≡ (filled M o.lengths).0 = ap (used_by M) e in
-      omega (arith, used_put w t (Some (record o { mark = o.now; mark_lengths = o.lengths })) (s.each t o e).terminal.1, z, h)
+      omega (
+        arith,
+        used_put w t (Some (record o { mark = o.now; mark_lengths = o.lengths })) (s.each t o e).terminal.1,
+        z,
+        h,
+      )
   next_within w s u k h _ _ _ (goes_back t o e) =
       let z : used_by M (w.active t) ≡ (filled M o.lengths).0 = ap (used_by M) e in
-      omega (arith, used_put w t (Some (record o { now = o.mark; lengths = o.mark_lengths })) (s.each t o e).terminal.1, z, marked_less w s u k t o e, h)
+      omega (
+        arith,
+        used_put w t (Some (record o { now = o.mark; lengths = o.mark_lengths })) (s.each t o e).terminal.1,
+        z,
+        marked_less w s u k t o e,
+        h,
+      )
   next_within w s u k h _ _ _ (rolls_back t o e) = drops w s t o e h
   next_within w s u k h _ _ _ (purges m a b) = omega (arith, used_take (newest M w - m) w.history, h)
   next_within w s u k h _ _ _ (rewinds m q a b) = omega (arith, used_drop (newest M w - m) w.history, h)
@@ -154,14 +195,26 @@ module _ (M : Machine) (L : Laws M) where
   next_within w s u k h _ _ _ (fails t o x e g r) = drops w s t o e h
   next_within w s u k h _ _ _ n = h
 
-  pub run_within : (w : World M) → Sound M w → (u : Undo M) → Keeps M w u → used M w ≤ w.extents → (es : List (Event M)) (w' : World M) → Run M w es w' → used M w' ≤ w'.extents
+  pub run_within : (w : World M) → Sound M w → (u : Undo M) → Keeps M w u → used M w ≤ w.extents
+      → (es : List (Event M)) (w' : World M) → Run M w es w' → used M w' ≤ w'.extents
   run_within w s u k h [] w' r = subst (λ (z : World M). used M z ≤ z.extents) r h
   run_within w s u k h (e ∷ es) w' r =
-      run_within r.0 (next_sound M L w s e.step e.answer r.0 r.1) (undo_after M w u e.answer e.step) (keeps_next M L w s u k e.step e.answer r.0 r.1)
+      run_within r.0 (next_sound M L w s e.step e.answer r.0 r.1) (undo_after M w u e.answer e.step)
+      (keeps_next M L w s u k e.step e.answer r.0 r.1)
       (next_within w s u k h e.step e.answer r.0 r.1) es w' r.2
 
-  pub full_step : (w : World M) → used M w ≤ w.extents → (i : Step M) (a : Answer M) (v : World M) (t : ℕ) → Next M w i a v → i ≡ Advance t → a ≡ Undo_full → Is_full M w t
+  pub full_step : (w : World M) → used M w ≤ w.extents → (i : Step M) (a : Answer M) (v : World M) (t : ℕ)
+      → Next M w i a v → i ≡ Advance t → a ≡ Undo_full → Is_full M w t
   full_step w h _ _ _ t (is_full u o c p e g r full) i a =
       let same : u ≡ t = cc in
-      subst (Is_full M w) same (record { was = o; is_open = e; change = c; position = p; makes = r; too_long = full.0; all_used = omega (arith, full.1, h) })
+      subst (Is_full M w) same
+      (record {
+        was = o;
+        is_open = e;
+        change = c;
+        position = p;
+        makes = r;
+        too_long = full.0;
+        all_used = omega (arith, full.1, h);
+      })
   full_step w h _ _ _ t n i a = cc

@@ -19,9 +19,12 @@ module _ {A : Type 0} where
     where
       at_each : (k : ℕ) → (k ≡ t) ⊎ (k ≢ t) → (k ≡ u) ⊎ (k ≢ u) → set t v (set u w f) k ≡ set u w (set t v f) k
       at_each k (inl e) (inl e') = absurd (ne (sym e' ∙ e))
-      at_each k (inl e) (inr n) = set_same t v (set u w f) k e ∙ sym (set_other u w (set t v f) k n ∙ set_same t v f k e)
-      at_each k (inr n) (inl e) = (set_other t v (set u w f) k n ∙ set_same u w f k e) ∙ sym (set_same u w (set t v f) k e)
-      at_each k (inr n) (inr n') = (set_other t v (set u w f) k n ∙ set_other u w f k n') ∙ sym (set_other u w (set t v f) k n' ∙ set_other t v f k n)
+      at_each k (inl e) (inr n) = set_same t v (set u w f) k e
+          ∙ sym (set_other u w (set t v f) k n ∙ set_same t v f k e)
+      at_each k (inr n) (inl e) = (set_other t v (set u w f) k n ∙ set_same u w f k e)
+          ∙ sym (set_same u w (set t v f) k e)
+      at_each k (inr n) (inr n') = (set_other t v (set u w f) k n ∙ set_other u w f k n')
+          ∙ sym (set_other u w (set t v f) k n' ∙ set_other t v f k n)
 
   -- of two values at one argument, the later stays
   pub set_twice : (t : ℕ) (v w : A) (f : ℕ → A) → set t v (set t w f) ≡ set t v f
@@ -40,7 +43,8 @@ module _ {A : Type 0} where
       at_each k (inr n) = set_other t v f k n
 
 -- the two ways in which an argument that was set has a value
-pub set_cases : {A : Type 0} (t : ℕ) (v : Option A) (f : ℕ → Option A) (u : ℕ) (o : A) → set t v f u ≡ Some o → ((u ≡ t) × (v ≡ Some o)) ⊎ ((u ≢ t) × (f u ≡ Some o))
+pub set_cases : {A : Type 0} (t : ℕ) (v : Option A) (f : ℕ → Option A) (u : ℕ) (o : A) → set t v f u ≡ Some o
+    → ((u ≡ t) × (v ≡ Some o)) ⊎ ((u ≢ t) × (f u ≡ Some o))
 set_cases {A} t v f u o e = go (cases_eq u t)
   where
     go : (u ≡ t) ⊎ (u ≢ t) → ((u ≡ t) × (v ≡ Some o)) ⊎ ((u ≢ t) × (f u ≡ Some o))
@@ -77,7 +81,8 @@ risen_keeps Shared n None a = absurd a
 risen_keeps Shared n (Some p) a = a
 
 -- a mode that rose came from one of its two causes
-pub risen_exclusive : (m : Mode) (o : Option Mode) → IsEnough (Some (risen m o)) Exclusive → (m ≡ Exclusive) ⊎ (IsEnough o Exclusive)
+pub risen_exclusive : (m : Mode) (o : Option Mode) → IsEnough (Some (risen m o)) Exclusive
+    → (m ≡ Exclusive) ⊎ (IsEnough o Exclusive)
 risen_exclusive Exclusive o a = inl refl
 risen_exclusive Shared None a = absurd a
 risen_exclusive Shared (Some p) a = inr a

@@ -1,31 +1,68 @@
 -- Each step keeps a world sound, and each commit is the whole effect.
-use Rattle.std.proofs.Common.{◌≡◌, ℕ, suc, ◌-◌, Bool, true, false, cond, Option, None, Some, List, [], ◌∷◌, ◌++◌, take, drop, refl, sym, ap, ◌∙◌, subst, inl, inr}
+use Rattle.std.proofs.Common.{◌≡◌, ℕ, suc, ◌-◌, Bool, true, false, cond, Option, None, Some, List, [], ◌∷◌, ◌++◌, take}
+use Rattle.std.proofs.Common.{drop, refl, sym, ap, ◌∙◌, subst, inl, inr}
 use Rattle.std.specs.Prelude.{◌⊎◌, ◌≢◌}
 use Rattle.std.proofs.lemmas.List.{take-append-drop}
 use Rattle.std.proofs.lemmas.Bool.{cond-true}
-use Rattle.oe_theory.specs.Machine.{Machine, Mode, Shared, Exclusive, Guard, Free, Under, Own, Ask, Stop, Plain, Take, Fail, Go, Ready, Tx}
-use Rattle.oe_theory.specs.World.{IsEnough, go_together, risen, set, bump, Open, Commit, World, tx_of, overlay, add, map_after, version, counts_after, counts_now, newest, latest, IsCommit, IsSerial, tables}
-use Rattle.oe_theory.specs.Next.{Step, Answer, put_active, begun, held_after, moved, IsGranted, committed, purged, rewound, IsQuiet, Next, begins, goes_on, commits, saves, goes_back, rolls_back, reads, audits, purges, rewinds, stops, fails, is_busy, is_full, is_rejected, is_open, number_is_rejected, query_is_rejected, misses, not_open, too_old, future, not_quiet, lacks_memory_at_begin, lacks_memory, Event, Run}
-use Rattle.oe_theory.specs.Laws.{Holds, with_asked, MayRead, MayReadPart, MayWrite, Alike, IsSameEver, held_of, IsAsked, Reached, at_start, one_more, all_held, IsGood, IsOnCourse, AreApart, Sound, Laws}
-use Rattle.oe_theory.proofs.Sets.{enough_shared, set_other, set_cases, some_inj, some_none, risen_enough, risen_keeps, risen_exclusive, together_shared, together_exclusive}
-use Rattle.oe_theory.proofs.Replay.{write_more, alike_fewer, asked_held, asked_all, taken_held, ask_alike, act_alike, reached_alike, reached_more}
+use Rattle.oe_theory.specs.Machine.{Machine, Mode, Shared, Exclusive, Guard, Free, Under, Own, Ask, Stop, Plain, Take}
+use Rattle.oe_theory.specs.Machine.{Fail, Go, Ready, Tx}
+use Rattle.oe_theory.specs.World.{IsEnough, go_together, risen, set, bump, Open, Commit, World, tx_of, overlay, add}
+use Rattle.oe_theory.specs.World.{map_after, version, counts_after, counts_now, newest, latest, IsCommit, IsSerial}
+use Rattle.oe_theory.specs.World.{tables}
+use Rattle.oe_theory.specs.Next.{Step, Answer, put_active, begun, held_after, moved, IsGranted, committed, purged}
+use Rattle.oe_theory.specs.Next.{rewound, IsQuiet, Next, begins, goes_on, commits, saves, goes_back, rolls_back, reads}
+use Rattle.oe_theory.specs.Next.{audits, purges, rewinds, stops, fails, is_busy, is_full, is_rejected, is_open}
+use Rattle.oe_theory.specs.Next.{number_is_rejected, query_is_rejected, misses, not_open, too_old, future, not_quiet}
+use Rattle.oe_theory.specs.Next.{lacks_memory_at_begin, lacks_memory, Event, Run}
+use Rattle.oe_theory.specs.Laws.{Holds, with_asked, MayRead, MayReadPart, MayWrite, Alike, IsSameEver, held_of, IsAsked}
+use Rattle.oe_theory.specs.Laws.{Reached, at_start, one_more, all_held, IsGood, IsOnCourse, AreApart, Sound, Laws}
+use Rattle.oe_theory.proofs.Sets.{enough_shared, set_other, set_cases, some_inj, some_none, risen_enough, risen_keeps}
+use Rattle.oe_theory.proofs.Sets.{risen_exclusive, together_shared, together_exclusive}
+use Rattle.oe_theory.proofs.Replay.{write_more, alike_fewer, asked_held, asked_all, taken_held, ask_alike, act_alike}
+use Rattle.oe_theory.proofs.Replay.{reached_alike, reached_more}
 use Rattle.oe_theory.proofs.Endings.{ready_law, fail_law, stop_law, change_law}
 use Rattle.oe_theory.proofs.Tables.{alike_tables, alike_other, same_ever}
 
 module _ (M : Machine) (L : Laws M) where
-  open M use {Map, Change, row_at, key_of, Name, is_name, governs, Request, Position, Reply, Refusal, ask, act, marks, taken, whole, Good}
+  open M use {
+    Map,
+    Change,
+    row_at,
+    key_of,
+    Name,
+    is_name,
+    governs,
+    Request,
+    Position,
+    Reply,
+    Refusal,
+    ask,
+    act,
+    marks,
+    taken,
+    whole,
+    Good,
+  }
   open L use {name_true, name_refl, may_write, ends, stays_good}
 
   -- versions are good
-  pub good_version : (f : ℕ → ℕ) (b : Map) (cs : List (Commit M)) → Good f b → IsSerial M f b cs → Good (counts_after M f cs) (version M b cs)
+  pub good_version : (f : ℕ → ℕ) (b : Map) (cs : List (Commit M)) → Good f b → IsSerial M f b cs
+      → Good (counts_after M f cs) (version M b cs)
   good_version f b [] g s = g
   good_version f b (c ∷ cs) g s =
       let e = s.0.effect in
       subst (λ p. Good (bump c.tx.terminal (counts_after M f cs)) (map_after M p (version M b cs))) (sym e)
       (stays_good (counts_after M f cs) c.tx (version M b cs) s.0.after c.reply
-      (record { good = good_version f b cs g s.1; valid = s.0.valid; known = s.0.known; terminal = s.0.terminal; number = s.0.number }) e)
+      (record {
+        good = good_version f b cs g s.1;
+        valid = s.0.valid;
+        known = s.0.known;
+        terminal = s.0.terminal;
+        number = s.0.number;
+      }) e)
 
-  pub good_latest : (w : World M) → Sound M w → (t : ℕ) (o : Open M) → w.active t ≡ Some o → IsGood M (counts_now M w) (tx_of M t o) (latest M w)
+  pub good_latest : (w : World M) → Sound M w → (t : ℕ) (o : Open M) → w.active t ≡ Some o
+      → IsGood M (counts_now M w) (tx_of M t o) (latest M w)
   good_latest w s t o e =
       record {
         good = good_version w.counts w.base w.history s.good s.serial;
@@ -36,7 +73,8 @@ module _ (M : Machine) (L : Laws M) where
       }
 
   -- locks that were granted are held afterwards, beside those held before, and no other may write under them
-  after_keeps : (a : Ask Name Refusal) (held : Name → Option Mode) (n : Name) (m : Mode) → IsEnough (held n) m → IsEnough (held_after M a held n) m
+  after_keeps : (a : Ask Name Refusal) (held : Name → Option Mode) (n : Name) (m : Mode) → IsEnough (held n) m
+      → IsEnough (held_after M a held n) m
   after_keeps (Stop e) held n m h = h
   after_keeps Plain held n m h = h
   after_keeps (Take p q) held n m h = go (is_name n p)
@@ -45,30 +83,36 @@ module _ (M : Machine) (L : Laws M) where
       go true = risen_keeps q m (held n) h
       go false = h
 
-  after_asked : (w : World M) (t : ℕ) (a : Ask Name Refusal) (held : Name → Option Mode) → IsGranted M w t a → IsAsked M (held_after M a held) a
+  after_asked : (w : World M) (t : ℕ) (a : Ask Name Refusal) (held : Name → Option Mode) → IsGranted M w t a
+      → IsAsked M (held_after M a held) a
   after_asked w t (Stop e) held g = g
   after_asked w t Plain held g = g
-  after_asked w t (Take p q) held g = subst (λ v. IsEnough v q) (sym (cond-true (is_name p p) (Some (risen q (held p))) (held p) (name_refl p))) (risen_enough q (held p))
+  after_asked w t (Take p q) held g = subst (λ v. IsEnough v q)
+      (sym (cond-true (is_name p p) (Some (risen q (held p))) (held p) (name_refl p))) (risen_enough q (held p))
 
   after_apart : (w : World M) (t : ℕ) (a : Ask Name Refusal) (held : Name → Option Mode) → IsGranted M w t a
-      → (u : ℕ) (p : Open M) → t ≢ u → w.active u ≡ Some p → AreApart M held p.held → AreApart M (held_after M a held) p.held
+      → (u : ℕ) (p : Open M) → t ≢ u → w.active u ≡ Some p → AreApart M held p.held
+      → AreApart M (held_after M a held) p.held
   after_apart w t (Stop e) held g u p ne q f n x y = f n x y
   after_apart w t Plain held g u p ne q f n x y = f n x y
   after_apart w t (Take i m) held g u p ne q f n x y = go (is_name n i) refl y
     where
       go : (b : Bool) → is_name n i ≡ b → IsEnough (cond b (Some (risen m (held n))) (held n)) Shared → ⊥
-      go true e y = together_shared m (p.held i) (g u p (λ z. ne (sym z)) q) (subst (λ z. IsEnough (p.held z) Exclusive) (name_true n i e) x)
+      go true e y = together_shared m (p.held i) (g u p (λ z. ne (sym z)) q)
+          (subst (λ z. IsEnough (p.held z) Exclusive) (name_true n i e) x)
       go false e y = f n x y
 
   after_apart' : (w : World M) (t : ℕ) (a : Ask Name Refusal) (held : Name → Option Mode) → IsGranted M w t a
-      → (u : ℕ) (p : Open M) → t ≢ u → w.active u ≡ Some p → AreApart M p.held held → AreApart M p.held (held_after M a held)
+      → (u : ℕ) (p : Open M) → t ≢ u → w.active u ≡ Some p → AreApart M p.held held
+      → AreApart M p.held (held_after M a held)
   after_apart' w t (Stop e) held g u p ne q f n x y = f n x y
   after_apart' w t Plain held g u p ne q f n x y = f n x y
   after_apart' w t (Take i m) held g u p ne q f n x y = go (is_name n i) refl x
     where
       rose : n ≡ i → (m ≡ Exclusive) ⊎ (IsEnough (held n) Exclusive) → ⊥
       rose e (inl k) =
-          together_exclusive (p.held i) (subst (λ z. go_together z (p.held i) ≡ true) k (g u p (λ z. ne (sym z)) q)) (subst (λ z. IsEnough (p.held z) Shared) e y)
+          together_exclusive (p.held i) (subst (λ z. go_together z (p.held i) ≡ true) k (g u p (λ z. ne (sym z)) q))
+          (subst (λ z. IsEnough (p.held z) Shared) e y)
       rose e (inr h) = f n h y
 
       go : (b : Bool) → is_name n i ≡ b → IsEnough (cond b (Some (risen m (held n))) (held n)) Exclusive → ⊥
@@ -77,9 +121,11 @@ module _ (M : Machine) (L : Laws M) where
 
   -- what a step of an open transaction reads is what its program alone would read
   pub reads_alone : (w : World M) → Sound M w → (t : ℕ) (o : Open M) → w.active t ≡ Some o
-      → ask (tx_of M t o) o.now.position (tables M w) ≡ ask (tx_of M t o) o.now.position (overlay M o.now.changes (latest M w))
+      → ask (tx_of M t o) o.now.position (tables M w) ≡ ask (tx_of M t o) o.now.position
+      (overlay M o.now.changes (latest M w))
   reads_alone w s t o e =
-      ask_alike M L o.held (tx_of M t o) (latest M w) o.now (s.each t o e).now (tables M w) (overlay M o.now.changes (latest M w))
+      ask_alike M L o.held (tx_of M t o) (latest M w) o.now (s.each t o e).now (tables M w)
+      (overlay M o.now.changes (latest M w))
       (alike_tables M L w s t o e o.held (λ u p ne q. s.apart t u o p ne e q))
 
   -- the locks after the step that the tables ask for
@@ -88,17 +134,21 @@ module _ (M : Machine) (L : Laws M) where
 
   pub acts_alone : (w : World M) → Sound M w → (t : ℕ) (o : Open M) → w.active t ≡ Some o
       → IsGranted M w t (ask (tx_of M t o) o.now.position (tables M w))
-      → act (tx_of M t o) o.now.position (tables M w) ≡ act (tx_of M t o) o.now.position (overlay M o.now.changes (latest M w))
+      → act (tx_of M t o) o.now.position (tables M w) ≡ act (tx_of M t o) o.now.position
+      (overlay M o.now.changes (latest M w))
   unfolding held_next
   acts_alone w s t o e g =
       let a = ask (tx_of M t o) o.now.position (tables M w) in
       act_alike M L (held_next w t o) (tx_of M t o) (latest M w) o.now
-      (reached_more M L o.held (held_next w t o) (tx_of M t o) (latest M w) (after_keeps a o.held) o.now (s.each t o e).now)
+      (reached_more M L o.held (held_next w t o) (tx_of M t o) (latest M w) (after_keeps a o.held) o.now
+      (s.each t o e).now)
       (tables M w) (overlay M o.now.changes (latest M w))
-      (alike_tables M L w s t o e (held_next w t o) (λ u p ne q. after_apart w t a o.held g u p ne q (s.apart t u o p ne e q)))
+      (alike_tables M L w s t o e (held_next w t o)
+      (λ u p ne q. after_apart w t a o.held g u p ne q (s.apart t u o p ne e q)))
       (after_asked w t a o.held g)
 
-  write_to_read : (held : Name → Option Mode) (x : Tx Request) (g : Guard Name) → MayWrite M (held_of M held) x g → MayRead M (held_of M held) x g
+  write_to_read : (held : Name → Option Mode) (x : Tx Request) (g : Guard Name) → MayWrite M (held_of M held) x g
+      → MayRead M (held_of M held) x g
   write_to_read held x Free h = h
   write_to_read held x (Under n) h = enough_shared (held n) Exclusive h
   write_to_read held x (Own i j) h = h
@@ -115,11 +165,13 @@ module _ (M : Machine) (L : Laws M) where
       let held = held_next w t o in
       let asked = after_asked w t a o.held g in
       let way = reached_more M L o.held held x (latest M w) (after_keeps a o.held) o.now (s.each t o e).now in
-      let like = alike_tables M L w s t o e held (λ u q ne h. after_apart w t a o.held g u q ne h (s.apart t u o q ne e h)) in
+      let like = alike_tables M L w s t o e held
+      (λ u q ne h. after_apart w t a o.held g u q ne h (s.apart t u o q ne e h)) in
       like.rows (key_of c)
       (write_to_read held x (governs (key_of c))
       (write_more M L (Holds M (with_asked M a (taken x o.now.position))) (held_of M held) x
-      (λ n. asked_held M L held a (taken x o.now.position) asked (taken_held M L held x (latest M w) o.now way) n Exclusive)
+      (λ n. asked_held M L held a (taken x o.now.position) asked (taken_held M L held x (latest M w) o.now way) n
+      Exclusive)
       (governs (key_of c))
       (may_write x o.now.position (tables M w) c p (asked_all M L held a asked) r)))
 
@@ -132,11 +184,14 @@ module _ (M : Machine) (L : Laws M) where
   alone_asked w t Plain g = g
   alone_asked w t (Take n m) g = tt
 
-  pub to_alone : (w : World M) → Sound M w → (t : ℕ) (o : Open M) → w.active t ≡ Some o → Reached M (all_held M) (tx_of M t o) (latest M w) o.now
-  to_alone w s t o e = reached_more M L o.held (all_held M) (tx_of M t o) (latest M w) (λ n m h. tt) o.now (s.each t o e).now
+  pub to_alone : (w : World M) → Sound M w → (t : ℕ) (o : Open M) → w.active t ≡ Some o
+      → Reached M (all_held M) (tx_of M t o) (latest M w) o.now
+  to_alone w s t o e = reached_more M L o.held (all_held M) (tx_of M t o) (latest M w) (λ n m h. tt) o.now
+      (s.each t o e).now
 
   -- the tables accept the change of a row, as the newest version with one's own changes does
-  pub change_accepted : (w : World M) → Sound M w → (t : ℕ) (o : Open M) (c : Change) (p : Position) → w.active t ≡ Some o
+  pub change_accepted : (w : World M) → Sound M w → (t : ℕ) (o : Open M) (c : Change) (p : Position)
+      → w.active t ≡ Some o
       → IsGranted M w t (ask (tx_of M t o) o.now.position (tables M w))
       → act (tx_of M t o) o.now.position (tables M w) ≡ Go (Some c) p
       → M.Accepts c (tables M w)
@@ -145,15 +200,23 @@ module _ (M : Machine) (L : Laws M) where
       let x = tx_of M t o in
       let own = overlay M o.now.changes (latest M w) in
       let held = held_next w t o in
-      let asked : IsAsked M held (ask x o.now.position own) = subst (IsAsked M held) (reads_alone w s t o e) (after_asked w t (ask x o.now.position (tables M w)) o.held g) in
-      let way = reached_more M L o.held held x (latest M w) (after_keeps (ask x o.now.position (tables M w)) o.held) o.now (s.each t o e).now in
-      let like = alike_tables M L w s t o e held (λ u q ne h. after_apart w t (ask x o.now.position (tables M w)) o.held g u q ne h (s.apart t u o q ne e h)) in
+      let asked : IsAsked M held (ask x o.now.position own) = subst (IsAsked M held) (reads_alone w s t o e)
+      (after_asked w t (ask x o.now.position (tables M w)) o.held g) in
+      let way = reached_more M L o.held held x (latest M w) (after_keeps (ask x o.now.position (tables M w)) o.held)
+      o.now (s.each t o e).now in
+      let like = alike_tables M L w s t o e held
+      (λ u q ne h. after_apart w t (ask x o.now.position (tables M w)) o.held g u q ne h
+      (s.apart t u o q ne e h)) in
       let does = sym (acts_alone w s t o e g) ∙ r in
       L.accepts_same x o.now.position own (tables M w) c p (asked_all M L held _ asked)
-      (alike_fewer M L _ _ x own (tables M w) (λ n. asked_held M L held (ask x o.now.position own) (taken x o.now.position) asked (taken_held M L held x (latest M w) o.now way) n Shared)
+      (alike_fewer M L _ _ x own (tables M w)
+      (λ n. asked_held M L held (ask x o.now.position own) (taken x o.now.position) asked
+      (taken_held M L held x (latest M w) o.now way) n Shared)
       (alike_back (held_of M held) x (tables M w) own like))
       does
-      (change_law M (M.MayRefuse o.request) M.Accepts x (latest M w) o.now c p _ (ends (counts_now M w) x (latest M w) (good_latest w s t o e)) (to_alone w s t o e) (asked_all M L held _ asked) does)
+      (change_law M (M.MayRefuse o.request) M.Accepts x (latest M w) o.now c p _
+      (ends (counts_now M w) x (latest M w) (good_latest w s t o e)) (to_alone w s t o e)
+      (asked_all M L held _ asked) does)
 
   -- at a commit the changes made step by step are the whole effect on the newest version
   pub commit_whole : (w : World M) → Sound M w → (t : ℕ) (o : Open M) (reply : Reply) → w.active t ≡ Some o
@@ -161,7 +224,8 @@ module _ (M : Machine) (L : Laws M) where
       → act (tx_of M t o) o.now.position (tables M w) ≡ Ready reply
       → whole (tx_of M t o) (latest M w) ≡ Some (overlay M o.now.changes (latest M w), reply)
   commit_whole w s t o reply e g r =
-      ready_law M (M.MayRefuse o.request) M.Accepts (tx_of M t o) (latest M w) o.now reply _ (ends (counts_now M w) (tx_of M t o) (latest M w) (good_latest w s t o e)) (to_alone w s t o e)
+      ready_law M (M.MayRefuse o.request) M.Accepts (tx_of M t o) (latest M w) o.now reply _
+      (ends (counts_now M w) (tx_of M t o) (latest M w) (good_latest w s t o e)) (to_alone w s t o e)
       (subst (IsAsked M (all_held M)) (reads_alone w s t o e) (alone_asked w t _ g))
       (sym (acts_alone w s t o e g) ∙ r)
 
@@ -171,7 +235,8 @@ module _ (M : Machine) (L : Laws M) where
       → act (tx_of M t o) o.now.position (tables M w) ≡ Fail x
       → whole (tx_of M t o) (latest M w) ≡ None
   fail_whole w s t o x e g r =
-      fail_law M (M.MayRefuse o.request) M.Accepts (tx_of M t o) (latest M w) o.now x _ (ends (counts_now M w) (tx_of M t o) (latest M w) (good_latest w s t o e)) (to_alone w s t o e)
+      fail_law M (M.MayRefuse o.request) M.Accepts (tx_of M t o) (latest M w) o.now x _
+      (ends (counts_now M w) (tx_of M t o) (latest M w) (good_latest w s t o e)) (to_alone w s t o e)
       (subst (IsAsked M (all_held M)) (reads_alone w s t o e) (alone_asked w t _ g))
       (sym (acts_alone w s t o e g) ∙ r)
 
@@ -179,15 +244,18 @@ module _ (M : Machine) (L : Laws M) where
       → ask (tx_of M t o) o.now.position (tables M w) ≡ Stop x
       → whole (tx_of M t o) (latest M w) ≡ None
   stop_whole w s t o x e r =
-      stop_law M (M.MayRefuse o.request) M.Accepts (tx_of M t o) (latest M w) o.now x _ (ends (counts_now M w) (tx_of M t o) (latest M w) (good_latest w s t o e)) (to_alone w s t o e)
+      stop_law M (M.MayRefuse o.request) M.Accepts (tx_of M t o) (latest M w) o.now x _
+      (ends (counts_now M w) (tx_of M t o) (latest M w) (good_latest w s t o e)) (to_alone w s t o e)
       (sym (reads_alone w s t o e) ∙ r)
 
   -- its program alone comes to the same refusal
   pub fail_alone : (w : World M) → Sound M w → (t : ℕ) (o : Open M) (x : Refusal) → w.active t ≡ Some o
       → IsGranted M w t (ask (tx_of M t o) o.now.position (tables M w))
       → act (tx_of M t o) o.now.position (tables M w) ≡ Fail x
-      → IsAsked M (all_held M) (ask (tx_of M t o) o.now.position (overlay M o.now.changes (latest M w))) × (act (tx_of M t o) o.now.position (overlay M o.now.changes (latest M w)) ≡ Fail x)
-  fail_alone w s t o x e g r = (subst (IsAsked M (all_held M)) (reads_alone w s t o e) (alone_asked w t _ g), sym (acts_alone w s t o e g) ∙ r)
+      → IsAsked M (all_held M) (ask (tx_of M t o) o.now.position (overlay M o.now.changes (latest M w)))
+      × (act (tx_of M t o) o.now.position (overlay M o.now.changes (latest M w)) ≡ Fail x)
+  fail_alone w s t o x e g r =
+      (subst (IsAsked M (all_held M)) (reads_alone w s t o e) (alone_asked w t _ g), sym (acts_alone w s t o e g) ∙ r)
 
   -- a transaction that changes, and one that ends, leave a sound world
   pub sound_put : (w : World M) → Sound M w → (t : ℕ) (o : Open M) → IsOnCourse M (counts_now M w) (latest M w) t o
@@ -197,11 +265,13 @@ module _ (M : Machine) (L : Laws M) where
       record {
         good = s.good;
         serial = s.serial;
-        apart = λ i j x y ne p q. two i j x y ne (set_cases t (Some o) w.active i x p) (set_cases t (Some o) w.active j y q);
+        apart = λ i j x y ne p q. two i j x y ne (set_cases t (Some o) w.active i x p)
+            (set_cases t (Some o) w.active j y q);
         each = λ i x p. one i x (set_cases t (Some o) w.active i x p);
       }
     where
-      one : (i : ℕ) (x : Open M) → ((i ≡ t) × (Some o ≡ Some x)) ⊎ ((i ≢ t) × (w.active i ≡ Some x)) → IsOnCourse M (counts_now M w) (latest M w) i x
+      one : (i : ℕ) (x : Open M) → ((i ≡ t) × (Some o ≡ Some x)) ⊎ ((i ≢ t) × (w.active i ≡ Some x))
+          → IsOnCourse M (counts_now M w) (latest M w) i x
       one i x (inl h) =
           subst (λ (z : Open M). IsOnCourse M (counts_now M w) (latest M w) i z) (some_inj o x h.1)
           (subst (λ (z : ℕ). IsOnCourse M (counts_now M w) (latest M w) z o) (sym h.0) c)
@@ -210,8 +280,10 @@ module _ (M : Machine) (L : Laws M) where
       two : (i j : ℕ) (x y : Open M) → i ≢ j → ((i ≡ t) × (Some o ≡ Some x)) ⊎ ((i ≢ t) × (w.active i ≡ Some x))
           → ((j ≡ t) × (Some o ≡ Some y)) ⊎ ((j ≢ t) × (w.active j ≡ Some y)) → AreApart M x.held y.held
       two i j x y ne (inl h) (inl k) = absurd (ne (h.0 ∙ sym k.0))
-      two i j x y ne (inl h) (inr k) = subst (λ (z : Open M). AreApart M z.held y.held) (some_inj o x h.1) (f j y (λ z. k.0 (sym z)) k.1).0
-      two i j x y ne (inr h) (inl k) = subst (λ (z : Open M). AreApart M x.held z.held) (some_inj o y k.1) (f i x (λ z. h.0 (sym z)) h.1).1
+      two i j x y ne (inl h) (inr k) = subst (λ (z : Open M). AreApart M z.held y.held) (some_inj o x h.1)
+          (f j y (λ z. k.0 (sym z)) k.1).0
+      two i j x y ne (inr h) (inl k) = subst (λ (z : Open M). AreApart M x.held z.held) (some_inj o y k.1)
+          (f i x (λ z. h.0 (sym z)) h.1).1
       two i j x y ne (inr h) (inr k) = s.apart i j x y ne h.1 k.1
 
   pub sound_drop : (w : World M) → Sound M w → (t : ℕ) → Sound M (put_active M t None w)
@@ -230,7 +302,8 @@ module _ (M : Machine) (L : Laws M) where
           go (inl h) = absurd (some_none x (sym h.1))
           go (inr h) = h.1
 
-  added_since : (c : Option Change) (all since old : List Change) → all ≡ since ++ old → add M c all ≡ add M c since ++ old
+  added_since : (c : Option Change) (all since old : List Change) → all ≡ since ++ old
+      → add M c all ≡ add M c since ++ old
   added_since None all since old e = e
   added_since (Some c) all since old e = ap (λ cs. c ∷ cs) e
 
@@ -252,9 +325,14 @@ module _ (M : Machine) (L : Laws M) where
             (sym (acts_alone w s t o e g) ∙ r);
         mark = more (cond (marks o.now.position) o.now o.mark) (mark_way (marks o.now.position));
         since = add M c (cond (marks o.now.position) [] (s.each t o e).since);
-        split = added_since c o.now.changes (cond (marks o.now.position) [] (s.each t o e).since) (cond (marks o.now.position) o.now o.mark).changes (mark_split (marks o.now.position));
+        split = added_since c o.now.changes (cond (marks o.now.position) [] (s.each t o e).since)
+            (cond (marks o.now.position) o.now o.mark).changes (mark_split (marks o.now.position));
       })
-      (λ u q ne h. (after_apart w t a o.held g u q ne h (s.apart t u o q ne e h), after_apart' w t a o.held g u q ne h (s.apart u t q o (λ z. ne (sym z)) h e)))
+      (λ u q ne h. (
+        after_apart w t a o.held g u q ne h (s.apart t u o q ne e h),
+        after_apart' w t a o.held g u q ne h
+            (s.apart u t q o (λ z. ne (sym z)) h e),
+      ))
     where
       -- the mark, where the program may have moved it
       mark_way : (b : Bool) → Reached M o.held (tx_of M t o) (latest M w) (cond b o.now o.mark)
@@ -275,7 +353,18 @@ module _ (M : Machine) (L : Laws M) where
   sound_commits w s t o reply e q =
       record {
         good = s.good;
-        serial = (record { after = overlay M o.now.changes (latest M w); effect = q; valid = (s.each t o e).valid; known = (s.each t o e).known; terminal = (s.each t o e).terminal; number = (s.each t o e).number }, s.serial);
+        serial = (
+          record {
+            after = overlay M o.now.changes (latest M w);
+            effect = q;
+            valid = (s.each t o e).valid;
+            known = (s.each t o e).known;
+            terminal = (s.each t o e).terminal;
+            number =
+                (s.each t o e).number;
+          },
+          s.serial,
+        );
         apart = d.apart;
         each = λ i x p. one i x (set_cases t None w.active i x p);
       }
@@ -289,14 +378,19 @@ module _ (M : Machine) (L : Laws M) where
       one i x (inr h) =
           let c = s.each i x h.1 in
           let like = alike_other M L w s i t x o h.0 h.1 e in
-          subst (λ (z : Option (Map × Reply)). IsOnCourse M (bump t (counts_now M w)) (map_after M z (latest M w)) i x) (sym q)
+          subst (λ (z : Option (Map × Reply)). IsOnCourse M (bump t (counts_now M w)) (map_after M z (latest M w)) i x)
+          (sym q)
           (record {
             terminal = c.terminal;
             number = c.number ∙ ap suc (sym (set_other t (suc (counts_now M w t)) (counts_now M w) i h.0));
             valid = c.valid;
-            known = sym (L.rejection_same x.request (latest M w) (overlay M o.now.changes (latest M w)) (ever_alike (held_of M x.held) (tx_of M i x) (latest M w) (overlay M o.now.changes (latest M w)) like)) ∙ c.known;
-            now = reached_alike M L x.held (tx_of M i x) (latest M w) (overlay M o.now.changes (latest M w)) like x.now c.now;
-            mark = reached_alike M L x.held (tx_of M i x) (latest M w) (overlay M o.now.changes (latest M w)) like x.mark c.mark;
+            known = sym (L.rejection_same x.request (latest M w) (overlay M o.now.changes (latest M w))
+                (ever_alike (held_of M x.held) (tx_of M i x) (latest M w) (overlay M o.now.changes (latest M w)) like))
+                ∙ c.known;
+            now = reached_alike M L x.held (tx_of M i x) (latest M w) (overlay M o.now.changes (latest M w)) like x.now
+                c.now;
+            mark = reached_alike M L x.held (tx_of M i x) (latest M w) (overlay M o.now.changes (latest M w)) like
+                x.mark c.mark;
             since = c.since;
             split = c.split;
           })
@@ -306,11 +400,13 @@ module _ (M : Machine) (L : Laws M) where
   version-append b [] ys = refl
   version-append b (x ∷ xs) ys = ap (λ r. map_after M (whole x.tx r) r) (version-append b xs ys)
 
-  pub counts-append : (f : ℕ → ℕ) (xs ys : List (Commit M)) → counts_after M (counts_after M f ys) xs ≡ counts_after M f (xs ++ ys)
+  pub counts-append : (f : ℕ → ℕ) (xs ys : List (Commit M))
+      → counts_after M (counts_after M f ys) xs ≡ counts_after M f (xs ++ ys)
   counts-append f [] ys = refl
   counts-append f (x ∷ xs) ys = ap (bump x.tx.terminal) (counts-append f xs ys)
 
-  pub serial_front : (f : ℕ → ℕ) (b : Map) (xs ys : List (Commit M)) → IsSerial M f b (xs ++ ys) → IsSerial M (counts_after M f ys) (version M b ys) xs
+  pub serial_front : (f : ℕ → ℕ) (b : Map) (xs ys : List (Commit M)) → IsSerial M f b (xs ++ ys)
+      → IsSerial M (counts_after M f ys) (version M b ys) xs
   serial_front f b [] ys s = tt
   serial_front f b (x ∷ xs) ys s = (
     subst (λ (g : ℕ → ℕ). IsCommit M g (version M (version M b ys) xs) x) (sym (counts-append f xs ys))
@@ -322,7 +418,8 @@ module _ (M : Machine) (L : Laws M) where
   serial_back f b [] ys s = s
   serial_back f b (x ∷ xs) ys s = serial_back f b xs ys s.1
 
-  parted : (f : ℕ → ℕ) (b : Map) (j : ℕ) (cs : List (Commit M)) → IsSerial M f b cs → IsSerial M f b (take j cs ++ drop j cs)
+  parted : (f : ℕ → ℕ) (b : Map) (j : ℕ) (cs : List (Commit M)) → IsSerial M f b cs
+      → IsSerial M f b (take j cs ++ drop j cs)
   parted f b j cs s = subst (IsSerial M f b) (sym (take-append-drop j cs)) s
 
   pub purged_latest : (w : World M) (m : ℕ) → latest M (purged M w m) ≡ latest M w
@@ -333,14 +430,16 @@ module _ (M : Machine) (L : Laws M) where
   pub purged_counts : (w : World M) (m : ℕ) → counts_now M (purged M w m) ≡ counts_now M w
   purged_counts w m =
       let j = newest M w - m in
-      counts-append w.counts (take j w.history) (drop j w.history) ∙ ap (counts_after M w.counts) (take-append-drop j w.history)
+      counts-append w.counts (take j w.history) (drop j w.history) ∙ ap (counts_after M w.counts)
+      (take-append-drop j w.history)
 
   sound_purges : (w : World M) → Sound M w → (m : ℕ) → Sound M (purged M w m)
   sound_purges w s m =
       let j = newest M w - m in
       let split = parted w.counts w.base j w.history s.serial in
       record {
-        good = good_version w.counts w.base (drop j w.history) s.good (serial_back w.counts w.base (take j w.history) (drop j w.history) split);
+        good = good_version w.counts w.base (drop j w.history) s.good
+            (serial_back w.counts w.base (take j w.history) (drop j w.history) split);
         serial = serial_front w.counts w.base (take j w.history) (drop j w.history) split;
         apart = s.apart;
         each = λ t o e.
@@ -353,7 +452,8 @@ module _ (M : Machine) (L : Laws M) where
       let j = newest M w - m in
       record {
         good = s.good;
-        serial = serial_back w.counts w.base (take j w.history) (drop j w.history) (parted w.counts w.base j w.history s.serial);
+        serial = serial_back w.counts w.base (take j w.history) (drop j w.history)
+            (parted w.counts w.base j w.history s.serial);
         apart = s.apart;
         each = λ t o e. absurd (some_none o (sym e ∙ quiet t));
       }
@@ -361,15 +461,53 @@ module _ (M : Machine) (L : Laws M) where
   -- each step keeps a world sound
   pub next_sound : (w : World M) → Sound M w → (i : Step M) (a : Answer M) (w' : World M) → Next M w i a w' → Sound M w'
   next_sound w s _ _ _ (begins t q b) =
-      sound_put w s t (begun M w t q) (record { terminal = b.terminal; number = refl; valid = b.valid; known = sym (L.rejection_same q (tables M w) (latest M w) (same_ever M L w s)) ∙ b.known; now = at_start; mark = at_start; since = []; split = refl }) (λ u p ne h. (λ n x y. y, λ n x y. x))
+      sound_put w s t (begun M w t q)
+      (record {
+        terminal = b.terminal;
+        number = refl;
+        valid = b.valid;
+        known = sym (L.rejection_same q (tables M w) (latest M w) (same_ever M L w s)) ∙ b.known;
+        now = at_start;
+        mark = at_start;
+        since = [];
+        split = refl;
+      }) (λ u p ne h. (λ n x y. y, λ n x y. x))
   next_sound w s _ _ _ (goes_on t o c p e g r room) = sound_goes w s t o c p e g r
   next_sound w s _ _ _ (commits t o reply e g r) = sound_commits w s t o reply e (commit_whole w s t o reply e g r)
   next_sound w s _ _ _ (saves t o e) =
       let c = s.each t o e in
-      sound_put w s t (record o { mark = o.now; mark_lengths = o.lengths }) (record { terminal = c.terminal; number = c.number; valid = c.valid; known = c.known; now = c.now; mark = c.now; since = []; split = refl }) (λ u p ne h. (s.apart t u o p ne e h, s.apart u t p o (λ z. ne (sym z)) h e))
+      sound_put w s t (record o { mark = o.now; mark_lengths = o.lengths })
+      (record {
+        terminal = c.terminal;
+        number = c.number;
+        valid = c.valid;
+        known = c.known;
+        now = c.now;
+        mark = c.now;
+        since = [];
+        split = refl;
+      }) (λ u p ne h. (
+        s.apart t u o p ne e h,
+        s.apart u t p o
+            (λ z. ne (sym z)) h e,
+      ))
   next_sound w s _ _ _ (goes_back t o e) =
       let c = s.each t o e in
-      sound_put w s t (record o { now = o.mark; lengths = o.mark_lengths }) (record { terminal = c.terminal; number = c.number; valid = c.valid; known = c.known; now = c.mark; mark = c.mark; since = []; split = refl }) (λ u p ne h. (s.apart t u o p ne e h, s.apart u t p o (λ z. ne (sym z)) h e))
+      sound_put w s t (record o { now = o.mark; lengths = o.mark_lengths })
+      (record {
+        terminal = c.terminal;
+        number = c.number;
+        valid = c.valid;
+        known = c.known;
+        now = c.mark;
+        mark = c.mark;
+        since = [];
+        split = refl;
+      }) (λ u p ne h. (
+        s.apart t u o p ne e h,
+        s.apart u t p o
+            (λ z. ne (sym z)) h e,
+      ))
   next_sound w s _ _ _ (rolls_back t o e) = sound_drop w s t
   next_sound w s _ _ _ (reads m q f n l h e) = s
   next_sound w s _ _ _ (audits m c l h) = s

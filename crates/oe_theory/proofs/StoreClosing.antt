@@ -1,20 +1,28 @@
 -- What holds of every store that stands, and what is left of it once its open transactions were rolled back.
-use Rattle.std.proofs.Common.{◌≡◌, ℕ, suc, zero, ◌+◌, ◌-◌, ◌<◌, ◌≤◌, Option, None, Some, List, [], ◌∷◌, ◌++◌, take, length, length-drop, refl, sym, ap, ◌∙◌, subst, inl, inr, arith}
+use Rattle.std.proofs.Common.{◌≡◌, ℕ, suc, zero, ◌+◌, ◌-◌, ◌<◌, ◌≤◌, Option, None, Some, List, [], ◌∷◌, ◌++◌, take}
+use Rattle.std.proofs.Common.{length, length-drop, refl, sym, ap, ◌∙◌, subst, inl, inr, arith}
 use Rattle.std.specs.Prelude.{◌⊎◌, ◌≢◌}
 use Rattle.std.proofs.lemmas.Bool.{cases_eq}
 use Rattle.oe_theory.specs.Machine.{Machine}
 use Rattle.oe_theory.specs.World.{overlay, Commit, latest, set}
 use Rattle.oe_theory.specs.Next.{filled}
 use Rattle.oe_theory.specs.Laws.{IsGood, Alone, Sound, Laws}
-use Rattle.oe_theory.specs.Undo.{unwind, unwind_open, unwind_commits, restored_commits, HasRecordIn, GoesBack, open_records, commit_records, IsAmong, AreAll, AreOfCommits, lengths_of, used_open}
-use Rattle.oe_theory.specs.Store.{Slot, Store, tx_in, changes_of, world_of, newest_version, newest_of, version_of, commits_after, dropped, all_below, IsQuietIn, count_slots}
-use Rattle.oe_theory.specs.StoreTheorems.{IsStanding, AreAllIn, Store_is_orderly, Runs_alone_here, Version_is_here, Row_is_here, Row_without_record_here, Records_are_apart_here, Each_goes_back_here, Closing_leaves_newest, Facts_of_the_store, Rollback_leaves_versions, Used_is_a_sum, Sealing_uses_the_same}
+use Rattle.oe_theory.specs.Undo.{unwind, unwind_open, unwind_commits, restored_commits, HasRecordIn, GoesBack}
+use Rattle.oe_theory.specs.Undo.{open_records, commit_records, IsAmong, AreAll, AreOfCommits, lengths_of, used_open}
+use Rattle.oe_theory.specs.Store.{Slot, Store, tx_in, changes_of, world_of, newest_version, newest_of, version_of}
+use Rattle.oe_theory.specs.Store.{commits_after, dropped, all_below, IsQuietIn, count_slots}
+use Rattle.oe_theory.specs.StoreTheorems.{IsStanding, AreAllIn, Store_is_orderly, Runs_alone_here, Version_is_here}
+use Rattle.oe_theory.specs.StoreTheorems.{Row_is_here, Row_without_record_here, Records_are_apart_here}
+use Rattle.oe_theory.specs.StoreTheorems.{Each_goes_back_here, Closing_leaves_newest, Facts_of_the_store}
+use Rattle.oe_theory.specs.StoreTheorems.{Rollback_leaves_versions, Used_is_a_sum, Sealing_uses_the_same}
 use Rattle.oe_theory.proofs.Sets.{set_idle, set_cases, some_none, set_same, set_other}
 use Rattle.oe_theory.proofs.Steps.{good_latest, to_alone, reads_alone, acts_alone}
 use Rattle.oe_theory.proofs.Records.{open_unwound, at_restored_open, at_restored_commits}
 use Rattle.oe_theory.proofs.StoreFacts.{below}
-use Rattle.oe_theory.proofs.StoreSteps.{tables_here, counts_here, open_in, is_open_in, is_shut_in, found, mark_here, length_here, used_here, granted_here, asks_here, acts_here, rolls_back_here}
-use Rattle.oe_theory.proofs.StoreTheorems.{newest_here, latest_here, version_here, counts_at_here, commits_here_are, world_is_shown}
+use Rattle.oe_theory.proofs.StoreSteps.{tables_here, counts_here, open_in, is_open_in, is_shut_in, found, mark_here}
+use Rattle.oe_theory.proofs.StoreSteps.{length_here, used_here, granted_here, asks_here, acts_here, rolls_back_here}
+use Rattle.oe_theory.proofs.StoreTheorems.{newest_here, latest_here, version_here, counts_at_here, commits_here_are}
+use Rattle.oe_theory.proofs.StoreTheorems.{world_is_shown}
 use Rattle.oe_theory.proofs.StoreConditions.{conditions_are_exact}
 use Rattle.oe_theory.specs.Theorems.{IsKeptByChanges}
 use Rattle.oe_theory.proofs.Theorems.{reached_sound, extents_suffice, versions_are_good}
@@ -31,18 +39,22 @@ module _ (M : Machine) (L : Laws M) where
   all_open : (s : Store M) (ts : List ℕ) → AreAllIn M s ts → AreAll M (world_of M s) ts
   all_open s ts all t o e = let f = found M L (s.undo.active t) s.tables (s.slots t) o e in all t f.0 f.1
 
-  newest_unwound : (s : Store M) → IsStanding M s → (ts : List ℕ) → AreAllIn M s ts → unwind_open M s.undo.active ts s.tables ≡ newest_version M s
+  newest_unwound : (s : Store M) → IsStanding M s → (ts : List ℕ) → AreAllIn M s ts
+      → unwind_open M s.undo.active ts s.tables ≡ newest_version M s
   newest_unwound s h ts all =
       ap (unwind_open M s.undo.active ts) (sym (tables_here M L s h))
       ∙ (open_unwound M L ts (world_of M s) (sound_here s h) s.undo h.keeps (all_open s ts all) ∙ latest_here M L s h)
 
   pub version_is_here : Version_is_here M
-  version_is_here s ts m h all = ap (unwind_commits M (take (commits_after M s m) s.undo.history)) (newest_unwound s h ts all)
+  version_is_here s ts m h all = ap (unwind_commits M (take (commits_after M s m) s.undo.history))
+      (newest_unwound s h ts all)
 
   pub row_is_here : Row_is_here M
   row_is_here s ts m k h all =
-      sym (at_restored_commits M L (take (commits_after M s m) s.undo.history) (unwind_open M s.undo.active ts s.tables) k
-      ∙ ap (restored_commits M k (take (commits_after M s m) s.undo.history)) (at_restored_open M L s.undo.active ts s.tables k))
+      sym (at_restored_commits M L (take (commits_after M s m) s.undo.history) (unwind_open M s.undo.active ts s.tables)
+      k
+      ∙ ap (restored_commits M k (take (commits_after M s m) s.undo.history))
+      (at_restored_open M L s.undo.active ts s.tables k))
       ∙ ap (λ (z : Map). M.row_at z k) (version_is_here s ts m h all)
 
   pub row_without_record_here : Row_without_record_here M
@@ -57,29 +69,39 @@ module _ (M : Machine) (L : Laws M) where
 
   pub each_goes_back_here : (P : Map → Type 0) → IsKeptByChanges M P → Each_goes_back_here M P
   each_goes_back_here P kept s ts h all =
-      subst (λ (z : Map). GoesBack M P (open_records M s.undo.active ts ++ commit_records M s.undo.history) z) (tables_here M L s h)
+      subst (λ (z : Map). GoesBack M P (open_records M s.undo.active ts ++ commit_records M s.undo.history) z)
+      (tables_here M L s h)
       (each_goes_back M L P kept (world_of M s) s.undo ts h.reached h.keeps (all_open s ts all))
 
   -- what holds of every store
   terminal_here : (s : Store M) → IsStanding M s → (t : ℕ) (p : Slot M) → s.slots t ≡ Some p → t < terminal_limit
   terminal_here s h t p e = ((sound_here s h).each t (open_in M L s t p) (is_open_in M L s t p e)).terminal.1
 
-  length-history : (b : Map) (cs : List (Commit M)) (ss : List (List Record)) → AreOfCommits M b cs ss → length ss ≡ length cs
+  length-history : (b : Map) (cs : List (Commit M)) (ss : List (List Record)) → AreOfCommits M b cs ss
+      → length ss ≡ length cs
   length-history b [] [] h = refl
   length-history b [] (s ∷ ss) h = absurd h
   length-history b (c ∷ cs) [] h = absurd h
   length-history b (c ∷ cs) (s ∷ ss) h = ap suc (length-history b cs ss h.1)
 
-  mark_within : (s : Store M) → IsStanding M s → (t : ℕ) (p : Slot M) → s.slots t ≡ Some p → p.mark_count ≤ length (s.undo.active t)
+  mark_within : (s : Store M) → IsStanding M s → (t : ℕ) (p : Slot M) → s.slots t ≡ Some p
+      → p.mark_count ≤ length (s.undo.active t)
   mark_within s h t p e =
       let bs = s.undo.active t in
-      omega (arith, mark_here M L s h t p e, length-drop (length bs - p.mark_count) (changes_of M bs s.tables), length_here M L s h t p e)
+      omega (
+        arith,
+        mark_here M L s h t p e,
+        length-drop (length bs - p.mark_count) (changes_of M bs s.tables),
+        length_here M L s h t p e,
+      )
 
-  some_counted : (slots : ℕ → Option (Slot M)) (n t : ℕ) (p : Slot M) → t < n → slots t ≡ Some p → 0 < count_slots M slots n
+  some_counted : (slots : ℕ → Option (Slot M)) (n t : ℕ) (p : Slot M) → t < n → slots t ≡ Some p
+      → 0 < count_slots M slots n
   some_counted slots zero t p l e = absurd (omega (arith, l))
   some_counted slots (suc n) t p l e = go (slots n) refl (cases_eq t n) (λ i. some_counted slots n t p i e)
     where
-      go : (v : Option (Slot M)) → slots n ≡ v → (t ≡ n) ⊎ (t ≢ n) → (t < n → 0 < count_slots M slots n) → 0 < elim v as (λ _. ℕ) [ None ↦ count_slots M slots n | Some p ↦ suc (count_slots M slots n) ]
+      go : (v : Option (Slot M)) → slots n ≡ v → (t ≡ n) ⊎ (t ≢ n) → (t < n → 0 < count_slots M slots n)
+          → 0 < elim v as (λ _. ℕ) [ None ↦ count_slots M slots n | Some p ↦ suc (count_slots M slots n) ]
       go (Some q) i c f = omega arith
       go None i (inl c) f = absurd (some_none p (sym e ∙ (ap slots c ∙ i)))
       go None i (inr c) f = f (omega (arith, l, c))
@@ -102,7 +124,8 @@ module _ (M : Machine) (L : Laws M) where
       let w = world_of M s in
       record {
         terminal = λ t p e. ((sound_here s h).each t (open_in M L s t p) (is_open_in M L s t p e)).terminal;
-        number = λ t p e. ((sound_here s h).each t (open_in M L s t p) (is_open_in M L s t p e)).number ∙ ap (λ (f : ℕ → ℕ). suc (f t)) (counts_here M L s h);
+        number = λ t p e. ((sound_here s h).each t (open_in M L s t p) (is_open_in M L s t p e)).number
+            ∙ ap (λ (f : ℕ → ℕ). suc (f t)) (counts_here M L s h);
         mark = mark_within s h;
         others = λ t e. h.keeps.others t (is_shut_in M L s t e);
         sealed = length-history w.base w.history s.undo.history h.keeps.commits ∙ sym (commits_here_are M L s h);
@@ -110,7 +133,8 @@ module _ (M : Machine) (L : Laws M) where
         within = subst (λ (n : ℕ). n ≤ s.extents) (used_here M L s h) (extents_suffice M L w h.reached);
         quiet = none_open s h;
         quiet_tables = tables_quiet s h;
-        newest = ap (λ (j : ℕ). unwind_commits M (take j s.undo.history) (newest_version M s)) (none_after (newest_of M s));
+        newest = ap (λ (j : ℕ). unwind_commits M (take j s.undo.history) (newest_version M s))
+            (none_after (newest_of M s));
         good = λ m. subst (λ (f : ℕ → ℕ). M.Good f (version_of M s m)) (counts_at_here M L s h m)
             (subst (M.Good _) (version_here M L s h m) (versions_are_good M L w h.reached m));
       }
@@ -126,11 +150,15 @@ module _ (M : Machine) (L : Laws M) where
       record {
         known = subst (λ (r : Map). M.rejection p.request r ≡ None) there (sound.each t o i).known;
         good = subst (IsGood M s.counts (tx_in M t p)) there
-            (subst (λ (f : ℕ → ℕ). IsGood M f (tx_in M t p) (latest M w)) (counts_here M L s h) (good_latest M L w sound t o i));
+            (subst (λ (f : ℕ → ℕ). IsGood M f (tx_in M t p) (latest M w)) (counts_here M L s h)
+            (good_latest M L w sound t o i));
         alone = subst (λ (r : Map). Alone M (tx_in M t p) r o.now) there (to_alone M L w sound t o i);
-        asks = sym (asks_here M L s h t p) ∙ (reads_alone M L w sound t o i ∙ ap (λ (r : Map). M.ask (tx_in M t p) p.position (overlay M o.now.changes r)) there);
+        asks = sym (asks_here M L s h t p)
+            ∙ (reads_alone M L w sound t o i
+            ∙ ap (λ (r : Map). M.ask (tx_in M t p) p.position (overlay M o.now.changes r)) there);
         acts = λ g. sym (acts_here M L s h t p)
-            ∙ (acts_alone M L w sound t o i (granted_here M L s h t p g) ∙ ap (λ (r : Map). M.act (tx_in M t p) p.position (overlay M o.now.changes r)) there);
+            ∙ (acts_alone M L w sound t o i (granted_here M L s h t p g)
+            ∙ ap (λ (r : Map). M.act (tx_in M t p) p.position (overlay M o.now.changes r)) there);
       }
 
   -- a rollback, also where none is open, leaves the newest version
@@ -181,7 +209,14 @@ module _ (M : Machine) (L : Laws M) where
 
   pub closing_leaves_newest : Closing_leaves_newest M
   closing_leaves_newest s [] h all =
-      record { stands = h; quiet = nobody; tables = tables_quiet s h nobody; versions = λ m. refl; seals = refl; counts = refl }
+      record {
+        stands = h;
+        quiet = nobody;
+        tables = tables_quiet s h nobody;
+        versions = λ m. refl;
+        seals = refl;
+        counts = refl;
+      }
     where
       none : (t : ℕ) (v : Option (Slot M)) → s.slots t ≡ v → v ≡ None
       none t None e = refl
@@ -195,30 +230,42 @@ module _ (M : Machine) (L : Laws M) where
         stands = c.stands;
         quiet = c.quiet;
         tables = c.tables ∙ dropped_newest s h t;
-        versions = λ m. c.versions m ∙ ap (unwind_commits M (take (commits_after M s m) s.undo.history)) (dropped_newest s h t);
+        versions = λ m. c.versions m ∙ ap (unwind_commits M (take (commits_after M s m) s.undo.history))
+            (dropped_newest s h t);
         seals = c.seals;
         counts = c.counts;
       }
 
   -- one terminal's share in what is used
-  used_above : (active : ℕ → List Record) (t n : ℕ) (bs : List Record) → n ≤ t → used_open M (set t bs active) n ≡ used_open M active n
+  used_above : (active : ℕ → List Record) (t n : ℕ) (bs : List Record) → n ≤ t
+      → used_open M (set t bs active) n ≡ used_open M active n
   used_above active t zero bs h = refl
   used_above active t (suc n) bs h =
-      let e = ap (λ (z : List Record). (filled M (lengths_of M z)).0) (set_other t bs active n (λ q. omega (arith, q, h))) in
+      let e = ap (λ (z : List Record). (filled M (lengths_of M z)).0)
+      (set_other t bs active n (λ q. omega (arith, q, h))) in
       omega (arith, used_above active t n bs (omega (arith, h)), e)
 
   used_set : (active : ℕ → List Record) (t n : ℕ) (bs : List Record) → t < n
-      → used_open M (set t bs active) n + (filled M (lengths_of M (active t))).0 ≡ used_open M active n + (filled M (lengths_of M bs)).0
+      → used_open M (set t bs active) n + (filled M (lengths_of M (active t))).0 ≡ used_open M active
+      n + (filled M (lengths_of M bs)).0
   used_set active t zero bs h = absurd (omega (arith, h))
   used_set active t (suc n) bs h = go (cases_eq n t) (used_set active t n bs)
     where
       fills : List Record → ℕ
       fills z = (filled M (lengths_of M z)).0
 
-      go : (n ≡ t) ⊎ (n ≢ t) → (t < n → used_open M (set t bs active) n + fills (active t) ≡ used_open M active n + fills bs)
-          → (used_open M (set t bs active) n + fills (set t bs active n)) + fills (active t) ≡ (used_open M active n + fills (active n)) + fills bs
+      go : (n ≡ t) ⊎ (n ≢ t)
+          → (t < n → used_open M (set t bs active) n + fills (active t) ≡ used_open M active n + fills bs)
+          → (used_open M (set t bs active) n + fills (set t bs active n)) + fills
+          (active t) ≡ (used_open M active n + fills (active n)) + fills bs
       go (inl q) i =
-          omega (arith, ap fills (set_same t bs active n q), ap (λ (z : ℕ). fills (active z)) q, used_above active t n bs (omega (arith, q)))
+          omega (
+            arith,
+            ap fills (set_same t bs active n q),
+            ap (λ (z : ℕ). fills (active z)) q,
+            used_above active t n
+                bs (omega (arith, q)),
+          )
       go (inr ne) i = omega (arith, ap fills (set_other t bs active n ne), i (omega (arith, h, ne)))
 
   pub used_is_a_sum : Used_is_a_sum M

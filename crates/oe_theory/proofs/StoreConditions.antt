@@ -2,13 +2,17 @@
 use Rattle.std.proofs.Common.{◌≡◌, ℕ, suc, ◌<◌, ◌≤◌, Option, None, Some, refl, sym, ap, ◌∙◌, subst, inl, inr}
 use Rattle.oe_theory.specs.Machine.{Machine, Mode, Ask, Stop, Plain, Take}
 use Rattle.oe_theory.specs.World.{go_together}
-use Rattle.oe_theory.specs.Next.{record_on, filled, GivesWay, IsGranted, IsInTheWay, HasRoom, IsFull, MayLackMemory, MayBegin, IsPast, Step, Begin, Advance, Save, Back, Rollback, Read, Audit, Purge, Rewind}
+use Rattle.oe_theory.specs.Next.{record_on, filled, GivesWay, IsGranted, IsInTheWay, HasRoom, IsFull, MayLackMemory}
+use Rattle.oe_theory.specs.Next.{MayBegin, IsPast, Step, Begin, Advance, Save, Back, Rollback, Read, Audit, Purge}
+use Rattle.oe_theory.specs.Next.{Rewind}
 use Rattle.oe_theory.specs.Laws.{Laws}
 use Rattle.oe_theory.specs.Undo.{lengths_of}
-use Rattle.oe_theory.specs.Store.{Slot, Store, tx_in, opened_by, open_of, world_of, MayBeginIn, IsGrantedIn, IsInTheWayIn, HasRoomIn, IsFullIn, MayLackMemoryIn, IsPastIn}
+use Rattle.oe_theory.specs.Store.{Slot, Store, tx_in, opened_by, open_of, world_of, MayBeginIn, IsGrantedIn}
+use Rattle.oe_theory.specs.Store.{IsInTheWayIn, HasRoomIn, IsFullIn, MayLackMemoryIn, IsPastIn}
 use Rattle.oe_theory.specs.StoreTheorems.{IsStanding, Conditions_are_exact}
 use Rattle.oe_theory.proofs.Sets.{some_none}
-use Rattle.oe_theory.proofs.StoreSteps.{tables_here, counts_here, open_in, is_open_in, is_shut_in, found, used_here, acts_here, granted, has_room, in_the_way, is_full_in, may_lack, may_begin}
+use Rattle.oe_theory.proofs.StoreSteps.{tables_here, counts_here, open_in, is_open_in, is_shut_in, found, used_here}
+use Rattle.oe_theory.proofs.StoreSteps.{acts_here, granted, has_room, in_the_way, is_full_in, may_lack, may_begin}
 use Rattle.oe_theory.proofs.StoreTheorems.{asked, past_here, open_count}
 
 module _ (M : Machine) (L : Laws M) where
@@ -21,7 +25,8 @@ module _ (M : Machine) (L : Laws M) where
       go None e = refl
       go (Some p) e = absurd (some_none (opened_by M (s.undo.active t) s.tables p) e)
 
-  begin_back : (s : Store M) → IsStanding M s → (t : ℕ) (q : Request) → MayBegin M (world_of M s) t q → MayBeginIn M s t q
+  begin_back : (s : Store M) → IsStanding M s → (t : ℕ) (q : Request) → MayBegin M (world_of M s) t q
+      → MayBeginIn M s t q
   begin_back s h t q b =
       record {
         terminal = b.terminal;
@@ -31,12 +36,14 @@ module _ (M : Machine) (L : Laws M) where
         counted = ap (λ (f : ℕ → ℕ). M.number_rejection (suc (f t))) (sym (counts_here M L s h)) ∙ b.counted;
       }
 
-  granted_back : (s : Store M) (t : ℕ) (a : Ask Name Refusal) → IsGranted M (world_of M s) t a → IsGrantedIn M s.slots t a
+  granted_back : (s : Store M) (t : ℕ) (a : Ask Name Refusal) → IsGranted M (world_of M s) t a
+      → IsGrantedIn M s.slots t a
   granted_back s t (Stop e) g = g
   granted_back s t Plain g = g
   granted_back s t (Take n m) g = λ u p ne e. g u (open_in M L s u p) ne (is_open_in M L s u p e)
 
-  in_the_way_back : (s : Store M) (t : ℕ) (n : Name) (m : Mode) (u : ℕ) → IsInTheWay M (world_of M s) t n m u → IsInTheWayIn M s.slots t n m u
+  in_the_way_back : (s : Store M) (t : ℕ) (n : Name) (m : Mode) (u : ℕ) → IsInTheWay M (world_of M s) t n m u
+      → IsInTheWayIn M s.slots t n m u
   in_the_way_back s t n m u b =
       let f = found M L (s.undo.active u) s.tables (s.slots u) b.who b.is_open in
       record {
@@ -47,21 +54,33 @@ module _ (M : Machine) (L : Laws M) where
         least = λ v p l ne e. b.least v (open_in M L s v p) l ne (is_open_in M L s v p e);
       }
 
-  room_back : (s : Store M) → IsStanding M s → (t : ℕ) (p : Slot M) (c : Option Change) → HasRoom M (world_of M s) (open_in M L s t p) c → HasRoomIn M s t c
+  room_back : (s : Store M) → IsStanding M s → (t : ℕ) (p : Slot M) (c : Option Change)
+      → HasRoom M (world_of M s) (open_in M L s t p) c → HasRoomIn M s t c
   room_back s h t p None x = tt
-  room_back s h t p (Some c) (inl x) = inl (subst (λ (r : Map). M.size_of (record_on M c r) ≤ (filled M (lengths_of M (s.undo.active t))).1) (tables_here M L s h) x)
+  room_back s h t p (Some c) (inl x) =
+      inl (subst (λ (r : Map). M.size_of (record_on M c r) ≤ (filled M (lengths_of M (s.undo.active t))).1)
+      (tables_here M L s h) x)
   room_back s h t p (Some c) (inr x) = inr (subst (λ (n : ℕ). n < s.extents) (used_here M L s h) x)
 
-  full_back : (s : Store M) → IsStanding M s → (t : ℕ) (p : Slot M) (c : Change) → IsFull M (world_of M s) (open_in M L s t p) c → IsFullIn M s t c
+  full_back : (s : Store M) → IsStanding M s → (t : ℕ) (p : Slot M) (c : Change)
+      → IsFull M (world_of M s) (open_in M L s t p) c → IsFullIn M s t c
   full_back s h t p c f = (
-    subst (λ (r : Map). (filled M (lengths_of M (s.undo.active t))).1 < M.size_of (record_on M c r)) (tables_here M L s h) f.0,
+    subst (λ (r : Map). (filled M (lengths_of M (s.undo.active t))).1 < M.size_of (record_on M c r))
+        (tables_here M L s h) f.0,
     subst (λ (n : ℕ). s.extents ≤ n) (used_here M L s h) f.1,
   )
 
-  lack_back : (s : Store M) → IsStanding M s → (t : ℕ) (p : Slot M) (a : Ask Name Refusal) → MayLackMemory M (world_of M s) t (open_in M L s t p) a → MayLackMemoryIn M s t p a
+  lack_back : (s : Store M) → IsStanding M s → (t : ℕ) (p : Slot M) (a : Ask Name Refusal)
+      → MayLackMemory M (world_of M s) t (open_in M L s t p) a → MayLackMemoryIn M s t p a
   lack_back s h t p (Stop e) l = l
-  lack_back s h t p Plain l = (l.0, l.1, subst (GivesWay M (M.yields (tx_in M t p) p.position)) (acts_here M L s h t p) l.2)
-  lack_back s h t p (Take n m) l = (granted_back s t (Take n m) l.0, l.1, subst (GivesWay M (M.yields (tx_in M t p) p.position)) (acts_here M L s h t p) l.2)
+  lack_back s h t p Plain l =
+      (l.0, l.1, subst (GivesWay M (M.yields (tx_in M t p) p.position)) (acts_here M L s h t p) l.2)
+  lack_back s h t p (Take n m) l = (
+    granted_back s t (Take n m) l.0,
+    l.1,
+    subst (GivesWay M (M.yields (tx_in M t p) p.position))
+        (acts_here M L s h t p) l.2,
+  )
 
   past_back : (s : Store M) → IsStanding M s → (i : Step M) → IsPast M (world_of M s) i → IsPastIn M s i
   past_back s h (Begin t q) x = x

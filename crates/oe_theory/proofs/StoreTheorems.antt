@@ -1,18 +1,32 @@
 -- The store's moments, what it shows of its world, and all its steps.
-use Rattle.std.proofs.Common.{◌≡◌, ℕ, suc, zero, ◌+◌, ◌-◌, ◌<◌, ◌≤◌, Option, None, Some, List, [], ◌∷◌, take, drop, length, refl, sym, ap, ◌∙◌, subst, arith}
+use Rattle.std.proofs.Common.{◌≡◌, ℕ, suc, zero, ◌+◌, ◌-◌, ◌<◌, ◌≤◌, Option, None, Some, List, [], ◌∷◌, take, drop}
+use Rattle.std.proofs.Common.{length, refl, sym, ap, ◌∙◌, subst, arith}
 use Rattle.std.proofs.lemmas.List.{take-append-drop}
 use Rattle.oe_theory.specs.Machine.{Machine}
-use Rattle.oe_theory.specs.World.{bump, total, Commit, World, counts_after, counts_now, counts_at, horizon, newest, at, latest, tables}
-use Rattle.oe_theory.specs.Next.{count_open, IsPast, Step, Begin, Advance, Save, Back, Rollback, Read, Audit, Purge, Rewind, Committed, Audited, Purged, Rewound, Too_old, Future, commits, reads, audits, purges, rewinds, query_is_rejected, misses, too_old, future, not_quiet}
+use Rattle.oe_theory.specs.World.{bump, total, Commit, World, counts_after, counts_now, counts_at, horizon, newest, at}
+use Rattle.oe_theory.specs.World.{latest, tables}
+use Rattle.oe_theory.specs.Next.{count_open, IsPast, Step, Begin, Advance, Save, Back, Rollback, Read, Audit, Purge}
+use Rattle.oe_theory.specs.Next.{Rewind, Committed, Audited, Purged, Rewound, Too_old, Future, commits, reads, audits}
+use Rattle.oe_theory.specs.Next.{purges, rewinds, query_is_rejected, misses, too_old, future, not_quiet}
 use Rattle.oe_theory.specs.Laws.{Sound, Laws}
 use Rattle.oe_theory.specs.Undo.{unwind_open, unwind_commits}
-use Rattle.oe_theory.specs.Store.{Slot, Store, tx_in, open_of, seals_of, counts_before, world_of, newest_version, newest_of, horizon_of, version_of, counts_of, sealed, purged_to, rewound_to, count_slots, IsPastIn, all_below}
-use Rattle.oe_theory.specs.StoreTheorems.{IsStanding, Leads, Commits_here, Reads_here, Misses_here, Query_is_rejected_here, Audits_here, Purges_here, Rewinds_here, Is_not_quiet_here, Is_too_old_here, Is_future_here, Steps_of_the_store, World_is_shown}
+use Rattle.oe_theory.specs.Store.{Slot, Store, tx_in, open_of, seals_of, counts_before, world_of, newest_version}
+use Rattle.oe_theory.specs.Store.{newest_of, horizon_of, version_of, counts_of, sealed, purged_to, rewound_to}
+use Rattle.oe_theory.specs.Store.{count_slots, IsPastIn, all_below}
+use Rattle.oe_theory.specs.StoreTheorems.{IsStanding, Leads, Commits_here, Reads_here, Misses_here}
+use Rattle.oe_theory.specs.StoreTheorems.{Query_is_rejected_here, Audits_here, Purges_here, Rewinds_here}
+use Rattle.oe_theory.specs.StoreTheorems.{Is_not_quiet_here, Is_too_old_here, Is_future_here, Steps_of_the_store}
+use Rattle.oe_theory.specs.StoreTheorems.{World_is_shown}
 use Rattle.oe_theory.proofs.Steps.{counts-append, purged_counts}
 use Rattle.oe_theory.proofs.Past.{purged_horizon}
 use Rattle.oe_theory.proofs.Records.{commits_unwound}
 use Rattle.oe_theory.proofs.StoreFacts.{counts_same, latest_same}
-use Rattle.oe_theory.proofs.StoreSteps.{leads, tables_here, slots_here, seals_here, counts_here, open_in, is_open_in, is_shut_in, used_here, granted_here, acts_here, slots_put, begins_here, is_rejected_here, is_open_here, number_is_rejected_here, lacks_memory_at_begin_here, goes_on_here, is_room_here, stops_here, fails_here, is_busy_here, is_full_here, lacks_memory_here, saves_here, goes_back_here, rolls_back_here, is_not_open_here}
+use Rattle.oe_theory.proofs.StoreSteps.{leads, tables_here, slots_here, seals_here, counts_here, open_in, is_open_in}
+use Rattle.oe_theory.proofs.StoreSteps.{is_shut_in, used_here, granted_here, acts_here, slots_put, begins_here}
+use Rattle.oe_theory.proofs.StoreSteps.{is_rejected_here, is_open_here, number_is_rejected_here}
+use Rattle.oe_theory.proofs.StoreSteps.{lacks_memory_at_begin_here, goes_on_here, is_room_here, stops_here, fails_here}
+use Rattle.oe_theory.proofs.StoreSteps.{is_busy_here, is_full_here, lacks_memory_here, saves_here, goes_back_here}
+use Rattle.oe_theory.proofs.StoreSteps.{rolls_back_here, is_not_open_here}
 use Rattle.oe_theory.proofs.Theorems.{reached_sound}
 
 module _ (M : Machine) (L : Laws M) where
@@ -26,7 +40,8 @@ module _ (M : Machine) (L : Laws M) where
       sym h ∙ ap (λ (j : ℕ). total terminal_limit (counts_after M w.counts (drop j w.history))) none
 
   pub newest_here : (s : Store M) → IsStanding M s → newest M (world_of M s) ≡ newest_of M s
-  newest_here s h = newest_counted (world_of M s) (reached_sound M L (world_of M s) h.reached) ∙ ap (total terminal_limit) (counts_here M L s h)
+  newest_here s h = newest_counted (world_of M s) (reached_sound M L (world_of M s) h.reached)
+      ∙ ap (total terminal_limit) (counts_here M L s h)
 
   length-seals : (cs : List (Commit M)) → length (seals_of M cs) ≡ length cs
   length-seals [] = refl
@@ -36,7 +51,8 @@ module _ (M : Machine) (L : Laws M) where
   commits_here_are s h = sym (ap length (seals_here M L s h)) ∙ length-seals (world_of M s).history
 
   pub horizon_here : (s : Store M) → IsStanding M s → horizon M (world_of M s) ≡ horizon_of M s
-  horizon_here s h = go (horizon M (world_of M s)) (newest_of M s) (length (world_of M s).history) (length s.seals) (newest_here s h) (commits_here_are s h)
+  horizon_here s h = go (horizon M (world_of M s)) (newest_of M s) (length (world_of M s).history) (length s.seals)
+      (newest_here s h) (commits_here_are s h)
     where
       go : (a b c d : ℕ) → a + c ≡ b → d ≡ c → a ≡ b - d
       go a b c d p q = omega arith
@@ -64,10 +80,12 @@ module _ (M : Machine) (L : Laws M) where
   seals-drop (suc j) [] = refl
   seals-drop (suc j) (c ∷ cs) = seals-drop j cs
 
-  counts_dropped : (f : ℕ → ℕ) (j : ℕ) (cs : List (Commit M)) → counts_after M f (drop j cs) ≡ counts_before M (counts_after M f cs) (take j (seals_of M cs))
+  counts_dropped : (f : ℕ → ℕ) (j : ℕ) (cs : List (Commit M))
+      → counts_after M f (drop j cs) ≡ counts_before M (counts_after M f cs) (take j (seals_of M cs))
   counts_dropped f j cs =
       sym (counts_same M L (counts_after M f (drop j cs)) (take j cs))
-      ∙ (ap (λ (g : ℕ → ℕ). counts_before M g (seals_of M (take j cs))) (counts-append M L f (take j cs) (drop j cs) ∙ ap (counts_after M f) (take-append-drop j cs))
+      ∙ (ap (λ (g : ℕ → ℕ). counts_before M g (seals_of M (take j cs)))
+      (counts-append M L f (take j cs) (drop j cs) ∙ ap (counts_after M f) (take-append-drop j cs))
       ∙ ap (counts_before M (counts_after M f cs)) (seals-take j cs))
 
   pub counts_at_here : (s : Store M) → IsStanding M s → (m : ℕ) → counts_at M (world_of M s) m ≡ counts_of M s m
@@ -75,7 +93,8 @@ module _ (M : Machine) (L : Laws M) where
       let w = world_of M s in
       counts_dropped w.counts (newest M w - m) w.history
       ∙ (ap (λ (f : ℕ → ℕ). counts_before M f (take (newest M w - m) (seals_of M w.history))) (counts_here M L s h)
-      ∙ (ap (λ z. counts_before M s.counts (take (newest M w - m) z)) (seals_here M L s h) ∙ ap (λ (n : ℕ). counts_before M s.counts (take (n - m) s.seals)) (newest_here s h)))
+      ∙ (ap (λ z. counts_before M s.counts (take (newest M w - m) z)) (seals_here M L s h)
+      ∙ ap (λ (n : ℕ). counts_before M s.counts (take (n - m) s.seals)) (newest_here s h)))
 
   pub world_is_shown : World_is_shown M
   world_is_shown s h =
@@ -94,9 +113,12 @@ module _ (M : Machine) (L : Laws M) where
   pub commits_here : Commits_here M
   commits_here s t p y h e g r =
       subst (λ (n : ℕ). Leads M s (Advance t) (Committed (suc n) y) (sealed M t p y s)) (newest_here s h)
-      (leads M L s h (Advance t) (Committed (suc (newest M (world_of M s))) y) _ (commits t (open_in M L s t p) y (is_open_in M L s t p e) (granted_here M L s h t p g) (acts_here M L s h t p ∙ r))
+      (leads M L s h (Advance t) (Committed (suc (newest M (world_of M s))) y) _
+      (commits t (open_in M L s t p) y (is_open_in M L s t p e) (granted_here M L s h t p g)
+      (acts_here M L s h t p ∙ r))
       (sealed M t p y s) refl (tables_here M L s h) (slots_put M L s h t None None refl)
-      (ap (λ z. record { tx = tx_in M t p; reply = y } ∷ z) (seals_here M L s h)) (ap (bump t) (counts_here M L s h)) refl)
+      (ap (λ z. record { tx = tx_in M t p; reply = y } ∷ z) (seals_here M L s h)) (ap (bump t) (counts_here M L s h))
+      refl)
 
   -- a moment that can be read
   not_before : (s : Store M) → IsStanding M s → (m : ℕ) → horizon_of M s ≤ m → horizon M (world_of M s) ≤ m
@@ -105,17 +127,27 @@ module _ (M : Machine) (L : Laws M) where
   not_after : (s : Store M) → IsStanding M s → (m : ℕ) → m ≤ newest_of M s → m ≤ newest M (world_of M s)
   not_after s h m b = subst (λ (n : ℕ). m ≤ n) (sym (newest_here s h)) b
 
-  pub asked : (s : Store M) → IsStanding M s → (q : M.Query) → M.query_rejection q (tables M (world_of M s)) ≡ M.query_rejection q s.tables
+  pub asked : (s : Store M) → IsStanding M s → (q : M.Query)
+      → M.query_rejection q (tables M (world_of M s)) ≡ M.query_rejection q s.tables
   asked s h q = ap (M.query_rejection q) (tables_here M L s h)
 
-  found_here : (s : Store M) → IsStanding M s → (q : M.Query) (m : ℕ) → M.find q (at M (world_of M s) m) ≡ M.find q (version_of M s m)
+  found_here : (s : Store M) → IsStanding M s → (q : M.Query) (m : ℕ)
+      → M.find q (at M (world_of M s) m) ≡ M.find q (version_of M s m)
   found_here s h q m = ap (M.find q) (version_here s h m)
 
   pub reads_here : Reads_here M
-  reads_here s m q f h e a b r = record { next = reads m q f (asked s h q ∙ e) (not_before s h m a) (not_after s h m b) (found_here s h q m ∙ r); stands = h }
+  reads_here s m q f h e a b r =
+      record {
+        next = reads m q f (asked s h q ∙ e) (not_before s h m a) (not_after s h m b) (found_here s h q m ∙ r);
+        stands = h;
+      }
 
   pub misses_here : Misses_here M
-  misses_here s m q x h e a b r = record { next = misses m q x (asked s h q ∙ e) (not_before s h m a) (not_after s h m b) (found_here s h q m ∙ r); stands = h }
+  misses_here s m q x h e a b r =
+      record {
+        next = misses m q x (asked s h q ∙ e) (not_before s h m a) (not_after s h m b) (found_here s h q m ∙ r);
+        stands = h;
+      }
 
   pub query_is_rejected_here : Query_is_rejected_here M
   query_is_rejected_here s m q x h e = record { next = query_is_rejected m q x (asked s h q ∙ e); stands = h }
@@ -139,37 +171,51 @@ module _ (M : Machine) (L : Laws M) where
   pub is_too_old_here : Is_too_old_here M
   is_too_old_here s i m h e x b =
       subst (λ (n : ℕ). Leads M s i (Too_old n) s) (horizon_here s h)
-      (record { next = too_old i m e (past_here s h i x) (subst (λ (n : ℕ). m < n) (sym (horizon_here s h)) b); stands = h })
+      (record {
+        next = too_old i m e (past_here s h i x) (subst (λ (n : ℕ). m < n) (sym (horizon_here s h)) b);
+        stands = h;
+      })
 
   pub is_future_here : Is_future_here M
   is_future_here s i m h e x b =
       subst (λ (n : ℕ). Leads M s i (Future n) s) (newest_here s h)
-      (record { next = future i m e (past_here s h i x) (subst (λ (n : ℕ). n < m) (sym (newest_here s h)) b); stands = h })
+      (record {
+        next = future i m e (past_here s h i x) (subst (λ (n : ℕ). n < m) (sym (newest_here s h)) b);
+        stands = h;
+      })
 
   -- purge and rewind
   pub purges_here : Purges_here M
   purges_here s m h a b =
       let w = world_of M s in
       leads M L s h (Purge m) (Purged m) _ (purges m (not_before s h m a) (not_after s h m b)) (purged_to M m s)
-      (ap (λ (n : ℕ). record { active = s.undo.active; history = take (n - m) s.undo.history }) (newest_here s h)) (tables_here M L s h) (slots_here M L s h)
-      (seals-take (newest M w - m) w.history ∙ (ap (take (newest M w - m)) (seals_here M L s h) ∙ ap (λ (n : ℕ). take (n - m) s.seals) (newest_here s h)))
+      (ap (λ (n : ℕ). record { active = s.undo.active; history = take (n - m) s.undo.history }) (newest_here s h))
+      (tables_here M L s h) (slots_here M L s h)
+      (seals-take (newest M w - m) w.history
+      ∙ (ap (take (newest M w - m)) (seals_here M L s h) ∙ ap (λ (n : ℕ). take (n - m) s.seals) (newest_here s h)))
       (purged_counts M L w m ∙ counts_here M L s h) refl
 
   pub rewinds_here : Rewinds_here M
   rewinds_here s m h quiet a b =
       let w = world_of M s in
-      leads M L s h (Rewind m) (Rewound m) _ (rewinds m (λ t. is_shut_in M L s t (quiet t)) (not_before s h m a) (not_after s h m b)) (rewound_to M m s)
+      leads M L s h (Rewind m) (Rewound m) _
+      (rewinds m (λ t. is_shut_in M L s t (quiet t)) (not_before s h m a) (not_after s h m b)) (rewound_to M m s)
       (ap (λ (n : ℕ). record { active = s.undo.active; history = drop (n - m) s.undo.history }) (newest_here s h))
-      (ap (unwind_commits M (take (newest M w - m) s.undo.history)) (tables_here M L s h) ∙ ap (λ (n : ℕ). unwind_commits M (take (n - m) s.undo.history) s.tables) (newest_here s h))
+      (ap (unwind_commits M (take (newest M w - m) s.undo.history)) (tables_here M L s h)
+      ∙ ap (λ (n : ℕ). unwind_commits M (take (n - m) s.undo.history) s.tables) (newest_here s h))
       (slots_here M L s h)
-      (seals-drop (newest M w - m) w.history ∙ (ap (drop (newest M w - m)) (seals_here M L s h) ∙ ap (λ (n : ℕ). drop (n - m) s.seals) (newest_here s h)))
+      (seals-drop (newest M w - m) w.history
+      ∙ (ap (drop (newest M w - m)) (seals_here M L s h) ∙ ap (λ (n : ℕ). drop (n - m) s.seals) (newest_here s h)))
       (counts_at_here s h m) refl
 
   pub open_count : (s : Store M) (n : ℕ) → count_open M (world_of M s).active n ≡ count_slots M s.slots n
   open_count s zero = refl
-  open_count s (suc n) = go (s.slots n) (count_open M (world_of M s).active n) (count_slots M s.slots n) (open_count s n)
+  open_count s (suc n) = go (s.slots n) (count_open M (world_of M s).active n) (count_slots M s.slots n)
+      (open_count s n)
     where
-      go : (v : Option (Slot M)) (a b : ℕ) → a ≡ b → elim (open_of M (s.undo.active n) s.tables v) as (λ _. ℕ) [ None ↦ a | Some o ↦ suc a ] ≡ elim v as (λ _. ℕ) [ None ↦ b | Some p ↦ suc b ]
+      go : (v : Option (Slot M)) (a b : ℕ) → a ≡ b
+          → elim (open_of M (s.undo.active n) s.tables v) as (λ _. ℕ) [ None ↦ a | Some o ↦ suc a ] ≡ elim v as (λ _. ℕ)
+          [ None ↦ b | Some p ↦ suc b ]
       go None a b e = e
       go (Some p) a b e = ap suc e
 

@@ -1,7 +1,9 @@
 -- A run without a transaction that was rolled back.
 use Rattle.std.specs.Prelude.{ℕ, ◌==◌, Bool, true, false, cond, Option, None, Some, List, [], ◌∷◌, ◌++◌}
 use Rattle.oe_theory.specs.Machine.{Machine}
-use Rattle.oe_theory.specs.Next.{Step, Answer, Begun, More, Committed, Saved, Gone_back, Rolled_back, Replied, Audited, Purged, Rewound, Aborted, Rejected, Busy, Undo_full, Not_open, Already_open, Too_old, Future, Not_quiet, No_memory, works_on, Event}
+use Rattle.oe_theory.specs.Next.{Step, Answer, Begun, More, Committed, Saved, Gone_back, Rolled_back, Replied, Audited}
+use Rattle.oe_theory.specs.Next.{Purged, Rewound, Aborted, Rejected, Busy, Undo_full, Not_open, Already_open, Too_old}
+use Rattle.oe_theory.specs.Next.{Future, Not_quiet, No_memory, works_on, Event}
 
 module _ (M : Machine) where
   -- a refusal that has changed nothing
@@ -91,13 +93,15 @@ module _ (M : Machine) where
   abbrev pub is_rolled_back : ℕ → List (Event M) → Bool
   is_rolled_back t [] = false
   is_rolled_back t (e ∷ es) =
-      cond (is_of t e.step) (cond (is_rollback e.answer) true (cond (is_commit e.answer) false (is_rolled_back t es))) (is_rolled_back t es)
+      cond (is_of t e.step) (cond (is_rollback e.answer) true (cond (is_commit e.answer) false (is_rolled_back t es)))
+      (is_rolled_back t es)
 
   -- and the events without it
   abbrev pub erased : ℕ → List (Event M) → List (Event M)
   erased t [] = []
   erased t (e ∷ es) =
-      cond (is_of t e.step) (cond (is_rollback e.answer) (tidy es) (erased t es)) (cond (is_idle e.answer) (erased t es) (e ∷ erased t es))
+      cond (is_of t e.step) (cond (is_rollback e.answer) (tidy es) (erased t es))
+      (cond (is_idle e.answer) (erased t es) (e ∷ erased t es))
 
   -- all events, where the transaction begins between the first and the others
   abbrev pub without : List (Event M) → ℕ → List (Event M) → List (Event M)

@@ -56,7 +56,8 @@ pub record Machine : Type 1 where
   -- the tables accept a change: its key is absent or present as it must be, and what its row refers to is there
   pub Accepts : Change → Map → Type 0
   -- undo records: that of a change, by the row before it; its key; the row before, by the row that stands there; what
-  -- putting it back leaves; the change itself, where the row that it left still stands; and its length, with an extent's (in bytes)
+  -- putting it back leaves; the change itself, where the row that it left still stands; and its length, with an
+  -- extent's (in bytes)
   pub Record : Type 0
   pub record_of : Change → Option Row → Record
   pub record_key : Record → Key
@@ -97,7 +98,8 @@ pub record Machine : Type 1 where
   -- why a request is turned away before anything else is looked at, and why a transaction of this number can't begin
   pub rejection : Request → Map → Option Refusal
   pub number_rejection : ℕ → Option Refusal
-  -- memory: the stage at this position may need some beyond its lock's, and a want of it may stand in this refusal's place
+  -- memory: the stage at this position may need some beyond its lock's, and a want of it may stand in this refusal's
+  -- place
   pub may_allocate : Tx Request → Position → Bool
   pub yields : Tx Request → Position → Refusal → Bool
   -- reads: why a query is turned away, and what it comes to; and audits

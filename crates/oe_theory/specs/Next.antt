@@ -1,10 +1,43 @@
 -- The steps between the worlds of a machine, and their answers.
-use Rattle.std.specs.Prelude.{◌≡◌, ℕ, suc, zero, ◌+◌, ◌-◌, ◌<◌, ◌≤◌, ◌≢◌, Bool, true, false, cond, nat_le, Option, None, Some, List, [], ◌∷◌, take, drop, ◌⊎◌}
+use Rattle.std.specs.Prelude.{◌≡◌, ℕ, suc, zero, ◌+◌, ◌-◌, ◌<◌, ◌≤◌, ◌≢◌, Bool, true, false, cond, nat_le, Option, None}
+use Rattle.std.specs.Prelude.{Some, List, [], ◌∷◌, take, drop, ◌⊎◌}
 use Rattle.oe_theory.specs.Machine.{Machine, Mode, Ask, Stop, Plain, Take, Act, Fail, Go, Ready, Here, Missing}
-use Rattle.oe_theory.specs.World.{go_together, risen, set, State, Open, Commit, World, IsTerminal, tx_of, add, counts_after, horizon, newest, at, number, tables}
+use Rattle.oe_theory.specs.World.{go_together, risen, set, State, Open, Commit, World, IsTerminal, tx_of, add}
+use Rattle.oe_theory.specs.World.{counts_after, horizon, newest, at, number, tables}
 
 module _ (M : Machine) where
-  open M use {Map, Change, Record, row_at, key_of, record_of, size_of, extent, Name, is_name, Request, Position, Reply, Refusal, start, ask, act, marks, rejection, number_rejection, may_allocate, yields, Query, Found, query_rejection, find, Condition, Verdict, verdict, terminal_limit}
+  open M use {
+    Map,
+    Change,
+    Record,
+    row_at,
+    key_of,
+    record_of,
+    size_of,
+    extent,
+    Name,
+    is_name,
+    Request,
+    Position,
+    Reply,
+    Refusal,
+    start,
+    ask,
+    act,
+    marks,
+    rejection,
+    number_rejection,
+    may_allocate,
+    yields,
+    Query,
+    Found,
+    query_rejection,
+    find,
+    Condition,
+    Verdict,
+    verdict,
+    terminal_limit,
+  }
 
   -- steps and answers
   pub data Step : Type 0 where
@@ -44,13 +77,28 @@ module _ (M : Machine) where
 
   -- the world with a terminal's transaction replaced
   abbrev pub put_active : ℕ → Option (Open M) → World M → World M
-  put_active t v w = record { base = w.base; counts = w.counts; history = w.history; active = set t v w.active; extents = w.extents }
+  put_active t v w = record {
+    base = w.base;
+    counts = w.counts;
+    history = w.history;
+    active = set t v w.active;
+    extents = w.extents;
+  }
 
   -- a transaction that has just begun
   abbrev pub begun : World M → ℕ → Request → Open M
   begun w t q =
-      let first : State M = record { position = start (record { terminal = t; number = number M w t; request = q }); changes = [] } in
-      record { number = number M w t; request = q; now = first; mark = first; held = λ _. None; lengths = []; mark_lengths = [] }
+      let first : State M =
+      record { position = start (record { terminal = t; number = number M w t; request = q }); changes = [] } in
+      record {
+        number = number M w t;
+        request = q;
+        now = first;
+        mark = first;
+        held = λ _. None;
+        lengths = [];
+        mark_lengths = [];
+      }
 
   -- the locks after what was asked for was granted
   abbrev pub held_after : Ask Name Refusal → (Name → Option Mode) → Name → Option Mode
@@ -67,7 +115,8 @@ module _ (M : Machine) where
   add_length None r ls = ls
   add_length (Some c) r ls = size_of (record_on c r) ∷ ls
 
-  -- the transaction after a stage; where the stage begins at a mark of the program's own, the mark has moved there first
+  -- the transaction after a stage; where the stage begins at a mark of the program's own, the mark has moved there
+  -- first
   abbrev pub moved : Open M → Ask Name Refusal → Option Change → Position → Map → Open M
   moved o a c p r =
       record {
@@ -137,7 +186,8 @@ module _ (M : Machine) where
   IsNew held Plain = ⊥
   IsNew held (Take n m) = held n ≡ None
 
-  -- a want of memory may be answered in place of this act: of one that goes on, with room or not, or of a refusal that yields
+  -- a want of memory may be answered in place of this act: of one that goes on, with room or not, or of a refusal that
+  -- yields
   abbrev pub GivesWay : (Refusal → Bool) → Act Change Position Reply Refusal → Type 0
   GivesWay f (Fail e) = f e ≡ true
   GivesWay f (Go c p) = Unit {0}
@@ -153,7 +203,14 @@ module _ (M : Machine) where
   -- the world after a commit
   abbrev pub committed : World M → ℕ → Open M → Reply → World M
   committed w t o reply =
-      record { base = w.base; counts = w.counts; history = record { tx = tx_of M t o; reply = reply; lengths = o.lengths } ∷ w.history; active = set t None w.active; extents = w.extents }
+      record {
+        base = w.base;
+        counts = w.counts;
+        history = record { tx = tx_of M t o; reply = reply; lengths = o.lengths } ∷ w.history;
+        active =
+            set t None w.active;
+        extents = w.extents;
+      }
 
   -- the world after a purge up to m
   abbrev pub purged : World M → ℕ → World M
@@ -168,7 +225,13 @@ module _ (M : Machine) where
 
   -- the world after a rewind to m
   abbrev pub rewound : World M → ℕ → World M
-  rewound w m = record { base = w.base; counts = w.counts; history = drop (newest M w - m) w.history; active = w.active; extents = w.extents }
+  rewound w m = record {
+    base = w.base;
+    counts = w.counts;
+    history = drop (newest M w - m) w.history;
+    active = w.active;
+    extents = w.extents;
+  }
 
   -- no transaction is open
   abbrev pub IsQuiet : World M → Type 0
@@ -230,18 +293,22 @@ module _ (M : Machine) where
         → IsGranted w t (ask (tx_of M t o) o.now.position (tables M w))
         → act (tx_of M t o) o.now.position (tables M w) ≡ Go c p
         → HasRoom w o c
-        → Next w (Advance t) More (put_active t (Some (moved o (ask (tx_of M t o) o.now.position (tables M w)) c p (tables M w))) w)
+        → Next w (Advance t) More
+        (put_active t (Some (moved o (ask (tx_of M t o) o.now.position (tables M w)) c p (tables M w))) w)
     commits : (t : ℕ) (o : Open M) (reply : Reply) → w.active t ≡ Some o
         → IsGranted w t (ask (tx_of M t o) o.now.position (tables M w))
         → act (tx_of M t o) o.now.position (tables M w) ≡ Ready reply
         → Next w (Advance t) (Committed (suc (newest M w)) reply) (committed w t o reply)
-    saves : (t : ℕ) (o : Open M) → w.active t ≡ Some o → Next w (Save t) Saved (put_active t (Some (record o { mark = o.now; mark_lengths = o.lengths })) w)
-    goes_back : (t : ℕ) (o : Open M) → w.active t ≡ Some o → Next w (Back t) Gone_back (put_active t (Some (record o { now = o.mark; lengths = o.mark_lengths })) w)
+    saves : (t : ℕ) (o : Open M) → w.active t ≡ Some o
+        → Next w (Save t) Saved (put_active t (Some (record o { mark = o.now; mark_lengths = o.lengths })) w)
+    goes_back : (t : ℕ) (o : Open M) → w.active t ≡ Some o
+        → Next w (Back t) Gone_back (put_active t (Some (record o { now = o.mark; lengths = o.mark_lengths })) w)
     rolls_back : (t : ℕ) (o : Open M) → w.active t ≡ Some o → Next w (Rollback t) Rolled_back (put_active t None w)
     reads : (m : ℕ) (q : Query) (f : Found) → query_rejection q (tables M w) ≡ None → horizon M w ≤ m → m ≤ newest M w
         → find q (at M w m) ≡ Here f
         → Next w (Read m q) (Replied f) w
-    audits : (m : ℕ) (c : Condition) → horizon M w ≤ m → m ≤ newest M w → Next w (Audit m c) (Audited (verdict c (at M w m))) w
+    audits : (m : ℕ) (c : Condition) → horizon M w ≤ m → m ≤ newest M w
+        → Next w (Audit m c) (Audited (verdict c (at M w m))) w
     purges : (m : ℕ) → horizon M w ≤ m → m ≤ newest M w → Next w (Purge m) (Purged m) (purged w m)
     rewinds : (m : ℕ) → IsQuiet w → horizon M w ≤ m → m ≤ newest M w → Next w (Rewind m) (Rewound m) (rewound w m)
     -- refusals that roll the transaction back
@@ -262,13 +329,17 @@ module _ (M : Machine) where
         → act (tx_of M t o) o.now.position (tables M w) ≡ Go (Some c) p
         → IsFull w o c
         → Next w (Advance t) Undo_full w
-    is_rejected : (t : ℕ) (q : Request) (e : Refusal) → rejection q (tables M w) ≡ Some e → Next w (Begin t q) (Rejected e) w
-    is_open : (t : ℕ) (q : Request) (o : Open M) → rejection q (tables M w) ≡ None → w.active t ≡ Some o → Next w (Begin t q) Already_open w
+    is_rejected : (t : ℕ) (q : Request) (e : Refusal) → rejection q (tables M w) ≡ Some e
+        → Next w (Begin t q) (Rejected e) w
+    is_open : (t : ℕ) (q : Request) (o : Open M) → rejection q (tables M w) ≡ None → w.active t ≡ Some o
+        → Next w (Begin t q) Already_open w
     number_is_rejected : (t : ℕ) (q : Request) (e : Refusal) → rejection q (tables M w) ≡ None → w.active t ≡ None
         → number_rejection (number M w t) ≡ Some e
         → Next w (Begin t q) (Rejected e) w
-    query_is_rejected : (m : ℕ) (q : Query) (e : Refusal) → query_rejection q (tables M w) ≡ Some e → Next w (Read m q) (Rejected e) w
-    misses : (m : ℕ) (q : Query) (e : Refusal) → query_rejection q (tables M w) ≡ None → horizon M w ≤ m → m ≤ newest M w
+    query_is_rejected : (m : ℕ) (q : Query) (e : Refusal) → query_rejection q (tables M w) ≡ Some e
+        → Next w (Read m q) (Rejected e) w
+    misses : (m : ℕ) (q : Query) (e : Refusal) → query_rejection q (tables M w) ≡ None → horizon M w ≤ m
+        → m ≤ newest M w
         → find q (at M w m) ≡ Missing e
         → Next w (Read m q) (Rejected e) w
     not_open : (s : Step) (t : ℕ) → works_on s ≡ Some t → w.active t ≡ None → Next w s Not_open w
@@ -277,7 +348,8 @@ module _ (M : Machine) where
     not_quiet : (m : ℕ) (n : ℕ) → count_open w.active terminal_limit ≡ suc n → Next w (Rewind m) (Not_quiet (suc n)) w
     -- wants of memory, which change nothing
     lacks_memory_at_begin : (t : ℕ) (q : Request) → MayBegin w t q → Next w (Begin t q) No_memory w
-    lacks_memory : (t : ℕ) (o : Open M) → w.active t ≡ Some o → MayLackMemory w t o (ask (tx_of M t o) o.now.position (tables M w)) → Next w (Advance t) No_memory w
+    lacks_memory : (t : ℕ) (o : Open M) → w.active t ≡ Some o
+        → MayLackMemory w t o (ask (tx_of M t o) o.now.position (tables M w)) → Next w (Advance t) No_memory w
 
   -- these steps, so answered, lead from w to the last world
   abbrev pub Runs : World M → List Step → List Answer → World M → Type 0

@@ -7,7 +7,8 @@ use Rattle.oe_theory.specs.Undo.{Undo, HasRecord, HasRecordIn, GoesBack, open_re
 use Rattle.oe_theory.specs.Theorems.{IsReached}
 
 module _ (M : Machine) where
-  -- a key without a record, of open transactions and of commits after a moment, has in its version the row that it has now
+  -- a key without a record, of open transactions and of commits after a moment, has in its version the row that it has
+  -- now
   abbrev pub Row_without_record : Type 0
   Row_without_record =
       (w : World M) (u : Undo M) (m : ℕ) (k : M.Key) → IsReached M w → Keeps M w u
@@ -21,7 +22,8 @@ module _ (M : Machine) where
       (w : World M) (u : Undo M) (t v : ℕ) (k : M.Key) → IsReached M w → Keeps M w u
       → HasRecord M k (u.active t) → HasRecord M k (u.active v) → t ≡ v
 
-  -- put back in turn, those of open transactions in any order and then those of commits from the newest, each record finds
+  -- put back in turn, those of open transactions in any order and then those of commits from the newest, each record
+  -- finds
   -- the row that its change left, and P holds all the way
   abbrev pub Each_goes_back : (M.Map → Type 0) → Type 0
   Each_goes_back P =

@@ -2,7 +2,8 @@
 use Rattle.std.specs.Prelude.{◌≡◌, ℕ, suc, ◌≤◌, List, [], ◌∷◌}
 use Rattle.oe_theory.specs.Machine.{Machine}
 use Rattle.oe_theory.specs.World.{World, horizon, newest, at, latest}
-use Rattle.oe_theory.specs.Next.{Step, Advance, Answer, Begun, Committed, Rolled_back, Purged, Rewound, Aborted, count_open, Next, Runs}
+use Rattle.oe_theory.specs.Next.{Step, Advance, Answer, Begun, Committed, Rolled_back, Purged, Rewound, Aborted}
+use Rattle.oe_theory.specs.Next.{count_open, Next, Runs}
 use Rattle.oe_theory.specs.Theorems.{IsReached, Is_whole, Is_none, Is_refused}
 
 module _ (M : Machine) where
@@ -42,7 +43,8 @@ module _ (M : Machine) where
   abbrev pub Steps_are_counted : Type 0
   Steps_are_counted = (w v : World M) (i : Step M) (a : Answer M) → IsReached M w → Next M w i a v → Is_counted w a v
 
-  -- The stage that ends its transaction: at a commit the changes made stage by stage are the whole effect on the newest version, and
+  -- The stage that ends its transaction: at a commit the changes made stage by stage are the whole effect on the newest
+  -- version, and
   -- make the next moment; where it is rolled back that effect is none, and the refusal is the program's own there
   abbrev pub IsEnding : World M → Answer M → Step M → World M → Type 0
   IsEnding w (Committed m y) (Advance t) v = Is_whole M w t y v × (m ≡ newest M v) × (newest M v ≡ suc (newest M w))
@@ -54,7 +56,8 @@ module _ (M : Machine) where
   Endings_are_whole = (w v : World M) (i : Step M) (a : Answer M) → IsReached M w → Next M w i a v → IsEnding w a i v
 
   -- what holds of each step of a run, and of each world that it passes
-  abbrev pub Passes : (World M → Type 0) → (World M → Answer M → Step M → World M → Type 0) → World M → List (Step M) → List (Answer M) → World M → Type 0
+  abbrev pub Passes : (World M → Type 0) → (World M → Answer M → Step M → World M → Type 0) → World M → List (Step M)
+      → List (Answer M) → World M → Type 0
   Passes P R w [] [] w' = P w × (w ≡ w')
   Passes P R w (i ∷ is) (a ∷ ys) w' = P w × ((v : World M) × Next M w i a v × R w a i v × Passes P R v is ys w')
   Passes P R w [] (a ∷ ys) w' = ⊥
@@ -62,4 +65,5 @@ module _ (M : Machine) where
 
   -- what holds of every world that steps lead to, and of each step from one, holds all along a run
   abbrev pub Runs_pass : (World M → Type 0) → (World M → Answer M → Step M → World M → Type 0) → Type 0
-  Runs_pass P R = (w w' : World M) (is : List (Step M)) (ys : List (Answer M)) → IsReached M w → Runs M w is ys w' → Passes P R w is ys w'
+  Runs_pass P R = (w w' : World M) (is : List (Step M)) (ys : List (Answer M)) → IsReached M w → Runs M w is ys w'
+      → Passes P R w is ys w'

@@ -1,12 +1,38 @@
 -- What a server stores, the world that it stands for, and what each step does to it.
-use Rattle.std.specs.Prelude.{◌≡◌, ℕ, suc, zero, ◌-◌, ◌<◌, ◌≤◌, ◌≢◌, ◌==◌, true, false, cond, Option, None, Some, List, [], ◌∷◌, length, take, drop, ◌⊎◌}
+use Rattle.std.specs.Prelude.{◌≡◌, ℕ, suc, zero, ◌-◌, ◌<◌, ◌≤◌, ◌≢◌, ◌==◌, true, false, cond, Option, None, Some, List}
+use Rattle.std.specs.Prelude.{[], ◌∷◌, length, take, drop, ◌⊎◌}
 use Rattle.oe_theory.specs.Machine.{Machine, Mode, Ask, Stop, Plain, Take, Tx}
-use Rattle.oe_theory.specs.World.{go_together, set, bump, total, Open, Commit, World, add, IsTerminal, counts_now, tables}
-use Rattle.oe_theory.specs.Next.{record_on, filled, held_after, IsNew, GivesWay, Step, Begin, Advance, Save, Back, Rollback, Read, Audit, Purge, Rewind}
-use Rattle.oe_theory.specs.Undo.{Undo, lengths_of, unwind, unwind_open, unwind_commits, no_records, put_records, used_of}
+use Rattle.oe_theory.specs.World.{go_together, set, bump, total, Open, Commit, World, add, IsTerminal, counts_now}
+use Rattle.oe_theory.specs.World.{tables}
+use Rattle.oe_theory.specs.Next.{record_on, filled, held_after, IsNew, GivesWay, Step, Begin, Advance, Save, Back}
+use Rattle.oe_theory.specs.Next.{Rollback, Read, Audit, Purge, Rewind}
+use Rattle.oe_theory.specs.Undo.{Undo, lengths_of, unwind, unwind_open, unwind_commits, no_records, put_records}
+use Rattle.oe_theory.specs.Undo.{used_of}
 
 module _ (M : Machine) where
-  open M use {Map, Change, Record, Name, Request, Position, Reply, Refusal, put, put_back, redo, size_of, start, act, marks, rejection, number_rejection, query_rejection, may_allocate, yields, terminal_limit}
+  open M use {
+    Map,
+    Change,
+    Record,
+    Name,
+    Request,
+    Position,
+    Reply,
+    Refusal,
+    put,
+    put_back,
+    redo,
+    size_of,
+    start,
+    act,
+    marks,
+    rejection,
+    number_rejection,
+    query_rejection,
+    may_allocate,
+    yields,
+    terminal_limit,
+  }
 
   -- of an open transaction, beside its records
   pub record Slot : Type 0 where
@@ -40,7 +66,8 @@ module _ (M : Machine) where
   abbrev pub tx_in : ℕ → Slot → Tx Request
   tx_in t p = record { terminal = t; number = p.number; request = p.request }
 
-  -- The world that is stored. The changes whose records these are, the newest first, where r has the rows that they left
+  -- The world that is stored. The changes whose records these are, the newest first, where r has the rows that they
+  -- left
   abbrev pub changes_of : List Record → Map → List Change
   changes_of [] r = []
   changes_of (b ∷ bs) r = add M (redo b r) (changes_of bs (put_back b r))
@@ -102,7 +129,14 @@ module _ (M : Machine) where
   abbrev pub slot_of : Option (Open M) → Option Slot
   slot_of None = None
   slot_of (Some o) =
-      Some (record { number = o.number; request = o.request; position = o.now.position; mark_position = o.mark.position; mark_count = length o.mark.changes; held = o.held })
+      Some (record {
+        number = o.number;
+        request = o.request;
+        position = o.now.position;
+        mark_position = o.mark.position;
+        mark_count = length o.mark.changes;
+        held = o.held;
+      })
 
   -- of commits
   abbrev pub seals_of : List (Commit M) → List Seal
@@ -112,7 +146,14 @@ module _ (M : Machine) where
   -- and of the whole, where u has its records
   abbrev pub store_of : World M → Undo M → Store
   store_of w u =
-      record { tables = tables M w; undo = u; slots = λ t. slot_of (w.active t); seals = seals_of w.history; counts = counts_now M w; extents = w.extents }
+      record {
+        tables = tables M w;
+        undo = u;
+        slots = λ t. slot_of (w.active t);
+        seals = seals_of w.history;
+        counts = counts_now M w;
+        extents = w.extents;
+      }
 
   -- Moments. The newest is the number of all commits so far
   abbrev pub newest_of : Store → ℕ
@@ -136,7 +177,14 @@ module _ (M : Machine) where
 
   -- What the steps do. A store just opened
   abbrev pub opened_store : Map → ℕ → Store
-  opened_store b n = record { tables = b; undo = no_records M; slots = λ _. None; seals = []; counts = λ _. 0; extents = n }
+  opened_store b n = record {
+    tables = b;
+    undo = no_records M;
+    slots = λ _. None;
+    seals = [];
+    counts = λ _. 0;
+    extents = n;
+  }
 
   -- a terminal's slot replaced
   abbrev pub put_slot : ℕ → Option Slot → Store → Store
@@ -146,11 +194,22 @@ module _ (M : Machine) where
   abbrev pub first_slot : Store → ℕ → Request → Slot
   first_slot s t q =
       let p : Position = start (record { terminal = t; number = suc (s.counts t); request = q }) in
-      record { number = suc (s.counts t); request = q; position = p; mark_position = p; mark_count = 0; held = λ _. None }
+      record {
+        number = suc (s.counts t);
+        request = q;
+        position = p;
+        mark_position = p;
+        mark_count = 0;
+        held = λ _. None;
+      }
 
   -- a transaction rolled back: its records put back, and its slot empty
   abbrev pub dropped : ℕ → Store → Store
-  dropped t s = record s { tables = unwind M (s.undo.active t) s.tables; undo = put_records M t [] s.undo; slots = set t None s.slots }
+  dropped t s = record s {
+    tables = unwind M (s.undo.active t) s.tables;
+    undo = put_records M t [] s.undo;
+    slots = set t None s.slots;
+  }
 
   -- the records with that of one more change of the tables r
   abbrev pub with_record_of : Option Change → Map → List Record → List Record
@@ -162,7 +221,8 @@ module _ (M : Machine) where
   with_change_of None r = r
   with_change_of (Some c) r = put c r
 
-  -- the slot after a stage, where n records stood before it; where the stage begins at a mark of the program's own, the mark has moved there
+  -- the slot after a stage, where n records stood before it; where the stage begins at a mark of the program's own, the
+  -- mark has moved there
   abbrev pub slot_after : Slot → ℕ → Ask Name Refusal → Position → Slot
   slot_after p n a q =
       record {
@@ -262,11 +322,13 @@ module _ (M : Machine) where
   -- the change's record fits the rest of the transaction's last extent, or an extent is free
   abbrev pub HasRoomIn : Store → ℕ → Option Change → Type 0
   HasRoomIn s t None = Unit {0}
-  HasRoomIn s t (Some c) = (size_of (record_on M c s.tables) ≤ (filled M (lengths_of M (s.undo.active t))).1) ⊎ (used_of M s.undo < s.extents)
+  HasRoomIn s t (Some c) = (size_of (record_on M c s.tables) ≤ (filled M (lengths_of M (s.undo.active t))).1)
+      ⊎ (used_of M s.undo < s.extents)
 
   -- the record fits neither there nor in a free extent
   abbrev pub IsFullIn : Store → ℕ → Change → Type 0
-  IsFullIn s t c = ((filled M (lengths_of M (s.undo.active t))).1 < size_of (record_on M c s.tables)) × (s.extents ≤ used_of M s.undo)
+  IsFullIn s t c = ((filled M (lengths_of M (s.undo.active t))).1 < size_of (record_on M c s.tables))
+      × (s.extents ≤ used_of M s.undo)
 
   -- no record takes any room
   abbrev pub TakesNoRoom : Type 0

@@ -1,11 +1,23 @@
--- What is proved of what a server stores: each step of the world is one change of the store, and each condition of a step is one on the store.
+-- What is proved of what a server stores: each step of the world is one change of the store, and each condition of a
+-- step is one on the store.
 use Rattle.std.specs.Prelude.{◌≡◌, ◌↔◌, ℕ, suc, ◌+◌, ◌≤◌, ◌<◌, Option, None, Some, List, [], ◌++◌, take, length}
 use Rattle.oe_theory.specs.Machine.{Machine, Mode, Ask, Stop, Take, Fail, Go, Ready, Here, Missing}
-use Rattle.oe_theory.specs.World.{World, IsTerminal, overlay, counts_now, counts_at, horizon, newest, at, latest, tables}
-use Rattle.oe_theory.specs.Next.{filled, used, IsGranted, IsInTheWay, HasRoom, IsFull, MayLackMemory, IsQuiet, count_open, IsPast, MayBegin, Step, Begin, Advance, Save, Back, Rollback, Read, Audit, Purge, Rewind, Answer, Begun, More, Committed, Saved, Gone_back, Rolled_back, Replied, Audited, Purged, Rewound, Aborted, Rejected, Busy, Undo_full, Not_open, Already_open, Too_old, Future, Not_quiet, No_memory, works_on, moment, Next}
+use Rattle.oe_theory.specs.World.{World, IsTerminal, overlay, counts_now, counts_at, horizon, newest, at, latest}
+use Rattle.oe_theory.specs.World.{tables}
+use Rattle.oe_theory.specs.Next.{filled, used, IsGranted, IsInTheWay, HasRoom, IsFull, MayLackMemory, IsQuiet}
+use Rattle.oe_theory.specs.Next.{count_open, IsPast, MayBegin, Step, Begin, Advance, Save, Back, Rollback, Read, Audit}
+use Rattle.oe_theory.specs.Next.{Purge, Rewind, Answer, Begun, More, Committed, Saved, Gone_back, Rolled_back, Replied}
+use Rattle.oe_theory.specs.Next.{Audited, Purged, Rewound, Aborted, Rejected, Busy, Undo_full, Not_open, Already_open}
+use Rattle.oe_theory.specs.Next.{Too_old, Future, Not_quiet, No_memory, works_on, moment, Next}
 use Rattle.oe_theory.specs.Laws.{IsGood, Alone}
-use Rattle.oe_theory.specs.Undo.{Undo, unwind_open, unwind_commits, restored_open, restored_commits, HasRecord, HasRecordIn, GoesBack, open_records, commit_records, IsAmong, Keeps, lengths_of, put_records, used_of, undo_after}
-use Rattle.oe_theory.specs.Store.{Slot, Store, tx_in, changes_of, opened_by, world_of, store_of, newest_version, newest_of, horizon_of, commits_after, version_of, counts_of, opened_store, put_slot, first_slot, dropped, went_on, sealed, gone_back, marked, purged_to, rewound_to, all_dropped, MayBeginIn, IsGrantedIn, IsInTheWayIn, HasRoomIn, IsFullIn, TakesNoRoom, MayLackMemoryIn, IsQuietIn, count_slots, IsPastIn}
+use Rattle.oe_theory.specs.Undo.{Undo, unwind_open, unwind_commits, restored_open, restored_commits, HasRecord}
+use Rattle.oe_theory.specs.Undo.{HasRecordIn, GoesBack, open_records, commit_records, IsAmong, Keeps, lengths_of}
+use Rattle.oe_theory.specs.Undo.{put_records, used_of, undo_after}
+use Rattle.oe_theory.specs.Store.{Slot, Store, tx_in, changes_of, opened_by, world_of, store_of, newest_version}
+use Rattle.oe_theory.specs.Store.{newest_of, horizon_of, commits_after, version_of, counts_of, opened_store, put_slot}
+use Rattle.oe_theory.specs.Store.{first_slot, dropped, went_on, sealed, gone_back, marked, purged_to, rewound_to}
+use Rattle.oe_theory.specs.Store.{all_dropped, MayBeginIn, IsGrantedIn, IsInTheWayIn, HasRoomIn, IsFullIn, TakesNoRoom}
+use Rattle.oe_theory.specs.Store.{MayLackMemoryIn, IsQuietIn, count_slots, IsPastIn}
 use Rattle.oe_theory.specs.Theorems.{opened, IsReached}
 
 module _ (M : Machine) where
@@ -22,44 +34,53 @@ module _ (M : Machine) where
 
   -- a world is the one that what is stored of it stands for
   abbrev pub World_is_stored : Type 0
-  World_is_stored = (w : World M) (u : Undo M) → IsReached M w → Keeps M w u → (world_of M (store_of M w u) ≡ w) × IsStanding (store_of M w u)
+  World_is_stored = (w : World M) (u : Undo M) → IsReached M w → Keeps M w u
+      → (world_of M (store_of M w u) ≡ w) × IsStanding (store_of M w u)
 
   -- and so each step of the world is one of the store
   abbrev pub Store_follows : Type 0
   Store_follows =
       (s : Store M) (i : Step M) (a : Answer M) (v : World M) → IsStanding s → Next M (world_of M s) i a v
-      → Leads s i a (store_of M v (undo_after M (world_of M s) s.undo a i)) × (world_of M (store_of M v (undo_after M (world_of M s) s.undo a i)) ≡ v)
+      → Leads s i a (store_of M v (undo_after M (world_of M s) s.undo a i))
+      × (world_of M (store_of M v (undo_after M (world_of M s) s.undo a i)) ≡ v)
 
   -- a store just opened on a good base stands for the world just opened
   abbrev pub Opening_stands : Type 0
-  Opening_stands = (b : M.Map) (n : ℕ) → M.Good (λ _. 0) b → IsStanding (opened_store M b n) × (world_of M (opened_store M b n) ≡ opened M b n)
+  Opening_stands = (b : M.Map) (n : ℕ) → M.Good (λ _. 0) b → IsStanding (opened_store M b n)
+      × (world_of M (opened_store M b n) ≡ opened M b n)
 
   -- where nothing is in the way a transaction begins in its terminal's slot
   abbrev pub Begins_here : Type 0
-  Begins_here = (s : Store M) (t : ℕ) (q : M.Request) → IsStanding s → MayBeginIn M s t q → Leads s (Begin t q) Begun (put_slot M t (Some (first_slot M s t q)) s)
+  Begins_here = (s : Store M) (t : ℕ) (q : M.Request) → IsStanding s → MayBeginIn M s t q
+      → Leads s (Begin t q) Begun (put_slot M t (Some (first_slot M s t q)) s)
 
   -- a request that is turned away changes nothing, whatever else is in the way
   abbrev pub Is_rejected_here : Type 0
-  Is_rejected_here = (s : Store M) (t : ℕ) (q : M.Request) (e : M.Refusal) → IsStanding s → M.rejection q s.tables ≡ Some e → Leads s (Begin t q) (Rejected e) s
+  Is_rejected_here = (s : Store M) (t : ℕ) (q : M.Request) (e : M.Refusal) → IsStanding s
+      → M.rejection q s.tables ≡ Some e → Leads s (Begin t q) (Rejected e) s
 
   -- nor does one of a terminal that has a transaction open
   abbrev pub Is_open_here : Type 0
   Is_open_here =
-      (s : Store M) (t : ℕ) (q : M.Request) (p : Slot M) → IsStanding s → M.rejection q s.tables ≡ None → s.slots t ≡ Some p
+      (s : Store M) (t : ℕ) (q : M.Request) (p : Slot M) → IsStanding s → M.rejection q s.tables ≡ None
+      → s.slots t ≡ Some p
       → Leads s (Begin t q) Already_open s
 
   -- nor one whose transaction could not have its number
   abbrev pub Number_is_rejected_here : Type 0
   Number_is_rejected_here =
-      (s : Store M) (t : ℕ) (q : M.Request) (e : M.Refusal) → IsStanding s → M.rejection q s.tables ≡ None → s.slots t ≡ None
+      (s : Store M) (t : ℕ) (q : M.Request) (e : M.Refusal) → IsStanding s → M.rejection q s.tables ≡ None
+      → s.slots t ≡ None
       → M.number_rejection (suc (s.counts t)) ≡ Some e
       → Leads s (Begin t q) (Rejected e) s
 
   -- where a transaction may begin a want of memory may be answered too
   abbrev pub Lacks_memory_at_begin_here : Type 0
-  Lacks_memory_at_begin_here = (s : Store M) (t : ℕ) (q : M.Request) → IsStanding s → MayBeginIn M s t q → Leads s (Begin t q) No_memory s
+  Lacks_memory_at_begin_here = (s : Store M) (t : ℕ) (q : M.Request) → IsStanding s → MayBeginIn M s t q
+      → Leads s (Begin t q) No_memory s
 
-  -- a stage whose lock is granted makes its change, if it makes one and its record has room, and the transaction goes on
+  -- a stage whose lock is granted makes its change, if it makes one and its record has room, and the transaction goes
+  -- on
   abbrev pub Goes_on_here : Type 0
   Goes_on_here =
       (s : Store M) (t : ℕ) (p : Slot M) (c : Option M.Change) (q : M.Position) → IsStanding s → s.slots t ≡ Some p
@@ -121,38 +142,45 @@ module _ (M : Machine) where
 
   -- the mark moves to where the transaction stands
   abbrev pub Saves_here : Type 0
-  Saves_here = (s : Store M) (t : ℕ) (p : Slot M) → IsStanding s → s.slots t ≡ Some p → Leads s (Save t) Saved (marked M t p s)
+  Saves_here = (s : Store M) (t : ℕ) (p : Slot M) → IsStanding s → s.slots t ≡ Some p
+      → Leads s (Save t) Saved (marked M t p s)
 
   -- the transaction goes back to its mark
   abbrev pub Goes_back_here : Type 0
-  Goes_back_here = (s : Store M) (t : ℕ) (p : Slot M) → IsStanding s → s.slots t ≡ Some p → Leads s (Back t) Gone_back (gone_back M t p s)
+  Goes_back_here = (s : Store M) (t : ℕ) (p : Slot M) → IsStanding s → s.slots t ≡ Some p
+      → Leads s (Back t) Gone_back (gone_back M t p s)
 
   -- the transaction is rolled back
   abbrev pub Rolls_back_here : Type 0
-  Rolls_back_here = (s : Store M) (t : ℕ) (p : Slot M) → IsStanding s → s.slots t ≡ Some p → Leads s (Rollback t) Rolled_back (dropped M t s)
+  Rolls_back_here = (s : Store M) (t : ℕ) (p : Slot M) → IsStanding s → s.slots t ≡ Some p
+      → Leads s (Rollback t) Rolled_back (dropped M t s)
 
   -- a step of a transaction that is not open changes nothing
   abbrev pub Is_not_open_here : Type 0
-  Is_not_open_here = (s : Store M) (i : Step M) (t : ℕ) → IsStanding s → works_on M i ≡ Some t → s.slots t ≡ None → Leads s i Not_open s
+  Is_not_open_here = (s : Store M) (i : Step M) (t : ℕ) → IsStanding s → works_on M i ≡ Some t → s.slots t ≡ None
+      → Leads s i Not_open s
 
   -- a query of a moment that can be read is answered from the version of that moment
   abbrev pub Reads_here : Type 0
   Reads_here =
-      (s : Store M) (m : ℕ) (q : M.Query) (f : M.Found) → IsStanding s → M.query_rejection q s.tables ≡ None → horizon_of M s ≤ m → m ≤ newest_of M s
+      (s : Store M) (m : ℕ) (q : M.Query) (f : M.Found) → IsStanding s → M.query_rejection q s.tables ≡ None
+      → horizon_of M s ≤ m → m ≤ newest_of M s
       → M.find q (version_of M s m) ≡ Here f
       → Leads s (Read m q) (Replied f) s
 
   -- and so is one that finds nothing there
   abbrev pub Misses_here : Type 0
   Misses_here =
-      (s : Store M) (m : ℕ) (q : M.Query) (e : M.Refusal) → IsStanding s → M.query_rejection q s.tables ≡ None → horizon_of M s ≤ m → m ≤ newest_of M s
+      (s : Store M) (m : ℕ) (q : M.Query) (e : M.Refusal) → IsStanding s → M.query_rejection q s.tables ≡ None
+      → horizon_of M s ≤ m → m ≤ newest_of M s
       → M.find q (version_of M s m) ≡ Missing e
       → Leads s (Read m q) (Rejected e) s
 
   -- a query that is turned away is so at any moment
   abbrev pub Query_is_rejected_here : Type 0
   Query_is_rejected_here =
-      (s : Store M) (m : ℕ) (q : M.Query) (e : M.Refusal) → IsStanding s → M.query_rejection q s.tables ≡ Some e → Leads s (Read m q) (Rejected e) s
+      (s : Store M) (m : ℕ) (q : M.Query) (e : M.Refusal) → IsStanding s → M.query_rejection q s.tables ≡ Some e
+      → Leads s (Read m q) (Rejected e) s
 
   -- a condition is judged on the version of its moment
   abbrev pub Audits_here : Type 0
@@ -162,26 +190,31 @@ module _ (M : Machine) where
 
   -- a purge lets the records and seals of the commits up to its moment go
   abbrev pub Purges_here : Type 0
-  Purges_here = (s : Store M) (m : ℕ) → IsStanding s → horizon_of M s ≤ m → m ≤ newest_of M s → Leads s (Purge m) (Purged m) (purged_to M m s)
+  Purges_here = (s : Store M) (m : ℕ) → IsStanding s → horizon_of M s ≤ m → m ≤ newest_of M s
+      → Leads s (Purge m) (Purged m) (purged_to M m s)
 
   -- a rewind, while nothing is open, undoes the commits after its moment
   abbrev pub Rewinds_here : Type 0
   Rewinds_here =
-      (s : Store M) (m : ℕ) → IsStanding s → IsQuietIn M s.slots → horizon_of M s ≤ m → m ≤ newest_of M s → Leads s (Rewind m) (Rewound m) (rewound_to M m s)
+      (s : Store M) (m : ℕ) → IsStanding s → IsQuietIn M s.slots → horizon_of M s ≤ m → m ≤ newest_of M s
+      → Leads s (Rewind m) (Rewound m) (rewound_to M m s)
 
   -- while transactions are open it is refused with their number, at any moment
   abbrev pub Is_not_quiet_here : Type 0
-  Is_not_quiet_here = (s : Store M) (m n : ℕ) → IsStanding s → count_slots M s.slots M.terminal_limit ≡ suc n → Leads s (Rewind m) (Not_quiet (suc n)) s
+  Is_not_quiet_here = (s : Store M) (m n : ℕ) → IsStanding s → count_slots M s.slots M.terminal_limit ≡ suc n
+      → Leads s (Rewind m) (Not_quiet (suc n)) s
 
   -- a moment before the horizon is refused with the horizon, by each step that names one
   abbrev pub Is_too_old_here : Type 0
   Is_too_old_here =
-      (s : Store M) (i : Step M) (m : ℕ) → IsStanding s → moment M i ≡ Some m → IsPastIn M s i → m < horizon_of M s → Leads s i (Too_old (horizon_of M s)) s
+      (s : Store M) (i : Step M) (m : ℕ) → IsStanding s → moment M i ≡ Some m → IsPastIn M s i → m < horizon_of M s
+      → Leads s i (Too_old (horizon_of M s)) s
 
   -- and one after the newest with the newest
   abbrev pub Is_future_here : Type 0
   Is_future_here =
-      (s : Store M) (i : Step M) (m : ℕ) → IsStanding s → moment M i ≡ Some m → IsPastIn M s i → newest_of M s < m → Leads s i (Future (newest_of M s)) s
+      (s : Store M) (i : Step M) (m : ℕ) → IsStanding s → moment M i ≡ Some m → IsPastIn M s i → newest_of M s < m
+      → Leads s i (Future (newest_of M s)) s
 
   -- each step, with each of its answers, is one change of the store
   pub record Steps_of_the_store : Type 0 where
@@ -217,9 +250,12 @@ module _ (M : Machine) where
     pub closed : (t : ℕ) → ((world_of M s).active t ≡ None) ↔ (s.slots t ≡ None)
     pub begins : (t : ℕ) (q : M.Request) → MayBegin M (world_of M s) t q ↔ MayBeginIn M s t q
     pub granted : (t : ℕ) (a : Ask M.Name M.Refusal) → IsGranted M (world_of M s) t a ↔ IsGrantedIn M s.slots t a
-    pub in_the_way : (t : ℕ) (n : M.Name) (m : Mode) (u : ℕ) → IsInTheWay M (world_of M s) t n m u ↔ IsInTheWayIn M s.slots t n m u
-    pub room : (t : ℕ) (p : Slot M) (c : Option M.Change) → HasRoom M (world_of M s) (opened_by M (s.undo.active t) s.tables p) c ↔ HasRoomIn M s t c
-    pub full : (t : ℕ) (p : Slot M) (c : M.Change) → IsFull M (world_of M s) (opened_by M (s.undo.active t) s.tables p) c ↔ IsFullIn M s t c
+    pub in_the_way : (t : ℕ) (n : M.Name) (m : Mode) (u : ℕ)
+        → IsInTheWay M (world_of M s) t n m u ↔ IsInTheWayIn M s.slots t n m u
+    pub room : (t : ℕ) (p : Slot M) (c : Option M.Change)
+        → HasRoom M (world_of M s) (opened_by M (s.undo.active t) s.tables p) c ↔ HasRoomIn M s t c
+    pub full : (t : ℕ) (p : Slot M) (c : M.Change)
+        → IsFull M (world_of M s) (opened_by M (s.undo.active t) s.tables p) c ↔ IsFullIn M s t c
     pub lacks_memory : (t : ℕ) (p : Slot M) (a : Ask M.Name M.Refusal)
         → MayLackMemory M (world_of M s) t (opened_by M (s.undo.active t) s.tables p) a ↔ MayLackMemoryIn M s t p a
     pub quiet : IsQuiet M (world_of M s) ↔ IsQuietIn M s.slots
@@ -269,14 +305,18 @@ module _ (M : Machine) where
   abbrev pub Store_is_orderly : Type 0
   Store_is_orderly = (s : Store M) → IsStanding s → Is_orderly s
 
-  -- an open transaction's program alone, from the newest version, comes to its position, and finds there what it finds in the tables
+  -- an open transaction's program alone, from the newest version, comes to its position, and finds there what it finds
+  -- in the tables
   pub record Is_alone (s : Store M) (t : ℕ) (p : Slot M) : Type 0 where
     pub known : M.rejection p.request (newest_version M s) ≡ None
     pub good : IsGood M s.counts (tx_in M t p) (newest_version M s)
-    pub alone : Alone M (tx_in M t p) (newest_version M s) (record { position = p.position; changes = changes_of M (s.undo.active t) s.tables })
-    pub asks : M.ask (tx_in M t p) p.position s.tables ≡ M.ask (tx_in M t p) p.position (overlay M (changes_of M (s.undo.active t) s.tables) (newest_version M s))
+    pub alone : Alone M (tx_in M t p) (newest_version M s)
+        (record { position = p.position; changes = changes_of M (s.undo.active t) s.tables })
+    pub asks : M.ask (tx_in M t p) p.position s.tables ≡ M.ask (tx_in M t p) p.position
+        (overlay M (changes_of M (s.undo.active t) s.tables) (newest_version M s))
     pub acts : IsGrantedIn M s.slots t (M.ask (tx_in M t p) p.position s.tables)
-        → M.act (tx_in M t p) p.position s.tables ≡ M.act (tx_in M t p) p.position (overlay M (changes_of M (s.undo.active t) s.tables) (newest_version M s))
+        → M.act (tx_in M t p) p.position s.tables ≡ M.act (tx_in M t p) p.position
+        (overlay M (changes_of M (s.undo.active t) s.tables) (newest_version M s))
 
   -- for each open transaction
   abbrev pub Runs_alone_here : Type 0
@@ -290,15 +330,18 @@ module _ (M : Machine) where
   abbrev pub Version_is_here : Type 0
   Version_is_here =
       (s : Store M) (ts : List ℕ) (m : ℕ) → IsStanding s → AreAllIn s ts
-      → unwind_commits M (take (commits_after M s m) s.undo.history) (unwind_open M s.undo.active ts s.tables) ≡ version_of M s m
+      → unwind_commits M (take (commits_after M s m) s.undo.history) (unwind_open M s.undo.active ts s.tables)
+      ≡ version_of M s m
 
   -- and one row of it, by the records of its key
   abbrev pub Row_is_here : Type 0
   Row_is_here =
       (s : Store M) (ts : List ℕ) (m : ℕ) (k : M.Key) → IsStanding s → AreAllIn s ts
-      → restored_commits M k (take (commits_after M s m) s.undo.history) (restored_open M k s.undo.active ts (M.row_at s.tables k)) ≡ M.row_at (version_of M s m) k
+      → restored_commits M k (take (commits_after M s m) s.undo.history)
+      (restored_open M k s.undo.active ts (M.row_at s.tables k)) ≡ M.row_at (version_of M s m) k
 
-  -- a key without a record, of open transactions and of commits after a moment, has in its version the row that it has now
+  -- a key without a record, of open transactions and of commits after a moment, has in its version the row that it has
+  -- now
   abbrev pub Row_without_record_here : Type 0
   Row_without_record_here =
       (s : Store M) (m : ℕ) (k : M.Key) → IsStanding s
@@ -309,9 +352,11 @@ module _ (M : Machine) where
   -- the records of one key lie in at most one open transaction
   abbrev pub Records_are_apart_here : Type 0
   Records_are_apart_here =
-      (s : Store M) (t v : ℕ) (k : M.Key) → IsStanding s → HasRecord M k (s.undo.active t) → HasRecord M k (s.undo.active v) → t ≡ v
+      (s : Store M) (t v : ℕ) (k : M.Key) → IsStanding s → HasRecord M k (s.undo.active t)
+      → HasRecord M k (s.undo.active v) → t ≡ v
 
-  -- put back in turn, those of open transactions in any order and then those of commits from the newest, each record finds
+  -- put back in turn, those of open transactions in any order and then those of commits from the newest, each record
+  -- finds
   -- the row that its change left, and P holds all the way
   abbrev pub Each_goes_back_here : (M.Map → Type 0) → Type 0
   Each_goes_back_here P =
@@ -346,12 +391,14 @@ module _ (M : Machine) where
   abbrev pub Used_is_a_sum : Type 0
   Used_is_a_sum =
       (u : Undo M) (t : ℕ) (bs : List M.Record) → t < M.terminal_limit
-      → used_of M (put_records M t bs u) + (filled M (lengths_of M (u.active t))).0 ≡ used_of M u + (filled M (lengths_of M bs)).0
+      → used_of M (put_records M t bs u) + (filled M (lengths_of M (u.active t))).0 ≡ used_of M
+      u + (filled M (lengths_of M bs)).0
 
   -- a commit uses the extents that its transaction used
   abbrev pub Sealing_uses_the_same : Type 0
   Sealing_uses_the_same =
-      (s : Store M) (t : ℕ) (p : Slot M) (reply : M.Reply) → t < M.terminal_limit → used_of M (sealed M t p reply s).undo ≡ used_of M s.undo
+      (s : Store M) (t : ℕ) (p : Slot M) (reply : M.Reply) → t < M.terminal_limit
+      → used_of M (sealed M t p reply s).undo ≡ used_of M s.undo
 
   -- all that a store tells
   pub record Facts_of_the_store : Type 0 where

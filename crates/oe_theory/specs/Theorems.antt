@@ -1,11 +1,17 @@
--- What is proved of a machine that meets the local laws: of every world that steps can lead to from one that was just opened.
-use Rattle.std.specs.Prelude.{◌≡◌, ℕ, suc, ◌-◌, ◌≤◌, ◌<◌, Bool, true, None, Some, List, [], ◌∷◌, ◌++◌, length, take, get_or, ◌≢◌, ◌⊎◌}
+-- What is proved of a machine that meets the local laws: of every world that steps can lead to from one that was just
+-- opened.
+use Rattle.std.specs.Prelude.{◌≡◌, ℕ, suc, ◌-◌, ◌≤◌, ◌<◌, Bool, true, None, Some, List, [], ◌∷◌, ◌++◌, length, take}
+use Rattle.std.specs.Prelude.{get_or, ◌≢◌, ◌⊎◌}
 use Rattle.oe_theory.specs.Machine.{Machine, Tx, Stop, Fail, Go}
-use Rattle.oe_theory.specs.World.{Open, World, IsTerminal, tx_of, overlay, counts_now, counts_at, horizon, newest, at, latest, IsSerial, tables}
-use Rattle.oe_theory.specs.Next.{record_on, filled, used, put_active, Begin, Advance, Save, Back, Rollback, Read, Audit, Purge, Rewind, Begun, More, Committed, Aborted, Purged, Rewound, Undo_full, No_memory, IsGranted, IsQuiet, Next, Runs, events, steps_of, answers_of, Step, Answer}
+use Rattle.oe_theory.specs.World.{Open, World, IsTerminal, tx_of, overlay, counts_now, counts_at, horizon, newest, at}
+use Rattle.oe_theory.specs.World.{latest, IsSerial, tables}
+use Rattle.oe_theory.specs.Next.{record_on, filled, used, put_active, Begin, Advance, Save, Back, Rollback, Read, Audit}
+use Rattle.oe_theory.specs.Next.{Purge, Rewind, Begun, More, Committed, Aborted, Purged, Rewound, Undo_full, No_memory}
+use Rattle.oe_theory.specs.Next.{IsGranted, IsQuiet, Next, Runs, events, steps_of, answers_of, Step, Answer}
 use Rattle.oe_theory.specs.Laws.{IsGood, IsAsked, all_held, Alone}
 use Rattle.oe_theory.specs.Erase.{is_rolled_back, without}
-use Rattle.oe_theory.specs.Undo.{Undo, unwind, unwind_open, unwind_commits, restored_open, restored_commits, AreAll, Keeps, used_of, no_records, undo_after, tables_after}
+use Rattle.oe_theory.specs.Undo.{Undo, unwind, unwind_open, unwind_commits, restored_open, restored_commits, AreAll}
+use Rattle.oe_theory.specs.Undo.{Keeps, used_of, no_records, undo_after, tables_after}
 
 module _ (M : Machine) where
   -- nothing committed, nothing open
@@ -27,7 +33,8 @@ module _ (M : Machine) where
 
   -- and each run goes on from a world that was reached
   abbrev pub Run_is_reached : Type 0
-  Run_is_reached = (w w' : World M) (is : List (Step M)) (ys : List (Answer M)) → IsReached w → Runs M w is ys w' → IsReached w'
+  Run_is_reached = (w w' : World M) (is : List (Step M)) (ys : List (Answer M)) → IsReached w → Runs M w is ys w'
+      → IsReached w'
 
   -- a run without a transaction that was rolled back is a run between the same worlds, with the same answers
   abbrev pub Rollback_leaves_no_trace : Type 0
@@ -36,7 +43,8 @@ module _ (M : Machine) where
       → length is ≡ length ys
       → Runs M w (is ++ Begin t q ∷ is') (ys ++ Begun ∷ ys') w'
       → is_rolled_back M t (events M is' ys') ≡ true
-      → Runs M w (steps_of M (without M (events M is ys) t (events M is' ys'))) (answers_of M (without M (events M is ys) t (events M is' ys'))) w'
+      → Runs M w (steps_of M (without M (events M is ys) t (events M is' ys')))
+      (answers_of M (without M (events M is ys) t (events M is' ys'))) w'
 
   -- the transaction that an answer has ended
   pub record Is_whole (w : World M) (t : ℕ) (reply : M.Reply) (w' : World M) : Type 0 where
@@ -50,7 +58,8 @@ module _ (M : Machine) where
   abbrev pub Commit_is_whole : Type 0
   Commit_is_whole =
       (w w' : World M) (t m : ℕ) (reply : M.Reply) → IsReached w
-      → Next M w (Advance t) (Committed m reply) w' → Is_whole w t reply w' × (m ≡ newest M w') × (newest M w' ≡ suc (newest M w))
+      → Next M w (Advance t) (Committed m reply) w' → Is_whole w t reply w' × (m ≡ newest M w')
+      × (newest M w' ≡ suc (newest M w))
 
   -- the transaction that a refusal has ended
   pub record Is_none (w : World M) (t : ℕ) : Type 0 where
@@ -60,13 +69,16 @@ module _ (M : Machine) where
 
   -- where a row is refused with a rollback there is no whole effect
   abbrev pub Abort_has_no_effect : Type 0
-  Abort_has_no_effect = (w w' : World M) (t : ℕ) (e : M.Refusal) → IsReached w → Next M w (Advance t) (Aborted e) w' → Is_none w t
+  Abort_has_no_effect = (w w' : World M) (t : ℕ) (e : M.Refusal) → IsReached w → Next M w (Advance t) (Aborted e) w'
+      → Is_none w t
 
   -- what an open transaction asks for is not turned away on the newest version
   abbrev pub Open_is_known : Type 0
-  Open_is_known = (w : World M) (t : ℕ) (o : Open M) → IsReached w → w.active t ≡ Some o → M.rejection o.request (latest M w) ≡ None
+  Open_is_known = (w : World M) (t : ℕ) (o : Open M) → IsReached w → w.active t ≡ Some o
+      → M.rejection o.request (latest M w) ≡ None
 
-  -- the transaction that a refusal has ended: its program alone, from the newest version, comes to that refusal, which is one of
+  -- the transaction that a refusal has ended: its program alone, from the newest version, comes to that refusal, which
+  -- is one of
   -- those that it may end with
   pub record Is_refused (w : World M) (t : ℕ) (e : M.Refusal) : Type 0 where
     pub was : Open M
@@ -81,7 +93,8 @@ module _ (M : Machine) where
 
   -- at each refusal that ends a transaction
   abbrev pub Abort_is_its_own : Type 0
-  Abort_is_its_own = (w w' : World M) (t : ℕ) (e : M.Refusal) → IsReached w → Next M w (Advance t) (Aborted e) w' → Is_refused w t e
+  Abort_is_its_own = (w w' : World M) (t : ℕ) (e : M.Refusal) → IsReached w → Next M w (Advance t) (Aborted e) w'
+      → Is_refused w t e
 
   -- the tables accept each change that a row makes, beside others' open work
   abbrev pub Changes_are_accepted : Type 0
@@ -115,7 +128,8 @@ module _ (M : Machine) where
       (w v : World M) (u : Undo M) (i : Step M) (a : Answer M) → IsReached w → Keeps M w u → Next M w i a v
       → tables M v ≡ tables_after M w u a i
 
-  -- putting an open transaction's records back, whatever others have done since, gives the tables in which it is forgotten
+  -- putting an open transaction's records back, whatever others have done since, gives the tables in which it is
+  -- forgotten
   abbrev pub Undo_forgets : Type 0
   Undo_forgets =
       (w : World M) (u : Undo M) (t : ℕ) → IsReached w → Keeps M w u
@@ -144,9 +158,11 @@ module _ (M : Machine) where
   abbrev pub Row_is_unwound : Type 0
   Row_is_unwound =
       (w : World M) (u : Undo M) (ts : List ℕ) (m : ℕ) (k : M.Key) → IsReached w → Keeps M w u → AreAll M w ts
-      → restored_commits M k (take (newest M w - m) u.history) (restored_open M k u.active ts (M.row_at (tables M w) k)) ≡ M.row_at (at M w m) k
+      → restored_commits M k (take (newest M w - m) u.history) (restored_open M k u.active ts (M.row_at (tables M w) k))
+      ≡ M.row_at (at M w m) k
 
-  -- what holds between transactions, and is kept by each change that the tables accept, as that each reference finds its row
+  -- what holds between transactions, and is kept by each change that the tables accept, as that each reference finds
+  -- its row
   pub record IsKeptByChanges (P : M.Map → Type 0) : Type 0 where
     pub between : (f : ℕ → ℕ) (r : M.Map) → M.Good f r → P r
     pub kept : (c : M.Change) (r : M.Map) → M.Accepts c r → P r → P (M.put c r)
@@ -157,7 +173,8 @@ module _ (M : Machine) where
 
   -- also while an open transaction is undone, a record at a time, whatever others have done since
   abbrev pub Holds_while_undone : (M.Map → Type 0) → Type 0
-  Holds_while_undone P = (w : World M) (u : Undo M) (t n : ℕ) → IsReached w → Keeps M w u → P (unwind M (take n (u.active t)) (tables M w))
+  Holds_while_undone P = (w : World M) (u : Undo M) (t n : ℕ) → IsReached w → Keeps M w u
+      → P (unwind M (take n (u.active t)) (tables M w))
 
   -- and while commits are undone, the newest first
   abbrev pub Holds_while_rewound : (M.Map → Type 0) → Type 0
@@ -195,17 +212,20 @@ module _ (M : Machine) where
   abbrev pub Rewind_restores : Type 0
   Rewind_restores =
       (w w' : World M) (m : ℕ) → Next M w (Rewind m) (Rewound m) w'
-      → (tables M w' ≡ at M w m) × (newest M w' ≡ m) × (horizon M w' ≡ horizon M w) × ((k : ℕ) → k ≤ m → at M w' k ≡ at M w k)
+      → (tables M w' ≡ at M w m) × (newest M w' ≡ m) × (horizon M w' ≡ horizon M w)
+      × ((k : ℕ) → k ≤ m → at M w' k ≡ at M w k)
 
   -- a purge leaves the tables and all versions from its moment on
   abbrev pub Purge_leaves_later : Type 0
   Purge_leaves_later =
       (w w' : World M) (m : ℕ) → IsReached w → Next M w (Purge m) (Purged m) w'
-      → (horizon M w' ≡ m) × (newest M w' ≡ newest M w) × (tables M w' ≡ tables M w) × ((k : ℕ) → m ≤ k → k ≤ newest M w → at M w' k ≡ at M w k)
+      → (horizon M w' ≡ m) × (newest M w' ≡ newest M w) × (tables M w' ≡ tables M w)
+      × ((k : ℕ) → m ≤ k → k ≤ newest M w → at M w' k ≡ at M w k)
 
   -- what each whole effect keeps holds of every version
   abbrev pub IsKept : (M.Map → Type 0) → Type 0
-  IsKept P = (f : ℕ → ℕ) (x : Tx M.Request) (r after : M.Map) (reply : M.Reply) → IsGood M f x r → M.whole x r ≡ Some (after, reply) → P r → P after
+  IsKept P = (f : ℕ → ℕ) (x : Tx M.Request) (r after : M.Map) (reply : M.Reply) → IsGood M f x r
+      → M.whole x r ≡ Some (after, reply) → P r → P after
 
   -- so it holds of each version where it held of the first base
   abbrev pub Holds_of_versions : (M.Map → Type 0) → Type 0
@@ -228,7 +248,8 @@ module _ (M : Machine) where
     begins_else : (t : ℕ) (q : M.Request) (v : World M) → Next M w (Begin t q) Begun v → Stands_for w (Begin t q)
     goes_else : (t : ℕ) (v : World M) → Next M w (Advance t) More v → Stands_for w (Advance t)
     full_else : (t : ℕ) → Next M w (Advance t) Undo_full w → Stands_for w (Advance t)
-    stops_else : (t : ℕ) (o : Open M) (e : M.Refusal) (v : World M) → w.active t ≡ Some o → M.yields (tx_of M t o) o.now.position e ≡ true
+    stops_else : (t : ℕ) (o : Open M) (e : M.Refusal) (v : World M) → w.active t ≡ Some o
+        → M.yields (tx_of M t o) o.now.position e ≡ true
         → Next M w (Advance t) (Aborted e) v → Stands_for w (Advance t)
 
   -- a want of memory is answered only so
@@ -275,7 +296,8 @@ module _ (M : Machine) where
     pub last : World M
     pub run : Runs M w is answers last
     pub memory : IsWithout No_memory answers
-    pub only : (ys : List (Answer M)) (v : World M) → Runs M w is ys v → IsWithout No_memory ys → (ys ≡ answers) × (v ≡ last)
+    pub only : (ys : List (Answer M)) (v : World M) → Runs M w is ys v → IsWithout No_memory ys
+        → (ys ≡ answers) × (v ≡ last)
 
   abbrev pub AreSteps : List (Step M) → Type 0
   AreSteps [] = Unit {0}

@@ -1,12 +1,31 @@
 -- The undo records of a world's transactions, and what putting them back leaves.
-use Rattle.std.specs.Prelude.{◌≡◌, ℕ, suc, zero, ◌+◌, ◌-◌, cond, Option, None, Some, List, [], ◌∷◌, ◌++◌, length, take, drop, ◌⊎◌}
+use Rattle.std.specs.Prelude.{◌≡◌, ℕ, suc, zero, ◌+◌, ◌-◌, cond, Option, None, Some, List, [], ◌∷◌, ◌++◌, length, take}
+use Rattle.std.specs.Prelude.{drop, ◌⊎◌}
 use Rattle.oe_theory.specs.Machine.{Machine, Act, Fail, Go, Ready}
 use Rattle.oe_theory.specs.World.{set, State, Open, Commit, World, tx_of, overlay, version, newest, latest, tables}
-use Rattle.oe_theory.specs.Next.{record_on, filled, Step, Advance, Back, Rollback, Purge, Rewind, Answer, More, Committed, Gone_back, Rolled_back, Aborted, Purged, Rewound}
+use Rattle.oe_theory.specs.Next.{record_on, filled, Step, Advance, Back, Rollback, Purge, Rewind, Answer, More}
+use Rattle.oe_theory.specs.Next.{Committed, Gone_back, Rolled_back, Aborted, Purged, Rewound}
 use Rattle.oe_theory.specs.Laws.{Alone}
 
 module _ (M : Machine) where
-  open M use {Map, Key, Row, Change, Record, Position, Reply, Refusal, is_key, record_key, restore, put_back, size_of, act, whole, terminal_limit}
+  open M use {
+    Map,
+    Key,
+    Row,
+    Change,
+    Record,
+    Position,
+    Reply,
+    Refusal,
+    is_key,
+    record_key,
+    restore,
+    put_back,
+    size_of,
+    act,
+    whole,
+    terminal_limit,
+  }
 
   -- the records that are stored: of each open transaction and of each commit, the newest first in each
   pub record Undo : Type 0 where
@@ -64,7 +83,8 @@ module _ (M : Machine) where
   HasRecordIn k [] = ⊥
   HasRecordIn k (bs ∷ ss) = HasRecord k bs ⊎ HasRecordIn k ss
 
-  -- the record is of a change that the tables `on` accepted; it finds in r the row that this change left, and putting it back
+  -- the record is of a change that the tables `on` accepted; it finds in r the row that this change left, and putting
+  -- it back
   -- gives the row that `on` has
   pub record Finds (b : Record) (r : Map) : Type 0 where
     pub change : Change
@@ -99,7 +119,8 @@ module _ (M : Machine) where
   abbrev pub AreAll : World M → List ℕ → Type 0
   AreAll w ts = (t : ℕ) (o : Open M) → w.active t ≡ Some o → IsAmong t ts
 
-  -- these are the records of a commit on the version r: of the changes with which its program alone comes from r to its end
+  -- these are the records of a commit on the version r: of the changes with which its program alone comes from r to its
+  -- end
   pub record IsOfCommit (r : Map) (c : Commit M) (bs : List Record) : Type 0 where
     pub last : State M
     pub alone : Alone M c.tx r last
@@ -166,7 +187,8 @@ module _ (M : Machine) where
   abbrev pub put_records : ℕ → List Record → Undo → Undo
   put_records t bs u = record { active = set t bs u.active; history = u.history }
 
-  -- a row that goes on pushes its record, a commit seals them, a rollback drops them; the other steps leave all but what they cut off
+  -- a row that goes on pushes its record, a commit seals them, a rollback drops them; the other steps leave all but
+  -- what they cut off
   abbrev pub undo_after : World M → Undo → Answer M → Step M → Undo
   undo_after w u More (Advance t) = put_records t (pushed w t (w.active t) (u.active t)) u
   undo_after w u (Committed m y) (Advance t) = record { active = set t [] u.active; history = u.active t ∷ u.history }

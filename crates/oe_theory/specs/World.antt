@@ -1,5 +1,6 @@
 -- The worlds of a machine.
-use Rattle.std.specs.Prelude.{◌≡◌, ℕ, suc, zero, ◌+◌, ◌-◌, ◌<◌, ◌≤◌, ◌==◌, Bool, true, false, cond, Option, None, Some, List, [], ◌∷◌, length, drop}
+use Rattle.std.specs.Prelude.{◌≡◌, ℕ, suc, zero, ◌+◌, ◌-◌, ◌<◌, ◌≤◌, ◌==◌, Bool, true, false, cond, Option, None, Some}
+use Rattle.std.specs.Prelude.{List, [], ◌∷◌, length, drop}
 use Rattle.oe_theory.specs.Machine.{Machine, Mode, Shared, Exclusive, Tx}
 
 -- a mode that is held is enough for a mode that is wanted
@@ -36,7 +37,25 @@ total zero f = 0
 total (suc n) f = total n f + f n
 
 module _ (M : Machine) where
-  open M use {Map, Key, Row, Change, is_key, key_of, row_of, put, Name, Request, Position, Reply, IsRequest, whole, rejection, first_terminal, terminal_limit}
+  open M use {
+    Map,
+    Key,
+    Row,
+    Change,
+    is_key,
+    key_of,
+    row_of,
+    put,
+    Name,
+    Request,
+    Position,
+    Reply,
+    IsRequest,
+    whole,
+    rejection,
+    first_terminal,
+    terminal_limit,
+  }
 
   -- where a program is, and what it has changed
   pub record State : Type 0 where
@@ -138,7 +157,8 @@ module _ (M : Machine) where
   abbrev pub number : World → ℕ → ℕ
   number w t = suc (counts_now w t)
 
-  -- each commit is the whole effect of its request on the version before it, which does not reject it, and its reply is that effect's
+  -- each commit is the whole effect of its request on the version before it, which does not reject it, and its reply is
+  -- that effect's
   pub record IsCommit (f : ℕ → ℕ) (r : Map) (c : Commit) : Type 0 where
     pub after : Map
     pub effect : whole c.tx r ≡ Some (after, c.reply)

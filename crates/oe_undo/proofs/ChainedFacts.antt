@@ -1,5 +1,7 @@
 -- What each call makes of the links and of the moments, and that the chains are kept.
-use Rattle.std.proofs.Common.{◌≡◌, ℕ, zero, suc, ◌+◌, ◌-◌, ◌<◌, ◌≤◌, Bool, true, false, cond, List, [], ◌∷◌, ◌++◌, length, take, drop, set, Option, None, Some, is_some, get_or, refl, sym, ap, ◌∙◌, subst, inl, inr, arith}
+use Rattle.std.proofs.Common.{◌≡◌, ℕ, zero, suc, ◌+◌, ◌-◌, ◌<◌, ◌≤◌, Bool, true, false, cond, List, [], ◌∷◌, ◌++◌}
+use Rattle.std.proofs.Common.{length, take, drop, set, Option, None, Some, is_some, get_or, refl, sym, ap, ◌∙◌, subst}
+use Rattle.std.proofs.Common.{inl, inr, arith}
 use Rattle.std.specs.Prelude.{◌⊎◌, ◌≢◌, IsSome, IfSome, option_map, slice_get, Result, Ok, Err, OnOk, OnErr}
 use Rattle.std.proofs.lemmas.Bool.{cases_eq, cases_lt}
 use Rattle.std.proofs.lemmas.List.{get_or-set_same, get_or-set_other, get_or_read, set_past, length-set}
@@ -17,7 +19,10 @@ use Rattle.oe_layout.specs.declared.links.RecordAddress.{RecordAddress}
 use Rattle.oe_layout.specs.declared.links.Previous.{Previous}
 use Rattle.oe_layout.specs.declared.links.Previous.TheVariants.{Own, Committed}
 use Rattle.oe_log.specs.Records.{Logged, logged, newest_of}
-use Rattle.oe_log.specs.Log.{SegmentLog, Open as OpenSegment, TerminalState, Committed as CommitSegment, idle, idle_terminals, active_at, records_at, count_at, total_count, commits_of, no_segments, with_active, with_records, opened, dropped, pushed, popped, sealed, with_newest, reopened, owner_of}
+use Rattle.oe_log.specs.Log.{SegmentLog, Open as OpenSegment, TerminalState, Committed as CommitSegment, idle}
+use Rattle.oe_log.specs.Log.{idle_terminals, active_at, records_at, count_at, total_count, commits_of, no_segments}
+use Rattle.oe_log.specs.Log.{with_active, with_records, opened, dropped, pushed, popped, sealed, with_newest, reopened}
+use Rattle.oe_log.specs.Log.{owner_of}
 use Rattle.oe_log.specs.declared.heads.SegmentOwner.{SegmentOwner}
 use Rattle.oe_log.proofs.LawFacts.{idle_at}
 use Rattle.oe_undo.specs.declared.holders.Link.{Link}
@@ -30,17 +35,20 @@ use Rattle.oe_undo.proofs.ChainFacts.{own, chain_open, chain-open, seen_again}
 use Rattle.oe_undo.proofs.ChainedLinkFacts.{sees_alone}
 use Rattle.oe_undo.proofs.CallFacts as calls
 use Rattle.oe_undo.specs.declared.links.OwnedLink.{OwnedLink}
-use Rattle.oe_undo.specs.Links.{LinkMaps, place_of, links_of, link_in, no_links, HasPlace, SetsLink, GivesPlaces, GivesUpLink, LeadsTo}
+use Rattle.oe_undo.specs.Links.{LinkMaps, place_of, links_of, link_in, no_links, HasPlace, SetsLink, GivesPlaces}
+use Rattle.oe_undo.specs.Links.{GivesUpLink, LeadsTo}
 use Rattle.oe_undo.proofs.LinkFacts.{no_link}
 use Rattle.oe_undo.proofs.LeadFacts.{set_leads, given_links, given_up_links}
-use Rattle.oe_undo.specs.Owners.{MomentList, no_moments, moments_at, moments_of, holder_of, followed, next_owner, IsOwner, AreOwned, AreIdle, AreMoments, IsLinked, IsMadeBy, IsMade}
+use Rattle.oe_undo.specs.Owners.{MomentList, no_moments, moments_at, moments_of, holder_of, followed, next_owner}
+use Rattle.oe_undo.specs.Owners.{IsOwner, AreOwned, AreIdle, AreMoments, IsLinked, IsMadeBy, IsMade}
 use Rattle.oe_undo.specs.Undo.{UndoState, unended, GivesBack}
 use Rattle.oe_log.proofs.StateFacts.{some_of, known, pushed_popped}
 use Rattle.oe_undo.proofs.OwnerFacts as owner
 
 -- ---- what the log keeps of itself
 
-pub is_whole : (u : SegmentLog) (h : ℕ) → length u.terminals ≡ suc TERMINALS → h + length u.committed ≡ total_count u → IsWhole u
+pub is_whole : (u : SegmentLog) (h : ℕ) → length u.terminals ≡ suc TERMINALS → h + length u.committed ≡ total_count u
+    → IsWhole u
 unfolding terminal_limit
 is_whole u h size sum = record { terminals = size; commits = omega (arith, sum) }
 
@@ -48,27 +56,32 @@ no_owned : (l : OwnedLink) (P : Type 0) → None ≡ Some l → P
 no_owned l P e = cc
 
 -- nothing recorded, nothing committed
-pub none_linked : (e : ℕ) (u : SegmentLog) (maps : LinkMaps) (ms : List MomentList) → u ≡ no_segments e → maps ≡ no_links → AreIdle ms → IsLinked u (links_of maps) ms
+pub none_linked : (e : ℕ) (u : SegmentLog) (maps : LinkMaps) (ms : List MomentList) → u ≡ no_segments e
+    → maps ≡ no_links → AreIdle ms → IsLinked u (links_of maps) ms
 unfolding idle_terminals
 none_linked e u maps ms empty none idle_ms =
     subst (λ v. IsLinked v (links_of maps) ms) (sym empty)
     (subst (λ (m : LinkMaps). IsLinked (no_segments e) (links_of m) ms) (sym none)
     record {
-      chained = subst (AreChained (no_segments e)) (sym (fun_ext (λ k. ap (followed (no_segments e)) (no_link k)))) (calls.none e);
+      chained = subst (AreChained (no_segments e)) (sym (fun_ext (λ k. ap (followed (no_segments e)) (no_link k))))
+          (calls.none e);
       owned = λ k l is. no_owned l (IsOwner (no_segments e) l.owner) (sym (no_link k) ∙ is);
       moments = record {
         size = idle_ms.size;
         kept = λ t less. idle_ms.idle t no_moments (subst (λ n. t < n) (sym idle_ms.size) less);
-        room = λ t some. let off : IsSome {T = OpenSegment} None = subst (λ (z : TerminalState). IsSome z.active) (idle_at 65 t) some in cc;
+        room = λ t some. let off : IsSome {T = OpenSegment} None = subst (λ (z : TerminalState). IsSome z.active)
+            (idle_at 65 t) some in cc;
       };
     })
 
 -- ---- a log of which counts and commits stay
 
-pub same_chained : (u w : SegmentLog) (links : Key → Option OwnedLink) → ((s : ℕ) → count_at w s ≡ count_at u s) → total_count w ≡ total_count u
+pub same_chained : (u w : SegmentLog) (links : Key → Option OwnedLink) → ((s : ℕ) → count_at w s ≡ count_at u s)
+    → total_count w ≡ total_count u
     → w.committed ≡ u.committed → AreChained w (λ k. followed u (links k)) → AreChained w (λ k. followed w (links k))
 same_chained u w links counts total commits c =
-    subst (AreChained w) (sym (fun_ext (λ k. owner.followed_same u w (links k) (owner.holder_same u w counts total commits)))) c
+    subst (AreChained w) (sym
+    (fun_ext (λ k. owner.followed_same u w (links k) (owner.holder_same u w counts total commits)))) c
 
 pub same_owned : (u w : SegmentLog) (links : Key → Option OwnedLink) → ((s : ℕ) → count_at w s ≡ count_at u s)
     → ((s : ℕ) → IsSome (active_at u s) → IsSome (active_at w s)) → AreOwned u links → AreOwned w links
@@ -76,37 +89,51 @@ same_owned u w links counts opens owned k l is =
     let own = owned k l is in
     let c = counts l.owner.terminal in
     let few = own.number in
-    record { number = omega (arith, c, few); is_open = λ less. opens l.owner.terminal (own.is_open (omega (arith, c, less))) }
+    record {
+      number = omega (arith, c, few);
+      is_open = λ less. opens l.owner.terminal
+          (own.is_open (omega (arith, c, less)));
+    }
 
 pub same_moments : (u w : SegmentLog) (ms : List MomentList) → total_count w ≡ total_count u → w.committed ≡ u.committed
     → ((s : ℕ) → IsSome (active_at w s) → IsSome (active_at u s)) → AreMoments u ms → AreMoments w ms
 same_moments u w ms total commits opens m =
     record {
       size = m.size;
-      kept = λ t less. m.kept t less ∙ ap (λ n. moments_of t n u.committed) (sym total) ∙ ap (moments_of t (total_count w)) (sym commits);
+      kept = λ t less. m.kept t less ∙ ap (λ n. moments_of t n u.committed) (sym total)
+          ∙ ap (moments_of t (total_count w)) (sym commits);
       room = λ t some. m.room t (opens t some);
     }
 
 -- ---- a terminal's segment
 
-active_here : (u : SegmentLog) (t : ℕ) (a : Option OpenSegment) → t < length u.terminals → active_at (with_active u t a) t ≡ a
-active_here u t a within = ap (λ (z : TerminalState). z.active) (get_or-set_same u.terminals t (record { count = count_at u t; active = a }) idle within)
+active_here : (u : SegmentLog) (t : ℕ) (a : Option OpenSegment) → t < length u.terminals
+    → active_at (with_active u t a) t ≡ a
+active_here u t a within = ap (λ (z : TerminalState). z.active)
+    (get_or-set_same u.terminals t (record { count = count_at u t; active = a }) idle within)
 
-active_there : (u : SegmentLog) (t : ℕ) (a : Option OpenSegment) (s : ℕ) → s ≢ t → active_at (with_active u t a) s ≡ active_at u s
-active_there u t a s ne = ap (λ (z : TerminalState). z.active) (get_or-set_other u.terminals t s (record { count = count_at u t; active = a }) idle ne)
+active_there : (u : SegmentLog) (t : ℕ) (a : Option OpenSegment) (s : ℕ) → s ≢ t
+    → active_at (with_active u t a) s ≡ active_at u s
+active_there u t a s ne = ap (λ (z : TerminalState). z.active)
+    (get_or-set_other u.terminals t s (record { count = count_at u t; active = a }) idle ne)
 
 -- which segments are open, where one is replaced
-opens_same : (u : SegmentLog) (t : ℕ) (a : Option OpenSegment) → is_some a ≡ is_some (active_at u t) → (s : ℕ) → is_some (active_at (with_active u t a) s) ≡ is_some (active_at u s)
+opens_same : (u : SegmentLog) (t : ℕ) (a : Option OpenSegment) → is_some a ≡ is_some (active_at u t) → (s : ℕ)
+    → is_some (active_at (with_active u t a) s) ≡ is_some (active_at u s)
 opens_same u t a same s =
     elim (cases_lt t (length u.terminals)) [
       | inl within ↦ elim (cases_eq s t) [
-        | inl e ↦ ap (λ x. is_some (active_at (with_active u t a) x)) e ∙ ap (λ z. is_some {T = OpenSegment} z) (active_here u t a within) ∙ same ∙ ap (λ x. is_some (active_at u x)) (sym e)
+        | inl e ↦ ap (λ x. is_some (active_at (with_active u t a) x)) e
+            ∙ ap (λ z. is_some {T = OpenSegment} z) (active_here u t a within) ∙ same
+            ∙ ap (λ x. is_some (active_at u x)) (sym e)
         | inr ne ↦ ap (λ z. is_some {T = OpenSegment} z) (active_there u t a s ne)
       ]
-      | inr past ↦ ap (λ z. is_some (get_or z s idle).active) (set_past u.terminals t (record { count = count_at u t; active = a }) past)
+      | inr past ↦ ap (λ z. is_some (get_or z s idle).active)
+          (set_past u.terminals t (record { count = count_at u t; active = a }) past)
     ]
 
-records_kept : (rs : List Logged) (a : Option OpenSegment) → is_some (option_map {T = OpenSegment} (λ o. record o { records = rs }) a) ≡ is_some a
+records_kept : (rs : List Logged) (a : Option OpenSegment)
+    → is_some (option_map {T = OpenSegment} (λ o. record o { records = rs }) a) ≡ is_some a
 records_kept rs None = refl
 records_kept rs (Some o) = refl
 
@@ -127,7 +154,8 @@ module _ (u w : SegmentLog) (t : ℕ) (rs : List Logged) (is : w ≡ with_record
   opens_are : (s : ℕ) → is_some (active_at w s) ≡ is_some (active_at u s)
   opens_are s = ap (λ v. is_some (active_at v s)) is ∙ opens_same u t new_active (records_kept rs (active_at u t)) s
 
-  pub replaced_chained : (links : Key → Option OwnedLink) → AreChained w (λ k. followed u (links k)) → AreChained w (λ k. followed w (links k))
+  pub replaced_chained : (links : Key → Option OwnedLink) → AreChained w (λ k. followed u (links k))
+      → AreChained w (λ k. followed w (links k))
   replaced_chained links c = same_chained u w links counts_are total_is commits_are c
 
   pub replaced_followed : (l : Option OwnedLink) → followed w l ≡ followed u l
@@ -140,18 +168,24 @@ module _ (u w : SegmentLog) (t : ℕ) (rs : List Logged) (is : w ≡ with_record
   replaced_owner n own =
       let c = counts_are n.terminal in
       let few = own.number in
-      record { number = omega (arith, c, few); is_open = λ less. opens_are n.terminal ∙ own.is_open (omega (arith, c, less)) }
+      record {
+        number = omega (arith, c, few);
+        is_open = λ less. opens_are n.terminal
+            ∙ own.is_open (omega (arith, c, less));
+      }
 
   pub replaced_moments : (ms : List MomentList) → AreMoments u ms → AreMoments w ms
   replaced_moments ms m = same_moments u w ms total_is commits_are (λ s some. sym (opens_are s) ∙ some) m
 
   pub replaced_horizon : horizon w ≡ horizon u
-  replaced_horizon = ap (λ n. n - length w.committed) total_is ∙ ap (λ (cs : List CommitSegment). total_count u - length cs) commits_are
+  replaced_horizon = ap (λ n. n - length w.committed) total_is ∙ ap
+      (λ (cs : List CommitSegment). total_count u - length cs) commits_are
 
 -- ---- a key's link is set
 
 -- a key gets a place, and those that come with it; each keeps its link, if it has one
-pub add_linked : {T E : Type 0} (r : Result T E) (u : SegmentLog) (old new : LinkMaps) (ms : List MomentList) (k : Key) → OnOk r (GivesPlaces old new k) → OnErr r (new ≡ old)
+pub add_linked : {T E : Type 0} (r : Result T E) (u : SegmentLog) (old new : LinkMaps) (ms : List MomentList) (k : Key)
+    → OnOk r (GivesPlaces old new k) → OnErr r (new ≡ old)
     → IsLinked u (links_of old) ms → IsLinked u (links_of new) ms
 add_linked (Ok x) u old new ms k given same c =
     let all : links_of new ≡ links_of old = fun_ext (given_links old new k given) in
@@ -159,13 +193,15 @@ add_linked (Ok x) u old new ms k given same c =
 add_linked (Err e) u old new ms k given same c = subst (λ maps. IsLinked u (links_of maps) ms) (sym same) c
 
 -- a key gives its empty place up; each keeps its link, if it has one
-pub given_up_linked : (u : SegmentLog) (old new : LinkMaps) (ms : List MomentList) (k : Key) → GivesUpLink old new k → IsLinked u (links_of old) ms → IsLinked u (links_of new) ms
+pub given_up_linked : (u : SegmentLog) (old new : LinkMaps) (ms : List MomentList) (k : Key) → GivesUpLink old new k
+    → IsLinked u (links_of old) ms → IsLinked u (links_of new) ms
 given_up_linked u old new ms k given_up c =
     let all : links_of new ≡ links_of old = fun_ext (given_up_links old new k given_up) in
     subst (λ ls. IsLinked u ls ms) (sym all) c
 
 -- that of each key which has one
-set_owned : (u : SegmentLog) (old new : LinkMaps) (k : Key) (l : Option OwnedLink) → LeadsTo old new k l → ((x : OwnedLink) → l ≡ Some x → IsOwner u x.owner)
+set_owned : (u : SegmentLog) (old new : LinkMaps) (k : Key) (l : Option OwnedLink) → LeadsTo old new k l
+    → ((x : OwnedLink) → l ≡ Some x → IsOwner u x.owner)
     → AreOwned u (links_of old) → AreOwned u (links_of new)
 set_owned u old new k l leads this owned j x is = go (is_key k j) (sym (leads.links j) ∙ is)
   where
@@ -173,7 +209,8 @@ set_owned u old new k l leads this owned j x is = go (is_key k j) (sym (leads.li
     go true e = this x e
     go false e = owned j x e
 
-followed_cond : (u : SegmentLog) (b : Bool) (l p : Option OwnedLink) → followed u (cond b l p) ≡ cond b (followed u l) (followed u p)
+followed_cond : (u : SegmentLog) (b : Bool) (l p : Option OwnedLink)
+    → followed u (cond b l p) ≡ cond b (followed u l) (followed u p)
 followed_cond u true l p = refl
 followed_cond u false l p = refl
 
@@ -182,32 +219,47 @@ followed_cond u false l p = refl
 next_is_owner : (u : SegmentLog) (t : ℕ) → IsSome (active_at u t) → IsOwner u (next_owner u t)
 next_is_owner u t some = record { number = omega arith; is_open = λ less. some }
 
-next_followed : (u : SegmentLog) (t : ℕ) (a : RecordAddress) → followed u (Some (record { address = a; owner = next_owner u t })) ≡ Some (record { address = a; holder = Open t })
+next_followed : (u : SegmentLog) (t : ℕ) (a : RecordAddress)
+    → followed u (Some (record { address = a; owner = next_owner u t })) ≡ Some
+    (record { address = a; holder = Open t })
 next_followed u t a =
-    ap (λ (o : Option Holder). option_map {T = Holder} (λ h. record { address = a; holder = h }) o) (owner.opened_holder u (next_owner u t) (omega arith))
+    ap (λ (o : Option Holder). option_map {T = Holder} (λ h. record { address = a; holder = h }) o)
+    (owner.opened_holder u (next_owner u t) (omega arith))
 
-module _ (u w : SegmentLog) (t : ℕ) (a : RecordAddress) (p : Previous) (b : Record) (some : IsSome (active_at u t)) (is : w ≡ pushed u t (logged a p b)) where
+module _ (u w : SegmentLog) (t : ℕ) (a : RecordAddress) (p : Previous) (b : Record) (some : IsSome (active_at u t))
+    (is : w ≡ pushed u t (logged a p b)) where
   abbrev more : List Logged
   more = logged a p b ∷ records_at u t
 
   -- a record more, to which its key's link leads
-  pub push_linked : (old new : LinkMaps) (ms : List MomentList) (k : Key) (n : SegmentOwner) → IsWhole u → link_from (Open t) p ≡ followed u (links_of old (record_key b)) → k ≡ record_key b
-      → n ≡ next_owner u t → LeadsTo old new k (Some (record { address = a; owner = n })) → IsLinked u (links_of old) ms → IsLinked w (links_of new) ms
+  pub push_linked : (old new : LinkMaps) (ms : List MomentList) (k : Key) (n : SegmentOwner) → IsWhole u
+      → link_from (Open t) p ≡ followed u (links_of old (record_key b)) → k ≡ record_key b
+      → n ≡ next_owner u t → LeadsTo old new k (Some (record { address = a; owner = n })) → IsLinked u (links_of old) ms
+      → IsLinked w (links_of new) ms
   push_linked old new ms k n whole leads own_key by any_sets c =
       let o = some_of (active_at u t) some in
       let l : Option OwnedLink = Some (record { address = a; owner = next_owner u t }) in
-      let keyed : LeadsTo old new (record_key b) (Some (record { address = a; owner = n })) = subst (λ (j : Key). LeadsTo old new j (Some (record { address = a; owner = n }))) own_key any_sets in
-      let sets : LeadsTo old new (record_key b) l = subst (λ (x : SegmentOwner). LeadsTo old new (record_key b) (Some (record { address = a; owner = x }))) by keyed in
-      let links : ◌≡◌ {A = Key → Option Link} (linked (λ j. followed u (links_of old j)) (record_key b) (Some (record { address = a; holder = Open t }))) (λ j. followed u (links_of new j)) =
-      fun_ext (λ j. ap (λ z. cond (is_key (record_key b) j) z (followed u (links_of old j))) (sym (next_followed u t a)) ∙ sym (followed_cond u (is_key (record_key b) j) l (links_of old j))
+      let keyed : LeadsTo old new (record_key b) (Some (record { address = a; owner = n })) =
+      subst (λ (j : Key). LeadsTo old new j (Some (record { address = a; owner = n }))) own_key any_sets in
+      let sets : LeadsTo old new (record_key b) l =
+      subst (λ (x : SegmentOwner). LeadsTo old new (record_key b) (Some (record { address = a; owner = x })))
+      by keyed in
+      let links : ◌≡◌ {A = Key → Option Link}
+      (linked (λ j. followed u (links_of old j)) (record_key b) (Some (record { address = a; holder = Open t })))
+      (λ j. followed u (links_of new j)) =
+      fun_ext (λ j. ap (λ z. cond (is_key (record_key b) j) z (followed u (links_of old j))) (sym (next_followed u t a))
+      ∙ sym (followed_cond u (is_key (record_key b) j) l (links_of old j))
       ∙ ap (followed u) (sym (sets.links j))) in
       let chained : AreChained w (λ j. followed u (links_of new j)) =
       subst (λ v. AreChained v (λ j. followed u (links_of new j))) (sym is)
-      (subst (AreChained (pushed u t (logged a p b))) links (calls.pushes u (λ j. followed u (links_of old j)) t o.0 (logged a p b) whole o.1 leads c.chained)) in
+      (subst (AreChained (pushed u t (logged a p b))) links
+      (calls.pushes u (λ j. followed u (links_of old j)) t o.0 (logged a p b) whole o.1 leads c.chained)) in
       record {
         chained = replaced_chained u w t more is (links_of new) chained;
         owned = replaced_owned u w t more is (links_of new)
-            (set_owned u old new (record_key b) l sets (λ x e. subst (λ (y : OwnedLink). IsOwner u y.owner) (owner.some_is _ x e) (next_is_owner u t some)) c.owned);
+            (set_owned u old new (record_key b) l sets
+            (λ x e. subst (λ (y : OwnedLink). IsOwner u y.owner) (owner.some_is _ x e) (next_is_owner u t some))
+            c.owned);
         moments = replaced_moments u w t more is ms c.moments;
       }
 
@@ -231,7 +283,8 @@ held_by_all : (P : Holder → Type 0) (h : Holder) (rs : List Logged) → P h �
 held_by_all P h [] p = tt
 held_by_all P h (r ∷ rs) p = (p, held_by_all P h rs p)
 
-held_open_all : (P : Holder → Type 0) (active : ℕ → List Logged) (ts : List ℕ) → ((s : ℕ) → (active s ≡ []) ⊎ P (Open s)) → AllHeld P (held_open active ts)
+held_open_all : (P : Holder → Type 0) (active : ℕ → List Logged) (ts : List ℕ)
+    → ((s : ℕ) → (active s ≡ []) ⊎ P (Open s)) → AllHeld P (held_open active ts)
 held_open_all P active [] each = tt
 held_open_all P active (s ∷ ts) each =
     held_append P (held_by (Open s) (active s)) (held_open active ts)
@@ -241,10 +294,12 @@ held_open_all P active (s ∷ ts) each =
     ])
     (held_open_all P active ts each)
 
-held_commits_all : (P : Holder → Type 0) (m : ℕ) (cs : List CommitSegment) → ((n : ℕ) → n ≤ m → P (At n)) → AllHeld P (held_commits m cs)
+held_commits_all : (P : Holder → Type 0) (m : ℕ) (cs : List CommitSegment) → ((n : ℕ) → n ≤ m → P (At n))
+    → AllHeld P (held_commits m cs)
 held_commits_all P m [] each = tt
 held_commits_all P m (c ∷ cs) each =
-    held_append P (held_by (At m) c.records) (held_commits (m - 1) cs) (held_by_all P (At m) c.records (each m (omega arith)))
+    held_append P (held_by (At m) c.records) (held_commits (m - 1) cs)
+    (held_by_all P (At m) c.records (each m (omega arith)))
     (held_commits_all P (m - 1) cs (λ n low. each n (omega (arith, low))))
 
 held_key : (P : Holder → Type 0) (k : Key) (xs : List Held) → AllHeld P xs → AllHeld P (of_key k xs)
@@ -256,11 +311,14 @@ held_key P k (x ∷ xs) a = go (is_key k (record_key x.logged.before)) (held_key
     go false rest = rest
 
 -- what holds of all holders holds of a link that leads to a record
-met_holder : (P : Holder → Type 0) (h : ℕ) (l : Link) (xs : List Held) → AllHeld P xs → IsChain h (Some l) xs → IsEnd h (Some l) ⊎ P l.holder
+met_holder : (P : Holder → Type 0) (h : ℕ) (l : Link) (xs : List Held) → AllHeld P xs → IsChain h (Some l) xs
+    → IsEnd h (Some l) ⊎ P l.holder
 met_holder P h l [] a c = inl c
-met_holder P h l (x ∷ xs) a c = inr (subst P (sym (ap (λ (z : Link). z.holder) (owner.some_is l (link_to x) c.0.leads))) a.0)
+met_holder P h l (x ∷ xs) a c =
+    inr (subst P (sym (ap (λ (z : Link). z.holder) (owner.some_is l (link_to x) c.0.leads))) a.0)
 
-end_made : (u : SegmentLog) (h : Holder) → IsEnd (horizon u) (Some (record { address = record { extent = 0; offset = 0 }; holder = h })) → IsMadeBy u h
+end_made : (u : SegmentLog) (h : Holder)
+    → IsEnd (horizon u) (Some (record { address = record { extent = 0; offset = 0 }; holder = h })) → IsMadeBy u h
 end_made u (Open t) e = tt
 end_made u (At m) e = omega (arith, e)
 
@@ -269,7 +327,8 @@ chain_made u links k c = go (links k) (c k)
   where
     all : AllHeld (IsMadeBy u) (of_key k (held u))
     all = held_key (IsMadeBy u) k (held u)
-        (held_append (IsMadeBy u) (held_open (records_at u) (all_below system terminal_limit)) (held_commits (total_count u) u.committed)
+        (held_append (IsMadeBy u) (held_open (records_at u) (all_below system terminal_limit))
+        (held_commits (total_count u) u.committed)
         (held_open_all (IsMadeBy u) (records_at u) (all_below system terminal_limit) (λ s. inr tt))
         (held_commits_all (IsMadeBy u) (total_count u) u.committed (λ n low. low)))
 
@@ -290,14 +349,17 @@ made_same w u (Some l) total made = go l.holder made
     go (At n) m = subst (λ x. n ≤ x) total m
 
 -- no link leads to a record of a terminal that has none
-not_open : (u : SegmentLog) (links : Key → Option Link) (k : Key) (t : ℕ) (l : Link) → records_at u t ≡ [] → AreChained u links → links k ≡ Some l → l.holder ≡ Open t → ⊥
+not_open : (u : SegmentLog) (links : Key → Option Link) (k : Key) (t : ℕ) (l : Link) → records_at u t ≡ []
+    → AreChained u links → links k ≡ Some l → l.holder ≡ Open t → ⊥
 not_open u links k t l empty c is opens =
     let all : AllHeld (λ h. h ≢ Open t) (of_key k (held u)) =
     held_key (λ h. h ≢ Open t) k (held u)
-    (held_append (λ h. h ≢ Open t) (held_open (records_at u) (all_below system terminal_limit)) (held_commits (total_count u) u.committed)
+    (held_append (λ h. h ≢ Open t) (held_open (records_at u) (all_below system terminal_limit))
+    (held_commits (total_count u) u.committed)
     (held_open_all (λ h. h ≢ Open t) (records_at u) (all_below system terminal_limit) (λ s. other s))
     (held_commits_all (λ h. h ≢ Open t) (total_count u) u.committed (λ n low e. cc))) in
-    elim (met_holder (λ h. h ≢ Open t) (horizon u) l (of_key k (held u)) all (subst (λ z. IsChain (horizon u) z (of_key k (held u))) is (c k))) [
+    elim (met_holder (λ h. h ≢ Open t) (horizon u) l (of_key k (held u)) all
+    (subst (λ z. IsChain (horizon u) z (of_key k (held u))) is (c k))) [
       | inl end ↦ open_end l.holder opens end
       | inr ne ↦ ne opens
     ]
@@ -306,7 +368,10 @@ not_open u links k t l empty c is opens =
     same_terminal s e = cc
 
     other : (s : ℕ) → (records_at u s ≡ []) ⊎ (Open s ≢ Open t)
-    other s = elim (cases_eq s t) [ inl e ↦ inl (ap (records_at u) e ∙ empty) | inr ne ↦ inr (λ e. ne (same_terminal s e)) ]
+    other s = elim (cases_eq s t) [
+      | inl e ↦ inl (ap (records_at u) e ∙ empty)
+      | inr ne ↦ inr (λ e. ne (same_terminal s e))
+    ]
 
     open_end : (h : Holder) → h ≡ Open t → IsEnd (horizon u) (Some (record { address = l.address; holder = h })) → ⊥
     open_end (Open s) e end = end
@@ -328,7 +393,8 @@ append_none : {A : Type 0} (xs ys : List A) → xs ++ ys ≡ [] → (xs ≡ []) 
 append_none [] ys e = (refl, e)
 append_none (x ∷ xs) ys e = cc
 
-none_own : (k : Key) (f : ℕ → List Logged) (t n : ℕ) (rest : List Held) → t < n → chain_open k f n rest ≡ [] → own k (Open t) (f t) ≡ []
+none_own : (k : Key) (f : ℕ → List Logged) (t n : ℕ) (rest : List Held) → t < n → chain_open k f n rest ≡ []
+    → own k (Open t) (f t) ≡ []
 none_own k f t zero rest less e = absurd (omega (arith, less))
 none_own k f t (suc m) rest less e =
     let parts = append_none (own k (Open m) (f m)) (chain_open k f m rest) e in
@@ -340,11 +406,13 @@ none_own k f t (suc m) rest less e =
 first_own : (r : Logged) (rs : List Logged) (h : Holder) → own (record_key r.before) h (r ∷ rs) ≡ [] → ⊥
 first_own r rs h e = go (is_key (record_key r.before) (record_key r.before)) (key_refl (record_key r.before)) e
   where
-    go : (b : Bool) → b ≡ true → cond b (record { logged = r; holder = h } ∷ own (record_key r.before) h rs) (own (record_key r.before) h rs) ≡ [] → ⊥
+    go : (b : Bool) → b ≡ true → cond b (record { logged = r; holder = h } ∷ own (record_key r.before) h rs)
+        (own (record_key r.before) h rs) ≡ [] → ⊥
     go true q e = cc
     go false q e = cc
 
-met_link : (u : SegmentLog) (links : Key → Option Link) (t : ℕ) (r : Logged) (rs : List Logged) → IsWhole u → t < terminal_limit → records_at u t ≡ r ∷ rs
+met_link : (u : SegmentLog) (links : Key → Option Link) (t : ℕ) (r : Logged) (rs : List Logged) → IsWhole u
+    → t < terminal_limit → records_at u t ≡ r ∷ rs
     → AreChained u links → IsSome (links (record_key r.before))
 met_link u links t r rs whole less are c = go (links (record_key r.before)) refl
   where
@@ -354,8 +422,11 @@ met_link u links t r rs whole less are c = go (links (record_key r.before)) refl
         let k : Key = record_key r.before in
         let commits : List Held = held_commits (total_count u) u.committed in
         let none : of_key k (held u) ≡ [] = calls.ends u links k whole c (subst (IsEnd (horizon u)) (sym q) tt) in
-        let apart : chain_open k (records_at u) terminal_limit (of_key k commits) ≡ [] = sym (chain-open k (records_at u) terminal_limit commits) ∙ none in
-        absurd (first_own r rs (Open t) (subst (λ xs. own k (Open t) xs ≡ []) are (none_own k (records_at u) t terminal_limit (of_key k commits) less apart)))
+        let apart : chain_open k (records_at u) terminal_limit (of_key k commits) ≡ [] =
+        sym (chain-open k (records_at u) terminal_limit commits) ∙ none in
+        absurd (first_own r rs (Open t)
+        (subst (λ xs. own k (Open t) xs ≡ []) are
+        (none_own k (records_at u) t terminal_limit (of_key k commits) less apart)))
 
 link_placed : (u : SegmentLog) (p : Option (Option OwnedLink)) → IsSome (followed u (link_in p)) → IsSome p
 link_placed u None e = e
@@ -375,29 +446,39 @@ newest_is : (rs : List Logged) (p : Previous) (b : Record) → Some (p, b) ≡ n
 newest_is [] p b e = cc
 newest_is (r ∷ rs) p b e =
     let both : ◌≡◌ {A = Previous × Record} (p, b) (r.previous, r.before) = cc in
-    record { first = r; older = rs; are = refl; previous = sym (ap (λ (x : Previous × Record). x.0) both); before = sym (ap (λ (x : Previous × Record). x.1) both) }
+    record {
+      first = r;
+      older = rs;
+      are = refl;
+      previous = sym (ap (λ (x : Previous × Record). x.0) both);
+      before = sym (ap (λ (x : Previous × Record). x.1) both);
+    }
 
 pub none_newest : (rs : List Logged) → None ≡ newest_of rs → rs ≡ []
 none_newest [] e = refl
 none_newest (r ∷ rs) e = cc
 
-pub none_given_back : (t : ℕ) (rs : List Logged) (s s' : UndoState) → None ≡ newest_of rs → s'.links ≡ s.links → GivesBack s s' t rs
+pub none_given_back : (t : ℕ) (rs : List Logged) (s s' : UndoState) → None ≡ newest_of rs → s'.links ≡ s.links
+    → GivesBack s s' t rs
 none_given_back t [] s s' e same = same
 none_given_back t (r ∷ rs) s s' e same = cc
 
-module _ (u : SegmentLog) (old : LinkMaps) (t : ℕ) (p : Previous) (b : Record) (some : IsSome (active_at u t)) (is : Some (p, b) ≡ newest_of (records_at u t)) where
+module _ (u : SegmentLog) (old : LinkMaps) (t : ℕ) (p : Previous) (b : Record) (some : IsSome (active_at u t))
+    (is : Some (p, b) ≡ newest_of (records_at u t)) where
   abbrev newest : IsNewest (records_at u t) p b
   newest = newest_is (records_at u t) p b is
 
   -- its key has a place for a link
-  pub newest_placed : (k : Key) → k ≡ record_key b → IsWhole u → AreChained u (λ j. followed u (links_of old j)) → HasPlace old k
+  pub newest_placed : (k : Key) → k ≡ record_key b → IsWhole u → AreChained u (λ j. followed u (links_of old j))
+      → HasPlace old k
   newest_placed k own whole c =
       let o = some_of (active_at u t) some in
       let less : t < terminal_limit = subst (λ n. t < n) whole.terminals (known u t o.0 o.1) in
       let n = newest in
       let key : record_key n.first.before ≡ k = ap (λ (x : Record). record_key x) n.before ∙ sym own in
       subst (HasPlace old) key
-      (link_placed u (place_of old (record_key n.first.before)) (met_link u (λ j. followed u (links_of old j)) t n.first n.older whole less n.are c))
+      (link_placed u (place_of old (record_key n.first.before))
+      (met_link u (λ j. followed u (links_of old j)) t n.first n.older whole less n.are c))
 
   -- what its previous leads to was made
   pub newest_made : IsWhole u → AreChained u (λ j. followed u (links_of old j)) → IsMade u (link_from (Open t) p)
@@ -405,12 +486,17 @@ module _ (u : SegmentLog) (old : LinkMaps) (t : ℕ) (p : Previous) (b : Record)
       let n = newest in
       let popped_chained = calls.pops u (λ j. followed u (links_of old j)) t n.first n.older whole n.are c in
       let total : total_count (popped u t) ≡ total_count u = total_is u (popped u t) t (drop 1 (records_at u t)) refl in
-      let at_key : linked (λ j. followed u (links_of old j)) (record_key n.first.before) (link_from (Open t) n.first.previous) (record_key n.first.before) ≡ link_from (Open t) n.first.previous =
-      ap (λ z. cond z (link_from (Open t) n.first.previous) (followed u (links_of old (record_key n.first.before)))) (key_refl (record_key n.first.before)) in
-      let made : IsMade (popped u t) (link_from (Open t) n.first.previous) = subst (IsMade (popped u t)) at_key (chain_made (popped u t) _ (record_key n.first.before) popped_chained) in
-      subst (λ (x : Previous). IsMade u (link_from (Open t) x)) n.previous (made_same (popped u t) u (link_from (Open t) n.first.previous) total made)
+      let at_key : linked (λ j. followed u (links_of old j)) (record_key n.first.before)
+      (link_from (Open t) n.first.previous) (record_key n.first.before) ≡ link_from (Open t) n.first.previous =
+      ap (λ z. cond z (link_from (Open t) n.first.previous) (followed u (links_of old (record_key n.first.before))))
+      (key_refl (record_key n.first.before)) in
+      let made : IsMade (popped u t) (link_from (Open t) n.first.previous) =
+      subst (IsMade (popped u t)) at_key (chain_made (popped u t) _ (record_key n.first.before) popped_chained) in
+      subst (λ (x : Previous). IsMade u (link_from (Open t) x)) n.previous
+      (made_same (popped u t) u (link_from (Open t) n.first.previous) total made)
 
-  pub given_back : (new : LinkMaps) (w : SegmentLog) (l : Option OwnedLink) → w ≡ popped u t → SetsLink old new (record_key b) l
+  pub given_back : (new : LinkMaps) (w : SegmentLog) (l : Option OwnedLink) → w ≡ popped u t
+      → SetsLink old new (record_key b) l
       → followed u l ≡ unended (horizon u) (link_from (Open t) p)
       → GivesBack (record { log = u; links = old }) (record { log = w; links = new }) t (records_at u t)
   given_back new w l gone sets leads =
@@ -422,10 +508,12 @@ module _ (u : SegmentLog) (old : LinkMaps) (t : ℕ) (p : Previous) (b : Record)
       record {
         link = l;
         set = subst (λ (x : Record). SetsLink old new (record_key x) l) (sym n.before) sets;
-        leads = subst (λ (x : Previous). followed w l ≡ unended (horizon w) (link_from (Open t) x)) (sym n.previous) now;
+        leads = subst (λ (x : Previous). followed w l ≡ unended (horizon w) (link_from (Open t) x)) (sym n.previous)
+            now;
       }
 
-  pub pop_linked : (w : SegmentLog) (new : LinkMaps) (ms : List MomentList) (l : Option OwnedLink) → IsWhole u → w ≡ popped u t → SetsLink old new (record_key b) l
+  pub pop_linked : (w : SegmentLog) (new : LinkMaps) (ms : List MomentList) (l : Option OwnedLink) → IsWhole u
+      → w ≡ popped u t → SetsLink old new (record_key b) l
       → followed u l ≡ unended (horizon u) (link_from (Open t) p) → ((x : OwnedLink) → l ≡ Some x → IsOwner u x.owner)
       → IsLinked u (links_of old) ms → IsLinked w (links_of new) ms
   pop_linked w new ms l whole gone sets leads owner_of_l c =
@@ -434,27 +522,37 @@ module _ (u : SegmentLog) (old : LinkMaps) (t : ℕ) (p : Previous) (b : Record)
       let total = total_is u w t rs gone in
       let commits = commits_are u w t rs gone in
       let left : IsWhole w = whole_still u w t rs gone whole in
-      let before : Key → Option Link = linked (λ j. followed u (links_of old j)) (record_key b) (link_from (Open t) p) in
-      let links : ◌≡◌ {A = Key → Option Link} (linked (λ j. followed u (links_of old j)) (record_key n.first.before) (link_from (Open t) n.first.previous)) before =
-      ap (λ (x : Record). linked (λ j. followed u (links_of old j)) (record_key x) (link_from (Open t) n.first.previous)) n.before
-      ∙ ap (λ (x : Previous). linked (λ j. followed u (links_of old j)) (record_key b) (link_from (Open t) x)) n.previous in
+      let before : Key → Option Link = linked (λ j. followed u (links_of old j)) (record_key b)
+      (link_from (Open t) p) in
+      let links : ◌≡◌ {A = Key → Option Link}
+      (linked (λ j. followed u (links_of old j)) (record_key n.first.before) (link_from (Open t) n.first.previous))
+      before =
+      ap (λ (x : Record). linked (λ j. followed u (links_of old j)) (record_key x)
+      (link_from (Open t) n.first.previous)) n.before
+      ∙ ap (λ (x : Previous). linked (λ j. followed u (links_of old j)) (record_key b) (link_from (Open t) x))
+      n.previous in
       let chained : AreChained w before =
       subst (λ v. AreChained v before) (sym gone)
-      (subst (AreChained (popped u t)) links (calls.pops u (λ j. followed u (links_of old j)) t n.first n.older whole n.are c.chained)) in
+      (subst (AreChained (popped u t)) links
+      (calls.pops u (λ j. followed u (links_of old j)) t n.first n.older whole n.are c.chained)) in
       record {
-        chained = owner.chained_anew w before (λ j. followed w (links_of new j)) left chained (λ j. by_key (is_key (record_key b) j) j ((set_leads old new (record_key b) l sets).links j));
-        owned = replaced_owned u w t rs gone (links_of new) (set_owned u old new (record_key b) l (set_leads old new (record_key b) l sets) owner_of_l c.owned);
+        chained = owner.chained_anew w before (λ j. followed w (links_of new j)) left chained
+            (λ j. by_key (is_key (record_key b) j) j ((set_leads old new (record_key b) l sets).links j));
+        owned = replaced_owned u w t rs gone (links_of new)
+            (set_owned u old new (record_key b) l (set_leads old new (record_key b) l sets) owner_of_l c.owned);
         moments = replaced_moments u w t rs gone ms c.moments;
       }
     where
       by_key : (x : Bool) (j : Key) → links_of new j ≡ cond x l (links_of old j)
           → (followed w (links_of new j) ≡ cond x (link_from (Open t) p) (followed u (links_of old j)))
-          ⊎ (IsEnd (horizon w) (cond x (link_from (Open t) p) (followed u (links_of old j))) × (followed w (links_of new j) ≡ None))
+          ⊎ (IsEnd (horizon w) (cond x (link_from (Open t) p) (followed u (links_of old j)))
+          × (followed w (links_of new j) ≡ None))
       by_key true j e =
           owner.unended_or_end (horizon w) (link_from (Open t) p) (followed w (links_of new j))
           (ap (followed w) e ∙ replaced_followed u w t (drop 1 (records_at u t)) gone l ∙ leads
           ∙ ap (λ h. unended h (link_from (Open t) p)) (sym (replaced_horizon u w t (drop 1 (records_at u t)) gone)))
-      by_key false j e = inl (ap (followed w) e ∙ replaced_followed u w t (drop 1 (records_at u t)) gone (links_of old j))
+      by_key false j e = inl
+          (ap (followed w) e ∙ replaced_followed u w t (drop 1 (records_at u t)) gone (links_of old j))
 
 -- the commit that this is of
 pub record IsCommit (found : Option CommitSegment) (n : SegmentOwner) : Type 0 where
@@ -467,7 +565,12 @@ pub commit_is : (o : Option CommitSegment) (n : SegmentOwner) → Some n ≡ opt
 commit_is None n e = cc
 commit_is (Some c) n e =
     let same : n ≡ owner_of c = owner.some_is n (owner_of c) e in
-    record { commit = c; are = refl; terminal = sym (ap (λ (x : SegmentOwner). x.terminal) same); number = sym (ap (λ (x : SegmentOwner). x.number) same) }
+    record {
+      commit = c;
+      are = refl;
+      terminal = sym (ap (λ (x : SegmentOwner). x.terminal) same);
+      number = sym (ap (λ (x : SegmentOwner). x.number) same);
+    }
 
 -- ---- the newest commit
 
@@ -503,7 +606,8 @@ some_inside (d ∷ cs) (suc i) c e = let inside = some_inside cs i c e in omega 
 
 -- ---- the moments of one terminal replaced
 
-module _ (u : SegmentLog) (links : Key → Option OwnedLink) (ms : List MomentList) (c : IsLinked u links ms) (t i : ℕ) (at : i ≡ t) (high : i ≤ 64) where
+module _ (u : SegmentLog) (links : Key → Option OwnedLink) (ms : List MomentList) (c : IsLinked u links ms) (t i : ℕ)
+    (at : i ≡ t) (high : i ≤ 64) where
   inside : i < length ms
   inside = let size = c.moments.size in omega (arith, size, high)
 
@@ -521,14 +625,18 @@ module _ (u : SegmentLog) (links : Key → Option OwnedLink) (ms : List MomentLi
 
   replaced_list : (w : SegmentLog) (y : MomentList) → y.moments ≡ moments_of t (total_count w) w.committed
       → ((s : ℕ) → s ≢ t → moments_of s (total_count w) w.committed ≡ moments_of s (total_count u) u.committed)
-      → (IsSome (active_at w t) → 1 ≤ y.room) → ((s : ℕ) → s ≢ t → IsSome (active_at w s) → IsSome (active_at u s)) → AreMoments w (set ms i y)
+      → (IsSome (active_at w t) → 1 ≤ y.room) → ((s : ℕ) → s ≢ t → IsSome (active_at w s) → IsSome (active_at u s))
+      → AreMoments w (set ms i y)
   replaced_list w y here there room others =
-      let now : moments_at (set ms i y) t ≡ y = ap (moments_at (set ms i y)) (sym at) ∙ get_or-set_same ms i y no_moments inside in
-      let still : (s : ℕ) → s ≢ t → moments_at (set ms i y) s ≡ moments_at ms s = (λ s ne. get_or-set_other ms i s y no_moments (λ e. ne (e ∙ at))) in
+      let now : moments_at (set ms i y) t ≡ y = ap (moments_at (set ms i y)) (sym at)
+      ∙ get_or-set_same ms i y no_moments inside in
+      let still : (s : ℕ) → s ≢ t → moments_at (set ms i y) s ≡ moments_at ms s =
+      (λ s ne. get_or-set_other ms i s y no_moments (λ e. ne (e ∙ at))) in
       record {
         size = length-set ms i y ∙ c.moments.size;
         kept = λ s less. elim (cases_eq s t) [
-          | inl e ↦ subst (λ z. (moments_at (set ms i y) z).moments ≡ moments_of z (total_count w) w.committed) (sym e) (ap (λ (z : MomentList). z.moments) now ∙ here)
+          | inl e ↦ subst (λ z. (moments_at (set ms i y) z).moments ≡ moments_of z (total_count w) w.committed) (sym e)
+              (ap (λ (z : MomentList). z.moments) now ∙ here)
           | inr ne ↦ ap (λ (z : MomentList). z.moments) (still s ne) ∙ c.moments.kept s less ∙ sym (there s ne)
         ];
         room = λ s some. elim (cases_eq s t) [
@@ -544,24 +652,30 @@ module _ (u : SegmentLog) (links : Key → Option OwnedLink) (ms : List MomentLi
   opens_all s some closed =
       elim (cases_eq s t) [
         | inl e ↦ let none = subst (λ z. IsSome {T = OpenSegment} z) (ap (active_at u) e ∙ closed) some in cc
-        | inr ne ↦ subst (λ z. IsSome {T = OpenSegment} z) (sym (active_there u t (Some (record { terminal = t; number = suc (count_at u t); records = [] })) s ne)) some
+        | inr ne ↦ subst (λ z. IsSome {T = OpenSegment} z)
+            (sym (active_there u t (Some (record { terminal = t; number = suc (count_at u t); records = [] })) s ne))
+            some
       ]
 
-  pub open_linked : (w : SegmentLog) (x y : MomentList) → active_at u t ≡ None → w ≡ opened u t → x ≡ get_or ms i x → y.moments ≡ x.moments → 1 ≤ y.room
+  pub open_linked : (w : SegmentLog) (x y : MomentList) → active_at u t ≡ None → w ≡ opened u t → x ≡ get_or ms i x
+      → y.moments ≡ x.moments → 1 ≤ y.room
       → IsLinked w links (set ms i y)
   open_linked w x y closed is read same room =
       let a : Option OpenSegment = Some (record { terminal = t; number = suc (count_at u t); records = [] }) in
       subst (λ v. IsLinked v links (set ms i y)) (sym is)
       record {
-        chained = same_chained u (opened u t) links (owner.count_same u t a) (owner.total_kept u t a) refl (calls.opens u (λ k. followed u (links k)) t closed c.chained);
+        chained = same_chained u (opened u t) links (owner.count_same u t a) (owner.total_kept u t a) refl
+            (calls.opens u (λ k. followed u (links k)) t closed c.chained);
         owned = same_owned u (opened u t) links (owner.count_same u t a) (λ s some. opens_all s some closed) c.owned;
-        moments = replaced_list (opened u t) y (same ∙ moments_are x read ∙ ap (λ n. moments_of t n u.committed) (sym (owner.total_kept u t a)))
+        moments = replaced_list (opened u t) y (same ∙ moments_are x read
+            ∙ ap (λ n. moments_of t n u.committed) (sym (owner.total_kept u t a)))
             (λ s ne. ap (λ n. moments_of s n u.committed) (owner.total_kept u t a)) (λ some. room)
             (λ s ne some. subst (λ z. IsSome {T = OpenSegment} z) (active_there u t a s ne) some);
       }
 
   -- or not: memory was refused
-  pub open_refused : (w : SegmentLog) (x y : MomentList) → w ≡ u → x ≡ get_or ms i x → y.moments ≡ x.moments → (IsSome (active_at u t) → 1 ≤ y.room) → IsLinked w links (set ms i y)
+  pub open_refused : (w : SegmentLog) (x y : MomentList) → w ≡ u → x ≡ get_or ms i x → y.moments ≡ x.moments
+      → (IsSome (active_at u t) → 1 ≤ y.room) → IsLinked w links (set ms i y)
   open_refused w x y is read same room =
       subst (λ v. IsLinked v links (set ms i y)) (sym is)
       record {
@@ -570,14 +684,16 @@ module _ (u : SegmentLog) (links : Key → Option OwnedLink) (ms : List MomentLi
         moments = replaced_list u y (same ∙ moments_are x read) (λ s ne. refl) room (λ s ne some. some);
       }
 
-  pub open_either : {T E : Type 0} (r : Result T E) (w : SegmentLog) (x y : MomentList) → active_at u t ≡ None → OnOk r (w ≡ opened u t) → OnErr r (w ≡ u)
+  pub open_either : {T E : Type 0} (r : Result T E) (w : SegmentLog) (x y : MomentList) → active_at u t ≡ None
+      → OnOk r (w ≡ opened u t) → OnErr r (w ≡ u)
       → x ≡ get_or ms i x → y.moments ≡ x.moments → 1 ≤ y.room → IsLinked w links (set ms i y)
   open_either (Ok v) w x y closed ok err read same room = open_linked w x y closed ok read same room
   open_either (Err e) w x y closed ok err read same room = open_refused w x y err read same (λ s. room)
 
   -- ---- a commit
 
-  pub seal_linked : (w : SegmentLog) (x y : MomentList) (m : ℕ) (q : Request) (r : Reply) → IsWhole u → IsSome (active_at u t) → w ≡ sealed u t q r → m ≡ total_count u + 1
+  pub seal_linked : (w : SegmentLog) (x y : MomentList) (m : ℕ) (q : Request) (r : Reply) → IsWhole u
+      → IsSome (active_at u t) → w ≡ sealed u t q r → m ≡ total_count u + 1
       → x ≡ get_or ms i x → y.moments ≡ m ∷ x.moments → IsLinked w links (set ms i y)
   seal_linked w x y m q r whole some is moment read more =
       let o = some_of (active_at u t) some in
@@ -587,16 +703,20 @@ module _ (u : SegmentLog) (links : Key → Option OwnedLink) (ms : List MomentLi
         chained = owner.sealed_chained u t o.0 q r o.1 links whole c.owned c.chained;
         owned = owner.sealed_owned u t o.0 q r o.1 links c.owned;
         moments = replaced_list (sealed u t q r) y
-            (more ∙ ap (λ n. n ∷ x.moments) next ∙ ap (λ xs. suc (total_count u) ∷ xs) (moments_are x read) ∙ sym (owner.sealed_moments u t o.0 q r o.1 t refl))
+            (more ∙ ap (λ n. n ∷ x.moments) next ∙ ap (λ xs. suc (total_count u) ∷ xs) (moments_are x read)
+            ∙ sym (owner.sealed_moments u t o.0 q r o.1 t refl))
             (λ s ne. owner.sealed_others u t o.0 q r o.1 s ne)
-            (λ now. let none : active_at (sealed u t q r) t ≡ None = owner.sealed_closed u t o.0 q r o.1 in let off = subst (λ z. IsSome {T = OpenSegment} z) none now in cc)
+            (λ now. let none : active_at (sealed u t q r) t ≡ None = owner.sealed_closed u t o.0 q r o.1 in
+            let off = subst (λ z. IsSome {T = OpenSegment} z) none now in cc)
             (λ s ne now. subst (λ z. IsSome {T = OpenSegment} z) (owner.sealed_active u t o.0 q r o.1 s ne) now);
       }
 
   -- ---- the oldest commit given up
 
-  pub oldest_linked : (w : SegmentLog) (x y : MomentList) (n : SegmentOwner) → IsWhole u → Some n ≡ option_map owner_of (slice_get u.committed (length u.committed - 1)) → n.terminal ≡ t
-      → w ≡ with_newest (length u.committed - 1) u → x ≡ get_or ms i x → y.moments ≡ take (length x.moments - 1) x.moments → x.room ≤ y.room → IsLinked w links (set ms i y)
+  pub oldest_linked : (w : SegmentLog) (x y : MomentList) (n : SegmentOwner) → IsWhole u
+      → Some n ≡ option_map owner_of (slice_get u.committed (length u.committed - 1)) → n.terminal ≡ t
+      → w ≡ with_newest (length u.committed - 1) u → x ≡ get_or ms i x
+      → y.moments ≡ take (length x.moments - 1) x.moments → x.room ≤ y.room → IsLinked w links (set ms i y)
   oldest_linked w x y n whole found by is read less room =
       let oldest = commit_is (slice_get u.committed (length u.committed - 1)) n found in
       let gone = owner.oldest_gone t (total_count u) u.committed oldest.commit oldest.are in
@@ -607,15 +727,18 @@ module _ (u : SegmentLog) (links : Key → Option OwnedLink) (ms : List MomentLi
         owned = same_owned u (with_newest (length u.committed - 1) u) links (λ s. refl) (λ s some. some) c.owned;
         moments = replaced_list (with_newest (length u.committed - 1) u) y
             (less ∙ ap (λ (xs : List ℕ). take (length xs - 1) xs) (moments_are x read) ∙ sym (gone.0 whose).less)
-            (λ s ne. (owner.oldest_gone s (total_count u) u.committed oldest.commit oldest.are).1 (λ e. ne (e ∙ sym whose)))
+            (λ s ne. (owner.oldest_gone s (total_count u) u.committed oldest.commit oldest.are).1
+            (λ e. ne (e ∙ sym whose)))
             (λ some. let before = has_room x read some in omega (arith, before, room)) (λ s ne some. some);
       }
 
   -- ---- a commit opened again
 
-  pub reopen_linked : (w : SegmentLog) (x y : MomentList) (n : SegmentOwner) (later : ℕ) → IsWhole u → ((s : ℕ) → active_at u s ≡ None) → Some n ≡ option_map owner_of (slice_get u.committed 0)
+  pub reopen_linked : (w : SegmentLog) (x y : MomentList) (n : SegmentOwner) (later : ℕ) → IsWhole u
+      → ((s : ℕ) → active_at u s ≡ None) → Some n ≡ option_map owner_of (slice_get u.committed 0)
       → n.terminal ≡ t → 1 ≤ n.number → n.number + later ≡ count_at u n.terminal → w ≡ reopened u u.committed
-      → x ≡ get_or ms i x → y.moments ≡ drop 1 x.moments → y.room + length y.moments ≡ x.room + length x.moments → IsLinked w links (set ms i y)
+      → x ≡ get_or ms i x → y.moments ≡ drop 1 x.moments → y.room + length y.moments ≡ x.room + length x.moments
+      → IsLinked w links (set ms i y)
   reopen_linked w x y n later whole closed found by first sum is read less room =
       let last = last_is u.committed n found in
       let d = last.newest in
@@ -633,22 +756,26 @@ module _ (u : SegmentLog) (links : Key → Option OwnedLink) (ms : List MomentLi
         moments = replaced_list (reopened u (d ∷ last.older)) y (less ∙ ap (drop 1) was)
             (λ s ne. sym (owner.was_others u d last.older last.are whole some closed s (λ e. ne (e ∙ sym whose))))
             (λ now. omega (arith, longer, shorter, room))
-            (λ s ne now. subst (λ z. IsSome {T = OpenSegment} z) (owner.back_active u d last.older last.are whole some closed s (λ e. ne (e ∙ sym whose))) now);
+            (λ s ne now. subst (λ z. IsSome {T = OpenSegment} z)
+            (owner.back_active u d last.older last.are whole some closed s (λ e. ne (e ∙ sym whose))) now);
       }
 
   -- ---- what became of a transaction
 
-  pub holder_found : (x : MomentList) (n : SegmentOwner) (later : ℕ) (m : Option ℕ) → n.terminal ≡ t → n.number ≤ count_at u n.terminal → later ≡ count_at u n.terminal - n.number
+  pub holder_found : (x : MomentList) (n : SegmentOwner) (later : ℕ) (m : Option ℕ) → n.terminal ≡ t
+      → n.number ≤ count_at u n.terminal → later ≡ count_at u n.terminal - n.number
       → x ≡ get_or ms i x → m ≡ slice_get x.moments later → holder_of u n ≡ option_map At m
   holder_found x n later m by made is read found =
       owner.made_holder u n made
-      ∙ ap (λ s. option_map At (slice_get (moments_of s (total_count u) u.committed) (count_at u n.terminal - n.number))) by
+      ∙ ap (λ s. option_map At
+      (slice_get (moments_of s (total_count u) u.committed) (count_at u n.terminal - n.number))) by
       ∙ ap (λ xs. option_map At (slice_get xs (count_at u n.terminal - n.number))) (sym (moments_are x read))
       ∙ ap (λ j. option_map At (slice_get x.moments j)) (sym is) ∙ ap (option_map At) (sym found)
 
 -- ---- a segment given up
 
-drop_owned : (u : SegmentLog) (t : ℕ) (links : Key → Option OwnedLink) → records_at u t ≡ [] → AreChained u (λ k. followed u (links k)) → AreOwned u links → AreOwned (dropped u t) links
+drop_owned : (u : SegmentLog) (t : ℕ) (links : Key → Option OwnedLink) → records_at u t ≡ []
+    → AreChained u (λ k. followed u (links k)) → AreOwned u links → AreOwned (dropped u t) links
 drop_owned u t links empty c owned k l is =
     let own = owned k l is in
     let count = owner.count_same u t None l.owner.terminal in
@@ -657,10 +784,14 @@ drop_owned u t links empty c owned k l is =
       number = omega (arith, count, few);
       is_open = λ less. elim (cases_eq l.owner.terminal t) [
         | inl e ↦ absurd
-            (not_open u (λ j. followed u (links j)) k t (record { address = l.address; holder = Open l.owner.terminal }) empty c
-            (ap (followed u) is ∙ ap (λ (o : Option Holder). option_map {T = Holder} (λ h. record { address = l.address; holder = h }) o) (owner.opened_holder u l.owner (omega (arith, count, less))))
+            (not_open u (λ j. followed u (links j)) k t (record { address = l.address; holder = Open l.owner.terminal })
+            empty c
+            (ap (followed u) is ∙ ap
+            (λ (o : Option Holder). option_map {T = Holder} (λ h. record { address = l.address; holder = h }) o)
+            (owner.opened_holder u l.owner (omega (arith, count, less))))
             (ap (λ s. Open s) e))
-        | inr ne ↦ subst (λ z. IsSome {T = OpenSegment} z) (sym (active_there u t None l.owner.terminal ne)) (own.is_open (omega (arith, count, less)))
+        | inr ne ↦ subst (λ z. IsSome {T = OpenSegment} z) (sym (active_there u t None l.owner.terminal ne))
+            (own.is_open (omega (arith, count, less)))
       ];
     }
 
@@ -668,24 +799,29 @@ drop_opens : (u : SegmentLog) (t s : ℕ) → IsSome (active_at (dropped u t) s)
 drop_opens u t s some =
     elim (cases_eq s t) [
       | inl e ↦ elim (cases_lt t (length u.terminals)) [
-        | inl within ↦ let none = subst (λ z. IsSome {T = OpenSegment} z) (ap (active_at (dropped u t)) e ∙ active_here u t None within) some in cc
-        | inr past ↦ subst (λ z. IsSome (get_or z s idle).active) (set_past u.terminals t (record { count = count_at u t; active = None }) past) some
+        | inl within ↦ let none = subst (λ z. IsSome {T = OpenSegment} z)
+            (ap (active_at (dropped u t)) e ∙ active_here u t None within) some in cc
+        | inr past ↦ subst (λ z. IsSome (get_or z s idle).active)
+            (set_past u.terminals t (record { count = count_at u t; active = None }) past) some
       ]
       | inr ne ↦ subst (λ z. IsSome {T = OpenSegment} z) (active_there u t None s ne) some
     ]
 
-pub drop_linked : (u w : SegmentLog) (t : ℕ) (links : Key → Option OwnedLink) (ms : List MomentList) → records_at u t ≡ [] → w ≡ dropped u t → IsLinked u links ms → IsLinked w links ms
+pub drop_linked : (u w : SegmentLog) (t : ℕ) (links : Key → Option OwnedLink) (ms : List MomentList)
+    → records_at u t ≡ [] → w ≡ dropped u t → IsLinked u links ms → IsLinked w links ms
 drop_linked u w t links ms empty is c =
     subst (λ v. IsLinked v links ms) (sym is)
     record {
-      chained = same_chained u (dropped u t) links (owner.count_same u t None) (owner.total_kept u t None) refl (calls.drops u (λ k. followed u (links k)) t empty c.chained);
+      chained = same_chained u (dropped u t) links (owner.count_same u t None) (owner.total_kept u t None) refl
+          (calls.drops u (λ k. followed u (links k)) t empty c.chained);
       owned = drop_owned u t links empty c.chained c.owned;
       moments = same_moments u (dropped u t) ms (owner.total_kept u t None) refl (drop_opens u t) c.moments;
     }
 
 -- ---- no commit is kept
 
-last_some : (c : CommitSegment) (cs : List CommitSegment) → None ≡ option_map owner_of (slice_get (c ∷ cs) (length cs)) → ⊥
+last_some : (c : CommitSegment) (cs : List CommitSegment) → None ≡ option_map owner_of (slice_get (c ∷ cs) (length cs))
+    → ⊥
 last_some c [] e = cc
 last_some c (d ∷ cs) e = last_some d cs e
 
@@ -695,12 +831,15 @@ none_kept (c ∷ cs) e =
     let last : suc (length cs) - 1 ≡ length cs = omega arith in
     absurd (last_some c cs (e ∙ ap (λ i. option_map owner_of (slice_get (c ∷ cs) i)) last))
 
-pub none_linked_still : (u w : SegmentLog) (links : Key → Option OwnedLink) (ms : List MomentList) → None ≡ option_map owner_of (slice_get u.committed (length u.committed - 1))
+pub none_linked_still : (u w : SegmentLog) (links : Key → Option OwnedLink) (ms : List MomentList)
+    → None ≡ option_map owner_of (slice_get u.committed (length u.committed - 1))
     → w ≡ with_newest (length u.committed - 1) u → IsLinked u links ms → IsLinked w links ms
 none_linked_still u w links ms none is c =
     let empty = none_kept u.committed none in
-    let taken : take (length u.committed - 1) u.committed ≡ u.committed = ap (λ (cs : List CommitSegment). take (length cs - 1) cs) empty ∙ sym empty in
-    let same : with_newest (length u.committed - 1) u ≡ u = (λ j. record { terminals = u.terminals; committed = taken j; extents = u.extents }) in
+    let taken : take (length u.committed - 1) u.committed ≡ u.committed =
+    ap (λ (cs : List CommitSegment). take (length cs - 1) cs) empty ∙ sym empty in
+    let same : with_newest (length u.committed - 1) u ≡ u =
+    (λ j. record { terminals = u.terminals; committed = taken j; extents = u.extents }) in
     subst (λ v. IsLinked v links ms) (sym (is ∙ same)) c
 
 -- ---- the link where a previous one leads
@@ -708,34 +847,40 @@ none_linked_still u w links ms none is c =
 module _ (u : SegmentLog) (t : ℕ) (whole : IsWhole u) where
   pub own_given : (a : RecordAddress) (n : SegmentOwner) → n ≡ next_owner u t
       → followed u (Some (record { address = a; owner = n })) ≡ unended (horizon u) (link_from (Open t) (Own a))
-  own_given a n by = ap (λ (x : SegmentOwner). followed u (Some (record { address = a; owner = x }))) by ∙ next_followed u t a
+  own_given a n by = ap (λ (x : SegmentOwner). followed u (Some (record { address = a; owner = x }))) by
+      ∙ next_followed u t a
 
-  pub none_given : (a : RecordAddress) (m later : ℕ) → m ≤ total_count u → later ≡ total_count u - m → None ≡ option_map owner_of (slice_get u.committed later)
+  pub none_given : (a : RecordAddress) (m later : ℕ) → m ≤ total_count u → later ≡ total_count u - m
+      → None ≡ option_map owner_of (slice_get u.committed later)
       → None ≡ unended (horizon u) (link_from (Open t) (Committed a m))
   none_given a m later made is none =
       let past = none_past u.committed later none in
       let few = whole.commits in
       sym (owner.ended (horizon u) a m (omega (arith, past, is, made, few)))
 
-  pub committed_given : (a : RecordAddress) (m later : ℕ) (n : SegmentOwner) → m ≤ total_count u → later ≡ total_count u - m → Some n ≡ option_map owner_of (slice_get u.committed later)
+  pub committed_given : (a : RecordAddress) (m later : ℕ) (n : SegmentOwner) → m ≤ total_count u
+      → later ≡ total_count u - m → Some n ≡ option_map owner_of (slice_get u.committed later)
       → n.number + commits_of n.terminal (take later u.committed) ≡ count_at u n.terminal
       → followed u (Some (record { address = a; owner = n })) ≡ unended (horizon u) (link_from (Open t) (Committed a m))
   committed_given a m later n made is found sum =
       let d = commit_is (slice_get u.committed later) n found in
       let inside = some_inside u.committed later d.commit d.are in
       let few = whole.commits in
-      let index : count_at u n.terminal - n.number ≡ commits_of n.terminal (take later u.committed) = omega (arith, sum) in
+      let index : count_at u n.terminal - n.number ≡ commits_of n.terminal (take later u.committed) =
+      omega (arith, sum) in
       let moment : total_count u - later ≡ m = omega (arith, is, made) in
       let holder : holder_of u n ≡ Some (At m) =
       owner.made_holder u n (omega (arith, sum))
       ∙ ap (λ i. option_map At (slice_get (moments_of n.terminal (total_count u) u.committed) i)) index
-      ∙ ap (option_map At) (owner.moment_found n.terminal (total_count u) u.committed later d.commit d.are (sym d.terminal))
+      ∙ ap (option_map At) (owner.moment_found n.terminal (total_count u) u.committed later d.commit d.are
+      (sym d.terminal))
       ∙ ap (λ x. Some (At x)) moment in
       ap (λ (o : Option Holder). option_map {T = Holder} (λ h. record { address = a; holder = h }) o) holder
       ∙ sym (owner.not_ended (horizon u) a m (omega (arith, inside, is, made, few)))
 
   pub committed_owner : (n : SegmentOwner) (later : ℕ) → n.number + later ≡ count_at u n.terminal → IsOwner u n
-  committed_owner n later sum = record { number = omega (arith, sum); is_open = λ less. absurd (omega (arith, sum, less)) }
+  committed_owner n later sum =
+      record { number = omega (arith, sum); is_open = λ less. absurd (omega (arith, sum, less)) }
 
 pub of_some : {A : Type 0} (P : A → Type 0) (o : Option A) → IfSome o P → (x : A) → o ≡ Some x → P x
 of_some P None h x e = cc
@@ -743,13 +888,17 @@ of_some P (Some y) h x e = subst P (owner.some_is y x e) h
 
 -- ---- what leads to the previous record
 
-pub leads_previous : (u : SegmentLog) (links : Key → Option Link) (t : ℕ) (k : Key) → IsWhole u → AreChained u links → IsAlone u t k
+pub leads_previous : (u : SegmentLog) (links : Key → Option Link) (t : ℕ) (k : Key) → IsWhole u → AreChained u links
+    → IsAlone u t k
     → link_from (Open t) (previous_of (links k)) ≡ links k
 leads_previous u links t k whole c alone = seen_again t (links k) (sees_alone u links t k whole c alone)
 
 -- a record is led to where its key's link in its place leads
-pub push_leads : (u : SegmentLog) (links : LinkMaps) (t : ℕ) (k key : Key) (place : Option OwnedLink) (l : Option Link) (p : Previous) → k ≡ key → Some place ≡ place_of links k
-    → l ≡ followed u place → p ≡ previous_of l → IsWhole u → AreChained u (λ j. followed u (links_of links j)) → IsAlone u t key → link_from (Open t) p ≡ followed u (links_of links key)
+pub push_leads : (u : SegmentLog) (links : LinkMaps) (t : ℕ) (k key : Key) (place : Option OwnedLink) (l : Option Link)
+    (p : Previous) → k ≡ key → Some place ≡ place_of links k
+    → l ≡ followed u place → p ≡ previous_of l → IsWhole u → AreChained u (λ j. followed u (links_of links j))
+    → IsAlone u t key → link_from (Open t) p ≡ followed u (links_of links key)
 push_leads u links t k key place l p own found is by whole chained alone =
-    ap (λ q. link_from (Open t) q) (by ∙ ap previous_of (is ∙ ap (λ o. followed u (link_in o)) (found ∙ ap (place_of links) own)))
+    ap (λ q. link_from (Open t) q)
+    (by ∙ ap previous_of (is ∙ ap (λ o. followed u (link_in o)) (found ∙ ap (place_of links) own)))
     ∙ leads_previous u (λ j. followed u (links_of links j)) t key whole chained alone

@@ -1,5 +1,6 @@
 -- A key's link leads along the key's records.
-use Rattle.std.proofs.Common.{◌≡◌, ℕ, suc, ◌+◌, ◌-◌, ◌≤◌, Bool, true, false, cond, inl, inr, List, [], ◌∷◌, ◌++◌, length, map, get_or, Option, None, Some, refl, sym, ap, ◌∙◌, subst, arith}
+use Rattle.std.proofs.Common.{◌≡◌, ℕ, suc, ◌+◌, ◌-◌, ◌≤◌, Bool, true, false, cond, inl, inr, List, [], ◌∷◌, ◌++◌}
+use Rattle.std.proofs.Common.{length, map, get_or, Option, None, Some, refl, sym, ap, ◌∙◌, subst, arith}
 use Rattle.std.specs.List.{AllByRecursion}
 use Rattle.std.proofs.lemmas.Bool.{cases_eq, le-ltb}
 use Rattle.oe_rows.specs.declared.keys.Key.{Key}
@@ -9,13 +10,15 @@ use Rattle.oe_model.specs.System.{terminal_limit, system}
 use Rattle.oe_model.proofs.RowFacts.{key_true}
 use Rattle.oe_theory.specs.Store.{all_below}
 use Rattle.oe_log.specs.Records.{Logged, IsAmong}
-use Rattle.oe_log.specs.Log.{SegmentLog, Committed as CommitSegment, records_at, records_of, committed_records, total_count}
+use Rattle.oe_log.specs.Log.{SegmentLog, Committed as CommitSegment, records_at, records_of, committed_records}
+use Rattle.oe_log.specs.Log.{total_count}
 use Rattle.oe_log.specs.Stands.{model_records}
 use Rattle.oe_undo.specs.declared.holders.Link.{Link}
 use Rattle.oe_undo.specs.declared.holders.Holder.{Holder}
 use Rattle.oe_undo.specs.declared.holders.Holder.TheVariants.{Open, At}
 use Rattle.oe_undo.specs.Held.{Held, held_by, held_open, held_commits, held, of_key, horizon, is_later, count_later}
-use Rattle.oe_undo.specs.Chains.{link_to, link_from, IsOwnOrDone, IsSeenBy, HaveNone, IsAlone, IsForgotten, IsEnd, IsChain, AreChained, found, ticks}
+use Rattle.oe_undo.specs.Chains.{link_to, link_from, IsOwnOrDone, IsSeenBy, HaveNone, IsAlone, IsForgotten, IsEnd}
+use Rattle.oe_undo.specs.Chains.{IsChain, AreChained, found, ticks}
 use Rattle.oe_undo.specs.Oldest.{oldest_after}
 use Rattle.oe_undo.specs.Laws.{IsWhole}
 use Rattle.oe_undo.specs.Walks.{records_by, leads_later, Walks, Ends, Reads}
@@ -35,28 +38,34 @@ stand_both u [] ys a b = b
 stand_both u (x ∷ xs) ys a b = (a.0, stand_both u xs ys a.1 b)
 
 -- those of one segment, the last of whose records these are
-stand_by : (u : SegmentLog) (h : Holder) (rs : List Logged) → ((r : Logged) → IsAmong r rs → IsAmong r (records_by u h)) → AllStand u (held_by h rs)
+stand_by : (u : SegmentLog) (h : Holder) (rs : List Logged) → ((r : Logged) → IsAmong r rs → IsAmong r (records_by u h))
+    → AllStand u (held_by h rs)
 stand_by u h [] among = tt
 stand_by u h (r ∷ rs) among = (among r (inl refl), stand_by u h rs (λ x i. among x (inr i)))
 
 stand_open : (u : SegmentLog) (ts : List ℕ) → AllStand u (held_open (records_at u) ts)
 stand_open u [] = tt
-stand_open u (t ∷ ts) = stand_both u (held_by (Open t) (records_at u t)) (held_open (records_at u) ts) (stand_by u (Open t) (records_at u t) (λ r i. i)) (stand_open u ts)
+stand_open u (t ∷ ts) = stand_both u (held_by (Open t) (records_at u t)) (held_open (records_at u) ts)
+    (stand_by u (Open t) (records_at u t) (λ r i. i)) (stand_open u ts)
 
-stand_commits : (u : SegmentLog) (n i : ℕ) (cs : List CommitSegment) → n + i ≡ total_count u → i + length cs ≤ total_count u
-    → ((j : ℕ) → get_or (committed_records u) (j + i) [] ≡ get_or (map records_of cs) j []) → AllStand u (held_commits n cs)
+stand_commits : (u : SegmentLog) (n i : ℕ) (cs : List CommitSegment) → n + i ≡ total_count u
+    → i + length cs ≤ total_count u
+    → ((j : ℕ) → get_or (committed_records u) (j + i) [] ≡ get_or (map records_of cs) j [])
+    → AllStand u (held_commits n cs)
 stand_commits u n i [] at few look = tt
 stand_commits u n i (c ∷ cs) at few look =
     let here : total_count u - n ≡ 0 + i = omega (arith, at) in
     let these : records_by u (At n) ≡ c.records = ap (λ j. get_or (committed_records u) j []) here ∙ look 0 in
-    stand_both u (held_by (At n) c.records) (held_commits (n - 1) cs) (stand_by u (At n) c.records (λ r a. subst (IsAmong r) (sym these) a))
+    stand_both u (held_by (At n) c.records) (held_commits (n - 1) cs)
+    (stand_by u (At n) c.records (λ r a. subst (IsAmong r) (sym these) a))
     (stand_commits u (n - 1) (suc i) cs (omega (arith, at, few)) (omega (arith, few)) (λ j.
     let next : j + suc i ≡ suc j + i = omega arith in
     ap (λ z. get_or (committed_records u) z []) next ∙ look (suc j)))
 
 all_stand : (u : SegmentLog) → IsWhole u → AllStand u (held u)
 all_stand u whole =
-    stand_both u (held_open (records_at u) (all_below system terminal_limit)) (held_commits (total_count u) u.committed) (stand_open u (all_below system terminal_limit))
+    stand_both u (held_open (records_at u) (all_below system terminal_limit)) (held_commits (total_count u) u.committed)
+    (stand_open u (all_below system terminal_limit))
     (stand_commits u (total_count u) 0 u.committed (omega arith) (omega (arith, whole.commits)) (λ j.
     let same : j + 0 ≡ j = omega arith in
     ap (λ z. get_or (committed_records u) z []) same))
@@ -80,23 +89,30 @@ end_not_later h m (Some l) le e = go l.holder e
     go (At n) f = le-ltb m n (omega (arith, le, f))
 
 module _ (u : SegmentLog) (h m : ℕ) (le : h ≤ m) where
-  walked : (xs : List Held) (l : Option Link) (o : Option Record) → AllStand u xs → IsChain h l xs → Walks u m l o (ticks m xs) (found m xs o)
+  walked : (xs : List Held) (l : Option Link) (o : Option Record) → AllStand u xs → IsChain h l xs
+      → Walks u m l o (ticks m xs) (found m xs o)
   walked [] l o stand c = Ends l o (end_not_later h m l le c)
   walked (r ∷ rs) l o stand c =
       subst (λ z. Walks u m z o (ticks m (r ∷ rs)) (found m (r ∷ rs) o)) (sym c.0.leads)
-      (go (is_later m r.holder) refl (walked rs (link_from r.holder r.logged.previous) (Some r.logged.before) stand.1 c.1))
+      (go (is_later m r.holder) refl
+      (walked rs (link_from r.holder r.logged.previous) (Some r.logged.before) stand.1 c.1))
     where
-      go : (b : Bool) → is_later m r.holder ≡ b → Walks u m (link_from r.holder r.logged.previous) (Some r.logged.before) (ticks m rs) (found m rs (Some r.logged.before))
+      go : (b : Bool) → is_later m r.holder ≡ b
+          → Walks u m (link_from r.holder r.logged.previous) (Some r.logged.before) (ticks m rs)
+          (found m rs (Some r.logged.before))
           → Walks u m (Some (link_to r)) o (cond b (suc (ticks m rs)) 0) (cond b (found m rs (Some r.logged.before)) o)
-      go true e w = Reads r.logged.address r.holder r.logged.previous r.logged.before o (ticks m rs) (found m rs (Some r.logged.before)) e stand.0 w
+      go true e w = Reads r.logged.address r.holder r.logged.previous r.logged.before o (ticks m rs)
+          (found m rs (Some r.logged.before)) e stand.0 w
       go false e w = Ends (Some (link_to r)) o e
 
-pub chains_are_walked : (u : SegmentLog) (links : Key → Option Link) (k : Key) (m count : ℕ) → IsWhole u → AreChained u links → horizon u ≤ m
+pub chains_are_walked : (u : SegmentLog) (links : Key → Option Link) (k : Key) (m count : ℕ) → IsWhole u
+    → AreChained u links → horizon u ≤ m
     → count + m ≡ total_count u → Walks u m (links k) None (count_later m (of_key k (held u))) (oldest_after k u count)
 chains_are_walked u links k m count whole c le e =
     subst (λ o. Walks u m (links k) None (count_later m (of_key k (held u))) o) (walk_finds k u m count whole.commits e)
     (subst (λ n. Walks u m (links k) None n (found m (of_key k (held u)) None)) (walk_ticks k u m)
-    (walked u (horizon u) m le (of_key k (held u)) (links k) None (stand_of_key u k (held u) (all_stand u whole)) (c k)))
+    (walked u (horizon u) m le (of_key k (held u)) (links k) None (stand_of_key u k (held u) (all_stand u whole))
+    (c k)))
 
 -- ---- who sees a link
 
@@ -104,20 +120,24 @@ all_of_key : (k : Key) (xs : List Held) → AllByRecursion (λ r. record_key r.l
 all_of_key k [] = tt
 all_of_key k (x ∷ xs) = go (is_key k (record_key x.logged.before)) refl (all_of_key k xs)
   where
-    go : (c : Bool) → is_key k (record_key x.logged.before) ≡ c → AllByRecursion (λ r. record_key r.logged.before ≡ k) (of_key k xs)
+    go : (c : Bool) → is_key k (record_key x.logged.before) ≡ c
+        → AllByRecursion (λ r. record_key r.logged.before ≡ k) (of_key k xs)
         → AllByRecursion (λ r. record_key r.logged.before ≡ k) (cond c (x ∷ of_key k xs) (of_key k xs))
     go true e i = (sym (key_true k (record_key x.logged.before) e), i)
     go false e i = i
 
-not_among : (k : Key) (r : Logged) (rs : List Logged) → HaveNone k (model_records rs) → IsAmong r rs → record_key r.before ≡ k → ⊥
+not_among : (k : Key) (r : Logged) (rs : List Logged) → HaveNone k (model_records rs) → IsAmong r rs
+    → record_key r.before ≡ k → ⊥
 not_among k r [] none i e = i
 not_among k r (x ∷ xs) none (inl q) e = none.0 (ap (λ (z : Logged). record_key z.before) q ∙ e)
 not_among k r (x ∷ xs) none (inr i) e = not_among k r xs none.1 i e
 
 -- the holder of a record of the key
-alone_holds : (u : SegmentLog) (t : ℕ) (k : Key) (r : Logged) (h : Holder) → IsAlone u t k → IsAmong r (records_by u h) → record_key r.before ≡ k → IsOwnOrDone t h
+alone_holds : (u : SegmentLog) (t : ℕ) (k : Key) (r : Logged) (h : Holder) → IsAlone u t k → IsAmong r (records_by u h)
+    → record_key r.before ≡ k → IsOwnOrDone t h
 alone_holds u t k r (At m) alone among e = tt
-alone_holds u t k r (Open s) alone among e = elim (cases_eq s t) [ inl q ↦ q | inr ne ↦ absurd (not_among k r (records_at u s) (alone s ne) among e) ]
+alone_holds u t k r (Open s) alone among e =
+    elim (cases_eq s t) [ inl q ↦ q | inr ne ↦ absurd (not_among k r (records_at u s) (alone s ne) among e) ]
 
 end_seen : (h t : ℕ) (l : Option Link) → IsEnd h l → IsSeenBy t l
 end_seen h t None e = tt
@@ -127,11 +147,15 @@ end_seen h t (Some l) e = go l.holder e
     go (Open s) f = absurd f
     go (At n) f = tt
 
-first_seen : (u : SegmentLog) (t : ℕ) (k : Key) (h : ℕ) (l : Option Link) (xs : List Held) → IsAlone u t k → AllStand u xs
+first_seen : (u : SegmentLog) (t : ℕ) (k : Key) (h : ℕ) (l : Option Link) (xs : List Held) → IsAlone u t k
+    → AllStand u xs
     → AllByRecursion (λ r. record_key r.logged.before ≡ k) xs → IsChain h l xs → IsSeenBy t l
 first_seen u t k h l [] alone stand keys c = end_seen h t l c
-first_seen u t k h l (r ∷ rs) alone stand keys c = subst (IsSeenBy t) (sym c.0.leads) (alone_holds u t k r.logged r.holder alone stand.0 keys.0)
+first_seen u t k h l (r ∷ rs) alone stand keys c = subst (IsSeenBy t) (sym c.0.leads)
+    (alone_holds u t k r.logged r.holder alone stand.0 keys.0)
 
-pub sees_alone : (u : SegmentLog) (links : Key → Option Link) (t : ℕ) (k : Key) → IsWhole u → AreChained u links → IsAlone u t k → IsSeenBy t (links k)
+pub sees_alone : (u : SegmentLog) (links : Key → Option Link) (t : ℕ) (k : Key) → IsWhole u → AreChained u links
+    → IsAlone u t k → IsSeenBy t (links k)
 sees_alone u links t k whole c alone =
-    first_seen u t k (horizon u) (links k) (of_key k (held u)) alone (stand_of_key u k (held u) (all_stand u whole)) (all_of_key k (held u)) (c k)
+    first_seen u t k (horizon u) (links k) (of_key k (held u)) alone (stand_of_key u k (held u) (all_stand u whole))
+    (all_of_key k (held u)) (c k)

@@ -1,16 +1,19 @@
 -- What is left of the links where one was set, inserted, or given a place, and where a place was given up.
-use Rattle.std.proofs.Common.{◌≡◌, refl, sym, ◌∙◌, ap, subst, cond, inl, inr, ◌⊎◌, Bool, true, false, Option, Some, None}
+use Rattle.std.proofs.Common.{◌≡◌, refl, sym, ◌∙◌, ap, subst, cond, inl, inr, ◌⊎◌, Bool, true, false, Option, Some}
+use Rattle.std.proofs.Common.{None}
 use Rattle.std.specs.Prelude.{IsSome}
 use Rattle.oe_rows.specs.declared.keys.Key.{Key}
 use Rattle.oe_table.specs.Table.{left_of}
 use Rattle.oe_model.specs.Rows.{is_key}
 use Rattle.oe_model.proofs.RowFacts.{key_true, key_refl}
 use Rattle.oe_undo.specs.declared.links.OwnedLink.{OwnedLink}
-use Rattle.oe_undo.specs.Links.{LinkMaps, link_in, place_of, links_of, HasPlace, comes_with, SetsLink, GivesPlaces, InsertsLink, GivesUpLink, KeepsPlaces, Comes, LeadsTo}
+use Rattle.oe_undo.specs.Links.{LinkMaps, link_in, place_of, links_of, HasPlace, comes_with, SetsLink, GivesPlaces}
+use Rattle.oe_undo.specs.Links.{InsertsLink, GivesUpLink, KeepsPlaces, Comes, LeadsTo}
 use Rattle.oe_undo.specs.Owners.{followed}
 use Rattle.oe_undo.specs.Undo.{UndoState, seen}
 
-set_in : (b : Bool) (l : Option OwnedLink) (p : Option (Option OwnedLink)) → link_in (cond b (Some l) p) ≡ cond b l (link_in p)
+set_in : (b : Bool) (l : Option OwnedLink) (p : Option (Option OwnedLink))
+    → link_in (cond b (Some l) p) ≡ cond b l (link_in p)
 set_in true l p = refl
 set_in false l p = refl
 
@@ -44,10 +47,13 @@ set_leads old new own l set = record {
     there had k false e h = subst IsSome (set k ∙ ap (λ b. cond b (Some l) (place_of old k)) e) h
 
 -- it had none
-pub insert_leads : (old new : LinkMaps) (own : Key) (l : Option OwnedLink) → place_of old own ≡ None → InsertsLink old new own l → LeadsTo old new own l
+pub insert_leads : (old new : LinkMaps) (own : Key) (l : Option OwnedLink) → place_of old own ≡ None
+    → InsertsLink old new own l → LeadsTo old new own l
 insert_leads old new own l none inserts = record {
-  links = λ k. ap link_in (inserts k) ∙ set_in (is_key own k) l (given k) ∙ ap (cond (is_key own k) l) (given_in (comes_with own k) (place_of old k));
-  kept = λ k h. subst IsSome (sym (inserts k)) (has_still (is_key own k) l (given k) (has_still (comes_with own k) (links_of old k) (place_of old k) h));
+  links = λ k. ap link_in (inserts k) ∙ set_in (is_key own k) l (given k)
+      ∙ ap (cond (is_key own k) l) (given_in (comes_with own k) (place_of old k));
+  kept = λ k h. subst IsSome (sym (inserts k))
+      (has_still (is_key own k) l (given k) (has_still (comes_with own k) (links_of old k) (place_of old k) h));
   placed = subst IsSome (sym (inserts own ∙ ap (λ b. cond b (Some l) (given own)) (key_refl own))) refl;
   same = λ had. let no : IsSome {T = Option OwnedLink} None = subst IsSome none had in cc;
   given = λ k h. more k (is_key own k) refl (comes_with own k) refl h;
@@ -56,18 +62,22 @@ insert_leads old new own l none inserts = record {
     given : Key → Option (Option OwnedLink)
     given k = cond (comes_with own k) (Some (links_of old k)) (place_of old k)
 
-    more : (k : Key) (b : Bool) → is_key own k ≡ b → (c : Bool) → comes_with own k ≡ c → HasPlace new k → HasPlace old k ⊎ Comes own k
+    more : (k : Key) (b : Bool) → is_key own k ≡ b → (c : Bool) → comes_with own k ≡ c → HasPlace new k
+        → HasPlace old k ⊎ Comes own k
     more k true e c f h = inr (inl (sym (key_true own k e)))
     more k false e true f h = inr (inr f)
     more k false e false f h =
-        inl (subst IsSome (inserts k ∙ ap (λ b. cond b (Some l) (given k)) e ∙ ap (λ b. cond b (Some (links_of old k)) (place_of old k)) f) h)
+        inl (subst IsSome (inserts k ∙ ap (λ b. cond b (Some l) (given k)) e
+        ∙ ap (λ b. cond b (Some (links_of old k)) (place_of old k)) f) h)
 
 -- places alone were given
-pub given_links : (old new : LinkMaps) (own : Key) → GivesPlaces old new own → (k : Key) → links_of new k ≡ links_of old k
+pub given_links : (old new : LinkMaps) (own : Key) → GivesPlaces old new own → (k : Key)
+    → links_of new k ≡ links_of old k
 given_links old new own given k = ap link_in (given k) ∙ given_in (comes_with own k) (place_of old k)
 
 pub given_kept : (old new : LinkMaps) (own : Key) → GivesPlaces old new own → KeepsPlaces old new
-given_kept old new own given k h = subst IsSome (sym (given k)) (has_still (comes_with own k) (links_of old k) (place_of old k) h)
+given_kept old new own given k h = subst IsSome (sym (given k))
+    (has_still (comes_with own k) (links_of old k) (place_of old k) h)
 
 -- a place alone was given up: each key's link is as it was
 left_in : (b : Bool) (p : Option (Option OwnedLink)) → link_in (cond b (left_of p) p) ≡ link_in p
@@ -76,7 +86,8 @@ left_in true (Some None) = refl
 left_in true (Some (Some l)) = refl
 left_in false p = refl
 
-pub given_up_links : (old new : LinkMaps) (own : Key) → GivesUpLink old new own → (k : Key) → links_of new k ≡ links_of old k
+pub given_up_links : (old new : LinkMaps) (own : Key) → GivesUpLink old new own → (k : Key)
+    → links_of new k ≡ links_of old k
 given_up_links old new own given_up k = ap link_in (given_up k) ∙ left_in (is_key own k) (place_of old k)
 
 -- a key that has a link keeps its place, and so does each other key
@@ -87,13 +98,18 @@ left_there true (Some (Some l)) h = refl
 left_there false None h = h
 left_there false (Some l) h = refl
 
-pub given_up_placed : (old new : LinkMaps) (own : Key) → GivesUpLink old new own → (k : Key) → IsSome (links_of old k) → HasPlace new k
-given_up_placed old new own given_up k h = subst IsSome (sym (given_up k)) (left_there (is_key own k) (place_of old k) h)
+pub given_up_placed : (old new : LinkMaps) (own : Key) → GivesUpLink old new own → (k : Key) → IsSome (links_of old k)
+    → HasPlace new k
+given_up_placed old new own given_up k h = subst IsSome (sym (given_up k))
+    (left_there (is_key own k) (place_of old k) h)
 
-pub given_up_others : (old new : LinkMaps) (own : Key) → GivesUpLink old new own → (k : Key) → is_key own k ≡ false → place_of new k ≡ place_of old k
+pub given_up_others : (old new : LinkMaps) (own : Key) → GivesUpLink old new own → (k : Key) → is_key own k ≡ false
+    → place_of new k ≡ place_of old k
 given_up_others old new own given_up k e = given_up k ∙ ap (λ b. cond b (left_of (place_of old k)) (place_of old k)) e
 
 -- and each key is seen as it was
-pub given_up_seen : (old new : UndoState) (own : Key) → new.log ≡ old.log → GivesUpLink old.links new.links own → (k : Key) → seen new k ≡ seen old k
+pub given_up_seen : (old new : UndoState) (own : Key) → new.log ≡ old.log → GivesUpLink old.links new.links own
+    → (k : Key) → seen new k ≡ seen old k
 given_up_seen old new own same given_up k =
-    ap (λ l. followed new.log l) (given_up_links old.links new.links own given_up k) ∙ ap (λ u. followed u (links_of old.links k)) same
+    ap (λ l. followed new.log l) (given_up_links old.links new.links own given_up k)
+    ∙ ap (λ u. followed u (links_of old.links k)) same

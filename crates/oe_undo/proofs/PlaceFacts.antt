@@ -1,8 +1,10 @@
 -- Shelves of places.
-use Rattle.std.proofs.Common.{◌≡◌, refl, sym, ◌∙◌, ap, subst, Bool, true, false, cond, ℕ, zero, suc, ◌+◌, ◌-◌, ◌<◌, ◌≤◌, List, [], ◌∷◌, ◌++◌, length, set, get_or, replicate, arith, Option, Some, None, inl, inr}
+use Rattle.std.proofs.Common.{◌≡◌, refl, sym, ◌∙◌, ap, subst, Bool, true, false, cond, ℕ, zero, suc, ◌+◌, ◌-◌, ◌<◌, ◌≤◌}
+use Rattle.std.proofs.Common.{List, [], ◌∷◌, ◌++◌, length, set, get_or, replicate, arith, Option, Some, None, inl, inr}
 use Rattle.std.specs.Prelude.{slice_get, eqb, leb, ◌&&◌}
 use Rattle.std.proofs.lemmas.Bool.{cases_lt, leb-true, leb-false}
-use Rattle.std.proofs.lemmas.List.{append_assoc, append-nil, replicate_more, get_or-set_same, get_or-set_other, get_or_past}
+use Rattle.std.proofs.lemmas.List.{append_assoc, append-nil, replicate_more, get_or-set_same, get_or-set_other}
+use Rattle.std.proofs.lemmas.List.{get_or_past}
 use Rattle.std.proofs.lemmas.Option.{slice_get_past}
 use borrow.Author.Tests.{eqb-true, eqb-false}
 use Rattle.oe_undo.specs.Shelf.{spread, content_in}
@@ -11,9 +13,11 @@ use Rattle.oe_undo.proofs.SpreadFacts.{length-spread}
 
 -- empty shelves at the end
 module _ {A : Type 0} where
-  pub padded-more : (first now next : List (List A)) (n : ℕ) → now ≡ first ++ replicate n [] → next ≡ now ++ [] ∷ [] → next ≡ first ++ replicate (n + 1) []
+  pub padded-more : (first now next : List (List A)) (n : ℕ) → now ≡ first ++ replicate n [] → next ≡ now ++ [] ∷ []
+      → next ≡ first ++ replicate (n + 1) []
   padded-more first now next n e more =
-      more ∙ ap (λ t. t ++ [] ∷ []) e ∙ append_assoc first (replicate n []) ([] ∷ []) ∙ ap (λ t. first ++ t) (replicate_more n [])
+      more ∙ ap (λ t. t ++ [] ∷ []) e ∙ append_assoc first (replicate n []) ([] ∷ [])
+      ∙ ap (λ t. first ++ t) (replicate_more n [])
 
   get_or-padded : (ss : List (List A)) (n i : ℕ) → get_or (ss ++ replicate n []) i [] ≡ get_or ss i []
   get_or-padded [] zero i = refl
@@ -24,7 +28,8 @@ module _ {A : Type 0} where
 
 module _ {X : Type 0} where
   -- the places of a shelf with empty ones behind them
-  within : (r m : ℕ) (xs : List (Option X)) → m < length xs + r → slice_get (xs ++ replicate r None) m ≡ Some (content_in (slice_get xs m))
+  within : (r m : ℕ) (xs : List (Option X)) → m < length xs + r
+      → slice_get (xs ++ replicate r None) m ≡ Some (content_in (slice_get xs m))
   within zero m [] h = absurd (omega (arith, h))
   within (suc r) zero [] h = refl
   within (suc r) (suc m) [] h = within r m [] (omega (arith, h))
@@ -54,10 +59,12 @@ module _ {X : Type 0} where
                 let end = ap length (append-nil xs) in omega (arith, same, end, past)
           ]
 
-  spread-place : (k m : ℕ) (xs : List (Option X)) → slice_get (spread (k + 1) xs) m ≡ cond (leb m k) (Some (content_in (slice_get xs m))) (slice_get xs m)
+  spread-place : (k m : ℕ) (xs : List (Option X))
+      → slice_get (spread (k + 1) xs) m ≡ cond (leb m k) (Some (content_in (slice_get xs m))) (slice_get xs m)
   spread-place k m xs = go (leb m k) refl
     where
-      go : (b : Bool) → leb m k ≡ b → slice_get (spread (k + 1) xs) m ≡ cond b (Some (content_in (slice_get xs m))) (slice_get xs m)
+      go : (b : Bool) → leb m k ≡ b → slice_get (spread (k + 1) xs) m ≡ cond b (Some (content_in (slice_get xs m)))
+          (slice_get xs m)
       go true e = let up = leb-true m k e in within (k + 1 - length xs) m xs (omega (arith, up))
       go false e = let over = leb-false m k e in behind (k + 1) m xs (omega (arith, over))
 
@@ -69,17 +76,23 @@ module _ {X : Type 0} where
       same : (i : ℕ) → get_or mid i [] ≡ get_or old i []
       same i = ap (λ ss. get_or ss i []) is ∙ get_or-padded old n i
 
-      go : (b : Bool) → eqb s t ≡ b → place_at new t m ≡ cond (b && leb m k) (Some (content_in (place_at old t m))) (place_at old t m)
+      go : (b : Bool) → eqb s t ≡ b → place_at new t m ≡ cond (b && leb m k) (Some (content_in (place_at old t m)))
+          (place_at old t m)
       go true q =
           let here : s ≡ t = eqb-true s t q in
           subst (λ i. place_at new i m ≡ cond (leb m k) (Some (content_in (place_at old i m))) (place_at old i m)) here
-          (ap (λ xs. slice_get xs m) (ap (λ ss. get_or ss s []) e ∙ get_or-set_same mid s (spread (k + 1) (get_or mid s [])) [] some ∙ ap (spread (k + 1)) (same s))
+          (ap (λ xs. slice_get xs m)
+          (ap (λ ss. get_or ss s []) e ∙ get_or-set_same mid s (spread (k + 1) (get_or mid s [])) [] some
+          ∙ ap (spread (k + 1)) (same s))
           ∙ spread-place k m (get_or old s []))
       go false q =
-          ap (λ xs. slice_get xs m) (ap (λ ss. get_or ss t []) e ∙ get_or-set_other mid s t (spread (k + 1) (get_or mid s [])) [] (λ h. eqb-false s t q (sym h)) ∙ same t)
+          ap (λ xs. slice_get xs m)
+          (ap (λ ss. get_or ss t []) e ∙ get_or-set_other mid s t (spread (k + 1) (get_or mid s [])) []
+          (λ h. eqb-false s t q (sym h)) ∙ same t)
 
   -- there is no such place yet
-  pub no_place : (old mid : List (List (Option X))) (n s k : ℕ) → mid ≡ old ++ replicate n [] → length (get_or mid s []) ≤ k → place_at old s k ≡ None
+  pub no_place : (old mid : List (List (Option X))) (n s k : ℕ) → mid ≡ old ++ replicate n []
+      → length (get_or mid s []) ≤ k → place_at old s k ≡ None
   no_place old mid n s k is short =
       let same : get_or mid s [] ≡ get_or old s [] = ap (λ ss. get_or ss s []) is ∙ get_or-padded old n s in
       sym (ap (λ xs. slice_get xs k) same) ∙ slice_get_past (get_or mid s []) k short

@@ -1,6 +1,8 @@
 -- A walk along a key's records: each read goes on, and fewer are left after it.
-use Rattle.std.proofs.Common.{◌≡◌, ℕ, zero, suc, ◌+◌, ◌-◌, ◌^◌, ◌<◌, ◌≤◌, ◌==◌, min, Bool, true, false, cond, not, ◌&&◌, ◌||◌, List, [], ◌∷◌, Option, None, Some, refl, sym, ap, ◌∙◌, subst, inl, inr, arith}
-use Rattle.std.proofs.lemmas.Bool.{both_ways, and_parts, and_from, or_cases, or_left, or_right, not_from_false, eq-eqb, eqb-true}
+use Rattle.std.proofs.Common.{◌≡◌, ℕ, zero, suc, ◌+◌, ◌-◌, ◌^◌, ◌<◌, ◌≤◌, ◌==◌, min, Bool, true, false, cond, not, ◌&&◌}
+use Rattle.std.proofs.Common.{◌||◌, List, [], ◌∷◌, Option, None, Some, refl, sym, ap, ◌∙◌, subst, inl, inr, arith}
+use Rattle.std.proofs.lemmas.Bool.{both_ways, and_parts, and_from, or_cases, or_left, or_right, not_from_false, eq-eqb}
+use Rattle.std.proofs.lemmas.Bool.{eqb-true}
 use Rattle.oe_model.specs.Changes.{Record}
 use Rattle.oe_layout.specs.declared.links.RecordAddress.{RecordAddress}
 use Rattle.oe_layout.specs.declared.links.Previous.{Previous}
@@ -23,31 +25,40 @@ same_address a b e =
     λ i. record { extent = eqb-true a.extent b.extent q.0 i; offset = eqb-true a.offset b.offset q.1 i }
 
 own_address : (a : RecordAddress) → is_address a a ≡ true
-own_address a = and_from (a.extent == a.extent) (a.offset == a.offset) (eq-eqb a.extent a.extent refl) (eq-eqb a.offset a.offset refl)
+own_address a = and_from (a.extent == a.extent) (a.offset == a.offset) (eq-eqb a.extent a.extent refl)
+    (eq-eqb a.offset a.offset refl)
 
 -- what leads on from one of these records at that address passes a test
 abbrev passes : RecordAddress → (Previous → Bool) → List Logged → Bool
 passes a f [] = false
 passes a f (r ∷ rs) = (is_address a r.address && f r.previous) || passes a f rs
 
-passes_among : (a : RecordAddress) (f : Previous → Bool) (p : Previous) (b : Record) (rs : List Logged) → IsAmong (logged a p b) rs → f p ≡ true
+passes_among : (a : RecordAddress) (f : Previous → Bool) (p : Previous) (b : Record) (rs : List Logged)
+    → IsAmong (logged a p b) rs → f p ≡ true
     → passes a f rs ≡ true
 passes_among a f p b [] there e = absurd there
 passes_among a f p b (r ∷ rs) (inl same) e =
     or_left (is_address a r.address && f r.previous) (passes a f rs)
-    (subst (λ x. (is_address a x.address && f x.previous) ≡ true) (sym same) (and_from (is_address a a) (f p) (own_address a) e))
+    (subst (λ x. (is_address a x.address && f x.previous) ≡ true) (sym same)
+    (and_from (is_address a a) (f p) (own_address a) e))
 passes_among a f p b (r ∷ rs) (inr there) e =
     or_right (is_address a r.address && f r.previous) (passes a f rs) (passes_among a f p b rs there e)
 
 -- the record that is told there passes it then
-told_passes : (a : RecordAddress) (f : Previous → Bool) (told : Previous × Record) (rs : List Logged) → IsRecordAt rs a told → passes a f rs ≡ true
+told_passes : (a : RecordAddress) (f : Previous → Bool) (told : Previous × Record) (rs : List Logged)
+    → IsRecordAt rs a told → passes a f rs ≡ true
     → f told.0 ≡ true
 told_passes a f told [] at e = cc
 told_passes a f told (r ∷ rs) at e =
     elim (or_cases (is_address a r.address && f r.previous) (passes a f rs) e) [
       | inl q ↦
           let parts = and_parts (is_address a r.address) (f r.previous) q in
-          let here : r ≡ logged a r.previous r.before = λ i. record { address = sym (same_address a r.address parts.0) i; previous = r.previous; before = r.before } in
+          let here : r ≡ logged a r.previous r.before =
+          λ i. record {
+            address = sym (same_address a r.address parts.0) i;
+            previous = r.previous;
+            before = r.before;
+          } in
           subst (λ x. f x.0 ≡ true) (sym (at r.previous r.before (inl here))) parts.1
       | inr q ↦ told_passes a f told rs (λ p b there. at p b (inr there)) q
     ]
@@ -69,10 +80,12 @@ least f (suc n) = cond (f 0) 0 (suc (least (λ i. f (suc i)) n))
 unfoldable pub reads_left : SegmentLog → ℕ → ℕ → Option Link → ℕ
 reads_left u m most l = least (λ n. can_end u m n l) (suc most)
 
-least_below : (n j : ℕ) (f g : ℕ → Bool) → ((i : ℕ) → f i ≡ true → g i ≡ true) → g j ≡ true → j ≤ n → least g (suc n) ≤ least f n
+least_below : (n j : ℕ) (f g : ℕ → Bool) → ((i : ℕ) → f i ≡ true → g i ≡ true) → g j ≡ true → j ≤ n
+    → least g (suc n) ≤ least f n
 least_below n zero f g more e le = rw e (omega arith)
 least_below zero (suc j) f g more e le = absurd (omega (arith, le))
-least_below (suc n) (suc j) f g more e le = go (f 0) (g 0) refl refl (least_below n j (λ i. f (suc i)) (λ i. g (suc i)) (λ i. more (suc i)) e (omega (arith, le)))
+least_below (suc n) (suc j) f g more e le = go (f 0) (g 0) refl refl
+    (least_below n j (λ i. f (suc i)) (λ i. g (suc i)) (λ i. more (suc i)) e (omega (arith, le)))
   where
     go : (x y : Bool) → f 0 ≡ x → g 0 ≡ y → least (λ i. g (suc i)) (suc n) ≤ least (λ i. f (suc i)) n
         → cond y 0 (suc (least (λ i. g (suc i)) (suc n))) ≤ cond x 0 (suc (least (λ i. f (suc i)) n))
@@ -80,9 +93,11 @@ least_below (suc n) (suc j) f g more e le = go (f 0) (g 0) refl refl (least_belo
     go true false p q le = absurd (both_ways (g 0) q (more 0 p))
     go false false p q le = omega (arith, le)
 
--- What is left of a walk that reads `all` records to the oldest: from this link on, where the oldest record so far is `newer`, and
+-- What is left of a walk that reads `all` records to the oldest: from this link on, where the oldest record so far is
+-- `newer`, and
 -- `before` were counted before it and `now` so far
-pub record Goes (u : SegmentLog) (m all : ℕ) (oldest : Option Record) (before : ℕ) (l : Option Link) (newer : Option Record) (now : ℕ) : Type 0 where
+pub record Goes (u : SegmentLog) (m all : ℕ) (oldest : Option Record) (before : ℕ) (l : Option Link)
+    (newer : Option Record) (now : ℕ) : Type 0 where
   pub left : ℕ
   pub few : left ≤ all
   pub walks : Walks u m l newer left oldest
@@ -102,80 +117,101 @@ ticked_on : (top before n now : ℕ) → now ≡ min (before + 1) top → min (n
 ticked_on top before n now e = omega (arith, e)
 
 module _ (u : SegmentLog) (m : ℕ) where
-  walk_ends : (l : Option Link) (newer : Option Record) (n : ℕ) (oldest : Option Record) → Walks u m l newer n oldest → can_end u m n l ≡ true
+  walk_ends : (l : Option Link) (newer : Option Record) (n : ℕ) (oldest : Option Record) → Walks u m l newer n oldest
+      → can_end u m n l ≡ true
   walk_ends l newer _ _ (Ends _ _ e) = not_from_false (leads_later m l) e
   walk_ends _ newer _ oldest (Reads a h p b _ n _ later there w) =
-      passes_among a (λ q. can_end u m n (link_from h q)) p b (records_by u h) there (walk_ends (link_from h p) (Some b) n oldest w)
+      passes_among a (λ q. can_end u m n (link_from h q)) p b (records_by u h) there
+      (walk_ends (link_from h p) (Some b) n oldest w)
 
-  first_read : (l : Link) (newer : Option Record) (left : ℕ) (oldest : Option Record) → is_later m l.holder ≡ true → Walks u m (Some l) newer left oldest
+  first_read : (l : Link) (newer : Option Record) (left : ℕ) (oldest : Option Record) → is_later m l.holder ≡ true
+      → Walks u m (Some l) newer left oldest
       → First u m l left oldest
   first_read l newer _ oldest later (Ends _ _ e) = absurd (both_ways (is_later m l.holder) e later)
-  first_read _ newer _ oldest later (Reads a h p b _ n _ also there w) = record { previous = p; record_there = b; rest = n; one = refl; there = there; walks = w }
+  first_read _ newer _ oldest later (Reads a h p b _ n _ also there w) =
+      record { previous = p; record_there = b; rest = n; one = refl; there = there; walks = w }
 
   module _ (all : ℕ) (oldest : Option Record) (before : ℕ) where
     abbrev GoesFrom : Option Link → Option Record → ℕ → Type 0
     GoesFrom l newer now = Goes u m all oldest before l newer now
 
     -- before the first read
-    pub goes_first : (l : Option Link) (now : ℕ) → Walks u m l None all oldest → now ≡ before → now < 2 ^ 64 → GoesFrom l None now
-    goes_first l now w e fits = record { left = all; few = omega arith; walks = w; counted = ap (λ z. ticked z all) e; fits = fits }
+    pub goes_first : (l : Option Link) (now : ℕ) → Walks u m l None all oldest → now ≡ before → now < 2 ^ 64
+        → GoesFrom l None now
+    goes_first l now w e fits =
+        record { left = all; few = omega arith; walks = w; counted = ap (λ z. ticked z all) e; fits = fits }
 
-    at_link : (o : Option Link) (l : Link) (newer : Option Record) (now : ℕ) → o ≡ Some l → GoesFrom o newer now → GoesFrom (Some l) newer now
+    at_link : (o : Option Link) (l : Link) (newer : Option Record) (now : ℕ) → o ≡ Some l → GoesFrom o newer now
+        → GoesFrom (Some l) newer now
     at_link o l newer now e g = subst (λ x. GoesFrom x newer now) e g
 
     -- a record stands where a link leads to a later holder
-    pub stands_there : (o : Option Link) (l : Link) (newer : Option Record) (now : ℕ) → o ≡ Some l → is_later m l.holder ≡ true → GoesFrom o newer now
+    pub stands_there : (o : Option Link) (l : Link) (newer : Option Record) (now : ℕ) → o ≡ Some l
+        → is_later m l.holder ≡ true → GoesFrom o newer now
         → HasAddress (records_by u l.holder) l.address
     stands_there o l newer now e later g =
         let here = at_link o l newer now e g in
         let f = first_read l newer here.left oldest later here.walks in
         record { previous = f.previous; before = f.record_there; there = f.there }
 
-    goes_from : (l : Link) (newer : Option Record) (now next : ℕ) (told : Previous × Record) → is_later m l.holder ≡ true → GoesFrom (Some l) newer now
-        → IsRecordAt (records_by u l.holder) l.address told → next ≡ ticked now 1 → GoesFrom (link_from l.holder told.0) (Some told.1) next
+    goes_from : (l : Link) (newer : Option Record) (now next : ℕ) (told : Previous × Record)
+        → is_later m l.holder ≡ true → GoesFrom (Some l) newer now
+        → IsRecordAt (records_by u l.holder) l.address told → next ≡ ticked now 1
+        → GoesFrom (link_from l.holder told.0) (Some told.1) next
     goes_from l newer now next told later g at e =
         let f = first_read l newer g.left oldest later g.walks in
         let same : told ≡ (f.previous, f.record_there) = at f.previous f.record_there f.there in
         record {
           left = f.rest;
           few = omega (arith, g.few, f.one);
-          walks = subst (λ (x : Previous × Record). Walks u m (link_from l.holder x.0) (Some x.1) f.rest oldest) (sym same) f.walks;
+          walks = subst (λ (x : Previous × Record). Walks u m (link_from l.holder x.0) (Some x.1) f.rest oldest)
+              (sym same) f.walks;
           counted = ticked_on (2 ^ 64 - 1) now f.rest next e ∙ ap (ticked now) (sym f.one) ∙ g.counted;
           fits = omega (arith, e);
         }
 
-    fewer_from : (l : Link) (newer : Option Record) (now : ℕ) (told : Previous × Record) → is_later m l.holder ≡ true → GoesFrom (Some l) newer now
-        → IsRecordAt (records_by u l.holder) l.address told → reads_left u m all (link_from l.holder told.0) < reads_left u m all (Some l)
+    fewer_from : (l : Link) (newer : Option Record) (now : ℕ) (told : Previous × Record) → is_later m l.holder ≡ true
+        → GoesFrom (Some l) newer now
+        → IsRecordAt (records_by u l.holder) l.address told
+        → reads_left u m all (link_from l.holder told.0) < reads_left u m all (Some l)
     unfolding reads_left
     fewer_from l newer now told later g at =
         let then = goes_from l newer now (ticked now 1) told later g at refl in
-        let below = least_below all then.left (λ i. can_end u m (suc i) (Some l)) (λ i. can_end u m i (link_from l.holder told.0))
+        let below = least_below all then.left (λ i. can_end u m (suc i) (Some l))
+        (λ i. can_end u m i (link_from l.holder told.0))
         (λ i e. told_passes l.address (λ p. can_end u m i (link_from l.holder p)) told (records_by u l.holder) at e)
         (walk_ends (link_from l.holder told.0) (Some told.1) then.left oldest then.walks) then.few in
         rw later (omega (arith, below))
 
     -- what is read there leads on
-    pub goes_on : (o : Option Link) (l : Link) (newer : Option Record) (now next : ℕ) (p : Previous) (b : Record) (after : Option Link) → o ≡ Some l
-        → is_later m l.holder ≡ true → GoesFrom o newer now → IsRecordAt (records_by u l.holder) l.address (p, b) → next ≡ ticked now 1
+    pub goes_on : (o : Option Link) (l : Link) (newer : Option Record) (now next : ℕ) (p : Previous) (b : Record)
+        (after : Option Link) → o ≡ Some l
+        → is_later m l.holder ≡ true → GoesFrom o newer now → IsRecordAt (records_by u l.holder) l.address (p, b)
+        → next ≡ ticked now 1
         → after ≡ link_from l.holder p → GoesFrom after (Some b) next
     goes_on o l newer now next p b after e later g at tick a =
-        subst (λ x. GoesFrom x (Some b) next) (sym a) (goes_from l newer now next (p, b) later (at_link o l newer now e g) at tick)
+        subst (λ x. GoesFrom x (Some b) next) (sym a)
+        (goes_from l newer now next (p, b) later (at_link o l newer now e g) at tick)
 
     -- and leaves fewer
-    pub leaves_fewer : (o : Option Link) (l : Link) (newer : Option Record) (now : ℕ) (p : Previous) (b : Record) (after : Option Link) → o ≡ Some l
+    pub leaves_fewer : (o : Option Link) (l : Link) (newer : Option Record) (now : ℕ) (p : Previous) (b : Record)
+        (after : Option Link) → o ≡ Some l
         → is_later m l.holder ≡ true → GoesFrom o newer now → IsRecordAt (records_by u l.holder) l.address (p, b)
         → after ≡ link_from l.holder p → reads_left u m all after < reads_left u m all o
     leaves_fewer o l newer now p b after e later g at a =
         rw (e, a) (fewer_from l newer now (p, b) later (at_link o l newer now e g) at)
 
     -- a link to no later holder is the walk's end
-    ended : (l : Option Link) (newer : Option Record) (n now : ℕ) → leads_later m l ≡ false → Walks u m l newer n oldest → ticked now n ≡ ticked before all → now < 2 ^ 64
+    ended : (l : Option Link) (newer : Option Record) (n now : ℕ) → leads_later m l ≡ false → Walks u m l newer n oldest
+        → ticked now n ≡ ticked before all → now < 2 ^ 64
         → (newer ≡ oldest) × (now ≡ ticked before all)
     ended l newer _ now e (Ends _ _ _) counted fits = (refl, omega (arith, counted, fits))
     ended _ newer _ now e (Reads a h p b _ n _ later there w) counted fits = absurd (both_ways (is_later m h) e later)
 
-    pub finds : (l : Option Link) (newer : Option Record) (now : ℕ) → leads_later m l ≡ false → GoesFrom l newer now → newer ≡ oldest
+    pub finds : (l : Option Link) (newer : Option Record) (now : ℕ) → leads_later m l ≡ false → GoesFrom l newer now
+        → newer ≡ oldest
     finds l newer now e g = (ended l newer g.left now e g.walks g.counted g.fits).0
 
-    pub counts : (l : Option Link) (newer : Option Record) (now : ℕ) → leads_later m l ≡ false → GoesFrom l newer now → now ≡ ticked before all
+    pub counts : (l : Option Link) (newer : Option Record) (now : ℕ) → leads_later m l ≡ false → GoesFrom l newer now
+        → now ≡ ticked before all
     counts l newer now e g = (ended l newer g.left now e g.walks g.counted g.fits).1

@@ -1,4 +1,5 @@
--- The records of a key as a chain: a link leads to the newest, and the previous link in each record to the next older one.
+-- The records of a key as a chain: a link leads to the newest, and the previous link in each record to the next older
+-- one.
 use Rattle.std.specs.Prelude.{◌≡◌, ◌≢◌, ℕ, suc, ◌≤◌, ◌<◌, ◌==◌, cond, List, [], ◌∷◌, Option, None, Some, ⊤}
 use Rattle.oe_rows.specs.declared.keys.Key.{Key}
 use Rattle.oe_model.specs.Rows.{is_key}

@@ -12,4 +12,5 @@ use Rattle.oe_undo.specs.Links.{LinkMaps, with_link}
 -- the key's place has the link last written through r, and without r the links stay as they are
 abbrev pub lends_link : MutBor LinkMaps → Key → Option (MutBor (Option OwnedLink)) → Fml
 lends_link t own r =
-    LendsSo the_row (option_row link_row) t r (λ new link. OnSome r (new ≡ with_link t.now own link)) (λ new. new ≡ t.now)
+    LendsSo the_row (option_row link_row) t r (λ new link. OnSome r (new ≡ with_link t.now own link))
+    (λ new. new ≡ t.now)

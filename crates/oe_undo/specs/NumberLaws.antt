@@ -12,7 +12,8 @@ use Rattle.oe_rows.specs.declared.keys.OrderLineKey.{OrderLineKey}
 use Rattle.oe_rows.specs.declared.keys.ItemKey.{ItemKey}
 use Rattle.oe_rows.specs.declared.keys.StockKey.{StockKey}
 use Rattle.oe_rows.specs.KeyShelves.{district_shelf}
-use Rattle.oe_undo.specs.Numbers.{in_district, warehouse_number, district_number, customer_number, new_order_number, order_number, order_line_number, item_number, stock_number}
+use Rattle.oe_undo.specs.Numbers.{in_district, warehouse_number, district_number, customer_number, new_order_number}
+use Rattle.oe_undo.specs.Numbers.{order_number, order_line_number, item_number, stock_number}
 
 -- what a number with its bounds says
 record IsBounded (low high d n m : ℕ) : Type 0 where
@@ -28,36 +29,43 @@ bounded low high d n m = go (ltb low d) (ltb d high) refl refl
     go true false p q e = cc
     go false b p q e = cc
 
-pub warehouse_numbered : (j k : WarehouseKey) (n : ℕ) → ◌≡◌ {A = ℕ} 0 0 → warehouse_number j ≡ Some n → warehouse_number k ≡ Some n → j ≡ k
-warehouse_numbered j k n s p q = ap (λ (w : ℕ). record { warehouse = w }) (same_Some j.warehouse k.warehouse (p ∙ sym q))
+pub warehouse_numbered : (j k : WarehouseKey) (n : ℕ) → ◌≡◌ {A = ℕ} 0 0 → warehouse_number j ≡ Some n
+    → warehouse_number k ≡ Some n → j ≡ k
+warehouse_numbered j k n s p q = ap (λ (w : ℕ). record { warehouse = w })
+    (same_Some j.warehouse k.warehouse (p ∙ sym q))
 
 pub item_numbered : (j k : ItemKey) (n : ℕ) → ◌≡◌ {A = ℕ} 0 0 → item_number j ≡ Some n → item_number k ≡ Some n → j ≡ k
 item_numbered j k n s p q = ap (λ (i : ℕ). record { item = i }) (same_Some j.item k.item (p ∙ sym q))
 
-pub stock_numbered : (j k : StockKey) (n : ℕ) → j.warehouse ≡ k.warehouse → stock_number j ≡ Some n → stock_number k ≡ Some n → j ≡ k
+pub stock_numbered : (j k : StockKey) (n : ℕ) → j.warehouse ≡ k.warehouse → stock_number j ≡ Some n
+    → stock_number k ≡ Some n → j ≡ k
 stock_numbered j k n s p q =
     ap (λ (w : ℕ). record { warehouse = w; item = j.item }) s
     ∙ ap (λ (i : ℕ). record { warehouse = k.warehouse; item = i }) (same_Some j.item k.item (p ∙ sym q))
 
-pub district_numbered : (j k : DistrictKey) (n : ℕ) → ◌≡◌ {A = ℕ} 0 0 → district_number j ≡ Some n → district_number k ≡ Some n → j ≡ k
+pub district_numbered : (j k : DistrictKey) (n : ℕ) → ◌≡◌ {A = ℕ} 0 0 → district_number j ≡ Some n
+    → district_number k ≡ Some n → j ≡ k
 district_numbered j k n s p q =
     let a = bounded 0 11 j.district (10 * j.warehouse + j.district) n p in
     let b = bounded 0 11 k.district (10 * k.warehouse + k.district) n q in
     let w : j.warehouse ≡ k.warehouse = omega (arith, a.above, a.below, a.same, b.above, b.below, b.same) in
     let d : j.district ≡ k.district = omega (arith, w, a.same, b.same) in
-    ap (λ (x : ℕ). record { warehouse = x; district = j.district }) w ∙ ap (λ (x : ℕ). record { warehouse = k.warehouse; district = x }) d
+    ap (λ (x : ℕ). record { warehouse = x; district = j.district }) w
+    ∙ ap (λ (x : ℕ). record { warehouse = k.warehouse; district = x }) d
 
 -- the district of a shelf
 record IsDistrict (w d v e : ℕ) : Type 0 where
   pub warehouse : w ≡ v
   pub district : d ≡ e
 
-of_shelf : (w d v e : ℕ) → 0 < d → d < 11 → 0 < e → e < 11 → district_shelf w d ≡ district_shelf v e → IsDistrict w d v e
+of_shelf : (w d v e : ℕ) → 0 < d → d < 11 → 0 < e → e < 11 → district_shelf w d ≡ district_shelf v e
+    → IsDistrict w d v e
 of_shelf w d v e a b c f s =
     let one : w ≡ v = omega (arith, a, b, c, f, s) in
     record { warehouse = one; district = omega (arith, a, b, c, f, s, one) }
 
-pub customer_numbered : (j k : CustomerKey) (n : ℕ) → district_shelf j.warehouse j.district ≡ district_shelf k.warehouse k.district
+pub customer_numbered : (j k : CustomerKey) (n : ℕ)
+    → district_shelf j.warehouse j.district ≡ district_shelf k.warehouse k.district
     → customer_number j ≡ Some n → customer_number k ≡ Some n → j ≡ k
 customer_numbered j k n s p q =
     let a = bounded 0 11 j.district j.customer n p in
@@ -67,7 +75,8 @@ customer_numbered j k n s p q =
     ∙ ap (λ (x : ℕ). record { warehouse = k.warehouse; district = x; customer = j.customer }) h.district
     ∙ ap (λ (x : ℕ). record { warehouse = k.warehouse; district = k.district; customer = x }) (a.same ∙ sym b.same)
 
-pub new_order_numbered : (j k : NewOrderKey) (n : ℕ) → district_shelf j.warehouse j.district ≡ district_shelf k.warehouse k.district
+pub new_order_numbered : (j k : NewOrderKey) (n : ℕ)
+    → district_shelf j.warehouse j.district ≡ district_shelf k.warehouse k.district
     → new_order_number j ≡ Some n → new_order_number k ≡ Some n → j ≡ k
 new_order_numbered j k n s p q =
     let a = bounded 0 11 j.district j.order n p in
@@ -77,7 +86,8 @@ new_order_numbered j k n s p q =
     ∙ ap (λ (x : ℕ). record { warehouse = k.warehouse; district = x; order = j.order }) h.district
     ∙ ap (λ (x : ℕ). record { warehouse = k.warehouse; district = k.district; order = x }) (a.same ∙ sym b.same)
 
-pub order_numbered : (j k : OrderKey) (n : ℕ) → district_shelf j.warehouse j.district ≡ district_shelf k.warehouse k.district
+pub order_numbered : (j k : OrderKey) (n : ℕ)
+    → district_shelf j.warehouse j.district ≡ district_shelf k.warehouse k.district
     → order_number j ≡ Some n → order_number k ≡ Some n → j ≡ k
 order_numbered j k n s p q =
     let a = bounded 0 11 j.district j.order n p in
@@ -98,14 +108,22 @@ record IsLine (k : OrderLineKey) (n : ℕ) : Type 0 where
 line_bounded : (k : OrderLineKey) (n : ℕ) → order_line_number k ≡ Some n → IsLine k n
 line_bounded k n = go (ltb 0 k.number) (ltb k.number 16) refl refl
   where
-    go : (a b : Bool) → ltb 0 k.number ≡ a → ltb k.number 16 ≡ b → cond (a && b) (in_district k.district (15 * k.order + k.number)) None ≡ Some n → IsLine k n
+    go : (a b : Bool) → ltb 0 k.number ≡ a → ltb k.number 16 ≡ b
+        → cond (a && b) (in_district k.district (15 * k.order + k.number)) None ≡ Some n → IsLine k n
     go true true p q e =
         let h = bounded 0 11 k.district (15 * k.order + k.number) n e in
-        record { first = ltb-true 0 k.number p; last = ltb-true k.number 16 q; above = h.above; below = h.below; same = h.same }
+        record {
+          first = ltb-true 0 k.number p;
+          last = ltb-true k.number 16 q;
+          above = h.above;
+          below = h.below;
+          same = h.same;
+        }
     go true false p q e = cc
     go false b p q e = cc
 
-pub order_line_numbered : (j k : OrderLineKey) (n : ℕ) → district_shelf j.warehouse j.district ≡ district_shelf k.warehouse k.district
+pub order_line_numbered : (j k : OrderLineKey) (n : ℕ)
+    → district_shelf j.warehouse j.district ≡ district_shelf k.warehouse k.district
     → order_line_number j ≡ Some n → order_line_number k ≡ Some n → j ≡ k
 order_line_numbered j k n s p q =
     let a = line_bounded j n p in

@@ -1,6 +1,8 @@
--- What became of the transactions whose records links lead to. A link keeps its transaction, and the log knows whether that is open, or at
+-- What became of the transactions whose records links lead to. A link keeps its transaction, and the log knows whether
+-- that is open, or at
 -- which moment it committed.
-use Rattle.std.specs.Prelude.{◌≡◌, ⊤, ℕ, suc, ◌≤◌, ◌<◌, ◌-◌, ◌==◌, nat_lt, cond, List, [], ◌∷◌, length, get_or, slice_get, Option, None, Some, IsSome, option_map}
+use Rattle.std.specs.Prelude.{◌≡◌, ⊤, ℕ, suc, ◌≤◌, ◌<◌, ◌-◌, ◌==◌, nat_lt, cond, List, [], ◌∷◌, length, get_or}
+use Rattle.std.specs.Prelude.{slice_get, Option, None, Some, IsSome, option_map}
 use Rattle.std.specs.List.{All}
 use Rattle.oe_values.specs.declared.numbers.TheConstants.{TERMINALS}
 use Rattle.oe_rows.specs.declared.keys.Key.{Key}

@@ -38,16 +38,19 @@ module _ {K : Type 0} (shelf_of : K → ℕ) (number_of : K → Option ℕ) wher
   -- each key of the shelf up to this one has a place, which is empty where there was none
   abbrev pub GivesNumbers : LinkTable → LinkTable → K → Type 0
   GivesNumbers old new own =
-      (k : K) → key_place new k ≡ cond (is_not_above (shelf_of own) (number_of own) (shelf_of k) (number_of k)) (Some (link_in (key_place old k))) (key_place old k)
+      (k : K) → key_place new k ≡ cond (is_not_above (shelf_of own) (number_of own) (shelf_of k) (number_of k))
+      (Some (link_in (key_place old k))) (key_place old k)
 
 module _ {K : Type 0} (cmp : K → K → Ordering) (shelf_of : K → ℕ) (number_of : K → Option ℕ) where
   -- the key's place has this link, or is empty, and all others are as they were
   abbrev pub SetsNumber : LinkTable → LinkTable → K → Option OwnedLink → Type 0
   SetsNumber old new own l =
-      (k : K) → key_place shelf_of number_of new k ≡ cond (eq_by_cmp cmp own k) (Some l) (key_place shelf_of number_of old k)
+      (k : K) → key_place shelf_of number_of new k ≡ cond (eq_by_cmp cmp own k) (Some l)
+      (key_place shelf_of number_of old k)
 
   -- the same, and each key of the shelf up to this one has a place
   abbrev pub InsertsNumber : LinkTable → LinkTable → K → Option OwnedLink → Type 0
   InsertsNumber old new own l =
       (k : K) → key_place shelf_of number_of new k ≡ cond (eq_by_cmp cmp own k) (Some l)
-      (cond (is_not_above (shelf_of own) (number_of own) (shelf_of k) (number_of k)) (Some (link_in (key_place shelf_of number_of old k))) (key_place shelf_of number_of old k))
+      (cond (is_not_above (shelf_of own) (number_of own) (shelf_of k) (number_of k))
+      (Some (link_in (key_place shelf_of number_of old k))) (key_place shelf_of number_of old k))

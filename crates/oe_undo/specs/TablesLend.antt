@@ -10,4 +10,5 @@ use Rattle.oe_undo.specs.Tables.{LinkTable, with_number}
 -- the place has the link last written through r, and without r the links stay as they are
 abbrev pub lends_number : MutBor LinkTable → ℕ → Option ℕ → Option (MutBor (Option OwnedLink)) → Fml
 lends_number t shelf number r =
-    LendsSo (places_row link_row) (option_row link_row) t r (λ new link. new ≡ with_number t.now shelf number link) (λ new. new ≡ t.now)
+    LendsSo (places_row link_row) (option_row link_row) t r (λ new link. new ≡ with_number t.now shelf number link)
+    (λ new. new ≡ t.now)

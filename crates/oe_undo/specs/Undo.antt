@@ -26,14 +26,17 @@ pub record UndoState : Type 0 where
 abbrev pub seen : UndoState → Key → Option Link
 seen s k = followed s.log (links_of s.links k)
 
--- a terminal's open segment has this record more, at an address where no other is, and the record's key has a link to it
+-- a terminal's open segment has this record more, at an address where no other is, and the record's key has a link to
+-- it
 pub record HasPushed (old new : UndoState) (t : ℕ) (p : Previous) (b : Record) : Type 0 where
   pub address : RecordAddress
   pub fresh : IsFresh old.log address
   pub log : new.log ≡ pushed old.log t (logged address p b)
-  pub link : LeadsTo old.links new.links (record_key b) (Some (record { address = address; owner = next_owner old.log t }))
+  pub link : LeadsTo old.links new.links (record_key b)
+      (Some (record { address = address; owner = next_owner old.log t }))
 
--- why a record is not pushed: it fits neither the rest of the terminal's newest extent nor a free one; or it does, and memory was
+-- why a record is not pushed: it fits neither the rest of the terminal's newest extent nor a free one; or it does, and
+-- memory was
 -- refused for the place of its key's link
 abbrev pub IsUnpushed : UndoState → ℕ → Record → CantPush → Type 0
 IsUnpushed s t b cant_push.Full = IsFull s.log t (record_length b)

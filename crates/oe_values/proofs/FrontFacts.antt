@@ -1,5 +1,7 @@
 -- What reading from the front finds, and that it finds what is spelled.
-use Rattle.std.proofs.Common.{◌≡◌, ◌≢◌, ℕ, zero, suc, ◌+◌, ◌-◌, ◌*◌, ◌/◌, ◌%◌, ◌^◌, ◌<◌, ◌≤◌, ◌⊎◌, inl, inr, List, [], ◌∷◌, ◌++◌, Bool, true, false, not, ◌&&◌, cond, Option, Some, None, length, decimal, nat_lt, nat_le, eqb, sym, ap, ◌∙◌, refl, append_assoc, arith, rules, le-leb, lt-ltb}
+use Rattle.std.proofs.Common.{◌≡◌, ◌≢◌, ℕ, zero, suc, ◌+◌, ◌-◌, ◌*◌, ◌/◌, ◌%◌, ◌^◌, ◌<◌, ◌≤◌, ◌⊎◌, inl, inr, List, []}
+use Rattle.std.proofs.Common.{◌∷◌, ◌++◌, Bool, true, false, not, ◌&&◌, cond, Option, Some, None, length, decimal}
+use Rattle.std.proofs.Common.{nat_lt, nat_le, eqb, sym, ap, ◌∙◌, refl, append_assoc, arith, rules, le-leb, lt-ltb}
 use Rattle.std.specs.Char.{is_ascii_digit}
 use Rattle.std.proofs.lemmas.Bool.{leb-true}
 use Rattle.std.proofs.lemmas.Bool.Decides.{nat_tests}
@@ -9,7 +11,8 @@ use Rattle.oe_values.specs.Front.{◌>>=◌, after_of, pair_of, digits_from, dec
 
 -- options
 
-pub bind_some : {A B : Type 0} (o : Option A) (f : A → Option B) (y : B) → o >>= f ≡ Some y → (x : A) × (o ≡ Some x) × (f x ≡ Some y)
+pub bind_some : {A B : Type 0} (o : Option A) (f : A → Option B) (y : B) → o >>= f ≡ Some y
+    → (x : A) × (o ≡ Some x) × (f x ≡ Some y)
 bind_some None f y e = cc
 bind_some (Some x) f y e = (x, refl, e)
 
@@ -64,7 +67,8 @@ digit_range b e =
 is_digit : (b : ℕ) → 48 ≤ b → b ≤ 57 → is_ascii_digit b ≡ true
 is_digit b l u = rw (le-leb 48 b l, le-leb b 57 u) refl
 
-two_same : (a b n : ℕ) → 48 ≤ a → a ≤ 57 → 48 ≤ b → b ≤ 57 → (a - 48) * 10 + (b - 48) ≡ n → (n < 100) × (a ≡ 48 + n / 10) × (b ≡ 48 + n % 10)
+two_same : (a b n : ℕ) → 48 ≤ a → a ≤ 57 → 48 ≤ b → b ≤ 57 → (a - 48) * 10 + (b - 48) ≡ n
+    → (n < 100) × (a ≡ 48 + n / 10) × (b ≡ 48 + n % 10)
 two_same a b n p q r s e = (omega arith, omega arith, omega arith)
 
 pub pair_found : (s : List ℕ) (n : ℕ) (r : List ℕ) → pair_of s ≡ Some (n, r) → (s ≡ two_digits n ++ r) × (n < 100)
@@ -85,12 +89,14 @@ pub pair_only : (n : ℕ) (r : List ℕ) → n < 100 → pair_of (two_digits n +
 unfolding pair_of
 pair_only n r h =
     let value : (48 + n / 10 - 48) * 10 + (48 + n % 10 - 48) ≡ n = omega arith in
-    rw (is_digit (48 + n / 10) (omega arith) (omega arith), is_digit (48 + n % 10) (omega arith) (omega arith), value) refl
+    rw (is_digit (48 + n / 10) (omega arith) (omega arith), is_digit (48 + n % 10) (omega arith) (omega arith), value)
+    refl
 
 -- numbers
 
 -- one digit more
-decimal_more : (value b : ℕ) (s : List ℕ) → 0 < value → value < 10 ^ 14 → 48 ≤ b → b ≤ 57 → decimal (value * 10 + (b - 48)) ++ s ≡ decimal value ++ b ∷ s
+decimal_more : (value b : ℕ) (s : List ℕ) → 0 < value → value < 10 ^ 14 → 48 ≤ b → b ≤ 57
+    → decimal (value * 10 + (b - 48)) ++ s ≡ decimal value ++ b ∷ s
 decimal_more value b s low high p q =
     let n = value * 10 + (b - 48) in
     let front : n / 10 ≡ value = omega arith in
@@ -98,33 +104,41 @@ decimal_more value b s low high p q =
     let step = decimal_step n (omega arith) (omega arith) in
     ap (λ z. z ++ s) (rw (front, last) at step) ∙ append_assoc (decimal value) (b ∷ []) s
 
-digits_found : (value : ℕ) (s : List ℕ) (n : ℕ) (r : List ℕ) → 0 < value → value < 10 ^ 15 → digits_from value s ≡ Some (n, r) → (decimal value ++ s ≡ decimal n ++ r) × (n < 10 ^ 15)
+digits_found : (value : ℕ) (s : List ℕ) (n : ℕ) (r : List ℕ) → 0 < value → value < 10 ^ 15
+    → digits_from value s ≡ Some (n, r) → (decimal value ++ s ≡ decimal n ++ r) × (n < 10 ^ 15)
 digits_found value [] n r low high e =
     let pair = some_same (value, []) (n, r) e in
     let same : value ≡ n = ap (λ (x : ℕ × List ℕ). x.0) pair in
     (ap (λ (x : ℕ × List ℕ). decimal x.0 ++ x.1) pair, omega (arith, same))
-digits_found value (b ∷ s) n r low high e = elim (chosen (is_ascii_digit b) (cond (nat_lt value 100_000_000_000_000) (digits_from (value * 10 + (b - 48)) s) None) (Some (value, b ∷ s)) (Some (n, r)) e) [
-  | inl h ↦
-      let g = guarded (nat_lt value 100_000_000_000_000) (digits_from (value * 10 + (b - 48)) s) (n, r) h.1 in
-      let room : value < 10 ^ 14 = search (arith, rules, g.0) in
-      let d = digit_range b h.0 in
-      let again = digits_found (value * 10 + (b - 48)) s n r (omega arith) (omega (arith, d.0, d.1)) g.1 in
-      (sym (decimal_more value b s low room d.0 d.1) ∙ again.0, again.1)
-  | inr h ↦
-      let pair = some_same (value, b ∷ s) (n, r) h.1 in
-      let same : value ≡ n = ap (λ (x : ℕ × List ℕ). x.0) pair in
-      (ap (λ (x : ℕ × List ℕ). decimal x.0 ++ x.1) pair, omega (arith, same))
-]
+digits_found value (b ∷ s) n r low high e =
+    elim (chosen (is_ascii_digit b)
+    (cond (nat_lt value 100_000_000_000_000) (digits_from (value * 10 + (b - 48)) s) None) (Some (value, b ∷ s))
+    (Some (n, r)) e) [
+      | inl h ↦
+          let g = guarded (nat_lt value 100_000_000_000_000) (digits_from (value * 10 + (b - 48)) s) (n, r) h.1 in
+          let room : value < 10 ^ 14 = search (arith, rules, g.0) in
+          let d = digit_range b h.0 in
+          let again = digits_found (value * 10 + (b - 48)) s n r (omega arith) (omega (arith, d.0, d.1)) g.1 in
+          (sym (decimal_more value b s low room d.0 d.1) ∙ again.0, again.1)
+      | inr h ↦
+          let pair = some_same (value, b ∷ s) (n, r) h.1 in
+          let same : value ≡ n = ap (λ (x : ℕ × List ℕ). x.0) pair in
+          (ap (λ (x : ℕ × List ℕ). decimal x.0 ++ x.1) pair, omega (arith, same))
+    ]
 
-pub decimal_found : (s : List ℕ) (n : ℕ) (r : List ℕ) → decimal_of s ≡ Some (n, r) → (s ≡ decimal n ++ r) × (n < 10 ^ 15)
+pub decimal_found : (s : List ℕ) (n : ℕ) (r : List ℕ) → decimal_of s ≡ Some (n, r)
+    → (s ≡ decimal n ++ r) × (n < 10 ^ 15)
 unfolding decimal_of
 decimal_found [] n r e = cc
 decimal_found (b ∷ s) n r e = elim (chosen (eqb b 48) (Some (0, s)) _ (Some (n, r)) e) [
   | inl h ↦
       let zero : b ≡ 48 = search (rules, h.0) in
       let pair = some_same (0, s) (n, r) h.1 in
-      let same : 0 ≡ n = ap (λ (x : ℕ × List ℕ). x.0) pair in
-      (ap (λ x. x ∷ s) zero ∙ ap (λ z. z ++ s) (sym (decimal_digit 0 (omega arith))) ∙ ap (λ (x : ℕ × List ℕ). decimal x.0 ++ x.1) pair, omega (arith, same))
+      let same : 0 ≡ n = ap (λ (x : ℕ × List ℕ). x.0) pair in (
+        ap (λ x. x ∷ s) zero ∙ ap (λ z. z ++ s) (sym (decimal_digit 0 (omega arith)))
+            ∙ ap (λ (x : ℕ × List ℕ). decimal x.0 ++ x.1) pair,
+        omega (arith, same),
+      )
   | inr h ↦
       let g = guarded (is_ascii_digit b) (digits_from (b - 48) s) (n, r) h.1 in
       let d = digit_range b g.0 in
@@ -142,10 +156,12 @@ ends (b ∷ s) = not (is_ascii_digit b)
 
 digits_end : (n : ℕ) (r : List ℕ) → ends r ≡ true → digits_from n r ≡ Some (n, r)
 digits_end n [] e = refl
-digits_end n (b ∷ s) e = elim (is_ascii_digit b) as (λ t. not t ≡ true → cond t (cond (nat_lt n 100_000_000_000_000) (digits_from (n * 10 + (b - 48)) s) None) (Some (n, b ∷ s)) ≡ Some (n, b ∷ s)) [
-  | true ↦ λ h. cc
-  | false ↦ λ h. refl
-] e
+digits_end n (b ∷ s) e = elim (is_ascii_digit b) as (λ t. not t ≡ true
+    → cond t (cond (nat_lt n 100_000_000_000_000) (digits_from (n * 10 + (b - 48)) s) None) (Some (n, b ∷ s)) ≡ Some
+    (n, b ∷ s)) [
+      | true ↦ λ h. cc
+      | false ↦ λ h. refl
+    ] e
 
 -- the digits of a number, but 0, are read up to those that follow
 abbrev IsRead : ℕ → List ℕ → Type 0
@@ -163,7 +179,8 @@ read_more n ds ten front low high r =
     let before = front (omega arith) (omega arith) ((48 + n % 10) ∷ r) in
     let value : n / 10 * 10 + (48 + n % 10 - 48) ≡ n = omega arith in
     let room : nat_lt (n / 10) 100_000_000_000_000 ≡ true = lt-ltb _ _ (omega arith) in
-    ap decimal_of (append_assoc ds ((48 + n % 10) ∷ []) r) ∙ before ∙ rw (is_digit (48 + n % 10) (omega arith) (omega arith), room, value) refl
+    ap decimal_of (append_assoc ds ((48 + n % 10) ∷ []) r) ∙ before
+    ∙ rw (is_digit (48 + n % 10) (omega arith) (omega arith), room, value) refl
 
 read_all : (n : ℕ) → n < 10 ^ 15 → IsRead n (decimal n)
 read_all n h = decimal_by_steps IsRead read_first read_more n (omega arith)

@@ -1,5 +1,6 @@
 -- Lemmas on the texts of stamps.
-use Rattle.std.proofs.Common.{◌≡◌, refl, sym, ◌∙◌, ap, ℕ, ◌+◌, ◌*◌, ◌/◌, ◌%◌, ◌<◌, ◌≤◌, List, [], ◌++◌, ◌∷◌, codes, arith, Bool, true, false, lit≤, Option, Some, None, IfSome}
+use Rattle.std.proofs.Common.{◌≡◌, refl, sym, ◌∙◌, ap, ℕ, ◌+◌, ◌*◌, ◌/◌, ◌%◌, ◌<◌, ◌≤◌, List, [], ◌++◌, ◌∷◌, codes}
+use Rattle.std.proofs.Common.{arith, Bool, true, false, lit≤, Option, Some, None, IfSome}
 use Rattle.std.specs.Prelude.{pos, negsuc, ◌+ℤ◌, ◌*ℤ◌, ◌≤ℤ◌, unsigned_abs, if◌then◌else◌}
 use Rattle.std.proofs.lemmas.Int.{ints, by_lt_z}
 use Rattle.jiff_core.specs.Calendar.{IsDate, days_in_month, days_from_civil, day_count, days_of_years, days_of_months}
@@ -79,7 +80,8 @@ time_found s d r e =
     (after_found (codes ":") m.0.1 b.0 b.1 ∙ ap (λ z. 58 ∷ z) second.0))) in
     spelled ∙ ap (λ (x : (ℕ × ℕ × ℕ) × List ℕ). time_text x.0.0 x.0.1 x.0.2 ++ x.1) (some_same _ (d, r) t.2)
 
-pub numbers_found : (s : List ℕ) (d t : ℕ × ℕ × ℕ) → numbers_of s ≡ Some (d, t) → s ≡ date_text d.0 d.1 d.2 ++ 84 ∷ time_text t.0 t.1 t.2
+pub numbers_found : (s : List ℕ) (d t : ℕ × ℕ × ℕ) → numbers_of s ≡ Some (d, t)
+    → s ≡ date_text d.0 d.1 d.2 ++ 84 ∷ time_text t.0 t.1 t.2
 unfolding numbers_of
 numbers_found s d t e =
     let x = bind_some (date_of s) _ (d, t) e in
@@ -93,34 +95,46 @@ numbers_found s d t e =
 
 -- and what is spelled is read
 
-date_only : (y m d : ℕ) (r : List ℕ) → y < 10000 → m < 100 → d < 100 → date_of (date_text y m d ++ r) ≡ Some ((y, m, d), r)
+date_only : (y m d : ℕ) (r : List ℕ) → y < 10000 → m < 100 → d < 100
+    → date_of (date_text y m d ++ r) ≡ Some ((y, m, d), r)
 unfolding date_of
 date_only y m d r p q t =
     let whole : y / 100 * 100 + y % 100 ≡ y = omega arith in
-    rw (pair_only (y / 100) _ (omega arith), pair_only (y % 100) _ (omega arith), pair_only m _ q, pair_only d r t, whole) refl
+    rw (
+      pair_only (y / 100) _ (omega arith),
+      pair_only (y % 100) _ (omega arith),
+      pair_only m _ q,
+      pair_only d r t,
+      whole,
+    ) refl
 
-time_only : (h i e : ℕ) (r : List ℕ) → h < 100 → i < 100 → e < 100 → time_of (time_text h i e ++ r) ≡ Some ((h, i, e), r)
+time_only : (h i e : ℕ) (r : List ℕ) → h < 100 → i < 100 → e < 100
+    → time_of (time_text h i e ++ r) ≡ Some ((h, i, e), r)
 unfolding time_of
 time_only h i e r p q t = rw (pair_only h _ p, pair_only i _ q, pair_only e r t) refl
 
-pub numbers_only : (s : List ℕ) (n : ℕ) (r : SaysStamp s n) → numbers_of s ≡ Some ((r.year, r.month, r.day), (r.hour, r.minute, r.second))
+pub numbers_only : (s : List ℕ) (n : ℕ) (r : SaysStamp s n)
+    → numbers_of s ≡ Some ((r.year, r.month, r.day), (r.hour, r.minute, r.second))
 unfolding numbers_of
 numbers_only s n r =
     let is_date = r.counted.is_date in
     let clock = clock_small r.hour r.minute r.second r.counted.is_time in
-    let date = date_only r.year r.month r.day (84 ∷ time_text r.hour r.minute r.second) (year_small _ _ _ is_date) (month_small _ _ _ is_date) (day_small _ _ _ is_date) in
+    let date = date_only r.year r.month r.day (84 ∷ time_text r.hour r.minute r.second) (year_small _ _ _ is_date)
+    (month_small _ _ _ is_date) (day_small _ _ _ is_date) in
     let time = time_only r.hour r.minute r.second [] clock.0 clock.1 clock.2 in
     rw (r.spelled, date, time) refl
 
 -- one text says one number of each
-pub IsCounted-read : (s : List ℕ) (n : ℕ) (r : SaysStamp s n) (d t : ℕ × ℕ × ℕ) → numbers_of s ≡ Some (d, t) → IsCounted d.0 d.1 d.2 t.0 t.1 t.2 n
+pub IsCounted-read : (s : List ℕ) (n : ℕ) (r : SaysStamp s n) (d t : ℕ × ℕ × ℕ) → numbers_of s ≡ Some (d, t)
+    → IsCounted d.0 d.1 d.2 t.0 t.1 t.2 n
 IsCounted-read s n r d t e =
     let same = some_same _ (d, t) (sym (numbers_only s n r) ∙ e) in
     let date : (r.year, r.month, r.day) ≡ d = ap (λ (p : (ℕ × ℕ × ℕ) × (ℕ × ℕ × ℕ)). p.0) same in
     let time : (r.hour, r.minute, r.second) ≡ t = ap (λ (p : (ℕ × ℕ × ℕ) × (ℕ × ℕ × ℕ)). p.1) same in
     rw (← date, ← time) r.counted
 
-pub SaysStamp-read : (s : List ℕ) (n : ℕ) (d t : ℕ × ℕ × ℕ) → numbers_of s ≡ Some (d, t) → IsCounted d.0 d.1 d.2 t.0 t.1 t.2 n → SaysStamp s n
+pub SaysStamp-read : (s : List ℕ) (n : ℕ) (d t : ℕ × ℕ × ℕ) → numbers_of s ≡ Some (d, t)
+    → IsCounted d.0 d.1 d.2 t.0 t.1 t.2 n → SaysStamp s n
 SaysStamp-read s n d t e counted = record {
   year = d.0;
   month = d.1;
@@ -140,8 +154,10 @@ says_one s n n' r r' =
     cc
 
 -- the seconds of a stamp are its days and those of its time
-pub counted_at : (y m d h i e days seconds : ℕ) → IsDate (pos y) (pos m) (pos d) → days_from_civil (pos y) m d +ℤ pos 25_567 ≡ pos days → days < 73_414
-    → IsTime (pos h) (pos i) (pos e) (pos 0) → seconds ≡ h * 3600 + i * 60 + e → IsCounted y m d h i e (days * 86_400 + seconds)
+pub counted_at : (y m d h i e days seconds : ℕ) → IsDate (pos y) (pos m) (pos d)
+    → days_from_civil (pos y) m d +ℤ pos 25_567 ≡ pos days → days < 73_414
+    → IsTime (pos h) (pos i) (pos e) (pos 0) → seconds ≡ h * 3600 + i * 60 + e
+    → IsCounted y m d h i e (days * 86_400 + seconds)
 counted_at y m d h i e days seconds is_date at before is_time of_day = record {
   is_date = is_date;
   is_time = is_time;
@@ -149,7 +165,8 @@ counted_at y m d h i e days seconds is_date at before is_time of_day = record {
   before_2101 = omega (arith, ints);
 }
 
-pub days_counted : (y m d h i e n : ℕ) → IsCounted y m d h i e n → (n / 86_400 < 73_414) × (days_from_civil (pos y) m d +ℤ pos 25_567 ≡ pos (n / 86_400))
+pub days_counted : (y m d h i e n : ℕ) → IsCounted y m d h i e n → (n / 86_400 < 73_414)
+    × (days_from_civil (pos y) m d +ℤ pos 25_567 ≡ pos (n / 86_400))
 days_counted y m d h i e n c = (omega (arith, c.before_2101), omega (arith, signed_arith, c.count, c.is_time))
 
 pub if_some : {A : Type 0} (o : Option A) (P Q : A → Type 0) → ((x : A) → P x → Q x) → IfSome o P → IfSome o Q
@@ -168,12 +185,24 @@ civil_seconds-parts t = refl
 pub since_1900 : (t : DateTime) (n : ℕ) → pos n ≡ civil_seconds t +ℤ pos 2_208_988_800 → pos 1900 ≤ℤ t.date.year
 since_1900 t n e =
     by_lt_z t.date.year (pos 1900)
-    (λ lt. absurd (omega (arith, signed_arith, civil_seconds-parts t, epoch_day-1900, days_from_civil-day_count t.date.year t.date.month t.date.day, days_from_civil-day_count (pos 1900) 1 1, day_count-lt_year t.date.year t.date.month t.date.day (pos 1900) 1 1 (civil t.date) (lit≤ tt) lt)))
+    (λ lt. absurd (omega (
+      arith,
+      signed_arith,
+      civil_seconds-parts t,
+      epoch_day-1900,
+      days_from_civil-day_count
+          t.date.year t.date.month t.date.day,
+      days_from_civil-day_count (pos 1900) 1 1,
+      day_count-lt_year t.date.year
+          t.date.month t.date.day (pos 1900) 1 1 (civil t.date) (lit≤ tt) lt,
+    )))
     (λ le. le)
 
 -- what is spelled of a date and time says its stamp
-pub SaysStamp-moment : (t : DateTime) (n : ℕ) (s : List ℕ) → pos n ≡ civil_seconds t +ℤ pos 2_208_988_800 → pos 1900 ≤ℤ t.date.year → n < 6_342_969_600
-    → s ≡ date_text (unsigned_abs t.date.year) t.date.month t.date.day ++ 84 ∷ time_text t.time.hour t.time.minute t.time.second → SaysStamp s n
+pub SaysStamp-moment : (t : DateTime) (n : ℕ) (s : List ℕ) → pos n ≡ civil_seconds t +ℤ pos 2_208_988_800
+    → pos 1900 ≤ℤ t.date.year → n < 6_342_969_600
+    → s ≡ date_text (unsigned_abs t.date.year) t.date.month t.date.day
+    ++ 84 ∷ time_text t.time.hour t.time.minute t.time.second → SaysStamp s n
 SaysStamp-moment t n s count since before spelled =
     let year : pos (unsigned_abs t.date.year) ≡ t.date.year = omega (arith, ints) in
     record {
@@ -206,10 +235,15 @@ civil_date y m d h = record {
 -- a stamp has one text
 pub says_alone : (s t : List ℕ) (n : ℕ) → SaysStamp s n → SaysStamp t n → s ≡ t
 says_alone s t n r r' =
-    let days : days_from_civil (pos r.year) r.month r.day ≡ days_from_civil (pos r'.year) r'.month r'.day = omega (arith, signed_arith, r.counted.count, r'.counted.count, r.counted.is_time, r'.counted.is_time) in
-    let date = epoch_day_injective (civil_date r.year r.month r.day r.counted.is_date) (civil_date r'.year r'.month r'.day r'.counted.is_date) days in
+    let days : days_from_civil (pos r.year) r.month r.day ≡ days_from_civil (pos r'.year) r'.month r'.day =
+    omega (arith, signed_arith, r.counted.count, r'.counted.count, r.counted.is_time, r'.counted.is_time) in
+    let date = epoch_day_injective (civil_date r.year r.month r.day r.counted.is_date)
+    (civil_date r'.year r'.month r'.day r'.counted.is_date) days in
     let year : r.year ≡ r'.year = cc in
-    let hour : r.hour ≡ r'.hour = omega (arith, signed_arith, r.counted.count, r'.counted.count, r.counted.is_time, r'.counted.is_time) in
-    let minute : r.minute ≡ r'.minute = omega (arith, signed_arith, r.counted.count, r'.counted.count, r.counted.is_time, r'.counted.is_time) in
-    let second : r.second ≡ r'.second = omega (arith, signed_arith, r.counted.count, r'.counted.count, r.counted.is_time, r'.counted.is_time) in
+    let hour : r.hour ≡ r'.hour =
+    omega (arith, signed_arith, r.counted.count, r'.counted.count, r.counted.is_time, r'.counted.is_time) in
+    let minute : r.minute ≡ r'.minute = omega
+    (arith, signed_arith, r.counted.count, r'.counted.count, r.counted.is_time, r'.counted.is_time) in
+    let second : r.second ≡ r'.second = omega
+    (arith, signed_arith, r.counted.count, r'.counted.count, r.counted.is_time, r'.counted.is_time) in
     r.spelled ∙ rw (year, date.1, date.2, hour, minute, second) (sym r'.spelled)

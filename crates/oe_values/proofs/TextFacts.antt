@@ -15,7 +15,8 @@ take_over n room a b e =
     rw s (take-append-add a b room)
 
 -- such a front is a text
-pub IsText-over : (least most n room : ℕ) (a b : List ℕ) → IsText least most a → IsText least n b → room + length a ≡ n → IsText least n (a ++ take room b)
+pub IsText-over : (least most n room : ℕ) (a b : List ℕ) → IsText least most a → IsText least n b → room + length a ≡ n
+    → IsText least n (a ++ take room b)
 IsText-over least most n room a b s t e = record {
   at_least = simp length-append (omega (arith, s.at_least));
   at_most = simp (length-append, length-take) (omega arith);

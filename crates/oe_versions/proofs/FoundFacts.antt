@@ -1,5 +1,6 @@
 -- The oldest record of a key that is put back has the key's row of the moment, and that moment's commits are kept.
-use Rattle.std.proofs.Common.{◌≡◌, ℕ, suc, zero, ◌+◌, ◌-◌, ◌<◌, ◌≤◌, Bool, true, false, cond, Option, None, Some, List, [], ◌∷◌, take, length, refl, sym, ap, ◌∙◌, subst, arith}
+use Rattle.std.proofs.Common.{◌≡◌, ℕ, suc, zero, ◌+◌, ◌-◌, ◌<◌, ◌≤◌, Bool, true, false, cond, Option, None, Some, List}
+use Rattle.std.proofs.Common.{[], ◌∷◌, take, length, refl, sym, ap, ◌∙◌, subst, arith}
 use Rattle.std.proofs.lemmas.List.{length-map}
 use Rattle.std.specs.Prelude.{◌≢◌}
 use Rattle.oe_rows.specs.declared.keys.Key.{Key}
@@ -23,10 +24,12 @@ use Rattle.oe_versions.specs.Versions.{without_slots}
 use Rattle.oe_versions.specs.Found.{row_found, HasRow}
 
 -- putting back the records of a key, one after another, leaves the row of the last
-restored_found : (k : Key) (bs : List Record) (o : Option Record) (v : Option Row) → restored system k bs (row_found o v) ≡ row_found (oldest_in k bs o) v
+restored_found : (k : Key) (bs : List Record) (o : Option Record) (v : Option Row)
+    → restored system k bs (row_found o v) ≡ row_found (oldest_in k bs o) v
 restored_found k [] o v = refl
 restored_found k (b ∷ bs) o v =
-    ap (restored system k bs) (step (is_key k (record_key b))) ∙ restored_found k bs (cond (is_key k (record_key b)) (Some b) o) v
+    ap (restored system k bs) (step (is_key k (record_key b))) ∙ restored_found k bs
+    (cond (is_key k (record_key b)) (Some b) o) v
   where
     step : (c : Bool) → cond c (row_before b) (row_found o v) ≡ row_found (cond c (Some b) o) v
     step true = refl
@@ -41,27 +44,34 @@ same_open (suc n) f g k v same =
     let ne : t ≢ n = λ e. omega (arith, e, below) in
     let up : t < suc n = omega (arith, below) in
     set_other n [] f t ne ∙ same t up ∙ sym (set_other n [] g t ne))
-    ∙ ap (λ bs. restored_open system k (set n [] g) (all_below system n) (restored system k bs v)) (same n (omega arith))
+    ∙ ap (λ bs. restored_open system k (set n [] g) (all_below system n) (restored system k bs v))
+    (same n (omega arith))
 
 open_found : (n : ℕ) (f : ℕ → List Record) (k : Key) (o : Option Record) (v : Option Row)
-    → restored_open system k f (all_below system n) (row_found o v) ≡ row_found (oldest_open k f (all_below system n) o) v
+    → restored_open system k f (all_below system n) (row_found o v) ≡ row_found (oldest_open k f (all_below system n) o)
+    v
 open_found zero f k o v = refl
 open_found (suc n) f k o v =
     same_open n (set n [] f) f k (restored system k (f n) (row_found o v)) (λ t below.
     let ne : t ≢ n = λ e. omega (arith, e, below) in
     set_other n [] f t ne)
-    ∙ ap (restored_open system k f (all_below system n)) (restored_found k (f n) o v) ∙ open_found n f k (oldest_in k (f n) o) v
+    ∙ ap (restored_open system k f (all_below system n)) (restored_found k (f n) o v)
+    ∙ open_found n f k (oldest_in k (f n) o) v
 
-commits_found : (k : Key) (ss : List (List Record)) (o : Option Record) (v : Option Row) → restored_commits system k ss (row_found o v) ≡ row_found (oldest_of_commits k ss o) v
+commits_found : (k : Key) (ss : List (List Record)) (o : Option Record) (v : Option Row)
+    → restored_commits system k ss (row_found o v) ≡ row_found (oldest_of_commits k ss o) v
 commits_found k [] o v = refl
-commits_found k (bs ∷ ss) o v = ap (restored_commits system k ss) (restored_found k bs o v) ∙ commits_found k ss (oldest_in k bs o) v
+commits_found k (bs ∷ ss) o v = ap (restored_commits system k ss) (restored_found k bs o v)
+    ∙ commits_found k ss (oldest_in k bs o) v
 
 found_is : (u : SegmentLog) (count m : ℕ) (k : Key) → count + m ≡ newest u → HasRow u m k (oldest_after k u count)
 found_is u count m k e = λ r.
     let after : newest u - m ≡ count = omega (arith, e) in
     let back : List (List Record) = take (newest u - m) (undo_of u).history in
     at_restored_commits system laws back (newest_version system (without_slots r u)) k
-    ∙ ap (restored_commits system k back) (at_restored_open system laws (undo_of u).active (all_below system terminal_limit) r k ∙ open_found terminal_limit (undo_of u).active k None (row_at r k))
+    ∙ ap (restored_commits system k back)
+    (at_restored_open system laws (undo_of u).active (all_below system terminal_limit) r k
+    ∙ open_found terminal_limit (undo_of u).active k None (row_at r k))
     ∙ commits_found k back (oldest_open k (undo_of u).active (all_below system terminal_limit) None) (row_at r k)
     ∙ ap (λ n. row_found (oldest_after k u n) (row_at r k)) after
 

@@ -1,5 +1,6 @@
 -- The last order of a customer at a moment is the last that a walk over the orders that stand finds there.
-use Rattle.std.proofs.Common.{◌≡◌, ℕ, suc, ◌<◌, ◌≤◌, Bool, true, false, cond, Option, None, Some, List, [], ◌∷◌, refl, sym, ap, ◌∙◌, subst, arith}
+use Rattle.std.proofs.Common.{◌≡◌, ℕ, suc, ◌<◌, ◌≤◌, Bool, true, false, cond, Option, None, Some, List, [], ◌∷◌, refl}
+use Rattle.std.proofs.Common.{sym, ap, ◌∙◌, subst, arith}
 use Rattle.std.specs.Prelude.{T, IsSome, is_some, ◌||◌, not, filter, find, nat_le, option_map}
 use Rattle.std.specs.List.{list_any, cons_option}
 use Rattle.std.specs.Ordering.{eq_by_cmp, nat_cmp, ordering_then, is_lt}
@@ -11,7 +12,8 @@ use Rattle.oe_rows.specs.declared.keys.DistrictKey.{DistrictKey}
 use Rattle.oe_rows.specs.declared.keys.CustomerKey.{CustomerKey}
 use Rattle.oe_rows.specs.declared.keys.OrderKey.{OrderKey}
 use Rattle.oe_rows.specs.declared.keys.Key.TheVariants as key
-use Rattle.oe_rows.proofs.KeyFacts.{district_total, exact_district, customer_total, exact_customer, order_total, exact_order}
+use Rattle.oe_rows.proofs.KeyFacts.{district_total, exact_district, customer_total, exact_customer, order_total}
+use Rattle.oe_rows.proofs.KeyFacts.{exact_order}
 use Rattle.oe_rows.specs.declared.orders.Order.{Order}
 use Rattle.oe_rows.specs.declared.rows.Row.TheVariants as row
 use Rattle.oe_model.specs.Keys.{district_of_customer, district_of_order, customer_of_order, customer_in}
@@ -53,7 +55,8 @@ le_true n m h = go (nat_le n m) refl
     go false t = absurd (let less : m < n = leb-false n m t in let no : ⊥ = omega arith in no)
 
 -- the only one of a rising list that none is larger than is the last
-find_last : (all es : List Entry) → Rises es → EachOf (λ e. has_larger e all ≡ has_larger e es) es → find (λ e. not (has_larger e all)) es ≡ final None es
+find_last : (all es : List Entry) → Rises es → EachOf (λ e. has_larger e all ≡ has_larger e es) es
+    → find (λ e. not (has_larger e all)) es ≡ final None es
 find_last all [] r same = refl
 find_last all (x ∷ []) r same =
     let none : has_larger x all ≡ false = same.0 ∙ ap (λ b. b || false) (not_above x.0.order x.0.order (omega arith)) in
@@ -65,10 +68,14 @@ find_last all (x ∷ y ∷ es) r same =
     same.0 ∙ ap (λ b. b || has_larger x (y ∷ es)) own ∙ ap (λ b. b || has_larger x es) next
     in
     ap (λ b. cond (not b) (Some x) (find (λ e. not (has_larger e all)) (y ∷ es))) some
-    ∙ find_last all (y ∷ es) r.1 (both (λ e. x.0.order < e.0.order) (λ e. has_larger e all ≡ has_larger e (x ∷ y ∷ es)) (λ e. has_larger e all ≡ has_larger e (y ∷ es)) (λ e less is.
-    is ∙ ap (λ b. b || has_larger e (y ∷ es)) (not_above e.0.order x.0.order (omega (arith, less)))) (y ∷ es) r.0 same.1)
+    ∙ find_last all (y ∷ es) r.1
+    (both (λ e. x.0.order < e.0.order) (λ e. has_larger e all ≡ has_larger e (x ∷ y ∷ es))
+    (λ e. has_larger e all ≡ has_larger e (y ∷ es)) (λ e less is.
+    is ∙ ap (λ b. b || has_larger e (y ∷ es)) (not_above e.0.order x.0.order (omega (arith, less)))) (y ∷ es) r.0
+    same.1)
   where
-    both : (P Q S : Entry → Type 0) → ((e : Entry) → P e → Q e → S e) → (zs : List Entry) → EachOf P zs → EachOf Q zs → EachOf S zs
+    both : (P Q S : Entry → Type 0) → ((e : Entry) → P e → Q e → S e) → (zs : List Entry) → EachOf P zs → EachOf Q zs
+        → EachOf S zs
     both P Q S f [] p q = tt
     both P Q S f (z ∷ zs) p q = (f z p.0 q.0, both P Q S f zs p.1 q.1)
 
@@ -89,12 +96,15 @@ rises_filtered p (e ∷ es) r = go (p e) (rises_filtered p es r.1)
     go false rest = rest
 
 -- of those that pass one test, those that pass another that it follows from
-filter_twice : (p q : Entry → Bool) → ((e : Entry) → p e ≡ true → q e ≡ true) → (es : List Entry) → filter p (filter q es) ≡ filter p es
+filter_twice : (p q : Entry → Bool) → ((e : Entry) → p e ≡ true → q e ≡ true) → (es : List Entry)
+    → filter p (filter q es) ≡ filter p es
 filter_twice p q follows [] = refl
 filter_twice p q follows (e ∷ es) = go (p e) (q e) refl refl (filter_twice p q follows es)
   where
-    go : (b c : Bool) → p e ≡ b → q e ≡ c → filter p (filter q es) ≡ filter p es → filter p (cond c (e ∷ filter q es) (filter q es)) ≡ cond b (e ∷ filter p es) (filter p es)
-    go true true s t rest = ap (λ z. cond z (e ∷ filter p (filter q es)) (filter p (filter q es))) s ∙ ap (λ z. e ∷ z) rest
+    go : (b c : Bool) → p e ≡ b → q e ≡ c → filter p (filter q es) ≡ filter p es
+        → filter p (cond c (e ∷ filter q es) (filter q es)) ≡ cond b (e ∷ filter p es) (filter p es)
+    go true true s t rest = ap (λ z. cond z (e ∷ filter p (filter q es)) (filter p (filter q es))) s
+        ∙ ap (λ z. e ∷ z) rest
     go true false s t rest = let no : ⊥ = (let z : false ≡ true = sym t ∙ follows e s in cc) in absurd no
     go false true s t rest = ap (λ z. cond z (e ∷ filter p (filter q es)) (filter p (filter q es))) s ∙ rest
     go false false s t rest = rest
@@ -103,22 +113,31 @@ module _ (h : DistrictKey) where
   abbrev is_in : Entry → Type 0
   is_in e = district_of_order e.0 ≡ h
 
-  order_below : (a b : OrderKey) → district_of_order a ≡ h → district_of_order b ≡ h → T (is_lt (order_cmp a b)) → a.order < b.order
+  order_below : (a b : OrderKey) → district_of_order a ≡ h → district_of_order b ≡ h → T (is_lt (order_cmp a b))
+      → a.order < b.order
   order_below a b d e l =
       let w : a.warehouse ≡ b.warehouse = ap (λ (g : DistrictKey). g.warehouse) (d ∙ sym e) in
       let n : a.district ≡ b.district = ap (λ (g : DistrictKey). g.district) (d ∙ sym e) in
       lower a.order b.order (nat_cmp a.order b.order) refl
-      (subst T (ap is_lt (λ i. ordering_then (same_number a.warehouse b.warehouse w i) (ordering_then (same_number a.district b.district n i) (nat_cmp a.order b.order)))) l)
+      (subst T (ap is_lt (λ i. ordering_then (same_number a.warehouse b.warehouse w i)
+      (ordering_then (same_number a.district b.district n i) (nat_cmp a.order b.order)))) l)
 
-  above : (e : Entry) (es : List Entry) → T (below_all order_cmp e.0 es) → is_in e → EachOf is_in es → EachOf (λ f. e.0.order < f.0.order) es
+  above : (e : Entry) (es : List Entry) → T (below_all order_cmp e.0 es) → is_in e → EachOf is_in es
+      → EachOf (λ f. e.0.order < f.0.order) es
   above e [] b d ds = tt
-  above e (f ∷ es) b d ds =
-      (order_below e.0 f.0 d ds.0 (left (is_lt (order_cmp e.0 f.0)) (below_all order_cmp e.0 es) b), above e es (right (is_lt (order_cmp e.0 f.0)) (below_all order_cmp e.0 es) b) d ds.1)
+  above e (f ∷ es) b d ds = (
+    order_below e.0 f.0 d ds.0 (left (is_lt (order_cmp e.0 f.0)) (below_all order_cmp e.0 es) b),
+    above e es
+        (right (is_lt (order_cmp e.0 f.0)) (below_all order_cmp e.0 es) b) d ds.1,
+  )
 
   rise : (es : List Entry) → T (is_sorted order_cmp es) → EachOf is_in es → Rises es
   rise [] s ds = tt
-  rise (e ∷ es) s ds =
-      (above e es (left (below_all order_cmp e.0 es) (is_sorted order_cmp es) s) ds.0 ds.1, rise es (right (below_all order_cmp e.0 es) (is_sorted order_cmp es) s) ds.1)
+  rise (e ∷ es) s ds = (
+    above e es (left (below_all order_cmp e.0 es) (is_sorted order_cmp es) s) ds.0 ds.1,
+    rise es
+        (right (below_all order_cmp e.0 es) (is_sorted order_cmp es) s) ds.1,
+  )
 
   abbrev pub in_district : OrderKey → Bool
   in_district o = eq_by_cmp district_cmp (district_of_order o) h
@@ -129,14 +148,19 @@ module _ (h : DistrictKey) where
   group_rises : (m : FinMap order_cmp Order) → Rises (group m)
   group_rises m =
       rise (group m) (entries_sorted (retain_keys m in_district))
-      (each_of (λ e. (in_district e.0 ≡ true) × (get m e.0 ≡ Some e.1)) is_in (λ e t. is_same district_total exact_district (district_of_order e.0) h t.0) (group m) (kept_at order_total exact_order m in_district))
+      (each_of (λ e. (in_district e.0 ≡ true) × (get m e.0 ≡ Some e.1)) is_in
+      (λ e t. is_same district_total exact_district (district_of_order e.0) h t.0) (group m)
+      (kept_at order_total exact_order m in_district))
 
   group_is : (m : FinMap order_cmp Order) → group m ≡ filter (λ e. in_district e.0) (entries m)
   group_is m =
-      sym (same_entries order_cmp order_total exact_order _ _ (is_sorted-where_key order_cmp in_district (entries m) (entries_sorted m)) (entries_sorted (retain_keys m in_district)) (λ k.
+      sym (same_entries order_cmp order_total exact_order _ _
+      (is_sorted-where_key order_cmp in_district (entries m) (entries_sorted m))
+      (entries_sorted (retain_keys m in_district)) (λ k.
       find-where_key order_cmp in_district k (λ x e. ap in_district (sym (exact_order k x e))) (entries m)
       ∙ ap (λ o. cond (in_district k) o None) (sym (get-entries m k))
-      ∙ sym (get-retain_keys m in_district k (λ x e. ap in_district (sym (exact_order k x e)))) ∙ get-entries (retain_keys m in_district) k))
+      ∙ sym (get-retain_keys m in_district k (λ x e. ap in_district (sym (exact_order k x e))))
+      ∙ get-entries (retain_keys m in_district) k))
 
 module _ (c : CustomerKey) where
   abbrev pub is_own : Entry → Bool
@@ -144,20 +168,26 @@ module _ (c : CustomerKey) where
 
   own_in : (e : Entry) → is_own e ≡ true → in_district (district_of_customer c) e.0 ≡ true
   own_in e t =
-      let same : customer_of_order e.0 e.1 ≡ c = is_same customer_total exact_customer (customer_of_order e.0 e.1) c t in
-      ap (λ (k : CustomerKey). eq_by_cmp district_cmp (district_of_order e.0) (district_of_customer k)) (sym same) ∙ is_self district_total exact_district (district_of_order e.0)
+      let same : customer_of_order e.0 e.1 ≡ c = is_same customer_total exact_customer (customer_of_order e.0 e.1) c
+      t in
+      ap (λ (k : CustomerKey). eq_by_cmp district_cmp (district_of_order e.0) (district_of_customer k)) (sym same)
+      ∙ is_self district_total exact_district (district_of_order e.0)
 
   pub last_is : (m : FinMap order_cmp Order) → last_order c m ≡ final None (orders_of c m)
   last_is m =
       let es : List Entry = group (district_of_customer c) m in
       let owned : orders_of c m ≡ filter is_own es =
-      sym (ap (filter is_own) (group_is (district_of_customer c) m) ∙ filter_twice is_own (λ e. in_district (district_of_customer c) e.0) own_in (entries m))
+      sym (ap (filter is_own) (group_is (district_of_customer c) m) ∙ filter_twice is_own
+      (λ e. in_district (district_of_customer c) e.0) own_in (entries m))
       in
       ap (λ xs. find (λ e. not (has_larger e xs)) xs) owned
-      ∙ find_last (filter is_own es) (filter is_own es) (rises_filtered is_own es (group_rises (district_of_customer c) m)) (each_refl (filter is_own es))
+      ∙ find_last (filter is_own es) (filter is_own es)
+      (rises_filtered is_own es (group_rises (district_of_customer c) m)) (each_refl (filter is_own es))
       ∙ ap (final None) (sym owned)
     where
-      each_refl : (xs : List Entry) → EachOf (λ e. has_larger e (filter is_own (group (district_of_customer c) m)) ≡ has_larger e (filter is_own (group (district_of_customer c) m))) xs
+      each_refl : (xs : List Entry)
+          → EachOf (λ e. has_larger e (filter is_own (group (district_of_customer c) m)) ≡ has_larger e
+          (filter is_own (group (district_of_customer c) m))) xs
       each_refl [] = tt
       each_refl (x ∷ xs) = (refl, each_refl xs)
 
@@ -174,7 +204,8 @@ module _ (ts : tables.Places) (u : SegmentLog) (m : ℕ) (c : CustomerKey) where
     pub rest : final last (rows_at past (filter (is_own c) es)) ≡ last_order c past
 
   -- an order has the customer that it has now
-  same_customer : Stand ts u → (e : Entry) (x : Order) → get now e.0 ≡ Some e.1 → get past e.0 ≡ Some x → x.customer ≡ e.1.customer
+  same_customer : Stand ts u → (e : Entry) (x : Order) → get now e.0 ≡ Some e.1 → get past e.0 ≡ Some x
+      → x.customer ≡ e.1.customer
   same_customer h e x stands at =
       let y = rows_last (store_with (rows ts) u h.0) m (key.Order e.0) h.1 x (ap (option_map row.Order) at) in
       let is : y.0 ≡ e.1 = order_is y.0 e.1 (sym y.1 ∙ ap (option_map row.Order) stands) in
@@ -187,22 +218,28 @@ module _ (ts : tables.Places) (u : SegmentLog) (m : ℕ) (c : CustomerKey) where
       sym (some-map row.Order (get now q)) ∙ ap is_some y.1
 
   -- the customer's orders are those of the same keys
-  same_own : Stand ts u → (es : List Entry) → EachOf (λ e. get now e.0 ≡ Some e.1) es → filter (is_own c) (rows_at past es) ≡ rows_at past (filter (is_own c) es)
+  same_own : Stand ts u → (es : List Entry) → EachOf (λ e. get now e.0 ≡ Some e.1) es
+      → filter (is_own c) (rows_at past es) ≡ rows_at past (filter (is_own c) es)
   same_own h [] stand = refl
   same_own h (e ∷ es) stand = go (get past e.0) refl (is_own c e) refl (same_own h es stand.1)
     where
-      go : (v : Option Order) → get past e.0 ≡ v → (b : Bool) → is_own c e ≡ b → filter (is_own c) (rows_at past es) ≡ rows_at past (filter (is_own c) es)
-          → filter (is_own c) (cons_option (option_map (λ x. (e.0, x)) v) (rows_at past es)) ≡ rows_at past (cond b (e ∷ filter (is_own c) es) (filter (is_own c) es))
+      go : (v : Option Order) → get past e.0 ≡ v → (b : Bool) → is_own c e ≡ b
+          → filter (is_own c) (rows_at past es) ≡ rows_at past (filter (is_own c) es)
+          → filter (is_own c) (cons_option (option_map (λ x. (e.0, x)) v) (rows_at past es)) ≡ rows_at past
+          (cond b (e ∷ filter (is_own c) es) (filter (is_own c) es))
       go None at true t rest = rest ∙ sym (rows_none past e (filter (is_own c) es) at)
       go None at false t rest = rest
       go (Some x) at b t rest =
           let owner : is_own c (e.0, x) ≡ b =
-          ap (λ n. eq_by_cmp customer_cmp (customer_in (district_of_order e.0) n) c) (same_customer h e x stand.0 at) ∙ t
+          ap (λ n. eq_by_cmp customer_cmp (customer_in (district_of_order e.0) n) c) (same_customer h e x stand.0 at)
+          ∙ t
           in
-          ap (λ z. cond z ((e.0, x) ∷ filter (is_own c) (rows_at past es)) (filter (is_own c) (rows_at past es))) owner ∙ by b rest
+          ap (λ z. cond z ((e.0, x) ∷ filter (is_own c) (rows_at past es)) (filter (is_own c) (rows_at past es))) owner
+          ∙ by b rest
         where
           by : (z : Bool) → filter (is_own c) (rows_at past es) ≡ rows_at past (filter (is_own c) es)
-              → cond z ((e.0, x) ∷ filter (is_own c) (rows_at past es)) (filter (is_own c) (rows_at past es)) ≡ rows_at past (cond z (e ∷ filter (is_own c) es) (filter (is_own c) es))
+              → cond z ((e.0, x) ∷ filter (is_own c) (rows_at past es)) (filter (is_own c) (rows_at past es)) ≡ rows_at
+              past (cond z (e ∷ filter (is_own c) es) (filter (is_own c) es))
           by true same = ap (λ zs. (e.0, x) ∷ zs) same ∙ sym (rows_some past e (filter (is_own c) es) x at)
           by false same = same
 
@@ -211,18 +248,30 @@ module _ (ts : tables.Places) (u : SegmentLog) (m : ℕ) (c : CustomerKey) where
     rest =
         ap (λ xs. final None (rows_at past xs)) all
         ∙ ap (final None) (sym (same_own h (entries now) (entries_at order_total now)))
-        ∙ ap (λ xs. final None (filter (is_own c) xs)) (sym (all_is past order_total exact_order now (λ q there. there_now h q (get past q) refl there)))
+        ∙ ap (λ xs. final None (filter (is_own c) xs))
+        (sym (all_is past order_total exact_order now (λ q there. there_now h q (get past q) refl there)))
         ∙ sym (last_is c past);
   }
 
-  taken : (last : Option Entry) (e : Entry) (es : List Entry) → is_own c e ≡ true → Walks last (e ∷ es) → final last (rows_at past (e ∷ filter (is_own c) es)) ≡ last_order c past
-  taken last e es own w = sym (ap (λ b. final last (rows_at past (cond b (e ∷ filter (is_own c) es) (filter (is_own c) es)))) own) ∙ w.rest
+  taken : (last : Option Entry) (e : Entry) (es : List Entry) → is_own c e ≡ true → Walks last (e ∷ es)
+      → final last (rows_at past (e ∷ filter (is_own c) es)) ≡ last_order c past
+  taken last e es own w =
+      sym (ap (λ b. final last (rows_at past (cond b (e ∷ filter (is_own c) es) (filter (is_own c) es)))) own) ∙ w.rest
 
-  pub misses : (last : Option Entry) (e : Entry) (es : List Entry) → is_own c e ≡ true → Walks last (e ∷ es) → get past e.0 ≡ None → Walks last es
-  misses last e es own w none = record { rest = sym (ap (final last) (rows_none past e (filter (is_own c) es) none)) ∙ taken last e es own w }
+  pub misses : (last : Option Entry) (e : Entry) (es : List Entry) → is_own c e ≡ true → Walks last (e ∷ es)
+      → get past e.0 ≡ None → Walks last es
+  misses last e es own w none =
+      record { rest = sym (ap (final last) (rows_none past e (filter (is_own c) es) none)) ∙ taken last e es own w }
 
-  pub finds : (last : Option Entry) (e : Entry) (es : List Entry) (x : Order) → is_own c e ≡ true → Walks last (e ∷ es) → get past e.0 ≡ Some x → Walks (Some (e.0, x)) es
-  finds last e es x own w at = record { rest = sym (ap (final last) (rows_some past e (filter (is_own c) es) x at)) ∙ taken last e es own w }
+  pub finds : (last : Option Entry) (e : Entry) (es : List Entry) (x : Order) → is_own c e ≡ true → Walks last (e ∷ es)
+      → get past e.0 ≡ Some x → Walks (Some (e.0, x)) es
+  finds last e es x own w at =
+      record { rest = sym (ap (final last) (rows_some past e (filter (is_own c) es) x at)) ∙ taken last e es own w }
 
-  pub passes : (last : Option Entry) (e : Entry) (es : List Entry) → is_own c e ≡ false → Walks last (e ∷ es) → Walks last es
-  passes last e es other w = record { rest = sym (ap (λ b. final last (rows_at past (cond b (e ∷ filter (is_own c) es) (filter (is_own c) es)))) other) ∙ w.rest }
+  pub passes : (last : Option Entry) (e : Entry) (es : List Entry) → is_own c e ≡ false → Walks last (e ∷ es)
+      → Walks last es
+  passes last e es other w =
+      record {
+        rest = sym (ap
+            (λ b. final last (rows_at past (cond b (e ∷ filter (is_own c) es) (filter (is_own c) es)))) other) ∙ w.rest;
+      }

@@ -1,5 +1,6 @@
 -- What of a row never changes: each record that is put back brings a row of which the later one has kept it.
-use Rattle.std.proofs.Common.{◌≡◌, ℕ, Bool, true, false, cond, Option, None, Some, List, [], ◌∷◌, ◌++◌, take, drop, append_assoc, refl, sym, ap, ◌∙◌, subst}
+use Rattle.std.proofs.Common.{◌≡◌, ℕ, Bool, true, false, cond, Option, None, Some, List, [], ◌∷◌, ◌++◌, take, drop}
+use Rattle.std.proofs.Common.{append_assoc, refl, sym, ap, ◌∙◌, subst}
 use Rattle.std.specs.Prelude.{is_some, option_map}
 use Rattle.std.specs.FinMap.{get}
 use Rattle.std.proofs.lemmas.List.{take-append-drop}
@@ -20,7 +21,9 @@ use Rattle.oe_theory.specs.StoreTheorems.{IsStanding, AreAllIn}
 use Rattle.oe_theory.proofs.StoreFacts.{below}
 use Rattle.oe_theory.proofs.StoreClosing.{each_goes_back_here, store_is_orderly}
 use Rattle.oe_model.specs.Rows.{Rows, is_key, row_at}
-use Rattle.oe_model.specs.Changes.{Change, InsertHistory, InsertNewOrder, InsertOrder, InsertOrderLine, UpdateWarehouse, UpdateDistrict, UpdateCustomer, UpdateOrder, UpdateOrderLine, UpdateStock, DeleteNewOrder, key_of, row_of, Record, record_key, row_before, put_back}
+use Rattle.oe_model.specs.Changes.{Change, InsertHistory, InsertNewOrder, InsertOrder, InsertOrderLine, UpdateWarehouse}
+use Rattle.oe_model.specs.Changes.{UpdateDistrict, UpdateCustomer, UpdateOrder, UpdateOrderLine, UpdateStock}
+use Rattle.oe_model.specs.Changes.{DeleteNewOrder, key_of, row_of, Record, record_key, row_before, put_back}
 use Rattle.oe_model.specs.Locks.{first_if_named}
 use Rattle.oe_model.specs.Meets.{Meets, Accepts}
 use Rattle.oe_model.specs.System.{system, terminal_limit}
@@ -95,39 +98,51 @@ by_record b r f k = go (is_key k (record_key b)) refl
     kept : Lasts (key_of f.change) (row_before b) (row_at r (key_of f.change))
     kept =
         subst (λ (v : Option Row). Lasts (key_of f.change) v (row_at r (key_of f.change))) (sym there)
-        (subst (λ (v : Option Row). Lasts (key_of f.change) (row_at f.on (key_of f.change)) v) (sym f.left) (by_change f.change f.on f.accepted))
+        (subst (λ (v : Option Row). Lasts (key_of f.change) (row_at f.on (key_of f.change)) v) (sym f.left)
+        (by_change f.change f.on f.accepted))
 
     go : (c : Bool) → is_key k (record_key b) ≡ c → Lasts k (row_at (put_back b r) k) (row_at r k)
     go true e =
         let same : key_of f.change ≡ k = sym (key_true k (record_key b) e ∙ own) in
-        let found : row_before b ≡ row_at (put_back b r) k = sym (at_put_back b r k ∙ ap (λ z. cond z (row_before b) (row_at r k)) e) in
-        subst (λ (v : Option Row). Lasts k v (row_at r k)) found (subst (λ (q : Key). Lasts q (row_before b) (row_at r q)) same kept)
+        let found : row_before b ≡ row_at (put_back b r) k =
+        sym (at_put_back b r k ∙ ap (λ z. cond z (row_before b) (row_at r k)) e) in
+        subst (λ (v : Option Row). Lasts k v (row_at r k)) found
+        (subst (λ (q : Key). Lasts q (row_before b) (row_at r q)) same kept)
     go false e =
-        let found : row_at r k ≡ row_at (put_back b r) k = sym (at_put_back b r k ∙ ap (λ z. cond z (row_before b) (row_at r k)) e) in
+        let found : row_at r k ≡ row_at (put_back b r) k =
+        sym (at_put_back b r k ∙ ap (λ z. cond z (row_before b) (row_at r k)) e) in
         subst (λ (v : Option Row). Lasts k v (row_at r k)) found (itself k (row_at r k))
 
 -- and so do the first of the records that go back one after another
-by_records : (P : Rows → Type 0) (xs ys : List Record) (r : Rows) → GoesBack system P (xs ++ ys) r → (k : Key) → Lasts k (row_at (unwind system xs r) k) (row_at r k)
+by_records : (P : Rows → Type 0) (xs ys : List Record) (r : Rows) → GoesBack system P (xs ++ ys) r → (k : Key)
+    → Lasts k (row_at (unwind system xs r) k) (row_at r k)
 by_records P [] ys r g k = itself k (row_at r k)
 by_records P (b ∷ xs) ys r g k =
-    join k (row_at (unwind system xs (put_back b r)) k) (row_at (put_back b r) k) (row_at r k) (by_records P xs ys (put_back b r) g.2 k) (by_record b r g.1 k)
+    join k (row_at (unwind system xs (put_back b r)) k) (row_at (put_back b r) k) (row_at r k)
+    (by_records P xs ys (put_back b r) g.2 k) (by_record b r g.1 k)
 
 unwind-append : (xs ys : List Record) (r : Rows) → unwind system (xs ++ ys) r ≡ unwind system ys (unwind system xs r)
 unwind-append [] ys r = refl
 unwind-append (b ∷ xs) ys r = unwind-append xs ys (put_back b r)
 
-unwind_open_records : (active : ℕ → List Record) (ts : List ℕ) (r : Rows) → unwind system (open_records system active ts) r ≡ unwind_open system active ts r
+unwind_open_records : (active : ℕ → List Record) (ts : List ℕ) (r : Rows)
+    → unwind system (open_records system active ts) r ≡ unwind_open system active ts r
 unwind_open_records active [] r = refl
 unwind_open_records active (t ∷ ts) r =
-    unwind-append (active t) (open_records system (set t [] active) ts) r ∙ unwind_open_records (set t [] active) ts (unwind system (active t) r)
+    unwind-append (active t) (open_records system (set t [] active) ts) r
+    ∙ unwind_open_records (set t [] active) ts (unwind system (active t) r)
 
-unwind_commit_records : (ss : List (List Record)) (r : Rows) → unwind system (commit_records system ss) r ≡ unwind_commits system ss r
+unwind_commit_records : (ss : List (List Record)) (r : Rows)
+    → unwind system (commit_records system ss) r ≡ unwind_commits system ss r
 unwind_commit_records [] r = refl
-unwind_commit_records (bs ∷ ss) r = unwind-append bs (commit_records system ss) r ∙ unwind_commit_records ss (unwind system bs r)
+unwind_commit_records (bs ∷ ss) r = unwind-append bs (commit_records system ss) r
+    ∙ unwind_commit_records ss (unwind system bs r)
 
-commits-append : (xs ys : List (List Record)) → commit_records system (xs ++ ys) ≡ commit_records system xs ++ commit_records system ys
+commits-append : (xs ys : List (List Record)) → commit_records system (xs ++ ys) ≡ commit_records system xs
+    ++ commit_records system ys
 commits-append [] ys = refl
-commits-append (bs ∷ xs) ys = ap (λ z. bs ++ z) (commits-append xs ys) ∙ sym (append_assoc bs (commit_records system xs) (commit_records system ys))
+commits-append (bs ∷ xs) ys = ap (λ z. bs ++ z) (commits-append xs ys)
+    ∙ sym (append_assoc bs (commit_records system xs) (commit_records system ys))
 
 all_here : (s : Store system) → IsStanding system s → AreAllIn system s (all_below system terminal_limit)
 all_here s h t p e = below system laws terminal_limit t ((store_is_orderly system laws s h).terminal t p e).1
@@ -138,14 +153,21 @@ rows_last s m k h =
     let later : List (List Record) = take (commits_after system s m) s.undo.history in
     let before_them : List (List Record) = drop (commits_after system s m) s.undo.history in
     let all : commit_records system s.undo.history ≡ commit_records system later ++ commit_records system before_them =
-    ap (commit_records system) (sym (take-append-drop (commits_after system s m) s.undo.history)) ∙ commits-append later before_them
+    ap (commit_records system) (sym (take-append-drop (commits_after system s m) s.undo.history))
+    ∙ commits-append later before_them
     in
-    let goes : GoesBack system Meets ((opens ++ commit_records system later) ++ commit_records system before_them) s.tables =
-    subst (λ (bs : List Record). GoesBack system Meets bs s.tables) (ap (λ z. opens ++ z) all ∙ sym (append_assoc opens (commit_records system later) (commit_records system before_them)))
-    (each_goes_back_here system laws Meets (record { between = λ f r g. g.meets; kept = accepted_meets }) s (all_below system terminal_limit) h (all_here s h))
+    let goes : GoesBack system Meets ((opens ++ commit_records system later) ++ commit_records system before_them)
+    s.tables =
+    subst (λ (bs : List Record). GoesBack system Meets bs s.tables)
+    (ap (λ z. opens ++ z) all
+    ∙ sym (append_assoc opens (commit_records system later) (commit_records system before_them)))
+    (each_goes_back_here system laws Meets (record { between = λ f r g. g.meets; kept = accepted_meets }) s
+    (all_below system terminal_limit) h (all_here s h))
     in
     subst (λ (r : Rows). Lasts k (row_at r k) (row_at s.tables k))
-    (unwind-append opens (commit_records system later) s.tables ∙ unwind_commit_records later (unwind system opens s.tables) ∙ ap (unwind_commits system later) (unwind_open_records s.undo.active (all_below system terminal_limit) s.tables))
+    (unwind-append opens (commit_records system later) s.tables ∙ unwind_commit_records later
+    (unwind system opens s.tables) ∙ ap (unwind_commits system later)
+    (unwind_open_records s.undo.active (all_below system terminal_limit) s.tables))
     (by_records Meets (opens ++ commit_records system later) (commit_records system before_them) s.tables goes k)
 
 by_names : (a b : Option Customer) → names_of (option_map row.Customer a) ≡ names_of (option_map row.Customer b)
@@ -159,8 +181,12 @@ by_names (Some x) (Some y) e =
 
 pub names_last : Names_last
 names_last s m h last stands =
-    let each : (k : CustomerKey) → (is_some (get (version_of system s m).customers k) ≡ is_some (get s.tables.customers k)) × ((z : List ℕ) → first_if_named z (get (version_of system s m).customers k) ≡ first_if_named z (get s.tables.customers k)) =
-    λ k. by_names (get (version_of system s m).customers k) (get s.tables.customers k) (rows_last s m (key.Customer k) stands)
+    let each : (k : CustomerKey)
+    → (is_some (get (version_of system s m).customers k) ≡ is_some (get s.tables.customers k))
+    × ((z : List ℕ) → first_if_named z (get (version_of system s m).customers k) ≡ first_if_named z
+    (get s.tables.customers k)) =
+    λ k. by_names (get (version_of system s m).customers k) (get s.tables.customers k)
+    (rows_last s m (key.Customer k) stands)
     in
     same_namesakes h last (version_of system s m).customers s.tables.customers (λ k. (each k).0) (λ k. (each k).1 last)
 

@@ -1,6 +1,8 @@
--- The lines of an order, in their keys' order, have rising numbers; and those of a version are those of the tables' keys.
+-- The lines of an order, in their keys' order, have rising numbers; and those of a version are those of the tables'
+-- keys.
 use Rattle.std.proofs.lemmas.List.{append-nil}
-use Rattle.std.proofs.Common.{◌≡◌, ℕ, ◌-◌, ◌<◌, ◌≤◌, Bool, true, false, None, Some, List, [], ◌∷◌, ◌++◌, map, length, append_assoc, length-append, refl, sym, ap, ◌∙◌, subst, arith}
+use Rattle.std.proofs.Common.{◌≡◌, ℕ, ◌-◌, ◌<◌, ◌≤◌, Bool, true, false, None, Some, List, [], ◌∷◌, ◌++◌, map, length}
+use Rattle.std.proofs.Common.{append_assoc, length-append, refl, sym, ap, ◌∙◌, subst, arith}
 use Rattle.std.specs.Prelude.{T, ◌&&◌, option_map}
 use Rattle.std.specs.List.{cons_option}
 use Rattle.std.specs.Ordering.{eq_by_cmp, nat_cmp, ordering_then, is_lt}
@@ -52,29 +54,40 @@ lower x y Greater e h = absurd h
 pub same_number : (n m : ℕ) → n ≡ m → nat_cmp n m ≡ Equal
 same_number n m e = sym (nat_cmp_is n m Equal e)
 
-line_below : (k : OrderKey) (a b : OrderLineKey) → order_of_line a ≡ k → order_of_line b ≡ k → T (is_lt (order_line_cmp a b)) → a.number < b.number
+line_below : (k : OrderKey) (a b : OrderLineKey) → order_of_line a ≡ k → order_of_line b ≡ k
+    → T (is_lt (order_line_cmp a b)) → a.number < b.number
 line_below k a b d e l =
     let w : a.warehouse ≡ b.warehouse = ap (λ (g : OrderKey). g.warehouse) (d ∙ sym e) in
     let n : a.district ≡ b.district = ap (λ (g : OrderKey). g.district) (d ∙ sym e) in
     let o : a.order ≡ b.order = ap (λ (g : OrderKey). g.order) (d ∙ sym e) in
     lower a.number b.number (nat_cmp a.number b.number) refl
-    (subst T (ap is_lt (λ i. ordering_then (same_number a.warehouse b.warehouse w i) (ordering_then (same_number a.district b.district n i) (ordering_then (same_number a.order b.order o i) (nat_cmp a.number b.number))))) l)
+    (subst T (ap is_lt (λ i. ordering_then (same_number a.warehouse b.warehouse w i)
+    (ordering_then (same_number a.district b.district n i)
+    (ordering_then (same_number a.order b.order o i) (nat_cmp a.number b.number))))) l)
 
 module _ (k : OrderKey) where
   abbrev is_own : OrderLineKey × OrderLine → Type 0
   is_own e = order_of_line e.0 ≡ k
 
-  climb_from : (e : OrderLineKey × OrderLine) (es : List (OrderLineKey × OrderLine)) → T (below_all order_line_cmp e.0 es) → T (is_sorted order_line_cmp es)
+  climb_from : (e : OrderLineKey × OrderLine) (es : List (OrderLineKey × OrderLine))
+      → T (below_all order_line_cmp e.0 es) → T (is_sorted order_line_cmp es)
       → is_own e → EachOf is_own es → Climb e.0.number es
   climb_from e [] b s d ds = tt
   climb_from e (f ∷ es) b s d ds =
-      let less : e.0.number < f.0.number = line_below k e.0 f.0 d ds.0 (left (is_lt (order_line_cmp e.0 f.0)) (below_all order_line_cmp e.0 es) b) in
-      (omega (arith, less), climb_from f es (left (below_all order_line_cmp f.0 es) (is_sorted order_line_cmp es) s) (right (below_all order_line_cmp f.0 es) (is_sorted order_line_cmp es) s) ds.0 ds.1)
+      let less : e.0.number < f.0.number = line_below k e.0 f.0 d ds.0
+      (left (is_lt (order_line_cmp e.0 f.0)) (below_all order_line_cmp e.0 es) b) in (
+        omega (arith, less),
+        climb_from f es (left (below_all order_line_cmp f.0 es) (is_sorted order_line_cmp es) s)
+            (right (below_all order_line_cmp f.0 es) (is_sorted order_line_cmp es) s) ds.0 ds.1,
+      )
 
   climb : (es : List (OrderLineKey × OrderLine)) → T (is_sorted order_line_cmp es) → EachOf is_own es → Climb 0 es
   climb [] s ds = tt
-  climb (e ∷ es) s ds =
-      (omega arith, climb_from e es (left (below_all order_line_cmp e.0 es) (is_sorted order_line_cmp es) s) (right (below_all order_line_cmp e.0 es) (is_sorted order_line_cmp es) s) ds.0 ds.1)
+  climb (e ∷ es) s ds = (
+    omega arith,
+    climb_from e es (left (below_all order_line_cmp e.0 es) (is_sorted order_line_cmp es) s)
+        (right (below_all order_line_cmp e.0 es) (is_sorted order_line_cmp es) s) ds.0 ds.1,
+  )
 
   abbrev own : OrderLineKey → Bool
   own l = eq_by_cmp order_cmp (order_of_line l) k
@@ -82,15 +95,19 @@ module _ (k : OrderKey) where
   pub lines_climb : (lines : FinMap order_line_cmp OrderLine) → Climb 0 (lines_of k lines)
   lines_climb lines =
       climb (lines_of k lines) (entries_sorted (retain_keys lines own))
-      (each_of (λ e. (own e.0 ≡ true) × (get lines e.0 ≡ Some e.1)) is_own (λ e t. is_same order_total exact_order (order_of_line e.0) k t.0) (lines_of k lines) (kept_at order_line_total exact_order_line lines own))
+      (each_of (λ e. (own e.0 ≡ true) × (get lines e.0 ≡ Some e.1)) is_own
+      (λ e t. is_same order_total exact_order (order_of_line e.0) k t.0) (lines_of k lines)
+      (kept_at order_line_total exact_order_line lines own))
 
 -- the lines of an order at a moment are those at the keys of the lines that stand
 pub lines_are : (ts : tables.Places) (u : SegmentLog) (m : ℕ) (k : OrderKey) → Stand ts u
     → rows_at (version ts u m).order_lines (lines_of k (rows ts).order_lines) ≡ lines_of k (version ts u m).order_lines
 lines_are ts u m k h =
-    sym (kept_is (version ts u m).order_lines order_line_total exact_order_line (rows ts).order_lines (own k) (λ q there.
+    sym (kept_is (version ts u m).order_lines order_line_total exact_order_line (rows ts).order_lines (own k)
+    (λ q there.
     sym (some-map row.OrderLine (get (rows ts).order_lines q))
-    ∙ rows_last (store_with (rows ts) u h.0) m (key.OrderLine q) h.1 (some-map row.OrderLine (get (version ts u m).order_lines q) ∙ there)))
+    ∙ rows_last (store_with (rows ts) u h.0) m (key.OrderLine q) h.1
+    (some-map row.OrderLine (get (version ts u m).order_lines q) ∙ there)))
 
 -- what is told of lines with their keys
 abbrev told : List (OrderLineKey × OrderLine) → List StatusLine
@@ -108,35 +125,46 @@ module _ (ts : tables.Places) (u : SegmentLog) (m : ℕ) (k : OrderKey) where
     pub climb : Climb bound es
 
   pub starts : Stand ts u → Fills [] (lines_of k (rows ts).order_lines)
-  starts h = record { rest = ap told (lines_are ts u m k h); bound = 0; few = omega arith; climb = lines_climb k (rows ts).order_lines }
+  starts h = record {
+    rest = ap told (lines_are ts u m k h);
+    bound = 0;
+    few = omega arith;
+    climb = lines_climb k (rows ts).order_lines;
+  }
 
   -- there is room for a line, since its number is at most 15
-  pub has_room : (lines : List StatusLine) (e : OrderLineKey × OrderLine) (es : List (OrderLineKey × OrderLine)) → Fills lines (e ∷ es)
+  pub has_room : (lines : List StatusLine) (e : OrderLineKey × OrderLine) (es : List (OrderLineKey × OrderLine))
+      → Fills lines (e ∷ es)
       → 1 ≤ e.0.number → e.0.number ≤ 15 → length lines < 15
   has_room lines e es f low high =
       let few : length lines ≤ f.bound = f.few in
       let next : f.bound ≤ e.0.number - 1 = f.climb.0 in
       omega (arith, few, next, low, high)
 
-  pub skips : (lines : List StatusLine) (e : OrderLineKey × OrderLine) (es : List (OrderLineKey × OrderLine)) → Fills lines (e ∷ es) → get past e.0 ≡ None
+  pub skips : (lines : List StatusLine) (e : OrderLineKey × OrderLine) (es : List (OrderLineKey × OrderLine))
+      → Fills lines (e ∷ es) → get past e.0 ≡ None
       → Fills lines es
   skips lines e es f none = record {
     rest = sym (ap (λ v. lines ++ told (cons_option (option_map (λ x. (e.0, x)) v) (rows_at past es))) none) ∙ f.rest;
     bound = e.0.number;
-    few = (let few : length lines ≤ f.bound = f.few in let next : f.bound ≤ e.0.number - 1 = f.climb.0 in omega (arith, few, next));
+    few = (let few : length lines ≤ f.bound = f.few in let next : f.bound ≤ e.0.number - 1 = f.climb.0 in
+        omega (arith, few, next));
     climb = f.climb.1;
   }
 
-  pub takes : (lines : List StatusLine) (e : OrderLineKey × OrderLine) (es : List (OrderLineKey × OrderLine)) (x : OrderLine) → Fills lines (e ∷ es) → get past e.0 ≡ Some x
+  pub takes : (lines : List StatusLine) (e : OrderLineKey × OrderLine) (es : List (OrderLineKey × OrderLine))
+      (x : OrderLine) → Fills lines (e ∷ es) → get past e.0 ≡ Some x
       → 1 ≤ e.0.number → Fills (lines ++ status_line x ∷ []) es
   takes lines e es x f at low = record {
     rest =
         append_assoc lines (status_line x ∷ []) (told (rows_at past es))
         ∙ sym (ap (λ v. lines ++ told (cons_option (option_map (λ x. (e.0, x)) v) (rows_at past es))) at) ∙ f.rest;
     bound = e.0.number;
-    few = (let few : length lines ≤ f.bound = f.few in let next : f.bound ≤ e.0.number - 1 = f.climb.0 in omega (arith, few, next, low, length-append lines (status_line x ∷ [])));
+    few = (let few : length lines ≤ f.bound = f.few in let next : f.bound ≤ e.0.number - 1 = f.climb.0 in
+        omega (arith, few, next, low, length-append lines (status_line x ∷ [])));
     climb = f.climb.1;
   }
 
-  pub ends : (lines : List StatusLine) (es : List (OrderLineKey × OrderLine)) → es ≡ [] → Fills lines es → lines ≡ told (lines_of k past)
+  pub ends : (lines : List StatusLine) (es : List (OrderLineKey × OrderLine)) → es ≡ [] → Fills lines es
+      → lines ≡ told (lines_of k past)
   ends lines es e f = sym (append-nil lines) ∙ sym (ap (λ xs. lines ++ told (rows_at past xs)) e) ∙ f.rest

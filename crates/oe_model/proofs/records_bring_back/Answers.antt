@@ -1,4 +1,6 @@
-use Rattle.oe_theory.proofs.Theorems.{nothing_is_recorded, records_follow, world_has_records, tables_follow, undo_forgets, undo_goes_back, base_is_unwound, version_is_unwound, row_is_unwound, used_is_of_records, extents_suffice, full_is_full}
+use Rattle.oe_theory.proofs.Theorems.{nothing_is_recorded, records_follow, world_has_records, tables_follow}
+use Rattle.oe_theory.proofs.Theorems.{undo_forgets, undo_goes_back, base_is_unwound, version_is_unwound, row_is_unwound}
+use Rattle.oe_theory.proofs.Theorems.{used_is_of_records, extents_suffice, full_is_full}
 use Rattle.oe_theory.proofs.RecordKeys.{row_without_record, records_are_apart}
 use Rattle.oe_model.specs.System.{system}
 use Rattle.oe_model.proofs.SystemLaws.{laws}

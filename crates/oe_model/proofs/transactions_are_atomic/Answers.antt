@@ -1,4 +1,5 @@
-use Rattle.oe_theory.proofs.Theorems.{rollback_leaves_no_trace, commit_is_whole, abort_has_no_effect, abort_is_its_own, open_is_known, changes_are_accepted}
+use Rattle.oe_theory.proofs.Theorems.{rollback_leaves_no_trace, commit_is_whole, abort_has_no_effect, abort_is_its_own}
+use Rattle.oe_theory.proofs.Theorems.{open_is_known, changes_are_accepted}
 use Rattle.oe_theory.proofs.StepTheorems.{endings_are_whole}
 use Rattle.oe_model.specs.System.{system}
 use Rattle.oe_model.proofs.SystemLaws.{laws}

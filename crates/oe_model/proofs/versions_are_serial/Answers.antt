@@ -1,4 +1,5 @@
-use Rattle.oe_theory.proofs.Theorems.{history_is_serial, versions_are_good, tables_when_quiet, rewind_restores, purge_leaves_later, tests_hold_from_base}
+use Rattle.oe_theory.proofs.Theorems.{history_is_serial, versions_are_good, tables_when_quiet, rewind_restores}
+use Rattle.oe_theory.proofs.Theorems.{purge_leaves_later, tests_hold_from_base}
 use Rattle.oe_theory.proofs.StepTheorems.{steps_are_counted}
 use Rattle.oe_model.specs.System.{system}
 use Rattle.oe_model.proofs.SystemLaws.{laws}

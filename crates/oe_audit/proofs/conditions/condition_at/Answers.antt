@@ -9,8 +9,10 @@ use Rattle.oe_audit.proofs.conditions.condition_at.Goals as goal
 
 pub returns-then-is_settled-clause-verdict : goal.returns-then-is_settled-clause-verdict
 returns-then-is_settled-clause-verdict c =
-    audited_now c.args.tables.now c.args.undo.now.log c.args.moment (condition_of c.args.number) (verdict_of c.condition.result)
-    (c.is_settled.ensures.commits c.if-is_settled.true) (c.is_settled.ensures.open c.if-is_settled.true) c.condition.ensures
+    audited_now c.args.tables.now c.args.undo.now.log c.args.moment (condition_of c.args.number)
+    (verdict_of c.condition.result)
+    (c.is_settled.ensures.commits c.if-is_settled.true) (c.is_settled.ensures.open c.if-is_settled.true)
+    c.condition.ensures
 
 pub found-requires : goal.found-requires
 found-requires c =

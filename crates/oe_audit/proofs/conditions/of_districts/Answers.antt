@@ -19,11 +19,14 @@ told n r es = judged key.District (option_map (λ e. e.0) (find (λ e. not (pass
 told_is : (n : DistrictCondition) (r : Rows) → told n r (entries r.districts) ≡ verdict (model_condition n) r
 told_is of_districts.Second r = refl
 told_is of_districts.Third r = refl
-told_is of_districts.Fourth r = λ i. judged key.District (option_map (λ e. e.0) (find (λ (e : DistrictKey × District). not (sym (agrees r e.0) i)) (entries r.districts)))
+told_is of_districts.Fourth r = λ i. judged key.District
+    (option_map (λ e. e.0) (find (λ (e : DistrictKey × District). not (sym (agrees r e.0) i)) (entries r.districts)))
 
 pub loop-key-init : goal.loop-key-init
 loop-key-init c =
     let past : Rows = rows_then c.args.tables.now c.args.when.now in
-    ap (λ (es : List (DistrictKey × District)). told c.args.condition.now past (stood c.args.when.now past.districts es)) (c.into_iter-key-iterator.ensures.into_iter_gives ∙ c.districts-key-items.ensures)
+    ap (λ (es : List (DistrictKey × District)). told c.args.condition.now past
+    (stood c.args.when.now past.districts es)) (c.into_iter-key-iterator.ensures.into_iter_gives
+    ∙ c.districts-key-items.ensures)
     ∙ ap (told c.args.condition.now past) (sym (districts_are c.args.tables.now c.args.when.now c.requires))
     ∙ told_is c.args.condition.now past

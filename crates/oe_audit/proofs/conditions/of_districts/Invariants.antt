@@ -8,5 +8,7 @@ use Rattle.oe_audit.proofs.conditions.of_districts.Given as goal
 -- the first row that failed is among those that are left
 abbrev pub invariant-loop-key : goal.invariant-loop-key
 invariant-loop-key l =
-    judged key.District (option_map (λ e. e.0) (find (λ e. not (passes l.condition (rows_then l.tables l.when) e.0 e.1.next_order)) (stood l.when (rows_then l.tables l.when).districts l.key-iterator)))
+    judged key.District (option_map (λ e. e.0)
+    (find (λ e. not (passes l.condition (rows_then l.tables l.when) e.0 e.1.next_order))
+    (stood l.when (rows_then l.tables l.when).districts l.key-iterator)))
     ≡ verdict (model_condition l.condition) (rows_then l.tables l.when)

@@ -23,16 +23,22 @@ told_is of_customers.Tenth r = refl
 told_is of_customers.Twelfth r = refl
 
 abbrev told_then : CustomerCondition → Rows → AsOf → List (CustomerKey × Customer) → Verdict
-told_then n r w es = judged key.Customer (option_map (λ e. e.0) (find (λ e. not (passes_then n r e.0 (row_then w r.customers e.0 e.1))) es))
+told_then n r w es = judged key.Customer
+    (option_map (λ e. e.0) (find (λ e. not (passes_then n r e.0 (row_then w r.customers e.0 e.1))) es))
 
 pub loop-key-init : goal.loop-key-init
 loop-key-init c =
     let past : Rows = rows_then c.args.tables.now c.args.when.now in
-    let all : told_then c.args.condition.now past c.args.when.now (entries (Rattle.oe_store.specs.Places.rows c.args.tables.now).customers) ≡ verdict (customer_condition c.args.condition.now) past =
-    sym (ap (judged key.Customer) (first_stood c.args.condition.now past c.args.when.now past.customers (entries (Rattle.oe_store.specs.Places.rows c.args.tables.now).customers)))
+    let all : told_then c.args.condition.now past c.args.when.now
+    (entries (Rattle.oe_store.specs.Places.rows c.args.tables.now).customers) ≡ verdict
+    (customer_condition c.args.condition.now) past =
+    sym (ap (judged key.Customer)
+    (first_stood c.args.condition.now past c.args.when.now past.customers
+    (entries (Rattle.oe_store.specs.Places.rows c.args.tables.now).customers)))
     ∙ ap (told c.args.condition.now past) (sym (customers_are c.args.tables.now c.args.when.now c.requires))
     ∙ told_is c.args.condition.now past
     in (
-      ap (told_then c.args.condition.now past c.args.when.now) (c.into_iter-key-iterator.ensures.into_iter_gives ∙ c.customers-key-items.ensures) ∙ all,
+      ap (told_then c.args.condition.now past c.args.when.now)
+          (c.into_iter-key-iterator.ensures.into_iter_gives ∙ c.customers-key-items.ensures) ∙ all,
       c.new-ledger.ensures,
     )

@@ -9,6 +9,8 @@ use Rattle.oe_audit.proofs.customers.of_customers.Given as goal
 -- the first row that failed is among those that are left, and the ledger's sums are its district's
 abbrev pub invariant-loop-key : goal.invariant-loop-key
 invariant-loop-key l =
-    (judged key.Customer (option_map (λ e. e.0) (find (λ e. not (passes_then l.condition (rows_then l.tables l.when) e.0 (row_then l.when (rows_then l.tables l.when).customers e.0 e.1))) l.key-iterator))
+    (judged key.Customer (option_map (λ e. e.0)
+    (find (λ e. not (passes_then l.condition (rows_then l.tables l.when) e.0
+    (row_then l.when (rows_then l.tables l.when).customers e.0 e.1))) l.key-iterator))
     ≡ verdict (customer_condition l.condition) (rows_then l.tables l.when))
     × IsLedger (rows_then l.tables l.when) l.ledger

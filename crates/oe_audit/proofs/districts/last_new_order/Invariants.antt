@@ -8,5 +8,6 @@ use Rattle.oe_audit.proofs.districts.last_new_order.Given as goal
 -- what is left of the walk leads from the greatest so far to the greatest
 abbrev pub invariant-loop-order : goal.invariant-loop-order
 invariant-loop-order l =
-    highest_from l.last (map (λ e. e.0.order) (stood_among (rows_then l.tables l.when).new_orders (as_new l.order-iterator)))
+    highest_from l.last (map (λ e. e.0.order)
+    (stood_among (rows_then l.tables l.when).new_orders (as_new l.order-iterator)))
     ≡ greatest (new_order_numbers l.fn.key (rows_then l.tables l.when).new_orders)

@@ -14,6 +14,8 @@ numbers es = map (λ e. e.0.order) es
 pub loop-order-init : goal.loop-order-init
 loop-order-init c =
     let past : Rows = rows_then c.args.tables.now c.args.when.now in
-    ap (λ (es : List (OrderKey × Order)). highest_from None (numbers (stood c.args.when.now past.orders es))) (c.into_iter-order-iterator.ensures.into_iter_gives ∙ c.orders_of-order-items.ensures)
-    ∙ ap (λ es. highest_from None (numbers es)) (sym (orders_are c.args.tables.now c.args.when.now c.requires c.args.key.now))
+    ap (λ (es : List (OrderKey × Order)). highest_from None (numbers (stood c.args.when.now past.orders es)))
+    (c.into_iter-order-iterator.ensures.into_iter_gives ∙ c.orders_of-order-items.ensures)
+    ∙ ap (λ es. highest_from None (numbers es))
+    (sym (orders_are c.args.tables.now c.args.when.now c.requires c.args.key.now))
     ∙ highest_is (order_numbers c.args.key.now past.orders)

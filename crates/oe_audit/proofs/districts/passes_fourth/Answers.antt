@@ -15,7 +15,9 @@ pub loop-order-init : goal.loop-order-init
 loop-order-init c =
     let past : Rows = rows_then c.args.tables.now c.args.when.now in
     (λ i.
-    sum_by count (stood c.args.when.now past.orders ((c.into_iter-order-iterator.ensures.into_iter_gives ∙ c.orders_of-order-items.ensures) i))
+    sum_by count (stood c.args.when.now past.orders
+    ((c.into_iter-order-iterator.ensures.into_iter_gives ∙ c.orders_of-order-items.ensures) i))
     == length (stood c.args.when.now past.order_lines (c.order_lines_of_district-lines.ensures i)))
-    ∙ (λ i. sym (asked_was c.args.tables.now c.args.when.now c.requires c.args.key.now) i == sym (there_was c.args.tables.now c.args.when.now c.requires c.args.key.now) i)
+    ∙ (λ i. sym (asked_was c.args.tables.now c.args.when.now c.requires c.args.key.now) i == sym
+    (there_was c.args.tables.now c.args.when.now c.requires c.args.key.now) i)
     ∙ agrees past c.args.key.now

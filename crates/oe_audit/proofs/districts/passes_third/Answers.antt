@@ -16,6 +16,8 @@ numbers es = map (λ e. e.0.order) es
 pub loop-order-init : goal.loop-order-init
 loop-order-init c =
     let past : Rows = rows_then c.args.tables.now c.args.when.now in
-    ap (λ (es : List (OrderKey × Order)). has_no_gap None (numbers (stood_among past.new_orders (as_new es)))) (c.into_iter-order-iterator.ensures.into_iter_gives ∙ c.orders_of-order-items.ensures)
-    ∙ ap (λ es. has_no_gap None (numbers es)) (sym (new_orders_are c.args.tables.now c.args.when.now c.requires c.args.key.now))
+    ap (λ (es : List (OrderKey × Order)). has_no_gap None (numbers (stood_among past.new_orders (as_new es))))
+    (c.into_iter-order-iterator.ensures.into_iter_gives ∙ c.orders_of-order-items.ensures)
+    ∙ ap (λ es. has_no_gap None (numbers es))
+    (sym (new_orders_are c.args.tables.now c.args.when.now c.requires c.args.key.now))
     ∙ third_is past c.args.key.now

@@ -8,5 +8,6 @@ use Rattle.oe_audit.proofs.districts.passes_third.Given as goal
 -- what is left of the walk had no gap exactly where the whole walk had none
 abbrev pub invariant-loop-order : goal.invariant-loop-order
 invariant-loop-order l =
-    has_no_gap l.before (map (λ e. e.0.order) (stood_among (rows_then l.tables l.when).new_orders (as_new l.order-iterator)))
+    has_no_gap l.before (map (λ e. e.0.order)
+    (stood_among (rows_then l.tables l.when).new_orders (as_new l.order-iterator)))
     ≡ are_counted (rows_then l.tables l.when) l.fn.key

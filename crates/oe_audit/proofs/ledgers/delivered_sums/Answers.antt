@@ -17,7 +17,9 @@ pub loop-key-init : goal.loop-key-init
 loop-key-init c =
     leads_first _ _ c.zeros-sums.result _ c.zeros-sums.ensures (λ n.
     delivered_was c.args.tables.now c.args.when.now c.requires c.args.district.now n
-    ∙ ap (all_add (rows_then c.args.tables.now c.args.when.now) c.args.when.now n) (sym (c.into_iter-key-iterator.ensures.into_iter_gives ∙ c.order_lines_of_district-key-items.ensures)))
+    ∙ ap (all_add (rows_then c.args.tables.now c.args.when.now) c.args.when.now n)
+    (sym (c.into_iter-key-iterator.ensures.into_iter_gives ∙ c.order_lines_of_district-key-items.ensures)))
 
 pub loop-key-preserved : goal.loop-key-preserved
-loop-key-preserved c = leads_on _ _ c.loop-key.sums _ _ _ _ c.in-Some.ensures.steps c.loop-key.invariant c.add_line_then.ensures
+loop-key-preserved c = leads_on _ _ c.loop-key.sums _ _ _ _ c.in-Some.ensures.steps c.loop-key.invariant
+    c.add_line_then.ensures

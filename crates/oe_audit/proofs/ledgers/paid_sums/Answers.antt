@@ -23,13 +23,16 @@ loop-key-init c =
     let walk = c.into_iter-key-iterator.ensures.into_iter_gives ∙ c.histories-key-items.ensures in (
       leads_first _ _ c.zeros-sums.result _ c.zeros-sums.ensures (λ n.
           paid_by_was c.args.tables.now c.args.when.now c.requires c.args.district.now n
-          ∙ ap (all_add (rows_then c.args.tables.now c.args.when.now) c.args.when.now c.args.district.now n) (sym walk)),
+          ∙ ap (all_add (rows_then c.args.tables.now c.args.when.now) c.args.when.now c.args.district.now n)
+          (sym walk)),
       few_first c.zeros-sums.result _ c.zeros-sums.ensures
-          (subst (λ (es : List (HistoryKey × History)). T (is_sorted history_cmp es)) (sym walk) (entries_sorted (rows c.args.tables.now).histories)),
+          (subst (λ (es : List (HistoryKey × History)). T (is_sorted history_cmp es)) (sym walk)
+          (entries_sorted (rows c.args.tables.now).histories)),
     )
 
 pub loop-key-preserved : goal.loop-key-preserved
 loop-key-preserved c = (
   leads_on _ _ c.loop-key.sums _ _ _ _ c.in-Some.ensures.steps c.loop-key.invariant.0 c.add_payment.ensures.sums,
-  few_on c.loop-key.sums _ _ _ _ _ c.in-Some.ensures.steps c.loop-key.invariant.1 c.add_payment.ensures.ranges (λ n. no_more _ _) c.loop-key.invariant.0.fits c.add_payment.ensures.sums,
+  few_on c.loop-key.sums _ _ _ _ _ c.in-Some.ensures.steps c.loop-key.invariant.1 c.add_payment.ensures.ranges
+      (λ n. no_more _ _) c.loop-key.invariant.0.fits c.add_payment.ensures.sums,
 )

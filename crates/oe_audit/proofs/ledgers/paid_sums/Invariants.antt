@@ -8,5 +8,6 @@ use Rattle.oe_audit.proofs.ledgers.paid_sums.Given as goal
 -- what the payments that are left add leads to what was paid, and no sum is too great
 abbrev pub invariant-loop-key : goal.invariant-loop-key
 invariant-loop-key l =
-    Leads (λ e c. payment_adds l.when (rows_then l.tables l.when).histories l.district e c) (λ c. paid_by (rows_then l.tables l.when) (customer_in l.district c)) l.sums l.key-iterator
+    Leads (λ e c. payment_adds l.when (rows_then l.tables l.when).histories l.district e c)
+    (λ c. paid_by (rows_then l.tables l.when) (customer_in l.district c)) l.sums l.key-iterator
     × AreFew l.sums l.key-iterator

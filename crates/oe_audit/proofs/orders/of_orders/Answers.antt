@@ -22,6 +22,7 @@ told_is of_orders.Sixth r = refl
 pub loop-key-init : goal.loop-key-init
 loop-key-init c =
     let past : Rows = rows_then c.args.tables.now c.args.when.now in
-    ap (λ (es : List (OrderKey × Order)). told c.args.condition.now past (stood c.args.when.now past.orders es)) (c.into_iter-key-iterator.ensures.into_iter_gives ∙ c.orders-key-items.ensures)
+    ap (λ (es : List (OrderKey × Order)). told c.args.condition.now past (stood c.args.when.now past.orders es))
+    (c.into_iter-key-iterator.ensures.into_iter_gives ∙ c.orders-key-items.ensures)
     ∙ ap (told c.args.condition.now past) (sym (all_orders_are c.args.tables.now c.args.when.now c.requires))
     ∙ told_is c.args.condition.now past

@@ -8,5 +8,7 @@ use Rattle.oe_audit.proofs.orders.of_orders.Given as goal
 -- the first row that failed is among those that are left
 abbrev pub invariant-loop-key : goal.invariant-loop-key
 invariant-loop-key l =
-    judged key.Order (option_map (λ e. e.0) (find (λ e. not (passes_order l.condition (rows_then l.tables l.when) e.0 e.1)) (stood l.when (rows_then l.tables l.when).orders l.key-iterator)))
+    judged key.Order (option_map (λ e. e.0)
+    (find (λ e. not (passes_order l.condition (rows_then l.tables l.when) e.0 e.1))
+    (stood l.when (rows_then l.tables l.when).orders l.key-iterator)))
     ≡ verdict (order_condition l.condition) (rows_then l.tables l.when)

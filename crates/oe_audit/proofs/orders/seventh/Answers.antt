@@ -15,5 +15,6 @@ told r es = judged key.OrderLine (option_map (λ e. e.0) (find (λ e. not (passe
 pub loop-key-init : goal.loop-key-init
 loop-key-init c =
     let past : Rows = rows_then c.args.tables.now c.args.when.now in
-    ap (λ (es : List (OrderLineKey × OrderLine)). told past (stood c.args.when.now past.order_lines es)) (c.into_iter-key-iterator.ensures.into_iter_gives ∙ c.order_lines-key-items.ensures)
+    ap (λ (es : List (OrderLineKey × OrderLine)). told past (stood c.args.when.now past.order_lines es))
+    (c.into_iter-key-iterator.ensures.into_iter_gives ∙ c.order_lines-key-items.ensures)
     ∙ ap (told past) (sym (all_lines_are c.args.tables.now c.args.when.now c.requires))

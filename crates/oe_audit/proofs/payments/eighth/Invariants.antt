@@ -8,5 +8,7 @@ use Rattle.oe_audit.proofs.payments.eighth.Given as goal
 -- the first row that failed is among those that are left
 abbrev pub invariant-loop-key : goal.invariant-loop-key
 invariant-loop-key l =
-    judged key.Warehouse (option_map (λ e. e.0) (find (λ e. not (passes_8 (rows_then l.tables l.when) e.0 e.1)) (stood l.when (rows_then l.tables l.when).warehouses l.key-iterator)))
+    judged key.Warehouse (option_map (λ e. e.0)
+    (find (λ e. not (passes_8 (rows_then l.tables l.when) e.0 e.1))
+    (stood l.when (rows_then l.tables l.when).warehouses l.key-iterator)))
     ≡ verdict Eighth (rows_then l.tables l.when)

@@ -15,5 +15,6 @@ told r es = judged key.District (option_map (λ e. e.0) (find (λ e. not (passes
 pub loop-key-init : goal.loop-key-init
 loop-key-init c =
     let past : Rows = rows_then c.args.tables.now c.args.when.now in
-    ap (λ (es : List (DistrictKey × District)). told past (stood c.args.when.now past.districts es)) (c.into_iter-key-iterator.ensures.into_iter_gives ∙ c.districts-key-items.ensures)
+    ap (λ (es : List (DistrictKey × District)). told past (stood c.args.when.now past.districts es))
+    (c.into_iter-key-iterator.ensures.into_iter_gives ∙ c.districts-key-items.ensures)
     ∙ ap (told past) (sym (districts_are c.args.tables.now c.args.when.now c.requires))

@@ -19,12 +19,15 @@ pub returns-then-not-are_stocked : goal.returns-then-not-are_stocked
 returns-then-not-are_stocked c =
     let r = rows c.args.tables.now in
     same_answer false (c.are_met.result && has_stocks r && of_population r)
-    (sym (λ i. c.if-not-are_met.false i && (sym c.are_stocked.ensures ∙ c.if-not-are_stocked.true) i && of_population r))
+    (sym (λ i. c.if-not-are_met.false i && (sym c.are_stocked.ensures ∙ c.if-not-are_stocked.true) i && of_population
+    r))
     (population_is r c.are_met.result c.schema_holds.ensures c.are_met.ensures)
 
 pub returns : goal.returns
 returns c =
     let r = rows c.args.tables.now in
     same_answer c.are_of_population.result (c.are_met.result && has_stocks r && of_population r)
-    (c.are_of_population.ensures ∙ sym (λ i. c.if-not-are_met.false i && (sym c.are_stocked.ensures ∙ c.if-not-are_stocked.false) i && of_population r))
+    (c.are_of_population.ensures
+    ∙ sym (λ i. c.if-not-are_met.false i && (sym c.are_stocked.ensures ∙ c.if-not-are_stocked.false) i &&
+    of_population r))
     (population_is r c.are_met.result c.schema_holds.ensures c.are_met.ensures)

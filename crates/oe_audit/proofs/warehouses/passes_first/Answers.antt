@@ -13,5 +13,7 @@ ytd e = e.1.ytd
 pub loop-district-init : goal.loop-district-init
 loop-district-init c =
     let past : Rows = rows_then c.args.tables.now c.args.when.now in
-    (λ i. c.cents-rest.ensures.value i == sum_by ytd (stood c.args.when.now past.districts ((c.into_iter-district-iterator.ensures.into_iter_gives ∙ c.districts_of-district-items.ensures) i)))
+    (λ i. c.cents-rest.ensures.value i == sum_by ytd
+    (stood c.args.when.now past.districts
+    ((c.into_iter-district-iterator.ensures.into_iter_gives ∙ c.districts_of-district-items.ensures) i)))
     ∙ ap (λ n. c.args.ytd == n) (sym (ytd_was c.args.tables.now c.args.when.now c.requires c.args.key.now))

@@ -10,5 +10,7 @@ returns-clause-applied c = record {
   accepted = search rules;
   changes = c.delete_new_order-row.ensures.rows;
   before = search rules;
-  places = adds_own _ _ _ c.delete_new_order-row.ensures.places (place_of_row new_order_total exact_new_order _ c.args.key.now (ap is_some c.delete_new_order-row.ensures.before));
+  places = adds_own _ _ _ c.delete_new_order-row.ensures.places
+      (place_of_row new_order_total exact_new_order _ c.args.key.now
+      (ap is_some c.delete_new_order-row.ensures.before));
 }

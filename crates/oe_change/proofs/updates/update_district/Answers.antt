@@ -10,5 +10,7 @@ returns-clause-applied c = record {
   accepted = search rules;
   changes = c.update_district-before.ensures.rows;
   before = search rules;
-  places = adds_own _ _ _ c.update_district-before.ensures.places (place_of_row district_total exact_district _ c.args.key.now (ap is_some c.update_district-before.ensures.before));
+  places = adds_own _ _ _ c.update_district-before.ensures.places
+      (place_of_row district_total exact_district _ c.args.key.now
+      (ap is_some c.update_district-before.ensures.before));
 }

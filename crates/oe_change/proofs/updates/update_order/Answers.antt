@@ -10,5 +10,6 @@ returns-clause-applied c = record {
   accepted = search rules;
   changes = c.update_order-before.ensures.rows;
   before = search rules;
-  places = adds_own _ _ _ c.update_order-before.ensures.places (place_of_row order_total exact_order _ c.args.key.now (ap is_some c.update_order-before.ensures.before));
+  places = adds_own _ _ _ c.update_order-before.ensures.places
+      (place_of_row order_total exact_order _ c.args.key.now (ap is_some c.update_order-before.ensures.before));
 }

@@ -10,5 +10,7 @@ returns-clause-applied c = record {
   accepted = search rules;
   changes = c.update_order_line-before.ensures.rows;
   before = search rules;
-  places = adds_own _ _ _ c.update_order_line-before.ensures.places (place_of_row order_line_total exact_order_line _ c.args.key.now (ap is_some c.update_order_line-before.ensures.before));
+  places = adds_own _ _ _ c.update_order_line-before.ensures.places
+      (place_of_row order_line_total exact_order_line _ c.args.key.now
+      (ap is_some c.update_order_line-before.ensures.before));
 }

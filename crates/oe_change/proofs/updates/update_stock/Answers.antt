@@ -10,5 +10,6 @@ returns-clause-applied c = record {
   accepted = search rules;
   changes = c.update_stock-before.ensures.rows;
   before = search rules;
-  places = adds_own _ _ _ c.update_stock-before.ensures.places (place_of_row stock_total exact_stock _ c.args.key.now (ap is_some c.update_stock-before.ensures.before));
+  places = adds_own _ _ _ c.update_stock-before.ensures.places
+      (place_of_row stock_total exact_stock _ c.args.key.now (ap is_some c.update_stock-before.ensures.before));
 }

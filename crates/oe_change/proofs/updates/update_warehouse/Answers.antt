@@ -10,5 +10,7 @@ returns-clause-applied c = record {
   accepted = search rules;
   changes = c.update_warehouse-before.ensures.rows;
   before = search rules;
-  places = adds_own _ _ _ c.update_warehouse-before.ensures.places (place_of_row warehouse_total exact_warehouse _ c.args.key.now (ap is_some c.update_warehouse-before.ensures.before));
+  places = adds_own _ _ _ c.update_warehouse-before.ensures.places
+      (place_of_row warehouse_total exact_warehouse _ c.args.key.now
+      (ap is_some c.update_warehouse-before.ensures.before));
 }

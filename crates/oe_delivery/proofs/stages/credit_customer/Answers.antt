@@ -20,31 +20,42 @@ payer_is c = c.customer-2.ensures ∙ ap (λ n. customer_in c.args.request.now.d
 found : (c : After-put) → get (view_of c.args.engine.now).rows.customers c.customer-2.result ≡ Some c.in-Some.row.now
 found c = ap (λ r. get r.customers c.customer-2.result) (sym c.tables.ensures) ∙ sym c.in-Some.ensures
 
-fits : (c : After-put) → Ok (record c.in-Some.row.now { account = c.in-Ok.account }) ≡ checked delivered_out (delivered_to c.args.remainder.now.sum c.in-Some.row.now)
-fits c = subst (λ n. Ok (record c.in-Some.row.now { account = c.in-Ok.account }) ≡ checked delivered_out (delivered_to n c.in-Some.row.now)) c.sum.ensures c.in-Ok.ensures
+fits : (c : After-put) → Ok (record c.in-Some.row.now { account = c.in-Ok.account }) ≡ checked delivered_out
+    (delivered_to c.args.remainder.now.sum c.in-Some.row.now)
+fits c = subst (λ n. Ok (record c.in-Some.row.now { account = c.in-Ok.account }) ≡ checked delivered_out
+    (delivered_to n c.in-Some.row.now)) c.sum.ensures c.in-Ok.ensures
 
 pub returns-in-Ok-put : goal.returns-in-Ok-put
 returns-in-Ok-put c =
     let h = (goal.at.returns-in-Ok-put c).After-put in
-    subst (λ y. GoesOn c.args.engine.now c.args.tx.now (request.Delivery c.args.request.now) (InDelivery c.args.request.now (line_position c.args.remainder.now))
+    subst (λ y. GoesOn c.args.engine.now c.args.tx.now (request.Delivery c.args.request.now)
+    (InDelivery c.args.request.now (line_position c.args.remainder.now))
     c.put.new.engine (InDelivery c.args.request.now (DeliveryEnd y.order y.customer y.sum))) (sym c.delivered.ensures)
-    (c.in-Ok-put.ensures.does (UpdateCustomer c.customer-2.result (record c.in-Some.row.now { account = c.in-Ok.account }))
+    (c.in-Ok-put.ensures.does
+    (UpdateCustomer c.customer-2.result (record c.in-Some.row.now { account = c.in-Ok.account }))
     (ap (option_map (λ z. UpdateCustomer c.customer-2.result (record z { account = c.in-Ok.account }))) (found h))
     (request.Delivery c.args.request.now) (InDelivery c.args.request.now (line_position c.args.remainder.now))
-    (InDelivery c.args.request.now (DeliveryEnd c.args.remainder.now.order c.args.remainder.now.customer c.args.remainder.now.sum))
-    (customer_asks c.args.engine.now c.args.tx.now c.args.request.now c.args.remainder.now c.requires.last c.customer-2.result (payer_is h))
-    (customer_does c.args.engine.now c.args.tx.now c.args.request.now c.args.remainder.now c.requires.last c.customer-2.result (payer_is h)
+    (InDelivery c.args.request.now
+    (DeliveryEnd c.args.remainder.now.order c.args.remainder.now.customer c.args.remainder.now.sum))
+    (customer_asks c.args.engine.now c.args.tx.now c.args.request.now c.args.remainder.now c.requires.last
+    c.customer-2.result (payer_is h))
+    (customer_does c.args.engine.now c.args.tx.now c.args.request.now c.args.remainder.now c.requires.last
+    c.customer-2.result (payer_is h)
     c.in-Some.row.now c.in-Ok.account (found h) (fits h)))
 
 pub returns-in-Err-put : goal.returns-in-Err-put
 returns-in-Err-put c =
     let h = (goal.at.returns-in-Err-put c).After-put in (
-      c.in-Err-put.ensures.does (UpdateCustomer c.customer-2.result (record c.in-Some.row.now { account = c.in-Ok.account }))
+      c.in-Err-put.ensures.does
+          (UpdateCustomer c.customer-2.result (record c.in-Some.row.now { account = c.in-Ok.account }))
           (ap (option_map (λ z. UpdateCustomer c.customer-2.result (record z { account = c.in-Ok.account }))) (found h))
           (request.Delivery c.args.request.now) (InDelivery c.args.request.now (line_position c.args.remainder.now))
-          (InDelivery c.args.request.now (DeliveryEnd c.args.remainder.now.order c.args.remainder.now.customer c.args.remainder.now.sum))
-          (customer_asks c.args.engine.now c.args.tx.now c.args.request.now c.args.remainder.now c.requires.last c.customer-2.result (payer_is h))
-          (customer_does c.args.engine.now c.args.tx.now c.args.request.now c.args.remainder.now c.requires.last c.customer-2.result (payer_is h)
+          (InDelivery c.args.request.now
+          (DeliveryEnd c.args.remainder.now.order c.args.remainder.now.customer c.args.remainder.now.sum))
+          (customer_asks c.args.engine.now c.args.tx.now c.args.request.now c.args.remainder.now c.requires.last
+          c.customer-2.result (payer_is h))
+          (customer_does c.args.engine.now c.args.tx.now c.args.request.now c.args.remainder.now c.requires.last
+          c.customer-2.result (payer_is h)
           c.in-Some.row.now c.in-Ok.account (found h) (fits h)),
       c.in-Err-put.ensures.err,
       c.in-Err-put.ensures.name,

@@ -7,12 +7,14 @@ sit_down-requires-clause-free g c =
     let value : c.unwrap.result ≡ c.len-count.result + 1 = search rules in
     let count = c.len-count.ensures in
     let senders = c.requires.senders in
-    free_before c.args.shop.seats c.take_desk-desk.new.shop.seats _ _ c.requires.free (omega (arith, value, count, senders)) c.take_desk-desk.ensures.seats
+    free_before c.args.shop.seats c.take_desk-desk.new.shop.seats _ _ c.requires.free
+    (omega (arith, value, count, senders)) c.take_desk-desk.ensures.seats
 
 pub rise-desks-requires : goal.rise-desks-requires
 rise-desks-requires g c =
     let same = c.run_all-is_whole.auto.stations ∙ ap length c.as_mut_slice.ensures.value in
-    let long = as_long c.sit_down.new.stations.len c.sit_down.new.stations.items c.run_all-is_whole.new.stations (search rules) same in
+    let long = as_long c.sit_down.new.stations.len c.sit_down.new.stations.items c.run_all-is_whole.new.stations
+    (search rules) same in
     let count = c.sit_down.ensures.stations in
     let room = c.requires.desks in
     let senders = c.requires.senders in
@@ -21,7 +23,8 @@ rise-desks-requires g c =
 pub close-requires-clause-all : goal.close-requires-clause-all
 close-requires-clause-all g c =
     let same = c.run_all-is_whole.auto.stations ∙ ap length c.as_mut_slice.ensures.value in
-    let long = as_long c.sit_down.new.stations.len c.sit_down.new.stations.items c.run_all-is_whole.new.stations (search rules) same in
+    let long = as_long c.sit_down.new.stations.len c.sit_down.new.stations.items c.run_all-is_whole.new.stations
+    (search rules) same in
     let count = c.sit_down.ensures in
     let rise = c.rise-desks.ensures.count in
     let taken = c.take_desk-desk.ensures.given in

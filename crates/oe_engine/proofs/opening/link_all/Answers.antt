@@ -8,7 +8,9 @@ use Rattle.oe_engine.proofs.opening.link_all.Goals as goal
 
 pub loop-table-preserved : goal.loop-table-preserved
 loop-table-preserved c =
-    one_linked (IsLinked c.args.tables.now) (tables_still c.args.tables.now) c.args.undo.now c.loop-table.undo c.link_table.new.undo (get_or CHANGED c.loop-table.table-index table.Warehouse) (drop (c.loop-table.table-index + 1) CHANGED) CHANGED
+    one_linked (IsLinked c.args.tables.now) (tables_still c.args.tables.now) c.args.undo.now c.loop-table.undo
+    c.link_table.new.undo (get_or CHANGED c.loop-table.table-index table.Warehouse)
+    (drop (c.loop-table.table-index + 1) CHANGED) CHANGED
     c.link_table.ensures.log c.link_table.ensures.kept c.in_ok-link_table.ensures.linked
     (subst (λ ts. IsLinking (IsLinked c.args.tables.now) c.args.undo.now c.loop-table.undo ts CHANGED)
     (drop_more CHANGED c.loop-table.table-index table.Warehouse (search rules)) c.loop-table.invariant)

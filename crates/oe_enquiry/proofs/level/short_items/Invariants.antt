@@ -5,4 +5,5 @@ use Rattle.oe_enquiry.proofs.level.short_items.Given as goal
 
 abbrev pub invariant-loop-number : goal.invariant-loop-number
 invariant-loop-number l =
-    IsLeft (is_short l.query (rows_of l.version)) l.query.district l.fn.next (rows_of l.version).order_lines l.number l.items
+    IsLeft (is_short l.query (rows_of l.version)) l.query.district l.fn.next (rows_of l.version).order_lines l.number
+    l.items

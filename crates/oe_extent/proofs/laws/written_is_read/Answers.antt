@@ -1,5 +1,6 @@
 -- What is written is read again.
-use Rattle.std.proofs.Common.{◌≡◌, ℕ, ◌^◌, ◌<◌, ◌≤◌, false, List, ◌++◌, length, take, drop, ltb, Some, refl, sym, ap, ◌∙◌, arith, append_assoc}
+use Rattle.std.proofs.Common.{◌≡◌, ℕ, ◌^◌, ◌<◌, ◌≤◌, false, List, ◌++◌, length, take, drop, ltb, Some, refl, sym, ap}
+use Rattle.std.proofs.Common.{◌∙◌, arith, append_assoc}
 use Rattle.std.proofs.lemmas.Bool.{le-ltb}
 use Rattle.std.proofs.lemmas.List.{take-append-drop, take_at, drop_at, length-append, length-take}
 use Rattle.byteorder.specs.Endian.{big_bytes}
@@ -7,7 +8,8 @@ use Rattle.byteorder.specs.Numbers.{big_number-reads_back, length-bytes_high_fir
 use Rattle.oe_extent.specs.Images.{Writes, number_at, run_at}
 use Rattle.oe_extent.proofs.laws.written_is_read.Goals as goal
 
-text_stands : (old : List ℕ) (start : ℕ) (text new : List ℕ) (end : ℕ) → start ≤ length old → Writes old start text new end
+text_stands : (old : List ℕ) (start : ℕ) (text new : List ℕ) (end : ℕ) → start ≤ length old
+    → Writes old start text new end
     → drop start new ≡ text ++ drop end old
 text_stands old start text new end within w =
     let front : length (take start old) ≡ start = omega (arith, length-take start old) in
@@ -16,10 +18,12 @@ text_stands old start text new end within w =
     ∙ ap (λ (l : List ℕ). (take start old ++ text) ++ l) w.rest ∙ append_assoc (take start old) text (drop end old) in
     ap (drop start) whole ∙ drop_at (take start old) (text ++ drop end old) start front
 
-number_again : (width n : ℕ) (rest : List ℕ) → n < 256 ^ width → number_at width (big_bytes width n ++ rest) ≡ Some (n, rest)
+number_again : (width n : ℕ) (rest : List ℕ) → n < 256 ^ width
+    → number_at width (big_bytes width n ++ rest) ≡ Some (n, rest)
 number_again width n rest lt =
     let size = length-bytes_high_first width n in
-    let long : ltb (length (big_bytes width n ++ rest)) width ≡ false = le-ltb _ _ (omega (arith, length-append (big_bytes width n) rest)) in
+    let long : ltb (length (big_bytes width n ++ rest)) width ≡ false =
+    le-ltb _ _ (omega (arith, length-append (big_bytes width n) rest)) in
     rw (long, drop_at (big_bytes width n) rest width size, big_number-reads_back width n rest lt) refl
 
 run_again : (run rest : List ℕ) → run_at (length run) (run ++ rest) ≡ Some (run, rest)

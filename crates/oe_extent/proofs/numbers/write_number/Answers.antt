@@ -7,6 +7,8 @@ use Rattle.oe_extent.proofs.numbers.write_number.Goals as goal
 
 pub returns : goal.returns
 returns c =
-    let len : length (big_bytes c.args.width c.args.value) ≡ c.args.width = length-bytes_high_first c.args.width c.args.value in
-    Writes-mid c.args.bytes.now c.args.start (length c.args.bytes.now - c.args.start) (big_bytes c.args.width c.args.value) c.write_uint.new.buf (c.args.start + c.args.width)
+    let len : length (big_bytes c.args.width c.args.value) ≡ c.args.width =
+    length-bytes_high_first c.args.width c.args.value in
+    Writes-mid c.args.bytes.now c.args.start (length c.args.bytes.now - c.args.start)
+    (big_bytes c.args.width c.args.value) c.write_uint.new.buf (c.args.start + c.args.width)
     (omega arith) (omega arith) (rw len c.write_uint.ensures) (omega arith)

@@ -9,5 +9,6 @@ use Rattle.oe_fronts.proofs.keys.read_key.Goals as goal
 
 pub returns : goal.returns
 returns c =
-    subst (λ (r : Option (Key × List ℕ)). Reads (IsKeyOf c.args.table) key_image c.args.bytes.now r) (sym c.front_key.ensures)
+    subst (λ (r : Option (Key × List ℕ)). Reads (IsKeyOf c.args.table) key_image c.args.bytes.now r)
+    (sym c.front_key.ensures)
     (key_exact c.args.table c.args.bytes.now (λ i. omega (arith, c.type_inv.bytes i)))

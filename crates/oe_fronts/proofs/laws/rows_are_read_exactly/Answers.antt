@@ -1,6 +1,7 @@
 -- Row by row.
 use Rattle.oe_fronts.proofs.FrontFacts.{exact}
-use Rattle.oe_fronts.proofs.RowFacts.{warehouse_law, district_law, customer_law, history_law, order_law, order_line_law, item_law, stock_law}
+use Rattle.oe_fronts.proofs.RowFacts.{warehouse_law, district_law, customer_law, history_law, order_law, order_line_law}
+use Rattle.oe_fronts.proofs.RowFacts.{item_law, stock_law}
 use Rattle.oe_fronts.proofs.laws.rows_are_read_exactly.Goals as goal
 
 pub returns : goal.returns

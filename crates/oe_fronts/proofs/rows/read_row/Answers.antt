@@ -9,5 +9,6 @@ use Rattle.oe_fronts.proofs.rows.read_row.Goals as goal
 
 pub returns : goal.returns
 returns c =
-    subst (λ (r : Option (Row × List ℕ)). Reads (IsRowOf c.args.table) row_image c.args.bytes.now r) (sym c.front_row.ensures)
+    subst (λ (r : Option (Row × List ℕ)). Reads (IsRowOf c.args.table) row_image c.args.bytes.now r)
+    (sym c.front_row.ensures)
     (row_exact c.args.table c.args.bytes.now (λ i. omega (arith, c.type_inv.bytes i)))

@@ -4,4 +4,5 @@ use Rattle.oe_hall_tests.proofs.made.populated.Goals as goal
 pub returns : goal.returns
 returns g c =
     let r = c.population_is_one.ensures in
-    r.is_population _ _ (record { warehouses = search rules; customers = search rules; items = search rules }) c.in-Ok.ensures
+    r.is_population _ _ (record { warehouses = search rules; customers = search rules; items = search rules })
+    c.in-Ok.ensures

@@ -14,8 +14,10 @@ is_at u v h same is = less h (length v.committed) (total_count v) is ∙ ap hori
 
 pub returns : goal.returns
 returns c =
-    let law = c.ends_without_records.ensures c.args.undo.now.log (seen c.args.undo.now) c.args.key.now c.is_chained.ensures.whole c.is_chained.ensures.chained in
-    let at : c.horizon.result ≡ horizon c.args.undo.now.log = is_at c.args.undo.now.log c.segments.result.now c.horizon.result c.segments.ensures c.horizon.ensures.value in (
+    let law = c.ends_without_records.ensures c.args.undo.now.log (seen c.args.undo.now) c.args.key.now
+    c.is_chained.ensures.whole c.is_chained.ensures.chained in
+    let at : c.horizon.result ≡ horizon c.args.undo.now.log = is_at c.args.undo.now.log c.segments.result.now
+    c.horizon.result c.segments.ensures c.horizon.ensures.value in (
       λ h. law.0 (subst (λ n. IsEnd n (seen c.args.undo.now c.args.key.now)) at (c.has_ended.ensures.0 h)),
       λ h. c.has_ended.ensures.1 (subst (λ n. IsEnd n (seen c.args.undo.now c.args.key.now)) (sym at) (law.1 h)),
     )

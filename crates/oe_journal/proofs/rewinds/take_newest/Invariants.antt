@@ -5,4 +5,5 @@ use Rattle.oe_journal.proofs.rewinds.take_newest.Given as goal
 
 abbrev pub invariant-loop : goal.invariant-loop
 invariant-loop l =
-    Undoes l.fn.tables l.tables l.fn.undo.log l.undo.log l.fn.count (l.fn.count - l.counter) × StayLinked l.fn.tables l.tables l.fn.undo.links l.undo.links
+    Undoes l.fn.tables l.tables l.fn.undo.log l.undo.log l.fn.count (l.fn.count - l.counter)
+    × StayLinked l.fn.tables l.tables l.fn.undo.links l.undo.links

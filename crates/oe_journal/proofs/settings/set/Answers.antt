@@ -2,14 +2,16 @@
 use Rattle.std.proofs.Common.{refl, Some}
 use Rattle.oe_rows.specs.Credit.{with_entry}
 use Rattle.oe_rows.specs.Item.{with_counters}
-use Rattle.oe_journal.proofs.SetFacts.{warehouse_made, district_made, customer_made, order_made, order_line_made, stock_made}
+use Rattle.oe_journal.proofs.SetFacts.{warehouse_made, district_made, customer_made, order_made, order_line_made}
+use Rattle.oe_journal.proofs.SetFacts.{stock_made}
 use Rattle.oe_journal.proofs.settings.set.Goals as goal
 
 pub returns-in-WarehouseYtd-clause-made : goal.returns-in-WarehouseYtd-clause-made
 returns-in-WarehouseYtd-clause-made c =
     let some = rw c.in-WarehouseYtd.is at c.requires in
     rw c.in-WarehouseYtd.is
-    (warehouse_made c.args.tables.now c.set_warehouse_ytd.new.self c.set_warehouse_ytd.ensures.places c.in-WarehouseYtd.key
+    (warehouse_made c.args.tables.now c.set_warehouse_ytd.new.self c.set_warehouse_ytd.ensures.places
+    c.in-WarehouseYtd.key
     (λ x. record x { ytd = c.in-WarehouseYtd.ytd }) some c.set_warehouse_ytd.ensures.rows)
 
 pub returns-in-DistrictYtd-clause-made : goal.returns-in-DistrictYtd-clause-made
@@ -59,4 +61,5 @@ returns-in-DeliveryDate-clause-made c =
     let some = rw c.in-DeliveryDate.is at c.requires in
     rw c.in-DeliveryDate.is
     (order_line_made c.args.tables.now c.set_delivery.new.self c.set_delivery.ensures.places c.in-DeliveryDate.key
-    (λ x. record x { delivery = Some c.in-DeliveryDate.stamp }) (λ x. refl) c.schema_holds.ensures some c.set_delivery.ensures.rows)
+    (λ x. record x { delivery = Some c.in-DeliveryDate.stamp }) (λ x. refl) c.schema_holds.ensures some
+    c.set_delivery.ensures.rows)

@@ -8,5 +8,6 @@ pub returns-in_default : goal.returns-in_default
 returns-in_default c =
     let none = c.in_default in
     subst (λ k. RefusesWrite c.args.write.now c.args.tables.now (NoSuchRow k)) (sym c.key.ensures)
-    (write_unplaced c.args.write.now c.args.tables.now none.not-InsertHistory none.not-InsertNewOrder none.not-InsertOrder none.not-InsertOrderLine
+    (write_unplaced c.args.write.now c.args.tables.now none.not-InsertHistory none.not-InsertNewOrder
+    none.not-InsertOrder none.not-InsertOrderLine
     c.requires.there c.requires.unplaced)

@@ -10,7 +10,9 @@ use Rattle.oe_journal.proofs.unwinding.take_back.Given as goal
 
 abbrev pub invariant-loop : goal.invariant-loop
 invariant-loop l =
-    GoesBack l.fn.tables l.tables l.fn.undo.log l.undo.log l.segment l.count (records_at l.undo.log l.segment) (l.count - l.counter)
+    GoesBack l.fn.tables l.tables l.fn.undo.log l.undo.log l.segment l.count (records_at l.undo.log l.segment)
+    (l.count - l.counter)
     × StayLinked l.fn.tables l.tables l.fn.undo.links l.undo.links
-    × ((k : Key) → led_back (horizon l.fn.undo.log) l.segment (take (l.count - l.counter) (records_at l.undo.log l.segment)) (seen l.undo) k
+    × ((k : Key) → led_back (horizon l.fn.undo.log) l.segment
+    (take (l.count - l.counter) (records_at l.undo.log l.segment)) (seen l.undo) k
     ≡ led_back (horizon l.fn.undo.log) l.segment (take l.count (records_at l.fn.undo.log l.segment)) (seen l.fn.undo) k)

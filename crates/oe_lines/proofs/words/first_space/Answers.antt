@@ -5,4 +5,5 @@ use Rattle.std.proofs.lemmas.Iterator.Search.{position_from_yields_List}
 use Rattle.oe_lines.proofs.words.first_space.Goals as goal
 
 pub returns : goal.returns
-returns c = position_from_yields_List (λ b. b == 32) _ _ c.position.result c.position.ensures.ran (YieldsList-from_slice _ c.iter.ensures.rest) (λ x b q k. search (rules, tests))
+returns c = position_from_yields_List (λ b. b == 32) _ _ c.position.result c.position.ensures.ran
+    (YieldsList-from_slice _ c.iter.ensures.rest) (λ x b q k. search (rules, tests))

@@ -11,9 +11,13 @@ change-requires-clause-others c u ne =
 
 pub invariant_of-self : goal.invariant_of-self
 invariant_of-self c =
-    let room : c.args.terminal < length c.self.inside.names = omega (arith, c.at_mut.ensures.size, c.at_mut.ensures.high) in
+    let room : c.args.terminal < length c.self.inside.names =
+    omega (arith, c.at_mut.ensures.size, c.at_mut.ensures.high) in
     let listed =
-    listed-at c.self.inside.names c.args.terminal c.at_mut.result.now c.at_mut.ensures.low room c.self.inside.holders c.at_mut.ensures.value c.self.invariant
+    listed-at c.self.inside.names c.args.terminal c.at_mut.result.now c.at_mut.ensures.low room c.self.inside.holders
+    c.at_mut.ensures.value c.self.invariant
     in
-    listed-set c.self.inside.names c.args.terminal c.strike.new.names c.at_mut.ensures.low room c.self.inside.holders c.leave.new.holders c.self.invariant c.leave.ensures.others
-    (struck c.self.inside.holders c.leave.new.holders c.args.terminal c.args.name c.at_mut.result.now.items c.strike.new.names.items c.leave.ensures.own c.strike.ensures listed)
+    listed-set c.self.inside.names c.args.terminal c.strike.new.names c.at_mut.ensures.low room c.self.inside.holders
+    c.leave.new.holders c.self.invariant c.leave.ensures.others
+    (struck c.self.inside.holders c.leave.new.holders c.args.terminal c.args.name c.at_mut.result.now.items
+    c.strike.new.names.items c.leave.ensures.own c.strike.ensures listed)

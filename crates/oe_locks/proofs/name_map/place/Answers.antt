@@ -6,12 +6,17 @@ use Rattle.oe_locks.proofs.name_map.place.Goals as goal
 
 pub returns-then-eq-clause-there : goal.returns-then-eq-clause-there
 returns-then-eq-clause-there c =
-    let this : ghosts.eq c.args.name.now c.index-entries-i.result.0 ≡ true = search (rules, c.if-eq.ensures, c.eq.ensures, c.if-eq.true) in
-    subst (λ (k : ℕ). IsSome (lookup (ghosts.eq c.args.name.now) (take k c.args.entries.now))) (sym (add-one c.loop-i.i))
-    (found_next c.args.name.now c.args.entries.now c.loop-i.i c.index-entries-i.result c.loop-i-test.true c.index-entries-i.is this)
+    let this : ghosts.eq c.args.name.now c.index-entries-i.result.0 ≡ true =
+    search (rules, c.if-eq.ensures, c.eq.ensures, c.if-eq.true) in
+    subst (λ (k : ℕ). IsSome (lookup (ghosts.eq c.args.name.now) (take k c.args.entries.now)))
+    (sym (add-one c.loop-i.i))
+    (found_next c.args.name.now c.args.entries.now c.loop-i.i c.index-entries-i.result c.loop-i-test.true
+    c.index-entries-i.is this)
 
 pub loop-i-preserved : goal.loop-i-preserved
 loop-i-preserved c =
-    let other : ghosts.eq c.args.name.now c.index-entries-i.result.0 ≡ false = search (rules, c.if-eq.ensures, c.eq.ensures, c.if-eq.false) in
+    let other : ghosts.eq c.args.name.now c.index-entries-i.result.0 ≡ false =
+    search (rules, c.if-eq.ensures, c.eq.ensures, c.if-eq.false) in
     subst (λ (k : ℕ). lookup (ghosts.eq c.args.name.now) (take k c.args.entries.now) ≡ None) (sym (add-one c.loop-i.i))
-    (none_next c.args.name.now c.args.entries.now c.loop-i.i c.index-entries-i.result c.loop-i-test.true c.index-entries-i.is other c.loop-i.invariant)
+    (none_next c.args.name.now c.args.entries.now c.loop-i.i c.index-entries-i.result c.loop-i-test.true
+    c.index-entries-i.is other c.loop-i.invariant)

@@ -3,4 +3,13 @@ use Rattle.oe_log.proofs.LawFacts.{begun, opens, pushes, pops, seals, drops, cut
 use Rattle.oe_log.proofs.laws.calls_are_steps.Goals as goal
 
 pub returns : goal.returns
-returns c = record { begun = begun; opens = opens; pushes = pushes; pops = pops; seals = seals; drops = drops; cuts = cuts; reopens = reopens }
+returns c = record {
+  begun = begun;
+  opens = opens;
+  pushes = pushes;
+  pops = pops;
+  seals = seals;
+  drops = drops;
+  cuts = cuts;
+  reopens = reopens;
+}

@@ -13,7 +13,8 @@ returns-in-Ok c =
     (InNewOrder c.args.request.now (NewOrderOrder (seen_by c.args.seen.now)))
     (InNewOrder c.args.request.now (NewOrderQueue (seen_by c.copied.result)))
     (ap (λ k. Take (name.Order k) Exclusive) (sym c.order.ensures))
-    (λ i. Go (Some (InsertOrder (sym c.order.ensures i) (sym c.order_row.ensures i))) (InNewOrder c.args.request.now (NewOrderQueue (seen_by (sym c.copied.ensures i)))))
+    (λ i. Go (Some (InsertOrder (sym c.order.ensures i) (sym c.order_row.ensures i)))
+    (InNewOrder c.args.request.now (NewOrderQueue (seen_by (sym c.copied.ensures i)))))
 
 pub returns-in-Err : goal.returns-in-Err
 returns-in-Err c = (
@@ -21,7 +22,8 @@ returns-in-Err c = (
       (InNewOrder c.args.request.now (NewOrderOrder (seen_by c.args.seen.now)))
       (InNewOrder c.args.request.now (NewOrderQueue (seen_by c.args.seen.now)))
       (ap (λ k. Take (name.Order k) Exclusive) (sym c.order.ensures))
-      (λ i. Go (Some (InsertOrder (sym c.order.ensures i) (sym c.order_row.ensures i))) (InNewOrder c.args.request.now (NewOrderQueue (seen_by c.args.seen.now)))),
+      (λ i. Go (Some (InsertOrder (sym c.order.ensures i) (sym c.order_row.ensures i)))
+      (InNewOrder c.args.request.now (NewOrderQueue (seen_by c.args.seen.now)))),
   c.in-Err.ensures.err,
   c.in-Err.ensures.name,
 )

@@ -9,13 +9,16 @@ use Rattle.oe_neworder.specs.Looks.{Sees}
 use Rattle.oe_neworder.proofs.stages.read_customer.Goals.{After-hold}
 use Rattle.oe_neworder.proofs.stages.read_customer.Goals as goal
 
-sees : (c : After-hold) → Sees c.args.request.now (view_of c.args.engine.now).rows (NewOrderCustomer c.args.order c.args.warehouse_tax c.args.district_tax) (Some c.in-Some.seen)
-sees c = subst (λ r. Sees c.args.request.now r (NewOrderCustomer c.args.order c.args.warehouse_tax c.args.district_tax) (Some c.in-Some.seen)) c.tables.ensures c.in-Some.ensures
+sees : (c : After-hold) → Sees c.args.request.now (view_of c.args.engine.now).rows
+    (NewOrderCustomer c.args.order c.args.warehouse_tax c.args.district_tax) (Some c.in-Some.seen)
+sees c = subst (λ r. Sees c.args.request.now r (NewOrderCustomer c.args.order c.args.warehouse_tax c.args.district_tax)
+    (Some c.in-Some.seen)) c.tables.ensures c.in-Some.ensures
 
 pub returns-in-Ok : goal.returns-in-Ok
 returns-in-Ok c =
     let here = sees (goal.at.returns-in-Ok c).After-hold in
-    c.in-Ok.ensures.does (request.NewOrder c.args.request.now) (InNewOrder c.args.request.now (NewOrderCustomer c.args.order c.args.warehouse_tax c.args.district_tax))
+    c.in-Ok.ensures.does (request.NewOrder c.args.request.now)
+    (InNewOrder c.args.request.now (NewOrderCustomer c.args.order c.args.warehouse_tax c.args.district_tax))
     (InNewOrder c.args.request.now (NewOrderOrder (seen_by c.in-Some.seen)))
     (here.0 ∙ ap (λ k. Take (name.Customer k) Shared) (sym c.customer.ensures)) here.1
 

@@ -18,13 +18,15 @@ returns-in-Err c = (
 pub returns-in-Ok-hold : goal.returns-in-Ok-hold
 returns-in-Ok-hold c =
     c.in-Ok-hold.ensures.does (request.NewOrder c.args.request.now) (InNewOrder c.args.request.now NewOrderWarehouse)
-    (InNewOrder c.args.request.now (NewOrderDistrict c.in-Ok.tax)) (ap (λ k. Take (name.Warehouse k) Shared) (sym c.warehouse_key.ensures))
+    (InNewOrder c.args.request.now (NewOrderDistrict c.in-Ok.tax))
+    (ap (λ k. Take (name.Warehouse k) Shared) (sym c.warehouse_key.ensures))
     (subst (λ r. ReadsTax c.args.request.now r (Ok c.in-Ok.tax)) c.tables.ensures c.in-Ok.ensures)
 
 pub returns-in-Err-hold : goal.returns-in-Err-hold
 returns-in-Err-hold c = (
   c.in-Err-hold.ensures.does (request.NewOrder c.args.request.now) (InNewOrder c.args.request.now NewOrderWarehouse)
-      (InNewOrder c.args.request.now (NewOrderDistrict c.in-Ok.tax)) (ap (λ k. Take (name.Warehouse k) Shared) (sym c.warehouse_key.ensures))
+      (InNewOrder c.args.request.now (NewOrderDistrict c.in-Ok.tax))
+      (ap (λ k. Take (name.Warehouse k) Shared) (sym c.warehouse_key.ensures))
       (subst (λ r. ReadsTax c.args.request.now r (Ok c.in-Ok.tax)) c.tables.ensures c.in-Ok.ensures),
   c.in-Err-hold.ensures.err,
   c.in-Err-hold.ensures.name,

@@ -11,7 +11,8 @@ returns-in_default-clause-none g c = λ n low high is.
 pub returns-then-ne-clause-none : goal.returns-then-ne-clause-none
 returns-then-ne-clause-none g c = λ n low high is.
     let fits = g.HIGH.fits in
-    let same = is_that c.args.word.now n c.in-Ok.number c.parse.result (omega (arith, high, fits)) is c.parse.ensures.value.0 c.in-Ok.is in
+    let same = is_that c.args.word.now n c.in-Ok.number c.parse.result (omega (arith, high, fits)) is
+    c.parse.ensures.value.0 c.in-Ok.is in
     let text : c.format.result.now ≡ c.args.word.now = c.format.ensures.text ∙ ap decimal same ∙ sym is in
     search (rules, text)
 
@@ -19,4 +20,5 @@ pub returns-clause-none : goal.returns-clause-none
 returns-clause-none g c =
     let fits = g.HIGH.fits in
     out_of_range g.row.LOW g.row.HIGH c.in-Ok.number c.args.word.now c.new.result c.new.ensures.variant
-    (λ n high is. is_that c.args.word.now n c.in-Ok.number c.parse.result (omega (arith, high, fits)) is c.parse.ensures.value.0 c.in-Ok.is)
+    (λ n high is. is_that c.args.word.now n c.in-Ok.number c.parse.result (omega (arith, high, fits)) is
+    c.parse.ensures.value.0 c.in-Ok.is)

@@ -9,6 +9,7 @@ pub returns-clause-alone : goal.returns-clause-alone
 returns-clause-alone c = λ k.
     let one : open_total c.segments-segments.result.now ≡ 1 = search rules in
     let some : IsSome (active_at c.segments-segments.result.now c.args.terminal) = search rules in
-    let alone : IsAlone c.segments-segments.result.now c.args.terminal k = only_one_is_alone c.segments-segments.result.now c.args.terminal one some k in
+    let alone : IsAlone c.segments-segments.result.now c.args.terminal k =
+    only_one_is_alone c.segments-segments.result.now c.args.terminal one some k in
     subst (λ (u : SegmentLog). IsAlone u c.of.result k) c.segments-segments.ensures
     (subst (λ (t : ℕ). IsAlone c.segments-segments.result.now t k) (sym c.of.ensures) alone)

@@ -1,7 +1,8 @@
 use Rattle.std.proofs.Common.{refl, sym, ap, subst}
 use Rattle.oe_requests.specs.declared.requests.Request.TheVariants as request
 use Rattle.oe_model.specs.Payment.{history_data}
-use Rattle.oe_model.specs.Positions.{PaymentWarehouse, PaymentDistrict, PaymentCustomer, PaymentHistory, PaymentEnd, InPayment}
+use Rattle.oe_model.specs.Positions.{PaymentWarehouse, PaymentDistrict, PaymentCustomer, PaymentHistory, PaymentEnd}
+use Rattle.oe_model.specs.Positions.{InPayment}
 use Rattle.oe_engine.specs.Programs.{Progresses}
 use Rattle.oe_payment.specs.declared.positions.Position.{Position}
 use Rattle.oe_payment.specs.declared.positions.Stage.{Stage}
@@ -18,9 +19,11 @@ returns-in-Warehouse c =
     let p = c.args.position.now in
     let paid = c.pay_warehouse in
     let at = λ (k : Stage). record p { stage = k; warehouse = paid.new.warehouse } in
-    subst (λ (k : Stage). Progresses (request.Payment q) x s (InPayment q (position_in p)) paid.result paid.new.engine (InPayment q (position_in (at k)))) (sym paid.ensures.stage)
+    subst (λ (k : Stage). Progresses (request.Payment q) x s (InPayment q (position_in p)) paid.result paid.new.engine
+    (InPayment q (position_in (at k)))) (sym paid.ensures.stage)
     (carried q x s paid.new.engine PaymentWarehouse (PaymentDistrict paid.new.warehouse) p stage.District at paid.result
-    (ap (λ (k : Stage). position_at k p) c.in-Warehouse.is) (ap (λ (k : Stage). position_at k (at p.stage)) c.in-Warehouse.is) refl paid.ensures.does)
+    (ap (λ (k : Stage). position_at k p) c.in-Warehouse.is)
+    (ap (λ (k : Stage). position_at k (at p.stage)) c.in-Warehouse.is) refl paid.ensures.does)
 
 pub returns-in-District : goal.returns-in-District
 returns-in-District c =
@@ -30,9 +33,12 @@ returns-in-District c =
     let p = c.args.position.now in
     let paid = c.pay_district in
     let at = λ (k : Stage). record p { stage = k; district = paid.new.district } in
-    subst (λ (k : Stage). Progresses (request.Payment q) x s (InPayment q (position_in p)) paid.result paid.new.engine (InPayment q (position_in (at k)))) (sym paid.ensures.stage)
-    (carried q x s paid.new.engine (PaymentDistrict p.warehouse) (PaymentCustomer p.warehouse paid.new.district) p stage.Customer at paid.result
-    (ap (λ (k : Stage). position_at k p) c.in-District.is) (ap (λ (k : Stage). position_at k (at p.stage)) c.in-District.is) refl (paid.ensures.does p.warehouse))
+    subst (λ (k : Stage). Progresses (request.Payment q) x s (InPayment q (position_in p)) paid.result paid.new.engine
+    (InPayment q (position_in (at k)))) (sym paid.ensures.stage)
+    (carried q x s paid.new.engine (PaymentDistrict p.warehouse) (PaymentCustomer p.warehouse paid.new.district) p
+    stage.Customer at paid.result
+    (ap (λ (k : Stage). position_at k p) c.in-District.is)
+    (ap (λ (k : Stage). position_at k (at p.stage)) c.in-District.is) refl (paid.ensures.does p.warehouse))
 
 pub returns-in-Customer : goal.returns-in-Customer
 returns-in-Customer c =
@@ -42,9 +48,13 @@ returns-in-Customer c =
     let p = c.args.position.now in
     let paid = c.pay_customer in
     let at = λ (k : Stage). record p { stage = k; reply = paid.new.reply } in
-    subst (λ (k : Stage). Progresses (request.Payment q) x s (InPayment q (position_in p)) paid.result paid.new.engine (InPayment q (position_in (at k)))) (sym paid.ensures.stage)
-    (carried q x s paid.new.engine (PaymentCustomer p.warehouse p.district) (PaymentHistory (history_data p.warehouse p.district) paid.new.reply) p stage.History at paid.result
-    (ap (λ (k : Stage). position_at k p) c.in-Customer.is) (ap (λ (k : Stage). position_at k (at p.stage)) c.in-Customer.is) refl (paid.ensures.does p.warehouse p.district))
+    subst (λ (k : Stage). Progresses (request.Payment q) x s (InPayment q (position_in p)) paid.result paid.new.engine
+    (InPayment q (position_in (at k)))) (sym paid.ensures.stage)
+    (carried q x s paid.new.engine (PaymentCustomer p.warehouse p.district)
+    (PaymentHistory (history_data p.warehouse p.district) paid.new.reply) p stage.History at paid.result
+    (ap (λ (k : Stage). position_at k p) c.in-Customer.is)
+    (ap (λ (k : Stage). position_at k (at p.stage)) c.in-Customer.is) refl
+    (paid.ensures.does p.warehouse p.district))
 
 pub returns-in-History : goal.returns-in-History
 returns-in-History c =
@@ -54,9 +64,13 @@ returns-in-History c =
     let p = c.args.position.now in
     let noted = c.note in
     let at = λ (k : Stage). record p { stage = k } in
-    subst (λ (n : Position). Progresses (request.Payment q) x s (InPayment q (position_in p)) noted.result noted.new.engine (InPayment q (position_in n))) (sym noted.ensures.stage)
-    (carried q x s noted.new.engine (PaymentHistory (history_data p.warehouse p.district) p.reply) (PaymentEnd p.reply) p stage.End at noted.result
-    (ap (λ (k : Stage). position_at k p) c.in-History.is) (ap (λ (k : Stage). position_at k (at p.stage)) c.in-History.is) refl noted.ensures.does)
+    subst (λ (n : Position). Progresses (request.Payment q) x s (InPayment q (position_in p)) noted.result
+    noted.new.engine (InPayment q (position_in n))) (sym noted.ensures.stage)
+    (carried q x s noted.new.engine (PaymentHistory (history_data p.warehouse p.district) p.reply) (PaymentEnd p.reply)
+    p stage.End at noted.result
+    (ap (λ (k : Stage). position_at k p) c.in-History.is)
+    (ap (λ (k : Stage). position_at k (at p.stage)) c.in-History.is) refl noted.ensures.does)
 
 pub returns-in-End : goal.returns-in-End
-returns-in-End c = ready_at_end c.args.request.now c.args.tx.now c.args.engine.now c.args.position.now c.requires c.in-End.is
+returns-in-End c = ready_at_end c.args.request.now c.args.tx.now c.args.engine.now c.args.position.now c.requires
+    c.in-End.is

@@ -22,7 +22,9 @@ returns-in_default-customer-clause-does c = λ w d.
     let number : meant q.customer_district q.customer (view_of s).rows.customers ≡ Some n =
     ap (λ r. meant q.customer_district q.customer r.customers) (sym c.tables-stored.ensures) ∙ sym c.in-Some.ensures in
     let none : get (view_of s).rows.customers k ≡ None =
-    ap (λ r. get r.customers k) (sym c.tables-stored.ensures) ∙ (ap (λ j. get (rows c.tables-stored.result.now).customers j) (sym c.customer.ensures) ∙ sym c.in_default-customer.ensures) in
+    ap (λ r. get r.customers k) (sym c.tables-stored.ensures)
+    ∙ (ap (λ j. get (rows c.tables-stored.result.now).customers j) (sym c.customer.ensures)
+    ∙ sym c.in_default-customer.ensures) in
     ((c.requires, inl (absent_stops q c.args.tx.now s w d n number none)), refl, refl)
 
 pub returns-in-Err-clause-does : goal.returns-in-Err-clause-does
@@ -34,8 +36,11 @@ returns-in-Err-clause-does c = λ w d.
     let number : meant q.customer_district q.customer (view_of s).rows.customers ≡ Some n =
     ap (λ r. meant q.customer_district q.customer r.customers) (sym c.tables-stored.ensures) ∙ sym c.in-Some.ensures in
     let row : get (view_of s).rows.customers k ≡ Some c.in-Some-customer.row.now =
-    ap (λ r. get r.customers k) (sym c.tables-stored.ensures) ∙ (ap (λ j. get (rows c.tables-stored.result.now).customers j) (sym c.customer.ensures) ∙ sym c.in-Some-customer.ensures) in
-    let own : IsChosen q (view_of s).rows.customers n c.in-Some-customer.row.now = found q (view_of s).rows.customers n c.in-Some-customer.row.now number row in (
+    ap (λ r. get r.customers k) (sym c.tables-stored.ensures)
+    ∙ (ap (λ j. get (rows c.tables-stored.result.now).customers j) (sym c.customer.ensures)
+    ∙ sym c.in-Some-customer.ensures) in
+    let own : IsChosen q (view_of s).rows.customers n c.in-Some-customer.row.now =
+    found q (view_of s).rows.customers n c.in-Some-customer.row.now number row in (
       c.failure.ensures q (PaymentCustomer w d)
           (rw c.customer.ensures (customer_asks q c.args.tx.now s w d n c.in-Some-customer.row.now own))
           (customer_fails q c.args.tx.now s w d n c.in-Some-customer.row.now own c.in-Err.column (c.in-Err.ensures n)),
@@ -52,11 +57,16 @@ returns-in-Good-clause-does c = λ w d.
     let number : meant q.customer_district q.customer (view_of s).rows.customers ≡ Some n =
     ap (λ r. meant q.customer_district q.customer r.customers) (sym c.tables-stored.ensures) ∙ sym c.in-Some.ensures in
     let row : get (view_of s).rows.customers k ≡ Some c.in-Some-customer.row.now =
-    ap (λ r. get r.customers k) (sym c.tables-stored.ensures) ∙ (ap (λ j. get (rows c.tables-stored.result.now).customers j) (sym c.customer.ensures) ∙ sym c.in-Some-customer.ensures) in
-    let own : IsChosen q (view_of s).rows.customers n c.in-Some-customer.row.now = found q (view_of s).rows.customers n c.in-Some-customer.row.now number row in
-    c.go.ensures.does q (PaymentCustomer w d) (PaymentHistory (history_data w d) c.keep_reply.new.reply) (UpdateCustomer k (paid_with n q c.in-Some-customer.row.now c.in-Ok.account))
+    ap (λ r. get r.customers k) (sym c.tables-stored.ensures)
+    ∙ (ap (λ j. get (rows c.tables-stored.result.now).customers j) (sym c.customer.ensures)
+    ∙ sym c.in-Some-customer.ensures) in
+    let own : IsChosen q (view_of s).rows.customers n c.in-Some-customer.row.now =
+    found q (view_of s).rows.customers n c.in-Some-customer.row.now number row in
+    c.go.ensures.does q (PaymentCustomer w d) (PaymentHistory (history_data w d) c.keep_reply.new.reply)
+    (UpdateCustomer k (paid_with n q c.in-Some-customer.row.now c.in-Ok.account))
     (rw (c.customer.ensures, c.keep_reply.ensures)
-    (good_stage q c.args.tx.now s w d n c.in-Some-customer.row.now own c.in-Ok.account (c.in-Ok.ensures n) c.in-Good.is))
+    (good_stage q c.args.tx.now s w d n c.in-Some-customer.row.now own c.in-Ok.account (c.in-Ok.ensures n)
+    c.in-Good.is))
 
 pub returns-in-Bad-clause-does : goal.returns-in-Bad-clause-does
 returns-in-Bad-clause-does c = λ w d.
@@ -67,9 +77,13 @@ returns-in-Bad-clause-does c = λ w d.
     let number : meant q.customer_district q.customer (view_of s).rows.customers ≡ Some n =
     ap (λ r. meant q.customer_district q.customer r.customers) (sym c.tables-stored.ensures) ∙ sym c.in-Some.ensures in
     let row : get (view_of s).rows.customers k ≡ Some c.in-Some-customer.row.now =
-    ap (λ r. get r.customers k) (sym c.tables-stored.ensures) ∙ (ap (λ j. get (rows c.tables-stored.result.now).customers j) (sym c.customer.ensures) ∙ sym c.in-Some-customer.ensures) in
-    let own : IsChosen q (view_of s).rows.customers n c.in-Some-customer.row.now = found q (view_of s).rows.customers n c.in-Some-customer.row.now number row in
-    c.go-in-Bad.ensures.does q (PaymentCustomer w d) (PaymentHistory (history_data w d) c.keep_reply.new.reply) (UpdateCustomer k (paid_with n q c.in-Some-customer.row.now c.in-Ok.account))
+    ap (λ r. get r.customers k) (sym c.tables-stored.ensures)
+    ∙ (ap (λ j. get (rows c.tables-stored.result.now).customers j) (sym c.customer.ensures)
+    ∙ sym c.in-Some-customer.ensures) in
+    let own : IsChosen q (view_of s).rows.customers n c.in-Some-customer.row.now =
+    found q (view_of s).rows.customers n c.in-Some-customer.row.now number row in
+    c.go-in-Bad.ensures.does q (PaymentCustomer w d) (PaymentHistory (history_data w d) c.keep_reply.new.reply)
+    (UpdateCustomer k (paid_with n q c.in-Some-customer.row.now c.in-Ok.account))
     (rw (c.customer.ensures, c.keep_reply.ensures)
     (bad_stage q c.args.tx.now s w d n c.in-Some-customer.row.now own c.in-Ok.account (c.in-Ok.ensures n)
     c.bad_credit_entry-entry.result c.in-Bad.is c.bad_credit_entry-entry.ensures))

@@ -11,6 +11,8 @@ returns-clause-does c = λ w.
     let k = c.args.request.now.district in
     let found : get (view_of c.args.engine.now).rows.districts k ≡ Some c.in-Some.row.now =
     ap (λ r. get r.districts k) (sym c.tables.ensures) ∙ sym c.in-Some.ensures in
-    c.go.ensures.does c.args.request.now (PaymentDistrict w) (PaymentCustomer w c.copied.result) (UpdateDistrict k (record c.in-Some.row.now { ytd = c.in-Ok.ytd }))
+    c.go.ensures.does c.args.request.now (PaymentDistrict w) (PaymentCustomer w c.copied.result)
+    (UpdateDistrict k (record c.in-Some.row.now { ytd = c.in-Ok.ytd }))
     (rw c.copied.ensures
-    (district_stage c.args.request.now c.args.tx.now c.args.engine.now w c.in-Some.row.now c.in-Ok.ytd found c.in-Ok.ensures))
+    (district_stage c.args.request.now c.args.tx.now c.args.engine.now w c.in-Some.row.now c.in-Ok.ytd found
+    c.in-Ok.ensures))

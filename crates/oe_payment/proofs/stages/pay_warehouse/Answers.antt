@@ -12,6 +12,11 @@ pub returns-clause-does : goal.returns-clause-does
 returns-clause-does c =
     let k = warehouse_of_district c.args.request.now.district in
     let found : get (view_of c.args.engine.now).rows.warehouses k ≡ Some c.in-Some.row.now =
-    ap (λ r. get r.warehouses k) (sym c.tables.ensures) ∙ (ap (λ j. get (rows c.tables.result.now).warehouses j) (sym c.warehouse_key.ensures) ∙ sym c.in-Some.ensures) in
-    c.go.ensures.does c.args.request.now PaymentWarehouse (PaymentDistrict c.copied.result) (UpdateWarehouse k (record c.in-Some.row.now { ytd = c.in-Ok.ytd }))
-    (rw (c.warehouse_key.ensures, c.copied.ensures) (warehouse_stage c.args.request.now c.args.tx.now c.args.engine.now c.in-Some.row.now c.in-Ok.ytd found c.in-Ok.ensures))
+    ap (λ r. get r.warehouses k) (sym c.tables.ensures)
+    ∙ (ap (λ j. get (rows c.tables.result.now).warehouses j) (sym c.warehouse_key.ensures)
+    ∙ sym c.in-Some.ensures) in
+    c.go.ensures.does c.args.request.now PaymentWarehouse (PaymentDistrict c.copied.result)
+    (UpdateWarehouse k (record c.in-Some.row.now { ytd = c.in-Ok.ytd }))
+    (rw (c.warehouse_key.ensures, c.copied.ensures)
+    (warehouse_stage c.args.request.now c.args.tx.now c.args.engine.now c.in-Some.row.now c.in-Ok.ytd found
+    c.in-Ok.ensures))

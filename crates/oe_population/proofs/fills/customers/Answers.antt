@@ -11,20 +11,42 @@ use Rattle.oe_rows.specs.declared.keys.DistrictKey.{DistrictKey}
 use Rattle.oe_population.proofs.fills.customers.Goals as goal
 
 pub loop-ordinal-init : goal.loop-ordinal-init
-loop-ordinal-init c = rw c.new-table.ensures.rows (fill_start (λ k. customer_of k.customer) (λ k b. (b && is_any_district (district_of_customer k)) && counts_to c.args.scale.now.customers k.customer) (λ k. refl) (λ k. district_count (district_of_customer k)) empty)
+loop-ordinal-init c = rw c.new-table.ensures.rows
+    (fill_start (λ k. customer_of k.customer)
+    (λ k b. (b && is_any_district (district_of_customer k)) && counts_to c.args.scale.now.customers k.customer)
+    (λ k. refl) (λ k. district_count (district_of_customer k)) empty)
 
 pub fill_customers-requires : goal.fill_customers-requires
 fill_customers-requires c =
-    let g : DistrictKey = record { warehouse = c.loop-ordinal.ordinal / 10 + 1; district = c.loop-ordinal.ordinal % 10 + 1 } in
+    let g : DistrictKey =
+    record { warehouse = c.loop-ordinal.ordinal / 10 + 1; district = c.loop-ordinal.ordinal % 10 + 1 } in
     let small : c.loop-ordinal.ordinal < 10 * c.args.scale.now.warehouses = omega arith in
-    rw c.district_at.ensures (fill_free (λ k. customer_of k.customer) (λ k b. (b && is_any_district (district_of_customer k)) && counts_to c.args.scale.now.customers k.customer) (λ k. refl) (λ k. district_count (district_of_customer k)) c.loop-ordinal.ordinal _ _ (customers_in g c.args.scale.now) (λ k. ap (λ b. b && counts_to c.args.scale.now.customers k.customer) (same_ordinal c.loop-ordinal.ordinal (district_of_customer k))) c.loop-ordinal.invariant _ small (free_empty customer_cmp _))
+    rw c.district_at.ensures
+    (fill_free (λ k. customer_of k.customer)
+    (λ k b. (b && is_any_district (district_of_customer k)) && counts_to c.args.scale.now.customers k.customer)
+    (λ k. refl) (λ k. district_count (district_of_customer k)) c.loop-ordinal.ordinal _ _
+    (customers_in g c.args.scale.now)
+    (λ k. ap (λ b. b && counts_to c.args.scale.now.customers k.customer)
+    (same_ordinal c.loop-ordinal.ordinal (district_of_customer k))) c.loop-ordinal.invariant _ small (free_empty
+    customer_cmp _))
 
 pub loop-ordinal-preserved : goal.loop-ordinal-preserved
 loop-ordinal-preserved c =
-    let g : DistrictKey = record { warehouse = c.loop-ordinal.ordinal / 10 + 1; district = c.loop-ordinal.ordinal % 10 + 1 } in
-    fill_step (λ k. customer_of k.customer) (λ k b. (b && is_any_district (district_of_customer k)) && counts_to c.args.scale.now.customers k.customer) (λ k. refl) (λ k. district_count (district_of_customer k)) c.loop-ordinal.ordinal _ _ (customers_in g c.args.scale.now) (λ k. ap (λ b. b && counts_to c.args.scale.now.customers k.customer) (same_ordinal c.loop-ordinal.ordinal (district_of_customer k))) c.loop-ordinal.invariant _ (rw c.district_at.ensures at c.in_ok-fill_customers.ensures)
+    let g : DistrictKey =
+    record { warehouse = c.loop-ordinal.ordinal / 10 + 1; district = c.loop-ordinal.ordinal % 10 + 1 } in
+    fill_step (λ k. customer_of k.customer)
+    (λ k b. (b && is_any_district (district_of_customer k)) && counts_to c.args.scale.now.customers k.customer)
+    (λ k. refl) (λ k. district_count (district_of_customer k)) c.loop-ordinal.ordinal _ _
+    (customers_in g c.args.scale.now)
+    (λ k. ap (λ b. b && counts_to c.args.scale.now.customers k.customer)
+    (same_ordinal c.loop-ordinal.ordinal (district_of_customer k))) c.loop-ordinal.invariant _ (rw
+    c.district_at.ensures at c.in_ok-fill_customers.ensures)
 
 pub returns : goal.returns
 returns c =
     let all : c.loop-ordinal.ordinal ≡ 10 * c.args.scale.now.warehouses = omega arith in
-    fills_by (λ k. customer_of k.customer) (λ k. (counts_to (10 * c.args.scale.now.warehouses) (district_count (district_of_customer k)) && is_any_district (district_of_customer k)) && counts_to c.args.scale.now.customers k.customer) _ _ _ (λ k. ap (λ b. b && counts_to c.args.scale.now.customers k.customer) (all_districts c.args.scale.now.warehouses (district_of_customer k))) (rw all at c.loop-ordinal.invariant)
+    fills_by (λ k. customer_of k.customer)
+    (λ k. (counts_to (10 * c.args.scale.now.warehouses) (district_count (district_of_customer k)) && is_any_district
+    (district_of_customer k)) && counts_to c.args.scale.now.customers k.customer) _ _ _ (λ k. ap (λ b. b &&
+    counts_to c.args.scale.now.customers k.customer) (all_districts c.args.scale.now.warehouses
+    (district_of_customer k))) (rw all at c.loop-ordinal.invariant)

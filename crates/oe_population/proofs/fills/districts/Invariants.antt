@@ -8,4 +8,5 @@ use Rattle.oe_population.specs.Group.{is_any_district, district_count}
 use Rattle.oe_population.proofs.fills.districts.Given as goal
 
 abbrev pub invariant-loop-ordinal : goal.invariant-loop-ordinal
-invariant-loop-ordinal l = Fills (λ k. counts_to l.ordinal (district_count k) && is_any_district k) (λ k. district_of l.scale k.district) empty (rows_of district_cmp l.table)
+invariant-loop-ordinal l = Fills (λ k. counts_to l.ordinal (district_count k) && is_any_district k)
+    (λ k. district_of l.scale k.district) empty (rows_of district_cmp l.table)

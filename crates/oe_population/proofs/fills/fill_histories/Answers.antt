@@ -25,7 +25,15 @@ put_new-requires c =
     let warehouse : 1 ≤ g.warehouse = search rules in
     let low : 1 ≤ g.district = search rules in
     let high : g.district ≤ 10 = search rules in
-    rw (c.history_key_of-key.ensures, c.number.ensures) (fill_free (λ k. history_of (counted_customer s k.number)) (λ k b. (is_district g (district_of_customer (counted_customer s k.number)) && b) && eq_by_cmp history_cmp k (history_key s (counted_customer s k.number))) (λ k. ap (λ b. b && eq_by_cmp history_cmp k (history_key s (counted_customer s k.number))) (and_false (is_district g (district_of_customer (counted_customer s k.number))))) (λ k. (counted_customer s k.number).customer) i _ _ (λ k. eq_by_cmp history_cmp k key) (same_history s g i warehouse low high small) c.loop-before.invariant s.customers small c.requires key (is_self history_total exact_history key))
+    rw (c.history_key_of-key.ensures, c.number.ensures)
+    (fill_free (λ k. history_of (counted_customer s k.number))
+    (λ k b. (is_district g (district_of_customer (counted_customer s k.number)) && b) && eq_by_cmp history_cmp k
+    (history_key s (counted_customer s k.number))) (λ k. ap
+    (λ b. b && eq_by_cmp history_cmp k (history_key s (counted_customer s k.number)))
+    (and_false (is_district g (district_of_customer (counted_customer s k.number))))) (λ
+    k. (counted_customer s k.number).customer) i _ _ (λ k. eq_by_cmp history_cmp k key) (same_history s g i
+    warehouse low high small) c.loop-before.invariant s.customers small c.requires key (is_self history_total
+    exact_history key))
 
 pub loop-before-preserved : goal.loop-before-preserved
 loop-before-preserved c =
@@ -37,6 +45,15 @@ loop-before-preserved c =
     let warehouse : 1 ≤ g.warehouse = search rules in
     let low : 1 ≤ g.district = search rules in
     let high : g.district ≤ 10 = search rules in
-    let put = rw (c.history_key_of-key.ensures, c.number.ensures) at (c.in_ok-put_new.ensures.rows ∙ ap (insert _ _) c.history_row.ensures) in
-    let own = put ∙ ap (λ x. insert (rows_of history_cmp c.loop-before.table) key (history_of x)) (sym (counted_own s g i warehouse low high small)) in
-    fill_step (λ k. history_of (counted_customer s k.number)) (λ k b. (is_district g (district_of_customer (counted_customer s k.number)) && b) && eq_by_cmp history_cmp k (history_key s (counted_customer s k.number))) (λ k. ap (λ b. b && eq_by_cmp history_cmp k (history_key s (counted_customer s k.number))) (and_false (is_district g (district_of_customer (counted_customer s k.number))))) (λ k. (counted_customer s k.number).customer) i _ _ (λ k. eq_by_cmp history_cmp k key) (same_history s g i warehouse low high small) c.loop-before.invariant _ (fills_put (λ k. history_of (counted_customer s k.number)) history_total exact_history _ _ key own)
+    let put = rw (c.history_key_of-key.ensures, c.number.ensures) at
+    (c.in_ok-put_new.ensures.rows ∙ ap (insert _ _) c.history_row.ensures) in
+    let own = put ∙ ap (λ x. insert (rows_of history_cmp c.loop-before.table) key (history_of x))
+    (sym (counted_own s g i warehouse low high small)) in
+    fill_step (λ k. history_of (counted_customer s k.number))
+    (λ k b. (is_district g (district_of_customer (counted_customer s k.number)) && b) && eq_by_cmp history_cmp k
+    (history_key s (counted_customer s k.number))) (λ k. ap
+    (λ b. b && eq_by_cmp history_cmp k (history_key s (counted_customer s k.number)))
+    (and_false (is_district g (district_of_customer (counted_customer s k.number))))) (λ
+    k. (counted_customer s k.number).customer) i _ _ (λ k. eq_by_cmp history_cmp k key) (same_history s g i
+    warehouse low high small) c.loop-before.invariant _ (fills_put (λ k. history_of (counted_customer s k.number))
+    history_total exact_history _ _ key own)

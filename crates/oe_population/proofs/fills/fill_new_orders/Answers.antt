@@ -9,8 +9,18 @@ use Rattle.oe_population.proofs.fills.fill_new_orders.Goals as goal
 pub put_undelivered-requires : goal.put_undelivered-requires
 put_undelivered-requires c =
     let small : c.loop-before.before < c.args.scale.now.customers = omega arith in
-    rw c.number.ensures (fill_free (λ k. no_columns) (λ k b. (is_district c.args.district (district_of_new_order k) && b) && not (is_delivered c.args.scale.now k.order)) (λ k. ap (λ b. b && not (is_delivered c.args.scale.now k.order)) (and_false (is_district c.args.district (district_of_new_order k)))) (λ k. k.order) c.loop-before.before _ _ (is_new_order c.args.scale.now (new_order_in c.args.district (c.loop-before.before + 1))) (λ k. refl) c.loop-before.invariant _ small c.requires)
+    rw c.number.ensures (fill_free (λ k. no_columns)
+    (λ k b. (is_district c.args.district (district_of_new_order k) && b) && not
+    (is_delivered c.args.scale.now k.order)) (λ k. ap (λ b. b && not (is_delivered c.args.scale.now k.order))
+    (and_false (is_district c.args.district (district_of_new_order k)))) (λ k. k.order) c.loop-before.before _ _
+    (is_new_order c.args.scale.now (new_order_in c.args.district (c.loop-before.before + 1))) (λ k. refl)
+    c.loop-before.invariant _ small c.requires)
 
 pub loop-before-preserved : goal.loop-before-preserved
 loop-before-preserved c =
-    fill_step (λ k. no_columns) (λ k b. (is_district c.args.district (district_of_new_order k) && b) && not (is_delivered c.args.scale.now k.order)) (λ k. ap (λ b. b && not (is_delivered c.args.scale.now k.order)) (and_false (is_district c.args.district (district_of_new_order k)))) (λ k. k.order) c.loop-before.before _ _ (is_new_order c.args.scale.now (new_order_in c.args.district (c.loop-before.before + 1))) (λ k. refl) c.loop-before.invariant _ (rw c.number.ensures at c.in_ok-put_undelivered.ensures)
+    fill_step (λ k. no_columns)
+    (λ k b. (is_district c.args.district (district_of_new_order k) && b) && not
+    (is_delivered c.args.scale.now k.order)) (λ k. ap (λ b. b && not (is_delivered c.args.scale.now k.order))
+    (and_false (is_district c.args.district (district_of_new_order k)))) (λ k. k.order) c.loop-before.before _ _
+    (is_new_order c.args.scale.now (new_order_in c.args.district (c.loop-before.before + 1))) (λ k. refl)
+    c.loop-before.invariant _ (rw c.number.ensures at c.in_ok-put_undelivered.ensures)

@@ -8,4 +8,6 @@ use Rattle.oe_population.specs.Group.{is_district, no_columns}
 use Rattle.oe_population.proofs.fills.fill_new_orders.Given as goal
 
 abbrev pub invariant-loop-before : goal.invariant-loop-before
-invariant-loop-before l = Fills (λ k. (is_district l.fn.district (district_of_new_order k) && counts_to l.before (k.order)) && not (is_delivered l.scale k.order)) (λ k. no_columns) (rows_of new_order_cmp l.fn.table) (rows_of new_order_cmp l.table)
+invariant-loop-before l =
+    Fills (λ k. (is_district l.fn.district (district_of_new_order k) && counts_to l.before (k.order)) && not
+    (is_delivered l.scale k.order)) (λ k. no_columns) (rows_of new_order_cmp l.fn.table) (rows_of new_order_cmp l.table)

@@ -8,4 +8,5 @@ use Rattle.oe_population.specs.Group.{is_order}
 use Rattle.oe_population.proofs.fills.fill_order_lines.Given as goal
 
 abbrev pub invariant-loop-before : goal.invariant-loop-before
-invariant-loop-before l = Fills (λ k. is_order l.fn.order (order_of_line k) && counts_to l.before (k.number)) (line_of l.scale) (rows_of order_line_cmp l.fn.table) (rows_of order_line_cmp l.table)
+invariant-loop-before l = Fills (λ k. is_order l.fn.order (order_of_line k) && counts_to l.before (k.number))
+    (line_of l.scale) (rows_of order_line_cmp l.fn.table) (rows_of order_line_cmp l.table)

@@ -17,10 +17,18 @@ pub put_new-requires : goal.put_new-requires
 put_new-requires c =
     let key : OrderKey = order_in c.args.district (c.loop-before.before + 1) in
     let small : c.loop-before.before < c.args.scale.now.customers = omega arith in
-    rw c.number.ensures (fill_free (λ k. order_of c.args.scale.now k.order) (λ k b. is_district c.args.district (district_of_order k) && b) (λ k. and_false (is_district c.args.district (district_of_order k))) (λ k. k.order) c.loop-before.before _ _ (λ k. eq_by_cmp order_cmp k key) (same_order c.args.district (c.loop-before.before + 1)) c.loop-before.invariant _ small c.requires key (is_self order_total exact_order key))
+    rw c.number.ensures (fill_free (λ k. order_of c.args.scale.now k.order)
+    (λ k b. is_district c.args.district (district_of_order k) && b)
+    (λ k. and_false (is_district c.args.district (district_of_order k))) (λ k. k.order) c.loop-before.before _ _
+    (λ k. eq_by_cmp order_cmp k key) (same_order c.args.district (c.loop-before.before + 1)) c.loop-before.invariant
+    _ small c.requires key (is_self order_total exact_order key))
 
 pub loop-before-preserved : goal.loop-before-preserved
 loop-before-preserved c =
     let key : OrderKey = order_in c.args.district (c.loop-before.before + 1) in
-    let put = rw (c.number.ensures, c.number-customer.ensures) at (c.in_ok-put_new.ensures.rows ∙ ap (insert _ _) c.order_row-row.ensures) in
-    fill_step (λ k. order_of c.args.scale.now k.order) (λ k b. is_district c.args.district (district_of_order k) && b) (λ k. and_false (is_district c.args.district (district_of_order k))) (λ k. k.order) c.loop-before.before _ _ (λ k. eq_by_cmp order_cmp k key) (same_order c.args.district (c.loop-before.before + 1)) c.loop-before.invariant _ (fills_put (λ k. order_of c.args.scale.now k.order) order_total exact_order _ _ key put)
+    let put = rw (c.number.ensures, c.number-customer.ensures) at
+    (c.in_ok-put_new.ensures.rows ∙ ap (insert _ _) c.order_row-row.ensures) in
+    fill_step (λ k. order_of c.args.scale.now k.order) (λ k b. is_district c.args.district (district_of_order k) && b)
+    (λ k. and_false (is_district c.args.district (district_of_order k))) (λ k. k.order) c.loop-before.before _ _
+    (λ k. eq_by_cmp order_cmp k key) (same_order c.args.district (c.loop-before.before + 1)) c.loop-before.invariant
+    _ (fills_put (λ k. order_of c.args.scale.now k.order) order_total exact_order _ _ key put)

@@ -6,4 +6,5 @@ use Rattle.oe_population.specs.Fill.{Fills}
 use Rattle.oe_population.proofs.fills.fill_stocks.Given as goal
 
 abbrev pub invariant-loop-before : goal.invariant-loop-before
-invariant-loop-before l = Fills (λ k. (k.warehouse == l.fn.warehouse) && counts_to l.before (k.item)) (λ k. stock_of k.warehouse k.item) (rows_of stock_cmp l.fn.table) (rows_of stock_cmp l.table)
+invariant-loop-before l = Fills (λ k. (k.warehouse == l.fn.warehouse) && counts_to l.before (k.item))
+    (λ k. stock_of k.warehouse k.item) (rows_of stock_cmp l.fn.table) (rows_of stock_cmp l.table)

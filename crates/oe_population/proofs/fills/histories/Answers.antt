@@ -12,20 +12,55 @@ use Rattle.oe_rows.specs.declared.keys.DistrictKey.{DistrictKey}
 use Rattle.oe_population.proofs.fills.histories.Goals as goal
 
 pub loop-ordinal-init : goal.loop-ordinal-init
-loop-ordinal-init c = rw c.new-table.ensures.rows (fill_start (λ k. history_of (counted_customer c.args.scale.now k.number)) (λ k b. ((b && is_any_district (district_of_customer (counted_customer c.args.scale.now k.number))) && counts_to c.args.scale.now.customers (counted_customer c.args.scale.now k.number).customer) && eq_by_cmp history_cmp k (history_key c.args.scale.now (counted_customer c.args.scale.now k.number))) (λ k. refl) (λ k. district_count (district_of_customer (counted_customer c.args.scale.now k.number))) empty)
+loop-ordinal-init c = rw c.new-table.ensures.rows
+    (fill_start (λ k. history_of (counted_customer c.args.scale.now k.number))
+    (λ k b. ((b && is_any_district (district_of_customer (counted_customer c.args.scale.now k.number))) && counts_to
+    c.args.scale.now.customers (counted_customer c.args.scale.now k.number).customer) && eq_by_cmp history_cmp k
+    (history_key c.args.scale.now (counted_customer c.args.scale.now k.number))) (λ k. refl) (λ k. district_count
+    (district_of_customer (counted_customer c.args.scale.now k.number))) empty)
 
 pub fill_histories-requires : goal.fill_histories-requires
 fill_histories-requires c =
-    let g : DistrictKey = record { warehouse = c.loop-ordinal.ordinal / 10 + 1; district = c.loop-ordinal.ordinal % 10 + 1 } in
+    let g : DistrictKey =
+    record { warehouse = c.loop-ordinal.ordinal / 10 + 1; district = c.loop-ordinal.ordinal % 10 + 1 } in
     let small : c.loop-ordinal.ordinal < 10 * c.args.scale.now.warehouses = omega arith in
-    rw c.district_at.ensures (fill_free (λ k. history_of (counted_customer c.args.scale.now k.number)) (λ k b. ((b && is_any_district (district_of_customer (counted_customer c.args.scale.now k.number))) && counts_to c.args.scale.now.customers (counted_customer c.args.scale.now k.number).customer) && eq_by_cmp history_cmp k (history_key c.args.scale.now (counted_customer c.args.scale.now k.number))) (λ k. refl) (λ k. district_count (district_of_customer (counted_customer c.args.scale.now k.number))) c.loop-ordinal.ordinal _ _ (histories_in g c.args.scale.now) (λ k. ap (λ b. (b && counts_to c.args.scale.now.customers (counted_customer c.args.scale.now k.number).customer) && eq_by_cmp history_cmp k (history_key c.args.scale.now (counted_customer c.args.scale.now k.number))) (same_ordinal c.loop-ordinal.ordinal (district_of_customer (counted_customer c.args.scale.now k.number)))) c.loop-ordinal.invariant _ small (free_empty history_cmp _))
+    rw c.district_at.ensures
+    (fill_free (λ k. history_of (counted_customer c.args.scale.now k.number))
+    (λ k b. ((b && is_any_district (district_of_customer (counted_customer c.args.scale.now k.number))) && counts_to
+    c.args.scale.now.customers (counted_customer c.args.scale.now k.number).customer) && eq_by_cmp history_cmp k
+    (history_key c.args.scale.now (counted_customer c.args.scale.now k.number))) (λ k. refl) (λ k. district_count
+    (district_of_customer (counted_customer c.args.scale.now k.number))) c.loop-ordinal.ordinal _ _ (histories_in g
+    c.args.scale.now) (λ k. ap
+    (λ b. (b && counts_to c.args.scale.now.customers (counted_customer c.args.scale.now k.number).customer) &&
+    eq_by_cmp history_cmp k (history_key c.args.scale.now (counted_customer c.args.scale.now k.number)))
+    (same_ordinal c.loop-ordinal.ordinal (district_of_customer (counted_customer c.args.scale.now k.number))))
+    c.loop-ordinal.invariant _ small (free_empty history_cmp _))
 
 pub loop-ordinal-preserved : goal.loop-ordinal-preserved
 loop-ordinal-preserved c =
-    let g : DistrictKey = record { warehouse = c.loop-ordinal.ordinal / 10 + 1; district = c.loop-ordinal.ordinal % 10 + 1 } in
-    fill_step (λ k. history_of (counted_customer c.args.scale.now k.number)) (λ k b. ((b && is_any_district (district_of_customer (counted_customer c.args.scale.now k.number))) && counts_to c.args.scale.now.customers (counted_customer c.args.scale.now k.number).customer) && eq_by_cmp history_cmp k (history_key c.args.scale.now (counted_customer c.args.scale.now k.number))) (λ k. refl) (λ k. district_count (district_of_customer (counted_customer c.args.scale.now k.number))) c.loop-ordinal.ordinal _ _ (histories_in g c.args.scale.now) (λ k. ap (λ b. (b && counts_to c.args.scale.now.customers (counted_customer c.args.scale.now k.number).customer) && eq_by_cmp history_cmp k (history_key c.args.scale.now (counted_customer c.args.scale.now k.number))) (same_ordinal c.loop-ordinal.ordinal (district_of_customer (counted_customer c.args.scale.now k.number)))) c.loop-ordinal.invariant _ (rw c.district_at.ensures at c.in_ok-fill_histories.ensures)
+    let g : DistrictKey =
+    record { warehouse = c.loop-ordinal.ordinal / 10 + 1; district = c.loop-ordinal.ordinal % 10 + 1 } in
+    fill_step (λ k. history_of (counted_customer c.args.scale.now k.number))
+    (λ k b. ((b && is_any_district (district_of_customer (counted_customer c.args.scale.now k.number))) && counts_to
+    c.args.scale.now.customers (counted_customer c.args.scale.now k.number).customer) && eq_by_cmp history_cmp k
+    (history_key c.args.scale.now (counted_customer c.args.scale.now k.number))) (λ k. refl) (λ k. district_count
+    (district_of_customer (counted_customer c.args.scale.now k.number))) c.loop-ordinal.ordinal _ _ (histories_in g
+    c.args.scale.now) (λ k. ap
+    (λ b. (b && counts_to c.args.scale.now.customers (counted_customer c.args.scale.now k.number).customer) &&
+    eq_by_cmp history_cmp k (history_key c.args.scale.now (counted_customer c.args.scale.now k.number)))
+    (same_ordinal c.loop-ordinal.ordinal (district_of_customer (counted_customer c.args.scale.now k.number))))
+    c.loop-ordinal.invariant _ (rw c.district_at.ensures at c.in_ok-fill_histories.ensures)
 
 pub returns : goal.returns
 returns c =
     let all : c.loop-ordinal.ordinal ≡ 10 * c.args.scale.now.warehouses = omega arith in
-    fills_by (λ k. history_of (counted_customer c.args.scale.now k.number)) (λ k. ((counts_to (10 * c.args.scale.now.warehouses) (district_count (district_of_customer (counted_customer c.args.scale.now k.number))) && is_any_district (district_of_customer (counted_customer c.args.scale.now k.number))) && counts_to c.args.scale.now.customers (counted_customer c.args.scale.now k.number).customer) && eq_by_cmp history_cmp k (history_key c.args.scale.now (counted_customer c.args.scale.now k.number))) _ _ _ (λ k. ap (λ b. (b && counts_to c.args.scale.now.customers (counted_customer c.args.scale.now k.number).customer) && eq_by_cmp history_cmp k (history_key c.args.scale.now (counted_customer c.args.scale.now k.number))) (all_districts c.args.scale.now.warehouses (district_of_customer (counted_customer c.args.scale.now k.number)))) (rw all at c.loop-ordinal.invariant)
+    fills_by (λ k. history_of (counted_customer c.args.scale.now k.number))
+    (λ k. ((counts_to (10 * c.args.scale.now.warehouses)
+    (district_count (district_of_customer (counted_customer c.args.scale.now k.number))) && is_any_district
+    (district_of_customer (counted_customer c.args.scale.now k.number))) && counts_to c.args.scale.now.customers
+    (counted_customer c.args.scale.now k.number).customer) && eq_by_cmp history_cmp k (history_key c.args.scale.now
+    (counted_customer c.args.scale.now k.number))) _ _ _ (λ k. ap (λ
+    b. (b && counts_to c.args.scale.now.customers (counted_customer c.args.scale.now k.number).customer) &&
+    eq_by_cmp history_cmp k (history_key c.args.scale.now (counted_customer c.args.scale.now k.number)))
+    (all_districts c.args.scale.now.warehouses (district_of_customer (counted_customer c.args.scale.now k.number))))
+    (rw all at c.loop-ordinal.invariant)

@@ -10,4 +10,9 @@ use Rattle.oe_population.specs.Group.{is_any_district, district_count}
 use Rattle.oe_population.proofs.fills.histories.Given as goal
 
 abbrev pub invariant-loop-ordinal : goal.invariant-loop-ordinal
-invariant-loop-ordinal l = Fills (λ k. ((counts_to l.ordinal (district_count (district_of_customer (counted_customer l.scale k.number))) && is_any_district (district_of_customer (counted_customer l.scale k.number))) && counts_to l.scale.customers (counted_customer l.scale k.number).customer) && eq_by_cmp history_cmp k (history_key l.scale (counted_customer l.scale k.number))) (λ k. history_of (counted_customer l.scale k.number)) empty (rows_of history_cmp l.table)
+invariant-loop-ordinal l =
+    Fills (λ k. ((counts_to l.ordinal (district_count (district_of_customer (counted_customer l.scale k.number))) &&
+    is_any_district (district_of_customer (counted_customer l.scale k.number))) && counts_to l.scale.customers
+    (counted_customer l.scale k.number).customer) && eq_by_cmp history_cmp k (history_key l.scale
+    (counted_customer l.scale k.number))) (λ k. history_of (counted_customer l.scale k.number)) empty (rows_of
+    history_cmp l.table)

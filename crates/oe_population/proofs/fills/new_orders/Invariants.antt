@@ -9,4 +9,7 @@ use Rattle.oe_population.specs.Group.{is_any_district, district_count, no_column
 use Rattle.oe_population.proofs.fills.new_orders.Given as goal
 
 abbrev pub invariant-loop-ordinal : goal.invariant-loop-ordinal
-invariant-loop-ordinal l = Fills (λ k. ((counts_to l.ordinal (district_count (district_of_new_order k)) && is_any_district (district_of_new_order k)) && counts_to l.scale.customers k.order) && not (is_delivered l.scale k.order)) (λ k. no_columns) empty (rows_of new_order_cmp l.table)
+invariant-loop-ordinal l =
+    Fills (λ k. ((counts_to l.ordinal (district_count (district_of_new_order k)) && is_any_district
+    (district_of_new_order k)) && counts_to l.scale.customers k.order) && not (is_delivered l.scale k.order)) (λ
+    k. no_columns) empty (rows_of new_order_cmp l.table)

@@ -11,20 +11,45 @@ use Rattle.oe_rows.specs.declared.keys.DistrictKey.{DistrictKey}
 use Rattle.oe_population.proofs.fills.order_lines.Goals as goal
 
 pub loop-ordinal-init : goal.loop-ordinal-init
-loop-ordinal-init c = rw c.new-table.ensures.rows (fill_start (line_of c.args.scale.now) (λ k b. ((b && is_any_district (district_of_order (order_of_line k))) && counts_to c.args.scale.now.customers k.order) && counts_to (lines_of k.order) k.number) (λ k. refl) (λ k. district_count (district_of_order (order_of_line k))) empty)
+loop-ordinal-init c = rw c.new-table.ensures.rows
+    (fill_start (line_of c.args.scale.now)
+    (λ k b. ((b && is_any_district (district_of_order (order_of_line k))) && counts_to c.args.scale.now.customers
+    k.order) && counts_to (lines_of k.order) k.number) (λ k. refl) (λ k. district_count (district_of_order
+    (order_of_line k))) empty)
 
 pub fill_lines-requires : goal.fill_lines-requires
 fill_lines-requires c =
-    let g : DistrictKey = record { warehouse = c.loop-ordinal.ordinal / 10 + 1; district = c.loop-ordinal.ordinal % 10 + 1 } in
+    let g : DistrictKey =
+    record { warehouse = c.loop-ordinal.ordinal / 10 + 1; district = c.loop-ordinal.ordinal % 10 + 1 } in
     let small : c.loop-ordinal.ordinal < 10 * c.args.scale.now.warehouses = omega arith in
-    rw c.district_at.ensures (fill_free (line_of c.args.scale.now) (λ k b. ((b && is_any_district (district_of_order (order_of_line k))) && counts_to c.args.scale.now.customers k.order) && counts_to (lines_of k.order) k.number) (λ k. refl) (λ k. district_count (district_of_order (order_of_line k))) c.loop-ordinal.ordinal _ _ (lines_in g c.args.scale.now) (λ k. ap (λ b. (b && counts_to c.args.scale.now.customers k.order) && counts_to (lines_of k.order) k.number) (same_ordinal c.loop-ordinal.ordinal (district_of_order (order_of_line k)))) c.loop-ordinal.invariant _ small (free_empty order_line_cmp _))
+    rw c.district_at.ensures
+    (fill_free (line_of c.args.scale.now)
+    (λ k b. ((b && is_any_district (district_of_order (order_of_line k))) && counts_to c.args.scale.now.customers
+    k.order) && counts_to (lines_of k.order) k.number) (λ k. refl) (λ k. district_count (district_of_order
+    (order_of_line k))) c.loop-ordinal.ordinal _ _ (lines_in g c.args.scale.now) (λ k. ap (λ
+    b. (b && counts_to c.args.scale.now.customers k.order) && counts_to (lines_of k.order) k.number) (same_ordinal
+    c.loop-ordinal.ordinal (district_of_order (order_of_line k)))) c.loop-ordinal.invariant _ small (free_empty
+    order_line_cmp _))
 
 pub loop-ordinal-preserved : goal.loop-ordinal-preserved
 loop-ordinal-preserved c =
-    let g : DistrictKey = record { warehouse = c.loop-ordinal.ordinal / 10 + 1; district = c.loop-ordinal.ordinal % 10 + 1 } in
-    fill_step (line_of c.args.scale.now) (λ k b. ((b && is_any_district (district_of_order (order_of_line k))) && counts_to c.args.scale.now.customers k.order) && counts_to (lines_of k.order) k.number) (λ k. refl) (λ k. district_count (district_of_order (order_of_line k))) c.loop-ordinal.ordinal _ _ (lines_in g c.args.scale.now) (λ k. ap (λ b. (b && counts_to c.args.scale.now.customers k.order) && counts_to (lines_of k.order) k.number) (same_ordinal c.loop-ordinal.ordinal (district_of_order (order_of_line k)))) c.loop-ordinal.invariant _ (rw c.district_at.ensures at c.in_ok-fill_lines.ensures)
+    let g : DistrictKey =
+    record { warehouse = c.loop-ordinal.ordinal / 10 + 1; district = c.loop-ordinal.ordinal % 10 + 1 } in
+    fill_step (line_of c.args.scale.now)
+    (λ k b. ((b && is_any_district (district_of_order (order_of_line k))) && counts_to c.args.scale.now.customers
+    k.order) && counts_to (lines_of k.order) k.number) (λ k. refl) (λ k. district_count (district_of_order
+    (order_of_line k))) c.loop-ordinal.ordinal _ _ (lines_in g c.args.scale.now) (λ k. ap (λ
+    b. (b && counts_to c.args.scale.now.customers k.order) && counts_to (lines_of k.order) k.number) (same_ordinal
+    c.loop-ordinal.ordinal (district_of_order (order_of_line k)))) c.loop-ordinal.invariant _ (rw
+    c.district_at.ensures at c.in_ok-fill_lines.ensures)
 
 pub returns : goal.returns
 returns c =
     let all : c.loop-ordinal.ordinal ≡ 10 * c.args.scale.now.warehouses = omega arith in
-    fills_by (line_of c.args.scale.now) (λ k. ((counts_to (10 * c.args.scale.now.warehouses) (district_count (district_of_order (order_of_line k))) && is_any_district (district_of_order (order_of_line k))) && counts_to c.args.scale.now.customers k.order) && counts_to (lines_of k.order) k.number) _ _ _ (λ k. ap (λ b. (b && counts_to c.args.scale.now.customers k.order) && counts_to (lines_of k.order) k.number) (all_districts c.args.scale.now.warehouses (district_of_order (order_of_line k)))) (rw all at c.loop-ordinal.invariant)
+    fills_by (line_of c.args.scale.now)
+    (λ k. ((counts_to (10 * c.args.scale.now.warehouses) (district_count (district_of_order (order_of_line k))) &&
+    is_any_district (district_of_order (order_of_line k))) && counts_to c.args.scale.now.customers k.order) &&
+    counts_to (lines_of k.order) k.number) _ _ _ (λ k. ap
+    (λ b. (b && counts_to c.args.scale.now.customers k.order) && counts_to (lines_of k.order) k.number)
+    (all_districts c.args.scale.now.warehouses (district_of_order (order_of_line k)))) (rw all at
+    c.loop-ordinal.invariant)

@@ -9,4 +9,6 @@ use Rattle.oe_population.specs.Group.{is_any_district, district_count}
 use Rattle.oe_population.proofs.fills.orders.Given as goal
 
 abbrev pub invariant-loop-ordinal : goal.invariant-loop-ordinal
-invariant-loop-ordinal l = Fills (λ k. (counts_to l.ordinal (district_count (district_of_order k)) && is_any_district (district_of_order k)) && counts_to l.scale.customers k.order) (λ k. order_of l.scale k.order) empty (rows_of order_cmp l.table)
+invariant-loop-ordinal l =
+    Fills (λ k. (counts_to l.ordinal (district_count (district_of_order k)) && is_any_district (district_of_order k)) &&
+    counts_to l.scale.customers k.order) (λ k. order_of l.scale k.order) empty (rows_of order_cmp l.table)

@@ -14,6 +14,7 @@ returns c =
     let s = c.args.scale.now in
     let late : last_delivered s < c.args.key.order = omega arith in
     on_ok_weaker c.put_new.result
-    (λ e. fills_by (λ k. no_columns) (λ k. eq_by_cmp new_order_cmp k c.args.key) (is_new_order s c.args.key) _ _ (λ k. same_undelivered s c.args.key k late)
+    (λ e. fills_by (λ k. no_columns) (λ k. eq_by_cmp new_order_cmp k c.args.key) (is_new_order s c.args.key) _ _
+    (λ k. same_undelivered s c.args.key k late)
     (fills_put (λ k. no_columns) new_order_total exact_new_order _ _ c.args.key e))
     c.put_new.ensures.rows

@@ -7,4 +7,5 @@ use Rattle.oe_population.specs.Fill.{Fills}
 use Rattle.oe_population.proofs.fills.stocks.Given as goal
 
 abbrev pub invariant-loop-before : goal.invariant-loop-before
-invariant-loop-before l = Fills (λ k. counts_to l.before (k.warehouse) && counts_to l.scale.items k.item) (λ k. stock_of k.warehouse k.item) empty (rows_of stock_cmp l.table)
+invariant-loop-before l = Fills (λ k. counts_to l.before (k.warehouse) && counts_to l.scale.items k.item)
+    (λ k. stock_of k.warehouse k.item) empty (rows_of stock_cmp l.table)

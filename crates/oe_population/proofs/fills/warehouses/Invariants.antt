@@ -6,4 +6,5 @@ use Rattle.oe_population.specs.Fill.{Fills}
 use Rattle.oe_population.proofs.fills.warehouses.Given as goal
 
 abbrev pub invariant-loop-before : goal.invariant-loop-before
-invariant-loop-before l = Fills (λ k. counts_to l.before (k.warehouse)) (λ k. warehouse_of l.scale k.warehouse) empty (rows_of warehouse_cmp l.table)
+invariant-loop-before l = Fills (λ k. counts_to l.before (k.warehouse)) (λ k. warehouse_of l.scale k.warehouse) empty
+    (rows_of warehouse_cmp l.table)

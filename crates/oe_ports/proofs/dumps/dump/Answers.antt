@@ -7,6 +7,7 @@ use Rattle.oe_ports.proofs.dumps.dump.Goals as goal
 
 pub returns-in-NewOrder : goal.returns-in-NewOrder
 returns-in-NewOrder g c =
-    streams_as (g.W.Outlet.sink c.args.to.now) (g.W.Outlet.sink c.dump_rows-in-NewOrder.new.to) _ _ _ _ _ c.dump_rows-in-NewOrder.result refl
+    streams_as (g.W.Outlet.sink c.args.to.now) (g.W.Outlet.sink c.dump_rows-in-NewOrder.new.to) _ _ _ _ _
+    c.dump_rows-in-NewOrder.result refl
     (ap (λ es. row_lines (λ k x. new_order_columns k) es ++ count_line (shown (length es))) c.new_orders.ensures
     ∙ ap (λ t. dump_text t (rows c.args.tables.now)) (sym c.in-NewOrder.is)) c.dump_rows-in-NewOrder.ensures

@@ -6,5 +6,6 @@ use Rattle.oe_ports.proofs.dumps.dump_rows.Goals as goal
 
 pub returns-in-Err : goal.returns-in-Err
 returns-in-Err g c =
-    cut_more (g.W.Outlet.sink c.args.to.now) (g.W.Outlet.sink c.lines.new.to) c.args.out.now.items (row_lines g.R.DumpedRow.columns c.args.walk)
+    cut_more (g.W.Outlet.sink c.args.to.now) (g.W.Outlet.sink c.lines.new.to) c.args.out.now.items
+    (row_lines g.R.DumpedRow.columns c.args.walk)
     (count_line (shown (length c.args.walk))) c.in-Err.ensures.stream

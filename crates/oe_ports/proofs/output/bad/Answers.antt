@@ -6,6 +6,7 @@ use Rattle.oe_ports.proofs.output.bad.Goals as goal
 pub returns : goal.returns
 returns c =
     c.text-2.ensures.items
-    ∙ (ap (λ (xs : List ℕ). xs ++ codes "\n") (c.decimal.ensures.items ∙ ap (λ (xs : List ℕ). xs ++ decimal c.args.number) c.text.ensures.items)
+    ∙ (ap (λ (xs : List ℕ). xs ++ codes "\n")
+    (c.decimal.ensures.items ∙ ap (λ (xs : List ℕ). xs ++ decimal c.args.number) c.text.ensures.items)
     ∙ (append_assoc (c.args.out.now.items ++ codes "error 1 BadLine ") (decimal c.args.number) (codes "\n")
     ∙ append_assoc c.args.out.now.items (codes "error 1 BadLine ") (decimal c.args.number ++ codes "\n")))

@@ -5,5 +5,11 @@ use Rattle.oe_run_drive.proofs.endings.ended.Goals as goal
 
 pub returns : goal.returns
 returns c =
-    let failing = c.first_failing-failing.ensures ∙ ap first_failing c.tables.ensures in
-    (rows c.rewound-left.result, rows c.in-Ok.fresh, c.rewound-left.ensures, c.in-Ok.ensures, failing, c.are_same-is_restored.ensures)
+    let failing = c.first_failing-failing.ensures ∙ ap first_failing c.tables.ensures in (
+      rows c.rewound-left.result,
+      rows c.in-Ok.fresh,
+      c.rewound-left.ensures,
+      c.in-Ok.ensures,
+      failing,
+      c.are_same-is_restored.ensures,
+    )

@@ -8,4 +8,5 @@ open-requires-clause-population g c =
     let warehouses : (1 ≤ scale.warehouses) × (scale.warehouses ≤ 16) = search rules in
     let customers : (1 ≤ scale.customers) × (scale.customers ≤ 3_000) = search rules in
     let items : (1 ≤ scale.items) × (scale.items ≤ 100_000) = search rules in
-    c.population_is_one.ensures.is_population scale (rows c.in-Ok.tables) (record { warehouses = warehouses; customers = customers; items = items }) c.in-Ok.ensures
+    c.population_is_one.ensures.is_population scale (rows c.in-Ok.tables)
+    (record { warehouses = warehouses; customers = customers; items = items }) c.in-Ok.ensures

@@ -8,8 +8,10 @@ pub loop-before-preserved : goal.loop-before-preserved
 loop-before-preserved c =
     let number : c.unwrap-number.result ≡ c.loop-before.before + 1 = search rules in
     let pushed : c.push.new.self.items ≡ c.loop-before.errands.items ++ c.errand.result ∷ [] = search rules in (
-      errands_more c.args.scale.now c.args.seed c.args.terminal c.loop-before.before c.unwrap-number.result _ _ c.errand.result _ _ c.loop-before.invariant.0 c.loop-before.invariant.1 number c.errand.ensures.drawn pushed,
-      words_more c.args.scale.now c.args.seed c.args.terminal c.loop-before.before c.unwrap-number.result _ _ c.errand.result c.loop-before.invariant.1 number c.errand.ensures.drawn,
+      errands_more c.args.scale.now c.args.seed c.args.terminal c.loop-before.before c.unwrap-number.result _ _
+          c.errand.result _ _ c.loop-before.invariant.0 c.loop-before.invariant.1 number c.errand.ensures.drawn pushed,
+      words_more c.args.scale.now c.args.seed c.args.terminal c.loop-before.before c.unwrap-number.result _ _
+          c.errand.result c.loop-before.invariant.1 number c.errand.ensures.drawn,
     )
 
 pub returns : goal.returns

@@ -3,4 +3,6 @@ use Rattle.oe_run_drive.specs.Plans.{errands_by, errands_in}
 use Rattle.oe_run_drive.proofs.planning.plans.Given as goal
 
 abbrev pub invariant-loop-before : goal.invariant-loop-before
-invariant-loop-before l = (map errands_in l.plans.items ≡ errands_by l.numbers.scale l.numbers.seed l.numbers.requests l.before) × (vec_len l.plans ≡ l.before)
+invariant-loop-before l =
+    (map errands_in l.plans.items ≡ errands_by l.numbers.scale l.numbers.seed l.numbers.requests l.before)
+    × (vec_len l.plans ≡ l.before)

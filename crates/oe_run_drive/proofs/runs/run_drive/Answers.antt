@@ -7,8 +7,13 @@ use Rattle.oe_run_drive.proofs.runs.run_drive.Goals as goal
 pub returns-in-Err-flush-clause-lines : goal.returns-in-Err-flush-clause-lines
 returns-in-Err-flush-clause-lines g c =
     let e = c.in-Ok-ended.ending in
-    let waited = c.report.ensures ∙ ap (λ (x : List ℕ). x ++ report_of e.failing e.is_restored) c.new-out.ensures in
-    (world_of c.in-Ok-driven_here.driven.core, e, c.in-Ok-ended.ensures, front_sent _ _ _ _ waited c.in-Err-flush.ensures.stream)
+    let waited = c.report.ensures ∙ ap (λ (x : List ℕ). x ++ report_of e.failing e.is_restored) c.new-out.ensures in (
+      world_of c.in-Ok-driven_here.driven.core,
+      e,
+      c.in-Ok-ended.ensures,
+      front_sent _ _ _ _ waited
+          c.in-Err-flush.ensures.stream,
+    )
 
 pub returns-in-Ok-flush-clause-lines : goal.returns-in-Ok-flush-clause-lines
 returns-in-Ok-flush-clause-lines g c =

@@ -7,7 +7,8 @@ use Rattle.oe_script.proofs.outcome.first.Goals as goal
 pub returns-in-None : goal.returns-in-None
 returns-in-None c = λ line short says. (
   codes "opened\n",
-  opened_line c.in-Open.scale c.in-Open.extents (world_of c.in-Ok.made) c.args.asked.now (state_of c.replace-old.new.self)
+  opened_line c.in-Open.scale c.in-Open.extents (world_of c.in-Ok.made) c.args.asked.now
+      (state_of c.replace-old.new.self)
       c.in-Ok.ensures c.in-Open.is (ap state_of c.replace-old.ensures.after) c.args.number line short says,
   c.opened.ensures.items,
 )

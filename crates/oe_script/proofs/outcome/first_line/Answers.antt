@@ -13,6 +13,8 @@ pub returns-in-None : goal.returns-in-None
 returns-in-None c = (
   bad_line c.args.number,
   subst (LineAnswer None c.args.number c.args.line.now (bad_line c.args.number)) (sym (ap state_of c.requires.none))
-      (refused None c.args.number c.args.line.now (λ d asks. let said : ◌≡◌ {A = Option Command} None (Some d) = sym c.in-None.is ∙ c.command.ensures.only d asks.says in let no : ⊥ = cc in no)),
+      (refused None c.args.number c.args.line.now
+      (λ d asks. let said : ◌≡◌ {A = Option Command} None (Some d) = sym c.in-None.is
+      ∙ c.command.ensures.only d asks.says in let no : ⊥ = cc in no)),
   c.bad.ensures,
 )

@@ -9,6 +9,9 @@ use Rattle.oe_script.proofs.outcome.later_line.Goals as goal
 pub returns-in_default : goal.returns-in_default
 returns-in_default g c = (
   bad_line c.args.number,
-  refused (Some (world_of c.args.core.now)) c.args.number c.args.line.now (λ d asks. let said : ◌≡◌ {A = Option Command} None (Some d) = sym c.in_default.is ∙ c.command.ensures.only d asks.says in let no : ⊥ = cc in no),
-  sent_waits (g.W.Outlet.sink c.args.to.now) c.args.out.now.items c.bad.new.out.items (bad_line c.args.number) c.bad.ensures,
+  refused (Some (world_of c.args.core.now)) c.args.number c.args.line.now
+      (λ d asks. let said : ◌≡◌ {A = Option Command} None (Some d) = sym c.in_default.is
+      ∙ c.command.ensures.only d asks.says in let no : ⊥ = cc in no),
+  sent_waits (g.W.Outlet.sink c.args.to.now) c.args.out.now.items c.bad.new.out.items (bad_line c.args.number)
+      c.bad.ensures,
 )

@@ -10,4 +10,5 @@ open-requires c =
 
 pub returns-in-Ok : goal.returns-in-Ok
 returns-in-Ok c =
-    on_population world_of c.args.scale (rows c.in-Ok.tables) c.args.extents c.in-Ok.ensures c.open.result c.open.ensures
+    on_population world_of c.args.scale (rows c.in-Ok.tables) c.args.extents c.in-Ok.ensures c.open.result
+    c.open.ensures

@@ -8,13 +8,15 @@ use Rattle.oe_script.proofs.LineFacts.{answer_of, not_more}
 use Rattle.oe_script.proofs.outcome.run.Goals as goal
 
 pub loop-ended-smaller : goal.loop-ended-smaller
-loop-ended-smaller c = falls (world_of c.loop-ended.core) (world_of c.advance.new.self) c.args.terminal c.loop-ended.invariant.live c.in-More.ensures.0
+loop-ended-smaller c = falls (world_of c.loop-ended.core) (world_of c.advance.new.self) c.args.terminal
+    c.loop-ended.invariant.live c.in-More.ensures.0
 
 pub loop-ended-preserved : goal.loop-ended-preserved
 loop-ended-preserved c =
     let t = c.args.terminal in
     record {
-      live = live_step (world_of c.loop-ended.core) (step.Advance t) (answer_in (step.Advance t) answer.More) (world_of c.advance.new.self) tt c.loop-ended.invariant.live c.in-More.ensures.0;
+      live = live_step (world_of c.loop-ended.core) (step.Advance t) (answer_in (step.Advance t) answer.More)
+          (world_of c.advance.new.self) tt c.loop-ended.invariant.live c.in-More.ensures.0;
       runs = λ n x w r. c.loop-ended.invariant.runs (suc n) x w (world_of c.advance.new.self, c.in-More.ensures.0, r);
     }
 

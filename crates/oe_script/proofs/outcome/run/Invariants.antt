@@ -12,7 +12,8 @@ use Rattle.oe_script.proofs.outcome.run.Given as goal
 abbrev pub invariant-loop-ended : goal.invariant-loop-ended
 invariant-loop-ended l = record {
   live : IsLive (Some (world_of l.core));
-  runs : (n : ℕ) (x : Answer) (w : World system) → RunsIn n (world_of l.core) l.terminal x w → (m : ℕ) × RunsIn m (world_of l.initial.core) l.terminal x w;
+  runs : (n : ℕ) (x : Answer) (w : World system) → RunsIn n (world_of l.core) l.terminal x w
+      → (m : ℕ) × RunsIn m (world_of l.initial.core) l.terminal x w;
 }
 
 abbrev pub decreases-loop-ended : goal.decreases-loop-ended

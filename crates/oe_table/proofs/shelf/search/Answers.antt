@@ -5,5 +5,7 @@ use Rattle.oe_table.proofs.shelf.search.Goals as goal
 
 pub returns : goal.returns
 returns g c =
-    found g.K.Ord.cmp g.met.K.Ord.total c.args.slots.now c.args.key.now c.binary_search_by.result c.requires c.binary_search_by.ensures.bound
-    (c.binary_search_by.ensures.position (λ e. g.K.Ord.cmp e.0 c.args.key.now) (always_returns_same _ _ _ (λ a r h t. search rules)))
+    found g.K.Ord.cmp g.met.K.Ord.total c.args.slots.now c.args.key.now c.binary_search_by.result c.requires
+    c.binary_search_by.ensures.bound
+    (c.binary_search_by.ensures.position (λ e. g.K.Ord.cmp e.0 c.args.key.now)
+    (always_returns_same _ _ _ (λ a r h t. search rules)))

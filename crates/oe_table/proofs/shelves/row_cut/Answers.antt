@@ -4,4 +4,5 @@ use Rattle.oe_table.proofs.shelves.row_cut.Goals as goal
 
 pub returns-clause-blanked : goal.returns-clause-blanked
 returns-clause-blanked g c =
-    none-between (get_or c.args.shelves.now c.args.from.shelf []) c.args.from.slot c.blanked_on.result _ c.max.result (c.max.ensures ∙ ap (max c.args.from.slot) c.min.ensures) c.blanked_on.ensures
+    none-between (get_or c.args.shelves.now c.args.from.shelf []) c.args.from.slot c.blanked_on.result _ c.max.result
+    (c.max.ensures ∙ ap (max c.args.from.slot) c.min.ensures) c.blanked_on.ensures

@@ -5,6 +5,7 @@ use Rattle.oe_table.proofs.shelves.slots_within.Goals as goal
 
 pub returns : goal.returns
 returns g c =
-    shelf-within (get_or c.args.shelves.now c.args.number []) c.args.from c.args.to (iter_rest c.iter.result) (iter_rest c.iter-2.result) (iter_rest c.iter-3.result) c.requires.forward
+    shelf-within (get_or c.args.shelves.now c.args.number []) c.args.from c.args.to (iter_rest c.iter.result)
+    (iter_rest c.iter-2.result) (iter_rest c.iter-3.result) c.requires.forward
     (c.iter.ensures.rest ∙ ap (λ s. take (c.args.to - c.args.from) (drop c.args.from s)) c.slots_on-slots.ensures)
     (c.iter-2.ensures.rest ∙ c.no_shelves.ensures) (c.iter-3.ensures.rest ∙ c.no_slots.ensures)

@@ -18,11 +18,17 @@ two-requires-else-n-lt10000-clause-room t c =
 
 pub returns-then-n-lt10000-clause-items : goal.returns-then-n-lt10000-clause-items
 returns-then-n-lt10000-clause-items t c =
-    appended _ _ _ c.args.n c.if-n-lt100.false (omega arith) c.below_hundred-then-n-lt10000.ensures.items c.two.ensures.items
+    appended _ _ _ c.args.n c.if-n-lt100.false (omega arith) c.below_hundred-then-n-lt10000.ensures.items
+    c.two.ensures.items
 
 pub returns-then-n-lt10000-clause-len : goal.returns-then-n-lt10000-clause-len
 returns-then-n-lt10000-clause-len t c =
-    omega (arith, length_more c.args.n c.if-n-lt100.false, c.below_hundred-then-n-lt10000.ensures.len, c.two.ensures.len)
+    omega (
+      arith,
+      length_more c.args.n c.if-n-lt100.false,
+      c.below_hundred-then-n-lt10000.ensures.len,
+      c.two.ensures.len,
+    )
 
 pub returns-else-n-lt10000-clause-items : goal.returns-else-n-lt10000-clause-items
 returns-else-n-lt10000-clause-items t c =

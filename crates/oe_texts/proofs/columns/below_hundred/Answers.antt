@@ -19,4 +19,5 @@ pub returns-else-n-lt10-clause-items : goal.returns-else-n-lt10-clause-items
 returns-else-n-lt10-clause-items c = rw (decimal_two c.args.n c.if-n-lt10.false c.requires.small) c.two.ensures.items
 
 pub returns-else-n-lt10-clause-len : goal.returns-else-n-lt10-clause-len
-returns-else-n-lt10-clause-len c = omega (arith, length_two c.args.n c.if-n-lt10.false c.requires.small, c.two.ensures.len)
+returns-else-n-lt10-clause-len c =
+    omega (arith, length_two c.args.n c.if-n-lt10.false c.requires.small, c.two.ensures.len)

@@ -8,4 +8,5 @@ use Rattle.oe_undo.proofs.links.give_up_empty.Goals as goal
 pub returns-then-matches : goal.returns-then-matches
 returns-then-matches c =
     let empty : get (rows_of history_cmp c.args.links.now) c.args.key.now ≡ Some None = search rules in
-    λ k. ap (λ m. get m k) (c.give_up.ensures.rows ∙ c.blank-empty.ensures.rows) ∙ history_given_up (rows_of history_cmp c.args.links.now) c.args.key.now empty k
+    λ k. ap (λ m. get m k) (c.give_up.ensures.rows ∙ c.blank-empty.ensures.rows)
+    ∙ history_given_up (rows_of history_cmp c.args.links.now) c.args.key.now empty k

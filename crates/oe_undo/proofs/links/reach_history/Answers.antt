@@ -16,5 +16,6 @@ returns-clause-given c =
 pub returns-clause-own : goal.returns-clause-own
 returns-clause-own c =
     on_ok_weaker c.put_new.result
-    (λ e. ap is_some (ap (λ m. get m c.args.key.now) e) ∙ history_own (rows_of history_cmp c.args.links.now) c.args.key.now)
+    (λ e. ap is_some (ap (λ m. get m c.args.key.now) e) ∙ history_own (rows_of history_cmp c.args.links.now)
+    c.args.key.now)
     c.put_new.ensures.rows

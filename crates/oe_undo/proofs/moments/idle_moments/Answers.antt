@@ -9,6 +9,7 @@ pub loop-preserved : goal.loop-preserved
 loop-preserved c =
     record {
       size = search rules;
-      idle = subst (All (λ (m : MomentList). m.moments ≡ [])) (sym c.push_reserved.ensures.items) (All-push (λ (m : MomentList). m.moments ≡ []) _ _ c.loop.invariant.idle c.new.ensures);
+      idle = subst (All (λ (m : MomentList). m.moments ≡ [])) (sym c.push_reserved.ensures.items)
+          (All-push (λ (m : MomentList). m.moments ≡ []) _ _ c.loop.invariant.idle c.new.ensures);
       room = search rules;
     }

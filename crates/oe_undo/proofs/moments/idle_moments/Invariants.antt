@@ -5,4 +5,8 @@ use Rattle.oe_undo.specs.Owners.{MomentList}
 use Rattle.oe_undo.proofs.moments.idle_moments.Given as goal
 
 abbrev pub invariant-loop : goal.invariant-loop
-invariant-loop l = record { size : length l.terminals.items ≡ l.counter; idle : All (λ (m : MomentList). m.moments ≡ []) l.terminals.items; room : 65 ≤ vec_capacity l.terminals }
+invariant-loop l = record {
+  size : length l.terminals.items ≡ l.counter;
+  idle : All (λ (m : MomentList). m.moments ≡ []) l.terminals.items;
+  room : 65 ≤ vec_capacity l.terminals;
+}

@@ -4,5 +4,9 @@ use Rattle.oe_undo.proofs.places.reach_shelf.Goals as goal
 
 pub loop-alloc-preserved : goal.loop-alloc-preserved
 loop-alloc-preserved g c =
-    let n = c.loop-alloc.invariant.0 in
-    (n + 1, padded-more c.args.shelves.now.items c.loop-alloc.shelves.items c.push.new.self.items n c.loop-alloc.invariant.1 (c.in_default.ensures.items ∙ ap (λ s. c.loop-alloc.shelves.items ++ s ∷ []) c.new-next.ensures))
+    let n = c.loop-alloc.invariant.0 in (
+      n + 1,
+      padded-more c.args.shelves.now.items c.loop-alloc.shelves.items c.push.new.self.items n
+          c.loop-alloc.invariant.1
+          (c.in_default.ensures.items ∙ ap (λ s. c.loop-alloc.shelves.items ++ s ∷ []) c.new-next.ensures),
+    )

@@ -10,7 +10,13 @@ moment c = record { date = c.from_days_since_min.result; time = c.from_second.re
 
 counted : (c : goal.After-from_second) → pos c.args.seconds ≡ civil_seconds (moment c) +ℤ pos 2_208_988_800
 unfolding moment
-counted c = omega (arith, signed_arith, civil_seconds-parts (moment c), c.from_days_since_min.ensures, c.from_second.ensures.seconds)
+counted c = omega (
+  arith,
+  signed_arith,
+  civil_seconds-parts (moment c),
+  c.from_days_since_min.ensures,
+  c.from_second.ensures.seconds,
+)
 
 pub returns-clause-seconds : goal.returns-clause-seconds
 unfolding moment

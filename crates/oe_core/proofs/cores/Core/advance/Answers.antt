@@ -11,29 +11,44 @@ use Rattle.oe_core.specs.Works.{WorkState}
 use Rattle.oe_requests.specs.declared.requests.Request.{Request}
 use Rattle.oe_core.specs.Steps.{refusal_in}
 use Rattle.oe_core.proofs.MoveFacts.{carries, nothing_open, HasOpen, lent_tx, lent_here}
-use Rattle.oe_core.proofs.AdvanceFacts.{holds_taken, went_on_here, taken_is, taken_is_open, has_reply, committed_here, left_here, told_last, kept_here, given_up_here}
-use Rattle.oe_core.proofs.cores.Core.advance.Goals.{In-Some-at_mut, In-Ready, After-self-in-More-1, After-self-in-Ready-1, Then-keeps_open, After-roll_back}
+use Rattle.oe_core.proofs.AdvanceFacts.{holds_taken, went_on_here, taken_is, taken_is_open, has_reply, committed_here}
+use Rattle.oe_core.proofs.AdvanceFacts.{left_here, told_last, kept_here, given_up_here}
+use Rattle.oe_core.proofs.cores.Core.advance.Goals.{In-Some-at_mut, In-Ready, After-self-in-More-1}
+use Rattle.oe_core.proofs.cores.Core.advance.Goals.{After-self-in-Ready-1, Then-keeps_open, After-roll_back}
 use Rattle.oe_core.proofs.cores.Core.advance.Goals as goal
 
 pub returns-in_default : goal.returns-in_default
 returns-in_default c =
     rw (← c.self.view_is)
-    (carries (nothing_open (record { engine = c.self.inside.engine; txs = c.self.inside.txs; works = c.self.inside.works }) c.self.invariant (Advance c.args.terminal) c.args.terminal refl
+    (carries (nothing_open
+    (record { engine = c.self.inside.engine; txs = c.self.inside.txs; works = c.self.inside.works })
+    c.self.invariant (Advance c.args.terminal) c.args.terminal refl
     (lent_tx c.self.invariant refl c.at.ensures.high c.at.ensures.value c.in_default.is)))
 
 -- the transaction in its slot
-is_there : (c : In-Some-at_mut) → HasOpen (record { engine = c.self.inside.engine; txs = c.self.inside.txs; works = c.self.inside.works }) c.args.terminal c.in-Some.tx c.in-Some-at_mut.work
+is_there : (c : In-Some-at_mut)
+    → HasOpen (record { engine = c.self.inside.engine; txs = c.self.inside.txs; works = c.self.inside.works })
+    c.args.terminal c.in-Some.tx c.in-Some-at_mut.work
 is_there c =
-    lent_here c.self.invariant refl c.at.ensures.high c.at.ensures.value c.in-Some.is refl c.at_mut.ensures.high c.at_mut.ensures.value c.in-Some-at_mut.is
+    lent_here c.self.invariant refl c.at.ensures.high c.at.ensures.value c.in-Some.is refl c.at_mut.ensures.high
+    c.at_mut.ensures.value c.in-Some-at_mut.is
 
 pub next-requires : goal.next-requires
 next-requires c = record { held = λ o. holds_taken (is_there (goal.at.next-requires c).In-Some-at_mut) }
 
 -- the row went on
-went_on : (c : After-self-in-More-1) → Moves (record { engine = c.self.inside.engine; txs = c.self.inside.txs; works = c.self.inside.works }) (Advance c.args.terminal) More
-    (record { engine = c.next.new.engine; txs = c.self.inside.txs; works = slice_set c.self.inside.works c.args.terminal (Some c.next.new.self) })
+went_on : (c : After-self-in-More-1)
+    → Moves (record { engine = c.self.inside.engine; txs = c.self.inside.txs; works = c.self.inside.works })
+    (Advance c.args.terminal) More
+    (record {
+      engine = c.next.new.engine;
+      txs = c.self.inside.txs;
+      works = slice_set c.self.inside.works c.args.terminal
+          (Some c.next.new.self);
+    })
 went_on c =
-    went_on_here (is_there (goal.at.returns-in-More c).In-Some-at_mut) c.next.new.self c.next.new.engine _ c.in-More.ensures.progresses c.in-More.ensures.left
+    went_on_here (is_there (goal.at.returns-in-More c).In-Some-at_mut) c.next.new.self c.next.new.engine _
+    c.in-More.ensures.progresses c.in-More.ensures.left
     refl
 
 pub invariant_of-self : goal.invariant_of-self
@@ -43,7 +58,9 @@ pub returns-in-More : goal.returns-in-More
 returns-in-More c = rw (← c.self.view_is) (carries (went_on c))
 
 -- it was ready: its program has its reply, and its transaction commits
-has_its_reply : (c : In-Ready) → HasOpen (record { engine = c.self.inside.engine; txs = c.self.inside.txs; works = c.self.inside.works }) c.args.terminal c.in-Some.tx c.in-Some-at_mut.work
+has_its_reply : (c : In-Ready)
+    → HasOpen (record { engine = c.self.inside.engine; txs = c.self.inside.txs; works = c.self.inside.works })
+    c.args.terminal c.in-Some.tx c.in-Some-at_mut.work
     → reply_at c.next.new.self.position ≡ Some c.in-Ready.ensures.progresses.0.0
 has_its_reply c here =
     let ready = c.in-Ready.ensures.progresses in
@@ -52,7 +69,8 @@ has_its_reply c here =
 pub commit-requires-clause-open : goal.commit-requires-clause-open
 commit-requires-clause-open c =
     let ready = c.in-Ready.ensures.progresses in
-    taken_is_open (is_there (goal.at.commit-requires-clause-open c).In-Some-at_mut) c.open_tx-open.result c.open_tx-open.ensures.value c.next.new.engine
+    taken_is_open (is_there (goal.at.commit-requires-clause-open c).In-Some-at_mut) c.open_tx-open.result
+    c.open_tx-open.ensures.value c.next.new.engine
     (ap view_of ready.1) (ap (λ (z : engine.EngineState). z.name) ready.1)
 
 pub commit-requires-clause-ready : goal.commit-requires-clause-ready
@@ -60,16 +78,27 @@ commit-requires-clause-ready c =
     let at = goal.at.commit-requires-clause-ready c in
     subst IsSome (sym (has_its_reply at.In-Ready (is_there at.In-Some-at_mut))) refl
 
-committed_now : (c : After-self-in-Ready-1) → Moves (record { engine = c.self.inside.engine; txs = c.self.inside.txs; works = c.self.inside.works }) (Advance c.args.terminal) (Committed c.commit.result c.in-Ready.ensures.progresses.0.0)
-    (record { engine = c.commit.new.engine; txs = c.open_tx-open.new.txs; works = slice_set c.self.inside.works c.args.terminal (Some c.next.new.self) })
+committed_now : (c : After-self-in-Ready-1)
+    → Moves (record { engine = c.self.inside.engine; txs = c.self.inside.txs; works = c.self.inside.works })
+    (Advance c.args.terminal) (Committed c.commit.result c.in-Ready.ensures.progresses.0.0)
+    (record {
+      engine = c.commit.new.engine;
+      txs = c.open_tx-open.new.txs;
+      works = slice_set c.self.inside.works c.args.terminal (Some c.next.new.self);
+    })
 committed_now c =
     let here = is_there (goal.at.returns-in-Ready c).In-Some-at_mut in
     let ready = c.in-Ready.ensures.progresses in
-    let reply : reply_at c.next.new.self.position ≡ Some ready.0.0 = has_its_reply (goal.at.returns-in-Ready c).In-Ready here in
-    committed_here here c.open_tx-open.result (taken_is here c.open_tx-open.result c.open_tx-open.ensures.value) ready.0.0 c.commit.result c.next.new.engine c.commit.new.engine _ _ (Some c.next.new.self)
+    let reply : reply_at c.next.new.self.position ≡ Some ready.0.0 =
+    has_its_reply (goal.at.returns-in-Ready c).In-Ready here in
+    committed_here here c.open_tx-open.result (taken_is here c.open_tx-open.result c.open_tx-open.ensures.value)
+    ready.0.0 c.commit.result c.next.new.engine c.commit.new.engine _ _ (Some c.next.new.self)
     ready.0.1 ready.1 c.commit.ensures.moment
-    (subst (λ o. IfSome o (λ y. view_of c.commit.new.engine ≡ committed c.open_tx-open.result.terminal c.in-Some-at_mut.work.request y (view_of c.next.new.engine))) reply
-    (subst (λ (q : Request). IfSome (reply_at c.next.new.self.position) (λ y. view_of c.commit.new.engine ≡ committed c.open_tx-open.result.terminal q y (view_of c.next.new.engine)))
+    (subst (λ o. IfSome o
+    (λ y. view_of c.commit.new.engine ≡ committed c.open_tx-open.result.terminal c.in-Some-at_mut.work.request y
+    (view_of c.next.new.engine))) reply
+    (subst (λ (q : Request). IfSome (reply_at c.next.new.self.position)
+    (λ y. view_of c.commit.new.engine ≡ committed c.open_tx-open.result.terminal q y (view_of c.next.new.engine)))
     (ap (λ (w : WorkState). w.request) c.in-Ready.ensures.left) c.commit.ensures.committed))
     c.commit.ensures.name c.open_tx-open.ensures.after
     refl
@@ -82,16 +111,25 @@ returns-in-Ready c =
     let here = is_there (goal.at.returns-in-Ready c).In-Some-at_mut in
     rw (← c.self.view_is)
     (told_last (committed_now c)
-    (left_here here c.next.new.self c.in-Ready.ensures.progresses.0.0 c.commit.new.engine _ _ c.open_tx-open.ensures.after
+    (left_here here c.next.new.self c.in-Ready.ensures.progresses.0.0 c.commit.new.engine _ _
+    c.open_tx-open.ensures.after
     refl
     (has_its_reply (goal.at.returns-in-Ready c).In-Ready here)))
 
 -- it was refused, and the transaction stays open where it stands
-kept : (c : Then-keeps_open) → Moves (record { engine = c.self.inside.engine; txs = c.self.inside.txs; works = c.self.inside.works }) (Advance c.args.terminal) (refusal_in (step.Advance c.args.terminal) c.in-Refused.refusal)
-    (record { engine = c.next.new.engine; txs = c.self.inside.txs; works = slice_set c.self.inside.works c.args.terminal (Some c.next.new.self) })
+kept : (c : Then-keeps_open)
+    → Moves (record { engine = c.self.inside.engine; txs = c.self.inside.txs; works = c.self.inside.works })
+    (Advance c.args.terminal) (refusal_in (step.Advance c.args.terminal) c.in-Refused.refusal)
+    (record {
+      engine = c.next.new.engine;
+      txs = c.self.inside.txs;
+      works = slice_set c.self.inside.works c.args.terminal
+          (Some c.next.new.self);
+    })
 kept c =
     let refused = c.in-Refused.ensures.progresses in
-    kept_here (is_there (goal.at.returns-then-keeps_open c).In-Some-at_mut) c.next.new.self c.next.new.engine _ c.in-Refused.refusal
+    kept_here (is_there (goal.at.returns-then-keeps_open c).In-Some-at_mut) c.next.new.self c.next.new.engine _
+    c.in-Refused.refusal
     (sym c.keeps_open.ensures ∙ c.if-keeps_open.true) refused.0 refused.1 refused.2 c.in-Refused.ensures.left
     refl
 
@@ -104,17 +142,26 @@ returns-then-keeps_open c = rw (← c.self.view_is) (carries (kept c))
 -- it was refused: the transaction is taken out of its slot, and rolled back
 pub roll_back-requires : goal.roll_back-requires
 roll_back-requires c =
-    taken_is_open (is_there (goal.at.roll_back-requires c).In-Some-at_mut) c.open_tx-open-in-Refused.result c.open_tx-open-in-Refused.ensures.value c.next.new.engine
+    taken_is_open (is_there (goal.at.roll_back-requires c).In-Some-at_mut) c.open_tx-open-in-Refused.result
+    c.open_tx-open-in-Refused.ensures.value c.next.new.engine
     c.in-Refused.ensures.progresses.1 c.in-Refused.ensures.progresses.2
 
-given_up : (c : After-roll_back) → Moves (record { engine = c.self.inside.engine; txs = c.self.inside.txs; works = c.self.inside.works }) (Advance c.args.terminal) (refusal_in (step.Advance c.args.terminal) c.in-Refused.refusal)
-    (record { engine = c.roll_back.new.engine; txs = c.open_tx-open-in-Refused.new.txs; works = slice_set c.self.inside.works c.args.terminal (Some c.next.new.self) })
+given_up : (c : After-roll_back)
+    → Moves (record { engine = c.self.inside.engine; txs = c.self.inside.txs; works = c.self.inside.works })
+    (Advance c.args.terminal) (refusal_in (step.Advance c.args.terminal) c.in-Refused.refusal)
+    (record {
+      engine = c.roll_back.new.engine;
+      txs = c.open_tx-open-in-Refused.new.txs;
+      works = slice_set c.self.inside.works c.args.terminal (Some c.next.new.self);
+    })
 given_up c =
     let here = is_there (goal.at.returns-else-keeps_open c).In-Some-at_mut in
     let refused = c.in-Refused.ensures.progresses in
     let out = c.open_tx-open-in-Refused in
-    given_up_here here out.result (taken_is here out.result out.ensures.value) c.next.new.engine c.roll_back.new.engine _ _ (Some c.next.new.self) c.in-Refused.refusal
-    (sym c.keeps_open.ensures ∙ c.if-keeps_open.false) refused.0 refused.1 refused.2 c.roll_back.ensures.rolled_back c.roll_back.ensures.name out.ensures.after
+    given_up_here here out.result (taken_is here out.result out.ensures.value) c.next.new.engine c.roll_back.new.engine
+    _ _ (Some c.next.new.self) c.in-Refused.refusal
+    (sym c.keeps_open.ensures ∙ c.if-keeps_open.false) refused.0 refused.1 refused.2 c.roll_back.ensures.rolled_back
+    c.roll_back.ensures.name out.ensures.after
     refl
 
 pub invariant_of-self-in-Refused : goal.invariant_of-self-in-Refused

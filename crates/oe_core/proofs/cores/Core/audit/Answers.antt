@@ -9,13 +9,15 @@ condition_at-requires c = stand_here _ c.self.invariant _ _ c.tables-tables.ensu
 pub returns-in-Ok : goal.returns-in-Ok
 returns-in-Ok c =
     let audited =
-    audited_here _ c.self.invariant _ _ c.tables-tables.ensures c.undo-undo.ensures.log c.args.condition c.args.moment (verdict_of c.in-Ok.verdict) c.in-Ok.ensures.verdict c.in-Ok.ensures.readable
+    audited_here _ c.self.invariant _ _ c.tables-tables.ensures c.undo-undo.ensures.log c.args.condition c.args.moment
+    (verdict_of c.in-Ok.verdict) c.in-Ok.ensures.verdict c.in-Ok.ensures.readable
     in
     rw (← c.self.view_is) (audited, reached_here _ c.self.invariant)
 
 pub returns-in-Err : goal.returns-in-Err
 returns-in-Err c =
     let refused =
-    refused_here _ c.self.invariant _ _ c.tables-tables.ensures c.undo-undo.ensures.log c.args.condition c.args.moment c.in-Err.cause c.in-Err.ensures.refusal
+    refused_here _ c.self.invariant _ _ c.tables-tables.ensures c.undo-undo.ensures.log c.args.condition c.args.moment
+    c.in-Err.cause c.in-Err.ensures.refusal
     in
     rw (← c.self.view_is) (refused, reached_here _ c.self.invariant)

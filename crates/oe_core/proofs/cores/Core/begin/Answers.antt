@@ -11,16 +11,21 @@ use Rattle.oe_core.proofs.cores.Core.begin.Goals as goal
 pub returns-in-Some : goal.returns-in-Some
 returns-in-Some c =
     rw (← c.self.view_is)
-    (carries (rejected_here _ c.self.invariant c.args.terminal c.args.request.now c.in-Some.refusal (ap (rejection c.args.request.now) (sym c.tables.ensures) ∙ sym c.in-Some.ensures)))
+    (carries (rejected_here _ c.self.invariant c.args.terminal c.args.request.now c.in-Some.refusal
+    (ap (rejection c.args.request.now) (sym c.tables.ensures) ∙ sym c.in-Some.ensures)))
 
 pub put_tx-requires : goal.put_tx-requires
-put_tx-requires c = slice_of c.self.inside.txs c.args.terminal None None (search rules) (no_tx c.self.inside.engine c.args.terminal _ _ (c.self.invariant.works c.args.terminal) c.in-Ok.ensures.closed)
+put_tx-requires c = slice_of c.self.inside.txs c.args.terminal None None (search rules)
+    (no_tx c.self.inside.engine c.args.terminal _ _ (c.self.invariant.works c.args.terminal) c.in-Ok.ensures.closed)
 
 -- the transaction has begun
-begun : (c : After-begin_work) → Moves (record { engine = c.self.inside.engine; txs = c.self.inside.txs; works = c.self.inside.works }) (Begin c.args.terminal c.args.request.now) Begun
+begun : (c : After-begin_work)
+    → Moves (record { engine = c.self.inside.engine; txs = c.self.inside.txs; works = c.self.inside.works })
+    (Begin c.args.terminal c.args.request.now) Begun
     (record { engine = c.begin.new.self; txs = c.put_tx.new.txs; works = c.begin_work.new.works })
 begun c =
-    begun_here _ c.self.invariant c.args.terminal c.put_tx.ensures.low c.put_tx.ensures.high c.args.request.now c.ranges_hold.ensures c.in-Ok.tx c.begin.new.self _ _
+    begun_here _ c.self.invariant c.args.terminal c.put_tx.ensures.low c.put_tx.ensures.high c.args.request.now
+    c.ranges_hold.ensures c.in-Ok.tx c.begin.new.self _ _
     (ap (rejection c.args.request.now) (sym c.tables.ensures) ∙ sym c.in_default.ensures) c.in-Ok.ensures.counted
     c.in-Ok.ensures.closed c.begin.ensures.idle c.in-Ok.ensures.begun c.begin.ensures.name
     c.in-Ok.ensures.handle
@@ -35,5 +40,7 @@ returns-in-Ok c = rw (← c.self.view_is) (carries (begun c))
 pub returns-in-Err : goal.returns-in-Err
 returns-in-Err c =
     rw (← c.self.view_is, c.in-Err.ensures.err)
-    (carries (not_begun _ c.self.invariant c.args.terminal (search rules) (search rules) c.args.request.now c.ranges_hold.ensures
-    (ap (rejection c.args.request.now) (sym c.tables.ensures) ∙ sym c.in_default.ensures) c.in-Err.refusal c.in-Err.ensures.cause))
+    (carries (not_begun _ c.self.invariant c.args.terminal (search rules) (search rules) c.args.request.now
+    c.ranges_hold.ensures
+    (ap (rejection c.args.request.now) (sym c.tables.ensures) ∙ sym c.in_default.ensures) c.in-Err.refusal
+    c.in-Err.ensures.cause))

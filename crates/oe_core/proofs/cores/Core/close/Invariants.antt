@@ -8,7 +8,8 @@ use Rattle.oe_core.proofs.cores.Core.close.Given as goal
 
 abbrev pub invariant-loop-tx : goal.invariant-loop-tx
 invariant-loop-tx l =
-    (ws : List (Option WorkState)) × IsClosing (record { engine = l.engine; txs = l.txs.items; works = ws }) (newest_version system (store_of l.fn.self))
+    (ws : List (Option WorkState)) × IsClosing (record { engine = l.engine; txs = l.txs.items; works = ws })
+    (newest_version system (store_of l.fn.self))
 
 abbrev pub decreases-loop-tx : goal.decreases-loop-tx
 decreases-loop-tx l = vec_len l.txs

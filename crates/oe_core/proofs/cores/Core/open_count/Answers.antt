@@ -5,4 +5,5 @@ pub returns-clause-count : goal.returns-clause-count
 returns-clause-count c = rw (← c.self.view_is) (counted_is _ c.self.invariant _ c.open_count.ensures)
 
 pub returns-clause-quiet : goal.returns-clause-quiet
-returns-clause-quiet c = rw (← c.self.view_is) (quiet_is _ c.self.invariant _ (counted_is _ c.self.invariant _ c.open_count.ensures))
+returns-clause-quiet c = rw (← c.self.view_is)
+    (quiet_is _ c.self.invariant _ (counted_is _ c.self.invariant _ c.open_count.ensures))

@@ -3,15 +3,23 @@ use Rattle.oe_core.proofs.PastFacts.{unchanged, purged_here, purge_refused}
 use Rattle.oe_core.proofs.cores.Core.purge.Goals as goal
 
 pub invariant_of-self : goal.invariant_of-self
-invariant_of-self c = (unchanged c.purge.new.self c.in-Err.ensures.err (purge_refused _ c.self.invariant c.args.moment c.in-Err.cause c.in-Err.ensures.cause)).orderly
+invariant_of-self c =
+    (unchanged c.purge.new.self c.in-Err.ensures.err
+    (purge_refused _ c.self.invariant c.args.moment c.in-Err.cause c.in-Err.ensures.cause)).orderly
 
 pub returns-in-Err : goal.returns-in-Err
 returns-in-Err c =
-    rw (← c.self.view_is) (carries (unchanged c.purge.new.self c.in-Err.ensures.err (purge_refused _ c.self.invariant c.args.moment c.in-Err.cause c.in-Err.ensures.cause)))
+    rw (← c.self.view_is)
+    (carries (unchanged c.purge.new.self c.in-Err.ensures.err
+    (purge_refused _ c.self.invariant c.args.moment c.in-Err.cause c.in-Err.ensures.cause)))
 
 pub invariant_of-self-2 : goal.invariant_of-self-2
-invariant_of-self-2 c = (purged_here _ c.self.invariant c.purge.new.self c.args.moment c.in_default.ensures.kept c.in_default.ensures.purged c.purge.ensures.name).orderly
+invariant_of-self-2 c =
+    (purged_here _ c.self.invariant c.purge.new.self c.args.moment c.in_default.ensures.kept c.in_default.ensures.purged
+    c.purge.ensures.name).orderly
 
 pub returns : goal.returns
 returns c =
-    rw (← c.self.view_is) (carries (purged_here _ c.self.invariant c.purge.new.self c.args.moment c.in_default.ensures.kept c.in_default.ensures.purged c.purge.ensures.name))
+    rw (← c.self.view_is)
+    (carries (purged_here _ c.self.invariant c.purge.new.self c.args.moment c.in_default.ensures.kept
+    c.in_default.ensures.purged c.purge.ensures.name))

@@ -6,19 +6,31 @@ use Rattle.oe_core.proofs.cores.Core.rollback.Goals.{After-self-1}
 use Rattle.oe_core.proofs.cores.Core.rollback.Goals as goal
 
 pub invariant_of-self : goal.invariant_of-self
-invariant_of-self c = (nothing_taken _ c.self.invariant (Rollback c.args.terminal) c.args.terminal refl c.in_default.ensures.value _ c.take_tx.ensures.after).orderly
+invariant_of-self c =
+    (nothing_taken _ c.self.invariant (Rollback c.args.terminal) c.args.terminal refl c.in_default.ensures.value _
+    c.take_tx.ensures.after).orderly
 
 pub returns-in_default : goal.returns-in_default
 returns-in_default c =
-    rw (← c.self.view_is) (carries (nothing_taken _ c.self.invariant (Rollback c.args.terminal) c.args.terminal refl c.in_default.ensures.value _ c.take_tx.ensures.after))
+    rw (← c.self.view_is)
+    (carries (nothing_taken _ c.self.invariant (Rollback c.args.terminal) c.args.terminal refl
+    c.in_default.ensures.value _ c.take_tx.ensures.after))
 
 pub roll_back-requires : goal.roll_back-requires
 roll_back-requires c = (own_work (taken_here c.self.invariant c.take_tx.ensures.high c.in-Some.ensures.value).1).is_open
 
 -- the transaction is gone
-rolled_back : (c : After-self-1) → Moves (record { engine = c.self.inside.engine; txs = c.self.inside.txs; works = c.self.inside.works }) (Rollback c.args.terminal) Rolled_back (record { engine = c.roll_back.new.engine; txs = c.take_tx.new.txs; works = slice_set c.self.inside.works c.args.terminal None })
+rolled_back : (c : After-self-1)
+    → Moves (record { engine = c.self.inside.engine; txs = c.self.inside.txs; works = c.self.inside.works })
+    (Rollback c.args.terminal) Rolled_back
+    (record {
+      engine = c.roll_back.new.engine;
+      txs = c.take_tx.new.txs;
+      works = slice_set c.self.inside.works c.args.terminal None;
+    })
 rolled_back c =
-    rolled_back_here (taken_here c.self.invariant c.take_tx.ensures.high c.in-Some.ensures.value).1 c.roll_back.new.engine _ _ c.roll_back.ensures.rolled_back c.roll_back.ensures.name c.take_tx.ensures.after
+    rolled_back_here (taken_here c.self.invariant c.take_tx.ensures.high c.in-Some.ensures.value).1
+    c.roll_back.new.engine _ _ c.roll_back.ensures.rolled_back c.roll_back.ensures.name c.take_tx.ensures.after
     refl
 
 pub invariant_of-self-2 : goal.invariant_of-self-2

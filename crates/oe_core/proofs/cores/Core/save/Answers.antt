@@ -8,19 +8,31 @@ use Rattle.oe_core.proofs.cores.Core.save.Goals as goal
 pub returns-in_default : goal.returns-in_default
 returns-in_default c =
     rw (← c.self.view_is)
-    (carries (nothing_open (record { engine = c.self.inside.engine; txs = c.self.inside.txs; works = c.self.inside.works }) c.self.invariant (Save c.args.terminal) c.args.terminal refl
+    (carries (nothing_open
+    (record { engine = c.self.inside.engine; txs = c.self.inside.txs; works = c.self.inside.works })
+    c.self.invariant (Save c.args.terminal) c.args.terminal refl
     (lent_tx c.self.invariant refl c.at.ensures.high c.at.ensures.value c.in_default.is)))
 
 -- the transaction in its slot
-is_there : (c : In-Some-at_mut) → HasOpen (record { engine = c.self.inside.engine; txs = c.self.inside.txs; works = c.self.inside.works }) c.args.terminal c.in-Some.tx c.in-Some-at_mut.work
+is_there : (c : In-Some-at_mut)
+    → HasOpen (record { engine = c.self.inside.engine; txs = c.self.inside.txs; works = c.self.inside.works })
+    c.args.terminal c.in-Some.tx c.in-Some-at_mut.work
 is_there c =
-    lent_here c.self.invariant refl c.at.ensures.high c.at.ensures.value c.in-Some.is refl c.at_mut.ensures.high c.at_mut.ensures.value c.in-Some-at_mut.is
+    lent_here c.self.invariant refl c.at.ensures.high c.at.ensures.value c.in-Some.is refl c.at_mut.ensures.high
+    c.at_mut.ensures.value c.in-Some-at_mut.is
 
 -- the mark has moved
-marked : (c : After-self-2-1) → Moves (record { engine = c.self.inside.engine; txs = c.self.inside.txs; works = c.self.inside.works }) (Save c.args.terminal) Saved
-    (record { engine = c.self.inside.engine; txs = c.self.inside.txs; works = slice_set c.self.inside.works c.args.terminal (Some c.save.new.self) })
+marked : (c : After-self-2-1)
+    → Moves (record { engine = c.self.inside.engine; txs = c.self.inside.txs; works = c.self.inside.works })
+    (Save c.args.terminal) Saved
+    (record {
+      engine = c.self.inside.engine;
+      txs = c.self.inside.txs;
+      works = slice_set c.self.inside.works c.args.terminal (Some c.save.new.self);
+    })
 marked c =
-    saved (is_there (goal.at.returns c).In-Some-at_mut) c.save.new.self c.savepoint.result _ c.save.ensures c.savepoint.ensures.open
+    saved (is_there (goal.at.returns c).In-Some-at_mut) c.save.new.self c.savepoint.result _ c.save.ensures
+    c.savepoint.ensures.open
     refl
 
 pub invariant_of-self : goal.invariant_of-self

@@ -11,7 +11,8 @@ use Rattle.oe_delivery.proofs.deliveries.Deliveries.next.Goals as goal
 
 pub returns-in_default : goal.returns-in_default
 returns-in_default c = (
-  all_done c.args.engine.now c.args.tx.now c.args.request.now c.args.self.now (c.is_open.ensures.0 c.if-not-is_open.false) c.in_default.ensures,
+  all_done c.args.engine.now c.args.tx.now c.args.request.now c.args.self.now
+      (c.is_open.ensures.0 c.if-not-is_open.false) c.in_default.ensures,
   refl,
   refl,
 )
@@ -25,7 +26,8 @@ hand c = c.in-Some.ensures ∙ ap (next_district c.args.request.now) (sym c.self
 
 -- it went on from there
 abbrev Goes : Joined-reply → Course → Course → Type 0
-Goes c k l = GoesOn c.args.engine.now c.args.tx.now (request.Deliveries c.args.request.now) (place_of c.args.request.now k) c.next.new.engine (place_of c.args.request.now l)
+Goes c k l = GoesOn c.args.engine.now c.args.tx.now (request.Deliveries c.args.request.now)
+    (place_of c.args.request.now k) c.next.new.engine (place_of c.args.request.now l)
 
 pub returns-after-reply : goal.returns-after-reply
 returns-after-reply c =
@@ -33,11 +35,17 @@ returns-after-reply c =
     (elim c.match-reply.branch [
       | in-Some-reply w ↦
           subst (λ (l : Course). Goes c (before c) l)
-          (sym (w.self-is ∙ (λ i. record { done = w.push.ensures i; district = position_of (w.new-self-inside.ensures i) })))
-          (ended c.args.engine.now c.args.tx.now c.args.request.now (before c) c.in-Some.district (hand c) c.next.new.engine (position_of c.next.new.self) c.in-More.ensures w.in-Some-reply.delivery w.in-Some-reply.ensures)
+          (sym (w.self-is ∙ (λ i. record {
+            done = w.push.ensures i;
+            district = position_of (w.new-self-inside.ensures i);
+          })))
+          (ended c.args.engine.now c.args.tx.now c.args.request.now (before c) c.in-Some.district (hand c)
+          c.next.new.engine (position_of c.next.new.self) c.in-More.ensures w.in-Some-reply.delivery
+          w.in-Some-reply.ensures)
       | in_default-reply w ↦
           subst (λ (l : Course). Goes c (before c) l) (sym w.self-is)
-          (stays c.args.engine.now c.args.tx.now c.args.request.now (before c) c.in-Some.district (hand c) c.next.new.engine (position_of c.next.new.self) c.in-More.ensures w.in_default-reply.ensures)
+          (stays c.args.engine.now c.args.tx.now c.args.request.now (before c) c.in-Some.district (hand c)
+          c.next.new.engine (position_of c.next.new.self) c.in-More.ensures w.in_default-reply.ensures)
     ])
 
 -- a district's position is known by that of its delivery
@@ -47,11 +55,19 @@ same_position q p z e = cc
 pub returns-in-Refused : goal.returns-in-Refused
 returns-in-Refused c =
     let old : Course = record { done = c.self.inside.done; district = position_of c.self.inside.program } in
-    let hand : Some c.in-Some.district ≡ next_district c.args.request.now old = c.in-Some.ensures ∙ ap (next_district c.args.request.now) (sym c.self.view_is) in (
-      subst (λ (k : Course). IsRefused c.args.engine.now c.args.tx.now (request.Deliveries c.args.request.now) (place_of c.args.request.now k) c.in-Refused.refusal) c.self.view_is
-          (refused c.args.engine.now c.args.tx.now c.args.request.now old c.in-Some.district hand c.in-Refused.refusal c.in-Refused.ensures.0),
+    let hand : Some c.in-Some.district ≡ next_district c.args.request.now old = c.in-Some.ensures
+    ∙ ap (next_district c.args.request.now) (sym c.self.view_is) in (
+      subst (λ (k : Course). IsRefused c.args.engine.now c.args.tx.now (request.Deliveries c.args.request.now)
+          (place_of c.args.request.now k) c.in-Refused.refusal) c.self.view_is
+          (refused c.args.engine.now c.args.tx.now c.args.request.now old c.in-Some.district hand c.in-Refused.refusal
+          c.in-Refused.ensures.0),
       c.in-Refused.ensures.1,
       c.in-Refused.ensures.2,
-      (λ i. place_of c.args.request.now (record { done = c.self.inside.done; district = same_position c.in-Some.district (position_of c.next.new.self) (position_of c.self.inside.program) c.in-Refused.ensures.3 i }))
+      (λ i. place_of c.args.request.now
+          (record {
+            done = c.self.inside.done;
+            district = same_position c.in-Some.district (position_of c.next.new.self)
+                (position_of c.self.inside.program) c.in-Refused.ensures.3 i;
+          }))
           ∙ ap (place_of c.args.request.now) c.self.view_is,
     )

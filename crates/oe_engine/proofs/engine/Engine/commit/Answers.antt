@@ -19,7 +19,8 @@ seal-moment-requires c =
     let o : IsOpen c.args.self.now c.args.tx = c.is_open.ensures.0 c.if-not-is_open.false in
     let given = rw (← c.self.view_is) at o.terminal in
     let is : IsSome (active_at c.self.inside.undo.log c.args.tx.terminal) = given in
-    subst (λ s. IsSome (active_at c.self.inside.undo.log s)) (sym (c.of-segment.ensures ∙ ap (λ x. x.terminal) c.tx.view_is)) is
+    subst (λ s. IsSome (active_at c.self.inside.undo.log s))
+    (sym (c.of-segment.ensures ∙ ap (λ x. x.terminal) c.tx.view_is)) is
 
 pub returns-clause-moment : goal.returns-clause-moment
 unfolding view_of view_from
@@ -34,19 +35,25 @@ invariant_of-self c =
     let given = rw (← c.self.view_is) at o.terminal in
     let is : IsSome (active_at c.self.inside.undo.log c.args.tx.terminal) = given in
     let here : IsSome (active_at c.self.inside.undo.log c.of-segment.result) =
-    subst (λ s. IsSome (active_at c.self.inside.undo.log s)) (sym (c.of-segment.ensures ∙ ap (λ x. x.terminal) c.tx.view_is)) is in
-    let own : HoldsNothing c.release_all.new.self c.of-segment.result = subst (HoldsNothing c.release_all.new.self) c.terminal.ensures c.release_all.ensures.own in
+    subst (λ s. IsSome (active_at c.self.inside.undo.log s))
+    (sym (c.of-segment.ensures ∙ ap (λ x. x.terminal) c.tx.view_is)) is in
+    let own : HoldsNothing c.release_all.new.self c.of-segment.result =
+    subst (HoldsNothing c.release_all.new.self) c.terminal.ensures c.release_all.ensures.own in
     let others : OthersKeep c.self.inside.locks c.release_all.new.self c.of-segment.result =
     subst (OthersKeep c.self.inside.locks c.release_all.new.self) c.terminal.ensures c.release_all.ensures.others in
     let size : length c.self.inside.undo.log.terminals ≡ 65 = c.self.invariant.kept.size in
-    let within : c.of-segment.result < length c.self.inside.undo.log.terminals = omega (arith, c.get-number.ensures.value, c.get-number.ensures.high, c.of-segment.ensures) in
+    let within : c.of-segment.result < length c.self.inside.undo.log.terminals =
+    omega (arith, c.get-number.ensures.value, c.get-number.ensures.high, c.of-segment.ensures) in
     record {
       kept = subst (λ u. IsKept c.self.inside.tables u c.release_all.new.self) (sym c.seal-moment.ensures.sealed)
-          (sealed_kept c.self.inside.tables c.self.inside.undo.log c.self.inside.locks c.release_all.new.self c.of-segment.result c.args.request.value c.args.reply.value within here own others c.self.invariant.kept);
+          (sealed_kept c.self.inside.tables c.self.inside.undo.log c.self.inside.locks c.release_all.new.self
+          c.of-segment.result c.args.request.value c.args.reply.value within here own others c.self.invariant.kept);
       safe = subst IsSafe
           (sym (ap (λ u. view_from c.self.inside.tables u c.release_all.new.self) c.seal-moment.ensures.sealed
-          ∙ sealed_is c.self.inside.tables c.self.inside.undo.log c.self.inside.locks c.release_all.new.self c.of-segment.result c.args.request.value c.args.reply.value within here own others))
-          (safe_committed c.of-segment.result c.args.request.value c.args.reply.value (view_from c.self.inside.tables c.self.inside.undo.log c.self.inside.locks) c.self.invariant.safe);
+          ∙ sealed_is c.self.inside.tables c.self.inside.undo.log c.self.inside.locks c.release_all.new.self
+          c.of-segment.result c.args.request.value c.args.reply.value within here own others))
+          (safe_committed c.of-segment.result c.args.request.value c.args.reply.value
+          (view_from c.self.inside.tables c.self.inside.undo.log c.self.inside.locks) c.self.invariant.safe);
       linked = subst (AreLinked c.self.inside.tables) (sym c.seal-moment.ensures.links) c.self.invariant.linked;
     }
 
@@ -57,13 +64,18 @@ returns-clause-committed c =
     let given = rw (← c.self.view_is) at o.terminal in
     let is : IsSome (active_at c.self.inside.undo.log c.args.tx.terminal) = given in
     let same : c.of-segment.result ≡ c.args.tx.terminal = c.of-segment.ensures ∙ ap (λ x. x.terminal) c.tx.view_is in
-    let here : IsSome (active_at c.self.inside.undo.log c.of-segment.result) = subst (λ s. IsSome (active_at c.self.inside.undo.log s)) (sym same) is in
-    let own : HoldsNothing c.release_all.new.self c.of-segment.result = subst (HoldsNothing c.release_all.new.self) c.terminal.ensures c.release_all.ensures.own in
+    let here : IsSome (active_at c.self.inside.undo.log c.of-segment.result) =
+    subst (λ s. IsSome (active_at c.self.inside.undo.log s)) (sym same) is in
+    let own : HoldsNothing c.release_all.new.self c.of-segment.result =
+    subst (HoldsNothing c.release_all.new.self) c.terminal.ensures c.release_all.ensures.own in
     let others : OthersKeep c.self.inside.locks c.release_all.new.self c.of-segment.result =
     subst (OthersKeep c.self.inside.locks c.release_all.new.self) c.terminal.ensures c.release_all.ensures.others in
     let size : length c.self.inside.undo.log.terminals ≡ 65 = c.self.invariant.kept.size in
-    let within : c.of-segment.result < length c.self.inside.undo.log.terminals = omega (arith, c.get-number.ensures.value, c.get-number.ensures.high, c.of-segment.ensures) in
+    let within : c.of-segment.result < length c.self.inside.undo.log.terminals =
+    omega (arith, c.get-number.ensures.value, c.get-number.ensures.high, c.of-segment.ensures) in
     rw (← c.self.view_is)
     (ap (λ u. view_from c.self.inside.tables u c.release_all.new.self) c.seal-moment.ensures.sealed
-    ∙ sealed_is c.self.inside.tables c.self.inside.undo.log c.self.inside.locks c.release_all.new.self c.of-segment.result c.args.request.value c.args.reply.value within here own others
-    ∙ ap (λ t. committed t c.args.request.value c.args.reply.value (view_from c.self.inside.tables c.self.inside.undo.log c.self.inside.locks)) same)
+    ∙ sealed_is c.self.inside.tables c.self.inside.undo.log c.self.inside.locks c.release_all.new.self
+    c.of-segment.result c.args.request.value c.args.reply.value within here own others
+    ∙ ap (λ t. committed t c.args.request.value c.args.reply.value
+    (view_from c.self.inside.tables c.self.inside.undo.log c.self.inside.locks)) same)

@@ -7,10 +7,13 @@ use Rattle.oe_engine.proofs.engine.Engine.is_safe.Goals as goal
 pub returns-clause-unwinds : goal.returns-clause-unwinds
 unfolding view_of
 returns-clause-unwinds c =
-    rw (← c.self.view_is) (λ t. all_unwind t (view_from c.self.inside.tables c.self.inside.undo.log c.self.inside.locks) c.self.invariant.safe)
+    rw (← c.self.view_is)
+    (λ t. all_unwind t (view_from c.self.inside.tables c.self.inside.undo.log c.self.inside.locks)
+    c.self.invariant.safe)
 
 pub returns-clause-exact : goal.returns-clause-exact
 unfolding view_of view_from
 returns-clause-exact c =
     rw (← c.self.view_is)
-    (exact_is c.self.inside.tables (undo_of c.self.inside.undo.log) c.self.invariant.kept.active c.self.invariant.kept.history c.self.invariant.kept.needed)
+    (exact_is c.self.inside.tables (undo_of c.self.inside.undo.log) c.self.invariant.kept.active
+    c.self.invariant.kept.history c.self.invariant.kept.needed)

@@ -19,13 +19,16 @@ invariant_of-self c =
     let is : is_some (active_at c.self.inside.undo.log c.args.terminal) ≡ true = given in
     let v = view_from c.self.inside.tables c.self.inside.undo.log c.self.inside.locks in
     let lower = subst (IsBelow c.args.mode) c.holds.ensures (c.is_below.ensures.0 c.if-is_below.true) in
-    let below : calls.IsBelow (option_map mode_of c.args.mode) (v.held c.args.terminal c.args.name) = below_as _ _ lower in
+    let below : calls.IsBelow (option_map mode_of c.args.mode) (v.held c.args.terminal c.args.name) =
+    below_as _ _ lower in
     let unused = rw (← c.self.view_is) at c.requires.unused in
     let none : IsUnused c.args.name (v.undo.active c.args.terminal) = unused below in
     record {
-      kept = locks_kept c.self.inside.tables c.self.inside.undo.log c.self.inside.locks c.give_back.new.self c.args.terminal is c.give_back.ensures.others c.self.invariant.kept;
+      kept = locks_kept c.self.inside.tables c.self.inside.undo.log c.self.inside.locks c.give_back.new.self
+          c.args.terminal is c.give_back.ensures.others c.self.invariant.kept;
       safe = subst IsSafe
-          (sym (mode_put c.self.inside.tables c.self.inside.undo.log c.self.inside.locks c.give_back.new.self c.args.terminal c.args.name c.args.mode c.give_back.ensures.own c.give_back.ensures.others))
+          (sym (mode_put c.self.inside.tables c.self.inside.undo.log c.self.inside.locks c.give_back.new.self
+          c.args.terminal c.args.name c.args.mode c.give_back.ensures.own c.give_back.ensures.others))
           (safe_put c.args.terminal c.args.name (option_map mode_of c.args.mode) v below none c.self.invariant.safe);
       linked = c.self.invariant.linked;
     }
@@ -34,12 +37,15 @@ pub returns-then-is_below-clause-put : goal.returns-then-is_below-clause-put
 unfolding view_of
 returns-then-is_below-clause-put c =
     rw (← c.self.view_is)
-    (mode_put c.self.inside.tables c.self.inside.undo.log c.self.inside.locks c.give_back.new.self c.args.terminal c.args.name c.args.mode c.give_back.ensures.own c.give_back.ensures.others)
+    (mode_put c.self.inside.tables c.self.inside.undo.log c.self.inside.locks c.give_back.new.self c.args.terminal
+    c.args.name c.args.mode c.give_back.ensures.own c.give_back.ensures.others)
 
 pub returns-else-is_below-clause-put : goal.returns-else-is_below-clause-put
 unfolding view_of
 returns-else-is_below-clause-put c =
     let given = rw (← c.self.view_is) at c.requires.below in
     rw (← c.self.view_is)
-    (put_nothing c.self.inside.tables c.self.inside.undo.log c.self.inside.locks c.args.terminal c.args.name c.args.mode given
-    (λ h. true≢false (sym (c.is_below.ensures.1 (subst (IsBelow c.args.mode) (sym c.holds.ensures) h)) ∙ c.if-is_below.false)))
+    (put_nothing c.self.inside.tables c.self.inside.undo.log c.self.inside.locks c.args.terminal c.args.name c.args.mode
+    given
+    (λ h. true≢false (sym (c.is_below.ensures.1 (subst (IsBelow c.args.mode) (sym c.holds.ensures) h))
+    ∙ c.if-is_below.false)))

@@ -14,8 +14,10 @@ use Rattle.oe_engine.proofs.engine.Engine.take_and_put.Goals as goal
 
 pub put-requires-clause-covered : goal.put-requires-clause-covered
 put-requires-clause-covered c =
-    subst (λ (v : View). MayWrite (v.held c.args.terminal) c.args.terminal (suc (v.counts c.args.terminal)) c.args.write.now) (sym c.in-Ok.ensures.locked)
-    (may_after c.args.terminal c.args.lock.now.name (mode_of c.args.lock.now.mode) c.args.write.now (view_of c.args.self.now) c.requires.covered)
+    subst (λ (v : View). MayWrite (v.held c.args.terminal) c.args.terminal (suc (v.counts c.args.terminal))
+    c.args.write.now) (sym c.in-Ok.ensures.locked)
+    (may_after c.args.terminal c.args.lock.now.name (mode_of c.args.lock.now.mode) c.args.write.now
+    (view_of c.args.self.now) c.requires.covered)
 
 -- where the name was not held alone before, nothing was changed under it
 pub restore-requires-clause-unused : goal.restore-requires-clause-unused
@@ -23,40 +25,54 @@ unfolding view_of view_from
 restore-requires-clause-unused c = λ h.
     let v = view_of c.args.self.now in
     let safe : IsSafe v = c.is_safe.ensures.safe in
-    let before : option_map mode_of c.in-Ok.before ≡ v.held c.args.terminal c.args.lock.now.name = c.in-Ok.ensures.before in
-    let now : view_of c.put.new.self ≡ locked c.args.terminal c.args.lock.now.name (mode_of c.args.lock.now.mode) v = c.in-Err-put.ensures.err ∙ c.in-Ok.ensures.locked in
-    let below : IsBelow (v.held c.args.terminal c.args.lock.now.name) ((view_of c.put.new.self).held c.args.terminal c.args.lock.now.name) =
+    let before : option_map mode_of c.in-Ok.before ≡ v.held c.args.terminal c.args.lock.now.name =
+    c.in-Ok.ensures.before in
+    let now : view_of c.put.new.self ≡ locked c.args.terminal c.args.lock.now.name (mode_of c.args.lock.now.mode) v =
+    c.in-Err-put.ensures.err ∙ c.in-Ok.ensures.locked in
+    let below : IsBelow (v.held c.args.terminal c.args.lock.now.name)
+    ((view_of c.put.new.self).held c.args.terminal c.args.lock.now.name) =
     subst (λ o. IsBelow o ((view_of c.put.new.self).held c.args.terminal c.args.lock.now.name)) before h in
     subst (λ (z : View). IsUnused c.args.lock.now.name (z.undo.active c.args.terminal)) (sym now)
-    (unused_if_lower (v.held c.args.terminal) c.args.lock.now.name c.args.terminal (suc (v.counts c.args.terminal)) (not_exclusive _ _ below) (v.undo.active c.args.terminal) (safe.owned c.args.terminal))
+    (unused_if_lower (v.held c.args.terminal) c.args.lock.now.name c.args.terminal (suc (v.counts c.args.terminal))
+    (not_exclusive _ _ below) (v.undo.active c.args.terminal) (safe.owned c.args.terminal))
 
 pub restore-requires-clause-below : goal.restore-requires-clause-below
 unfolding view_of view_from
 restore-requires-clause-below c =
-    let before : option_map mode_of c.in-Ok.before ≡ (view_of c.args.self.now).held c.args.terminal c.args.lock.now.name = c.in-Ok.ensures.before in
-    let now : view_of c.put.new.self ≡ locked c.args.terminal c.args.lock.now.name (mode_of c.args.lock.now.mode) (view_of c.args.self.now) = c.in-Err-put.ensures.err ∙ c.in-Ok.ensures.locked in
-    subst (λ (v : View). (option_map mode_of c.in-Ok.before ≡ v.held c.args.terminal c.args.lock.now.name) ⊎ IsBelow (option_map mode_of c.in-Ok.before) (v.held c.args.terminal c.args.lock.now.name)) (sym now)
-    (subst (λ o. (o ≡ (locked c.args.terminal c.args.lock.now.name (mode_of c.args.lock.now.mode) (view_of c.args.self.now)).held c.args.terminal c.args.lock.now.name)
-    ⊎ IsBelow o ((locked c.args.terminal c.args.lock.now.name (mode_of c.args.lock.now.mode) (view_of c.args.self.now)).held c.args.terminal c.args.lock.now.name)) (sym before)
+    let before : option_map mode_of c.in-Ok.before ≡ (view_of c.args.self.now).held c.args.terminal
+    c.args.lock.now.name = c.in-Ok.ensures.before in
+    let now : view_of c.put.new.self ≡ locked c.args.terminal c.args.lock.now.name (mode_of c.args.lock.now.mode)
+    (view_of c.args.self.now) = c.in-Err-put.ensures.err ∙ c.in-Ok.ensures.locked in
+    subst (λ (v : View). (option_map mode_of c.in-Ok.before ≡ v.held c.args.terminal c.args.lock.now.name)
+    ⊎ IsBelow (option_map mode_of c.in-Ok.before) (v.held c.args.terminal c.args.lock.now.name)) (sym now)
+    (subst (λ o. (o ≡ (locked c.args.terminal c.args.lock.now.name (mode_of c.args.lock.now.mode)
+    (view_of c.args.self.now)).held c.args.terminal c.args.lock.now.name)
+    ⊎ IsBelow o ((locked c.args.terminal c.args.lock.now.name (mode_of c.args.lock.now.mode)
+    (view_of c.args.self.now)).held c.args.terminal c.args.lock.now.name)) (sym before)
     (can_restore c.args.terminal c.args.lock.now.name (mode_of c.args.lock.now.mode) (view_of c.args.self.now)))
 
 pub returns-in-Err-put-clause-err : goal.returns-in-Err-put-clause-err
 unfolding view_of view_from
 returns-in-Err-put-clause-err c =
-    let before : option_map mode_of c.in-Ok.before ≡ (view_of c.args.self.now).held c.args.terminal c.args.lock.now.name = c.in-Ok.ensures.before in
-    let now : view_of c.put.new.self ≡ locked c.args.terminal c.args.lock.now.name (mode_of c.args.lock.now.mode) (view_of c.args.self.now) = c.in-Err-put.ensures.err ∙ c.in-Ok.ensures.locked in
+    let before : option_map mode_of c.in-Ok.before ≡ (view_of c.args.self.now).held c.args.terminal
+    c.args.lock.now.name = c.in-Ok.ensures.before in
+    let now : view_of c.put.new.self ≡ locked c.args.terminal c.args.lock.now.name (mode_of c.args.lock.now.mode)
+    (view_of c.args.self.now) = c.in-Err-put.ensures.err ∙ c.in-Ok.ensures.locked in
     c.restore.ensures.put
     ∙ ap (λ (v : View). put_mode c.args.terminal c.args.lock.now.name (option_map mode_of c.in-Ok.before) v) now
-    ∙ ap (λ o. put_mode c.args.terminal c.args.lock.now.name o (locked c.args.terminal c.args.lock.now.name (mode_of c.args.lock.now.mode) (view_of c.args.self.now))) before
+    ∙ ap (λ o. put_mode c.args.terminal c.args.lock.now.name o
+    (locked c.args.terminal c.args.lock.now.name (mode_of c.args.lock.now.mode) (view_of c.args.self.now))) before
     ∙ restored c.args.terminal c.args.lock.now.name (mode_of c.args.lock.now.mode) (view_of c.args.self.now)
 
 pub returns-in-Err-put-clause-full : goal.returns-in-Err-put-clause-full
 unfolding view_of view_from
 returns-in-Err-put-clause-full c = λ d found same.
-    let here = c.in-Err-put.ensures.full d (subst (λ ts. written c.args.write.now (rows ts) ≡ Some d) (sym c.in-Ok.ensures.tables) found) same in
+    let here = c.in-Err-put.ensures.full d
+    (subst (λ ts. written c.args.write.now (rows ts) ≡ Some d) (sym c.in-Ok.ensures.tables) found) same in
     subst (λ (v : View). IsFullFor v c.args.terminal d) c.in-Ok.ensures.locked here
 
 pub returns-in-Err-put-clause-wants : goal.returns-in-Err-put-clause-wants
 unfolding view_of view_from
 returns-in-Err-put-clause-wants c = λ held same.
-    subst (λ ts. WantsRow (written c.args.write.now (rows ts)) ts) c.in-Ok.ensures.tables (c.in-Err-put.ensures.wants same)
+    subst (λ ts. WantsRow (written c.args.write.now (rows ts)) ts) c.in-Ok.ensures.tables
+    (c.in-Err-put.ensures.wants same)

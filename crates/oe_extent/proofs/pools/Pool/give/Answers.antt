@@ -7,26 +7,36 @@ use Rattle.oe_extent.proofs.pools.Pool.give.Goals as goal
 
 pub invariant_of-self : goal.invariant_of-self
 invariant_of-self c =
-    let within = subst (λ (p : FreeExtents). number_of c.args.extent.value < length p.is_free) (sym c.self.view_is) c.requires in
-    IsPool-given c.self.inside.extents.items c.self.inside.free_count c.self.inside.cursor c.number-number.result c.index_mut.result.now
-    c.replace-before.new.self false c.self.invariant (omega (arith, within, c.number-number.ensures, ap number_of c.deref.ensures))
-    c.index_mut.ensures.value (ap is_some (sym c.replace-before.ensures.value) ∙ c.if-is_none.ensures) (ap is_some c.replace-before.ensures.after)
+    let within = subst (λ (p : FreeExtents). number_of c.args.extent.value < length p.is_free) (sym c.self.view_is)
+    c.requires in
+    IsPool-given c.self.inside.extents.items c.self.inside.free_count c.self.inside.cursor c.number-number.result
+    c.index_mut.result.now
+    c.replace-before.new.self false c.self.invariant
+    (omega (arith, within, c.number-number.ensures, ap number_of c.deref.ensures))
+    c.index_mut.ensures.value (ap is_some (sym c.replace-before.ensures.value) ∙ c.if-is_none.ensures)
+    (ap is_some c.replace-before.ensures.after)
 
 pub invariant_of-self-else-is_none : goal.invariant_of-self-else-is_none
 invariant_of-self-else-is_none c =
-    let within = subst (λ (p : FreeExtents). number_of c.args.extent.value < length p.is_free) (sym c.self.view_is) c.requires in
-    IsPool-given c.self.inside.extents.items c.self.inside.free_count c.self.inside.cursor c.number-number.result c.index_mut.result.now
-    c.replace-before.new.self true c.self.invariant (omega (arith, within, c.number-number.ensures, ap number_of c.deref.ensures))
-    c.index_mut.ensures.value (ap is_some (sym c.replace-before.ensures.value) ∙ c.if-is_none.ensures) (ap is_some c.replace-before.ensures.after)
+    let within = subst (λ (p : FreeExtents). number_of c.args.extent.value < length p.is_free) (sym c.self.view_is)
+    c.requires in
+    IsPool-given c.self.inside.extents.items c.self.inside.free_count c.self.inside.cursor c.number-number.result
+    c.index_mut.result.now
+    c.replace-before.new.self true c.self.invariant
+    (omega (arith, within, c.number-number.ensures, ap number_of c.deref.ensures))
+    c.index_mut.ensures.value (ap is_some (sym c.replace-before.ensures.value) ∙ c.if-is_none.ensures)
+    (ap is_some c.replace-before.ensures.after)
 
 pub returns-then-is_none : goal.returns-then-is_none
 returns-then-is_none c =
     rw (← c.self.view_is) (ap (λ (l : List Bool). record { is_free = l; cursor = c.self.inside.cursor })
-    (free_given c.self.inside.extents.items c.number-number.result (number_of c.args.extent.value) c.replace-before.new.self
+    (free_given c.self.inside.extents.items c.number-number.result (number_of c.args.extent.value)
+    c.replace-before.new.self
     (c.number-number.ensures ∙ ap number_of c.deref.ensures) (ap is_some c.replace-before.ensures.after)))
 
 pub returns : goal.returns
 returns c =
     rw (← c.self.view_is) (ap (λ (l : List Bool). record { is_free = l; cursor = c.self.inside.cursor })
-    (free_given c.self.inside.extents.items c.number-number.result (number_of c.args.extent.value) c.replace-before.new.self
+    (free_given c.self.inside.extents.items c.number-number.result (number_of c.args.extent.value)
+    c.replace-before.new.self
     (c.number-number.ensures ∙ ap number_of c.deref.ensures) (ap is_some c.replace-before.ensures.after)))

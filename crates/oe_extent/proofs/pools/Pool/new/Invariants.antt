@@ -3,4 +3,5 @@ use Rattle.std.proofs.Common.{◌≡◌, ◌≤◌, true, replicate, map, is_som
 use Rattle.oe_extent.proofs.pools.Pool.new.Given as goal
 
 abbrev pub invariant-loop-number : goal.invariant-loop-number
-invariant-loop-number l = record { free : map is_some l.extents.items ≡ replicate l.number true; room : l.count ≤ vec_capacity l.extents }
+invariant-loop-number l =
+    record { free : map is_some l.extents.items ≡ replicate l.number true; room : l.count ≤ vec_capacity l.extents }

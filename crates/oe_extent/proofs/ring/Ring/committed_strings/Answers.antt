@@ -8,4 +8,5 @@ pub returns : goal.returns
 returns c =
     let within = subst (λ (v : RingStrings). c.args.commit < length v.committed) (sym c.self.view_is) c.requires in
     rw (← c.self.view_is)
-    (c.strings.ensures ∙ strings_here c.self.inside.committed.items c.args.commit c.index.result.now within c.index.ensures)
+    (c.strings.ensures ∙ strings_here c.self.inside.committed.items c.args.commit c.index.result.now within
+    c.index.ensures)

@@ -13,7 +13,8 @@ pub invariant_of-self : goal.invariant_of-self
 invariant_of-self c =
     let now = last_gone c.self.inside.pool c.self.inside.active.items c.self.inside.committed.items
     (deque_capacity c.self.inside.committed - deque_len c.self.inside.committed) c.self.invariant
-    (deque_capacity c.pop_back-taken.new.self - deque_len c.pop_back-taken.new.self) c.in-Some.list c.pop_back-taken.new.self.items c.give_all.new.self
+    (deque_capacity c.pop_back-taken.new.self - deque_len c.pop_back-taken.new.self) c.in-Some.list
+    c.pop_back-taken.new.self.items c.give_all.new.self
     c.in-Some.ensures.items c.give_all.ensures in
     now.ring
 
@@ -21,6 +22,7 @@ pub returns-in-Some-clause-left : goal.returns-in-Some-clause-left
 returns-in-Some-clause-left c =
     let now = last_gone c.self.inside.pool c.self.inside.active.items c.self.inside.committed.items
     (deque_capacity c.self.inside.committed - deque_len c.self.inside.committed) c.self.invariant
-    (deque_capacity c.pop_back-taken.new.self - deque_len c.pop_back-taken.new.self) c.in-Some.list c.pop_back-taken.new.self.items c.give_all.new.self
+    (deque_capacity c.pop_back-taken.new.self - deque_len c.pop_back-taken.new.self) c.in-Some.list
+    c.pop_back-taken.new.self.items c.give_all.new.self
     c.in-Some.ensures.items c.give_all.ensures in
     rw (← c.self.view_is) now.view

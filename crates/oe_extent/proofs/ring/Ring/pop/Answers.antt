@@ -11,7 +11,8 @@ use Rattle.oe_extent.proofs.ring.Ring.pop.Goals as goal
 pub pop-emptied-requires : goal.pop-emptied-requires
 pop-emptied-requires c =
     let slot = subst (λ (v : RingStrings). c.args.slot < length v.active) (sym c.self.view_is) c.requires.slot in
-    let some = subst (λ (v : RingStrings). 0 < length (get_or v.active c.args.slot [])) (sym c.self.view_is) c.requires.some in
+    let some = subst (λ (v : RingStrings). 0 < length (get_or v.active c.args.slot [])) (sym c.self.view_is)
+    c.requires.some in
     some_there c.self.inside.pool c.self.inside.active.items c.self.inside.committed.items
     (deque_capacity c.self.inside.committed - deque_len c.self.inside.committed) c.args.slot c.self.invariant slot
     c.index_mut.result.now c.index_mut.ensures.value some
@@ -32,7 +33,8 @@ invariant_of-self c =
     (deque_capacity c.self.inside.committed - deque_len c.self.inside.committed) c.args.slot c.self.invariant slot
     c.index_mut.result.now c.pop-emptied.new.self (number_of c.in-Some.extent.value) c.index_mut.ensures.value
     c.in-Some.ensures.only c.in-Some.ensures.emptied in
-    subst (λ (f : FreeExtents). IsRing f.is_free (set c.self.inside.active.items c.args.slot c.pop-emptied.new.self) c.self.inside.committed.items)
+    subst (λ (f : FreeExtents). IsRing f.is_free (set c.self.inside.active.items c.args.slot c.pop-emptied.new.self)
+    c.self.inside.committed.items)
     (sym c.give.ensures) now.0.ring
 
 pub invariant_of-self-in_default : goal.invariant_of-self-in_default
@@ -51,7 +53,8 @@ returns-in-Some c =
     c.index_mut.result.now c.pop-emptied.new.self (number_of c.in-Some.extent.value) c.index_mut.ensures.value
     c.in-Some.ensures.only c.in-Some.ensures.emptied in
     let given = ap (λ (f : FreeExtents). shown f (set c.self.inside.active.items c.args.slot c.pop-emptied.new.self)
-    c.self.inside.committed.items (deque_capacity c.self.inside.committed - deque_len c.self.inside.committed)) c.give.ensures in
+    c.self.inside.committed.items (deque_capacity c.self.inside.committed - deque_len c.self.inside.committed))
+    c.give.ensures in
     rw (← c.self.view_is) (given ∙ now.0.view)
 
 pub returns-in_default : goal.returns-in_default

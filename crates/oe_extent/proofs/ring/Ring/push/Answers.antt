@@ -11,8 +11,10 @@ invariant_of-self g c =
     let slot = subst (λ (v : RingStrings). c.args.slot < length v.active) (sym c.self.view_is) c.requires.slot in
     let now = push_here c.self.inside.pool c.self.inside.active.items c.self.inside.committed.items
     (deque_capacity c.self.inside.committed - deque_len c.self.inside.committed) c.args.slot c.self.invariant slot
-    c.index.result.now c.index-then-size-rest.result.now c.index_mut.result.now c.push.new.self _ c.end-address.result c.size.result c.rest.result
-    c.index.ensures c.index-then-size-rest.ensures c.index_mut.ensures.value c.rest.ensures (omega (arith, c.if-size-rest.true))
+    c.index.result.now c.index-then-size-rest.result.now c.index_mut.result.now c.push.new.self _ c.end-address.result
+    c.size.result c.rest.result
+    c.index.ensures c.index-then-size-rest.ensures c.index_mut.ensures.value c.rest.ensures
+    (omega (arith, c.if-size-rest.true))
     c.size.ensures c.requires.framed.long c.end-address.ensures c.push.ensures in
     now.ring
 
@@ -21,8 +23,10 @@ returns-then-size-rest-clause-pushed g c =
     let slot = subst (λ (v : RingStrings). c.args.slot < length v.active) (sym c.self.view_is) c.requires.slot in
     let now = push_here c.self.inside.pool c.self.inside.active.items c.self.inside.committed.items
     (deque_capacity c.self.inside.committed - deque_len c.self.inside.committed) c.args.slot c.self.invariant slot
-    c.index.result.now c.index-then-size-rest.result.now c.index_mut.result.now c.push.new.self _ c.end-address.result c.size.result c.rest.result
-    c.index.ensures c.index-then-size-rest.ensures c.index_mut.ensures.value c.rest.ensures (omega (arith, c.if-size-rest.true))
+    c.index.result.now c.index-then-size-rest.result.now c.index_mut.result.now c.push.new.self _ c.end-address.result
+    c.size.result c.rest.result
+    c.index.ensures c.index-then-size-rest.ensures c.index_mut.ensures.value c.rest.ensures
+    (omega (arith, c.if-size-rest.true))
     c.size.ensures c.requires.framed.long c.end-address.ensures c.push.ensures in
     rw (← c.self.view_is) now.view
 
@@ -31,7 +35,8 @@ returns-then-size-rest-clause-full g c =
     let slot = subst (λ (v : RingStrings). c.args.slot < length v.active) (sym c.self.view_is) c.requires.slot in
     let fits = fits_here c.self.inside.pool c.self.inside.active.items c.self.inside.committed.items
     (deque_capacity c.self.inside.committed - deque_len c.self.inside.committed) c.args.slot c.self.invariant slot
-    c.index.result.now c.size.result c.rest.result c.index.ensures c.rest.ensures (omega (arith, c.if-size-rest.true)) in
+    c.index.result.now c.size.result c.rest.result c.index.ensures c.rest.ensures
+    (omega (arith, c.if-size-rest.true)) in
     rw (← c.self.view_is, ← c.size.ensures) (λ e. absurd cc, λ f. absurd (fits f))
 
 pub returns-in_default-clause-full : goal.returns-in_default-clause-full
@@ -39,7 +44,8 @@ returns-in_default-clause-full g c =
     let slot = subst (λ (v : RingStrings). c.args.slot < length v.active) (sym c.self.view_is) c.requires.slot in
     let full = is_full c.self.inside.pool c.self.inside.active.items c.self.inside.committed.items
     (deque_capacity c.self.inside.committed - deque_len c.self.inside.committed) c.args.slot c.self.invariant slot
-    c.index.result.now c.size.result c.rest.result c.index.ensures c.rest.ensures (omega (arith, c.if-size-rest.false)) c.in_default.ensures.none in
+    c.index.result.now c.size.result c.rest.result c.index.ensures c.rest.ensures (omega (arith, c.if-size-rest.false))
+    c.in_default.ensures.none in
     rw (← c.self.view_is, ← c.size.ensures) (λ e. full, λ f. refl)
 
 pub invariant_of-self-2 : goal.invariant_of-self-2
@@ -47,8 +53,10 @@ invariant_of-self-2 g c =
     let slot = subst (λ (v : RingStrings). c.args.slot < length v.active) (sym c.self.view_is) c.requires.slot in
     let now = push_other c.self.inside.pool c.self.inside.active.items c.self.inside.committed.items
     (deque_capacity c.self.inside.committed - deque_len c.self.inside.committed) c.args.slot c.self.invariant slot
-    c.index.result.now c.index_mut-2.result.now c.push_new.new.self _ c.size.result c.rest.result c.in-Some.number c.take.new.self
-    c.index.ensures c.index_mut-2.ensures.value c.rest.ensures (omega (arith, c.if-size-rest.false)) c.size.ensures c.requires.small
+    c.index.result.now c.index_mut-2.result.now c.push_new.new.self _ c.size.result c.rest.result c.in-Some.number
+    c.take.new.self
+    c.index.ensures c.index_mut-2.ensures.value c.rest.ensures (omega (arith, c.if-size-rest.false)) c.size.ensures
+    c.requires.small
     c.in-Some.ensures.next.is_free c.in-Some.ensures.taken c.push_new.ensures in
     now.ring
 
@@ -57,15 +65,18 @@ returns-clause-pushed g c =
     let slot = subst (λ (v : RingStrings). c.args.slot < length v.active) (sym c.self.view_is) c.requires.slot in
     let now = push_other c.self.inside.pool c.self.inside.active.items c.self.inside.committed.items
     (deque_capacity c.self.inside.committed - deque_len c.self.inside.committed) c.args.slot c.self.invariant slot
-    c.index.result.now c.index_mut-2.result.now c.push_new.new.self _ c.size.result c.rest.result c.in-Some.number c.take.new.self
-    c.index.ensures c.index_mut-2.ensures.value c.rest.ensures (omega (arith, c.if-size-rest.false)) c.size.ensures c.requires.small
+    c.index.result.now c.index_mut-2.result.now c.push_new.new.self _ c.size.result c.rest.result c.in-Some.number
+    c.take.new.self
+    c.index.ensures c.index_mut-2.ensures.value c.rest.ensures (omega (arith, c.if-size-rest.false)) c.size.ensures
+    c.requires.small
     c.in-Some.ensures.next.is_free c.in-Some.ensures.taken c.push_new.ensures in
     rw (← c.self.view_is) now.view
 
 pub returns-clause-full : goal.returns-clause-full
 returns-clause-full g c =
     let fits = not_full c.self.inside.pool c.self.inside.active.items c.self.inside.committed.items
-    (deque_capacity c.self.inside.committed - deque_len c.self.inside.committed) c.in-Some.number c.self.invariant c.in-Some.ensures.next.is_free in
+    (deque_capacity c.self.inside.committed - deque_len c.self.inside.committed) c.in-Some.number c.self.invariant
+    c.in-Some.ensures.next.is_free in
     rw (← c.self.view_is) (λ e. absurd cc, λ f. absurd (fits f.1))
 
 pub returns-then-size-rest-clause-fresh : goal.returns-then-size-rest-clause-fresh
@@ -101,13 +112,15 @@ returns-then-size-rest-clause-offset g c =
 pub returns-clause-fresh : goal.returns-clause-fresh
 returns-clause-fresh g c =
     let now = fresh_other c.self.inside.pool c.self.inside.active.items c.self.inside.committed.items
-    (deque_capacity c.self.inside.committed - deque_len c.self.inside.committed) c.in-Some.number c.self.invariant c.in-Some.ensures.next.is_free in
+    (deque_capacity c.self.inside.committed - deque_len c.self.inside.committed) c.in-Some.number c.self.invariant
+    c.in-Some.ensures.next.is_free in
     rw (← c.self.view_is) now.fresh
 
 pub returns-clause-extent : goal.returns-clause-extent
 returns-clause-extent g c =
     let now = fresh_other c.self.inside.pool c.self.inside.active.items c.self.inside.committed.items
-    (deque_capacity c.self.inside.committed - deque_len c.self.inside.committed) c.in-Some.number c.self.invariant c.in-Some.ensures.next.is_free in
+    (deque_capacity c.self.inside.committed - deque_len c.self.inside.committed) c.in-Some.number c.self.invariant
+    c.in-Some.ensures.next.is_free in
     rw (← c.self.view_is) now.extent
 
 pub returns-then-size-rest-clause-next : goal.returns-then-size-rest-clause-next
@@ -116,7 +129,8 @@ returns-then-size-rest-clause-next g c =
     let now = next_here c.self.inside.pool c.self.inside.active.items c.self.inside.committed.items
     (deque_capacity c.self.inside.committed - deque_len c.self.inside.committed) c.args.slot c.self.invariant slot
     c.index.result.now c.index-then-size-rest.result.now c.end-address.result c.size.result c.rest.result _
-    c.index.ensures c.index-then-size-rest.ensures c.rest.ensures (omega (arith, c.if-size-rest.true)) c.size.ensures c.end-address.ensures in
+    c.index.ensures c.index-then-size-rest.ensures c.rest.ensures (omega (arith, c.if-size-rest.true)) c.size.ensures
+    c.end-address.ensures in
     rw (← c.self.view_is) now
 
 pub returns-clause-next : goal.returns-clause-next

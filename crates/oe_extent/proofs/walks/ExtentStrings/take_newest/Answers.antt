@@ -18,17 +18,21 @@ last_size-requires c =
 pub overflow_sub-start : goal.overflow_sub-start
 overflow_sub-start c =
     let some : 0 < c.self.inside.count = omega (arith, c.if-self-eq0.false) in
-    (taken_off c.self.inside.count c.self.inside.bytes.now c.last_size.result c.self.invariant some c.last_size.ensures).fits
+    (taken_off c.self.inside.count c.self.inside.bytes.now c.last_size.result c.self.invariant some
+    c.last_size.ensures).fits
 
 pub invariant_of-self : goal.invariant_of-self
 invariant_of-self c =
     let some : 0 < c.self.inside.count = omega (arith, c.if-self-eq0.false) in
-    (taken_off c.self.inside.count c.self.inside.bytes.now c.last_size.result c.self.invariant some c.last_size.ensures).others
+    (taken_off c.self.inside.count c.self.inside.bytes.now c.last_size.result c.self.invariant some
+    c.last_size.ensures).others
 
 pub returns : goal.returns
 returns c =
     let some : 0 < c.self.inside.count = omega (arith, c.if-self-eq0.false) in
-    let t = taken_off c.self.inside.count c.self.inside.bytes.now c.last_size.result c.self.invariant some c.last_size.ensures in
+    let t = taken_off c.self.inside.count c.self.inside.bytes.now c.last_size.result c.self.invariant some
+    c.last_size.ensures in
     let start = length c.self.inside.bytes.now - c.last_size.result in
     sym c.self.view_is ∙ t.cuts
-    ∙ ap (λ (x : List ℕ). x ∷ cut (c.self.inside.count - 1) (take start c.self.inside.bytes.now)) (sym (take_rest c.self.inside.bytes.now start))
+    ∙ ap (λ (x : List ℕ). x ∷ cut (c.self.inside.count - 1) (take start c.self.inside.bytes.now))
+    (sym (take_rest c.self.inside.bytes.now start))

@@ -28,7 +28,8 @@ returns-in-Kept-clause-turn g c =
       e.hall.1,
       search rules,
       search rules,
-      subst (λ (t : ℕ). AdvanceTurn c.deref_mut.result.now t (ended.Kept c.in-Kept.refusal) c.advance.new.self) own e.turn,
+      subst (λ (t : ℕ). AdvanceTurn c.deref_mut.result.now t (ended.Kept c.in-Kept.refusal) c.advance.new.self) own
+          e.turn,
     )
 
 pub returns-in-Committed-clause-turn : goal.returns-in-Committed-clause-turn
@@ -42,7 +43,8 @@ returns-in-Committed-clause-turn g c =
       e.hall.1,
       search rules,
       search rules,
-      subst (λ (t : ℕ). AdvanceTurn c.deref_mut.result.now t (ended.Committed c.in-Committed.moment c.in-Committed.reply) c.advance.new.self) own e.turn,
+      subst (λ (t : ℕ). AdvanceTurn c.deref_mut.result.now t
+          (ended.Committed c.in-Committed.moment c.in-Committed.reply) c.advance.new.self) own e.turn,
     )
 
 pub returns-clause-turn : goal.returns-clause-turn
@@ -56,5 +58,6 @@ returns-clause-turn g c =
       e.hall.1,
       search rules,
       search rules,
-      subst (λ (t : ℕ). AdvanceTurn c.deref_mut.result.now t (ended.RolledBack c.in-RolledBack.refusal) c.advance.new.self) own e.turn,
+      subst (λ (t : ℕ). AdvanceTurn c.deref_mut.result.now t (ended.RolledBack c.in-RolledBack.refusal)
+          c.advance.new.self) own e.turn,
     )

@@ -12,7 +12,8 @@ returns-clause-turn g c =
       e.hall.1,
       search rules,
       search rules,
-      subst (λ (t : ℕ). BeginTurn c.deref_mut.result.now t c.args.request.now (Err c.in-Err.refusal) c.begin.new.self) own e.turn,
+      subst (λ (t : ℕ). BeginTurn c.deref_mut.result.now t c.args.request.now (Err c.in-Err.refusal) c.begin.new.self)
+          own e.turn,
     )
 
 pub returns-in-Ok-clause-turn : goal.returns-in-Ok-clause-turn

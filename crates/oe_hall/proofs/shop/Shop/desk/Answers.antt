@@ -7,5 +7,13 @@ pub invariant_of-self-2 : goal.invariant_of-self-2
 invariant_of-self-2 g c =
     let i = c.self.invariant in
     let t = c.take_seat.ensures in
-    let w = waiting_set c.self.inside.seats.items (c.get.result - 1) c.in-Some.seat (t.value ∙ ap Some c.in-Some.is) in
-    (i.0, search rules, rw t.after (fresh_set _ _ _ _ i.2), search rules, omega (arith, w, ap waiting t.after, i.4), search rules, i.6)
+    let seats = c.self.inside.seats.items in
+    let w = waiting_set seats (c.get.result - 1) c.in-Some.seat (t.value ∙ ap Some c.in-Some.is) in (
+      i.0,
+      search rules,
+      rw t.after (fresh_set _ _ _ _ i.2),
+      search rules,
+      omega (arith, w, ap waiting t.after, i.4),
+      search rules,
+      i.6,
+    )

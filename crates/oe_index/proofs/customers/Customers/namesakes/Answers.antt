@@ -8,6 +8,8 @@ use Rattle.oe_index.proofs.customers.Customers.namesakes.Goals as goal
 pub returns : goal.returns
 returns c =
     rw (← c.self.view_is) (by-flag (named_of c.args.district.now c.args.last.now) c.self.inside.is_listed _ _ _
-    (λ e. all-met c.args.district.now c.args.last.now _ c.self.inside.lists (iter_rest c.iter.result) (λ t k x at. c.self.invariant e k x at)
-    (c.iter.ensures.rest ∙ c.under.ensures.listed ∙ ap (λ n. get_or c.self.inside.lists n []) c.list_number-number.ensures.value) (rw c.iter.ensures.rest c.under.ensures.ordered))
+    (λ e. all-met c.args.district.now c.args.last.now _ c.self.inside.lists (iter_rest c.iter.result)
+    (λ t k x at. c.self.invariant e k x at)
+    (c.iter.ensures.rest ∙ c.under.ensures.listed ∙ ap (λ n. get_or c.self.inside.lists n [])
+    c.list_number-number.ensures.value) (rw c.iter.ensures.rest c.under.ensures.ordered))
     (rw c.self.view_is c.requires))

@@ -8,8 +8,10 @@ invariant_of-self c = listed-more list_of_name c.self.inside.is_listed _ _ _ c.l
 
 pub invariant_of-self-2 : goal.invariant_of-self-2
 invariant_of-self-2 c =
-    listed-put customer_total exact_customer list_of_name c.put_new.result c.self.inside.is_listed _ c.self.inside.rows c.put_new.new.self c.args.key c.args.row (λ on. c.in_default.ensures.listed)
-    (listed-more list_of_name c.self.inside.is_listed _ _ _ c.list.ensures.kept c.self.invariant) c.put_new.ensures.rows c.put_new.ensures.err
+    listed-put customer_total exact_customer list_of_name c.put_new.result c.self.inside.is_listed _ c.self.inside.rows
+    c.put_new.new.self c.args.key c.args.row (λ on. c.in_default.ensures.listed)
+    (listed-more list_of_name c.self.inside.is_listed _ _ _ c.list.ensures.kept c.self.invariant) c.put_new.ensures.rows
+    c.put_new.ensures.err
 
 pub returns-clause-ok : goal.returns-clause-ok
 returns-clause-ok c = rw (← c.self.view_is) c.put_new.ensures.ok

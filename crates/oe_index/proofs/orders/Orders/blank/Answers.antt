@@ -7,7 +7,9 @@ use Rattle.oe_index.proofs.orders.Orders.blank.Goals as goal
 
 pub invariant_of-self : goal.invariant_of-self
 invariant_of-self c =
-    rw c.blank.ensures.rows (listed-remove order_total list_of_owner c.self.inside.is_listed c.self.inside.lists (rows_of order_cmp c.self.inside.rows) c.args.key.now c.self.invariant)
+    rw c.blank.ensures.rows
+    (listed-remove order_total list_of_owner c.self.inside.is_listed c.self.inside.lists
+    (rows_of order_cmp c.self.inside.rows) c.args.key.now c.self.invariant)
 
 pub returns-clause-places : goal.returns-clause-places
 returns-clause-places c = rw (← c.self.view_is) c.blank.ensures.places

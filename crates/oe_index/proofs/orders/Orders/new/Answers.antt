@@ -6,4 +6,5 @@ use Rattle.oe_index.proofs.FoundFacts.{listed-none}
 use Rattle.oe_index.proofs.orders.Orders.new.Goals as goal
 
 pub invariant_of-result : goal.invariant_of-result
-invariant_of-result c = listed-none list_of_owner true c.new-2.result (rows_of order_cmp c.new.result) c.new.ensures.rows
+invariant_of-result c = listed-none list_of_owner true c.new-2.result (rows_of order_cmp c.new.result)
+    c.new.ensures.rows

@@ -10,15 +10,23 @@ use Rattle.oe_index.proofs.orders.Orders.set_carrier.Goals as goal
 abbrev set : goal.After-self-1 → Order → Order
 set c x = record x { carrier = Some c.args.carrier }
 
-rewritten : (c : goal.After-self-1) → RewritesRow order_cmp c.self.inside.rows (c.row_mut.follows.lender (set c c.unwrap-order.result.now)) c.args.key.now (set c c.unwrap-order.result.now)
-rewritten c = on_row c.row_mut.result c.unwrap-order.result c.unwrap-order.ensures (c.row_mut.follows.holds (set c c.unwrap-order.result.now))
+rewritten : (c : goal.After-self-1) → RewritesRow order_cmp c.self.inside.rows
+    (c.row_mut.follows.lender (set c c.unwrap-order.result.now)) c.args.key.now (set c c.unwrap-order.result.now)
+rewritten c = on_row c.row_mut.result c.unwrap-order.result c.unwrap-order.ensures
+    (c.row_mut.follows.holds (set c c.unwrap-order.result.now))
 
 pub invariant_of-self : goal.invariant_of-self
 invariant_of-self c =
-    rw ((rewritten c).rows) (listed-set order_total exact_order list_of_owner c.self.inside.is_listed c.self.inside.lists (rows_of order_cmp c.self.inside.rows) c.args.key.now c.unwrap-order.result.now (set c c.unwrap-order.result.now)
-    (row_was c.row_mut.result c.unwrap-order.result c.unwrap-order.ensures _ c.row_mut.ensures.row) refl c.self.invariant)
+    rw ((rewritten c).rows)
+    (listed-set order_total exact_order list_of_owner c.self.inside.is_listed c.self.inside.lists
+    (rows_of order_cmp c.self.inside.rows) c.args.key.now c.unwrap-order.result.now
+    (set c c.unwrap-order.result.now)
+    (row_was c.row_mut.result c.unwrap-order.result c.unwrap-order.ensures _ c.row_mut.ensures.row) refl
+    c.self.invariant)
 
 pub returns : goal.returns
 returns c =
-    rw (← c.self.view_is) (λ x at. subst (λ y. RewritesRow order_cmp c.self.inside.rows (c.row_mut.follows.lender (set c c.unwrap-order.result.now)) c.args.key.now (set c y))
+    rw (← c.self.view_is)
+    (λ x at. subst (λ y. RewritesRow order_cmp c.self.inside.rows
+    (c.row_mut.follows.lender (set c c.unwrap-order.result.now)) c.args.key.now (set c y))
     (same_row c.row_mut.result c.unwrap-order.result c.unwrap-order.ensures _ x c.row_mut.ensures.row at) (rewritten c))

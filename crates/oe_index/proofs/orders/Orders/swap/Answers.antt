@@ -8,8 +8,11 @@ use Rattle.oe_index.proofs.orders.Orders.swap.Goals as goal
 
 pub invariant_of-self : goal.invariant_of-self
 invariant_of-self c =
-    rw (c.swap.ensures.rows, c.are_both-self-inside.ensures) (listed-swap order_total exact_order list_of_owner c.self.inside.is_listed c.has_owner-stays.result c.self.inside.lists (rows_of order_cmp c.self.inside.rows) c.args.key.now c.args.row
-    (listed-owner c.self.inside.lists (rows_of order_cmp c.self.inside.rows) c.args.key.now c.args.row c.has_owner-stays.result (rw (← c.self.view_is) at c.has_owner-stays.ensures)) c.self.invariant)
+    rw (c.swap.ensures.rows, c.are_both-self-inside.ensures)
+    (listed-swap order_total exact_order list_of_owner c.self.inside.is_listed c.has_owner-stays.result
+    c.self.inside.lists (rows_of order_cmp c.self.inside.rows) c.args.key.now c.args.row
+    (listed-owner c.self.inside.lists (rows_of order_cmp c.self.inside.rows) c.args.key.now c.args.row
+    c.has_owner-stays.result (rw (← c.self.view_is) at c.has_owner-stays.ensures)) c.self.invariant)
 
 pub returns-clause-places : goal.returns-clause-places
 returns-clause-places c = rw (← c.self.view_is) c.swap.ensures.places

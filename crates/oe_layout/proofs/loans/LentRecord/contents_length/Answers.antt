@@ -1,50 +1,68 @@
 -- The key's length, and the row's, are sums of widths and of lengths of texts.
 use Rattle.oe_rows.specs.declared.keys.Key.TheVariants as key
 use Rattle.oe_rows.specs.declared.rows.Row.TheVariants as row
-use Rattle.oe_layout.proofs.LengthFacts.{key_alone, key_and_row, warehouse_long, district_long, customer_long, order_long, order_line_long, stock_long}
+use Rattle.oe_layout.proofs.LengthFacts.{key_alone, key_and_row, warehouse_long, district_long, customer_long}
+use Rattle.oe_layout.proofs.LengthFacts.{order_long, order_line_long, stock_long}
 use Rattle.oe_layout.proofs.loans.LentRecord.contents_length.Goals as goal
 
 pub returns-in-InsertedHistory-clause-sum : goal.returns-in-InsertedHistory-clause-sum
-returns-in-InsertedHistory-clause-sum c = rw c.in-InsertedHistory.is (key_alone (key.History c.in-InsertedHistory.key) _ c.length.ensures.value)
+returns-in-InsertedHistory-clause-sum c = rw c.in-InsertedHistory.is
+    (key_alone (key.History c.in-InsertedHistory.key) _ c.length.ensures.value)
 
 pub returns-in-InsertedNewOrder-clause-sum : goal.returns-in-InsertedNewOrder-clause-sum
-returns-in-InsertedNewOrder-clause-sum c = rw c.in-InsertedNewOrder.is (key_alone (key.NewOrder c.in-InsertedNewOrder.key) _ c.length-in-InsertedNewOrder.ensures.value)
+returns-in-InsertedNewOrder-clause-sum c = rw c.in-InsertedNewOrder.is
+    (key_alone (key.NewOrder c.in-InsertedNewOrder.key) _ c.length-in-InsertedNewOrder.ensures.value)
 
 pub returns-in-InsertedOrder-clause-sum : goal.returns-in-InsertedOrder-clause-sum
-returns-in-InsertedOrder-clause-sum c = rw c.in-InsertedOrder.is (key_alone (key.Order c.in-InsertedOrder.key) _ c.length-in-InsertedOrder.ensures.value)
+returns-in-InsertedOrder-clause-sum c = rw c.in-InsertedOrder.is
+    (key_alone (key.Order c.in-InsertedOrder.key) _ c.length-in-InsertedOrder.ensures.value)
 
 pub returns-in-InsertedOrderLine-clause-sum : goal.returns-in-InsertedOrderLine-clause-sum
-returns-in-InsertedOrderLine-clause-sum c = rw c.in-InsertedOrderLine.is (key_alone (key.OrderLine c.in-InsertedOrderLine.key) _ c.length-in-InsertedOrderLine.ensures.value)
+returns-in-InsertedOrderLine-clause-sum c = rw c.in-InsertedOrderLine.is
+    (key_alone (key.OrderLine c.in-InsertedOrderLine.key) _ c.length-in-InsertedOrderLine.ensures.value)
 
 pub returns-in-UpdatedWarehouse-clause-sum : goal.returns-in-UpdatedWarehouse-clause-sum
 returns-in-UpdatedWarehouse-clause-sum c =
     rw c.in-UpdatedWarehouse.is
-    (key_and_row (key.Warehouse c.in-UpdatedWarehouse.key) (row.Warehouse c.in-UpdatedWarehouse.row.now) _ _ (warehouse_long c.in-UpdatedWarehouse.row.now) c.length-in-UpdatedWarehouse.ensures.value c.length-in-UpdatedWarehouse-2.ensures.value)
+    (key_and_row (key.Warehouse c.in-UpdatedWarehouse.key) (row.Warehouse c.in-UpdatedWarehouse.row.now) _ _
+    (warehouse_long c.in-UpdatedWarehouse.row.now) c.length-in-UpdatedWarehouse.ensures.value
+    c.length-in-UpdatedWarehouse-2.ensures.value)
 
 pub returns-in-UpdatedDistrict-clause-sum : goal.returns-in-UpdatedDistrict-clause-sum
 returns-in-UpdatedDistrict-clause-sum c =
     rw c.in-UpdatedDistrict.is
-    (key_and_row (key.District c.in-UpdatedDistrict.key) (row.District c.in-UpdatedDistrict.row.now) _ _ (district_long c.in-UpdatedDistrict.row.now) c.length-in-UpdatedDistrict.ensures.value c.length-in-UpdatedDistrict-2.ensures.value)
+    (key_and_row (key.District c.in-UpdatedDistrict.key) (row.District c.in-UpdatedDistrict.row.now) _ _
+    (district_long c.in-UpdatedDistrict.row.now) c.length-in-UpdatedDistrict.ensures.value
+    c.length-in-UpdatedDistrict-2.ensures.value)
 
 pub returns-in-UpdatedCustomer-clause-sum : goal.returns-in-UpdatedCustomer-clause-sum
 returns-in-UpdatedCustomer-clause-sum c =
     rw c.in-UpdatedCustomer.is
-    (key_and_row (key.Customer c.in-UpdatedCustomer.key) (row.Customer c.in-UpdatedCustomer.row.now) _ _ (customer_long c.in-UpdatedCustomer.row.now) c.length-in-UpdatedCustomer.ensures.value c.length-in-UpdatedCustomer-2.ensures.value)
+    (key_and_row (key.Customer c.in-UpdatedCustomer.key) (row.Customer c.in-UpdatedCustomer.row.now) _ _
+    (customer_long c.in-UpdatedCustomer.row.now) c.length-in-UpdatedCustomer.ensures.value
+    c.length-in-UpdatedCustomer-2.ensures.value)
 
 pub returns-in-UpdatedOrder-clause-sum : goal.returns-in-UpdatedOrder-clause-sum
 returns-in-UpdatedOrder-clause-sum c =
     rw c.in-UpdatedOrder.is
-    (key_and_row (key.Order c.in-UpdatedOrder.key) (row.Order c.in-UpdatedOrder.row.now) _ _ (order_long c.in-UpdatedOrder.row.now) c.length-in-UpdatedOrder.ensures.value c.length-in-UpdatedOrder-2.ensures.value)
+    (key_and_row (key.Order c.in-UpdatedOrder.key) (row.Order c.in-UpdatedOrder.row.now) _ _
+    (order_long c.in-UpdatedOrder.row.now) c.length-in-UpdatedOrder.ensures.value
+    c.length-in-UpdatedOrder-2.ensures.value)
 
 pub returns-in-UpdatedOrderLine-clause-sum : goal.returns-in-UpdatedOrderLine-clause-sum
 returns-in-UpdatedOrderLine-clause-sum c =
     rw c.in-UpdatedOrderLine.is
-    (key_and_row (key.OrderLine c.in-UpdatedOrderLine.key) (row.OrderLine c.in-UpdatedOrderLine.row.now) _ _ (order_line_long c.in-UpdatedOrderLine.row.now) c.length-in-UpdatedOrderLine.ensures.value c.length-in-UpdatedOrderLine-2.ensures.value)
+    (key_and_row (key.OrderLine c.in-UpdatedOrderLine.key) (row.OrderLine c.in-UpdatedOrderLine.row.now) _ _
+    (order_line_long c.in-UpdatedOrderLine.row.now) c.length-in-UpdatedOrderLine.ensures.value
+    c.length-in-UpdatedOrderLine-2.ensures.value)
 
 pub returns-in-UpdatedStock-clause-sum : goal.returns-in-UpdatedStock-clause-sum
 returns-in-UpdatedStock-clause-sum c =
     rw c.in-UpdatedStock.is
-    (key_and_row (key.Stock c.in-UpdatedStock.key) (row.Stock c.in-UpdatedStock.row.now) _ _ (stock_long c.in-UpdatedStock.row.now c.figures-figures.ensures.ranges) c.length-in-UpdatedStock.ensures.value c.length-in-UpdatedStock-2.ensures.value)
+    (key_and_row (key.Stock c.in-UpdatedStock.key) (row.Stock c.in-UpdatedStock.row.now) _ _
+    (stock_long c.in-UpdatedStock.row.now c.figures-figures.ensures.ranges) c.length-in-UpdatedStock.ensures.value
+    c.length-in-UpdatedStock-2.ensures.value)
 
 pub returns-in-DeletedNewOrder-clause-sum : goal.returns-in-DeletedNewOrder-clause-sum
-returns-in-DeletedNewOrder-clause-sum c = rw c.in-DeletedNewOrder.is (key_alone (key.NewOrder c.in-DeletedNewOrder.key) _ c.length-in-DeletedNewOrder.ensures.value)
+returns-in-DeletedNewOrder-clause-sum c = rw c.in-DeletedNewOrder.is
+    (key_alone (key.NewOrder c.in-DeletedNewOrder.key) _ c.length-in-DeletedNewOrder.ensures.value)

@@ -5,7 +5,8 @@ use Rattle.oe_layout.proofs.loans.LinkedRecord.length.Goals as goal
 
 pub returns-clause-image : goal.returns-clause-image
 returns-clause-image c =
-    whole_length c.args.self.now.previous (record_of_lent c.args.self.now.record) c.contents_length.result c.contents_length.ensures.image
+    whole_length c.args.self.now.previous (record_of_lent c.args.self.now.record) c.contents_length.result
+    c.contents_length.ensures.image
 
 pub returns-clause-framed : goal.returns-clause-framed
 returns-clause-framed c =

@@ -14,8 +14,11 @@ returns c =
     let b = record_of_lent c.args.self.now.record in
     let between : Writes c.args.bytes.now (c.args.start + 2) (body_image p b) c.write-end.new.bytes c.write-end.result =
     subst
-    (λ (k : RecordKind). Writes c.args.bytes.now (c.args.start + 2) (kind_image k ++ (previous_image p ++ contents b)) c.write-end.new.bytes c.write-end.result)
+    (λ (k : RecordKind). Writes c.args.bytes.now (c.args.start + 2) (kind_image k ++ (previous_image p ++ contents b))
+    c.write-end.new.bytes c.write-end.result)
     c.kind.ensures c.write-end.ensures in
-    record_written c.args.bytes.now c.write-end.new.bytes c.write-middle.new.bytes c.write.new.bytes c.args.start c.write-middle.result
-    c.write-end.result c.write.result (c.write-end.result + 2 - c.args.start) p b (sym c.length-length.ensures.image ∙ c.length-length.ensures.sum)
+    record_written c.args.bytes.now c.write-end.new.bytes c.write-middle.new.bytes c.write.new.bytes c.args.start
+    c.write-middle.result
+    c.write-end.result c.write.result (c.write-end.result + 2 - c.args.start) p b
+    (sym c.length-length.ensures.image ∙ c.length-length.ensures.sum)
     c.requires refl between c.write-middle.ensures c.write.ensures

@@ -14,4 +14,5 @@ pub returns : goal.returns
 returns c =
     let k = kind_there c.self.inside.bytes.now c.self.invariant in
     rw (← c.self.view_is)
-    (seen_first c.read_kind.result c.unwrap.result (kind_of (told c.self.inside.bytes.now)) k.0 c.unwrap.ensures (c.read_kind.ensures ∙ k.1))
+    (seen_first c.read_kind.result c.unwrap.result (kind_of (told c.self.inside.bytes.now)) k.0 c.unwrap.ensures
+    (c.read_kind.ensures ∙ k.1))

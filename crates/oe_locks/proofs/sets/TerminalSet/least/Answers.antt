@@ -6,4 +6,5 @@ pub returns : goal.returns
 returns c =
     let some : 0 < c.self.inside.bits = omega arith in
     let fits : c.self.inside.bits < 2 ^ 64 = omega arith in
-    rw (← c.self.view_is) (least_is c.self.inside.bits _ c.new.result some fits refl c.new.ensures.variant c.new.ensures.value)
+    rw (← c.self.view_is)
+    (least_is c.self.inside.bits _ c.new.result some fits refl c.new.ensures.variant c.new.ensures.value)

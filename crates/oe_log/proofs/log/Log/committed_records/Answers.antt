@@ -12,7 +12,8 @@ use Rattle.oe_log.proofs.log.Log.committed_records.Goals as goal
 
 pub committed_strings-strings-requires : goal.committed_strings-strings-requires
 committed_strings-strings-requires c =
-    commit_there c.self.invariant c.args.later (subst (λ (v : SegmentLog). c.args.later < length v.committed) (sym c.self.view_is) c.requires)
+    commit_there c.self.invariant c.args.later
+    (subst (λ (v : SegmentLog). c.args.later < length v.committed) (sym c.self.view_is) c.requires)
 
 pub invariant_of-result : goal.invariant_of-result
 invariant_of-result c =
@@ -22,5 +23,7 @@ invariant_of-result c =
 pub returns : goal.returns
 returns c =
     rw (← c.self.view_is)
-    (ap (λ (l : List (List ℕ)). map told l) c.committed_strings-strings.ensures ∙ told_here c.self.inside.ring.committed c.args.later c.self.invariant.lie.committed_are
-    ∙ ap (λ (rss : List (List Logged)). model_records (get_or rss c.args.later [])) (sym (seen_committed (inside c.self.invariant))))
+    (ap (λ (l : List (List ℕ)). map told l) c.committed_strings-strings.ensures
+    ∙ told_here c.self.inside.ring.committed c.args.later c.self.invariant.lie.committed_are
+    ∙ ap (λ (rss : List (List Logged)). model_records (get_or rss c.args.later []))
+    (sym (seen_committed (inside c.self.invariant))))

@@ -10,7 +10,8 @@ none_deleted : (bs : List Record) → DeletesNothing bs → deleted_keys bs ≡ 
 none_deleted [] h = refl
 none_deleted (b ∷ bs) h = ap (λ o. cons_option o (deleted_keys bs)) h.0 ∙ none_deleted bs h.1
 
-all_or_none : (has : Bool) (bs : List Record) → (has ≡ false → DeletesNothing bs) → cond has (deleted_keys bs) [] ≡ deleted_keys bs
+all_or_none : (has : Bool) (bs : List Record) → (has ≡ false → DeletesNothing bs)
+    → cond has (deleted_keys bs) [] ≡ deleted_keys bs
 all_or_none true bs h = refl
 all_or_none false bs h = sym (none_deleted bs (h refl))
 

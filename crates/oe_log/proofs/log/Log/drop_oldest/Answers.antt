@@ -10,7 +10,8 @@ use Rattle.oe_log.proofs.log.Log.drop_oldest.Goals as goal
 
 pub returns-clause-oldest : goal.returns-clause-oldest
 returns-clause-oldest c =
-    let found = last_found c.self.inside.commits.items _ c.pop_back.result c.self.inside.commits.ok.0 c.pop_back.ensures.variant.0 c.pop_back.ensures.value in
+    let found = last_found c.self.inside.commits.items _ c.pop_back.result c.self.inside.commits.ok.0
+    c.pop_back.ensures.variant.0 c.pop_back.ensures.value in
     let told : c.match-pop_back.result ≡ option_map head_owner c.pop_back.result =
     elim c.match-pop_back.branch [
       | in-Some w ↦ w.result-is ∙ ap Some w.owner.ensures ∙ ap (option_map head_owner) (sym w.in-Some.is)
@@ -20,11 +21,15 @@ returns-clause-oldest c =
 
 pub invariant_of-self : goal.invariant_of-self
 invariant_of-self c =
-    (cut c.self.invariant (length c.self.inside.commits.items) c.drop_oldest.new.self.room (deque_capacity c.pop_back.new.self) c.pop_back.new.self.items c.drop_oldest.new.self
-    refl (c.pop_back.ensures.rest ∙ ap (λ n. take (n - 1) c.self.inside.commits.items) c.self.inside.commits.ok.0) c.pop_back.ensures.capacity c.drop_oldest.ensures.left c.drop_oldest.ensures.room).kept
+    (cut c.self.invariant (length c.self.inside.commits.items) c.drop_oldest.new.self.room
+    (deque_capacity c.pop_back.new.self) c.pop_back.new.self.items c.drop_oldest.new.self
+    refl (c.pop_back.ensures.rest ∙ ap (λ n. take (n - 1) c.self.inside.commits.items) c.self.inside.commits.ok.0)
+    c.pop_back.ensures.capacity c.drop_oldest.ensures.left c.drop_oldest.ensures.room).kept
 
 pub returns-clause-dropped : goal.returns-clause-dropped
 returns-clause-dropped c =
     rw (← c.self.view_is)
-    ((cut c.self.invariant (length c.self.inside.commits.items) c.drop_oldest.new.self.room (deque_capacity c.pop_back.new.self) c.pop_back.new.self.items c.drop_oldest.new.self
-    refl (c.pop_back.ensures.rest ∙ ap (λ n. take (n - 1) c.self.inside.commits.items) c.self.inside.commits.ok.0) c.pop_back.ensures.capacity c.drop_oldest.ensures.left c.drop_oldest.ensures.room).view)
+    ((cut c.self.invariant (length c.self.inside.commits.items) c.drop_oldest.new.self.room
+    (deque_capacity c.pop_back.new.self) c.pop_back.new.self.items c.drop_oldest.new.self
+    refl (c.pop_back.ensures.rest ∙ ap (λ n. take (n - 1) c.self.inside.commits.items) c.self.inside.commits.ok.0)
+    c.pop_back.ensures.capacity c.drop_oldest.ensures.left c.drop_oldest.ensures.room).view)

@@ -14,7 +14,8 @@ invariant_of-self c =
     let some = rw (← c.self.view_is) at c.requires.open in
     let empty = rw (← c.self.view_is) at c.requires.empty in
     (dropped c.self.invariant c.terminal.result c.args.segment c.at_mut-state.result.now _
-    c.terminal.ensures c.at_mut-state.ensures.low c.at_mut-state.ensures.high c.at_mut-state.ensures.value some empty refl).kept
+    c.terminal.ensures c.at_mut-state.ensures.low c.at_mut-state.ensures.high c.at_mut-state.ensures.value some empty
+    refl).kept
 
 pub returns : goal.returns
 returns c =
@@ -22,4 +23,5 @@ returns c =
     let empty = rw (← c.self.view_is) at c.requires.empty in
     rw (← c.self.view_is)
     ((dropped c.self.invariant c.terminal.result c.args.segment c.at_mut-state.result.now _
-    c.terminal.ensures c.at_mut-state.ensures.low c.at_mut-state.ensures.high c.at_mut-state.ensures.value some empty refl).view)
+    c.terminal.ensures c.at_mut-state.ensures.low c.at_mut-state.ensures.high c.at_mut-state.ensures.value some empty
+    refl).view)

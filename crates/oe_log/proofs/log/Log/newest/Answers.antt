@@ -12,4 +12,5 @@ pub returns-clause-moment : goal.returns-clause-moment
 returns-clause-moment c =
     rw (← c.self.view_is)
     (sym (total_is (inside c.self.invariant))
-    ∙ sym (totals (stored c.self.inside.terminals c.self.inside.commits.items c.self.inside.ring) (seen_size (inside c.self.invariant))))
+    ∙ sym (totals (stored c.self.inside.terminals c.self.inside.commits.items c.self.inside.ring)
+    (seen_size (inside c.self.invariant))))

@@ -12,4 +12,5 @@ pub returns-clause-slots : goal.returns-clause-slots
 returns-clause-slots c =
     rw (← c.self.view_is) (λ slots same.
     sym (opens_is (inside c.self.invariant))
-    ∙ sym (slots_counted (stored c.self.inside.terminals c.self.inside.commits.items c.self.inside.ring) slots (seen_size (inside c.self.invariant)) same))
+    ∙ sym (slots_counted (stored c.self.inside.terminals c.self.inside.commits.items c.self.inside.ring) slots
+    (seen_size (inside c.self.invariant)) same))

@@ -13,34 +13,51 @@ reopen_newest-requires-clause-empty c =
     strings_none c.self.invariant c.get-slot.result (none c.get-slot.result)
 
 pub reopen_newest-requires-clause-some : goal.reopen_newest-requires-clause-some
-reopen_newest-requires-clause-some c = some_strings c.self.invariant c.in-Some.head c.pop_front.new.self.items c.in-Some.ensures.items
+reopen_newest-requires-clause-some c = some_strings c.self.invariant c.in-Some.head c.pop_front.new.self.items
+    c.in-Some.ensures.items
 
 pub overflow_add-self : goal.overflow_add-self
 overflow_add-self c =
     let none = rw (← c.self.view_is) at c.requires in
-    omega (arith, few_opens (inside c.self.invariant) c.get-slot.result c.get-slot.result refl c.get-slot.ensures.low (omega (arith, c.get-slot.ensures.high)) (none c.get-slot.result))
+    omega (
+      arith,
+      few_opens (inside c.self.invariant) c.get-slot.result c.get-slot.result refl c.get-slot.ensures.low
+          (omega (arith, c.get-slot.ensures.high)) (none c.get-slot.result),
+    )
 
 pub invariant_of-self-2 : goal.invariant_of-self-2
 invariant_of-self-2 c =
     let none = rw (← c.self.view_is) at c.requires in
-    let closed = none_open (inside c.self.invariant) c.owner-owner.result.terminal (none c.owner-owner.result.terminal) in
+    let closed = none_open (inside c.self.invariant) c.owner-owner.result.terminal
+    (none c.owner-owner.result.terminal) in
     let moment : c.unwrap-self-inside.result ≡ c.self.inside.newest - 1 = search rules in
-    (reopened c.self.invariant _ c.pop_front.new.self.items c.in-Some.head (deque_capacity c.pop_front.new.self) c.reopen_newest.new.self.room c.unwrap-self-inside.result (c.self.inside.open_count + 1)
-    c.owner-owner.result.terminal c.owner-owner.result.terminal c.len-state.result c.at_mut-state.result.now c.may_delete-state.result c.owner-owner.result c.reopen_newest.new.self
+    (reopened c.self.invariant _ c.pop_front.new.self.items c.in-Some.head (deque_capacity c.pop_front.new.self)
+    c.reopen_newest.new.self.room c.unwrap-self-inside.result (c.self.inside.open_count + 1)
+    c.owner-owner.result.terminal c.owner-owner.result.terminal c.len-state.result c.at_mut-state.result.now
+    c.may_delete-state.result c.owner-owner.result c.reopen_newest.new.self
     c.in-Some.ensures.items c.pop_front.ensures.capacity refl c.at_mut-state.ensures.low c.at_mut-state.ensures.high
-    (ap (λ z. z.terminal) (sym c.owner-owner.ensures)) c.at_mut-state.ensures.value closed c.owner-owner.ensures c.may_delete-state.ensures c.len-state.ensures refl
-    (c.reopen_newest.ensures.reopened ∙ ap (λ t. record (ring.reopened_at c.self.inside.ring t) { room = c.reopen_newest.new.self.room }) c.get-slot.ensures.value)
+    (ap (λ z. z.terminal) (sym c.owner-owner.ensures)) c.at_mut-state.ensures.value closed c.owner-owner.ensures
+    c.may_delete-state.ensures c.len-state.ensures refl
+    (c.reopen_newest.ensures.reopened
+    ∙ ap (λ t. record (ring.reopened_at c.self.inside.ring t) { room = c.reopen_newest.new.self.room })
+    c.get-slot.ensures.value)
     c.reopen_newest.ensures.room moment refl).kept
 
 pub returns-clause-reopened : goal.returns-clause-reopened
 returns-clause-reopened c =
     let none = rw (← c.self.view_is) at c.requires in
-    let closed = none_open (inside c.self.invariant) c.owner-owner.result.terminal (none c.owner-owner.result.terminal) in
+    let closed = none_open (inside c.self.invariant) c.owner-owner.result.terminal
+    (none c.owner-owner.result.terminal) in
     let moment : c.unwrap-self-inside.result ≡ c.self.inside.newest - 1 = search rules in
-    (reopened c.self.invariant _ c.pop_front.new.self.items c.in-Some.head (deque_capacity c.pop_front.new.self) c.reopen_newest.new.self.room c.unwrap-self-inside.result (c.self.inside.open_count + 1)
-    c.owner-owner.result.terminal c.owner-owner.result.terminal c.len-state.result c.at_mut-state.result.now c.may_delete-state.result c.owner-owner.result c.reopen_newest.new.self
+    (reopened c.self.invariant _ c.pop_front.new.self.items c.in-Some.head (deque_capacity c.pop_front.new.self)
+    c.reopen_newest.new.self.room c.unwrap-self-inside.result (c.self.inside.open_count + 1)
+    c.owner-owner.result.terminal c.owner-owner.result.terminal c.len-state.result c.at_mut-state.result.now
+    c.may_delete-state.result c.owner-owner.result c.reopen_newest.new.self
     c.in-Some.ensures.items c.pop_front.ensures.capacity refl c.at_mut-state.ensures.low c.at_mut-state.ensures.high
-    (ap (λ z. z.terminal) (sym c.owner-owner.ensures)) c.at_mut-state.ensures.value closed c.owner-owner.ensures c.may_delete-state.ensures c.len-state.ensures refl
-    (c.reopen_newest.ensures.reopened ∙ ap (λ t. record (ring.reopened_at c.self.inside.ring t) { room = c.reopen_newest.new.self.room }) c.get-slot.ensures.value)
+    (ap (λ z. z.terminal) (sym c.owner-owner.ensures)) c.at_mut-state.ensures.value closed c.owner-owner.ensures
+    c.may_delete-state.ensures c.len-state.ensures refl
+    (c.reopen_newest.ensures.reopened
+    ∙ ap (λ t. record (ring.reopened_at c.self.inside.ring t) { room = c.reopen_newest.new.self.room })
+    c.get-slot.ensures.value)
     c.reopen_newest.ensures.room moment refl).view
     ∙ ap (λ (v : SegmentLog). seen.reopened v v.committed) c.self.view_is

@@ -13,12 +13,14 @@ unwrap-moment-requires c =
 pub unreachable-requires : goal.unreachable-requires
 unreachable-requires c =
     let some = rw (← c.self.view_is) at c.requires in
-    never_none (inside c.self.invariant) c.terminal-terminal.result c.args.segment c.at_mut-state.result.now c.terminal-terminal.ensures c.at_mut-state.ensures.high
+    never_none (inside c.self.invariant) c.terminal-terminal.result c.args.segment c.at_mut-state.result.now
+    c.terminal-terminal.ensures c.at_mut-state.ensures.high
     c.at_mut-state.ensures.value some (sym c.take.ensures.value ∙ c.in_default.is)
 
 pub overflow_add-state : goal.overflow_add-state
 overflow_add-state c =
-    let below = below_open (inside c.self.invariant) c.terminal-terminal.result c.at_mut-state.result.now c.in-Some.owner c.at_mut-state.ensures.high c.at_mut-state.ensures.value
+    let below = below_open (inside c.self.invariant) c.terminal-terminal.result c.at_mut-state.result.now
+    c.in-Some.owner c.at_mut-state.ensures.high c.at_mut-state.ensures.value
     (sym c.take.ensures.value ∙ c.in-Some.is) in
     omega arith
 
@@ -31,14 +33,25 @@ pub invariant_of-self : goal.invariant_of-self
 invariant_of-self c =
     let moment : c.unwrap-moment.result ≡ c.self.inside.newest + 1 = search rules in
     let some = rw (← c.self.view_is) at c.requires in
-    (sealed c.self.invariant c.terminal-terminal.result c.args.segment (c.at_mut-state.result.now.count + 1) c.replace-len.new.dest c.unwrap-moment.result (c.self.inside.open_count - 1) c.seal.new.self.room
+    (sealed c.self.invariant c.terminal-terminal.result c.args.segment (c.at_mut-state.result.now.count + 1)
+    c.replace-len.new.dest c.unwrap-moment.result (c.self.inside.open_count - 1) c.seal.new.self.room
     c.at_mut-state.result.now c.in-Some.owner c.take.new.self
-    (record { terminal = c.in-Some.owner.terminal; number = c.in-Some.owner.number; deletes = c.at_mut-state.result.now.deletes; len = c.replace-len.result; request = c.args.request.value; reply = c.args.reply.value })
+    (record {
+      terminal = c.in-Some.owner.terminal;
+      number = c.in-Some.owner.number;
+      deletes = c.at_mut-state.result.now.deletes;
+      len = c.replace-len.result;
+      request = c.args.request.value;
+      reply =
+          c.args.reply.value;
+    })
     (deque_capacity c.push_front_reserved.new.self) _ c.push_front_reserved.new.self.items c.seal.new.self
-    c.terminal-terminal.ensures c.at_mut-state.ensures.low c.at_mut-state.ensures.high c.at_mut-state.ensures.value (sym c.take.ensures.value ∙ c.in-Some.is)
+    c.terminal-terminal.ensures c.at_mut-state.ensures.low c.at_mut-state.ensures.high c.at_mut-state.ensures.value
+    (sym c.take.ensures.value ∙ c.in-Some.is)
     c.take.ensures.after refl refl refl refl c.replace-len.ensures.value
     refl c.replace-len.ensures.after c.push_front_reserved.ensures.items c.push_front_reserved.ensures.capacity
-    (c.seal.ensures.sealed ∙ ap (λ t. record (ring.sealed_at c.self.inside.ring t) { room = c.seal.new.self.room }) c.get-slot.ensures.value)
+    (c.seal.ensures.sealed ∙ ap (λ t. record (ring.sealed_at c.self.inside.ring t) { room = c.seal.new.self.room })
+    c.get-slot.ensures.value)
     c.seal.ensures.room moment refl (some_opens (inside c.self.invariant) c.args.segment some)).kept
 
 pub returns-clause-sealed : goal.returns-clause-sealed
@@ -46,14 +59,25 @@ returns-clause-sealed c =
     let moment : c.unwrap-moment.result ≡ c.self.inside.newest + 1 = search rules in
     let some = rw (← c.self.view_is) at c.requires in
     rw (← c.self.view_is)
-    ((sealed c.self.invariant c.terminal-terminal.result c.args.segment (c.at_mut-state.result.now.count + 1) c.replace-len.new.dest c.unwrap-moment.result (c.self.inside.open_count - 1) c.seal.new.self.room
+    ((sealed c.self.invariant c.terminal-terminal.result c.args.segment (c.at_mut-state.result.now.count + 1)
+    c.replace-len.new.dest c.unwrap-moment.result (c.self.inside.open_count - 1) c.seal.new.self.room
     c.at_mut-state.result.now c.in-Some.owner c.take.new.self
-    (record { terminal = c.in-Some.owner.terminal; number = c.in-Some.owner.number; deletes = c.at_mut-state.result.now.deletes; len = c.replace-len.result; request = c.args.request.value; reply = c.args.reply.value })
+    (record {
+      terminal = c.in-Some.owner.terminal;
+      number = c.in-Some.owner.number;
+      deletes = c.at_mut-state.result.now.deletes;
+      len = c.replace-len.result;
+      request = c.args.request.value;
+      reply =
+          c.args.reply.value;
+    })
     (deque_capacity c.push_front_reserved.new.self) _ c.push_front_reserved.new.self.items c.seal.new.self
-    c.terminal-terminal.ensures c.at_mut-state.ensures.low c.at_mut-state.ensures.high c.at_mut-state.ensures.value (sym c.take.ensures.value ∙ c.in-Some.is)
+    c.terminal-terminal.ensures c.at_mut-state.ensures.low c.at_mut-state.ensures.high c.at_mut-state.ensures.value
+    (sym c.take.ensures.value ∙ c.in-Some.is)
     c.take.ensures.after refl refl refl refl c.replace-len.ensures.value
     refl c.replace-len.ensures.after c.push_front_reserved.ensures.items c.push_front_reserved.ensures.capacity
-    (c.seal.ensures.sealed ∙ ap (λ t. record (ring.sealed_at c.self.inside.ring t) { room = c.seal.new.self.room }) c.get-slot.ensures.value)
+    (c.seal.ensures.sealed ∙ ap (λ t. record (ring.sealed_at c.self.inside.ring t) { room = c.seal.new.self.room })
+    c.get-slot.ensures.value)
     c.seal.ensures.room moment refl (some_opens (inside c.self.invariant) c.args.segment some)).view)
 
 pub returns-clause-moment : goal.returns-clause-moment

@@ -4,8 +4,12 @@ use Rattle.oe_moments.proofs.words.Moments.find.Goals as goal
 
 pub load-found-requires : goal.load-found-requires
 load-found-requires c =
-    let lt : c.get.result - 1 < c.self.inside.table.shared.key = search rules in
-    (search rules, search rules, finds_pin _ _ _ _ c.keeper.inside.knows (c.get.result - 1) _ c.keeper.invariant lt refl)
+    let lt : c.get.result - 1 < c.self.inside.table.shared.key = search rules in (
+      search rules,
+      search rules,
+      finds_pin _ _ _ _ c.keeper.inside.knows (c.get.result - 1) _ c.keeper.invariant lt
+          refl,
+    )
 
 pub returns-clause-ok : goal.returns-clause-ok
 returns-clause-ok c =

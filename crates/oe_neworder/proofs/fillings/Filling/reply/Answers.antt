@@ -5,7 +5,8 @@ use Rattle.oe_neworder.proofs.LineFacts.{reply_before, end_at}
 use Rattle.oe_neworder.proofs.fillings.Filling.reply.Goals as goal
 
 pub returns-in-Some : goal.returns-in-Some
-returns-in-Some c = sym (reply_before c.args.request.now c.args.self.now c.in-Some.field-0 (sym c.in-Some.ensures.value))
+returns-in-Some c = sym
+    (reply_before c.args.request.now c.args.self.now c.in-Some.field-0 (sym c.in-Some.ensures.value))
 
 pub returns-in-None : goal.returns-in-None
 returns-in-None c =

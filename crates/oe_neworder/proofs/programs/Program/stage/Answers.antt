@@ -10,4 +10,5 @@ use Rattle.oe_neworder.proofs.programs.Program.stage.Goals as goal
 pub insert_new_order-requires : goal.insert_new_order-requires
 insert_new_order-requires c = λ o.
     order_at_queue (view_of c.args.engine.now) c.args.tx.now.terminal c.args.request.now (seen_by c.in-Queue.seen)
-    (subst (λ p. HoldsAll (view_of c.args.engine.now) c.args.tx.now.terminal (new_order_taken c.args.request.now (position_of c.args.request.now p))) c.in-Queue.is c.requires.held)
+    (subst (λ p. HoldsAll (view_of c.args.engine.now) c.args.tx.now.terminal
+    (new_order_taken c.args.request.now (position_of c.args.request.now p))) c.in-Queue.is c.requires.held)

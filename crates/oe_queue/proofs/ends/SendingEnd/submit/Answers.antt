@@ -13,4 +13,5 @@ pub returns-clause-ok : goal.returns-clause-ok
 returns-clause-ok g c =
     let after = c.send_as.ensures.channel.0 in
     let before = c.self.invariant.0 in
-    sent_more c.args.self.now _ _ _ _ c.self.inside.terminal _ _ c.args.message c.self.view_is (after.0 ∙ sym before.0) (after.1 ∙ sym before.1) (ap sent_in (c.in_default.ensures.rule _ c.self.invariant.1))
+    sent_more c.args.self.now _ _ _ _ c.self.inside.terminal _ _ c.args.message c.self.view_is (after.0 ∙ sym before.0)
+    (after.1 ∙ sym before.1) (ap sent_in (c.in_default.ensures.rule _ c.self.invariant.1))

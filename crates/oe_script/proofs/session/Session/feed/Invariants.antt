@@ -8,8 +8,10 @@ abbrev pub invariant-loop-n : goal.invariant-loop-n
 invariant-loop-n g l = record {
   taken : (front : List ℕ) × (front ++ l.rest ≡ l.piece) × (l.self.count ≤ l.initial.self.count + length front)
       × ((start : Option Sink) (input : List ℕ) →
-      Standing start input (g.W.Outlet.sink l.initial.to) l.initial.self.out.items (state_of l.initial.self.core) l.initial.self.count l.initial.self.line.items l.initial.self.over →
-      Standing start (input ++ front) (g.W.Outlet.sink l.to) l.self.out.items (state_of l.self.core) l.self.count l.self.line.items l.self.over);
+      Standing start input (g.W.Outlet.sink l.initial.to) l.initial.self.out.items (state_of l.initial.self.core)
+      l.initial.self.count l.initial.self.line.items l.initial.self.over →
+      Standing start (input ++ front) (g.W.Outlet.sink l.to) l.self.out.items (state_of l.self.core) l.self.count
+      l.self.line.items l.self.over);
   live : IsLive (state_of l.self.core);
 }
 

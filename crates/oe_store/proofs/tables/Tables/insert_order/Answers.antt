@@ -10,7 +10,10 @@ pub invariant_of-self : goal.invariant_of-self
 invariant_of-self c =
     let accepts = rw (← c.self.view_is) at c.requires in
     let number : IsInRange 1 10_000_000 c.args.key.order = search rules in
-    by_result c.put_new.result (λ e. rw e (sound_changed (InsertOrder c.args.key c.args.row) _ accepts number c.self.invariant)) (λ e. rw e c.self.invariant) c.put_new.ensures.rows c.put_new.ensures.err
+    by_result c.put_new.result
+    (λ e. rw e (sound_changed (InsertOrder c.args.key c.args.row) _ accepts number c.self.invariant))
+    (λ e. rw e c.self.invariant) c.put_new.ensures.rows c.put_new.ensures.err
 
 pub returns-clause-place : goal.returns-clause-place
-returns-clause-place c = rw (← c.self.view_is) (on_ok_weaker c.put_new.result (added_order _ _ c.args.key (Some c.args.row)) c.put_new.ensures.ok)
+returns-clause-place c = rw (← c.self.view_is)
+    (on_ok_weaker c.put_new.result (added_order _ _ c.args.key (Some c.args.row)) c.put_new.ensures.ok)

@@ -11,7 +11,11 @@ pub invariant_of-self : goal.invariant_of-self
 invariant_of-self c =
     let accepts = rw (← c.self.view_is) at c.requires in
     let number : IsInRange 1 15 c.args.key.number = search rules in
-    by_result c.put_new.result (λ e. rw e (sound_changed (InsertOrderLine c.args.key c.args.row) _ accepts (order_numbered _ (order_of_line c.args.key) c.self.invariant accepts.1, number) c.self.invariant)) (λ e. rw e c.self.invariant) c.put_new.ensures.rows c.put_new.ensures.err
+    by_result c.put_new.result
+    (λ e. rw e (sound_changed (InsertOrderLine c.args.key c.args.row) _ accepts
+    (order_numbered _ (order_of_line c.args.key) c.self.invariant accepts.1, number) c.self.invariant)) (λ e. rw e
+    c.self.invariant) c.put_new.ensures.rows c.put_new.ensures.err
 
 pub returns-clause-place : goal.returns-clause-place
-returns-clause-place c = rw (← c.self.view_is) (on_ok_weaker c.put_new.result (added_order_line _ _ c.args.key (Some c.args.row)) c.put_new.ensures.ok)
+returns-clause-place c = rw (← c.self.view_is)
+    (on_ok_weaker c.put_new.result (added_order_line _ _ c.args.key (Some c.args.row)) c.put_new.ensures.ok)

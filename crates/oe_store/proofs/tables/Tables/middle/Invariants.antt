@@ -9,5 +9,6 @@ abbrev pub invariant-loop-key : goal.invariant-loop-key
 invariant-loop-key l =
     middle (namesakes l.district l.last (rows l.self).customers)
     ≡ option_map (λ x. x.1)
-    (find (λ x. count_by (λ y. comes_before y x) (namesakes l.district l.last (rows l.self).customers) + 1 == (length (namesakes l.district l.last (rows l.self).customers) + 1) / 2)
+    (find (λ x. count_by (λ y. comes_before y x) (namesakes l.district l.last (rows l.self).customers) + 1 ==
+    (length (namesakes l.district l.last (rows l.self).customers) + 1) / 2)
     (filter_map (λ e. named l.district l.last e.0 e.1) l.key-iterator))

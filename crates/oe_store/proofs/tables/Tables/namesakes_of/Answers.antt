@@ -9,7 +9,8 @@ pub returns-then-is_listed : goal.returns-then-is_listed
 returns-then-is_listed c = rw (← c.self.view_is) c.namesakes.ensures
 
 pub namesakes-requires-2 : goal.namesakes-requires-2
-namesakes-requires-2 c = met c.args.district.now c.args.last.now (rw (← c.self.view_is) at c.customers_of-others.ensures) (of_district c.args.district.now c.args.last.now _)
+namesakes-requires-2 c = met c.args.district.now c.args.last.now
+    (rw (← c.self.view_is) at c.customers_of-others.ensures) (of_district c.args.district.now c.args.last.now _)
 
 pub returns : goal.returns
 returns c = rw (← c.self.view_is) c.namesakes-2.ensures

@@ -6,7 +6,11 @@ use Rattle.oe_store.proofs.SoundFacts.{sound_put_back, customer_numbered}
 use Rattle.oe_store.proofs.tables.Tables.put_back_customer.Goals as goal
 
 pub invariant_of-self : goal.invariant_of-self
-invariant_of-self c = rw c.swap.ensures.rows (sound_put_back (UpdatedCustomer c.args.key (Some c.args.row)) _ (rw (← c.self.view_is) at c.requires.schema) (customer_numbered _ c.args.key c.self.invariant (rw (← c.self.view_is) at c.requires.there)) c.self.invariant)
+invariant_of-self c = rw c.swap.ensures.rows
+    (sound_put_back (UpdatedCustomer c.args.key (Some c.args.row)) _ (rw (← c.self.view_is) at c.requires.schema)
+    (customer_numbered _ c.args.key c.self.invariant (rw (← c.self.view_is) at c.requires.there)) c.self.invariant)
 
 pub returns-clause-places : goal.returns-clause-places
-returns-clause-places c = rw (← c.self.view_is) (same_customers _ _ c.args.key (Some c.args.row) c.swap.ensures.places (place_of_row customer_total exact_customer _ c.args.key (rw (← c.self.view_is) at c.requires.there)))
+returns-clause-places c = rw (← c.self.view_is)
+    (same_customers _ _ c.args.key (Some c.args.row) c.swap.ensures.places
+    (place_of_row customer_total exact_customer _ c.args.key (rw (← c.self.view_is) at c.requires.there)))

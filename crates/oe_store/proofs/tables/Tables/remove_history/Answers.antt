@@ -5,7 +5,9 @@ use Rattle.oe_store.proofs.SoundFacts.{sound_put_back}
 use Rattle.oe_store.proofs.tables.Tables.remove_history.Goals as goal
 
 pub invariant_of-self : goal.invariant_of-self
-invariant_of-self c = rw c.remove.ensures.rows (sound_put_back (InsertedHistory c.args.key None) _ (rw (← c.self.view_is) at c.requires.schema) tt c.self.invariant)
+invariant_of-self c = rw c.remove.ensures.rows
+    (sound_put_back (InsertedHistory c.args.key None) _ (rw (← c.self.view_is) at c.requires.schema) tt
+    c.self.invariant)
 
 pub returns-clause-places : goal.returns-clause-places
 returns-clause-places c = rw (← c.self.view_is) (lost_histories _ _ c.args.key c.remove.ensures.places)

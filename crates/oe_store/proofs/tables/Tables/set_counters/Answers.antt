@@ -10,10 +10,14 @@ use Rattle.oe_store.proofs.tables.Tables.set_counters.Goals as goal
 abbrev set : goal.After-self-1 → Stock → Stock
 set c x = with_counters c.args.counters.now x
 
-left : (c : goal.After-self-1) → IsLeft (UpdateStock c.args.key.now (set c c.unwrap-stock.result.now)) (the_view c.self.inside) (record (the_view c.self.inside) { stocks = c.row_mut.follows.lender (set c c.unwrap-stock.result.now) })
+left : (c : goal.After-self-1) → IsLeft (UpdateStock c.args.key.now (set c c.unwrap-stock.result.now))
+    (the_view c.self.inside)
+    (record (the_view c.self.inside) { stocks = c.row_mut.follows.lender (set c c.unwrap-stock.result.now) })
 left c =
-    stock_left (the_view c.self.inside) (c.row_mut.follows.lender (set c c.unwrap-stock.result.now)) c.args.key.now (set c c.unwrap-stock.result.now) c.unwrap-stock.result.now
-    (on_row c.row_mut.result c.unwrap-stock.result c.unwrap-stock.ensures (c.row_mut.follows.holds (set c c.unwrap-stock.result.now)))
+    stock_left (the_view c.self.inside) (c.row_mut.follows.lender (set c c.unwrap-stock.result.now)) c.args.key.now
+    (set c c.unwrap-stock.result.now) c.unwrap-stock.result.now
+    (on_row c.row_mut.result c.unwrap-stock.result c.unwrap-stock.ensures
+    (c.row_mut.follows.holds (set c c.unwrap-stock.result.now)))
     (row_was c.row_mut.result c.unwrap-stock.result c.unwrap-stock.ensures _ c.row_mut.ensures.row) c.self.invariant
 
 pub invariant_of-self : goal.invariant_of-self
@@ -22,7 +26,8 @@ invariant_of-self c = (left c).sound
 pub returns-clause-rows : goal.returns-clause-rows
 returns-clause-rows c =
     rw (← c.self.view_is)
-    (λ x found. (left c).rows ∙ ap (λ y. changed (UpdateStock c.args.key.now (set c y)) (rows (the_view c.self.inside))) (same_row c.row_mut.result c.unwrap-stock.result c.unwrap-stock.ensures _ x c.row_mut.ensures.row found))
+    (λ x found. (left c).rows ∙ ap (λ y. changed (UpdateStock c.args.key.now (set c y)) (rows (the_view c.self.inside)))
+    (same_row c.row_mut.result c.unwrap-stock.result c.unwrap-stock.ensures _ x c.row_mut.ensures.row found))
 
 pub returns-clause-places : goal.returns-clause-places
 returns-clause-places c = rw (← c.self.view_is) (left c).places

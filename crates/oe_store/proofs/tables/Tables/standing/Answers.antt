@@ -4,10 +4,12 @@ use Rattle.oe_store.proofs.tables.Tables.standing.Goals as goal
 
 pub loop-key-init : goal.loop-key-init
 loop-key-init c =
-    let all = met c.args.district.now c.args.last.now c.into_iter-key-iterator.ensures.into_iter_gives (rw (← c.self.view_is) at c.namesakes_of-key-items.ensures) in
+    let all = met c.args.district.now c.args.last.now c.into_iter-key-iterator.ensures.into_iter_gives
+    (rw (← c.self.view_is) at c.namesakes_of-key-items.ensures) in
     rw (← c.self.view_is) (
       count_starts c.args.district.now c.args.last.now _ _ all,
       rank_starts c.args.district.now c.args.last.now _ _ all (λ y. comes_before y (c.args.first.now, c.args.own)),
       few_named c.args.district.now c.args.last.now _ c.self.invariant,
-      few_before c.args.district.now c.args.last.now _ (λ y. comes_before y (c.args.first.now, c.args.own)) c.self.invariant,
+      few_before c.args.district.now c.args.last.now _ (λ y. comes_before y (c.args.first.now, c.args.own))
+          c.self.invariant,
     )

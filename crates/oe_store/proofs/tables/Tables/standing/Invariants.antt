@@ -7,7 +7,10 @@ use Rattle.oe_store.proofs.tables.Tables.standing.Given as goal
 
 abbrev pub invariant-loop-key : goal.invariant-loop-key
 invariant-loop-key l =
-    (l.count + length (filter_map (λ e. named l.district l.last e.0 e.1) l.key-iterator) ≡ length (namesakes l.district l.last (rows l.self).customers))
-    × (l.before + count_by (λ y. comes_before y (l.first, l.own)) (filter_map (λ e. named l.district l.last e.0 e.1) l.key-iterator) ≡ count_by (λ y. comes_before y (l.first, l.own)) (namesakes l.district l.last (rows l.self).customers))
+    (l.count + length (filter_map (λ e. named l.district l.last e.0 e.1) l.key-iterator) ≡ length
+    (namesakes l.district l.last (rows l.self).customers))
+    × (l.before + count_by (λ y. comes_before y (l.first, l.own))
+    (filter_map (λ e. named l.district l.last e.0 e.1) l.key-iterator) ≡ count_by (λ y. comes_before y (l.first, l.own))
+    (namesakes l.district l.last (rows l.self).customers))
     × (length (namesakes l.district l.last (rows l.self).customers) ≤ 3_000)
     × (count_by (λ y. comes_before y (l.first, l.own)) (namesakes l.district l.last (rows l.self).customers) ≤ 3_000)

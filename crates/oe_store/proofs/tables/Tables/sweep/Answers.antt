@@ -3,9 +3,21 @@ use Rattle.oe_store.proofs.tables.Tables.sweep.Goals as goal
 
 pub invariant_of-self : goal.invariant_of-self
 invariant_of-self c =
-    rw (c.sweep.ensures.rows, c.sweep-2.ensures.rows, c.sweep-3.ensures.rows, c.sweep-4.ensures.rows, c.sweep-5.ensures.rows, c.sweep-6.ensures.rows, c.sweep-7.ensures.rows, c.sweep-8.ensures.rows, c.sweep-9.ensures.rows) c.self.invariant
+    rw (
+      c.sweep.ensures.rows,
+      c.sweep-2.ensures.rows,
+      c.sweep-3.ensures.rows,
+      c.sweep-4.ensures.rows,
+      c.sweep-5.ensures.rows,
+      c.sweep-6.ensures.rows,
+      c.sweep-7.ensures.rows,
+      c.sweep-8.ensures.rows,
+      c.sweep-9.ensures.rows,
+    ) c.self.invariant
 
 pub returns-clause-places : goal.returns-clause-places
 returns-clause-places c =
-    rw (← c.self.view_is) (swept_places _ _ c.sweep.ensures.places c.sweep-2.ensures.places c.sweep-3.ensures.places c.sweep-4.ensures.places c.sweep-5.ensures.places c.sweep-6.ensures.places c.sweep-7.ensures.places
+    rw (← c.self.view_is)
+    (swept_places _ _ c.sweep.ensures.places c.sweep-2.ensures.places c.sweep-3.ensures.places
+    c.sweep-4.ensures.places c.sweep-5.ensures.places c.sweep-6.ensures.places c.sweep-7.ensures.places
     c.sweep-8.ensures.places c.sweep-9.ensures.places)

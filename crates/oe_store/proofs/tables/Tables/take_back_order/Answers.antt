@@ -6,7 +6,11 @@ use Rattle.oe_store.proofs.SoundFacts.{sound_put_back, order_numbered}
 use Rattle.oe_store.proofs.tables.Tables.take_back_order.Goals as goal
 
 pub invariant_of-self : goal.invariant_of-self
-invariant_of-self c = rw c.blank.ensures.rows (sound_put_back (InsertedOrder c.args.key None) _ (rw (← c.self.view_is) at c.requires.schema) (order_numbered _ c.args.key c.self.invariant (rw (← c.self.view_is) at c.requires.there)) c.self.invariant)
+invariant_of-self c = rw c.blank.ensures.rows
+    (sound_put_back (InsertedOrder c.args.key None) _ (rw (← c.self.view_is) at c.requires.schema)
+    (order_numbered _ c.args.key c.self.invariant (rw (← c.self.view_is) at c.requires.there)) c.self.invariant)
 
 pub returns-clause-places : goal.returns-clause-places
-returns-clause-places c = rw (← c.self.view_is) (same_orders _ _ c.args.key None c.blank.ensures.places (place_of_row order_total exact_order _ c.args.key (rw (← c.self.view_is) at c.requires.there)))
+returns-clause-places c = rw (← c.self.view_is)
+    (same_orders _ _ c.args.key None c.blank.ensures.places
+    (place_of_row order_total exact_order _ c.args.key (rw (← c.self.view_is) at c.requires.there)))

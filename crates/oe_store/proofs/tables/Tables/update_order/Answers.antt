@@ -7,7 +7,12 @@ use Rattle.oe_store.proofs.SoundFacts.{sound_changed, order_numbered}
 use Rattle.oe_store.proofs.tables.Tables.update_order.Goals as goal
 
 pub invariant_of-self : goal.invariant_of-self
-invariant_of-self c = rw c.swap.ensures.rows (sound_changed (UpdateOrder c.args.key c.args.row) _ (rw (← c.self.view_is) at c.requires) (order_numbered _ c.args.key c.self.invariant (rw (← c.self.view_is) at (ap is_some c.requires.1))) c.self.invariant)
+invariant_of-self c = rw c.swap.ensures.rows
+    (sound_changed (UpdateOrder c.args.key c.args.row) _ (rw (← c.self.view_is) at c.requires)
+    (order_numbered _ c.args.key c.self.invariant (rw (← c.self.view_is) at (ap is_some c.requires.1)))
+    c.self.invariant)
 
 pub returns-clause-places : goal.returns-clause-places
-returns-clause-places c = rw (← c.self.view_is) (same_orders _ _ c.args.key (Some c.args.row) c.swap.ensures.places (place_of_row order_total exact_order _ c.args.key (rw (← c.self.view_is) at (ap is_some c.requires.1))))
+returns-clause-places c = rw (← c.self.view_is)
+    (same_orders _ _ c.args.key (Some c.args.row) c.swap.ensures.places
+    (place_of_row order_total exact_order _ c.args.key (rw (← c.self.view_is) at (ap is_some c.requires.1))))

@@ -15,12 +15,24 @@ returns-in_err-slot_mut g c = (
 pub returns : goal.returns
 returns g c =
     let there = c.in_ok-slot_mut.ensures.value in
-    let places : (row : _) → SetsPlace g.K.Ord.cmp c.args.self.now (c.slot_mut.follows.lender (Some row)) c.args.key.now (Some row) =
-    λ row. sets_place-written g.met.K.Ord.total c.args.self.now (c.slot_mut.follows.lender (Some row)) c.args.key.now (Some row) (Some row) (c.slot_mut.follows.holds (Some row)) refl (rw (← there) refl) in (
+    let places : (row : _) → SetsPlace g.K.Ord.cmp c.args.self.now (c.slot_mut.follows.lender (Some row)) c.args.key.now
+    (Some row) =
+    λ row. sets_place-written g.met.K.Ord.total c.args.self.now (c.slot_mut.follows.lender (Some row)) c.args.key.now
+    (Some row) (Some row) (c.slot_mut.follows.holds (Some row)) refl (rw (← there) refl) in (
       (
         refl,
-        (λ row. on_some c.as_mut.result _ (record { places = places row; rows = rows_of-set_place g.met.K.Ord.total g.met.K.TableKey.exact c.args.self.now (c.slot_mut.follows.lender (Some row)) c.args.key.now (Some row) (places row) })),
-        rewritten_same (is_at (g.K.Ord.cmp c.args.key.now)) c.args.self.now (c.slot_mut.follows.lender c.in_ok-slot_mut.field-0.now) c.in_ok-slot_mut.field-0.now (sym there) (c.slot_mut.follows.holds c.in_ok-slot_mut.field-0.now),
+        (λ row. on_some c.as_mut.result _
+            (record {
+              places = places row;
+              rows = rows_of-set_place g.met.K.Ord.total g.met.K.TableKey.exact
+                  c.args.self.now (c.slot_mut.follows.lender (Some row)) c.args.key.now (Some row) (places row);
+            })),
+        rewritten_same (is_at (g.K.Ord.cmp c.args.key.now)) c.args.self.now
+            (c.slot_mut.follows.lender c.in_ok-slot_mut.field-0.now) c.in_ok-slot_mut.field-0.now (sym there)
+            (c.slot_mut.follows.holds c.in_ok-slot_mut.field-0.now),
       ),
-      record { writes_back = tt; row = rw (get-rows_of g.met.K.Ord.total c.args.self.now c.args.key.now) (search rules) },
+      record {
+        writes_back = tt;
+        row = rw (get-rows_of g.met.K.Ord.total c.args.self.now c.args.key.now) (search rules);
+      },
     )

@@ -5,8 +5,10 @@ use Rattle.oe_table.proofs.shelves.Shelves.swap.Goals as goal
 
 pub returns-clause-places : goal.returns-clause-places
 returns-clause-places g c =
-    sets_place-written g.met.K.Ord.total c.args.self.now (c.slot_mut.follows.lender c.replace.new.self) c.args.key.now c.replace.new.self (Some c.args.row) (c.slot_mut.follows.holds c.replace.new.self) c.replace.ensures.after
+    sets_place-written g.met.K.Ord.total c.args.self.now (c.slot_mut.follows.lender c.replace.new.self) c.args.key.now
+    c.replace.new.self (Some c.args.row) (c.slot_mut.follows.holds c.replace.new.self) c.replace.ensures.after
     (has_place _ (has_row g.met.K.Ord.total c.args.self.now c.args.key.now c.requires))
 
 pub returns-clause-rows : goal.returns-clause-rows
-returns-clause-rows g c = rows_of-set_place g.met.K.Ord.total g.met.K.TableKey.exact c.args.self.now (c.slot_mut.follows.lender c.replace.new.self) c.args.key.now (Some c.args.row) (returns-clause-places g c)
+returns-clause-rows g c = rows_of-set_place g.met.K.Ord.total g.met.K.TableKey.exact c.args.self.now
+    (c.slot_mut.follows.lender c.replace.new.self) c.args.key.now (Some c.args.row) (returns-clause-places g c)

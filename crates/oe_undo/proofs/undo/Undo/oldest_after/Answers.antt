@@ -10,19 +10,23 @@ loop-link-init c =
     let u = c.args.self.now.log in
     let at : total_count u - c.args.moment + c.args.moment ≡ total_count u = omega (arith, c.requires.made) in
     let link : c.link-link.result ≡ seen c.args.self.now c.args.key.now = c.link-link.ensures in
-    let walks = chains_are_walked u (seen c.args.self.now) c.args.key.now c.args.moment (total_count u - c.args.moment) c.is_chained.ensures.whole
+    let walks = chains_are_walked u (seen c.args.self.now) c.args.key.now c.args.moment (total_count u - c.args.moment)
+    c.is_chained.ensures.whole
     c.is_chained.ensures.chained c.requires.kept at in
     goes_first _ _ _ _ _ _ _ (rw link walks) refl (omega (arith, c.records-known.ensures))
 
 pub read_record-previous-requires : goal.read_record-previous-requires
-read_record-previous-requires c = stands_there _ _ _ _ _ _ _ _ _ c.in-Some.is (sym c.is_later.ensures ∙ c.if-not-is_later.false) c.loop-link.invariant
+read_record-previous-requires c = stands_there _ _ _ _ _ _ _ _ _ c.in-Some.is
+    (sym c.is_later.ensures ∙ c.if-not-is_later.false) c.loop-link.invariant
 
 pub loop-link-smaller : goal.loop-link-smaller
 loop-link-smaller c =
-    leaves_fewer _ _ _ _ _ _ _ _ _ _ _ _ c.in-Some.is (sym c.is_later.ensures ∙ c.if-not-is_later.false) c.loop-link.invariant c.read_record-previous.ensures.record
+    leaves_fewer _ _ _ _ _ _ _ _ _ _ _ _ c.in-Some.is (sym c.is_later.ensures ∙ c.if-not-is_later.false)
+    c.loop-link.invariant c.read_record-previous.ensures.record
     c.link_from-link.ensures
 
 pub loop-link-preserved : goal.loop-link-preserved
 loop-link-preserved c =
-    goes_on _ _ _ _ _ _ _ _ _ _ _ _ _ c.in-Some.is (sym c.is_later.ensures ∙ c.if-not-is_later.false) c.loop-link.invariant c.read_record-previous.ensures.record
+    goes_on _ _ _ _ _ _ _ _ _ _ _ _ _ c.in-Some.is (sym c.is_later.ensures ∙ c.if-not-is_later.false)
+    c.loop-link.invariant c.read_record-previous.ensures.record
     c.read_record-previous.ensures.ticks c.link_from-link.ensures

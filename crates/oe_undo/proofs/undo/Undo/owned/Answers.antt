@@ -12,5 +12,6 @@ returns-in_ok-owner-in-Committed-clause-followed c =
     let later : c.saturating_sub-later.result ≡ total_count c.self.inside.segments - c.in-Committed.moment =
     c.saturating_sub-later.ensures ∙ (λ i. newest i - c.get-in-Committed.ensures.value i) in
     rw (← c.self.view_is, c.in-Committed.is)
-    (committed_given c.self.inside.segments c.args.segment whole c.in-Committed.address c.in-Committed.moment c.saturating_sub-later.result c.in_ok-owner-in-Committed.owner
+    (committed_given c.self.inside.segments c.args.segment whole c.in-Committed.address c.in-Committed.moment
+    c.saturating_sub-later.result c.in_ok-owner-in-Committed.owner
     made later c.in_ok-owner-in-Committed.ensures.commit c.in_ok-owner-in-Committed.ensures.number)

@@ -25,19 +25,27 @@ invariant_of-self-in-Ok-insert c =
     let first : c.shared.result.now ≡ c.lead_from.new.lent = c.shared.ensures.value in
     let second : lent ≡ c.lead_from.new.lent = c.shared-linked.ensures.value ∙ set in
     let was : record_key (record_of_lent lent.record) ≡ record_key (record_of_lent c.args.lent.now.record) =
-    ap (λ x. record_key (record_of_lent x.record)) second ∙ ap (λ r. record_key (record_of_lent r)) c.lead_from.ensures.record
+    ap (λ x. record_key (record_of_lent x.record)) second ∙ ap (λ r. record_key (record_of_lent r))
+    c.lead_from.ensures.record
     in
     let own : c.key-key.result ≡ record_key (record_of_lent lent.record) =
     c.key-key.ensures ∙ ap (λ x. record_key (record_of_lent x.record)) (first ∙ sym second)
     in
-    let leads : link_from (Open c.args.segment) lent.previous ≡ followed c.self.inside.segments (links_of c.self.inside.links (record_key (record_of_lent lent.record))) =
+    let leads : link_from (Open c.args.segment) lent.previous ≡ followed c.self.inside.segments
+    (links_of c.self.inside.links (record_key (record_of_lent lent.record))) =
     ap (λ p. link_from (Open c.args.segment) p) (ap (λ x. x.previous) second ∙ c.lead_from.ensures.previous)
-    ∙ sym (ap (λ (k : Key). followed c.self.inside.segments (links_of c.self.inside.links k)) was ∙ ap (λ o. followed c.self.inside.segments (link_in o)) no_place)
+    ∙ sym (ap (λ (k : Key). followed c.self.inside.segments (links_of c.self.inside.links k)) was
+    ∙ ap (λ o. followed c.self.inside.segments (link_in o)) no_place)
     in
-    let none : place_of c.self.inside.links c.key-key.result ≡ None = ap (place_of c.self.inside.links) (own ∙ was) ∙ no_place in
-    let leads_to = insert_leads c.self.inside.links c.insert.new.self c.key-key.result (Some (record { address = c.in-Ok.address; owner = c.owner-owner.result })) none c.in-Ok-insert.ensures.inserted in
-    push_linked c.self.inside.segments c.push.new.self c.args.segment c.in-Ok.address lent.previous (record_of_lent lent.record) some c.in-Ok.ensures.pushed
-    c.self.inside.links c.insert.new.self c.self.inside.moments c.key-key.result c.owner-owner.result whole leads own c.owner-owner.ensures leads_to c.self.invariant
+    let none : place_of c.self.inside.links c.key-key.result ≡ None = ap (place_of c.self.inside.links) (own ∙ was)
+    ∙ no_place in
+    let leads_to = insert_leads c.self.inside.links c.insert.new.self c.key-key.result
+    (Some (record { address = c.in-Ok.address; owner = c.owner-owner.result })) none
+    c.in-Ok-insert.ensures.inserted in
+    push_linked c.self.inside.segments c.push.new.self c.args.segment c.in-Ok.address lent.previous
+    (record_of_lent lent.record) some c.in-Ok.ensures.pushed
+    c.self.inside.links c.insert.new.self c.self.inside.moments c.key-key.result c.owner-owner.result whole leads own
+    c.owner-owner.ensures leads_to c.self.invariant
 
 pub returns-in-Ok-insert-clause-pushed : goal.returns-in-Ok-insert-clause-pushed
 returns-in-Ok-insert-clause-pushed c =
@@ -48,32 +56,44 @@ returns-in-Ok-insert-clause-pushed c =
     let kept = ap (λ x. x.record) second ∙ c.lead_from.ensures.record in
     let previous = ap (λ x. x.previous) second ∙ c.lead_from.ensures.previous in
     let own : c.key-key.result ≡ record_key (record_of_lent c.args.lent.now.record) =
-    c.key-key.ensures ∙ ap (λ x. record_key (record_of_lent x.record)) c.shared.ensures.value ∙ ap (λ r. record_key (record_of_lent r)) c.lead_from.ensures.record
+    c.key-key.ensures ∙ ap (λ x. record_key (record_of_lent x.record)) c.shared.ensures.value
+    ∙ ap (λ r. record_key (record_of_lent r)) c.lead_from.ensures.record
     in
-    let none : place_of c.self.inside.links c.key-key.result ≡ None = ap (place_of c.self.inside.links) own ∙ no_place in
-    let leads_to = insert_leads c.self.inside.links c.insert.new.self c.key-key.result (Some (record { address = c.in-Ok.address; owner = c.owner-owner.result })) none c.in-Ok-insert.ensures.inserted in
-    let linked : LeadsTo c.self.inside.links c.insert.new.self (record_key (record_of_lent c.args.lent.now.record)) (Some (record { address = c.in-Ok.address; owner = next_owner segments c.args.segment })) =
-    subst (λ (k : Key). LeadsTo c.self.inside.links c.insert.new.self k (Some (record { address = c.in-Ok.address; owner = next_owner segments c.args.segment }))) own
-    (subst (λ (n : SegmentOwner). LeadsTo c.self.inside.links c.insert.new.self c.key-key.result (Some (record { address = c.in-Ok.address; owner = n }))) c.owner-owner.ensures leads_to)
+    let none : place_of c.self.inside.links c.key-key.result ≡ None = ap (place_of c.self.inside.links) own
+    ∙ no_place in
+    let leads_to = insert_leads c.self.inside.links c.insert.new.self c.key-key.result
+    (Some (record { address = c.in-Ok.address; owner = c.owner-owner.result })) none
+    c.in-Ok-insert.ensures.inserted in
+    let linked : LeadsTo c.self.inside.links c.insert.new.self (record_key (record_of_lent c.args.lent.now.record))
+    (Some (record { address = c.in-Ok.address; owner = next_owner segments c.args.segment })) =
+    subst (λ (k : Key). LeadsTo c.self.inside.links c.insert.new.self k
+    (Some (record { address = c.in-Ok.address; owner = next_owner segments c.args.segment }))) own
+    (subst (λ (n : SegmentOwner). LeadsTo c.self.inside.links c.insert.new.self c.key-key.result
+    (Some (record { address = c.in-Ok.address; owner = n }))) c.owner-owner.ensures leads_to)
     in
     let log =
-    c.in-Ok.ensures.pushed ∙ ap (λ p. pushed segments c.args.segment (logged c.in-Ok.address p (record_of_lent lent.record))) previous
+    c.in-Ok.ensures.pushed
+    ∙ ap (λ p. pushed segments c.args.segment (logged c.in-Ok.address p (record_of_lent lent.record))) previous
     ∙ ap (λ r. pushed segments c.args.segment (logged c.in-Ok.address Nothing (record_of_lent r))) kept
     in
-    rw (← c.self.view_is) (record { address = c.in-Ok.address; fresh = c.in-Ok.ensures.fresh; log = log; link = linked })
+    rw (← c.self.view_is)
+    (record { address = c.in-Ok.address; fresh = c.in-Ok.ensures.fresh; log = log; link = linked })
 
 pub invariant_of-self-in-Err : goal.invariant_of-self-in-Err
 invariant_of-self-in-Err c =
     let some = rw (← c.self.view_is) at c.requires.open in
     let lent = c.shared-linked.result.now in
-    let same = push_undone c.self.inside.segments c.push.new.self c.args.segment c.in-Ok.address lent.previous (record_of_lent lent.record) some c.in-Ok.ensures.pushed c.pop.new.self c.pop.ensures in
+    let same = push_undone c.self.inside.segments c.push.new.self c.args.segment c.in-Ok.address lent.previous
+    (record_of_lent lent.record) some c.in-Ok.ensures.pushed c.pop.new.self c.pop.ensures in
     subst (λ (u : SegmentLog). IsLinked u (links_of c.insert.new.self) c.self.inside.moments) (sym same)
-    (subst (λ (maps : LinkMaps). IsLinked c.self.inside.segments (links_of maps) c.self.inside.moments) (sym c.in-Err.ensures.err) c.self.invariant)
+    (subst (λ (maps : LinkMaps). IsLinked c.self.inside.segments (links_of maps) c.self.inside.moments)
+    (sym c.in-Err.ensures.err) c.self.invariant)
 
 pub returns-in-Err-clause-err : goal.returns-in-Err-clause-err
 returns-in-Err-clause-err c =
     let some = rw (← c.self.view_is) at c.requires.open in
     let lent = c.shared-linked.result.now in
-    let same = push_undone c.self.inside.segments c.push.new.self c.args.segment c.in-Ok.address lent.previous (record_of_lent lent.record) some c.in-Ok.ensures.pushed c.pop.new.self c.pop.ensures in
+    let same = push_undone c.self.inside.segments c.push.new.self c.args.segment c.in-Ok.address lent.previous
+    (record_of_lent lent.record) some c.in-Ok.ensures.pushed c.pop.new.self c.pop.ensures in
     let links = c.in-Err.ensures.err in
     (λ i. record { log = same i; links = links i }) ∙ c.self.view_is

@@ -5,7 +5,8 @@ use Rattle.oe_values.proofs.stamps.Stamp.bytes.Goals as goal
 said : (c : goal.After-spelled) → SaysStamp c.spelled.result c.args.self
 said c =
     rw (← c.seconds.ensures.value)
-    (SaysStamp-moment c.moment_at-moment.result _ _ c.moment_at-moment.ensures.seconds c.moment_at-moment.ensures.since_1900 c.seconds.ensures.high c.spelled.ensures.value)
+    (SaysStamp-moment c.moment_at-moment.result _ _ c.moment_at-moment.ensures.seconds
+    c.moment_at-moment.ensures.since_1900 c.seconds.ensures.high c.spelled.ensures.value)
 
 pub returns-clause-says : goal.returns-clause-says
 returns-clause-says c = said c

@@ -9,4 +9,5 @@ pub returns : goal.returns
 returns c =
     c.middle.ensures
     ∙ ap (λ ts. middle (namesakes c.args.district.now c.args.last.now (rows ts).customers)) c.tables.ensures
-    ∙ ap middle (sym (names_last (store_with (rows c.args.self.now.tables) c.args.self.now.log c.requires.0) c.args.self.now.moment c.args.district.now c.args.last.now c.requires.1))
+    ∙ ap middle (sym (names_last (store_with (rows c.args.self.now.tables) c.args.self.now.log c.requires.0)
+    c.args.self.now.moment c.args.district.now c.args.last.now c.requires.1))
