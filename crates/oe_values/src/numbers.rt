@@ -3,7 +3,7 @@
 //! Each type keeps its range by its invariant, and is seen as its number: money as cents, a rate as
 //! ten-thousandths. `new` gives `None` exactly where the number is out of the range. Nothing else
 //! can fail, and nothing takes memory. A clause beside a type says which column or input is meant;
-//! which of the ranges are the standard's is in docs/MODEL.md.
+//! which of the ranges are the standard's is in docs/PROOF.md.
 ghost use Rattle.std.specs.Prelude.{◌≡◌, ◌↔◌, ◌≤◌, ℕ, ℤ, IsSome, IfSome};
 ghost use Rattle.oe_values.specs.Number.{IsWithin};
 
