@@ -30,8 +30,7 @@ key_written (InsertOrderLine k x) = key.OrderLine k
 key_written (DeleteNewOrder k) = key.NewOrder k
 
 -- the change that it is of these rows: an update's row is the one that is there with the columns set, and where none is
--- there it
--- is no change
+-- there it is no change
 abbrev pub written : Write → Rows → Option model.Change
 written (WarehouseYtd k y) r = option_map (λ w. model.UpdateWarehouse k (record w { ytd = y })) (get r.warehouses k)
 written (DistrictYtd k y) r = option_map (λ d. model.UpdateDistrict k (record d { ytd = y })) (get r.districts k)

@@ -51,8 +51,7 @@ abbrev pub HoldsTaken : EngineState → Handle → Request → Position → Type
 HoldsTaken s x q p = HoldsAll (view_of s) x.terminal (taken (tx_of s x q) p)
 
 -- after a stage that went on to this position, where n records stood before it: where the stage moves the mark, the
--- mark is where the
--- program stood
+-- mark is where the program stood
 abbrev pub gone_on : ℕ → WorkState → Position → WorkState
 gone_on n w p =
     record w {

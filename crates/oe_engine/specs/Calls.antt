@@ -134,8 +134,7 @@ CauseOf None r e = ⊥
 CauseOf (Some c) r e = Cause c r e
 
 -- why a stage is refused: its transaction isn't open here; another is in the way of its lock; its change's record has
--- no room; memory is
--- wanted for a lock that is new, or for a change; or the tables don't accept the change
+-- no room; memory is wanted for a lock that is new, or for a change; or the tables don't accept the change
 abbrev pub StageRefused : EngineState → Handle → Ask Name Refusal → Option Change → Refusal → Type 0
 StageRefused s x a c NotOpen = IsOpen s x → ⊥
 StageRefused s x a c (Busy n u) = IsOpen s x

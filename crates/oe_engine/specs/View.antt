@@ -16,8 +16,7 @@ use Rattle.oe_undo.specs.Links.{LinkMaps}
 use Rattle.oe_locks.specs.Held.{Holdings, held}
 
 -- the rows as they are, open work included; the undo records of open transactions and of commits; the commits, newest
--- first; the
--- terminals' counts of commits; what each terminal holds; and which have a transaction open
+-- first; the terminals' counts of commits; what each terminal holds; and which have a transaction open
 pub record View : Type 0 where
   pub rows : Rows
   pub undo : Undo system

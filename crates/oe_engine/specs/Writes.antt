@@ -47,8 +47,7 @@ AbsentPairRefused v t n m k NoMemory = IsFree v t (Take n m)
 AbsentPairRefused v t n m k e = IsFree v t (Take n m) × (e ≡ NoSuchRow k)
 
 -- and in a transaction, with the lock of the row's key: the transaction isn't open here; or another is in the way of
--- the lock; or that is
--- free, and memory is wanted for it or the row is absent
+-- the lock; or that is free, and memory is wanted for it or the row is absent
 abbrev pub AbsentRowRefused : EngineState → Handle → Key → Refusal → Type 0
 AbsentRowRefused s x k NotOpen = IsOpen s x → ⊥
 AbsentRowRefused s x k (Busy n u) = IsOpen s x

@@ -12,8 +12,7 @@ pub record Addressed : Type 0 where
   pub bytes : List ℕ
 
 -- How many extents there are, the strings of each slot and of each commit, newest first, for how many commits more
--- there is
--- memory, and which extents are free. Commits are newest first too.
+-- there is memory, and which extents are free. Commits are newest first too.
 pub record RingStrings : Type 0 where
   pub extents : ℕ
   pub active : List (List Addressed)
@@ -55,8 +54,7 @@ behind (s ∷ ss) =
     record { extent = s.address.extent; offset = s.address.offset + length s.bytes }
 
 -- A string of that length comes to stand there: behind the slot's newest string, where the rest of its extent has room,
--- else at the
--- front of the extent that is the next free one from the cursor on.
+-- else at the front of the extent that is the next free one from the cursor on.
 pub record IsNextAddress (v : RingStrings) (slot size : ℕ) (a : Address) : Type 0 where
   pub fits : size ≤ rest_behind (get_or v.active slot []) → a ≡ behind (get_or v.active slot [])
   pub other : rest_behind (get_or v.active slot []) < size

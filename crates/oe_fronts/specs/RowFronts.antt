@@ -170,8 +170,7 @@ abbrev pub IsRowOf : Table → Row → Type 0
 IsRowOf t r = (table_of_row r ≡ t) × IsRow r
 
 -- Where the front of the bytes is the image of a key and a row of that table, the result is both and the image's
--- length. Nothing else is
--- read.
+-- length. Nothing else is read.
 pub record ReadsImage (t : Table) (bytes : List ℕ) (result : Option (Key × Row × ℕ)) : Type 0 where
   pub found : (k : Key) (r : Row) (n : ℕ) → result ≡ Some (k, r, n)
       → IsKeyOf t k × IsRowOf t r × (n ≤ length bytes) × (take n bytes ≡ image_of k r)

@@ -16,8 +16,7 @@ use Rattle.oe_ports.specs.Lines.{bad_line}
 use Rattle.oe_script.specs.Script.{State, moment_in, told, Answers, Asks}
 
 -- what a line was: none of the forms; an opening or a dump, with its text; or a step with its answer, before which so
--- many
--- times the same step was answered `more`, as a `run` has it
+-- many times the same step was answered `more`, as a `run` has it
 pub data Deed : Type 0 where
   No_form : Deed
   Opening : List ℕ → Deed

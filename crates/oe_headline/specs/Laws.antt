@@ -110,8 +110,7 @@ HasMore None = Unit {0}
 HasMore (Some w) = (m : ℕ) → More (at system w m)
 
 -- A script opens a population of the formulas, of which they hold. So each of its audits, of any of the eleven
--- conditions, is
--- answered that the condition holds
+-- conditions, is answered that the condition holds
 pub record More_audits_hold : Type 0 where
   -- at each place between two lines
   pub conditions : (n : ℕ) (lines : List (List ℕ)) (text : List ℕ) (s : State) → RunOfLines None n lines text s
@@ -131,9 +130,8 @@ pub record More_audits_hold : Type 0 where
       → Passed None (before ++ e ∷ after) s → e.deed ≡ Steps n (step.Audit c m) (answer.Audited v) → v ≡ verdict.Holds
 
 -- A query of a moment is answered what is found in the version of that moment, which the commits up to it leave, run
--- one at a time, each
--- with its effect, and nobody's open work; or what is missed there. It is refused where its warehouse is absent, or
--- where the moment is not kept
+-- one at a time, each with its effect, and nobody's open work; or what is missed there. It is refused where its
+-- warehouse is absent, or where the moment is not kept
 abbrev pub Tells : Outcome QueryReply Refusal → List ℕ → Type 0
 Tells (Here f) text = text ≡ answer_line (answer.Replied f)
 Tells (Missing e) text = text ≡ answer_line (answer.Refused e)
@@ -151,9 +149,8 @@ IsRead base w q m text =
     ⊎ ((query_rejection q (tables system w) ≡ None) × IsReadAt base w q m text)
 
 -- The lines of a script up to its opening, and what follows of those after it. They are one run of the machine, from
--- the
--- population that was opened: each of its transactions ends whole, although others overlap it; the commits are those of
--- transactions run one at a time; conditions 1 to 4 hold all the way
+-- the population that was opened: each of its transactions ends whole, although others overlap it; the commits are
+-- those of transactions run one at a time; conditions 1 to 4 hold all the way
 pub record IsOneRun (es : List Entry) (w : World system) : Type 0 where
   pub before : List Entry
   pub opening : Entry
@@ -210,8 +207,7 @@ pub record Rewinds_restore : Type 0 where
       → LineAnswer (Some w) n line text s → IsRewoundTo r.rows w text s
 
 -- A transaction begins in the line `first`, and is rolled back in those that follow. Without its lines the others are
--- answered
--- the same, and leave the same state
+-- answered the same, and leave the same state
 abbrev pub Lines_without_rollback : Type 0
 Lines_without_rollback =
     (s s' : State) (before after : List Entry) (first : Entry) (t : ℕ) (q : Request) → IsReachedState s
@@ -262,8 +258,7 @@ pub record Answers_are_determined : Type 0 where
       → HaveMemory es → HaveMemory fs → (out ≡ out') × (o.state ≡ o'.state)
 
 -- An output of what was read, and what each whole line of it was. From the opening on the lines are one run of the
--- machine, whatever
--- transactions overlap in them
+-- machine, whatever transactions overlap in them
 pub record IsAnswered (read : List ℕ) : Type 0 where
   pub out : List ℕ
   pub output : Output read out

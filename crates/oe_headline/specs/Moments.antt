@@ -19,8 +19,7 @@ Leaves f b (c ∷ cs) r = (before : Rows) × Leaves f b cs before
     × (made : IsCommit system (counts_after system f cs) before c) × (r ≡ made.after)
 
 -- The rows are the version of the moment in a world that began with this base: its first m commits leave them, run one
--- at a time. The
--- world keeps the later ones in its history, and has forgotten those up to the horizon
+-- at a time. The world keeps the later ones in its history, and has forgotten those up to the horizon
 pub record IsVersion (base : Rows) (w : World system) (m : ℕ) (r : Rows) : Type 0 where
   pub later : List (Commit system)
   pub kept : List (Commit system)
@@ -40,8 +39,7 @@ abbrev pub StandsAt : ℕ → Rows → State → Type 0
 StandsAt m r s = (v : World system) × (s ≡ Some v) × (tables system v ≡ r) × (newest system v ≡ m)
 
 -- A rewind to a moment that is kept, where nothing is open, leaves tables that are the moment's version. Of any other
--- moment, and where
--- something is open, it is refused
+-- moment, and where something is open, it is refused
 abbrev pub IsRewound : Rows → World system → ℕ → List ℕ → State → Type 0
 IsRewound base w m text s =
     (IsQuiet system w × (horizon system w ≤ m) × (m ≤ newest system w) × IsVersion base w m (at system w m)

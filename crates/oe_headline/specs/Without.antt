@@ -60,10 +60,8 @@ before_last (Steps n (step.Advance t) x) = nexts n t
 before_last d = []
 
 -- Of these lines, which follow a transaction's begin at terminal t, those that are left without it. Its own are left
--- out, up to
--- the one that rolls it back, and all that follow stay. In between a line that gave way to it is left out, but for what
--- it had
--- done before; a dump may show other rows; and each other line stays, with its answer
+-- out, up to the one that rolls it back, and all that follow stay. In between a line that gave way to it is left out,
+-- but for what it had done before; a dump may show other rows; and each other line stays, with its answer
 pub data Without (t : ℕ) : List Entry → List Entry → Type 0 where
   ends : (e : Entry) (es : List Entry) → is_own t e.deed ≡ true → is_undone e.deed ≡ true → Without t (e ∷ es) es
   was_own : (e : Entry) (es left : List Entry) → is_own t e.deed ≡ true → is_undone e.deed ≡ false → Without t es left

@@ -1,6 +1,6 @@
 -- The images of rows: the columns from the left but for the key's (clause 1.3.1). Rates, counts and numbers of
--- warehouses and customers
--- have 2 bytes; numbers of districts, carriers and lines 1; greater numbers 4; money and stamps 8.
+-- warehouses and customers have 2 bytes; numbers of districts, carriers and lines 1; greater numbers 4; money and
+-- stamps 8.
 use Rattle.std.specs.Prelude.{ℕ, List, [], ◌++◌, ⊤}
 use Rattle.oe_extent.specs.Images.{number}
 use Rattle.oe_rows.specs.Warehouse.{IsWarehouse}

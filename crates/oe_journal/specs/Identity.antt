@@ -27,8 +27,7 @@ use Rattle.oe_journal.specs.Unwinds.{TakesBack}
 use Rattle.oe_journal.specs.Writes.{HasRecorded}
 
 -- Where the keys lead once these records of a terminal's open segment, the newest first, are taken off: each gives its
--- key the link back
--- that led to the record before, or none where the commit of that was given up
+-- key the link back that led to the record before, or none where the commit of that was given up
 abbrev pub led_back : ℕ → ℕ → List Logged → (Key → Option Link) → Key → Option Link
 led_back h t [] links = links
 led_back h t (r ∷ rs) links = led_back h t rs
@@ -47,9 +46,8 @@ pub record MayTakeBack (ts : Places) (u : SegmentLog) (t : ℕ) : Type 0 where
   pub unwinds : CanUnwind (take 1 ((undo_of u).active t)) (rows ts)
 
 -- All is as it was: the rows of the nine tables, each key's link, and the log; and so is what customers and orders are
--- found by. No key
--- but the write's may have a place that it had not; and where places were kept for rows and records alone, the same
--- keys have them
+-- found by. No key but the write's may have a place that it had not; and where places were kept for rows and records
+-- alone, the same keys have them
 pub record IsAsBefore (ts ts' : Places) (u u' : UndoState) (own : Key) : Type 0 where
   pub same_rows : rows ts' ≡ rows ts
   pub same_links : SameLinks u u'

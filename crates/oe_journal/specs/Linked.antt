@@ -14,8 +14,7 @@ MayChange (key.Item k) = ⊥
 MayChange _ = Unit {0}
 
 -- Each key with a place in a table that is changed has a place for its link, a blanked one too. So only an insert at a
--- key without a
--- place in its table takes memory for a link.
+-- key without a place in its table takes memory for a link.
 abbrev pub AreLinked : Places → LinkMaps → Type 0
 AreLinked ts links = (k : Key) → MayChange k → tables.HasPlace ts k → HasPlace links k
 

@@ -23,8 +23,7 @@ abbrev pub AreExact : Places → Undo system → Type 0
 AreExact ts d = (k : Key) → HasPlace ts k ↔ (IsSome (row_at (rows ts) k) ⊎ (IsUnnamed d k → ⊥))
 
 -- Records went, and places with them: no key is given a place, each key that a record names still keeps its own, and
--- where places were
--- kept for rows and records alone, so they are
+-- where places were kept for rows and records alone, so they are
 pub record GivesUpUnnamed (ts ts' : Places) (d d' : Undo system) : Type 0 where
   pub records : (k : Key) → IsUnnamed d k → IsUnnamed d' k
   pub fewer : (k : Key) → HasPlace ts' k → HasPlace ts k

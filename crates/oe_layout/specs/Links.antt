@@ -11,8 +11,7 @@ abbrev pub LinkNumbers : Type 0
 LinkNumbers = ℕ × (ℕ × ℕ)
 
 -- where there is no previous record, all bits of the address are 1 and the moment is 0; where it is of the same
--- transaction, all bits of
--- the moment are 1
+-- transaction, all bits of the moment are 1
 abbrev pub link_numbers : Previous → LinkNumbers
 link_numbers Nothing = (65_535, (65_535, 0))
 link_numbers (Own a) = (a.extent, (a.offset, 18_446_744_073_709_551_615))

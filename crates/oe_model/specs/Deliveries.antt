@@ -1,6 +1,5 @@
 -- Delivery of all ten districts of a warehouse as one transaction (clause 2.7): its whole effect, and where its program
--- goes on. A stage of
--- it is one of the district at hand.
+-- goes on. A stage of it is one of the district at hand.
 use Rattle.std.specs.Prelude.{ℕ, ◌+◌, ◌==◌, cond, List, [], ◌∷◌, ◌++◌, length, Option, Some}
 use Rattle.oe_requests.specs.declared.requests.DeliveryRequest.{DeliveryRequest}
 use Rattle.oe_requests.specs.declared.requests.DeliveriesRequest.{DeliveriesRequest}

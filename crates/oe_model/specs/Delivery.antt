@@ -1,6 +1,5 @@
 -- Delivery of one district (clause 2.7): its whole effect, and its program, a stage at a time. The program serves a
--- transaction of that
--- district alone and one of all ten districts.
+-- transaction of that district alone and one of all ten districts.
 use Rattle.std.specs.Prelude.{ℕ, ◌+◌, pos, ◌+ℤ◌, cond, List, [], ◌∷◌, map, sum_by, Option, None, Some}
 use Rattle.std.specs.Ordering.{eq_by_cmp}
 use Rattle.std.specs.FinMap.{FinMap, get, insert, remove, entries, retain_keys}
@@ -98,8 +97,7 @@ abbrev pub delivery_effect : DeliveryRequest → Rows → Option (Rows × Reply)
 delivery_effect q r = district_effect q r >>= λ e. Some (e.0, reply.Delivery e.1)
 
 -- the transaction that a district's delivery is part of: its position where the district's is known, the one that it
--- goes on to once
--- the district is done, and the reply that it is ready with at the district's end
+-- goes on to once the district is done, and the reply that it is ready with at the district's end
 pub record Setting : Type 0 where
   pub here : DeliveryPosition → Position
   pub next : DistrictDelivery → Position

@@ -1,6 +1,5 @@
 -- Consistency conditions 5 to 10 and 12 (clauses 3.3.2.5 to 3.3.2.10 and 3.3.2.12): what orders, their lines and
--- payments say of
--- one another.
+-- payments say of one another.
 use Rattle.std.specs.Prelude.{◌≡◌, ◌↔◌, ℕ, ◌&&◌, pos, ◌+ℤ◌, ◌-ℤ◌, Bool, false, cond, Option, None, Some, is_some}
 use Rattle.std.specs.Ordering.{eq_by_cmp}
 use Rattle.std.specs.FinMap.{get}

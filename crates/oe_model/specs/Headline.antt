@@ -42,8 +42,7 @@ pub record Conditions (r : Rows) : Type 0 where
   pub condition_4 : Condition_4 r
 
 -- what a program alone needs of the tables: the schema, conditions 1 to 4, a STOCK row for each ITEM row of each
--- warehouse, and
--- no HISTORY row of its own transaction
+-- warehouse, and no HISTORY row of its own transaction
 pub record IsReadyFor (x : Tx Request) (r : Rows) : Type 0 where
   pub meets : Meets r
   pub conditions : Conditions r
@@ -51,8 +50,7 @@ pub record IsReadyFor (x : Tx Request) (r : Rows) : Type 0 where
   pub unused : get r.histories (history_key x.terminal x.number) ≡ None
 
 -- a program alone, of a request that is within its ranges and not rejected, ends with exactly its whole effect, or with
--- none and
--- a refusal that it may end with; and the tables accept each of its changes
+-- none and a refusal that it may end with; and the tables accept each of its changes
 abbrev pub Programs_end : Type 0
 Programs_end =
     (x : Tx Request) (r : Rows) → IsReadyFor x r → IsRequest x.request → rejection x.request r ≡ None

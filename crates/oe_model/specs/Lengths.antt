@@ -1,6 +1,5 @@
 -- How long rows and undo records are: the widths of their columns, and the lengths of their texts (clause 1.3.1). It
--- speaks of the
--- model's records and of no bytes.
+-- speaks of the model's records and of no bytes.
 use Rattle.std.specs.Prelude.{ℕ, ◌+◌, ◌*◌, List, length, Option, None, Some}
 use Rattle.oe_rows.specs.declared.warehouses.Address.{Address}
 use Rattle.oe_rows.specs.declared.warehouses.Warehouse.{Warehouse}
@@ -91,7 +90,6 @@ before_length None = 0
 before_length (Some r) = row_length r
 
 -- Of a record: its length twice in 2 bytes each, what was done to a row of which table in 1 and 1, the previous
--- record's address in 4 and
--- its moment in 8, the key, and the row before.
+-- record's address in 4 and its moment in 8, the key, and the row before.
 abbrev pub record_length : Record → ℕ
 record_length b = 18 + key_length (record_key b) + before_length (row_before b)

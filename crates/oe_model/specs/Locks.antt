@@ -45,8 +45,7 @@ abbrev pub hold : Name → theory.Mode → Hold Name
 hold n m = record { name = n; mode = m }
 
 -- the name that a row lies under, present or absent: a queue's is that of all NEW-ORDER rows of its district, an
--- order's that of
--- its ORDER row and its lines. ITEM rows never change, and a HISTORY row is its own transaction's
+-- order's that of its ORDER row and its lines. ITEM rows never change, and a HISTORY row is its own transaction's
 abbrev pub governs : Key → Guard Name
 governs (key.Warehouse k) = Under (name.Warehouse k)
 governs (key.District k) = Under (name.District k)
@@ -59,8 +58,7 @@ governs (key.Item k) = Free
 governs (key.Stock k) = Under (name.Stock k)
 
 -- what can be read of a row without its lock: whether a row is there, of the tables whose rows never come or go,
--- C_FIRST of a
--- customer with this last name, and the whole of an item
+-- C_FIRST of a customer with this last name, and the whole of an item
 pub data Facet : Type 0 where
   WarehouseThere : WarehouseKey → Facet
   DistrictThere : DistrictKey → Facet

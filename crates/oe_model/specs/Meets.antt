@@ -46,8 +46,7 @@ pub record Meets (r : Rows) : Type 0 where
       → 1 ≤ k.district → k.district ≤ 10 → IsSome (get r.districts k)
 
 -- a change is accepted: an insert where its key is absent and what it refers to is there, an update where its key is
--- there,
--- O_C_ID, C_LAST and C_FIRST stay and what it refers to is there, a delete where its key is there
+-- there, O_C_ID, C_LAST and C_FIRST stay and what it refers to is there, a delete where its key is there
 abbrev pub Accepts : Change → Rows → Type 0
 Accepts (InsertHistory k x) r = (get r.histories k ≡ None) × IsSome (get r.customers x.customer)
     × IsSome (get r.districts x.district)

@@ -17,8 +17,7 @@ use Rattle.oe_model.specs.Population.{warehouse_of, district_of, customer_of, hi
 use Rattle.oe_model.specs.Population.{lines_of, line_of, item_of, stock_of}
 
 -- tables with these rows are tables to begin from: the schema and conditions 1 to 4 hold (by the second each district
--- has an order),
--- each warehouse has its stocks, and HISTORY rows are of terminal 0
+-- has an order), each warehouse has its stocks, and HISTORY rows are of terminal 0
 pub record Population_is_one : Type 0 where
   pub is_population : (s : Scale) (r : Rows) → IsScale s → IsPopulated s r → IsPopulation r
   -- each customer has a HISTORY row

@@ -71,8 +71,7 @@ pub record Payment_is_exact : Type 0 where
       } ≡ x
 
 -- a stock row after quantities that were asked of it: S_YTD rises by their sum, S_ORDER_CNT by their number, and
--- S_QUANTITY falls
--- by their sum but for a multiple of 91
+-- S_QUANTITY falls by their sum but for a multiple of 91
 pub record IsSupplied (ns : List ℕ) (x y : Stock) : Type 0 where
   pub ytd : y.ytd ≡ x.ytd + sum ns
   pub orders : y.order_count ≡ x.order_count + length ns
@@ -133,8 +132,7 @@ pub record Delivery_is_exact : Type 0 where
       × (order_of_line k ≢ order_in q.district o → get after.order_lines k ≡ Some x)
 
 -- the customer that is chosen by last name has that C_LAST, and with those before it, by C_FIRST and C_ID, is half of
--- the
--- district's customers with that name, rounded up; and one is chosen where there is any (clause 2.5.2.2)
+-- the district's customers with that name, rounded up; and one is chosen where there is any (clause 2.5.2.2)
 pub record Name_is_middle : Type 0 where
   pub some : (m : FinMap customer_cmp Customer) (h : DistrictKey) (last : List ℕ) (c : ℕ)
       → chosen h (LastName last) m ≡ Some c
@@ -158,8 +156,7 @@ pub record Order_is_last : Type 0 where
       → (j : OrderKey) (y : Order) → get r.orders j ≡ Some y → customer_of_order j y ≡ k → ⊥
 
 -- an item that Stock-Level counts: a line of the district's last 20 orders names it, and the district's warehouse has
--- less of it than
--- the threshold
+-- less of it than the threshold
 pub record IsLow (q : LevelQuery) (r : Rows) (next i : ℕ) : Type 0 where
   pub line_key : OrderLineKey
   pub line : OrderLine

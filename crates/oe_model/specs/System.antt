@@ -59,8 +59,7 @@ act x (DeliveriesEnd done) r = Ready (reply.Deliveries done)
 act x NoProgram r = Fail NotOpen
 
 -- the locks that were taken on the way to a position; of ten districts, at the district at hand: the others stay held,
--- and no stage needs
--- them
+-- and no stage needs them
 abbrev pub taken : Tx Request → Position → List (Hold Name)
 taken x (InPayment q p) = payment_taken q p
 taken x (InNewOrder q p) = new_order_taken q p
@@ -83,8 +82,7 @@ marks (InDeliveries q done DeliveryQueue) = true
 marks _ = false
 
 -- The stages that insert a row may need memory for its place in a table. No other stage takes any but for a name that
--- is new: the memory for
--- undo records is taken with their ring.
+-- is new: the memory for undo records is taken with their ring.
 abbrev pub may_allocate : Position → Bool
 may_allocate (InPayment q (PaymentHistory d y)) = true
 may_allocate (InNewOrder q (NewOrderOrder s)) = true

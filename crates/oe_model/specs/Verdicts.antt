@@ -48,8 +48,7 @@ IsMet Tenth r = Condition_10 r
 IsMet Twelfth r = Condition_12 r
 
 -- the first row at which the condition fails: for conditions 1 and 8 a WAREHOUSE row, for 2, 3, 4 and 9 a DISTRICT row,
--- for 5 and 6
--- an ORDER row, for 7 an ORDER-LINE row, for 10 and 12 a CUSTOMER row
+-- for 5 and 6 an ORDER row, for 7 an ORDER-LINE row, for 10 and 12 a CUSTOMER row
 abbrev pub IsFirstRow : Condition → Rows → Key → Type 0
 IsFirstRow First r (key.Warehouse w) = IsFirstFailing (Condition_1_at r) r.warehouses w
 IsFirstRow Second r (key.District h) = IsFirstFailing (Condition_2_at r) r.districts h

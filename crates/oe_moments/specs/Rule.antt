@@ -1,7 +1,6 @@
--- The rule of the words: what they keep, and what each step makes of what its seat's holder knows.
--- Word 0 is the newest moment that was told, word 1 what the keeper claims, word 2 the moment up to which it has
--- purged, and word
--- d + 3 the pin of desk d: 0 for none, 2 n + 1 for an announced pin of n, and 2 n + 2 for a sure one.
+-- The rule of the words: what they keep, and what each step makes of what its seat's holder knows. Word 0 is the newest
+-- moment that was told, word 1 what the keeper claims, word 2 the moment up to which it has purged, and word d + 3 the
+-- pin of desk d: 0 for none, 2 n + 1 for an announced pin of n, and 2 n + 2 for a sure one.
 use Rattle.std.specs.Prelude.{◌≡◌, ◌≢◌, ℕ, ◌+◌, ◌*◌, ◌-◌, ◌/◌, ◌<◌, ◌≤◌, min, max, true, false, List, length}
 use Rattle.std.specs.Prelude.{slice_index, ◌==◌, if◌then◌else◌}
 use mathlib.Core.Option.{some}

@@ -42,11 +42,9 @@ PastBy w (theory.Rewound m) v =
 PastBy w a v = Unit {0}
 
 -- In each world that is passed conditions 1 to 4 (clauses 3.3.2.1 to 3.3.2.4) hold of the version of each moment, and
--- of the tables
--- when none is open. A row that ends its transaction commits its whole effect on the newest version and makes the next
--- moment, or
--- rolls it back where that effect is none, with the program's own refusal there. Purges and rewinds are as `PastBy`
--- says
+-- of the tables when none is open. A row that ends its transaction commits its whole effect on the newest version and
+-- makes the next moment, or rolls it back where that effect is none, with the program's own refusal there. Purges and
+-- rewinds are as `PastBy` says
 abbrev pub AreWhole : World system → List Step → List Answer → World system → Type 0
 AreWhole w [] [] w' = Is_consistent w × (w ≡ w')
 AreWhole w (i ∷ is) (a ∷ ys) w' =
@@ -57,8 +55,7 @@ AreWhole w [] (a ∷ ys) w' = ⊥
 AreWhole w (i ∷ is) [] w' = ⊥
 
 -- What follows of a run from a world that steps led to. It is a run of the machine; each of its transactions ends
--- whole, and
--- conditions 1 to 4 hold all the way; and a transaction that is rolled back in it leaves no trace
+-- whole, and conditions 1 to 4 hold all the way; and a transaction that is rolled back in it leaves no trace
 pub record Ran (w : World system) (is : List Step) (ys : List Answer) (w' : World system) : Type 0 where
   pub runs : Runs system w (steps_in is) (answers_in is ys) w'
   pub reached : IsReached system w'
@@ -77,6 +74,5 @@ pub record Ran (w : World system) (is : List Step) (ys : List Answer) (w' : Worl
   pub conditions : (m : ℕ) → Conditions (at system w' m)
   pub when_quiet : IsQuiet system w' → Conditions (tables system w')
   -- conditions 5 to 10 and 12 (clauses 3.3.2.5 to 3.3.2.10 and 3.3.2.12) hold of the version of each moment, where they
-  -- held of the
-  -- base that the run began on
+  -- held of the base that the run began on
   pub more : More w.base → (m : ℕ) → More (at system w' m)

@@ -18,8 +18,7 @@ state_of None = None
 state_of (Some c) = Some (world_of c)
 
 -- a position of a program that steps of today run: a payment's, an order's, or a delivery's, of one district or of ten;
--- while a district
--- of ten is at hand, others are not done
+-- while a district of ten is at hand, others are not done
 abbrev pub IsServed : Position → Type 0
 IsServed (InPayment q p) = Unit {0}
 IsServed (InNewOrder q p) = Unit {0}
@@ -94,11 +93,9 @@ abbrev pub ReadFailed : Source → Source → Type 0
 ReadFailed a b = (b.failures ≡ a.failures + 1) ⊎ ((b.failures ≡ a.failures) × (2 ^ 64 ≤ length a.remaining + 1))
 
 -- How a script ends, where reader and writer tell their bytes. Without a fault no call of theirs failed in this run,
--- all of the input is
--- read, and an output of it is written. After a fault one call failed, of the reader or the writer that it names, and
--- none of the other; but
--- an input of 2^64 - 1 bytes or more may end in a fault of the reader without one. After a fault of the reader the
--- whole lines are answered.
+-- all of the input is read, and an output of it is written. After a fault one call failed, of the reader or the writer
+-- that it names, and none of the other; but an input of 2^64 - 1 bytes or more may end in a fault of the reader without
+-- one. After a fault of the reader the whole lines are answered.
 abbrev pub ScriptRan : Option Source → Option Source → Option Sink → Option Sink → Result (Unit {0}) Fault → Type 0
 ScriptRan (Some a) (Some b) (Some c) (Some d) (Ok x) =
     (b.failures ≡ a.failures) × (d.failures ≡ c.failures) × (b.remaining ≡ [])

@@ -12,8 +12,7 @@ abbrev pub random : ℕ → ℕ → Lcg → ℕ × Lcg
 random x y g = (x + (pcg32 g).0 % (y - x + 1), (pcg32 g).1)
 
 -- a number from x to y, some more often than others: NURand(A, x, y) with the constant C. The number up to A is drawn
--- first
--- (clause 2.1.6)
+-- first (clause 2.1.6)
 abbrev pub nurand : ℕ → ℕ → ℕ → ℕ → Lcg → ℕ × Lcg
 nurand a c x y g =
     let left = random 0 a g in

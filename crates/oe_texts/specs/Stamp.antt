@@ -3,16 +3,16 @@ use Rattle.std.specs.Prelude.{ℕ, zero, suc, ◌+◌, ◌-◌, ◌/◌, ◌%◌
 use Rattle.jiff_core.specs.Calendar.{days_in_year, days_in_month}
 use Rattle.oe_values.specs.Stamp.{date_text, time_text}
 
--- the year of the day that lies `day` days after 1 January of `year`, and the day's number in it from 0;
--- at most `more` years are taken off
+-- the year of the day that lies `day` days after 1 January of `year`, and the day's number in it from 0; at most `more`
+-- years are taken off
 abbrev pub year_and_day : ℕ → ℕ → ℕ → ℕ × ℕ
 year_and_day zero year day = (year, day)
 year_and_day (suc more) year day =
     if nat_lt day (days_in_year (pos year)) then (year, day)
     else year_and_day more (year + 1) (day - days_in_year (pos year))
 
--- the month of the day that lies `day` days after the first of `month`, and the day's number in it from 0;
--- at most `more` months are taken off
+-- the month of the day that lies `day` days after the first of `month`, and the day's number in it from 0; at most
+-- `more` months are taken off
 abbrev pub month_and_day : ℕ → ℤ → ℕ → ℕ → ℕ × ℕ
 month_and_day zero year month day = (month, day)
 month_and_day (suc more) year month day =

@@ -125,8 +125,7 @@ module _ (M : Machine) where
   Fit Fits (Some c) r = Fits c r
 
   -- The program alone, from this position and map, each lock granted, ends with this map and reply, or with none and
-  -- one of
-  -- these refusals; and each change that it makes fits the map on which it is made.
+  -- one of these refusals; and each change that it makes fits the map on which it is made.
   pub data Ends (x : Tx Request) (Only : Refusal → Type 0) (Fits : Change → Map → Type 0) : Position → Map
       → Option (Map × Reply) → Type 0 where
     stops_here : (p : Position) (r : Map) (e : Refusal) → Only e → ask x p r ≡ Stop e → Ends x Only Fits p r None

@@ -6,8 +6,8 @@ pub data Mode : Type 0 where
   Shared : Mode
   Exclusive : Mode
 
--- what a row's key lies under: no name, since the row never changes; a lock's name; or the one
--- transaction, by its terminal and its number, that the key belongs to
+-- what a row's key lies under: no name, since the row never changes; a lock's name; or the one transaction, by its
+-- terminal and its number, that the key belongs to
 pub data Guard (Name : Type 0) : Type 0 where
   Free : Guard Name
   Under : Name → Guard Name

@@ -44,8 +44,8 @@ module _ (M : Machine) where
   Steps_are_counted = (w v : World M) (i : Step M) (a : Answer M) → IsReached M w → Next M w i a v → Is_counted w a v
 
   -- The stage that ends its transaction: at a commit the changes made stage by stage are the whole effect on the newest
-  -- version, and
-  -- make the next moment; where it is rolled back that effect is none, and the refusal is the program's own there
+  -- version, and make the next moment; where it is rolled back that effect is none, and the refusal is the program's
+  -- own there
   abbrev pub IsEnding : World M → Answer M → Step M → World M → Type 0
   IsEnding w (Committed m y) (Advance t) v = Is_whole M w t y v × (m ≡ newest M v) × (newest M v ≡ suc (newest M w))
   IsEnding w (Aborted e) (Advance t) v = Is_none M w t × Is_refused M w t e

@@ -356,8 +356,7 @@ module _ (M : Machine) where
       → HasRecord M k (s.undo.active v) → t ≡ v
 
   -- put back in turn, those of open transactions in any order and then those of commits from the newest, each record
-  -- finds
-  -- the row that its change left, and P holds all the way
+  -- finds the row that its change left, and P holds all the way
   abbrev pub Each_goes_back_here : (M.Map → Type 0) → Type 0
   Each_goes_back_here P =
       (s : Store M) (ts : List ℕ) → IsStanding s → AreAllIn s ts

@@ -78,8 +78,7 @@ module _ (M : Machine) where
       → M.rejection o.request (latest M w) ≡ None
 
   -- the transaction that a refusal has ended: its program alone, from the newest version, comes to that refusal, which
-  -- is one of
-  -- those that it may end with
+  -- is one of those that it may end with
   pub record Is_refused (w : World M) (t : ℕ) (e : M.Refusal) : Type 0 where
     pub was : Open M
     pub is_open : w.active t ≡ Some was

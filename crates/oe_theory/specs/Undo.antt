@@ -84,8 +84,7 @@ module _ (M : Machine) where
   HasRecordIn k (bs ∷ ss) = HasRecord k bs ⊎ HasRecordIn k ss
 
   -- the record is of a change that the tables `on` accepted; it finds in r the row that this change left, and putting
-  -- it back
-  -- gives the row that `on` has
+  -- it back gives the row that `on` has
   pub record Finds (b : Record) (r : Map) : Type 0 where
     pub change : Change
     pub on : Map

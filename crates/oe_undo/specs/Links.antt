@@ -1,6 +1,5 @@
 -- Links, and the places that keep them. A key without a link may have a place for one. HISTORY's keys have theirs in a
--- finite map, and
--- the keys of the other tables by their numbers.
+-- finite map, and the keys of the other tables by their numbers.
 use Rattle.std.specs.Prelude.{◌≡◌, ◌↔◌, ◌⊎◌, Bool, true, false, [], cond, Option, Some, IsSome}
 use Rattle.std.specs.Ordering.{eq_by_cmp}
 use Rattle.std.specs.FinMap.{FinMap, empty, get, insert}
@@ -130,8 +129,7 @@ abbrev pub GivesAtMost : LinkMaps → LinkMaps → Key → Type 0
 GivesAtMost old new own = (k : Key) → HasPlace new k → HasPlace old k ⊎ Comes own k
 
 -- the key has this link, whether or not it had a place; all other links are as they were, no place is lost, and none is
--- given where
--- the key had one
+-- given where the key had one
 pub record LeadsTo (old new : LinkMaps) (own : Key) (l : Option OwnedLink) : Type 0 where
   pub links : (k : Key) → links_of new k ≡ cond (is_key own k) l (links_of old k)
   pub kept : KeepsPlaces old new

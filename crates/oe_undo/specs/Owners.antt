@@ -1,6 +1,5 @@
 -- What became of the transactions whose records links lead to. A link keeps its transaction, and the log knows whether
--- that is open, or at
--- which moment it committed.
+-- that is open, or at which moment it committed.
 use Rattle.std.specs.Prelude.{◌≡◌, ⊤, ℕ, suc, ◌≤◌, ◌<◌, ◌-◌, ◌==◌, nat_lt, cond, List, [], ◌∷◌, length, get_or}
 use Rattle.std.specs.Prelude.{slice_get, Option, None, Some, IsSome, option_map}
 use Rattle.std.specs.List.{All}

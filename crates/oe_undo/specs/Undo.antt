@@ -36,8 +36,7 @@ pub record HasPushed (old new : UndoState) (t : ℕ) (p : Previous) (b : Record)
       (Some (record { address = address; owner = next_owner old.log t }))
 
 -- why a record is not pushed: it fits neither the rest of the terminal's newest extent nor a free one; or it does, and
--- memory was
--- refused for the place of its key's link
+-- memory was refused for the place of its key's link
 abbrev pub IsUnpushed : UndoState → ℕ → Record → CantPush → Type 0
 IsUnpushed s t b cant_push.Full = IsFull s.log t (record_length b)
 IsUnpushed s t b cant_push.NoMemory =

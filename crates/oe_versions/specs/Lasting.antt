@@ -18,8 +18,8 @@ abbrev pub names_of : Option Row → Option (List ℕ × List ℕ)
 names_of v = option_map (λ x. (x.name.first, x.name.last)) (option_and_then as_customer v)
 
 -- What a key had at a moment it has now, as far as this: a row of five tables is there or not at all times, and a
--- customer has its
--- names; a row that is inserted stays, but for one of NEW-ORDER, one of HISTORY as it is, and an order has its customer
+-- customer has its names; a row that is inserted stays, but for one of NEW-ORDER, one of HISTORY as it is, and an order
+-- has its customer
 abbrev pub Lasts : Key → Option Row → Option Row → Type 0
 Lasts (key.Warehouse k) before now = is_some before ≡ is_some now
 Lasts (key.District k) before now = is_some before ≡ is_some now
