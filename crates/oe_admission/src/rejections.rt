@@ -11,7 +11,7 @@ use oe_rows::{Key, WarehouseKey};
 use oe_store::Tables;
 use oe_values::WarehouseNumber;
 
-/// `NoSuchRow` of a warehouse that isn't there.
+/// Gives `NoSuchRow` of a warehouse that isn't there.
 #[inline]
 fn absent(tables: &Tables, warehouse: WarehouseNumber) -> Option<Refusal>
     ensures { result ≡ first_absent (warehouse ∷ []) (rows tables.now) }
@@ -22,8 +22,8 @@ fn absent(tables: &Tables, warehouse: WarehouseNumber) -> Option<Refusal>
     }
 }
 
-/// `NoSuchRow` of the first of a payment's two warehouses that isn't there. They are mostly one,
-/// which is then looked up once.
+/// Gives `NoSuchRow` of the first of a payment's two warehouses that isn't there. They are mostly
+/// one, which is then looked up once.
 #[inline]
 fn absent_of_payment(tables: &Tables, payment: &PaymentRequest) -> Option<Refusal>
     ensures { result ≡ first_absent (payment.now.district.warehouse
@@ -40,7 +40,8 @@ fn absent_of_payment(tables: &Tables, payment: &PaymentRequest) -> Option<Refusa
     absent(tables, second)
 }
 
-/// `NoSuchRow` of the first warehouse, in line order, that is to supply an item and isn't there.
+/// Gives `NoSuchRow` of the first warehouse, in line order, that is to supply an item and isn't
+/// there.
 fn absent_supply(tables: &Tables, lines: &[RequestLine]) -> Option<Refusal>
     ensures { result ≡ first_absent (map (λ l. l.supply) lines.now) (rows tables.now) }
 {
@@ -52,7 +53,8 @@ fn absent_supply(tables: &Tables, lines: &[RequestLine]) -> Option<Refusal>
     None
 }
 
-/// `NoSuchRow` of the first warehouse, from the left, that the request names and that isn't there.
+/// Gives `NoSuchRow` of the first warehouse, from the left, that the request names and that isn't
+/// there.
 pub fn rejection(tables: &Tables, request: &Request) -> Option<Refusal>
     requires { HasProgram request.now }
     ensures { result ≡ model.rejection request.now (rows tables.now) }

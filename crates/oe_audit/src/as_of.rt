@@ -27,7 +27,7 @@ pub(crate) enum AsOf<'a> {
 }
 
 impl<'a> AsOf<'a> {
-    /// W_YTD of the row that a key has then, where it has this one now.
+    /// Gives W_YTD of the row that a key has then, where it has this one now.
     pub(crate) fn warehouse_ytd(
         &self,
         tables: &Tables,
@@ -43,7 +43,7 @@ impl<'a> AsOf<'a> {
         }
     }
 
-    /// D_YTD of the row that a key has then, where it has this one now.
+    /// Gives D_YTD of the row that a key has then, where it has this one now.
     pub(crate) fn district_ytd(
         &self,
         tables: &Tables,
@@ -59,7 +59,7 @@ impl<'a> AsOf<'a> {
         }
     }
 
-    /// D_NEXT_O_ID of the row that a key has then, where it has this one now.
+    /// Gives D_NEXT_O_ID of the row that a key has then, where it has this one now.
     pub(crate) fn next_order(
         &self,
         tables: &Tables,
@@ -75,7 +75,7 @@ impl<'a> AsOf<'a> {
         }
     }
 
-    /// The ORDER row that a key has then, where it has this one now.
+    /// Gives the ORDER row that a key has then, where it has this one now.
     pub(crate) fn order(&self, tables: &Tables, key: &OrderKey, row: &Order) -> Option<Order>
         ensures { result
             ≡ row_then self.now (rows_then tables.now self.now).orders key.now row.now }
@@ -86,7 +86,7 @@ impl<'a> AsOf<'a> {
         }
     }
 
-    /// Whether a key has an ORDER-LINE row then, where it has one now.
+    /// Tells whether a key has an ORDER-LINE row then, where it has one now.
     pub(crate) fn has_order_line(&self, tables: &Tables, key: &OrderLineKey) -> bool
         ensures { result
             ≡ has_row_then self.now (rows_then tables.now self.now).order_lines key.now }
@@ -97,7 +97,7 @@ impl<'a> AsOf<'a> {
         }
     }
 
-    /// Whether a key has a NEW-ORDER row then.
+    /// Tells whether a key has a NEW-ORDER row then.
     pub(crate) fn has_new_order(&self, tables: &Tables, key: &NewOrderKey) -> bool
         ensures { result ≡ is_some (get (rows_then tables.now self.now).new_orders key.now) }
     {
@@ -107,7 +107,8 @@ impl<'a> AsOf<'a> {
         }
     }
 
-    /// The money and counts of the CUSTOMER row that a key has then, where it has this one now.
+    /// Gives the money and counts of the CUSTOMER row that a key has then, where it has this one
+    /// now.
     pub(crate) fn account(
         &self,
         tables: &Tables,
@@ -123,7 +124,7 @@ impl<'a> AsOf<'a> {
         }
     }
 
-    /// Whether a key has a HISTORY row then, where it has one now.
+    /// Tells whether a key has a HISTORY row then, where it has one now.
     pub(crate) fn has_history(&self, tables: &Tables, key: &HistoryKey) -> bool
         ensures { result
             ≡ has_row_then self.now (rows_then tables.now self.now).histories key.now }
@@ -134,7 +135,7 @@ impl<'a> AsOf<'a> {
         }
     }
 
-    /// The ORDER row that a key has then.
+    /// Gives the ORDER row that a key has then.
     pub(crate) fn order_at(&self, tables: &Tables, key: &OrderKey) -> Option<Order>
         ensures { result ≡ get (rows_then tables.now self.now).orders key.now }
     {
@@ -144,7 +145,7 @@ impl<'a> AsOf<'a> {
         }
     }
 
-    /// A copy of the ORDER-LINE row that a key has then, where it has this one now.
+    /// Gives a copy of the ORDER-LINE row that a key has then, where it has this one now.
     pub(crate) fn order_line(
         &self,
         tables: &Tables,

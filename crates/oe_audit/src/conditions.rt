@@ -29,7 +29,7 @@ pub(crate) enum DistrictCondition {
     Fourth,
 }
 
-/// The verdict of the first condition (clause 3.3.2.1).
+/// Gives the verdict of the first condition (clause 3.3.2.1).
 fn first<'a>(tables: &'a Tables, when: &AsOf<'a>) -> Verdict
     requires { ArePassed (rows_then tables.now when.now) (rows tables.now) }
     ensures { IsVerdict First (rows_then tables.now when.now) result }
@@ -47,7 +47,7 @@ fn first<'a>(tables: &'a Tables, when: &AsOf<'a>) -> Verdict
     Verdict::Holds
 }
 
-/// Whether a district with this D_NEXT_O_ID passes a condition.
+/// Tells whether a district with this D_NEXT_O_ID passes a condition.
 fn passes<'a>(
     condition: &DistrictCondition,
     tables: &'a Tables,
@@ -65,7 +65,7 @@ fn passes<'a>(
     }
 }
 
-/// The verdict of a condition of districts (clauses 3.3.2.2 to 3.3.2.4).
+/// Gives the verdict of a condition of districts (clauses 3.3.2.2 to 3.3.2.4).
 fn of_districts<'a>(condition: &DistrictCondition, tables: &'a Tables, when: &AsOf<'a>) -> Verdict
     requires { ArePassed (rows_then tables.now when.now) (rows tables.now) }
     ensures { IsVerdict (model_condition condition.now) (rows_then tables.now when.now) result }
@@ -83,7 +83,7 @@ fn of_districts<'a>(condition: &DistrictCondition, tables: &'a Tables, when: &As
     Verdict::Holds
 }
 
-/// The verdict of a condition, found row by row.
+/// Gives the verdict of a condition, found row by row.
 fn found<'a>(number: Condition, tables: &'a Tables, when: &AsOf<'a>) -> Verdict
     requires { ArePassed (rows_then tables.now when.now) (rows tables.now) }
     ensures { IsAudited number (rows_then tables.now when.now) result }
@@ -103,10 +103,10 @@ fn found<'a>(number: Condition, tables: &'a Tables, when: &AsOf<'a>) -> Verdict
     }
 }
 
-/// The verdict of a consistency condition: that it holds, or the first row, in key order, at which
-/// it fails. That is a WAREHOUSE row for conditions 1 and 8, a DISTRICT row for 2, 3, 4 and 9, an
-/// ORDER row for 5 and 6, an ORDER-LINE row for 7, and a CUSTOMER row for 10 and 12; a district
-/// without an order fails the second.
+/// Gives the verdict of a consistency condition: that it holds, or the first row, in key order, at
+/// which it fails. That is a WAREHOUSE row for conditions 1 and 8, a DISTRICT row for 2, 3, 4 and
+/// 9, an ORDER row for 5 and 6, an ORDER-LINE row for 7, and a CUSTOMER row for 10 and 12; a
+/// district without an order fails the second.
 ///
 /// Each audit walks the rows that it concerns once, but for those of HISTORY: it walks them once
 /// for each warehouse or district. It takes no memory.
@@ -117,8 +117,8 @@ pub fn condition(number: Condition, tables: &Tables) -> Verdict
     found(number, tables, &AsOf::Now)
 }
 
-/// Whether there is nothing to put back: no commit is later than the moment, and no transaction is
-/// open.
+/// Tells whether there is nothing to put back: no commit is later than the moment, and no
+/// transaction is open.
 fn is_settled(undo: &Undo, moment: Moment) -> bool
     ensures commits { IsTrue result → newest undo.now.log ≡ moment }
     ensures open { IsTrue result → open_total undo.now.log ≡ 0 }
@@ -126,9 +126,9 @@ fn is_settled(undo: &Undo, moment: Moment) -> bool
     undo.segments().newest().get() == moment.get() && undo.segments().open_count() == 0
 }
 
-/// The verdict of a consistency condition at a moment, as `condition` would have given it when that
-/// moment was the newest, whatever has been open or committed since: that it held, or the first
-/// row, in key order, at which it failed.
+/// Gives the verdict of a consistency condition at a moment, as `condition` would have given it
+/// when that moment was the newest, whatever has been open or committed since: that it held, or the
+/// first row, in key order, at which it failed.
 ///
 /// `TooOld` with the horizon and `Future` with the newest moment, exactly where the moment is not
 /// between the two. It takes no memory. It walks the rows that it concerns once, and goes for each

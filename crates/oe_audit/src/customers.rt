@@ -19,8 +19,8 @@ pub(crate) enum CustomerCondition {
     Twelfth,
 }
 
-/// Whether an account agrees with what was delivered to the customer and with what the customer has
-/// paid (clauses 3.3.2.10 and 3.3.2.12).
+/// Tells whether an account agrees with what was delivered to the customer and with what the
+/// customer has paid (clauses 3.3.2.10 and 3.3.2.12).
 fn agrees(condition: &CustomerCondition, account: &Account, delivered: u64, paid: u64) -> bool
     ensures value { result ≡ agrees condition.now account.now delivered paid }
     ensures ranges { IsAccount account.now }
@@ -33,7 +33,7 @@ fn agrees(condition: &CustomerCondition, account: &Account, delivered: u64, paid
     }
 }
 
-/// Whether an account agrees with the ledger's sums of its customer.
+/// Tells whether an account agrees with the ledger's sums of its customer.
 fn agrees_with(
     condition: &CustomerCondition,
     ledger: &Ledger,
@@ -50,7 +50,8 @@ fn agrees_with(
     agrees(condition, account, ledger.delivered[at], ledger.paid[at])
 }
 
-/// Whether the CUSTOMER row that a key has then, where it has this one now, passes a condition.
+/// Tells whether the CUSTOMER row that a key has then, where it has this one now, passes a
+/// condition.
 fn passes<'a>(
     condition: &CustomerCondition,
     tables: &'a Tables,
@@ -72,7 +73,7 @@ fn passes<'a>(
     }
 }
 
-/// The verdict of a condition of customers (clauses 3.3.2.10 and 3.3.2.12).
+/// Gives the verdict of a condition of customers (clauses 3.3.2.10 and 3.3.2.12).
 pub(crate) fn of_customers<'a>(
     condition: &CustomerCondition,
     tables: &'a Tables,

@@ -12,7 +12,7 @@ use oe_store::Tables;
 use oe_table::shelf_walks::Rows;
 use oe_values::OrderNumber;
 
-/// The greater of a number and the one before it, where there is one.
+/// Gives the greater of a number and the one before it, where there is one.
 fn greater(before: Option<u32>, number: u32) -> u32
     ensures { result ≡ greater_of before number }
 {
@@ -22,7 +22,7 @@ fn greater(before: Option<u32>, number: u32) -> u32
     }
 }
 
-/// The greatest O_ID of a district.
+/// Gives the greatest O_ID of a district.
 fn last_order<'a>(tables: &'a Tables, when: &AsOf<'a>, key: &DistrictKey) -> Option<u32>
     requires { ArePassed (rows_then tables.now when.now) (rows tables.now) }
     ensures { result ≡ greatest (order_numbers key.now (rows_then tables.now when.now).orders) }
@@ -37,7 +37,7 @@ fn last_order<'a>(tables: &'a Tables, when: &AsOf<'a>, key: &DistrictKey) -> Opt
     last
 }
 
-/// The greatest NO_O_ID of a district.
+/// Gives the greatest NO_O_ID of a district.
 fn last_new_order<'a>(tables: &'a Tables, when: &AsOf<'a>, key: &DistrictKey) -> Option<u32>
     requires { ArePassed (rows_then tables.now when.now) (rows tables.now) }
     ensures { result
@@ -53,7 +53,7 @@ fn last_new_order<'a>(tables: &'a Tables, when: &AsOf<'a>, key: &DistrictKey) ->
     last
 }
 
-/// Whether there is such a number, and it is the last.
+/// Tells whether there is such a number, and it is the last.
 fn is_last(number: Option<u32>, last: u32) -> bool
     ensures { result ≡ some_and number (λ n. n == last) }
 {
@@ -63,7 +63,7 @@ fn is_last(number: Option<u32>, last: u32) -> bool
     }
 }
 
-/// Whether there is no such number, or it is the last.
+/// Tells whether there is no such number, or it is the last.
 fn is_last_or_none(number: Option<u32>, last: u32) -> bool
     ensures { result ≡ none_or number (λ n. n == last) }
 {
@@ -73,7 +73,7 @@ fn is_last_or_none(number: Option<u32>, last: u32) -> bool
     }
 }
 
-/// Whether D_NEXT_O_ID - 1 is the greatest O_ID, and the greatest NO_O_ID where there is one
+/// Tells whether D_NEXT_O_ID - 1 is the greatest O_ID, and the greatest NO_O_ID where there is one
 /// (clause 3.3.2.2).
 pub(crate) fn passes_second<'a>(
     tables: &'a Tables,
@@ -94,7 +94,7 @@ pub(crate) fn passes_second<'a>(
     is_last_or_none(new_order, last)
 }
 
-/// Whether a number is one more than the one before it, where there is one.
+/// Tells whether a number is one more than the one before it, where there is one.
 fn follows_number(before: Option<u32>, number: u32) -> bool
     requires { 1 ≤ number }
     ensures { result ≡ follows before number }
@@ -105,8 +105,8 @@ fn follows_number(before: Option<u32>, number: u32) -> bool
     }
 }
 
-/// Whether the greatest NO_O_ID less the least, and 1, is the number of NEW-ORDER rows (clause
-/// 3.3.2.3): in their order each has the number after the one before.
+/// Tells whether the greatest NO_O_ID less the least, and 1, is the number of NEW-ORDER rows
+/// (clause 3.3.2.3): in their order each has the number after the one before.
 pub(crate) fn passes_third<'a>(tables: &'a Tables, when: &AsOf<'a>, key: &DistrictKey) -> bool
     requires { ArePassed (rows_then tables.now when.now) (rows tables.now) }
     ensures { result ≡ are_counted (rows_then tables.now when.now) key.now }
@@ -151,7 +151,7 @@ pub(crate) fn takes<'a>(
     true
 }
 
-/// Whether a walk has a row yet that stood then.
+/// Tells whether a walk has a row yet that stood then.
 pub(crate) fn has_more<'a>(
     lines: &mut Rows<'a, OrderLineKey, OrderLine>,
     tables: &'a Tables,
@@ -162,8 +162,8 @@ pub(crate) fn has_more<'a>(
     takes(lines, tables, when, 1)
 }
 
-/// Whether the sum of O_OL_CNT is the number of ORDER-LINE rows (clause 3.3.2.4): the orders take
-/// their numbers of rows off the walk of the lines, and none is left.
+/// Tells whether the sum of O_OL_CNT is the number of ORDER-LINE rows (clause 3.3.2.4): the orders
+/// take their numbers of rows off the walk of the lines, and none is left.
 pub(crate) fn passes_fourth<'a>(tables: &'a Tables, when: &AsOf<'a>, key: &DistrictKey) -> bool
     requires { ArePassed (rows_then tables.now when.now) (rows tables.now) }
     ensures { result ≡ lines_agree (rows_then tables.now when.now) key.now }

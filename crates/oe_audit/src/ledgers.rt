@@ -25,7 +25,7 @@ pub(crate) struct Ledger {
     pub(crate) paid: [u64; 3_000],
 }
 
-/// A sum of 0 for each C_ID.
+/// Gives a sum of 0 for each C_ID.
 fn zeros() -> [u64; 3_000]
     ensures { (c : ℕ) → 1 ≤ c → c ≤ 3_000 → sum_for result c ≡ 0 }
 {
@@ -81,7 +81,7 @@ fn add_line_then<'a>(
     }
 }
 
-/// The sums of OL_AMOUNT with a delivery date, by the O_C_ID of the district's orders.
+/// Gives the sums of OL_AMOUNT with a delivery date, by the O_C_ID of the district's orders.
 fn delivered_sums<'a>(tables: &'a Tables, when: &AsOf<'a>, district: &DistrictKey) -> [u64; 3_000]
     requires { ArePassed (rows_then tables.now when.now) (rows tables.now) }
     ensures { AreDelivered (rows_then tables.now when.now) district.now result }
@@ -93,7 +93,7 @@ fn delivered_sums<'a>(tables: &'a Tables, when: &AsOf<'a>, district: &DistrictKe
     sums
 }
 
-/// Whether a HISTORY row stood then, and is of a payment of a customer of the district.
+/// Tells whether a HISTORY row stood then, and is of a payment of a customer of the district.
 fn counts<'a>(
     tables: &'a Tables,
     when: &AsOf<'a>,
@@ -132,7 +132,7 @@ fn add_payment<'a>(
     add(sums, row.customer.customer, amount);
 }
 
-/// The sums of H_AMOUNT, by the H_C_ID of the district's customers.
+/// Gives the sums of H_AMOUNT, by the H_C_ID of the district's customers.
 fn paid_sums<'a>(tables: &'a Tables, when: &AsOf<'a>, district: &DistrictKey) -> [u64; 3_000]
     requires { ArePassed (rows_then tables.now when.now) (rows tables.now) }
     ensures { ArePaid (rows_then tables.now when.now) district.now result }
@@ -145,7 +145,7 @@ fn paid_sums<'a>(tables: &'a Tables, when: &AsOf<'a>, district: &DistrictKey) ->
 }
 
 impl Ledger {
-    /// The ledger of no district.
+    /// Gives the ledger of no district.
     pub(crate) fn new<'a>(tables: &'a Tables, when: &AsOf<'a>) -> Self
         ensures { IsLedger (rows_then tables.now when.now) result }
     {

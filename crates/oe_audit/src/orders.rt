@@ -18,7 +18,7 @@ pub(crate) enum OrderCondition {
     Sixth,
 }
 
-/// Whether O_CARRIER_ID is null exactly where the order has a NEW-ORDER row (clause 3.3.2.5).
+/// Tells whether O_CARRIER_ID is null exactly where the order has a NEW-ORDER row (clause 3.3.2.5).
 fn passes_fifth<'a>(tables: &'a Tables, when: &AsOf<'a>, key: &OrderKey, order: &Order) -> bool
     ensures { result ≡ passes_5 (rows_then tables.now when.now) key.now order.now }
 {
@@ -29,7 +29,7 @@ fn passes_fifth<'a>(tables: &'a Tables, when: &AsOf<'a>, key: &OrderKey, order: 
     }
 }
 
-/// Whether O_OL_CNT is the number of the order's ORDER-LINE rows (clause 3.3.2.6).
+/// Tells whether O_OL_CNT is the number of the order's ORDER-LINE rows (clause 3.3.2.6).
 fn passes_sixth<'a>(tables: &'a Tables, when: &AsOf<'a>, key: &OrderKey, line_count: u32) -> bool
     requires { ArePassed (rows_then tables.now when.now) (rows tables.now) }
     ensures { result
@@ -44,7 +44,7 @@ fn passes_sixth<'a>(tables: &'a Tables, when: &AsOf<'a>, key: &OrderKey, line_co
     !has_more
 }
 
-/// Whether an order with this row passes a condition.
+/// Tells whether an order with this row passes a condition.
 fn passes<'a>(
     condition: &OrderCondition,
     tables: &'a Tables,
@@ -62,7 +62,7 @@ fn passes<'a>(
     }
 }
 
-/// The verdict of a condition of orders (clauses 3.3.2.5 and 3.3.2.6).
+/// Gives the verdict of a condition of orders (clauses 3.3.2.5 and 3.3.2.6).
 pub(crate) fn of_orders<'a>(
     condition: &OrderCondition,
     tables: &'a Tables,
@@ -84,7 +84,7 @@ pub(crate) fn of_orders<'a>(
     Verdict::Holds
 }
 
-/// Whether OL_DELIVERY_D is null exactly where the order's O_CARRIER_ID is (clause 3.3.2.7).
+/// Tells whether OL_DELIVERY_D is null exactly where the order's O_CARRIER_ID is (clause 3.3.2.7).
 fn passes_seventh<'a>(
     tables: &'a Tables,
     when: &AsOf<'a>,
@@ -102,7 +102,7 @@ fn passes_seventh<'a>(
     }
 }
 
-/// The verdict of the seventh condition (clause 3.3.2.7).
+/// Gives the verdict of the seventh condition (clause 3.3.2.7).
 pub(crate) fn seventh<'a>(tables: &'a Tables, when: &AsOf<'a>) -> Verdict
     requires { ArePassed (rows_then tables.now when.now) (rows tables.now) }
     ensures { IsVerdict Seventh (rows_then tables.now when.now) result }

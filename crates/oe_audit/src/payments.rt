@@ -23,7 +23,7 @@ pub(crate) enum Place {
     District(DistrictKey),
 }
 
-/// Whether a payment in the district is one in the place.
+/// Tells whether a payment in the district is one in the place.
 fn is_in(place: &Place, district: &DistrictKey) -> bool
     ensures { result ≡ is_in place.now district.now }
 {
@@ -33,7 +33,7 @@ fn is_in(place: &Place, district: &DistrictKey) -> bool
     }
 }
 
-/// Whether a HISTORY row stood then, and is of a payment in the place.
+/// Tells whether a HISTORY row stood then, and is of a payment in the place.
 fn counts<'a>(
     tables: &'a Tables,
     when: &AsOf<'a>,
@@ -47,7 +47,7 @@ fn counts<'a>(
     is_in(place, &row.district) && when.has_history(tables, key)
 }
 
-/// H_AMOUNT of a HISTORY row that counts, and 0 of another.
+/// Gives H_AMOUNT of a HISTORY row that counts, and 0 of another.
 fn amount_in<'a>(
     tables: &'a Tables,
     when: &AsOf<'a>,
@@ -64,7 +64,8 @@ fn amount_in<'a>(
     row.amount.cents()
 }
 
-/// Whether this is the sum of H_AMOUNT of the payments in the place (clauses 3.3.2.8 and 3.3.2.9).
+/// Tells whether this is the sum of H_AMOUNT of the payments in the place (clauses 3.3.2.8 and
+/// 3.3.2.9).
 ///
 /// What was paid is taken away from the sum, so that no sum leaves its range.
 fn passes_paid<'a>(tables: &'a Tables, when: &AsOf<'a>, place: &Place, ytd: YearToDate) -> bool
@@ -82,7 +83,7 @@ fn passes_paid<'a>(tables: &'a Tables, when: &AsOf<'a>, place: &Place, ytd: Year
     rest == 0
 }
 
-/// The verdict of the eighth condition (clause 3.3.2.8).
+/// Gives the verdict of the eighth condition (clause 3.3.2.8).
 pub(crate) fn eighth<'a>(tables: &'a Tables, when: &AsOf<'a>) -> Verdict
     requires { ArePassed (rows_then tables.now when.now) (rows tables.now) }
     ensures { IsVerdict Eighth (rows_then tables.now when.now) result }
@@ -100,7 +101,7 @@ pub(crate) fn eighth<'a>(tables: &'a Tables, when: &AsOf<'a>) -> Verdict
     Verdict::Holds
 }
 
-/// The verdict of the ninth condition (clause 3.3.2.9).
+/// Gives the verdict of the ninth condition (clause 3.3.2.9).
 pub(crate) fn ninth<'a>(tables: &'a Tables, when: &AsOf<'a>) -> Verdict
     requires { ArePassed (rows_then tables.now when.now) (rows tables.now) }
     ensures { IsVerdict Ninth (rows_then tables.now when.now) result }

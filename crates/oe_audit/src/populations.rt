@@ -14,7 +14,7 @@ use oe_requests::{Condition, Verdict};
 use oe_rows::{StockKey, WarehouseKey};
 use oe_store::Tables;
 
-/// Whether a condition holds.
+/// Tells whether a condition holds.
 fn holds(number: Condition, tables: &Tables) -> bool
     ensures { IsTrue result ↔ IsMet (condition_of number) (rows tables.now) }
 {
@@ -24,7 +24,7 @@ fn holds(number: Condition, tables: &Tables) -> bool
     }
 }
 
-/// Whether conditions 1 to 4 hold (clause 3.3.2).
+/// Tells whether conditions 1 to 4 hold (clause 3.3.2).
 fn are_met(tables: &Tables) -> bool
     ensures { IsTrue result ↔ AreMet (rows tables.now) }
 {
@@ -34,14 +34,14 @@ fn are_met(tables: &Tables) -> bool
         && holds(Condition::Fourth, tables)
 }
 
-/// Whether a key has a STOCK row.
+/// Tells whether a key has a STOCK row.
 fn has_stock(tables: &Tables, key: StockKey) -> bool
     ensures { result ≡ is_some (get (rows tables.now).stocks key) }
 {
     tables.stock(key).is_some()
 }
 
-/// Whether a warehouse has a STOCK row for each ITEM row.
+/// Tells whether a warehouse has a STOCK row for each ITEM row.
 fn is_stocked(tables: &Tables, key: WarehouseKey) -> bool
     ensures { result ≡ stocks_each_item (rows tables.now) key }
 {
@@ -54,23 +54,24 @@ fn is_stocked(tables: &Tables, key: WarehouseKey) -> bool
     })
 }
 
-/// Whether each warehouse has a STOCK row for each ITEM row.
+/// Tells whether each warehouse has a STOCK row for each ITEM row.
 fn are_stocked(tables: &Tables) -> bool
     ensures { result ≡ has_stocks (rows tables.now) }
 {
     tables.warehouses().all(|(key, _)| is_stocked(tables, *key))
 }
 
-/// Whether each HISTORY row is of terminal 0, the population's.
+/// Tells whether each HISTORY row is of terminal 0, the population's.
 fn are_of_population(tables: &Tables) -> bool
     ensures { result ≡ each_row (λ k x. k.terminal == 0) (rows tables.now).histories }
 {
     tables.histories().all(|(key, _)| key.terminal.get() == 0)
 }
 
-/// Whether the tables are such as to begin from: conditions 1 to 4 hold (clause 3.3.2), by the
-/// second of which each district has an order; each warehouse has a STOCK row for each ITEM row;
-/// and each HISTORY row is of terminal 0. The schema holds by the tables' type. No memory is taken.
+/// Tells whether the tables are such as to begin from: conditions 1 to 4 hold (clause 3.3.2), by
+/// the second of which each district has an order; each warehouse has a STOCK row for each ITEM
+/// row; and each HISTORY row is of terminal 0. The schema holds by the tables' type. No memory is
+/// taken.
 pub fn is_population(tables: &Tables) -> bool
     ensures { IsTrue result ↔ IsPopulation (rows tables.now) }
 {

@@ -9,7 +9,7 @@ use oe_rows::WarehouseKey;
 use oe_store::Tables;
 use oe_values::YearToDate;
 
-/// Whether W_YTD is the sum of the D_YTD of the warehouse's districts (clause 3.3.2.1).
+/// Tells whether W_YTD is the sum of the D_YTD of the warehouse's districts (clause 3.3.2.1).
 ///
 /// What the districts took is taken away from W_YTD, so that no sum leaves its range.
 pub(crate) fn passes_first<'a>(

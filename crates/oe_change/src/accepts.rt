@@ -13,7 +13,7 @@ use oe_rows::{
 };
 use oe_store::Tables;
 
-/// Whether the tables accept a HISTORY row, which refers to a customer and a district.
+/// Tells whether the tables accept a HISTORY row, which refers to a customer and a district.
 ///
 /// `RowExists`: the key is there. `Reference`: the customer is absent, or else the district (clause
 /// 1.4).
@@ -37,7 +37,7 @@ pub fn accept_history(tables: &Tables, key: &HistoryKey, row: &History) -> Resul
     Ok(())
 }
 
-/// Whether the tables accept a NEW-ORDER row, which refers to its order.
+/// Tells whether the tables accept a NEW-ORDER row, which refers to its order.
 ///
 /// `RowExists`: the key is there. `Reference`: its order is absent (clause 1.4).
 #[inline(always)]
@@ -57,7 +57,7 @@ pub fn accept_new_order(tables: &Tables, key: &NewOrderKey) -> Result<(), Refusa
     Ok(())
 }
 
-/// Whether the tables accept an ORDER row, which refers to its customer.
+/// Tells whether the tables accept an ORDER row, which refers to its customer.
 ///
 /// `RowExists`: the key is there. `Reference`: its customer is absent (clause 1.4).
 #[inline(always)]
@@ -76,8 +76,8 @@ pub fn accept_order(tables: &Tables, key: &OrderKey, row: &Order) -> Result<(), 
     Ok(())
 }
 
-/// Whether the tables accept an ORDER-LINE row, which refers to its order and to the stock that it
-/// is supplied from.
+/// Tells whether the tables accept an ORDER-LINE row, which refers to its order and to the stock
+/// that it is supplied from.
 ///
 /// `RowExists`: the key is there. `Reference`: its order is absent, or else the stock (clause 1.4).
 #[inline(always)]
@@ -104,7 +104,7 @@ pub fn accept_order_line(
     Ok(())
 }
 
-/// The key of the stock that a line is supplied from.
+/// Gives the key of the stock that a line is supplied from.
 #[inline(always)]
 pub(crate) fn supply_key(row: &OrderLine) -> StockKey
     ensures { result ≡ supply_of_line row.now }

@@ -35,7 +35,7 @@ pub enum Change {
 impl Change {
     ghost use Rattle.oe_change.specs.Changes.{change_of};
 
-    /// The key of the row that it changes.
+    /// Gives the key of the row that it changes.
     pub fn key(&self) -> Key
         ensures { result ≡ key_of (change_of self.now) }
     {
@@ -54,7 +54,7 @@ impl Change {
         }
     }
 
-    /// A copy, which takes no memory.
+    /// Copies the value, and takes no memory.
     pub fn copied(&self) -> Self
         ensures { result ≡ self.now }
     {

@@ -45,7 +45,7 @@ pub enum Write {
 impl Write {
     ghost use Rattle.oe_change.specs.Writes.{key_written};
 
-    /// The key of the row that it changes.
+    /// Gives the key of the row that it changes.
     pub fn key(&self) -> Key
         ensures { result ≡ key_written self.now }
     {

@@ -53,7 +53,8 @@ impl Model for Core {
 }
 
 impl Core {
-    /// A core on a population, with that number of undo extents. `NoMemory` where memory was refused.
+    /// Opens a core on a population, with that number of undo extents. `NoMemory` where memory was
+    /// refused.
     pub fn open(alloc: Global, tables: Tables, extents: ExtentCount) -> Result<Core, NoMemory>
         requires { IsPopulation (rows tables) }
         ensures { IfOk result (λ c. world_of c ≡ opened system (rows tables) extents) }
@@ -71,14 +72,14 @@ impl Core {
         })
     }
 
-    /// The tables as they stand, open work included.
+    /// Gives the tables as they stand, open work included.
     pub fn tables(&self) -> &Tables
         ensures { rows result.now ≡ tables system (world_of self.now) }
     {
         self.engine.tables()
     }
 
-    /// The newest moment: the number of all commits so far.
+    /// Gives the newest moment: the number of all commits so far.
     pub fn newest(&self) -> Moment
         ensures { result ≡ newest system (world_of self.now) }
     {
@@ -107,8 +108,8 @@ impl Core {
         self.txs.at(terminal).is_some()
     }
 
-    /// The reply of a terminal's last transaction, where that has committed; none where it is open, was rolled back, or there was
-    /// none. It is lent where it lies, in the terminal's slot.
+    /// Gives the reply of a terminal's last transaction, where that has committed; none where it is
+    /// open, was rolled back, or there was none. It is lent where it lies, in the terminal's slot.
     #[inline]
     pub fn last_reply(&self, terminal: Terminal) -> Option<ReplyRef<'_>>
         ensures { option_map told_reply result ≡ last_reply self.now terminal }
@@ -178,12 +179,12 @@ impl Core {
         self.close().discard();
     }
 
-    /// The allocator of what the core takes.
+    /// Gives the allocator of what the core takes.
     pub fn allocator(&self) -> Global {
         self.alloc
     }
 
-    /// The verdict on a condition, of a moment, whatever is open.
+    /// Gives the verdict on a condition, of a moment, whatever is open.
     ///
     /// `TooOld` with the horizon, `Future` with the newest moment: the moment is not between the two.
     #[inline(never)]
@@ -310,7 +311,8 @@ impl Core {
         Answer::RolledBack
     }
 
-    /// One row of the terminal's transaction; where none is left the transaction commits.
+    /// Carries out one stage of the terminal's transaction; where none is left the transaction
+    /// commits.
     ///
     /// `NotOpen`, `Busy`, `UndoFull` and `NoMemory` have changed nothing. After another refusal the transaction is rolled back. The reply of a
     /// commit is the terminal's `last_reply`.

@@ -12,8 +12,8 @@ use oe_requests::Request;
 use oe_values::{PerTerminal, Terminal, empty_slots};
 use std::alloc::{AllocError, Global};
 
-/// Slots for what terminals carry out, and for their transactions; those of 0 stay empty. Where
-/// memory is refused, only the first are there to be dropped.
+/// Makes slots for what terminals carry out, and for their transactions; those of 0 stay empty.
+/// Where memory is refused, only the first are there to be dropped.
 pub fn empty_places(
     alloc: Global,
 ) -> Result<(PerTerminal<Option<Work>>, PerTerminal<Option<Tx>>), AllocError>

@@ -61,7 +61,7 @@ impl Model for Work {
 }
 
 impl Task {
-    /// The task of a request whose transaction has just begun.
+    /// Gives the task of a request whose transaction has just begun.
     fn new(request: &Request) -> Self
         requires { HasProgram request.now }
         ensures { state_of result 0 ≡ begun request.now }
@@ -93,7 +93,7 @@ impl Task {
 }
 
 impl Work {
-    /// What a transaction of this request carries out that has just begun.
+    /// Begins the work of a transaction of this request.
     pub fn new(request: &Request) -> Self
         requires { HasProgram request.now }
         ensures { result ≡ begun request.now }
@@ -138,7 +138,7 @@ impl Work {
         *self = Work::new(request);
     }
 
-    /// How many records the transaction had made at the mark.
+    /// Tells how many records the transaction had made at the mark.
     pub fn mark_records(&self) -> Savepoint
         ensures { result ≡ self.now.mark_records }
     {
@@ -171,7 +171,7 @@ impl Work {
         }
     }
 
-    /// The reply, once the program is at its end; none before that. It is lent where it lies.
+    /// Gives the reply, once the program is at its end; none before that. It is lent where it lies.
     #[inline]
     pub fn reply(&self) -> Option<ReplyRef<'_>>
         ensures { option_map told_reply result ≡ reply_at self.now.position }

@@ -43,7 +43,7 @@ impl Model for Deliveries {
 }
 
 impl Deliveries {
-    /// At the first stage of district 1.
+    /// Makes a program at the first stage of district 1.
     pub fn new() -> Self
         ensures { result ≡ record { done = []; district = DeliveryQueue } }
     {
@@ -53,7 +53,7 @@ impl Deliveries {
         }
     }
 
-    /// A copy, which takes no memory.
+    /// Copies the value, and takes no memory.
     pub fn copied(&self) -> Self
         ensures { result ≡ self.now }
     {
@@ -63,15 +63,15 @@ impl Deliveries {
         }
     }
 
-    /// Whether it stands before the first stage of a district, which moves the transaction's mark
-    /// there.
+    /// Tells whether it stands before the first stage of a district, which moves the transaction's
+    /// mark there.
     pub fn is_at_mark(&self) -> bool
         ensures { (q : DeliveriesRequest) → result ≡ marks (place_of q self.now) }
     {
         self.done.as_slice().len() < 10 && matches!(self.program, Program::Queue)
     }
 
-    /// The reply, once all ten districts are done; none before that.
+    /// Gives the reply, once all ten districts are done; none before that.
     pub fn reply(&self) -> Option<&DistrictDeliveries>
         ensures { (q : DeliveriesRequest) →
             option_map Reply.Deliveries (option_copied result) ≡ reply_at (place_of q self.now) }
@@ -97,8 +97,8 @@ impl Deliveries {
         })
     }
 
-    /// One stage of the district at hand: its lock and its one change. The names that its stages
-    /// before have taken are held.
+    /// Carries out one stage of the district at hand: its lock and its one change. The names that
+    /// its stages before have taken are held.
     ///
     /// A district in which no order waits has one stage, which takes the name of its queue; the
     /// stage at the customer goes on to the next district. The refusals are those of a district's

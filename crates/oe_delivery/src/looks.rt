@@ -9,7 +9,7 @@ use crate::remainders::{LineNumbers, Listed, Remainder};
 use oe_rows::OrderKey;
 use oe_store::Tables;
 
-/// OL_NUMBER of each line of an order, in their order. There are at most 15.
+/// Gives OL_NUMBER of each line of an order, in their order. There are at most 15.
 pub fn line_numbers(order: &OrderKey, tables: &Tables) -> LineNumbers
     ensures { result ≡ map (λ e. e.0.number) (lines_of order.now (rows tables.now).order_lines) }
 {
@@ -22,7 +22,7 @@ pub fn line_numbers(order: &OrderKey, tables: &Tables) -> LineNumbers
     numbers
 }
 
-/// What is to be delivered of an order; none where it is absent.
+/// Gives what is to be delivered of an order; none where it is absent.
 pub fn remainder_of(order: &OrderKey, tables: &Tables) -> Option<Remainder>
     ensures { result
         ≡ option_map (remainder_of order.now (rows tables.now))

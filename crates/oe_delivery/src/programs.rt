@@ -31,14 +31,14 @@ pub enum Program {
 }
 
 impl Program {
-    /// At its first stage.
+    /// Makes a program at its first stage.
     pub fn new() -> Self
         ensures { result ≡ Program.Queue }
     {
         Self::Queue
     }
 
-    /// A copy, which takes no memory.
+    /// Copies the value, and takes no memory.
     pub fn copied(&self) -> Self
         ensures { result ≡ self.now }
     {
@@ -51,7 +51,7 @@ impl Program {
         }
     }
 
-    /// The reply, once all stages are done; none before that.
+    /// Gives the reply, once all stages are done; none before that.
     pub fn reply(&self) -> Option<DistrictDelivery>
         ensures { result ≡ district_reply (position_of self.now) }
     {
@@ -112,8 +112,8 @@ impl Program {
         }
     }
 
-    /// One stage of the delivery: its lock and its one change. The names that the stages before
-    /// have taken are held: the order's for its lines.
+    /// Carries out one stage of the delivery: its lock and its one change. The names that the
+    /// stages before have taken are held: the order's for its lines.
     ///
     /// A district in which no order waits has two stages: the first takes the name of its queue,
     /// the second is ready. The order of refusals is `Busy`, `Overflow`, `UndoFull` where the

@@ -24,7 +24,7 @@ impl Model for Listed {
 }
 
 impl Listed {
-    /// A line of that number.
+    /// Makes a line of that number.
     pub fn new(number: LineNumber) -> Self
         ensures { result ≡ number }
     {
@@ -73,7 +73,7 @@ impl Model for Remainder {
 }
 
 impl Remainder {
-    /// An order of that customer with lines of these numbers, of which none is dated.
+    /// Makes an order of that customer with lines of these numbers, none of them dated.
     pub fn new(order: OrderNumber, customer: CustomerNumber, numbers: LineNumbers) -> Self
         ensures { result
             ≡ record { order = order; customer = customer; numbers = numbers; sum = 0 } }
@@ -88,7 +88,7 @@ impl Remainder {
         }
     }
 
-    /// A copy.
+    /// Copies the value.
     pub fn copied(&self) -> Self
         ensures { result ≡ self.now }
     {
@@ -101,28 +101,28 @@ impl Remainder {
         }
     }
 
-    /// O_ID.
+    /// Gives O_ID.
     pub fn order(&self) -> OrderNumber
         ensures { result ≡ self.now.order }
     {
         self.order
     }
 
-    /// O_C_ID.
+    /// Gives O_C_ID.
     pub fn customer(&self) -> CustomerNumber
         ensures { result ≡ self.now.customer }
     {
         self.customer
     }
 
-    /// The sum of the OL_AMOUNTs of the lines that are dated.
+    /// Gives the sum of the OL_AMOUNTs of the lines that are dated.
     pub fn sum(&self) -> Cents
         ensures { result ≡ self.now.sum }
     {
         Cents::new(self.sum)
     }
 
-    /// OL_NUMBER of the first line that is not dated; none where all are.
+    /// Gives OL_NUMBER of the first line that is not dated; none where all are.
     pub fn next_number(&self) -> Option<LineNumber>
         ensures { MatchOption result (self.now.numbers ≡ []) (λ n.
             self.now.numbers ≡ n ∷ drop 1 self.now.numbers) }
@@ -148,7 +148,7 @@ impl Remainder {
         self.done += 1;
     }
 
-    /// What the delivery answers of it.
+    /// Gives what the delivery answers of it.
     pub fn delivered(&self) -> DeliveredOrder
         ensures { result
             ≡ record { order = self.now.order; customer = self.now.customer; sum = self.now.sum } }

@@ -16,8 +16,8 @@ use oe_requests::{DeliveryRequest, Refusal};
 use oe_rows::{Key, Mode, Name};
 use oe_values::{LineNumber, OrderNumber};
 
-/// NEW-ORDER: the name of the district's queue is taken alone, and the row of the oldest order is
-/// deleted, if one waits.
+/// Takes the name of the district's queue alone, and deletes the NEW-ORDER row of the oldest order,
+/// if one waits.
 pub fn take_oldest(
     request: &DeliveryRequest,
     engine: &mut Engine,
@@ -43,7 +43,7 @@ pub fn take_oldest(
     }
 }
 
-/// ORDER: its name is taken alone, and O_CARRIER_ID is set. `NoSuchRow` where it is absent.
+/// Takes the order's name alone, and sets O_CARRIER_ID. `NoSuchRow` where the order is absent.
 pub fn set_carrier(
     request: &DeliveryRequest,
     order: OrderNumber,
@@ -68,8 +68,8 @@ pub fn set_carrier(
     }
 }
 
-/// ORDER-LINE of the first line to come: OL_DELIVERY_D is set, under the order's name, which is
-/// held. `NoSuchRow` where it is absent.
+/// Sets OL_DELIVERY_D of the first line to come, under the order's name, which is held. `NoSuchRow`
+/// where the line is absent.
 pub fn date_line(
     request: &DeliveryRequest,
     remainder: &mut Remainder,
@@ -98,9 +98,9 @@ pub fn date_line(
     }
 }
 
-/// CUSTOMER: its name is taken alone, C_BALANCE rises by the sum of the OL_AMOUNTs, and
-/// C_DELIVERY_CNT by 1. `NoSuchRow` where it is absent, `Overflow` where one of these would leave
-/// its range: the first of them.
+/// Takes the customer's name alone, and adds the sum of the OL_AMOUNTs to C_BALANCE, and 1 to
+/// C_DELIVERY_CNT. `NoSuchRow` where the customer is absent, `Overflow` of the first of these
+/// columns that would leave its range.
 pub fn credit_customer(
     request: &DeliveryRequest,
     remainder: &Remainder,

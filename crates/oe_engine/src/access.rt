@@ -93,8 +93,8 @@ impl Engine {
         }
     }
 
-    /// The mode in which a transaction holds a name; none where it does not hold it, or is not open
-    /// in this engine.
+    /// Gives the mode in which a transaction holds a name; none where it does not hold it, or is
+    /// not open in this engine.
     #[tactic(auto, unfolding(crate::specs::View::view_of, crate::specs::View::view_from))]
     pub fn held(&self, tx: &Tx, name: &Name) -> Option<Mode>
         ensures open { IsOpen self.now tx.now
@@ -107,8 +107,8 @@ impl Engine {
         self.locks.holds(name, tx.terminal())
     }
 
-    /// A copy of the row of a key, if it has one, for an open transaction that holds the row's
-    /// name, if the row lies under one. It takes no memory.
+    /// Gives a copy of the row of a key, if it has one, for an open transaction that holds the
+    /// row's name, if the row lies under one. It takes no memory.
     #[tactic(auto, unfolding(crate::specs::View::view_of, crate::specs::View::view_from))]
     pub fn read(&self, tx: &Tx, key: Key) -> Option<Row>
         requires open { IsOpen self.now tx.now }

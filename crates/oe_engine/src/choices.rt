@@ -14,8 +14,8 @@ use oe_rows::{CustomerKey, DistrictKey};
 use oe_values::{LastName, OrderNumber};
 
 impl Engine {
-    /// The least NO_O_ID of a district's orders that are not delivered (clause 2.7.4.2), for an
-    /// open transaction that holds the name of the district's queue. It takes no memory.
+    /// Gives the least NO_O_ID of a district's orders that are not delivered (clause 2.7.4.2), for
+    /// an open transaction that holds the name of the district's queue. It takes no memory.
     #[tactic(auto, unfolding(crate::specs::View::view_of, crate::specs::View::view_from))]
     pub fn oldest(&self, tx: &Tx, district: &DistrictKey) -> Option<OrderNumber>
         requires open { IsOpen self.now tx.now }

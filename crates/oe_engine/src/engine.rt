@@ -90,7 +90,7 @@ impl Model for Savepoint {
 }
 
 impl Savepoint {
-    /// The beginning of a transaction.
+    /// Gives the beginning of a transaction.
     pub fn start() -> Self
         ensures { result ≡ 0 }
     {
@@ -99,7 +99,7 @@ impl Savepoint {
 }
 
 impl Tx {
-    /// The terminal whose transaction this is.
+    /// Gives the terminal whose transaction this is.
     #[inline(always)]
     pub fn terminal(&self) -> Terminal
         ensures { result ≡ self.now.terminal }
@@ -119,9 +119,9 @@ fn is_below(mode: Option<Mode>, held: Option<Mode>) -> bool
 }
 
 impl Engine {
-    /// An engine on tables where nothing has begun or committed; its name tells its transactions from other engines'.
-    /// A key without a row has no place any more, and each key of the tables that are changed gets a place for its link. `NoMemory` where
-    /// memory was refused.
+    /// Opens an engine on tables where nothing has begun or committed; its name tells its
+    /// transactions from other engines'. A key without a row has no place any more, and each key of
+    /// the tables that are changed gets a place for its link. `NoMemory` where memory was refused.
     pub fn open(
         alloc: Global,
         mut tables: Tables,
@@ -146,12 +146,12 @@ impl Engine {
         })
     }
 
-    /// The allocator that the engine was made with.
+    /// Gives the allocator that the engine was made with.
     pub fn allocator(&self) -> Global {
         self.alloc
     }
 
-    /// The tables as they stand, open work included.
+    /// Gives the tables as they stand, open work included.
     #[tactic(auto, unfolding(crate::specs::View::view_of, crate::specs::View::view_from))]
     pub fn tables(&self) -> &Tables
         ensures { rows result.now ≡ (view_of self.now).rows }
@@ -159,7 +159,8 @@ impl Engine {
         &self.tables
     }
 
-    /// The undo log: the records of open transactions and of commits, with each key's link to its newest.
+    /// Gives the undo log: the records of open transactions and of commits, with each key's link to
+    /// its newest.
     pub fn undo(&self) -> &Undo
         ensures log { result.now.log ≡ self.now.undo }
         ensures links { result.now.links ≡ self.now.links }
@@ -167,7 +168,7 @@ impl Engine {
         &self.undo
     }
 
-    /// The newest moment: the number of all commits so far.
+    /// Gives the newest moment: the number of all commits so far.
     #[tactic(auto, unfolding(crate::specs::View::view_of, crate::specs::View::view_from))]
     pub fn newest(&self) -> Moment
         ensures { result ≡ total terminal_limit (view_of self.now).counts }
@@ -175,7 +176,7 @@ impl Engine {
         self.undo.segments().newest()
     }
 
-    /// The oldest moment that can be read.
+    /// Gives the oldest moment that can be read.
     #[tactic(auto, unfolding(crate::specs::View::view_of, crate::specs::View::view_from))]
     pub fn horizon(&self) -> Moment
         ensures { result ≡ total terminal_limit (view_of self.now).counts - length
@@ -184,7 +185,7 @@ impl Engine {
         self.undo.segments().horizon()
     }
 
-    /// How many transactions are open.
+    /// Tells how many transactions are open.
     #[tactic(auto, unfolding(crate::specs::View::view_of, crate::specs::View::view_from))]
     pub fn open_count(&self) -> u32
         ensures { (slots : ℕ → Option (Slot system))
@@ -228,7 +229,7 @@ impl Engine {
         })
     }
 
-    /// The number of an open transaction: 1 plus the commits of its terminal.
+    /// Gives the number of an open transaction: 1 plus the commits of its terminal.
     #[tactic(auto, unfolding(crate::specs::View::view_of, crate::specs::View::view_from))]
     #[inline]
     pub fn number(&self, tx: &Tx) -> TransactionNumber
@@ -238,7 +239,8 @@ impl Engine {
         self.undo.segments().number(tx.terminal)
     }
 
-    /// Whether a lock is free for an open transaction: `Busy` names the least terminal that is in its way. It takes no memory.
+    /// Tells whether a lock is free for an open transaction: `Busy` names the least terminal that
+    /// is in its way. It takes no memory.
     pub fn is_free(&self, tx: &Tx, lock: Lock) -> Result<(), Refusal>
         requires { IsOpen self.now tx.now }
         ensures free { OnOk result
@@ -251,8 +253,9 @@ impl Engine {
         }
     }
 
-    /// What holds at all times: what an open transaction has changed it alone may change, and all open work can be put back, in
-    /// any order of transactions. The keys with places are exactly those that have a row, and those that a record names.
+    /// States what holds at all times: what an open transaction has changed it alone may change,
+    /// and all open work can be put back, in any order of transactions. The keys with places are
+    /// exactly those that have a row, and those that a record names.
     #[tactic(auto, unfolding(crate::specs::View::view_of))]
     #[inline(always)]
     pub fn is_safe(&self)
@@ -264,7 +267,7 @@ impl Engine {
         let _known = &self.tables;
     }
 
-    /// Whether a transaction is open in this engine.
+    /// Tells whether a transaction is open in this engine.
     #[tactic(auto, unfolding(crate::specs::View::view_of, crate::specs::View::view_from))]
     #[inline]
     pub fn is_open(&self, tx: &Tx) -> bool
@@ -314,7 +317,8 @@ impl Engine {
         }
     }
 
-    /// The savepoint where the transaction stands; the beginning for one that is not open in this engine.
+    /// Gives the savepoint where the transaction stands; the beginning for one that is not open in
+    /// this engine.
     #[tactic(auto, unfolding(crate::specs::View::view_of, crate::specs::View::view_from))]
     pub fn savepoint(&self, tx: &Tx) -> Savepoint
         ensures open { IsOpen self.now tx.now
@@ -402,7 +406,7 @@ impl Engine {
         Ok(())
     }
 
-    /// The tables, where no transaction is open.
+    /// Gives the tables, where no transaction is open.
     #[tactic(auto, unfolding(crate::specs::View::view_of, crate::specs::View::view_from))]
     pub fn close(self) -> Tables
         requires { (t : ℕ) → (view_of self).is_open t ≡ false }

@@ -95,8 +95,9 @@ fn linked_undo(alloc: Global, tables: &Tables, extents: ExtentCount) -> Result<U
     Ok(undo)
 }
 
-/// What an engine has beside its tables, where nothing has begun: its undo log, and locks that
-/// nobody holds. `NoMemory` where memory was refused; then the locks alone are there to be dropped.
+/// Gives what an engine has beside its tables, where nothing has begun: its undo log, and locks
+/// that nobody holds. `NoMemory` where memory was refused; then the locks alone are there to be
+/// dropped.
 pub(crate) fn beside(
     alloc: Global,
     tables: &Tables,

@@ -14,8 +14,8 @@ use crate::programs::Lock;
 use oe_change::Write;
 use oe_requests::Refusal;
 
-/// The refusal of a stage that asks for a lock and then fails: who is in the way of the lock, or
-/// what it fails with.
+/// Gives the refusal of a stage that asks for a lock and then fails: who is in the way of the lock,
+/// or what it fails with.
 pub fn failed(engine: &Engine, tx: &Tx, lock: Lock, refusal: Refusal) -> Refusal
     requires open { IsOpen engine.now tx.now }
     requires failure { is_failure refusal ≡ true }
@@ -27,8 +27,8 @@ pub fn failed(engine: &Engine, tx: &Tx, lock: Lock, refusal: Refusal) -> Refusal
     }
 }
 
-/// A stage that takes a lock and changes nothing. After an error the engine stands for what it
-/// stood for before.
+/// Carries out a stage that takes a lock and changes nothing. After an error the engine stands for
+/// what it stood for before.
 pub fn hold(engine: &mut Engine, tx: &Tx, lock: Lock) -> Result<(), Refusal>
     ensures does { Does engine.old tx.now
         (Take lock.name (mode_of lock.mode)) None result engine.new }
@@ -38,8 +38,8 @@ pub fn hold(engine: &mut Engine, tx: &Tx, lock: Lock) -> Result<(), Refusal>
     engine.lock(tx, lock.name, lock.mode)
 }
 
-/// A stage that writes to a row in its place, and takes that row's name alone. After an error the
-/// engine stands for what it stood for before.
+/// Carries out a stage that writes to a row in its place, and takes that row's name alone. After an
+/// error the engine stands for what it stood for before.
 #[inline(always)]
 pub fn put(engine: &mut Engine, tx: &Tx, write: &Write) -> Result<(), Refusal>
     requires own { IsOpen engine.old tx.now
@@ -57,9 +57,9 @@ pub fn put(engine: &mut Engine, tx: &Tx, write: &Write) -> Result<(), Refusal>
     engine.change(tx, write)
 }
 
-/// A stage that asks for no lock, and writes to a row in its place that its transaction alone may
-/// change: it holds the row's name alone, or the row is its own. After an error the engine stands
-/// for what it stood for before.
+/// Carries out a stage that asks for no lock, and writes to a row in its place that its transaction
+/// alone may change: it holds the row's name alone, or the row is its own. After an error the
+/// engine stands for what it stood for before.
 #[inline(always)]
 pub fn put_held(engine: &mut Engine, tx: &Tx, write: &Write) -> Result<(), Refusal>
     requires held { IsOpen engine.old tx.now

@@ -24,14 +24,14 @@ impl Model for Listed {
 }
 
 impl Listed {
-    /// That item.
+    /// Holds that item.
     pub fn new(item: ItemNumber) -> Self
         ensures { result ≡ item }
     {
         Listed { item }
     }
 
-    /// Whether it is that item.
+    /// Tells whether it is that item.
     pub fn is(&self, item: ItemNumber) -> bool
         ensures { result ≡ (self.now == item) }
     {
@@ -52,7 +52,7 @@ impl Default for Listed {
 /// The items of the lines of at most 20 orders with at most 15 lines each.
 pub type Items = Lines<Listed, 0, 300>;
 
-/// Whether an item is in the list.
+/// Tells whether an item is in the list.
 pub fn is_listed(items: &Items, item: ItemNumber) -> bool
     ensures { result ≡ is_listed items.now item }
 {

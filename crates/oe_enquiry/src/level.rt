@@ -15,7 +15,7 @@ use oe_rows::{Key, StockKey};
 use oe_values::{ItemNumber, LowStock, OrderNumber};
 use oe_versions::Version;
 
-/// Whether the district's warehouse had less of the item than the threshold.
+/// Tells whether the district's warehouse had less of the item than the threshold.
 fn is_short(version: &Version<'_>, query: &LevelQuery, item: ItemNumber) -> bool
     ensures { result ≡ is_short query.now (rows_of version.now) item }
 {
@@ -76,8 +76,8 @@ fn list_order(version: &Version<'_>, query: &LevelQuery, number: OrderNumber, it
     list_short(version, query, lines.as_slice(), items)
 }
 
-/// The least number that one of a district's last 20 orders may have, where the next order has that
-/// one.
+/// Gives the least number that one of a district's last 20 orders may have, where the next order
+/// has that one.
 fn first_recent(next: OrderNumber) -> u32
     ensures least { 1 ≤ result }
     ensures span { next ≤ result + 20 }
@@ -87,7 +87,7 @@ fn first_recent(next: OrderNumber) -> u32
     if next <= 20 { 1 } else { next - 20 }
 }
 
-/// O_ID, which is in its range.
+/// Gives O_ID, which is in its range.
 fn order_number(number: u32) -> OrderNumber
     requires { (1 ≤ number) × (number ≤ 10_000_000) }
     ensures { result ≡ number }
@@ -114,7 +114,7 @@ fn short_items(version: &Version<'_>, query: &LevelQuery, next: OrderNumber) -> 
     items
 }
 
-/// How many items are listed.
+/// Tells how many items are listed.
 fn count_of(items: &Items) -> LowStock
     ensures { result ≡ length items.now }
 {

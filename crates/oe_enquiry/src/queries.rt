@@ -16,7 +16,7 @@ use oe_undo::Undo;
 use oe_values::Moment;
 use oe_versions::Version;
 
-/// `NoSuchRow` of the query's warehouse, where that isn't there.
+/// Gives `NoSuchRow` of the query's warehouse, where that isn't there.
 fn rejection(tables: &Tables, query: &Query) -> Option<Refusal>
     ensures { result ≡ query_rejection query.now (rows tables.now) }
 {
@@ -26,7 +26,7 @@ fn rejection(tables: &Tables, query: &Query) -> Option<Refusal>
     }
 }
 
-/// What a query is answered of a version, as `order_status` and `stock_level`.
+/// Gives what a query is answered of a version, as `order_status` and `stock_level`.
 fn answer_of(version: &Version<'_>, query: &Query) -> Result<QueryReply, Refusal>
     requires { Stand version.now.tables version.now.log }
     ensures reply { IfOk result (λ f. answer_of query.now (rows_of version.now) ≡ Here f) }
@@ -45,7 +45,7 @@ fn answer_of(version: &Version<'_>, query: &Query) -> Result<QueryReply, Refusal
     }
 }
 
-/// What a query is answered of a moment, as all commits up to it have left the rows, without
+/// Gives what a query is answered of a moment, as all commits up to it have left the rows, without
 /// anybody's open work: what `order_status` or `stock_level` answers of that version.
 ///
 /// `NoSuchRow` with the warehouse where that is absent; otherwise `TooOld` with the horizon and

@@ -11,7 +11,7 @@ use oe_rows::{CustomerKey, DistrictKey};
 use oe_values::CustomerNumber;
 use oe_versions::Version;
 
-/// C_ID of the customer that is meant, where there was one (clause 2.6.2.2).
+/// Gives C_ID of the customer that is meant, where there was one (clause 2.6.2.2).
 fn chosen(
     version: &Version<'_>,
     district: &DistrictKey,
@@ -50,9 +50,9 @@ fn newest_order(version: &Version<'_>, customer: CustomerKey) -> Option<OrderSta
     })
 }
 
-/// What Order-Status answers of a version: the customer's C_ID and C_BALANCE, and the customer's
-/// newest order with its lines (clauses 2.6.2.2 and 2.6.3). `NoCustomer` where nobody had the
-/// number or the last name.
+/// Gives what Order-Status answers of a version: the customer's C_ID and C_BALANCE, and the
+/// customer's newest order with its lines (clauses 2.6.2.2 and 2.6.3). `NoCustomer` where nobody
+/// had the number or the last name.
 #[tactic(auto, using(crate::proofs::AnswerFacts::status_told, crate::proofs::AnswerFacts::nobody, crate::proofs::AnswerFacts::no_row))]
 pub fn order_status(version: &Version<'_>, query: &StatusQuery) -> Result<StatusReply, Refusal>
     requires { Stand version.now.tables version.now.log }

@@ -8,7 +8,7 @@ use oe_rows::{Key, WarehouseKey};
 use oe_store::Tables;
 use oe_values::WarehouseNumber;
 
-/// `NoSuchRow` of a warehouse that isn't there.
+/// Gives `NoSuchRow` of a warehouse that isn't there.
 pub fn absent(tables: &Tables, warehouse: WarehouseNumber) -> Option<Refusal>
     ensures { result ≡ first_absent (warehouse ∷ []) (rows tables.now) }
 {

@@ -8,7 +8,7 @@ use crate::runs::write_run;
 /// The longest run that is copied by moves, in bytes: two of the widest.
 const SHORT: usize = 32;
 
-/// The `CHUNK` bytes from an index on.
+/// Gives the `CHUNK` bytes from an index on.
 #[inline(always)]
 fn chunk_at<const CHUNK: usize>(run: &[u8], at: usize) -> [u8; CHUNK]
     requires { at + CHUNK ≤ length run.now }

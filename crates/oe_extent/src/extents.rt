@@ -45,7 +45,7 @@ impl Model for ExtentList {
 }
 
 impl Extent {
-    /// An extent of that number, without strings; an error where memory is refused.
+    /// Makes an extent of that number, without strings; an error where memory is refused.
     pub(crate) fn new(alloc: Global, number: usize) -> Result<Box<Extent>, AllocError> {
         Ok(Box::new(
             alloc,
@@ -57,7 +57,7 @@ impl Extent {
         )?)
     }
 
-    /// Its number.
+    /// Gives its number.
     #[inline]
     pub(crate) fn number(&self) -> usize
         ensures { result ≡ number_of self.now }
@@ -65,8 +65,8 @@ impl Extent {
         self.number
     }
 
-    /// The string at that offset of the extent with that number, which is this one or one before
-    /// it.
+    /// Gives the string at that offset of the extent with that number, which is this one or one
+    /// before it.
     fn at(&self, number: usize, offset: usize) -> &[u8]
         requires { HasOffset (strings_at number (contents_in self.now)) offset }
         ensures { IsStringFrom (strings_at number (contents_in self.now)) offset result.now }
@@ -80,7 +80,7 @@ impl Extent {
         }
     }
 
-    /// The extent with that number, without strings and without one before it.
+    /// Gives the extent with that number, without strings and without one before it.
     pub(crate) fn cleared(mut self: Box<Extent>, number: usize) -> Box<Extent>
         ensures { IsEmptyExtent number result.value }
     {
@@ -92,7 +92,7 @@ impl Extent {
 }
 
 impl ExtentList {
-    /// No extents.
+    /// Makes a list without extents.
     #[inline]
     pub(crate) fn new() -> Self
         ensures { result ≡ [] }
@@ -100,7 +100,7 @@ impl ExtentList {
         ExtentList { newest: None }
     }
 
-    /// How many bytes are left in its newest extent: 0 to 4,096, and 0 where it has none.
+    /// Tells how many bytes are left in its newest extent: 0 to 4,096, and 0 where it has none.
     #[inline(always)]
     pub(crate) fn rest(&self) -> usize
         ensures { result ≡ rest_of self.now }
@@ -111,7 +111,7 @@ impl ExtentList {
         }
     }
 
-    /// The address of the next string in its newest extent.
+    /// Gives the address of the next string in its newest extent.
     #[inline(always)]
     pub(crate) fn end(&self) -> Address
         requires { 0 < length self.now }
@@ -139,7 +139,7 @@ impl ExtentList {
         }
     }
 
-    /// Another extent, as its newest.
+    /// Adds another extent, as its newest.
     #[inline]
     fn add(&mut self, number: usize, extent: Box<Extent>)
         requires { IsEmptyExtent number extent.value }
@@ -163,7 +163,7 @@ impl ExtentList {
         self.push(string);
     }
 
-    /// The string at that address, where it stands.
+    /// Gives the string at that address, where it stands.
     #[inline]
     pub(crate) fn at(&self, address: Address) -> &[u8]
         requires { HasOffset (strings_at address.extent self.now) address.offset }
@@ -175,7 +175,7 @@ impl ExtentList {
         }
     }
 
-    /// The newest string, where it stands.
+    /// Gives the newest string, where it stands.
     #[inline]
     pub(crate) fn newest(&self) -> &[u8]
         requires { 0 < length (newest_strings self.now) }

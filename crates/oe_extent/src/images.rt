@@ -6,7 +6,7 @@ ghost use Rattle.oe_extent.specs.Images.{Writes};
 pub trait Written {
     ghost image: { Self → List ℕ };
 
-    /// How many bytes its image has.
+    /// Tells how many bytes its image has.
     fn size(&self) -> usize
         ensures { result ≡ length (image self.now) };
 

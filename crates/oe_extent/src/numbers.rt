@@ -20,8 +20,8 @@ pub fn write_number(bytes: &mut [u8], start: usize, value: u64, width: usize) ->
     start + width
 }
 
-/// The number in the first `width` bytes, 1 to 8, and the bytes behind them; `None` where there are
-/// fewer bytes.
+/// Gives the number in the first `width` bytes, 1 to 8, and the bytes behind them; `None` where
+/// there are fewer bytes.
 #[inline]
 pub fn read_number(bytes: &[u8], width: usize) -> Option<(u64, &[u8])>
     requires low { 1 ≤ width }

@@ -39,7 +39,7 @@ impl Model for PackedStrings {
     ghost invariant = { λ p. IsPacked p.count p.fill p.bytes };
 }
 
-/// The number in the last two of some bytes.
+/// Gives the number in the last two of some bytes.
 #[inline]
 #[tactic(auto, using(crate::proofs::PackedFacts::last_is))]
 pub(crate) fn last_size(bytes: &[u8]) -> usize
@@ -49,7 +49,7 @@ pub(crate) fn last_size(bytes: &[u8]) -> usize
     BigEndian::read_u16(&bytes[bytes.len() - LENGTH_BYTES..]) as usize
 }
 
-/// As many zeros as an extent has bytes.
+/// Gives as many zeros as an extent has bytes.
 fn zeros() -> [u8; EXTENT_BYTES]
     ensures { length result ≡ EXTENT_BYTES }
 {
@@ -57,7 +57,7 @@ fn zeros() -> [u8; EXTENT_BYTES]
 }
 
 impl PackedStrings {
-    /// No strings.
+    /// Makes bytes without strings.
     pub(crate) fn new() -> Self
         ensures { result ≡ [] }
     {
@@ -81,7 +81,7 @@ impl PackedStrings {
         joined
     }
 
-    /// How many bytes are left behind the strings: 0 to 4,096.
+    /// Tells how many bytes are left behind the strings: 0 to 4,096.
     #[inline(always)]
     pub(crate) fn rest(&self) -> usize
         ensures { result + length (joined self.now) ≡ EXTENT_BYTES }
@@ -89,7 +89,7 @@ impl PackedStrings {
         EXTENT_BYTES - self.fill
     }
 
-    /// The offset at which the next string begins: 0 to 4,096.
+    /// Gives the offset at which the next string begins: 0 to 4,096.
     #[inline(always)]
     pub(crate) fn end(&self) -> usize
         ensures value { result ≡ length (joined self.now) }
@@ -98,7 +98,7 @@ impl PackedStrings {
         self.fill
     }
 
-    /// How many strings there are.
+    /// Tells how many strings there are.
     #[inline(always)]
     pub(crate) fn len(&self) -> usize
         ensures { result ≡ length self.now }
@@ -117,7 +117,7 @@ impl PackedStrings {
         self.count += 1;
     }
 
-    /// The newest string, where it stands.
+    /// Gives the newest string, where it stands.
     #[inline]
     pub(crate) fn newest(&self) -> &[u8]
         requires { 0 < length self.now }
@@ -127,7 +127,7 @@ impl PackedStrings {
         &self.bytes[self.fill - size..self.fill]
     }
 
-    /// Its strings, the newest first, where they stand.
+    /// Gives its strings, the newest first, where they stand.
     pub(crate) fn strings(&self) -> ExtentStrings<'_>
         ensures { result ≡ self.now }
     {
@@ -155,7 +155,7 @@ impl PackedStrings {
         self.count = 0;
     }
 
-    /// The string that begins at that offset, where it stands.
+    /// Gives the string that begins at that offset, where it stands.
     #[inline]
     pub(crate) fn at(&self, offset: usize) -> &[u8]
         requires { HasOffset self.now offset }

@@ -35,7 +35,7 @@ impl Model for Pool {
     ghost invariant = { λ p. IsPool (map is_some p.extents.items) p.free_count p.cursor };
 }
 
-/// The least number from `from` up to `to` of a free extent, where there is one.
+/// Gives the least number from `from` up to `to` of a free extent, where there is one.
 #[tactic(auto, using(crate::proofs::PoolFacts::some_at, crate::proofs::PoolFacts::taken_more))]
 fn first_free(extents: &[Option<Box<Extent>>], from: usize, to: usize) -> Option<usize>
     requires { to ≤ length extents.now }
@@ -50,8 +50,8 @@ fn first_free(extents: &[Option<Box<Extent>>], from: usize, to: usize) -> Option
     None
 }
 
-/// The number of the next free extent from the cursor on, and behind the last from 0 on; `None`
-/// where none is free.
+/// Gives the number of the next free extent from the cursor on, and behind the last from 0 on;
+/// `None` where none is free.
 fn next_free(extents: &[Option<Box<Extent>>], cursor: usize) -> Option<usize>
     requires { cursor ≤ length extents.now }
     ensures next { IfSome result (IsNextFree (map is_some extents.now) cursor) }
@@ -82,7 +82,7 @@ impl Pool {
         })
     }
 
-    /// How many extents it was made with, whether they are free or taken.
+    /// Tells how many extents it was made with, whether they are free or taken.
     #[tactic(auto, using(crate::proofs::PoolFacts::as_many))]
     pub(crate) fn len(&self) -> usize
         ensures { result ≡ length self.now.is_free }

@@ -79,7 +79,7 @@ impl Ring {
         })
     }
 
-    /// How many extents there are. All strings fill no more.
+    /// Tells how many extents there are. All strings fill no more.
     pub fn extents(&self) -> usize
         ensures value { result ≡ self.now.extents }
         ensures used { used_of self.now ≤ result }
@@ -152,7 +152,7 @@ impl Ring {
         })
     }
 
-    /// The newest string of a slot, where it stands.
+    /// Gives the newest string of a slot, where it stands.
     pub fn newest(&self, slot: usize) -> &[u8]
         requires slot { slot < length self.now.active }
         requires some { 0 < length (get_or self.now.active slot []) }
@@ -161,7 +161,7 @@ impl Ring {
         self.active[slot].newest()
     }
 
-    /// The string at that address of a slot, where it stands.
+    /// Gives the string at that address of a slot, where it stands.
     pub fn at(&self, slot: usize, address: Address) -> &[u8]
         requires slot { slot < length self.now.active }
         requires some { HasAddress (get_or self.now.active slot []) address }
@@ -170,8 +170,8 @@ impl Ring {
         self.active[slot].at(address)
     }
 
-    /// The string at that address of a commit, where it stands. The newest commit has number 0, and
-    /// each older one the next number.
+    /// Gives the string at that address of a commit, where it stands. The newest commit has number
+    /// 0, and each older one the next number.
     pub fn committed_at(&self, commit: usize, address: Address) -> &[u8]
         requires commit { commit < length self.now.committed }
         requires some { HasAddress (get_or self.now.committed commit []) address }
@@ -180,7 +180,7 @@ impl Ring {
         self.committed[commit].at(address)
     }
 
-    /// The strings of a slot, the newest first, where they stand. It takes no memory.
+    /// Gives the strings of a slot, the newest first, where they stand. It takes no memory.
     pub fn strings(&self, slot: usize) -> Strings<'_>
         requires { slot < length self.now.active }
         ensures { result ≡ strings_of (get_or self.now.active slot []) }
@@ -188,8 +188,8 @@ impl Ring {
         self.active[slot].strings()
     }
 
-    /// The strings of a commit, the newest first, where they stand. The newest commit has number 0,
-    /// and each older one the next number. It takes no memory.
+    /// Gives the strings of a commit, the newest first, where they stand. The newest commit has
+    /// number 0, and each older one the next number. It takes no memory.
     pub fn committed_strings(&self, commit: usize) -> Strings<'_>
         requires { commit < length self.now.committed }
         ensures { result ≡ strings_of (get_or self.now.committed commit []) }

@@ -14,7 +14,7 @@ pub fn write_run(bytes: &mut [u8], start: usize, run: &[u8]) -> usize
     end
 }
 
-/// The first `count` bytes, and those behind them; `None` where there are fewer.
+/// Gives the first `count` bytes, and those behind them; `None` where there are fewer.
 #[inline]
 pub fn read_run(bytes: &[u8], count: usize) -> Option<(&[u8], &[u8])>
     ensures { option_map (λ x. (x.0.now, x.1.now)) result ≡ run_at count bytes.now }

@@ -31,7 +31,7 @@ impl<'a> Model for ExtentStrings<'a> {
 }
 
 impl<'a> ExtentStrings<'a> {
-    /// No strings.
+    /// Makes a walk over no strings.
     fn none() -> Self
         ensures { result ≡ [] }
     {
@@ -94,7 +94,7 @@ impl<'a> Iterator for Strings<'a> {
 }
 
 impl ExtentList {
-    /// All its strings, the newest first, where they stand.
+    /// Gives all its strings, the newest first, where they stand.
     pub(crate) fn strings(&self) -> Strings<'_>
         ensures { result ≡ all_strings self.now }
     {

@@ -8,7 +8,7 @@ use oe_requests::Column;
 use oe_rows::{Account, Customer};
 use oe_values::{Balance, Cents, Count};
 
-/// C_BALANCE after it has risen by a sum, where it stays in its range.
+/// Gives C_BALANCE after it has risen by a sum, where it stays in its range.
 fn balance_after(balance: Balance, sum: Cents) -> Option<Balance>
     ensures variant { IsTrue (is_balance (balance +ℤ pos sum)) ↔ IsSome result }
     ensures value { IfSome result (λ b. b ≡ balance +ℤ pos sum) }
@@ -19,8 +19,8 @@ fn balance_after(balance: Balance, sum: Cents) -> Option<Balance>
     Balance::new(balance.cents() + sum.cents() as i64)
 }
 
-/// A customer's account after the delivery: C_BALANCE rises by the sum of the order's OL_AMOUNTs,
-/// C_DELIVERY_CNT by 1. Else the first of these columns that would leave its range.
+/// Gives a customer's account after the delivery: C_BALANCE rises by the sum of the order's
+/// OL_AMOUNTs, C_DELIVERY_CNT by 1. Else the first of these columns that would leave its range.
 pub fn account_after_delivery(row: &Customer, sum: Cents) -> Result<Account, Column>
     ensures { row_with (λ a. record row.now { account = a }) result
         ≡ checked delivered_out (delivered_to sum row.now) }

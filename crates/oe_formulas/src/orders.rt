@@ -18,7 +18,8 @@ use oe_values::{
     StockYtd, Text, WarehouseNumber,
 };
 
-/// D_NEXT_O_ID after a new order: it rises by 1. Else D_NEXT_O_ID, which would leave its range.
+/// Gives D_NEXT_O_ID after a new order: it rises by 1. Else D_NEXT_O_ID, which would leave its
+/// range.
 pub fn next_order_after(row: &District) -> Result<OrderNumber, Column>
     ensures { row_with (with_next_order row.now) result ≡ checked next_out (with_next row.now) }
 {
@@ -28,15 +29,15 @@ pub fn next_order_after(row: &District) -> Result<OrderNumber, Column>
     }
 }
 
-/// Whether the warehouse supplies every line.
+/// Tells whether the warehouse supplies every line.
 fn is_local(lines: &[RequestLine], home: WarehouseNumber) -> bool
     ensures { result ≡ list_all (λ l. l.supply == home) lines.now }
 {
     lines.iter().all(|line| line.supply == home)
 }
 
-/// The ORDER row of a new order: no carrier yet, and O_ALL_LOCAL where its own warehouse supplies
-/// every line.
+/// Gives the ORDER row of a new order: no carrier yet, and O_ALL_LOCAL where its own warehouse
+/// supplies every line.
 pub fn order_row(request: &NewOrderRequest) -> Order
     ensures { result ≡ order_row request.now }
 {
@@ -54,7 +55,7 @@ pub fn order_row(request: &NewOrderRequest) -> Order
     }
 }
 
-/// The key of the stock that a line asks for, where it has an item's number (clause 2.4.1.5).
+/// Gives the key of the stock that a line asks for, where it has an item's number (clause 2.4.1.5).
 pub fn stock_key(line: RequestLine) -> Option<StockKey>
     ensures variant { IsSome result ↔ (line.item ≤ 100_000) }
     ensures value { IfSome result (λ k. k ≡ stock_of line) }
@@ -72,7 +73,7 @@ const LEAST_LEFT: u32 = 10;
 
 const RESTOCK: u32 = 91;
 
-/// S_QUANTITY after a line of that quantity (clause 2.4.2.2).
+/// Gives S_QUANTITY after a line of that quantity (clause 2.4.2.2).
 fn quantity_after(row: &Stock, quantity: Quantity) -> Count
     ensures { result ≡ cond (nat_le (quantity + 10) row.now.quantity)
         (row.now.quantity - quantity) (row.now.quantity + 91 - quantity) }
@@ -90,8 +91,8 @@ fn quantity_after(row: &Stock, quantity: Quantity) -> Count
     }
 }
 
-/// S_REMOTE_CNT after a line for a district of the home warehouse: it rises by 1 where the stock is
-/// another warehouse's.
+/// Gives S_REMOTE_CNT after a line for a district of the home warehouse: it rises by 1 where the
+/// stock is another warehouse's.
 fn remote_count_after(home: WarehouseNumber, key: StockKey, row: &Stock) -> u32
     ensures { result
         ≡ cond (key.warehouse == home) row.now.remote_count (row.now.remote_count + 1) }
@@ -103,8 +104,8 @@ fn remote_count_after(home: WarehouseNumber, key: StockKey, row: &Stock) -> u32
     }
 }
 
-/// The columns that a line of that quantity for a district of the home warehouse sets in the stock
-/// of a key: S_QUANTITY by the stock rule, S_YTD rises by the quantity, S_ORDER_CNT by 1, and
+/// Gives the columns that a line of that quantity for a district of the home warehouse sets in the
+/// stock of a key: S_QUANTITY by the stock rule, S_YTD rises by the quantity, S_ORDER_CNT by 1, and
 /// S_REMOTE_CNT by 1 where the stock is another warehouse's. Else the first of S_YTD, S_ORDER_CNT
 /// and S_REMOTE_CNT that would leave its range.
 pub fn counters_after_line(
@@ -133,14 +134,14 @@ pub fn counters_after_line(
     })
 }
 
-/// Whether a text has `ORIGINAL` in it.
+/// Tells whether a text has `ORIGINAL` in it.
 fn is_original(text: &str) -> bool
     ensures { result ≡ occurs_in (codes "ORIGINAL") text.now }
 {
     text.contains("ORIGINAL")
 }
 
-/// Whether an item and its stock are both original.
+/// Tells whether an item and its stock are both original.
 pub fn brand(item: &Item, stock: &Stock) -> Brand
     ensures { result ≡ brand item.now stock.now }
 {
@@ -151,7 +152,7 @@ pub fn brand(item: &Item, stock: &Stock) -> Brand
     }
 }
 
-/// OL_AMOUNT: the quantity times I_PRICE.
+/// Gives OL_AMOUNT: the quantity times I_PRICE.
 fn amount(line: RequestLine, item: &Item) -> LineAmount
     ensures { result ≡ line.quantity * item.now.price }
 {
@@ -161,8 +162,8 @@ fn amount(line: RequestLine, item: &Item) -> LineAmount
     }
 }
 
-/// The ORDER-LINE row of a line, of its item and stock: not delivered yet, with the stock's text
-/// for the district.
+/// Gives the ORDER-LINE row of a line, of its item and stock: not delivered yet, with the stock's
+/// text for the district.
 pub fn order_line(
     request: &NewOrderRequest,
     line: RequestLine,
@@ -182,7 +183,8 @@ pub fn order_line(
     }
 }
 
-/// What a new order answers of a line, of its item, of its stock, and of S_QUANTITY after the line.
+/// Gives what a new order answers of a line, of its item, of its stock, and of S_QUANTITY after the
+/// line.
 pub fn reply_with_quantity(
     line: RequestLine,
     item: &Item,
@@ -211,7 +213,7 @@ pub struct Seen {
 }
 
 impl Seen {
-    /// What it reads in these rows, where the district's is the one before the order.
+    /// Gives what it reads in these rows, where the district's is the one before the order.
     pub fn new(warehouse: &Warehouse, district: &District, customer: &Customer) -> Self
         ensures { seen_by result ≡ seen warehouse.now district.now customer.now }
     {
@@ -225,7 +227,7 @@ impl Seen {
         }
     }
 
-    /// A copy, which takes no memory.
+    /// Copies the value, and takes no memory.
     pub fn copied(&self) -> Self
         ensures { result ≡ self.now }
     {
@@ -239,7 +241,7 @@ impl Seen {
         }
     }
 
-    /// The total of an order of these lines.
+    /// Gives the total of an order of these lines.
     fn total(&self, lines: &[LineReply]) -> Cents
         requires { length lines.now ≤ 15 }
         ensures { result ≡ (ordered_reply (seen_by self.now) lines.now).total }
@@ -256,8 +258,8 @@ impl Seen {
         )
     }
 
-    /// What a new order answers, of the replies to its lines. C_LAST and the lines are lent where
-    /// they lie.
+    /// Gives what a new order answers, of the replies to its lines. C_LAST and the lines are lent
+    /// where they lie.
     pub fn reply<'a>(&'a self, lines: &'a LineReplies) -> ReplyRef<'a>
         ensures { told_reply result ≡ Reply.NewOrder (ordered_reply (seen_by self.now) lines.now) }
     {

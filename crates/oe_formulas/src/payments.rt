@@ -15,7 +15,7 @@ use oe_values::{
     TransactionNumber, YearToDate,
 };
 
-/// W_YTD after a payment: it rises by the amount. Else W_YTD, which would leave its range.
+/// Gives W_YTD after a payment: it rises by the amount. Else W_YTD, which would leave its range.
 pub fn warehouse_ytd_after(row: &Warehouse, request: &PaymentRequest) -> Result<YearToDate, Column>
     ensures { row_with (with_warehouse_ytd row.now) result
         ≡ checked paid_warehouse_out (paid_warehouse request.now row.now) }
@@ -26,7 +26,7 @@ pub fn warehouse_ytd_after(row: &Warehouse, request: &PaymentRequest) -> Result<
     }
 }
 
-/// D_YTD after a payment: it rises by the amount. Else D_YTD, which would leave its range.
+/// Gives D_YTD after a payment: it rises by the amount. Else D_YTD, which would leave its range.
 pub fn district_ytd_after(row: &District, request: &PaymentRequest) -> Result<YearToDate, Column>
     ensures { row_with (with_district_ytd row.now) result
         ≡ checked paid_district_out (paid_district request.now row.now) }
@@ -37,7 +37,8 @@ pub fn district_ytd_after(row: &District, request: &PaymentRequest) -> Result<Ye
     }
 }
 
-/// The keys that a payment by the customer with that number puts before the data of a bad credit.
+/// Gives the keys that a payment by the customer with that number puts before the data of a bad
+/// credit.
 fn credit_ids(number: CustomerNumber, request: &PaymentRequest) -> CreditIds
     ensures { result ≡ credit_ids number request.now }
 {
@@ -47,15 +48,15 @@ fn credit_ids(number: CustomerNumber, request: &PaymentRequest) -> CreditIds
     }
 }
 
-/// What a payment by the customer with that number puts before the data of a bad credit.
+/// Gives what a payment by the customer with that number puts before the data of a bad credit.
 pub fn bad_credit_entry(number: CustomerNumber, request: &PaymentRequest) -> Text<0, 90>
     ensures { result ≡ credit_entry (credit_ids number request.now) request.now.amount }
 {
     credit_entry(credit_ids(number, request), request.amount)
 }
 
-/// A customer's account after a payment: C_BALANCE falls and C_YTD_PAYMENT rises by the amount,
-/// C_PAYMENT_CNT rises by 1. Else the first of these columns that would leave its range.
+/// Gives a customer's account after a payment: C_BALANCE falls and C_YTD_PAYMENT rises by the
+/// amount, C_PAYMENT_CNT rises by 1. Else the first of these columns that would leave its range.
 pub fn account_after(row: &Customer, request: &PaymentRequest) -> Result<Account, Column>
     ensures { (c : ℕ) → row_with (paid_with c request.now row.now) result
         ≡ checked paid_customer_out (paid_customer c request.now row.now) }
@@ -79,7 +80,7 @@ pub fn account_after(row: &Customer, request: &PaymentRequest) -> Result<Account
     })
 }
 
-/// H_DATA of a payment: W_NAME, four spaces, D_NAME.
+/// Gives H_DATA of a payment: W_NAME, four spaces, D_NAME.
 pub fn history_data(warehouse: &Text<0, 10>, district: &Text<0, 10>) -> Text<0, 24>
     ensures { result ≡ history_data warehouse.now district.now }
 {
@@ -90,7 +91,7 @@ pub fn history_data(warehouse: &Text<0, 10>, district: &Text<0, 10>) -> Text<0, 
     Text::of_printable(spelled.as_str().as_bytes())
 }
 
-/// The HISTORY row of a payment by the customer with that number.
+/// Gives the HISTORY row of a payment by the customer with that number.
 pub fn history_row(
     number: CustomerNumber,
     joined: &Text<0, 24>,
@@ -111,7 +112,7 @@ pub fn history_row(
     }
 }
 
-/// The key of that row, in the terminal's transaction of that number.
+/// Gives the key of that row, in the terminal's transaction of that number.
 pub fn history_key(terminal: Terminal, number: TransactionNumber) -> HistoryKey
     ensures { result ≡ history_key terminal number }
 {
@@ -122,7 +123,8 @@ pub fn history_key(terminal: Terminal, number: TransactionNumber) -> HistoryKey
     }
 }
 
-/// What a payment answers, of the customer with that number before it and the account after it.
+/// Gives what a payment answers, of the customer with that number before it and the account after
+/// it.
 pub fn reply_with_account(number: CustomerNumber, row: &Customer, account: &Account) -> PaymentReply
     ensures { result ≡ paid_reply number (record row.now { account = account.now }) }
 {

@@ -7,7 +7,7 @@ use crate::fronts::{read_amount, read_balance, read_credit, read_ranged, read_st
 use crate::warehouses::read_address;
 use oe_rows::customers::{Account, Customer, CustomerName};
 
-/// A customer's name.
+/// Reads a customer's name.
 #[tactic(auto, unfolding(crate::specs::RowFronts::customer_name_at))]
 fn read_name(bytes: &[u8]) -> Option<(CustomerName, &[u8])>
     ensures { option_map (λ x. (x.0, x.1.now)) result ≡ customer_name_at bytes.now }
@@ -29,7 +29,7 @@ fn read_name(bytes: &[u8]) -> Option<(CustomerName, &[u8])>
     Some((name, rest))
 }
 
-/// A customer's account.
+/// Reads a customer's account.
 #[tactic(auto, unfolding(crate::specs::RowFronts::account_at))]
 fn read_account(bytes: &[u8]) -> Option<(Account, &[u8])>
     ensures { option_map (λ x. (x.0, x.1.now)) result ≡ account_at bytes.now }
@@ -63,7 +63,7 @@ fn read_account(bytes: &[u8]) -> Option<(Account, &[u8])>
     Some((account, rest))
 }
 
-/// The CUSTOMER row at the front of the bytes, and those behind it.
+/// Reads the CUSTOMER row at the front of the bytes, and those behind it.
 #[tactic(auto, unfolding(crate::specs::RowFronts::customer_at))]
 pub fn read_customer(bytes: &[u8]) -> Option<(Customer, &[u8])>
     ensures { option_map (λ x. (x.0, x.1.now)) result ≡ customer_at bytes.now }

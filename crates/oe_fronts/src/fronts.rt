@@ -12,7 +12,7 @@ use oe_values::numbers::{Amount, Balance, Carrier, Number};
 use oe_values::stamps::Stamp;
 use oe_values::texts::Text;
 
-/// A number in the first `width` bytes, from `LOW` to `HIGH`.
+/// Reads a number in the first `width` bytes, from `LOW` to `HIGH`.
 #[inline]
 pub(crate) fn read_ranged<const LOW: u32, const HIGH: u32>(
     bytes: &[u8],
@@ -27,7 +27,7 @@ pub(crate) fn read_ranged<const LOW: u32, const HIGH: u32>(
     Some((Number::new(value as u32)?, rest))
 }
 
-/// Cents, from 0 to `MOST`.
+/// Reads cents, from 0 to `MOST`.
 #[inline]
 pub(crate) fn read_amount<const MOST: u64>(bytes: &[u8]) -> Option<(Amount<MOST>, &[u8])>
     ensures { option_map (λ x. (x.0, x.1.now)) result ≡ ranged_at 8 0 MOST bytes.now }
@@ -36,7 +36,7 @@ pub(crate) fn read_amount<const MOST: u64>(bytes: &[u8]) -> Option<(Amount<MOST>
     Some((Amount::new(cents)?, rest))
 }
 
-/// A stamp.
+/// Reads a stamp.
 #[inline]
 pub(crate) fn read_stamp(bytes: &[u8]) -> Option<(Stamp, &[u8])>
     ensures { option_map (λ x. (x.0, x.1.now)) result ≡ stamp_at bytes.now }
@@ -45,7 +45,7 @@ pub(crate) fn read_stamp(bytes: &[u8]) -> Option<(Stamp, &[u8])>
     Some((Stamp::from_seconds(seconds)?, rest))
 }
 
-/// A balance.
+/// Reads a balance.
 #[inline]
 pub(crate) fn read_balance(bytes: &[u8]) -> Option<(Balance, &[u8])>
     ensures { option_map (λ x. (x.0, x.1.now)) result ≡ balance_at bytes.now }
@@ -54,7 +54,7 @@ pub(crate) fn read_balance(bytes: &[u8]) -> Option<(Balance, &[u8])>
     Some((Balance::new(cents.cast_signed())?, rest))
 }
 
-/// The text of these bytes, where they are one.
+/// Reads the text of these bytes, where they are one.
 #[inline]
 fn checked_text<const LEAST: usize, const MOST: usize>(bytes: &[u8]) -> Option<Text<LEAST, MOST>>
     ensures { result ≡ checked LEAST MOST bytes.now }
@@ -62,7 +62,7 @@ fn checked_text<const LEAST: usize, const MOST: usize>(bytes: &[u8]) -> Option<T
     Text::read_bytes(bytes)
 }
 
-/// A text.
+/// Reads a text.
 #[inline]
 pub(crate) fn read_text<const LEAST: usize, const MOST: usize>(
     bytes: &[u8],
@@ -74,7 +74,7 @@ pub(crate) fn read_text<const LEAST: usize, const MOST: usize>(
     Some((checked_text(text)?, rest))
 }
 
-/// A credit.
+/// Reads a credit.
 #[inline]
 #[tactic(auto, unfolding(crate::specs::ColumnFronts::credit_at))]
 pub(crate) fn read_credit(bytes: &[u8]) -> Option<(Credit, &[u8])>
@@ -96,7 +96,7 @@ pub(crate) fn read_credit(bytes: &[u8]) -> Option<(Credit, &[u8])>
     }
 }
 
-/// Whether it is so.
+/// Tells whether it is so.
 #[inline]
 pub(crate) fn read_flag(bytes: &[u8]) -> Option<(bool, &[u8])>
     ensures { option_map (λ x. (x.0, x.1.now)) result ≡ flag_at bytes.now }
@@ -111,7 +111,7 @@ pub(crate) fn read_flag(bytes: &[u8]) -> Option<(bool, &[u8])>
     Some((true, rest))
 }
 
-/// A carrier, or none.
+/// Reads a carrier, or none.
 #[inline]
 pub(crate) fn read_carrier(bytes: &[u8]) -> Option<(Option<Carrier>, &[u8])>
     ensures { option_map (λ x. (x.0, x.1.now)) result ≡ carrier_at bytes.now }
@@ -129,7 +129,7 @@ pub(crate) fn read_carrier(bytes: &[u8]) -> Option<(Option<Carrier>, &[u8])>
     Some((Some(carrier), rest))
 }
 
-/// A stamp, or none.
+/// Reads a stamp, or none.
 #[inline]
 pub(crate) fn read_delivery(bytes: &[u8]) -> Option<(Option<Stamp>, &[u8])>
     ensures { option_map (λ x. (x.0, x.1.now)) result ≡ delivery_at bytes.now }

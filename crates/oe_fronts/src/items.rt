@@ -8,7 +8,7 @@ use crate::fronts::{read_amount, read_ranged, read_text};
 use oe_rows::items::{Item, Stock};
 use oe_values::texts::Text;
 
-/// S_DIST_01 to S_DIST_10.
+/// Reads S_DIST_01 to S_DIST_10.
 #[tactic(auto, unfolding(crate::specs::ColumnFronts::ten_texts_at))]
 fn read_ten_texts(bytes: &[u8]) -> Option<([Text<24, 24>; 10], &[u8])>
     ensures { option_map (λ x. (x.0, x.1.now)) result ≡ ten_texts_at bytes.now }
@@ -46,7 +46,7 @@ fn read_ten_texts(bytes: &[u8]) -> Option<([Text<24, 24>; 10], &[u8])>
     Some(([d0, d1, d2, d3, d4, d5, d6, d7, d8, d9], rest))
 }
 
-/// The ITEM row at the front of the bytes, and those behind it.
+/// Reads the ITEM row at the front of the bytes, and those behind it.
 #[tactic(auto, unfolding(crate::specs::RowFronts::item_at))]
 pub fn read_item(bytes: &[u8]) -> Option<(Item, &[u8])>
     ensures { option_map (λ x. (x.0, x.1.now)) result ≡ item_at bytes.now }
@@ -72,7 +72,7 @@ pub fn read_item(bytes: &[u8]) -> Option<(Item, &[u8])>
     Some((item, rest))
 }
 
-/// The STOCK row at the front of the bytes, and those behind it.
+/// Reads the STOCK row at the front of the bytes, and those behind it.
 #[tactic(auto, unfolding(crate::specs::RowFronts::stock_at))]
 pub fn read_stock(bytes: &[u8]) -> Option<(Stock, &[u8])>
     ensures { option_map (λ x. (x.0, x.1.now)) result ≡ stock_at bytes.now }

@@ -11,7 +11,7 @@ use oe_rows::{
     StockKey, Table, WarehouseKey,
 };
 
-/// The key of a WAREHOUSE row at the front of the bytes, and those behind it.
+/// Reads the key of a WAREHOUSE row at the front of the bytes, and those behind it.
 #[tactic(auto, unfolding(crate::specs::KeyFronts::warehouse_key_at))]
 pub fn read_warehouse_key(bytes: &[u8]) -> Option<(WarehouseKey, &[u8])>
     ensures { option_map (λ x. (x.0, x.1.now)) result ≡ warehouse_key_at bytes.now }
@@ -23,7 +23,7 @@ pub fn read_warehouse_key(bytes: &[u8]) -> Option<(WarehouseKey, &[u8])>
     Some((warehouse_key, rest))
 }
 
-/// The key of a DISTRICT row at the front of the bytes, and those behind it.
+/// Reads the key of a DISTRICT row at the front of the bytes, and those behind it.
 #[tactic(auto, unfolding(crate::specs::KeyFronts::district_key_at))]
 pub fn read_district_key(bytes: &[u8]) -> Option<(DistrictKey, &[u8])>
     ensures { option_map (λ x. (x.0, x.1.now)) result ≡ district_key_at bytes.now }
@@ -41,7 +41,7 @@ pub fn read_district_key(bytes: &[u8]) -> Option<(DistrictKey, &[u8])>
     Some((district_key, rest))
 }
 
-/// The key of a CUSTOMER row at the front of the bytes, and those behind it.
+/// Reads the key of a CUSTOMER row at the front of the bytes, and those behind it.
 #[tactic(auto, unfolding(crate::specs::KeyFronts::customer_key_at))]
 pub fn read_customer_key(bytes: &[u8]) -> Option<(CustomerKey, &[u8])>
     ensures { option_map (λ x. (x.0, x.1.now)) result ≡ customer_key_at bytes.now }
@@ -63,7 +63,7 @@ pub fn read_customer_key(bytes: &[u8]) -> Option<(CustomerKey, &[u8])>
     Some((customer_key, rest))
 }
 
-/// The key of a HISTORY row at the front of the bytes, and those behind it.
+/// Reads the key of a HISTORY row at the front of the bytes, and those behind it.
 #[tactic(auto, unfolding(crate::specs::KeyFronts::history_key_at))]
 pub fn read_history_key(bytes: &[u8]) -> Option<(HistoryKey, &[u8])>
     ensures { option_map (λ x. (x.0, x.1.now)) result ≡ history_key_at bytes.now }
@@ -85,7 +85,7 @@ pub fn read_history_key(bytes: &[u8]) -> Option<(HistoryKey, &[u8])>
     Some((history_key, rest))
 }
 
-/// The key of a NEW-ORDER row at the front of the bytes, and those behind it.
+/// Reads the key of a NEW-ORDER row at the front of the bytes, and those behind it.
 #[tactic(auto, unfolding(crate::specs::KeyFronts::new_order_key_at))]
 pub fn read_new_order_key(bytes: &[u8]) -> Option<(NewOrderKey, &[u8])>
     ensures { option_map (λ x. (x.0, x.1.now)) result ≡ new_order_key_at bytes.now }
@@ -107,7 +107,7 @@ pub fn read_new_order_key(bytes: &[u8]) -> Option<(NewOrderKey, &[u8])>
     Some((new_order_key, rest))
 }
 
-/// The key of an ORDER row at the front of the bytes, and those behind it.
+/// Reads the key of an ORDER row at the front of the bytes, and those behind it.
 #[tactic(auto, unfolding(crate::specs::KeyFronts::order_key_at))]
 pub fn read_order_key(bytes: &[u8]) -> Option<(OrderKey, &[u8])>
     ensures { option_map (λ x. (x.0, x.1.now)) result ≡ order_key_at bytes.now }
@@ -129,7 +129,7 @@ pub fn read_order_key(bytes: &[u8]) -> Option<(OrderKey, &[u8])>
     Some((order_key, rest))
 }
 
-/// The key of an ORDER-LINE row at the front of the bytes, and those behind it.
+/// Reads the key of an ORDER-LINE row at the front of the bytes, and those behind it.
 #[tactic(auto, unfolding(crate::specs::KeyFronts::order_line_key_at))]
 pub fn read_order_line_key(bytes: &[u8]) -> Option<(OrderLineKey, &[u8])>
     ensures { option_map (λ x. (x.0, x.1.now)) result ≡ order_line_key_at bytes.now }
@@ -155,7 +155,7 @@ pub fn read_order_line_key(bytes: &[u8]) -> Option<(OrderLineKey, &[u8])>
     Some((order_line_key, rest))
 }
 
-/// The key of an ITEM row at the front of the bytes, and those behind it.
+/// Reads the key of an ITEM row at the front of the bytes, and those behind it.
 #[tactic(auto, unfolding(crate::specs::KeyFronts::item_key_at))]
 pub fn read_item_key(bytes: &[u8]) -> Option<(ItemKey, &[u8])>
     ensures { option_map (λ x. (x.0, x.1.now)) result ≡ item_key_at bytes.now }
@@ -167,7 +167,7 @@ pub fn read_item_key(bytes: &[u8]) -> Option<(ItemKey, &[u8])>
     Some((item_key, rest))
 }
 
-/// The key of a STOCK row at the front of the bytes, and those behind it.
+/// Reads the key of a STOCK row at the front of the bytes, and those behind it.
 #[tactic(auto, unfolding(crate::specs::KeyFronts::stock_key_at))]
 pub fn read_stock_key(bytes: &[u8]) -> Option<(StockKey, &[u8])>
     ensures { option_map (λ x. (x.0, x.1.now)) result ≡ stock_key_at bytes.now }
@@ -182,7 +182,7 @@ pub fn read_stock_key(bytes: &[u8]) -> Option<(StockKey, &[u8])>
     Some((stock_key, rest))
 }
 
-/// What stands at the front.
+/// Reads what stands at the front.
 fn front_key(table: Table, bytes: &[u8]) -> Option<(Key, &[u8])>
     ensures { option_map (λ x. (x.0, x.1.now)) result ≡ key_at table bytes.now }
 {
@@ -226,8 +226,8 @@ fn front_key(table: Table, bytes: &[u8]) -> Option<(Key, &[u8])>
     }
 }
 
-/// The key of that table at the front of the bytes, and those behind it; `None` exactly where no
-/// front of the bytes is the image of a key of that table.
+/// Reads the key of that table at the front of the bytes, and those behind it; `None` exactly where
+/// no front of the bytes is the image of a key of that table.
 pub fn read_key(table: Table, bytes: &[u8]) -> Option<(Key, &[u8])>
     ensures { Reads (IsKeyOf table) key_image bytes.now (option_map (λ x. (x.0, x.1.now)) result) }
 {

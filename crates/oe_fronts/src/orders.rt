@@ -11,7 +11,7 @@ use oe_rows::histories::History;
 use oe_rows::orders::{Order, OrderLine};
 use oe_rows::{CustomerKey, DistrictKey};
 
-/// The HISTORY row at the front of the bytes, and those behind it.
+/// Reads the HISTORY row at the front of the bytes, and those behind it.
 #[tactic(auto, unfolding(crate::specs::RowFronts::history_at))]
 pub fn read_history(bytes: &[u8]) -> Option<(History, &[u8])>
     ensures { option_map (λ x. (x.0, x.1.now)) result ≡ history_at bytes.now }
@@ -57,7 +57,7 @@ pub fn read_history(bytes: &[u8]) -> Option<(History, &[u8])>
     Some((history, rest))
 }
 
-/// The ORDER row at the front of the bytes, and those behind it.
+/// Reads the ORDER row at the front of the bytes, and those behind it.
 #[tactic(auto, unfolding(crate::specs::RowFronts::order_at))]
 pub fn read_order(bytes: &[u8]) -> Option<(Order, &[u8])>
     ensures { option_map (λ x. (x.0, x.1.now)) result ≡ order_at bytes.now }
@@ -87,7 +87,7 @@ pub fn read_order(bytes: &[u8]) -> Option<(Order, &[u8])>
     Some((order, rest))
 }
 
-/// The ORDER-LINE row at the front of the bytes, and those behind it.
+/// Reads the ORDER-LINE row at the front of the bytes, and those behind it.
 #[tactic(auto, unfolding(crate::specs::RowFronts::order_line_at))]
 pub fn read_order_line(bytes: &[u8]) -> Option<(OrderLine, &[u8])>
     ensures { option_map (λ x. (x.0, x.1.now)) result ≡ order_line_at bytes.now }

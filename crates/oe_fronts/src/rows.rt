@@ -15,7 +15,7 @@ use oe_rows::orders::NewOrder;
 use oe_rows::rows::Row;
 use oe_rows::{Key, Table};
 
-/// What stands at the front.
+/// Reads what stands at the front.
 fn front_row(table: Table, bytes: &[u8]) -> Option<(Row, &[u8])>
     ensures { option_map (λ x. (x.0, x.1.now)) result ≡ row_at table bytes.now }
 {
@@ -56,16 +56,17 @@ fn front_row(table: Table, bytes: &[u8]) -> Option<(Row, &[u8])>
     }
 }
 
-/// The row of that table at the front of the bytes, and those behind it; `None` exactly where no
-/// front of the bytes is the image of a row of that table.
+/// Reads the row of that table at the front of the bytes, and those behind it; `None` exactly where
+/// no front of the bytes is the image of a row of that table.
 pub fn read_row(table: Table, bytes: &[u8]) -> Option<(Row, &[u8])>
     ensures { Reads (IsRowOf table) row_image bytes.now (option_map (λ x. (x.0, x.1.now)) result) }
 {
     front_row(table, bytes)
 }
 
-/// The key and the row of that table at the front of the bytes, and how many bytes their image has;
-/// `None` exactly where no front of the bytes is the image of a row of that table with its key.
+/// Reads the key and the row of that table at the front of the bytes, and how many bytes their
+/// image has; `None` exactly where no front of the bytes is the image of a row of that table with
+/// its key.
 pub fn read_image(table: Table, bytes: &[u8]) -> Option<(Key, Row, usize)>
     ensures { ReadsImage table bytes.now result }
 {

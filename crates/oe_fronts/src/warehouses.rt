@@ -8,7 +8,7 @@ use crate::fronts::{read_amount, read_ranged, read_text};
 use oe_rows::districts::District;
 use oe_rows::warehouses::{Address, Warehouse};
 
-/// An address.
+/// Reads an address.
 #[tactic(auto, unfolding(crate::specs::RowFronts::address_at))]
 pub(crate) fn read_address(bytes: &[u8]) -> Option<(Address, &[u8])>
     ensures { option_map (λ x. (x.0, x.1.now)) result ≡ address_at bytes.now }
@@ -38,7 +38,7 @@ pub(crate) fn read_address(bytes: &[u8]) -> Option<(Address, &[u8])>
     Some((address, rest))
 }
 
-/// The WAREHOUSE row at the front of the bytes, and those behind it.
+/// Reads the WAREHOUSE row at the front of the bytes, and those behind it.
 #[tactic(auto, unfolding(crate::specs::RowFronts::warehouse_at))]
 pub fn read_warehouse(bytes: &[u8]) -> Option<(Warehouse, &[u8])>
     ensures { option_map (λ x. (x.0, x.1.now)) result ≡ warehouse_at bytes.now }
@@ -64,7 +64,7 @@ pub fn read_warehouse(bytes: &[u8]) -> Option<(Warehouse, &[u8])>
     Some((warehouse, rest))
 }
 
-/// The DISTRICT row at the front of the bytes, and those behind it.
+/// Reads the DISTRICT row at the front of the bytes, and those behind it.
 #[tactic(auto, unfolding(crate::specs::RowFronts::district_at))]
 pub fn read_district(bytes: &[u8]) -> Option<(District, &[u8])>
     ensures { option_map (λ x. (x.0, x.1.now)) result ≡ district_at bytes.now }

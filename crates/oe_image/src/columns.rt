@@ -16,7 +16,7 @@ pub trait Imaged {
 
     ghost image: { Self → List ℕ };
 
-    /// How many bytes its image has: at most `most`.
+    /// Tells how many bytes its image has: at most `most`.
     fn length(&self) -> usize
         requires { most ≤ 65535 }
         ensures value { result ≡ length (image self.now) }

@@ -9,7 +9,7 @@ use oe_rows::orders::{NewOrder, Order, OrderLine};
 use oe_values::numbers::Carrier;
 use oe_values::stamps::Stamp;
 
-/// O_CARRIER_ID as it is written.
+/// Gives O_CARRIER_ID as it is written.
 #[inline]
 fn carrier_column(carrier: &Option<Carrier>) -> Option<u8>
     ensures { result ≡ carrier.now }
@@ -20,7 +20,7 @@ fn carrier_column(carrier: &Option<Carrier>) -> Option<u8>
     }
 }
 
-/// OL_DELIVERY_D as it is written.
+/// Gives OL_DELIVERY_D as it is written.
 #[inline]
 fn delivery_column(delivery: &Option<Stamp>) -> Option<u64>
     ensures { result ≡ delivery.now }

@@ -41,7 +41,7 @@ impl Imaged for Row {
     }
 }
 
-/// How many bytes the image of a row with its key has: at most 691.
+/// Tells how many bytes the image of a row with its key has: at most 691.
 pub fn image_length(key: &Key, row: &Row) -> usize
     ensures { result ≡ length (image_of key.now row.now) }
 {

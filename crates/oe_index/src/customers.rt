@@ -73,7 +73,7 @@ fn list(
 }
 
 impl Customers {
-    /// A table without a place, which takes no memory.
+    /// Makes a table without a place, which takes no memory.
     pub fn new(alloc: Global) -> Self
         ensures places { result ≡ [] }
         ensures rows { rows_of customer_cmp result ≡ map.empty }
@@ -85,7 +85,7 @@ impl Customers {
         }
     }
 
-    /// The row at a key.
+    /// Gives the row at a key.
     pub fn get(&self, key: &CustomerKey) -> Option<&Customer>
         ensures { option_copied result ≡ map.get (rows_of customer_cmp self.now) key.now }
     {
@@ -163,22 +163,22 @@ impl Customers {
         self.rows.sweep();
     }
 
-    /// The rows with their keys, in the keys' order.
+    /// Gives the rows with their keys, in the keys' order.
     pub fn iter(&self) -> Rows<'_, CustomerKey, Customer>
         ensures { result ≡ entries (rows_of customer_cmp self.now) }
     {
         self.rows.iter()
     }
 
-    /// The keys that have a place, in their order, each with its row or, where it was blanked,
-    /// `None`.
+    /// Gives the keys that have a place, in their order, each with its row or, where it was
+    /// blanked, `None`.
     pub fn places(&self) -> Candidates<'_, CustomerKey, Customer>
         ensures { result ≡ self.now }
     {
         self.rows.places()
     }
 
-    /// The rows whose keys lie from `from` up to `to`, both included, in the keys' order.
+    /// Gives the rows whose keys lie from `from` up to `to`, both included, in the keys' order.
     pub fn range_inclusive(
         &self,
         from: CustomerKey,
@@ -192,15 +192,15 @@ impl Customers {
         self.rows.range_inclusive(from, to)
     }
 
-    /// Whether the lists stand, so that a walk over namesakes is not the other walk. It is a hint,
-    /// on which no answer rests.
+    /// Tells whether the lists stand, so that a walk over namesakes is not the other walk. It is a
+    /// hint, on which no answer rests.
     pub fn is_listed(&self) -> bool {
         self.is_listed
     }
 
-    /// A walk that meets the customers of a district with that C_LAST in their keys' order, and
-    /// others (clause 2.5.2.2). Where the lists were given up it is the other walk, which has to
-    /// meet them too.
+    /// Gives a walk that meets the customers of a district with that C_LAST in their keys' order,
+    /// and others (clause 2.5.2.2). Where the lists were given up it is the other walk, which has
+    /// to meet them too.
     pub fn namesakes<'a>(
         &'a self,
         district: &DistrictKey,

@@ -1,7 +1,7 @@
 //! Two truths as one value, by which a walk stops. Nothing can fail.
 ghost use Rattle.std.specs.Prelude.{◌≡◌, ◌&&◌};
 
-/// Whether both are so.
+/// Tells whether both are so.
 pub(crate) fn are_both(first: bool, second: bool) -> bool
     ensures { result ≡ (first && second) }
 {

@@ -32,7 +32,7 @@ impl<K: ShelvedKey> Model for Lists<K> {
 }
 
 impl<K: ShelvedKey> Lists<K> {
-    /// No lists, which take no memory.
+    /// Makes no lists, and takes no memory.
     pub(crate) fn new(alloc: Global) -> Self
         ensures { result ≡ [] }
     {
@@ -42,7 +42,7 @@ impl<K: ShelvedKey> Lists<K> {
         }
     }
 
-    /// The keys under a number, in their order.
+    /// Gives the keys under a number, in their order.
     pub(crate) fn under(&self, number: usize) -> &[Slot<K, ()>]
         ensures listed { result.now ≡ slice_index_or self.now number [] }
         ensures ordered { IsAscending K.cmp result.now }

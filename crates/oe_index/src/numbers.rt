@@ -6,7 +6,7 @@ ghost use Rattle.oe_index.specs.Numbers.{name_number, number_in, list_number, ow
 use oe_rows::{CustomerKey, DistrictKey};
 use oe_values::Text;
 
-/// A number below 1,009 of a last name, by all its bytes.
+/// Gives a number below 1,009 of a last name, by all its bytes.
 fn name_number(last: &Text<0, 16>) -> u32
     ensures value { result ≡ name_number last.now }
     ensures few { result < 1_009 }
@@ -18,7 +18,7 @@ fn name_number(last: &Text<0, 16>) -> u32
     number
 }
 
-/// A district's list of a number below 1,009.
+/// Gives a district's list of a number below 1,009.
 fn number_in(district: &DistrictKey, own: u32) -> usize
     requires { own < 1_009 }
     ensures value { result ≡ number_in district.now own }
@@ -29,8 +29,8 @@ fn number_in(district: &DistrictKey, own: u32) -> usize
     (before * 1_009 + own) as usize
 }
 
-/// The number of the list of a district's customers with a last name. Customers of other names may
-/// be in it too.
+/// Gives the number of the list of a district's customers with a last name. Customers of other
+/// names may be in it too.
 pub(crate) fn list_number(district: &DistrictKey, last: &Text<0, 16>) -> usize
     ensures value { result ≡ list_number district.now last.now }
     ensures few { result < 1_000_000 }
@@ -38,7 +38,7 @@ pub(crate) fn list_number(district: &DistrictKey, last: &Text<0, 16>) -> usize
     number_in(district, name_number(last))
 }
 
-/// The number of the list of a customer's orders. Orders of other customers may be in it too.
+/// Gives the number of the list of a customer's orders. Orders of other customers may be in it too.
 pub(crate) fn owner_number(customer: &CustomerKey) -> usize
     ensures value { result ≡ owner_number customer.now }
     ensures few { result < 1_000_000 }

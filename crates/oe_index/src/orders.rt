@@ -99,7 +99,7 @@ fn unlist(lists: &mut Lists<OrderKey>, key: &OrderKey, row: &Order)
 }
 
 impl Orders {
-    /// A table without a place, which takes no memory.
+    /// Makes a table without a place, which takes no memory.
     pub fn new(alloc: Global) -> Self
         ensures places { result ≡ [] }
         ensures rows { rows_of order_cmp result ≡ map.empty }
@@ -111,7 +111,7 @@ impl Orders {
         }
     }
 
-    /// The row at a key; a blanked key and one without a place have none.
+    /// Gives the row at a key; a blanked key and one without a place have none.
     pub fn get(&self, key: &OrderKey) -> Option<&Order>
         ensures { option_copied result ≡ map.get (rows_of order_cmp self.now) key.now }
     {
@@ -205,22 +205,22 @@ impl Orders {
         self.rows.sweep();
     }
 
-    /// The rows with their keys, in the keys' order.
+    /// Gives the rows with their keys, in the keys' order.
     pub fn iter(&self) -> Rows<'_, OrderKey, Order>
         ensures { result ≡ entries (rows_of order_cmp self.now) }
     {
         self.rows.iter()
     }
 
-    /// The keys that have a place, in their order, each with its row or, where it was blanked,
-    /// `None`.
+    /// Gives the keys that have a place, in their order, each with its row or, where it was
+    /// blanked, `None`.
     pub fn places(&self) -> Candidates<'_, OrderKey, Order>
         ensures { result ≡ self.now }
     {
         self.rows.places()
     }
 
-    /// The rows whose keys lie from `from` up to `to`, both included, in the keys' order.
+    /// Gives the rows whose keys lie from `from` up to `to`, both included, in the keys' order.
     pub fn range_inclusive(&self, from: OrderKey, to: OrderKey) -> Rows<'_, OrderKey, Order>
         requires { IsLeBy order_cmp from to }
         ensures { result
@@ -230,8 +230,8 @@ impl Orders {
         self.rows.range_inclusive(from, to)
     }
 
-    /// A walk that meets a customer's orders in their keys' order, and others. Where the lists were
-    /// given up it is the other walk, which has to meet them too.
+    /// Gives a walk that meets a customer's orders in their keys' order, and others. Where the
+    /// lists were given up it is the other walk, which has to meet them too.
     pub fn of_customer<'a>(
         &'a self,
         customer: &CustomerKey,

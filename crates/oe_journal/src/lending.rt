@@ -13,8 +13,8 @@ use oe_requests::Refusal;
 use oe_rows::{CustomerKey, DistrictKey, OrderKey, OrderLineKey, StockKey, WarehouseKey};
 use oe_store::Tables;
 
-/// The record of a write to rows as they stand: of an insert or a delete its key, of an update the
-/// row, lent from where it lies.
+/// Gives the record of a write to rows as they stand: of an insert or a delete its key, of an
+/// update the row, lent from where it lies.
 ///
 /// `NoSuchRow`: the row to be updated is absent.
 #[inline(always)]
@@ -30,7 +30,7 @@ pub(crate) fn lend<'a>(tables: &'a Tables, write: &Write) -> Result<LentRecord<'
     }
 }
 
-/// The record of a write; none exactly where the row to be updated is absent.
+/// Gives the record of a write; none exactly where the row to be updated is absent.
 #[inline(always)]
 fn found<'a>(tables: &'a Tables, write: &Write) -> Option<LentRecord<'a>>
     ensures { option_map record_of_lent result ≡ record_of_write write.now (rows tables.now) }
@@ -52,7 +52,7 @@ fn found<'a>(tables: &'a Tables, write: &Write) -> Option<LentRecord<'a>>
     }
 }
 
-/// The record of an update of a warehouse, if that is there.
+/// Gives the record of an update of a warehouse, if that is there.
 #[inline(always)]
 fn warehouse<'a>(tables: &'a Tables, key: &WarehouseKey) -> Option<LentRecord<'a>>
     ensures { option_map record_of_lent result
@@ -65,7 +65,7 @@ fn warehouse<'a>(tables: &'a Tables, key: &WarehouseKey) -> Option<LentRecord<'a
     }
 }
 
-/// The record of an update of a district, if that is there.
+/// Gives the record of an update of a district, if that is there.
 #[inline(always)]
 fn district<'a>(tables: &'a Tables, key: &DistrictKey) -> Option<LentRecord<'a>>
     ensures { option_map record_of_lent result
@@ -78,7 +78,7 @@ fn district<'a>(tables: &'a Tables, key: &DistrictKey) -> Option<LentRecord<'a>>
     }
 }
 
-/// The record of an update of a customer, if that is there.
+/// Gives the record of an update of a customer, if that is there.
 #[inline(always)]
 fn customer<'a>(tables: &'a Tables, key: &CustomerKey) -> Option<LentRecord<'a>>
     ensures { option_map record_of_lent result
@@ -91,7 +91,7 @@ fn customer<'a>(tables: &'a Tables, key: &CustomerKey) -> Option<LentRecord<'a>>
     }
 }
 
-/// The record of an update of an order, if that is there.
+/// Gives the record of an update of an order, if that is there.
 #[inline(always)]
 fn order<'a>(tables: &'a Tables, key: &OrderKey) -> Option<LentRecord<'a>>
     ensures { option_map record_of_lent result
@@ -103,7 +103,7 @@ fn order<'a>(tables: &'a Tables, key: &OrderKey) -> Option<LentRecord<'a>>
     }
 }
 
-/// The record of an update of an order's line, if that is there.
+/// Gives the record of an update of an order's line, if that is there.
 #[inline(always)]
 fn order_line<'a>(tables: &'a Tables, key: &OrderLineKey) -> Option<LentRecord<'a>>
     ensures { option_map record_of_lent result
@@ -116,7 +116,7 @@ fn order_line<'a>(tables: &'a Tables, key: &OrderLineKey) -> Option<LentRecord<'
     }
 }
 
-/// The record of an update of a stock, if that is there.
+/// Gives the record of an update of a stock, if that is there.
 #[inline(always)]
 fn stock<'a>(tables: &'a Tables, key: &StockKey) -> Option<LentRecord<'a>>
     ensures { option_map record_of_lent result

@@ -10,7 +10,7 @@ use oe_undo::laws::ends_without_records;
 use oe_undo::{Holder, Undo};
 use oe_values::Moment;
 
-/// Whether the log has no record of a key, open or committed.
+/// Tells whether the log has no record of a key, open or committed.
 pub(crate) fn is_unnamed(undo: &Undo, key: &Key) -> bool
     ensures { IsTrue result ↔ HasNoRecord undo.now.log key.now }
 {
@@ -19,7 +19,7 @@ pub(crate) fn is_unnamed(undo: &Undo, key: &Key) -> bool
     has_ended(undo, key, undo.segments().horizon())
 }
 
-/// Whether a key's link leads to no record of an open transaction, nor of a commit after the
+/// Tells whether a key's link leads to no record of an open transaction, nor of a commit after the
 /// moment.
 pub(crate) fn has_ended(undo: &Undo, key: &Key, moment: Moment) -> bool
     ensures { IsTrue result ↔ IsEnd moment (seen undo.now key.now) }
@@ -30,7 +30,7 @@ pub(crate) fn has_ended(undo: &Undo, key: &Key, moment: Moment) -> bool
     }
 }
 
-/// Whether a holder's commit is given up by a purge to the moment.
+/// Tells whether a holder's commit is given up by a purge to the moment.
 fn is_forgotten(holder: &Holder, moment: Moment) -> bool
     ensures { IsTrue result ↔ IsForgotten moment holder.now }
 {

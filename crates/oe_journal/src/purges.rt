@@ -102,8 +102,8 @@ fn give_up_key(tables: &mut Tables, undo: &Undo, key: NewOrderKey, moment: Momen
     }
 }
 
-/// Whether a NEW-ORDER key's link leads to no record of an open transaction, nor of a commit after
-/// the moment.
+/// Tells whether a NEW-ORDER key's link leads to no record of an open transaction, nor of a commit
+/// after the moment.
 fn new_order_has_ended(undo: &Undo, key: &NewOrderKey, moment: Moment) -> bool
     ensures { IsTrue result ↔ IsEnd moment (seen undo.now (Key.NewOrder key.now)) }
 {

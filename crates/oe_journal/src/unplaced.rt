@@ -11,7 +11,7 @@ use oe_requests::Refusal;
 use oe_rows::{History, HistoryKey, NewOrderKey, Order, OrderKey, OrderLine, OrderLineKey};
 use oe_store::Tables;
 
-/// Why a write at a key without a place is refused: a deleted row is absent, and so is what an
+/// Says why a write at a key without a place is refused: a deleted row is absent, and so is what an
 /// inserted row refers to, or there is no memory. A row to be updated would have a place.
 #[inline(never)]
 pub(crate) fn unplaced(tables: &Tables, write: &Write) -> Refusal
@@ -28,7 +28,7 @@ pub(crate) fn unplaced(tables: &Tables, write: &Write) -> Refusal
     }
 }
 
-/// Why a HISTORY row is refused whose key has no place.
+/// Says why a HISTORY row is refused whose key has no place.
 fn unplaced_history(tables: &Tables, key: &HistoryKey, row: &History) -> Refusal
     requires { HasPlace tables.now (key_of (InsertHistory key.now row.now)) → ⊥ }
     ensures { IsRefused (InsertHistory key.now row.now) tables.now result }
@@ -39,7 +39,7 @@ fn unplaced_history(tables: &Tables, key: &HistoryKey, row: &History) -> Refusal
     }
 }
 
-/// Why a NEW-ORDER row is refused whose key has no place.
+/// Says why a NEW-ORDER row is refused whose key has no place.
 fn unplaced_new_order(tables: &Tables, key: &NewOrderKey) -> Refusal
     requires { HasPlace tables.now (key_of (InsertNewOrder key.now (record {}))) → ⊥ }
     ensures { IsRefused (InsertNewOrder key.now (record {})) tables.now result }
@@ -50,7 +50,7 @@ fn unplaced_new_order(tables: &Tables, key: &NewOrderKey) -> Refusal
     }
 }
 
-/// Why an ORDER row is refused whose key has no place.
+/// Says why an ORDER row is refused whose key has no place.
 fn unplaced_order(tables: &Tables, key: &OrderKey, row: &Order) -> Refusal
     requires { HasPlace tables.now (key_of (InsertOrder key.now row.now)) → ⊥ }
     ensures { IsRefused (InsertOrder key.now row.now) tables.now result }
@@ -61,7 +61,7 @@ fn unplaced_order(tables: &Tables, key: &OrderKey, row: &Order) -> Refusal
     }
 }
 
-/// Why an ORDER-LINE row is refused whose key has no place.
+/// Says why an ORDER-LINE row is refused whose key has no place.
 fn unplaced_order_line(tables: &Tables, key: &OrderLineKey, row: &OrderLine) -> Refusal
     requires { HasPlace tables.now (key_of (InsertOrderLine key.now row.now)) → ⊥ }
     ensures { IsRefused (InsertOrderLine key.now row.now) tables.now result }

@@ -27,7 +27,7 @@ pub enum RecordKind {
 }
 
 impl RecordKind {
-    /// It as two numbers: 1 to 3 for what was done, and 1 to 9 for the table.
+    /// Gives it as two numbers: 1 to 3 for what was done, and 1 to 9 for the table.
     fn numbers(self) -> (u8, u8)
         ensures { result ≡ kind_numbers self }
     {
@@ -64,7 +64,7 @@ impl Imaged for RecordKind {
     }
 }
 
-/// The kind of an insert into that table.
+/// Gives the kind of an insert into that table.
 fn inserted_in(table: u64) -> Option<RecordKind>
     ensures { result ≡ inserted_in table }
 {
@@ -77,7 +77,7 @@ fn inserted_in(table: u64) -> Option<RecordKind>
     }
 }
 
-/// The kind of an update of that table.
+/// Gives the kind of an update of that table.
 fn updated_in(table: u64) -> Option<RecordKind>
     ensures { result ≡ updated_in table }
 {
@@ -92,7 +92,7 @@ fn updated_in(table: u64) -> Option<RecordKind>
     }
 }
 
-/// What these numbers stand for, if anything.
+/// Gives what these numbers stand for, if anything.
 fn kind_of_numbers(done: u64, table: u64) -> Option<RecordKind>
     ensures { result ≡ kind_of_numbers (done, table) }
 {

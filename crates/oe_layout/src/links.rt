@@ -29,7 +29,7 @@ pub enum Previous {
 }
 
 impl Previous {
-    /// It as three numbers: extent, offset and moment.
+    /// Gives it as three numbers: extent, offset and moment.
     #[inline]
     fn numbers(&self) -> (u16, (u16, u64))
         ensures { result ≡ link_numbers self.now }
@@ -65,7 +65,7 @@ impl Imaged for Previous {
     }
 }
 
-/// What these numbers stand for behind an address.
+/// Gives what these numbers stand for behind an address.
 #[inline]
 fn at_address(address: RecordAddress, moment: u64) -> Option<Previous>
     ensures { result ≡ at_address address moment }
@@ -79,7 +79,7 @@ fn at_address(address: RecordAddress, moment: u64) -> Option<Previous>
     }
 }
 
-/// What these numbers stand for, if anything.
+/// Gives what these numbers stand for, if anything.
 #[inline]
 fn previous_of(extent: u64, offset: u64, moment: u64) -> Option<Previous>
     ensures { result ≡ previous_of (extent, (offset, moment)) }

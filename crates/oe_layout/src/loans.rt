@@ -60,7 +60,7 @@ impl<'a> LentRecord<'a> {
         }
     }
 
-    /// The key of the row that is changed.
+    /// Gives the key of the row that is changed.
     #[inline(always)]
     pub fn key(&self) -> Key
         ensures { result ≡ record_key (record_of_lent self.now) }
@@ -80,7 +80,7 @@ impl<'a> LentRecord<'a> {
         }
     }
 
-    /// How many bytes its key and its row have, of the whole record's length.
+    /// Tells how many bytes its key and its row have, of the whole record's length.
     #[inline(always)]
     fn contents_length(&self) -> usize
         ensures sum { result + OTHER_BYTES ≡ record_length (record_of_lent self.now) }
@@ -140,7 +140,7 @@ pub struct LinkedRecord<'a> {
 }
 
 impl<'a> LinkedRecord<'a> {
-    /// How many bytes it has, as its columns say: at most 706. They are a string of the ring.
+    /// Tells how many bytes it has, as its columns say: at most 706. They are a string of the ring.
     #[inline(always)]
     pub fn length(&self) -> usize
         ensures sum { result ≡ record_length (record_of_lent self.now.record) }

@@ -149,7 +149,7 @@ impl<'a> LentRecord<'a> {
 }
 
 impl<'a> LinkedRecord<'a> {
-    /// Its link, its key and its row are in their ranges.
+    /// States that its link, its key and its row are in their ranges.
     pub fn ranges(&self)
         ensures link { IsPrevious self.now.previous }
         ensures record { IsInRanges (record_of_lent self.now.record) }

@@ -19,7 +19,7 @@ use oe_fronts::keys::{
 use oe_fronts::orders::{read_order, read_order_line};
 use oe_fronts::warehouses::{read_district, read_warehouse};
 
-/// The key of a record of that kind at the front of the bytes, and the row behind it.
+/// Reads the key of a record of that kind at the front of the bytes, and the row behind it.
 fn read_contents(kind: RecordKind, bytes: &[u8]) -> Option<(OwnRecord, &[u8])>
     ensures { option_map (λ x. (x.0, x.1.now)) result ≡ contents_at kind bytes.now }
 {
@@ -53,7 +53,7 @@ fn read_contents(kind: RecordKind, bytes: &[u8]) -> Option<(OwnRecord, &[u8])>
     }
 }
 
-/// The key of a WAREHOUSE row at the front of the bytes, and the row before its update.
+/// Reads the key of a WAREHOUSE row at the front of the bytes, and the row before its update.
 fn read_warehouse_update(bytes: &[u8]) -> Option<(OwnRecord, &[u8])>
     ensures { option_map (λ x. (x.0, x.1.now)) result
         ≡ contents_at kind.UpdatedWarehouse bytes.now }
@@ -67,7 +67,7 @@ fn read_warehouse_update(bytes: &[u8]) -> Option<(OwnRecord, &[u8])>
     Some((OwnRecord::UpdatedWarehouse(key, row), rest))
 }
 
-/// The key of a DISTRICT row at the front of the bytes, and the row before its update.
+/// Reads the key of a DISTRICT row at the front of the bytes, and the row before its update.
 fn read_district_update(bytes: &[u8]) -> Option<(OwnRecord, &[u8])>
     ensures { option_map (λ x. (x.0, x.1.now)) result
         ≡ contents_at kind.UpdatedDistrict bytes.now }
@@ -81,7 +81,7 @@ fn read_district_update(bytes: &[u8]) -> Option<(OwnRecord, &[u8])>
     Some((OwnRecord::UpdatedDistrict(key, row), rest))
 }
 
-/// The key of a CUSTOMER row at the front of the bytes, and the row before its update.
+/// Reads the key of a CUSTOMER row at the front of the bytes, and the row before its update.
 fn read_customer_update(bytes: &[u8]) -> Option<(OwnRecord, &[u8])>
     ensures { option_map (λ x. (x.0, x.1.now)) result
         ≡ contents_at kind.UpdatedCustomer bytes.now }
@@ -95,7 +95,7 @@ fn read_customer_update(bytes: &[u8]) -> Option<(OwnRecord, &[u8])>
     Some((OwnRecord::UpdatedCustomer(key, row), rest))
 }
 
-/// The key of a ORDER row at the front of the bytes, and the row before its update.
+/// Reads the key of an ORDER row at the front of the bytes, and the row before its update.
 fn read_order_update(bytes: &[u8]) -> Option<(OwnRecord, &[u8])>
     ensures { option_map (λ x. (x.0, x.1.now)) result ≡ contents_at kind.UpdatedOrder bytes.now }
 {
@@ -108,7 +108,7 @@ fn read_order_update(bytes: &[u8]) -> Option<(OwnRecord, &[u8])>
     Some((OwnRecord::UpdatedOrder(key, row), rest))
 }
 
-/// The key of a ORDER-LINE row at the front of the bytes, and the row before its update.
+/// Reads the key of an ORDER-LINE row at the front of the bytes, and the row before its update.
 fn read_order_line_update(bytes: &[u8]) -> Option<(OwnRecord, &[u8])>
     ensures { option_map (λ x. (x.0, x.1.now)) result
         ≡ contents_at kind.UpdatedOrderLine bytes.now }
@@ -122,7 +122,7 @@ fn read_order_line_update(bytes: &[u8]) -> Option<(OwnRecord, &[u8])>
     Some((OwnRecord::UpdatedOrderLine(key, row), rest))
 }
 
-/// The key of a STOCK row at the front of the bytes, and the row before its update.
+/// Reads the key of a STOCK row at the front of the bytes, and the row before its update.
 fn read_stock_update(bytes: &[u8]) -> Option<(OwnRecord, &[u8])>
     ensures { option_map (λ x. (x.0, x.1.now)) result ≡ contents_at kind.UpdatedStock bytes.now }
 {
@@ -174,8 +174,8 @@ fn whole_record(bytes: &[u8]) -> Option<(Previous, OwnRecord)>
     }
 }
 
-/// The record that the bytes are, with what leads to the previous one of its row; `None` exactly
-/// where the bytes are no record's.
+/// Reads the record that the bytes are, with what leads to the previous one of its row; `None`
+/// exactly where the bytes are no record's.
 pub fn read_record(bytes: &[u8]) -> Option<(Previous, OwnRecord)>
     ensures { ReadsRecord bytes.now result }
 {

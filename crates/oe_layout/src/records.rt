@@ -32,7 +32,7 @@ pub enum OwnRecord {
 }
 
 impl OwnRecord {
-    /// The key of the row that was changed.
+    /// Gives the key of the row that was changed.
     pub fn key(&self) -> Key
         ensures { result ≡ record_key (record_of_own self.now) }
     {

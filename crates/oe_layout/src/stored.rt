@@ -36,7 +36,7 @@ impl<'a> Model for StoredRecord<'a> {
     ghost invariant = { λ s. IsStoredRecord s.bytes.now };
 }
 
-/// The table whose row was changed.
+/// Gives the table whose row was changed.
 fn table_changed(kind: RecordKind) -> Table
     ensures { result ≡ table_changed kind }
 {
@@ -55,7 +55,7 @@ fn table_changed(kind: RecordKind) -> Table
     }
 }
 
-/// The key of a queue entry, where a record of that kind is of its delete.
+/// Gives the key of a queue entry, where a record of that kind is of its delete.
 fn deleted_key(kind: RecordKind, key: Key) -> Option<NewOrderKey>
     ensures { result ≡ deleted_key kind key }
 {
@@ -68,8 +68,8 @@ fn deleted_key(kind: RecordKind, key: Key) -> Option<NewOrderKey>
     }
 }
 
-/// The record that these bytes are, where it lies, with what leads to the previous one of its row.
-/// Neither key nor row is read, and no memory is taken.
+/// Gives the record that these bytes are, where it lies, with what leads to the previous one of its
+/// row. Neither key nor row is read, and no memory is taken.
 pub fn linked_record(bytes: &[u8]) -> (Previous, StoredRecord<'_>)
     requires { IsStoredRecord bytes.now }
     ensures { IsToldLinked bytes.now (result.0, result.1) }
@@ -81,7 +81,7 @@ pub fn linked_record(bytes: &[u8]) -> (Previous, StoredRecord<'_>)
 }
 
 impl<'a> StoredRecord<'a> {
-    /// The record that these bytes are.
+    /// Gives the record that these bytes are.
     pub fn of(bytes: &'a [u8]) -> Self
         requires { IsStoredRecord bytes.now }
         ensures told { result ≡ told bytes.now }
@@ -97,7 +97,7 @@ impl<'a> StoredRecord<'a> {
         read_kind(&self.bytes[KIND_START..]).unwrap().0
     }
 
-    /// The bytes from its key on, which is in its ranges.
+    /// Gives the bytes from its key on, which is in its ranges.
     fn contents(&self) -> &[u8]
         ensures key { IsKey (record_key self.now) }
         ensures bytes { result.now
@@ -106,7 +106,7 @@ impl<'a> StoredRecord<'a> {
         &self.bytes[CONTENTS_START..]
     }
 
-    /// The key of the row that was changed. No row is read.
+    /// Gives the key of the row that was changed. No row is read.
     pub fn key(&self) -> Key
         ensures { result ≡ record_key self.now }
     {
@@ -117,7 +117,7 @@ impl<'a> StoredRecord<'a> {
         key
     }
 
-    /// The key of the queue entry that was deleted; none exactly where the record is not of a
+    /// Gives the key of the queue entry that was deleted; none exactly where the record is not of a
     /// delete. No row is read.
     pub fn deleted_new_order(&self) -> Option<NewOrderKey>
         ensures { result ≡ deleted_new_order self.now }
@@ -125,7 +125,7 @@ impl<'a> StoredRecord<'a> {
         deleted_key(self.kind(), self.key())
     }
 
-    /// The record with its row.
+    /// Gives the record with its row.
     pub fn read(&self) -> OwnRecord
         ensures { record_of_own result ≡ self.now }
     {

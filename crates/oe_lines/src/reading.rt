@@ -22,8 +22,8 @@ use oe_rows::{DistrictKey, Scale, Table, WarehouseKey};
 use oe_values::fronts::{after, decimal};
 use oe_values::{Lines, Moment, Number, Terminal};
 
-/// What a line asks for, where it is one of the forms. The line stands without its end, which is
-/// byte 10.
+/// Reads what a line asks for, where it is one of the forms. The line stands without its end, which
+/// is byte 10.
 pub fn command(line: &[u8]) -> Option<Command>
     // What is read is said.
     ensures found { IfSome result (λ c. Says line.now c) }
@@ -33,9 +33,9 @@ pub fn command(line: &[u8]) -> Option<Command>
     read_command(line)
 }
 
-/// The terminal whose transaction the line `run T` runs; none where the line is another. The line
-/// stands without its end, which is byte 10. It says what `command` says of such a line, without a
-/// command's length.
+/// Reads the terminal whose transaction the line `run T` runs; none where the line is another. The
+/// line stands without its end, which is byte 10. It says what `command` says of such a line,
+/// without a command's length.
 #[inline]
 pub fn terminal_to_run(line: &[u8]) -> Option<Terminal>
     // What is read is said.
@@ -46,9 +46,9 @@ pub fn terminal_to_run(line: &[u8]) -> Option<Terminal>
     read_run(line)
 }
 
-/// The payment that the line `begin T payment ..` begins, and its terminal before it; none where
-/// the line is another. The line stands without its end, which is byte 10. It says what `command`
-/// says of such a line, without a command's length.
+/// Reads the payment that the line `begin T payment ..` begins, and its terminal before it; none
+/// where the line is another. The line stands without its end, which is byte 10. It says what
+/// `command` says of such a line, without a command's length.
 #[inline]
 pub fn payment_to_begin(line: &[u8]) -> Option<(Terminal, PaymentRequest)>
     // What is read is said.
@@ -60,7 +60,7 @@ pub fn payment_to_begin(line: &[u8]) -> Option<(Terminal, PaymentRequest)>
     read_begun_payment(line)
 }
 
-/// `run T`.
+/// Reads `run T`.
 #[inline]
 #[tactic(auto, unfolding(crate::specs::Reading::run_of))]
 fn read_run(line: &[u8]) -> Option<Terminal>
@@ -70,7 +70,7 @@ fn read_run(line: &[u8]) -> Option<Terminal>
     last_number(rest)
 }
 
-/// `begin T payment ..`.
+/// Reads `begin T payment ..`.
 #[inline]
 #[tactic(auto, unfolding(crate::specs::Reading::begun_payment_of))]
 fn read_begun_payment(line: &[u8]) -> Option<(Terminal, PaymentRequest)>
@@ -84,7 +84,7 @@ fn read_begun_payment(line: &[u8]) -> Option<(Terminal, PaymentRequest)>
     Some((terminal, payment(rest)?))
 }
 
-/// The forms that most lines of a script have come first.
+/// Reads a line, the forms that most lines have first.
 #[tactic(auto, unfolding(crate::specs::Reading::command_of))]
 fn read_command(line: &[u8]) -> Option<Command>
     ensures { result ≡ command_of line.now }
@@ -101,7 +101,7 @@ fn read_command(line: &[u8]) -> Option<Command>
     rare_command(line)
 }
 
-/// The other lines.
+/// Reads the other lines.
 #[inline(never)]
 #[tactic(auto, unfolding(crate::specs::Reading::rare_command_of))]
 fn rare_command(line: &[u8]) -> Option<Command>
@@ -130,7 +130,7 @@ fn rare_command(line: &[u8]) -> Option<Command>
     }
 }
 
-/// `W C I E`.
+/// Reads `W C I E`.
 #[tactic(auto, unfolding(crate::specs::Reading::opening_of))]
 fn opening(text: &[u8]) -> Option<Command>
     ensures { result ≡ opening_of text.now }
@@ -153,7 +153,7 @@ fn opening(text: &[u8]) -> Option<Command>
     Some(Command::Open(scale, extents))
 }
 
-/// `T`, and the request.
+/// Reads `T`, and the request.
 #[tactic(auto, unfolding(crate::specs::Reading::beginning_of))]
 fn beginning(text: &[u8]) -> Option<Command>
     ensures { result ≡ beginning_of text.now }
@@ -165,7 +165,7 @@ fn beginning(text: &[u8]) -> Option<Command>
     Some(Command::Begin(terminal, request))
 }
 
-/// `payment ..`, `neworder ..`, or `delivery ..` of all ten districts or of one.
+/// Reads `payment ..`, `neworder ..`, or `delivery ..` of all ten districts or of one.
 #[inline]
 #[tactic(auto, unfolding(crate::specs::Reading::request_of))]
 fn request(text: &[u8]) -> Option<Request>
@@ -186,7 +186,7 @@ fn request(text: &[u8]) -> Option<Request>
     None
 }
 
-/// `w d`, and what follows the space after it.
+/// Reads `w d`, and what follows the space after it.
 #[inline(always)]
 #[tactic(auto, unfolding(crate::specs::Reading::district_of))]
 fn district(text: &[u8]) -> Option<(DistrictKey, &[u8])>
@@ -205,7 +205,7 @@ fn district(text: &[u8]) -> Option<(DistrictKey, &[u8])>
     Some((key, rest))
 }
 
-/// A customer by number or by last name, and what follows the space after it.
+/// Reads a customer by number or by last name, and what follows the space after it.
 #[tactic(auto, unfolding(crate::specs::Reading::customer_of))]
 fn customer(text: &[u8]) -> Option<(CustomerChoice, &[u8])>
     ensures { option_map (λ p. (p.0, p.1.now)) result ≡ customer_of text.now }
@@ -219,7 +219,7 @@ fn customer(text: &[u8]) -> Option<(CustomerChoice, &[u8])>
     Some((CustomerChoice::LastName(name), rest))
 }
 
-/// `w d cw cd customer amount stamp`.
+/// Reads `w d cw cd customer amount stamp`.
 #[inline]
 #[tactic(auto, unfolding(crate::specs::Reading::payment_of))]
 fn payment(text: &[u8]) -> Option<PaymentRequest>
@@ -247,7 +247,7 @@ fn payment(text: &[u8]) -> Option<PaymentRequest>
     })
 }
 
-/// `w d c stamp sw:i:q ..`.
+/// Reads `w d c stamp sw:i:q ..`.
 #[tactic(auto, unfolding(crate::specs::Reading::new_order_of))]
 fn new_order(text: &[u8]) -> Option<NewOrderRequest>
     ensures { result ≡ new_order_of text.now }
@@ -270,7 +270,7 @@ fn new_order(text: &[u8]) -> Option<NewOrderRequest>
     })
 }
 
-/// `w d carrier stamp`.
+/// Reads `w d carrier stamp`.
 #[tactic(auto, unfolding(crate::specs::Reading::delivery_of))]
 fn delivery(text: &[u8]) -> Option<DeliveryRequest>
     ensures { result ≡ delivery_of text.now }
@@ -289,7 +289,7 @@ fn delivery(text: &[u8]) -> Option<DeliveryRequest>
     })
 }
 
-/// `w carrier stamp`, which asks for all ten districts.
+/// Reads `w carrier stamp`, which asks for all ten districts.
 #[tactic(auto, unfolding(crate::specs::Reading::deliveries_of))]
 fn deliveries(text: &[u8]) -> Option<DeliveriesRequest>
     ensures { result ≡ deliveries_of text.now }
@@ -308,7 +308,7 @@ fn deliveries(text: &[u8]) -> Option<DeliveriesRequest>
     })
 }
 
-/// `sw:i:q`, and what follows it.
+/// Reads `sw:i:q`, and what follows it.
 #[inline]
 #[tactic(auto, unfolding(crate::specs::Reading::line_of))]
 fn line(text: &[u8]) -> Option<(RequestLine, &[u8])>
@@ -331,7 +331,7 @@ fn line(text: &[u8]) -> Option<(RequestLine, &[u8])>
     Some((line, rest))
 }
 
-/// The lines of an order, parted by one space.
+/// Reads the lines of an order, parted by one space.
 fn lines(text: &[u8]) -> Option<RequestLines>
     ensures { result ≡ lines_of text.now }
 {
@@ -353,7 +353,7 @@ fn lines(text: &[u8]) -> Option<RequestLines>
     None
 }
 
-/// A table's name.
+/// Reads a table's name.
 #[tactic(auto, unfolding(crate::specs::Reading::table_of))]
 fn table(text: &[u8]) -> Option<Table>
     ensures { result ≡ table_of text.now }
@@ -381,7 +381,7 @@ fn table(text: &[u8]) -> Option<Table>
     }
 }
 
-/// The condition of a number, which 11 is not.
+/// Gives the condition of a number, which 11 is not.
 #[tactic(auto, unfolding(crate::specs::Reading::condition_of))]
 fn condition(number: u32) -> Option<Condition>
     ensures { result ≡ condition_of number }
@@ -402,7 +402,7 @@ fn condition(number: u32) -> Option<Condition>
     }
 }
 
-/// `N M`.
+/// Reads `N M`.
 #[tactic(auto, unfolding(crate::specs::Reading::audit_of))]
 fn audit(text: &[u8]) -> Option<Command>
     ensures { result ≡ audit_of text.now }
@@ -416,7 +416,7 @@ fn audit(text: &[u8]) -> Option<Command>
     Some(Command::Audit(condition, moment))
 }
 
-/// `now`, or the number of a moment.
+/// Reads `now`, or the number of a moment.
 #[tactic(auto, unfolding(crate::specs::Reading::moment_of))]
 fn moment(text: &[u8]) -> Option<MomentChoice>
     ensures { result ≡ moment_of text.now }
@@ -431,7 +431,7 @@ fn moment(text: &[u8]) -> Option<MomentChoice>
     Some(MomentChoice::At(Moment::new(commits)?))
 }
 
-/// The same before a space, and what follows the space.
+/// Reads a moment before a space, and what follows the space.
 #[tactic(auto, unfolding(crate::specs::Reading::moment_before))]
 fn moment_before(text: &[u8]) -> Option<(MomentChoice, &[u8])>
     ensures { option_map (λ p. (p.0, p.1.now)) result ≡ moment_before text.now }
@@ -444,7 +444,7 @@ fn moment_before(text: &[u8]) -> Option<(MomentChoice, &[u8])>
     Some((MomentChoice::At(moment), after(rest, b" ")?))
 }
 
-/// `M`, and the query.
+/// Reads `M`, and the query.
 #[tactic(auto, unfolding(crate::specs::Reading::reading_of))]
 fn reading(text: &[u8]) -> Option<Command>
     ensures { result ≡ reading_of text.now }
@@ -456,7 +456,7 @@ fn reading(text: &[u8]) -> Option<Command>
     Some(Command::Read(moment, query))
 }
 
-/// `status ..` or `level ..`.
+/// Reads `status ..` or `level ..`.
 #[inline]
 #[tactic(auto, unfolding(crate::specs::Reading::query_of))]
 fn query(text: &[u8]) -> Option<Query>
@@ -471,7 +471,7 @@ fn query(text: &[u8]) -> Option<Query>
     None
 }
 
-/// `w d customer`.
+/// Reads `w d customer`.
 #[tactic(auto, unfolding(crate::specs::Reading::status_of))]
 fn status(text: &[u8]) -> Option<StatusQuery>
     ensures { result ≡ status_of text.now }
@@ -483,7 +483,7 @@ fn status(text: &[u8]) -> Option<StatusQuery>
     Some(StatusQuery { district, customer })
 }
 
-/// A customer by number or by last name at the line's end.
+/// Reads a customer by number or by last name at the line's end.
 #[tactic(auto, unfolding(crate::specs::Reading::last_customer_of))]
 fn last_customer(text: &[u8]) -> Option<CustomerChoice>
     ensures { result ≡ last_customer_of text.now }
@@ -497,7 +497,7 @@ fn last_customer(text: &[u8]) -> Option<CustomerChoice>
     Some(CustomerChoice::LastName(name))
 }
 
-/// `w d threshold`.
+/// Reads `w d threshold`.
 #[tactic(auto, unfolding(crate::specs::Reading::level_of))]
 fn level(text: &[u8]) -> Option<LevelQuery>
     ensures { result ≡ level_of text.now }

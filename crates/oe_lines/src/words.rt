@@ -7,7 +7,7 @@ use oe_values::fronts::{after, decimal, pair};
 use oe_values::texts::LastName;
 use oe_values::{Number, Stamp, Text};
 
-/// Whether two texts are one.
+/// Tells whether two texts are one.
 #[tactic(auto, unfolding(crate::specs::Words::is_word))]
 pub(crate) fn is_word(text: &[u8], word: &[u8]) -> bool
     ensures { result ≡ is_word text.now word.now }
@@ -15,7 +15,7 @@ pub(crate) fn is_word(text: &[u8], word: &[u8]) -> bool
     text == word
 }
 
-/// That number, where it is in the range of its type.
+/// Gives that number, where it is in the range of its type.
 #[inline]
 fn in_range<const LOW: u32, const HIGH: u32>(n: u64) -> Option<Number<LOW, HIGH>>
     ensures { result ≡ within LOW HIGH n }
@@ -23,7 +23,7 @@ fn in_range<const LOW: u32, const HIGH: u32>(n: u64) -> Option<Number<LOW, HIGH>
     Number::new(u32::try_from(n).ok()?)
 }
 
-/// A number without a leading zero, in the range of its type, and what follows it.
+/// Reads a number without a leading zero, in the range of its type, and what follows it.
 #[inline]
 #[tactic(auto, unfolding(crate::specs::Words::number_of))]
 pub(crate) fn number<const LOW: u32, const HIGH: u32>(
@@ -36,7 +36,7 @@ pub(crate) fn number<const LOW: u32, const HIGH: u32>(
     Some((number, rest))
 }
 
-/// The same before that byte, and what follows the byte.
+/// Reads such a number before that byte, and what follows the byte.
 #[inline]
 #[tactic(auto, unfolding(crate::specs::Words::number_then))]
 pub(crate) fn number_then<const LOW: u32, const HIGH: u32>(
@@ -51,7 +51,7 @@ pub(crate) fn number_then<const LOW: u32, const HIGH: u32>(
     Some((number, after(rest, &[mark])?))
 }
 
-/// The same before a space, and what follows the space.
+/// Reads such a number before a space, and what follows the space.
 #[inline]
 pub(crate) fn number_before<const LOW: u32, const HIGH: u32>(
     text: &[u8],
@@ -61,7 +61,7 @@ pub(crate) fn number_before<const LOW: u32, const HIGH: u32>(
     number_then(text, b' ')
 }
 
-/// The same at the line's end.
+/// Reads such a number at the line's end.
 #[inline]
 #[tactic(auto, unfolding(crate::specs::Words::last_number))]
 pub(crate) fn last_number<const LOW: u32, const HIGH: u32>(text: &[u8]) -> Option<Number<LOW, HIGH>>
@@ -73,8 +73,8 @@ pub(crate) fn last_number<const LOW: u32, const HIGH: u32>(text: &[u8]) -> Optio
     if rest.is_empty() { Some(number) } else { None }
 }
 
-/// Money with two decimals before a space, in cents in the range of its type, and what follows the
-/// space.
+/// Reads money with two decimals before a space, in cents in the range of its type, and what
+/// follows the space.
 #[inline]
 #[tactic(auto, unfolding(crate::specs::Words::amount_before))]
 pub(crate) fn amount_before<const LOW: u32, const HIGH: u32>(
@@ -88,7 +88,7 @@ pub(crate) fn amount_before<const LOW: u32, const HIGH: u32>(
     Some((amount, after(rest, b" ")?))
 }
 
-/// A stamp at the line's end.
+/// Reads a stamp at the line's end.
 #[inline(always)]
 pub(crate) fn stamp(text: &[u8]) -> Option<Stamp>
     ensures { result ≡ stamp_of text.now }
@@ -99,7 +99,7 @@ pub(crate) fn stamp(text: &[u8]) -> Option<Stamp>
     Stamp::read_bytes(text)
 }
 
-/// A stamp before a space, and what follows the space.
+/// Reads a stamp before a space, and what follows the space.
 #[inline]
 #[tactic(auto, unfolding(crate::specs::Words::stamp_before))]
 pub(crate) fn stamp_before(text: &[u8]) -> Option<(Stamp, &[u8])>
@@ -113,7 +113,7 @@ pub(crate) fn stamp_before(text: &[u8]) -> Option<(Stamp, &[u8])>
     Some((stamp, after(rest, b" ")?))
 }
 
-/// A last name of 1 to 16 letters from A to Z.
+/// Reads a last name of 1 to 16 letters from A to Z.
 pub(crate) fn last_name(text: &[u8]) -> Option<LastName>
     ensures { result ≡ last_name_of text.now }
 {
@@ -123,14 +123,14 @@ pub(crate) fn last_name(text: &[u8]) -> Option<LastName>
     LastName::read(word.as_str())
 }
 
-/// Where the first space stands.
+/// Tells where the first space stands.
 fn first_space(text: &[u8]) -> Option<usize>
     ensures { result ≡ position (λ b. b == 32) text.now }
 {
     text.iter().position(|b| *b == b' ')
 }
 
-/// A last name before a space, and what follows the space.
+/// Reads a last name before a space, and what follows the space.
 #[tactic(auto, unfolding(crate::specs::Words::name_before))]
 pub(crate) fn name_before(text: &[u8]) -> Option<(LastName, &[u8])>
     ensures { option_map (λ p. (p.0, p.1.now)) result ≡ name_before text.now }

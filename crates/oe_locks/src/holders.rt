@@ -17,7 +17,7 @@ pub enum Holders {
 }
 
 impl Holders {
-    /// One terminal, in that mode.
+    /// Makes one terminal a holder in that mode.
     #[inline(always)]
     pub fn one(terminal: Terminal, mode: Mode) -> Holders
         ensures { (u : ℕ) → mode_among result u
@@ -29,7 +29,7 @@ impl Holders {
         }
     }
 
-    /// The mode in which the terminal holds the name, if it does.
+    /// Gives the mode in which the terminal holds the name, if it does.
     #[inline]
     pub fn mode(&self, terminal: Terminal) -> Option<Mode>
         ensures { result ≡ mode_among self.now terminal }
@@ -41,7 +41,7 @@ impl Holders {
         }
     }
 
-    /// The least other terminal that holds the name in a mode that conflicts.
+    /// Gives the least other terminal that holds the name in a mode that conflicts.
     #[inline]
     pub fn in_the_way(&self, terminal: Terminal, mode: Mode) -> Option<Terminal>
         ensures { MatchOption result
@@ -55,8 +55,8 @@ impl Holders {
         }
     }
 
-    /// The holders once the terminal holds the name in the greater of the mode held and the mode
-    /// asked for, where nobody is in the way.
+    /// Gives the holders once the terminal holds the name in the greater of the mode held and the
+    /// mode asked for, where nobody is in the way.
     #[inline]
     pub fn risen(&self, terminal: Terminal, mode: Mode) -> Holders
         requires { IsFree (mode_among self.now) terminal mode }
@@ -73,7 +73,7 @@ impl Holders {
         }
     }
 
-    /// The holders once the terminal has let go of the name, if any are left.
+    /// Gives the holders once the terminal has let go of the name, if any are left.
     #[inline]
     pub fn without(&self, terminal: Terminal) -> Option<Holders>
         ensures rest { (u : ℕ) → mode_by result u

@@ -172,7 +172,7 @@ fn strike(names: &mut Vec<Name>, name: &Name)
 }
 
 impl Locks {
-    /// No name is held. The lists of all terminals are made here, and memory is the only error.
+    /// Makes the lists of all terminals, with no name held. Memory is the only error.
     pub fn new(alloc: Global) -> Result<Self, AllocError>
         ensures { IfOk result IsIdle }
     {
@@ -191,7 +191,7 @@ impl Locks {
         drop(self);
     }
 
-    /// The mode in which the terminal holds the name, or `None` where it does not hold it.
+    /// Gives the mode in which the terminal holds the name, or `None` where it does not hold it.
     #[inline]
     pub fn holds(&self, name: &Name, terminal: Terminal) -> Option<Mode>
         ensures { result ≡ held self.now terminal name.now }
@@ -199,7 +199,8 @@ impl Locks {
         self.holders.get(name)?.mode(terminal)
     }
 
-    /// The least other terminal that holds the name in a mode that conflicts. Takes no memory.
+    /// Gives the least other terminal that holds the name in a mode that conflicts. Takes no
+    /// memory.
     #[inline]
     pub fn in_the_way(&self, name: &Name, terminal: Terminal, mode: Mode) -> Option<Terminal>
         ensures { MatchOption result
@@ -339,8 +340,8 @@ impl Locks {
         }
     }
 
-    /// The terminal lets go of all its names. Takes no memory, and keeps their room for next names. What it costs grows with
-    /// the names that the terminal holds alone.
+    /// Lets go of all names of the terminal. Takes no memory, and keeps their room for next names.
+    /// What it costs grows with the names that the terminal holds alone.
     pub fn release_all(&mut self, terminal: Terminal)
         ensures own { HoldsNothing self.new terminal }
         ensures others { OthersKeep self.old self.new terminal }

@@ -183,7 +183,7 @@ fn strike_mapped(entries: &mut HashMap<Name, Holders>, name: &Name)
 }
 
 impl NameMap {
-    /// No name.
+    /// Makes a map without a name.
     pub(crate) fn new(alloc: Global) -> NameMap
         ensures { result ≡ [] }
     {
@@ -193,7 +193,7 @@ impl NameMap {
         }
     }
 
-    /// Who holds the name, if anybody does.
+    /// Tells who holds the name, if anybody does.
     #[inline(always)]
     pub(crate) fn get(&self, name: &Name) -> Option<Holders>
         ensures { result ≡ lookup (ghosts.eq name.now) self.now }

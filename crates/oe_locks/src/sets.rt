@@ -22,7 +22,7 @@ impl Model for TerminalSet {
 }
 
 impl TerminalSet {
-    /// No terminal.
+    /// Gives the set of no terminal.
     #[inline(always)]
     pub fn empty() -> TerminalSet
         ensures { (u : ℕ) → has result u ≡ false }
@@ -30,7 +30,7 @@ impl TerminalSet {
         TerminalSet { bits: 0 }
     }
 
-    /// Whether the terminal is in the set.
+    /// Tells whether the terminal is in the set.
     #[inline(always)]
     pub fn has(&self, terminal: Terminal) -> bool
         ensures { result ≡ has self.now terminal }
@@ -38,7 +38,7 @@ impl TerminalSet {
         self.bits >> (terminal.get() - 1) & 1 == 1
     }
 
-    /// The set with the terminal.
+    /// Gives the set with the terminal.
     #[inline(always)]
     pub fn with(&self, terminal: Terminal) -> TerminalSet
         ensures { (u : ℕ) → has result u ≡ (if u == terminal then true else has self.now u) }
@@ -48,7 +48,7 @@ impl TerminalSet {
         }
     }
 
-    /// The set without the terminal.
+    /// Gives the set without the terminal.
     #[inline(always)]
     pub fn without(&self, terminal: Terminal) -> TerminalSet
         ensures { (u : ℕ) → has result u ≡ (if u == terminal then false else has self.now u) }
@@ -58,7 +58,7 @@ impl TerminalSet {
         }
     }
 
-    /// The least terminal of the set, if it has any.
+    /// Gives the least terminal of the set, if it has any.
     #[inline(always)]
     pub fn least(&self) -> Option<Terminal>
         ensures { MatchOption result ((u : ℕ) → has self.now u ≡ false) (IsLeast self.now) }

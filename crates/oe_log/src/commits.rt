@@ -20,7 +20,8 @@ impl Log {
         self.newest
     }
 
-    /// The oldest moment that can be read: as many commits ago as segments of commits are kept.
+    /// Gives the oldest moment that can be read: as many commits ago as segments of commits are
+    /// kept.
     pub fn horizon(&self) -> Moment
         ensures value { result + length self.now.committed ≡ total_count self.now }
         ensures moment { result ≡ horizon self.now }

@@ -54,20 +54,20 @@ impl Model for CommitHead {
 }
 
 impl CommitHead {
-    /// Whose it was.
+    /// Tells whose it was.
     pub(crate) fn owner(&self) -> SegmentOwner
         ensures { result ≡ record { terminal = self.now.terminal; number = self.now.number } }
     {
         self.owner
     }
 
-    /// Whether it may have deleted a row.
+    /// Tells whether it may have deleted a row.
     pub(crate) fn may_delete(&self) -> bool
         ensures { result ≡ self.now.deletes }
     {
         self.deletes
     }
-    /// How many records it has.
+    /// Tells how many records it has.
     pub(crate) fn len(&self) -> usize
         ensures { result ≡ self.now.len }
     {

@@ -33,14 +33,14 @@ impl Model for Segment {
 }
 
 impl Segment {
-    /// That of this terminal.
+    /// Gives this terminal's segment.
     pub fn of(terminal: Terminal) -> Self
         ensures { result ≡ terminal }
     {
         Segment { terminal }
     }
 
-    /// The terminal that has it open.
+    /// Gives the terminal that has it open.
     pub fn terminal(self) -> Terminal
         ensures { result ≡ self }
     {
@@ -81,7 +81,7 @@ impl Model for Log {
         s.ring s.open_count s.newest };
 }
 
-/// The terminals before anything was committed.
+/// Makes the terminals before anything was committed.
 fn idle_heads(alloc: Global) -> Result<PerTerminal<TerminalHead>, NoMemory>
     ensures { IfOk result (λ heads. heads ≡ idle_heads) }
 {

@@ -7,15 +7,15 @@ use oe_requests::refusals::Refusal;
 use oe_values::numbers::Moment;
 
 impl Log {
-    /// How many commits are kept.
+    /// Tells how many commits are kept.
     pub fn kept(&self) -> usize
         ensures { result ≡ length self.now.committed }
     {
         self.commits.len()
     }
 
-    /// How many commits came after a moment; `TooOld` with the horizon, or `Future` with the newest
-    /// moment, exactly where it is not between the two.
+    /// Tells how many commits came after a moment; `TooOld` with the horizon, or `Future` with the
+    /// newest moment, exactly where it is not between the two.
     pub fn commits_after(&self, moment: Moment) -> Result<usize, Refusal>
         ensures count { IfOk result (λ n. n ≡ newest self.now - moment) }
         ensures within { IfOk result (λ n. n ≤ length self.now.committed) }

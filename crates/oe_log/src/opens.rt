@@ -17,7 +17,7 @@ use oe_layout::{LentRecord, LinkedRecord, OwnRecord, Previous, RecordAddress, re
 use oe_values::NoMemory;
 use oe_values::numbers::{Number, Terminal, TransactionNumber};
 
-/// An address of the ring as that of a record.
+/// Gives an address of the ring as a record's.
 fn record_address(address: Address) -> RecordAddress
     requires extent { address.extent < 4096 }
     requires offset { address.offset < EXTENT_BYTES }
@@ -29,7 +29,7 @@ fn record_address(address: Address) -> RecordAddress
     }
 }
 
-/// Whether records may be of deleted rows after one more, by whether they may before.
+/// Tells whether records may be of deleted rows after one more, by whether they may before.
 fn may_delete(before: bool, record: &LentRecord<'_>) -> bool
     ensures before { result ≡ false → before ≡ false }
     ensures record { result ≡ false → deleted_new_order (record_of_lent record.now) ≡ None }
@@ -106,7 +106,7 @@ impl Log {
         Ok(record_address(address))
     }
 
-    /// Whose an open segment is: its terminal's next transaction.
+    /// Tells whose an open segment is: its terminal's next transaction.
     pub fn owner(&self, segment: Segment) -> SegmentOwner
         requires { IsSome (active_at self.now segment) }
         ensures { result
@@ -118,7 +118,7 @@ impl Log {
         }
     }
 
-    /// A mark in an open segment: the number of its records.
+    /// Gives a mark in an open segment: the number of its records.
     pub fn mark(&self, segment: Segment) -> usize
         requires { IsSome (active_at self.now segment) }
         ensures { result ≡ length (records_at self.now segment) }
@@ -126,8 +126,8 @@ impl Log {
         self.terminals.at(segment.terminal()).len
     }
 
-    /// The newest record of an open segment, with what leads to the previous one of its row; none
-    /// exactly where it has none. It ticks once.
+    /// Gives the newest record of an open segment, with what leads to the previous one of its row;
+    /// none exactly where it has none. It ticks once.
     pub fn newest_record(
         &self,
         segment: Segment,

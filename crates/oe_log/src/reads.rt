@@ -16,7 +16,7 @@ use oe_extent::Address;
 use oe_layout::{Previous, RecordAddress, StoredRecord, linked_record};
 use oe_values::numbers::{TERMINALS, Terminal, TransactionNumber};
 
-/// A record's address as one of the ring.
+/// Gives a record's address as one of the ring.
 fn ring_address(address: RecordAddress) -> Address
     ensures { result ≡ record { extent = address.extent; offset = address.offset } }
 {
@@ -27,29 +27,29 @@ fn ring_address(address: RecordAddress) -> Address
 }
 
 impl Log {
-    /// How many extents there are.
+    /// Tells how many extents there are.
     pub fn extents(&self) -> usize
         ensures { result ≡ self.now.extents }
     {
         self.ring.extents()
     }
 
-    /// The log has a state of each terminal, and one of nobody. It does nothing: it is for proofs
-    /// above, which see no invariant.
+    /// States that the log has a state of each terminal, and one of nobody. It does nothing: it is
+    /// for proofs above, which see no invariant.
     pub fn terminals_are(&self)
         ensures { length self.now.terminals ≡ suc TERMINALS }
     {
         let _known = &self.terminals;
     }
 
-    /// How many transactions of a terminal have committed and were not rewound.
+    /// Tells how many transactions of a terminal have committed and were not rewound.
     pub fn count(&self, terminal: Terminal) -> u32
         ensures { result ≡ count_at self.now terminal }
     {
         self.terminals.at(terminal).count
     }
 
-    /// The number of the transaction that a terminal has open or begins next.
+    /// Gives the number of the transaction that a terminal has open or begins next.
     pub fn number(&self, terminal: Terminal) -> TransactionNumber
         requires { count_at self.now terminal < 4_294_967_295 }
         ensures { result ≡ count_at self.now terminal + 1 }
@@ -57,14 +57,14 @@ impl Log {
         TransactionNumber::new(self.count(terminal) + 1).unwrap()
     }
 
-    /// Whether a terminal has a segment open.
+    /// Tells whether a terminal has a segment open.
     pub fn is_open(&self, terminal: Terminal) -> bool
         ensures { IsTrue result ↔ IsSome (active_at self.now terminal) }
     {
         self.terminals.at(terminal).active.is_some()
     }
 
-    /// How many terminals have a segment open.
+    /// Tells how many terminals have a segment open.
     pub fn open_count(&self) -> u32
         ensures value { result ≡ open_total self.now }
         ensures slots { (slots : ℕ → Option (Slot system))
@@ -91,8 +91,8 @@ impl Log {
         }
     }
 
-    /// Whether a commit may have deleted a NEW-ORDER row, by the number of later ones. One that has
-    /// recorded no delete has not, so that its records need not be looked at.
+    /// Tells whether a commit may have deleted a NEW-ORDER row, by the number of later ones. One
+    /// that has recorded no delete has not, so that its records need not be looked at.
     fn may_delete(&self, later: usize) -> bool
         ensures { result ≡ false
             → DeletesNothing (model_records (get_or (committed_records self.now) later [])) }
@@ -103,8 +103,8 @@ impl Log {
         }
     }
 
-    /// The record at that address of a terminal's open segment, where it lies, with what leads to
-    /// the previous one of its row. It ticks once. No row is read, and no memory is taken.
+    /// Gives the record at that address of a terminal's open segment, where it lies, with what
+    /// leads to the previous one of its row. It ticks once. No row is read, and no memory is taken.
     pub fn linked_at(
         &self,
         terminal: Terminal,
@@ -122,9 +122,9 @@ impl Log {
         linked_record(self.ring.at(slot, place))
     }
 
-    /// The record at that address of a commit's segment, where it lies, with what leads to the
-    /// previous one of its row. The commit is given by the number of later ones. It ticks once. No
-    /// row is read, and no memory is taken.
+    /// Gives the record at that address of a commit's segment, where it lies, with what leads to
+    /// the previous one of its row. The commit is given by the number of later ones. It ticks once.
+    /// No row is read, and no memory is taken.
     pub fn committed_linked_at(
         &self,
         later: usize,
@@ -142,9 +142,9 @@ impl Log {
         linked_record(self.ring.committed_at(later, place))
     }
 
-    /// The keys of the NEW-ORDER rows that a commit deleted, the newest delete first. The commit is
-    /// given by the number of later ones. Its records are not looked at where its head says that it
-    /// deleted nothing. It takes no memory.
+    /// Gives the keys of the NEW-ORDER rows that a commit deleted, the newest delete first. The
+    /// commit is given by the number of later ones. Its records are not looked at where its head
+    /// says that it deleted nothing. It takes no memory.
     pub fn deleted(&self, later: usize) -> Deleted<'_>
         requires { later < length self.now.committed }
         ensures { result
@@ -155,7 +155,7 @@ impl Log {
         Deleted { records, has_any }
     }
 
-    /// The records of a commit's segment, the newest first, where they lie.
+    /// Gives the records of a commit's segment, the newest first, where they lie.
     fn committed_records(&self, later: usize) -> Records<'_>
         requires { later < length self.now.committed }
         ensures { result ≡ model_records (get_or (committed_records self.now) later []) }

@@ -23,21 +23,21 @@ impl Model for Ticks {
 }
 
 impl Ticks {
-    /// None so far.
+    /// Starts with none.
     pub fn new() -> Ticks
         ensures { result ≡ 0 }
     {
         Ticks { records: 0 }
     }
 
-    /// How many there were.
+    /// Tells how many there were.
     pub fn records(&self) -> u64
         ensures { result ≡ self.now }
     {
         self.records
     }
 
-    /// One more.
+    /// Counts one more.
     pub(crate) fn tick(&mut self)
         ensures { self.new ≡ ticked self.old 1 }
     {

@@ -43,7 +43,7 @@ pub struct Filling {
 }
 
 impl Filled {
-    /// A copy, which takes no memory.
+    /// Copies the value, and takes no memory.
     pub fn copied(&self) -> Self
         ensures { result ≡ self.now }
     {
@@ -56,7 +56,7 @@ impl Filled {
 }
 
 impl Filling {
-    /// A copy, which takes no memory.
+    /// Copies the value, and takes no memory.
     pub fn copied(&self) -> Self
         ensures { result ≡ self.now }
     {
@@ -72,7 +72,8 @@ impl Filling {
     }
 }
 
-/// STOCK: its name is taken alone, and its counters are set. `InvalidItem` stops before that.
+/// Takes the stock's name alone, and sets its counters; before that, `InvalidItem` stops an order
+/// of an unused item.
 fn fill(
     request: &NewOrderRequest,
     line: &RequestLine,
@@ -102,7 +103,7 @@ fn fill(
     }
 }
 
-/// ORDER-LINE: the row is inserted under its order's name, which is held.
+/// Inserts the ORDER-LINE row under its order's name, which is held.
 fn insert(
     request: &NewOrderRequest,
     order: OrderNumber,
@@ -124,7 +125,7 @@ fn insert(
     put_held(engine, tx, &write)
 }
 
-/// The number of the line after those that are done.
+/// Gives the number of the line after those that are done.
 fn number_after(done: &LineReplies) -> LineNumber
     requires { length done.now < 15 }
     ensures { result ≡ length done.now + 1 }
@@ -199,7 +200,7 @@ impl Filling {
         }
     }
 
-    /// One stage of the lines, of STOCK or of ORDER-LINE; ready after the last.
+    /// Carries out one stage of the lines, of STOCK or of ORDER-LINE; ready after the last.
     pub fn next(&mut self, request: &NewOrderRequest, engine: &mut Engine, tx: &Tx) -> Progress
         requires open { IsOpen engine.old tx.now }
         requires held { HoldsTaken request.now tx.now engine.old
@@ -217,8 +218,8 @@ impl Filling {
         }
     }
 
-    /// The reply, once all lines of the request are done; none before that. It is lent where it
-    /// lies.
+    /// Gives the reply, once all lines of the request are done; none before that. It is lent where
+    /// it lies.
     pub fn reply(&self, request: &NewOrderRequest) -> Option<ReplyRef<'_>>
         ensures { option_map told_reply result
             ≡ new_order_reply (line_position request.now self.now) }

@@ -16,7 +16,7 @@ use oe_rows::{Key, StockCounters, StockKey};
 use oe_store::Tables;
 use oe_values::{LineNumber, OrderNumber, Rate};
 
-/// W_TAX. `NoSuchRow` where the warehouse is absent.
+/// Gives W_TAX. `NoSuchRow` where the warehouse is absent.
 pub fn warehouse_tax(request: &NewOrderRequest, tables: &Tables) -> Result<Rate, Refusal>
     ensures { ReadsTax request.now (rows tables.now) result }
 {
@@ -35,8 +35,8 @@ pub struct Numbered {
     pub tax: Rate,
 }
 
-/// The order's number. `NoSuchRow` where the district is absent, `Overflow` where D_NEXT_O_ID would
-/// leave its range.
+/// Gives the order's number. `NoSuchRow` where the district is absent, `Overflow` where D_NEXT_O_ID
+/// would leave its range.
 pub fn next_number(request: &NewOrderRequest, tables: &Tables) -> Result<Numbered, Refusal>
     ensures { TakesNumber request.now (rows tables.now) result }
 {
@@ -53,7 +53,7 @@ pub fn next_number(request: &NewOrderRequest, tables: &Tables) -> Result<Numbere
     }
 }
 
-/// What an order has read once it has read its customer; none where the customer is absent.
+/// Gives what an order has read once it has read its customer; none where the customer is absent.
 pub fn seen(
     request: &NewOrderRequest,
     order: OrderNumber,
@@ -88,7 +88,7 @@ pub enum Supply {
     Fills(StockKey, StockCounters, Filled),
 }
 
-/// What the stock row of a request's line with that number comes to. `NoSuchRow` where the
+/// Gives what the stock row of a request's line with that number comes to. `NoSuchRow` where the
 /// warehouse has no such stock, `Overflow` where S_YTD, S_ORDER_CNT or S_REMOTE_CNT would leave its
 /// range: the first of them.
 pub fn supply_of(

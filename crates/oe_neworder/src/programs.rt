@@ -32,14 +32,14 @@ pub enum Program {
 }
 
 impl Program {
-    /// At its first stage.
+    /// Makes a program at its first stage.
     pub fn new() -> Self
         ensures { result ≡ Program.Warehouse }
     {
         Self::Warehouse
     }
 
-    /// A copy, which takes no memory.
+    /// Copies the value, and takes no memory.
     pub fn copied(&self) -> Self
         ensures { result ≡ self.now }
     {
@@ -55,8 +55,8 @@ impl Program {
         }
     }
 
-    /// The reply, once all stages of the request are done; none before that. It is lent where it
-    /// lies.
+    /// Gives the reply, once all stages of the request are done; none before that. It is lent where
+    /// it lies.
     pub fn reply(&self, request: &NewOrderRequest) -> Option<ReplyRef<'_>>
         ensures { option_map told_reply result
             ≡ new_order_reply (position_of request.now self.now) }
@@ -93,8 +93,8 @@ impl Program {
         }
     }
 
-    /// One stage of the order: its lock and its one change. The names that the stages before have
-    /// taken are held: the order's for its NEW-ORDER row and its lines.
+    /// Carries out one stage of the order: its lock and its one change. The names that the stages
+    /// before have taken are held: the order's for its NEW-ORDER row and its lines.
     ///
     /// The order of refusals is `NoCustomer` or `InvalidItem`, which stop before the lock, `Busy`,
     /// `Overflow`, `UndoFull` where the change's record has no room, and `NoMemory` where memory

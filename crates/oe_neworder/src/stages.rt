@@ -18,7 +18,7 @@ use oe_requests::{LineReplies, NewOrderRequest, Refusal};
 use oe_rows::{Mode, Name};
 use oe_values::{OrderNumber, Rate};
 
-/// WAREHOUSE: its name is taken beside others'.
+/// Takes the warehouse's name beside others.
 pub fn read_warehouse(
     request: &NewOrderRequest,
     engine: &mut Engine,
@@ -40,7 +40,7 @@ pub fn read_warehouse(
     }
 }
 
-/// DISTRICT: its name is taken alone, and D_NEXT_O_ID rises by 1.
+/// Takes the district's name alone, and adds 1 to D_NEXT_O_ID.
 pub fn take_number(
     request: &NewOrderRequest,
     tax: Rate,
@@ -66,7 +66,8 @@ pub fn take_number(
     }
 }
 
-/// CUSTOMER: its name is taken beside others'. `NoCustomer` stops before that.
+/// Takes the customer's name beside others; before that, `NoCustomer` stops an order of an absent
+/// one.
 pub fn read_customer(
     request: &NewOrderRequest,
     order: OrderNumber,
@@ -92,7 +93,7 @@ pub fn read_customer(
     }
 }
 
-/// ORDER: its name is taken alone, and the row is inserted.
+/// Takes the order's name alone, and inserts its row.
 pub fn insert_order(
     request: &NewOrderRequest,
     seen: &Seen,
@@ -109,7 +110,7 @@ pub fn insert_order(
     }
 }
 
-/// NEW-ORDER: the name of the district's queue is taken alone, and the row is inserted.
+/// Takes the name of the district's queue alone, and inserts the NEW-ORDER row.
 pub fn insert_new_order(
     request: &NewOrderRequest,
     seen: &Seen,

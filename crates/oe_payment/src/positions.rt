@@ -35,7 +35,7 @@ impl Position {
     ghost use Rattle.oe_model.specs.Positions.{PaymentWarehouse};
     ghost use Rattle.oe_payment.specs.Program.{position_in};
 
-    /// At the first stage.
+    /// Stands at the first stage.
     pub fn first() -> Self
         ensures { position_in result ≡ PaymentWarehouse }
     {
@@ -52,7 +52,7 @@ impl Position {
         }
     }
 
-    /// A copy, which takes no memory.
+    /// Copies the value, and takes no memory.
     pub fn copied(&self) -> Self
         ensures { result ≡ self.now }
     {

@@ -30,7 +30,7 @@ impl Model for Program {
 }
 
 impl Program {
-    /// At its first stage.
+    /// Makes a program at its first stage.
     pub fn new() -> Self
         ensures { result ≡ PaymentWarehouse }
     {
@@ -47,7 +47,7 @@ impl Program {
         self.position.stage = Stage::Warehouse;
     }
 
-    /// A copy, which takes no memory.
+    /// Copies the value, and takes no memory.
     pub fn copied(&self) -> Self
         ensures { result ≡ self.now }
     {
@@ -56,7 +56,7 @@ impl Program {
         }
     }
 
-    /// The reply, once all stages are done; none before that.
+    /// Gives the reply, once all stages are done; none before that.
     #[inline]
     pub fn reply(&self) -> Option<&PaymentReply>
         ensures { option_map Reply.Payment (option_copied result) ≡ payment_reply self.now }
@@ -67,7 +67,7 @@ impl Program {
         }
     }
 
-    /// One stage of the payment: its lock and its one change. The order of refusals is
+    /// Carries out one stage of the payment: its lock and its one change. The order of refusals is
     /// `NoCustomer`, `Busy`, `Overflow`, `UndoFull` where the change's record has no room, and
     /// `NoMemory` where memory was refused for a new name or the inserted row. A refused stage
     /// leaves the program, the tables and the locks as they were. Each stage of a payment takes the

@@ -22,7 +22,7 @@ use oe_table::shelves::Shelves;
 use oe_values::{CustomerNumber, NoMemory, WarehouseNumber};
 use std::alloc::Global;
 
-/// The warehouses.
+/// Makes the warehouses.
 pub(crate) fn warehouses(
     alloc: Global,
     scale: &Scale,
@@ -41,7 +41,7 @@ pub(crate) fn warehouses(
     Ok(table)
 }
 
-/// The district of an ordinal from 0 on, where districts stand in the order of their keys.
+/// Gives the district of an ordinal from 0 on, where districts stand in the order of their keys.
 fn district_at(ordinal: u32) -> DistrictKey
     requires { ordinal < 160 }
     ensures { result ≡ record { warehouse = ordinal / 10 + 1; district = ordinal % 10 + 1 } }
@@ -52,7 +52,7 @@ fn district_at(ordinal: u32) -> DistrictKey
     }
 }
 
-/// The districts, ten of each warehouse.
+/// Makes the districts, ten of each warehouse.
 pub(crate) fn districts(
     alloc: Global,
     scale: &Scale,
@@ -91,7 +91,7 @@ fn fill_customers(
     Ok(())
 }
 
-/// The customers of all districts.
+/// Makes the customers of all districts.
 pub(crate) fn customers(alloc: Global, scale: &Scale) -> Result<Customers, NoMemory>
     ensures { IfOk result
         (λ t. Fills (has_customer scale.now) (λ k. customer_of k.customer) empty
@@ -128,7 +128,7 @@ fn fill_histories(
     Ok(())
 }
 
-/// A history of each customer.
+/// Makes a history of each customer.
 pub(crate) fn histories(
     alloc: Global,
     scale: &Scale,
@@ -183,7 +183,7 @@ fn fill_new_orders(
     Ok(())
 }
 
-/// The orders that are not delivered.
+/// Makes the orders that are not delivered.
 pub(crate) fn new_orders(
     alloc: Global,
     scale: &Scale,
@@ -219,7 +219,7 @@ fn fill_orders(table: &mut Orders, scale: &Scale, district: DistrictKey) -> Resu
     Ok(())
 }
 
-/// As many orders of each district as it has customers.
+/// Makes as many orders of each district as it has customers.
 pub(crate) fn orders(alloc: Global, scale: &Scale) -> Result<Orders, NoMemory>
     ensures { IfOk result
         (λ t. Fills (has_order scale.now) (λ k. order_of scale.now k.order) empty
@@ -277,7 +277,7 @@ fn fill_lines(
     Ok(())
 }
 
-/// The lines of all orders.
+/// Makes the lines of all orders.
 pub(crate) fn order_lines(
     alloc: Global,
     scale: &Scale,
@@ -292,7 +292,7 @@ pub(crate) fn order_lines(
     Ok(table)
 }
 
-/// The items.
+/// Makes the items.
 pub(crate) fn items(alloc: Global, scale: &Scale) -> Result<Shelves<ItemKey, Item>, NoMemory>
     ensures { IfOk result
         (λ t. Fills (has_item scale.now) (λ k. item_of k.item) empty (rows_of item_cmp t)) }
@@ -328,7 +328,7 @@ fn fill_stocks(
     Ok(())
 }
 
-/// A stock of each item in each warehouse.
+/// Makes a stock of each item in each warehouse.
 pub(crate) fn stocks(alloc: Global, scale: &Scale) -> Result<Shelves<StockKey, Stock>, NoMemory>
     ensures { IfOk result
         (λ t. Fills (has_stock scale.now) (λ k. stock_of k.warehouse k.item) empty

@@ -12,7 +12,7 @@ use oe_values::{
     Balance, CustomerNumber, DistrictNumber, ItemNumber, LineCount, Stamp, WarehouseNumber,
 };
 
-/// The stamp of all rows: 2000-01-01T00:00:00.
+/// Gives the stamp of all rows: 2000-01-01T00:00:00.
 fn first_stamp() -> Stamp
     ensures { result ≡ start }
 {
@@ -109,7 +109,8 @@ pub(crate) fn customer_row(customer: CustomerNumber) -> Customer
     }
 }
 
-/// The key of the history of a customer: customers are counted from 1 in the order of their keys.
+/// Gives the key of the history of a customer: customers are counted from 1 in the order of their
+/// keys.
 pub(crate) fn history_key_of(scale: &Scale, customer: &CustomerKey) -> HistoryKey
     ensures { result ≡ history_key scale.now customer.now }
 {
@@ -134,7 +135,7 @@ pub(crate) fn history_row(customer: CustomerKey) -> History
     }
 }
 
-/// The last order of each district that is delivered: three in ten are not.
+/// Gives the last order of each district that is delivered: three in ten are not.
 pub(crate) fn last_delivered_order(scale: &Scale) -> u32
     ensures { result ≡ last_delivered scale.now }
 {
@@ -142,7 +143,7 @@ pub(crate) fn last_delivered_order(scale: &Scale) -> u32
     customers - 3 * customers / 10
 }
 
-/// The number of an order's lines.
+/// Gives the number of an order's lines.
 pub(crate) fn line_count(order: u32) -> LineCount
     ensures { result ≡ lines_of order }
 {

@@ -132,7 +132,7 @@ fn fill_goods(alloc: Global, scale: &Scale) -> Result<Goods, NoMemory>
     })
 }
 
-/// The tables with the population of a scale, which are refused only where memory is.
+/// Makes the tables with the population of a scale. Memory is the only refusal.
 pub fn populate(alloc: Global, scale: Scale) -> Result<Tables, NoMemory>
     ensures { IfOk result (λ t. IsPopulated scale (rows t)) }
 {

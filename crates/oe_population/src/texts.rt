@@ -33,7 +33,7 @@ fn write_digits(cells: &mut [u8], number: u32)
     }
 }
 
-/// A text that is written out.
+/// Gives a text that is written out.
 #[inline]
 pub(crate) fn plain<const LEAST: usize, const MOST: usize>(text: &str) -> Text<LEAST, MOST>
     requires fits { IsInRange LEAST MOST (length text.now) }
@@ -43,7 +43,7 @@ pub(crate) fn plain<const LEAST: usize, const MOST: usize>(text: &str) -> Text<L
     Text::of_printable(text.as_bytes())
 }
 
-/// A label, and a number in that many digits.
+/// Gives a label, and a number in that many digits.
 pub(crate) fn numbered<const LEAST: usize, const MOST: usize>(
     label: &str,
     number: u32,
@@ -62,7 +62,7 @@ pub(crate) fn numbered<const LEAST: usize, const MOST: usize>(
     Text::of_printable(&bytes[..end])
 }
 
-/// A zip code: four digits before `11111`.
+/// Gives a zip code: four digits before `11111`.
 pub(crate) fn zip(number: u32) -> Text<9, 9>
     ensures { result ≡ dec number 4 ++ codes "11111" }
 {
@@ -71,7 +71,7 @@ pub(crate) fn zip(number: u32) -> Text<9, 9>
     Text::of_printable(&bytes)
 }
 
-/// Letters of the alphabet, which begins anew after Z, from the letter of this number on.
+/// Gives letters of the alphabet, which begins anew after Z, from the letter of this number on.
 pub(crate) fn alphabet(count: u32, first: u32) -> Text<0, 500>
     requires count { count ≤ 500 }
     requires first { first ≤ 3_000 }
@@ -81,7 +81,7 @@ pub(crate) fn alphabet(count: u32, first: u32) -> Text<0, 500>
     Text::of_printable(&ALPHABETS[start..start + count as usize])
 }
 
-/// The syllable of a digit (clause 4.3.2.3).
+/// Gives the syllable of a digit (clause 4.3.2.3).
 #[tactic(auto, unfolding(oe_model::specs::Population::syllable))]
 fn syllable_of(digit: u32) -> &'static str
     requires { digit < 10 }
@@ -103,7 +103,7 @@ fn syllable_of(digit: u32) -> &'static str
     }
 }
 
-/// The last name of a number: the syllables of its three digits (clause 4.3.2.3).
+/// Gives the last name of a number: the syllables of its three digits (clause 4.3.2.3).
 pub(crate) fn name_of(number: u32) -> Text<0, 16>
     requires { number < 1_000 }
     ensures { result ≡ last_name number }
@@ -115,7 +115,7 @@ pub(crate) fn name_of(number: u32) -> Text<0, 16>
     Text::of_printable(name.as_str().as_bytes())
 }
 
-/// The information of a district that is kept with the stock of an item in a warehouse.
+/// Gives the information of a district that is kept with the stock of an item in a warehouse.
 #[inline]
 pub(crate) fn dist_info(warehouse: u32, district: u32, item: u32) -> Text<24, 24>
     ensures { result ≡ dist_text warehouse district item }

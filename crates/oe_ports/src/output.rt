@@ -73,7 +73,7 @@ pub fn bad(out: &mut Pending, number: u128)
     text(out, b"\n");
 }
 
-/// The same, where what waits is written first if there is no room behind it.
+/// Appends a `BadLine`, and writes what waits first where there is no room behind it.
 pub fn put_bad<W: Outlet>(out: &mut Pending, to: &mut W, number: u128) -> Result<(), Failed>
     ensures { Streams (W.sink to.old) out.old.items (W.sink to.new) out.new.items
         (bad_line number) result }

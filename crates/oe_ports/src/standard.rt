@@ -27,12 +27,12 @@ pub struct Printed<'a, P: Print> {
 }
 
 impl<'a, P: Print> Printed<'a, P> {
-    /// The output that is not known to be closed.
+    /// Makes an output that is not known to be closed.
     pub fn new(to: &'a P) -> Printed<'a, P> {
         Printed { to, closed: false }
     }
 
-    /// A write failed because nobody reads any more.
+    /// Tells whether a write failed because nobody reads any more.
     pub fn is_closed(&self) -> bool {
         self.closed
     }

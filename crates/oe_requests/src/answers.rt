@@ -25,7 +25,7 @@ pub enum Answer {
 }
 
 impl Answer {
-    /// A copy, which takes no memory.
+    /// Copies the value, and takes no memory.
     pub fn copied(&self) -> Self
         ensures { result ≡ self.now }
     {

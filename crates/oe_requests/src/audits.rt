@@ -22,7 +22,7 @@ pub enum Condition {
 }
 
 impl Condition {
-    /// The condition's number, from 1 to 10 or 12: the last number of its clause.
+    /// Gives the condition's number, from 1 to 10 or 12: the last number of its clause.
     pub fn number(self) -> u8
         ensures { result ≡ condition_number self }
     {

@@ -26,7 +26,8 @@ pub enum Column {
 }
 
 impl Column {
-    /// The column's name in the standard, and `H_NUMBER` for the number in a history row's key.
+    /// Gives the column's name in the standard, and `H_NUMBER` for the number in a history row's
+    /// key.
     pub fn name(self) -> &'static str
         ensures { result.now ≡ column_name self }
     {
@@ -84,7 +85,7 @@ pub enum Refusal {
 }
 
 impl Refusal {
-    /// The refusal's number, from 2 to 17.
+    /// Gives the refusal's number, from 2 to 17.
     pub fn number(&self) -> u8
         ensures { result ≡ refusal_number self.now }
     {

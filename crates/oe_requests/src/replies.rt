@@ -144,7 +144,7 @@ pub enum QueryReply {
 }
 
 impl PaymentReply {
-    /// A copy, which takes no memory.
+    /// Copies the value, and takes no memory.
     pub fn copied(&self) -> Self
         ensures { result ≡ self.now }
     {
@@ -159,7 +159,7 @@ impl PaymentReply {
 }
 
 impl NewOrderReply {
-    /// A copy, which takes no memory.
+    /// Copies the value, and takes no memory.
     pub fn copied(&self) -> Self
         ensures { result ≡ self.now }
     {
@@ -174,7 +174,7 @@ impl NewOrderReply {
 }
 
 impl RenameReply {
-    /// A copy, which takes no memory.
+    /// Copies the value, and takes no memory.
     pub fn copied(&self) -> Self
         ensures { result ≡ self.now }
     {
@@ -187,7 +187,7 @@ impl RenameReply {
 }
 
 impl Reply {
-    /// A copy, which takes no memory.
+    /// Copies the value, and takes no memory.
     pub fn copied(&self) -> Self
         ensures { result ≡ self.now }
     {
@@ -202,7 +202,7 @@ impl Reply {
 }
 
 impl<'a> ReplyRef<'a> {
-    /// A copy, which takes no memory.
+    /// Copies the value, and takes no memory.
     pub fn copied(&self) -> Reply
         ensures { result ≡ told_reply self.now }
     {
@@ -228,7 +228,7 @@ impl<'a> ReplyRef<'a> {
 }
 
 impl OrderStatus {
-    /// A copy, which takes no memory.
+    /// Copies the value, and takes no memory.
     pub fn copied(&self) -> Self
         ensures { result ≡ self.now }
     {
@@ -242,7 +242,7 @@ impl OrderStatus {
 }
 
 impl StatusReply {
-    /// A copy, which takes no memory.
+    /// Copies the value, and takes no memory.
     pub fn copied(&self) -> Self
         ensures { result ≡ self.now }
     {
@@ -259,7 +259,7 @@ impl StatusReply {
 }
 
 impl QueryReply {
-    /// A copy, which takes no memory.
+    /// Copies the value, and takes no memory.
     pub fn copied(&self) -> Self
         ensures { result ≡ self.now }
     {

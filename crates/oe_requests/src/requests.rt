@@ -113,7 +113,7 @@ pub enum Errand {
 }
 
 impl CustomerChoice {
-    /// A copy, which takes no memory.
+    /// Copies the value, and takes no memory.
     pub fn copied(&self) -> Self
         ensures { result ≡ self.now }
     {
@@ -125,7 +125,7 @@ impl CustomerChoice {
 }
 
 impl PaymentRequest {
-    /// A copy, which takes no memory.
+    /// Copies the value, and takes no memory.
     pub fn copied(&self) -> Self
         ensures { result ≡ self.now }
     {
@@ -140,7 +140,7 @@ impl PaymentRequest {
 }
 
 impl NewOrderRequest {
-    /// A copy, which takes no memory.
+    /// Copies the value, and takes no memory.
     pub fn copied(&self) -> Self
         ensures { result ≡ self.now }
     {
@@ -154,7 +154,7 @@ impl NewOrderRequest {
 }
 
 impl RenameRequest {
-    /// A copy, which takes no memory.
+    /// Copies the value, and takes no memory.
     pub fn copied(&self) -> Self
         ensures { result ≡ self.now }
     {
@@ -167,7 +167,7 @@ impl RenameRequest {
 }
 
 impl Request {
-    /// A copy, which takes no memory.
+    /// Copies the value, and takes no memory.
     pub fn copied(&self) -> Self
         ensures { result ≡ self.now }
     {
@@ -182,7 +182,7 @@ impl Request {
 }
 
 impl StatusQuery {
-    /// A copy, which takes no memory.
+    /// Copies the value, and takes no memory.
     pub fn copied(&self) -> Self
         ensures { result ≡ self.now }
     {
@@ -195,7 +195,7 @@ impl StatusQuery {
 }
 
 impl Query {
-    /// A copy, which takes no memory.
+    /// Copies the value, and takes no memory.
     pub fn copied(&self) -> Self
         ensures { result ≡ self.now }
     {
@@ -207,7 +207,7 @@ impl Query {
 }
 
 impl Errand {
-    /// A copy, which takes no memory.
+    /// Copies the value, and takes no memory.
     pub fn copied(&self) -> Self
         ensures { result ≡ self.now }
     {

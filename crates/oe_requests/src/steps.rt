@@ -30,7 +30,7 @@ pub enum Step {
 }
 
 impl Step {
-    /// A copy, which takes no memory.
+    /// Copies the value, and takes no memory.
     pub fn copied(&self) -> Self
         ensures { result ≡ self.now }
     {

@@ -18,9 +18,9 @@ pub struct CreditIds {
     pub district: DistrictKey,
 }
 
-/// The total of an order of at most 15 lines (clause 2.4.2.2): the sum of the lines' amounts, less
-/// the customer's discount, with the taxes of the warehouse and the district, to the nearest cent,
-/// where a half rounds up.
+/// Gives the total of an order of at most 15 lines (clause 2.4.2.2): the sum of the lines' amounts,
+/// less the customer's discount, with the taxes of the warehouse and the district, to the nearest
+/// cent, where a half rounds up.
 pub fn total(
     amounts: &[LineAmount],
     discount: Rate,
@@ -70,7 +70,7 @@ fn push_money(text: &mut ArrayString<90>, cents: u32)
     push_number(text, cents % 10);
 }
 
-/// What a payment puts before the data of a customer with bad credit, as bytes.
+/// Gives what a payment puts before the data of a customer with bad credit, as bytes.
 fn spelled_entry(ids: CreditIds, amount: PaymentAmount) -> ArrayString<90>
     ensures value { result.bytes ≡ credit_entry ids amount }
     ensures printable { All IsPrintable result.bytes }
@@ -86,8 +86,8 @@ fn spelled_entry(ids: CreditIds, amount: PaymentAmount) -> ArrayString<90>
     text
 }
 
-/// What a payment puts before the data of a customer with bad credit (clause 2.5.2.2): `C_ID C_D_ID
-/// C_W_ID D_ID W_ID H_AMOUNT|`.
+/// Gives what a payment puts before the data of a customer with bad credit (clause 2.5.2.2): `C_ID
+/// C_D_ID C_W_ID D_ID W_ID H_AMOUNT|`.
 pub fn credit_entry(ids: CreditIds, amount: PaymentAmount) -> Text<0, 90>
     ensures { result ≡ credit_entry ids amount }
 {
@@ -98,8 +98,9 @@ pub fn credit_entry(ids: CreditIds, amount: PaymentAmount) -> Text<0, 90>
     }
 }
 
-/// The data of a customer with bad credit after a payment (clause 2.5.2.2): `C_ID C_D_ID C_W_ID
-/// D_ID W_ID H_AMOUNT|` goes in at the left, and what passes 500 bytes is discarded on the right.
+/// Gives the data of a customer with bad credit after a payment (clause 2.5.2.2): `C_ID C_D_ID
+/// C_W_ID D_ID W_ID H_AMOUNT|` goes in at the left, and what passes 500 bytes is discarded on the
+/// right.
 pub fn bad_credit_data(old: &Text<0, 500>, ids: CreditIds, amount: PaymentAmount) -> Text<0, 500>
     ensures { result ≡ bad_credit_data old.now ids amount }
 {

@@ -52,7 +52,7 @@ pub struct Customer {
 impl CustomerName {
     ghost use Rattle.oe_rows.specs.Customer.{IsCustomerName};
 
-    /// C_FIRST, C_MIDDLE and C_LAST.
+    /// Gives C_FIRST, C_MIDDLE and C_LAST.
     pub fn parts(&self) -> [&str; 3]
         ensures ranges { IsCustomerName self.now }
         ensures value { map (λ s. s.now) result
@@ -65,7 +65,7 @@ impl CustomerName {
         ]
     }
 
-    /// A copy, which takes no memory.
+    /// Copies the value, and takes no memory.
     pub fn copied(&self) -> Self
         ensures { result ≡ self.now }
     {
@@ -76,7 +76,7 @@ impl CustomerName {
         }
     }
 
-    /// Whether two names are equal.
+    /// Tells whether two names are equal.
     pub fn is_same(&self, other: &CustomerName) -> bool
         ensures { IsTrue result ↔ (self.now ≡ other.now) }
     {
@@ -87,7 +87,7 @@ impl CustomerName {
 impl Account {
     ghost use Rattle.oe_rows.specs.Customer.{IsAccount};
 
-    /// C_DISCOUNT, C_PAYMENT_CNT and C_DELIVERY_CNT.
+    /// Gives C_DISCOUNT, C_PAYMENT_CNT and C_DELIVERY_CNT.
     pub fn figures(&self) -> (u32, u32, u32)
         ensures ranges { IsAccount self.now }
         ensures value { result
@@ -103,7 +103,7 @@ impl Account {
         )
     }
 
-    /// Whether two accounts are equal.
+    /// Tells whether two accounts are equal.
     pub fn is_same(&self, other: &Account) -> bool
         ensures { IsTrue result ↔ (self.now ≡ other.now) }
     {
@@ -119,7 +119,7 @@ impl Account {
 impl Customer {
     ghost use Rattle.oe_rows.specs.Customer.{IsCustomer};
 
-    /// C_PHONE and C_DATA.
+    /// Gives C_PHONE and C_DATA.
     pub fn texts(&self) -> [&str; 2]
         ensures ranges { IsCustomer self.now }
         ensures value { map (λ s. s.now) result ≡ self.now.phone ∷ self.now.data ∷ [] }
@@ -131,7 +131,7 @@ impl Customer {
         [self.phone.as_str(), self.data.as_str()]
     }
 
-    /// A copy, which takes no memory.
+    /// Copies the value, and takes no memory.
     pub fn copied(&self) -> Self
         ensures { result ≡ self.now }
     {
@@ -146,7 +146,7 @@ impl Customer {
         }
     }
 
-    /// Whether two customers are equal.
+    /// Tells whether two customers are equal.
     pub fn is_same(&self, other: &Customer) -> bool
         ensures { IsTrue result ↔ (self.now ≡ other.now) }
     {

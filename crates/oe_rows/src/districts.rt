@@ -20,7 +20,7 @@ pub struct District {
 impl District {
     ghost use Rattle.oe_rows.specs.District.{IsDistrict};
 
-    /// D_TAX, D_YTD and D_NEXT_O_ID.
+    /// Gives D_TAX, D_YTD and D_NEXT_O_ID.
     pub fn figures(&self) -> (u32, u64, u32)
         ensures ranges { IsDistrict self.now }
         ensures value { result ≡ (self.now.tax, self.now.ytd, self.now.next_order) }
@@ -30,7 +30,7 @@ impl District {
         (self.tax.get(), self.ytd.cents(), self.next_order.get())
     }
 
-    /// A copy, which takes no memory.
+    /// Copies the value, and takes no memory.
     pub fn copied(&self) -> Self
         ensures { result ≡ self.now }
     {
@@ -43,7 +43,7 @@ impl District {
         }
     }
 
-    /// Whether two districts are equal.
+    /// Tells whether two districts are equal.
     pub fn is_same(&self, other: &District) -> bool
         ensures { IsTrue result ↔ (self.now ≡ other.now) }
     {

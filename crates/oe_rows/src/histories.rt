@@ -21,7 +21,7 @@ pub struct History {
 impl History {
     ghost use Rattle.oe_rows.specs.History.{IsHistory};
 
-    /// H_DATE in seconds, and H_AMOUNT in cents.
+    /// Gives H_DATE in seconds, and H_AMOUNT in cents.
     pub fn figures(&self) -> (u64, u64)
         ensures ranges { IsHistory self.now }
         ensures value { result ≡ (self.now.date, self.now.amount) }
@@ -32,7 +32,7 @@ impl History {
         (self.date.seconds(), self.amount.cents())
     }
 
-    /// A copy, which takes no memory.
+    /// Copies the value, and takes no memory.
     pub fn copied(&self) -> Self
         ensures { result ≡ self.now }
     {
@@ -45,7 +45,7 @@ impl History {
         }
     }
 
-    /// Whether two histories are equal.
+    /// Tells whether two histories are equal.
     pub fn is_same(&self, other: &History) -> bool
         ensures { IsTrue result ↔ (self.now ≡ other.now) }
     {

@@ -41,7 +41,7 @@ pub struct StockCounters {
 impl Item {
     ghost use Rattle.oe_rows.specs.Item.{IsItem};
 
-    /// I_IM_ID, and I_PRICE in cents.
+    /// Gives I_IM_ID, and I_PRICE in cents.
     pub fn figures(&self) -> (u32, u64)
         ensures ranges { IsItem self.now }
         ensures value { result ≡ (self.now.image, self.now.price) }
@@ -51,7 +51,7 @@ impl Item {
         (self.image.get(), self.price.cents())
     }
 
-    /// A copy, which takes no memory.
+    /// Copies the value, and takes no memory.
     pub fn copied(&self) -> Self
         ensures { result ≡ self.now }
     {
@@ -63,7 +63,7 @@ impl Item {
         }
     }
 
-    /// Whether two items are equal.
+    /// Tells whether two items are equal.
     pub fn is_same(&self, other: &Item) -> bool
         ensures { IsTrue result ↔ (self.now ≡ other.now) }
     {
@@ -74,7 +74,7 @@ impl Item {
     }
 }
 
-/// A copy of ten texts.
+/// Gives a copy of ten texts.
 fn ten(infos: &[Text<24, 24>; 10]) -> [Text<24, 24>; 10]
     ensures { result ≡ infos.now }
 {
@@ -92,7 +92,7 @@ fn ten(infos: &[Text<24, 24>; 10]) -> [Text<24, 24>; 10]
     ]
 }
 
-/// The ten texts.
+/// Gives the ten texts.
 fn ten_texts(infos: &[Text<24, 24>; 10]) -> [&str; 10]
     ensures value { map (λ s. s.now) result ≡ infos.now }
     ensures count { length infos.now ≡ 10 }
@@ -112,7 +112,7 @@ fn ten_texts(infos: &[Text<24, 24>; 10]) -> [&str; 10]
     ]
 }
 
-/// Whether the ten texts are equal.
+/// Tells whether the ten texts are equal.
 fn is_same_ten(infos: &[Text<24, 24>; 10], others: &[Text<24, 24>; 10]) -> bool
     ensures { IsTrue result ↔ (infos.now ≡ others.now) }
 {
@@ -122,14 +122,14 @@ fn is_same_ten(infos: &[Text<24, 24>; 10], others: &[Text<24, 24>; 10]) -> bool
 impl Stock {
     ghost use Rattle.oe_rows.specs.Item.{IsStock};
 
-    /// S_DIST_xx of a district (clause 2.4.2.2).
+    /// Gives S_DIST_xx of a district (clause 2.4.2.2).
     pub fn district_info(&self, district: DistrictNumber) -> &Text<24, 24>
         ensures { slice_get self.now.dist_info (district - 1) ≡ Some result.now }
     {
         &self.dist_info[district.get() as usize - 1]
     }
 
-    /// S_DIST_01 to S_DIST_10.
+    /// Gives S_DIST_01 to S_DIST_10.
     pub fn dist_infos(&self) -> [&str; 10]
         ensures value { map (λ s. s.now) result ≡ self.now.dist_info }
         ensures count { length self.now.dist_info ≡ 10 }
@@ -138,7 +138,7 @@ impl Stock {
         ten_texts(&self.dist_info)
     }
 
-    /// S_QUANTITY, S_YTD, S_ORDER_CNT and S_REMOTE_CNT.
+    /// Gives S_QUANTITY, S_YTD, S_ORDER_CNT and S_REMOTE_CNT.
     pub fn figures(&self) -> (u32, u32, u32, u32)
         ensures ranges { IsStock self.now }
         ensures value { result
@@ -154,7 +154,7 @@ impl Stock {
         )
     }
 
-    /// A copy, which takes no memory.
+    /// Copies the value, and takes no memory.
     pub fn copied(&self) -> Self
         ensures { result ≡ self.now }
     {
@@ -168,7 +168,7 @@ impl Stock {
         }
     }
 
-    /// Whether two stocks are equal.
+    /// Tells whether two stocks are equal.
     pub fn is_same(&self, other: &Stock) -> bool
         ensures { IsTrue result ↔ (self.now ≡ other.now) }
     {

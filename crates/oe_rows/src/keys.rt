@@ -117,7 +117,7 @@ impl DistrictKey {
         }
     }
 
-    /// D_W_ID and D_ID.
+    /// Gives D_W_ID and D_ID.
     pub fn columns(self) -> (u32, u32)
         ensures ranges { IsDistrictKey self }
         ensures value { result ≡ (self.warehouse, self.district) }
@@ -166,7 +166,7 @@ impl DistrictKey {
 }
 
 impl CustomerKey {
-    /// C_W_ID, C_D_ID and C_ID.
+    /// Gives C_W_ID, C_D_ID and C_ID.
     pub fn columns(self) -> (u32, u32, u32)
         ensures ranges { IsCustomerKey self }
         ensures value { result ≡ (self.warehouse, self.district, self.customer) }
@@ -286,7 +286,7 @@ impl StockKey {
 }
 
 impl Key {
-    /// The table whose rows have such keys.
+    /// Gives the table whose rows have such keys.
     pub fn table(self) -> Table
         ensures { result ≡ table_of self }
     {
@@ -305,7 +305,7 @@ impl Key {
 }
 
 impl Table {
-    /// The table's name in an answer.
+    /// Gives the table's name in an answer.
     pub fn name(self) -> &'static str
         ensures { result.now ≡ table_name self }
     {

@@ -36,7 +36,7 @@ pub struct OrderLine {
 }
 
 impl NewOrder {
-    /// Whether two such rows are equal, which all are.
+    /// Tells whether two such rows are equal, which all are.
     pub fn is_same(&self, other: &NewOrder) -> bool
         ensures { IsTrue result ↔ (self.now ≡ other.now) }
     {
@@ -47,7 +47,7 @@ impl NewOrder {
 impl Order {
     ghost use Rattle.oe_rows.specs.Order.{IsOrder};
 
-    /// O_C_ID, O_CARRIER_ID and O_OL_CNT.
+    /// Gives O_C_ID, O_CARRIER_ID and O_OL_CNT.
     pub fn figures(&self) -> (u32, Option<u32>, u32)
         ensures ranges { IsOrder self.now }
         ensures value { result ≡ (self.now.customer, self.now.carrier, self.now.line_count) }
@@ -60,14 +60,14 @@ impl Order {
         )
     }
 
-    /// A copy.
+    /// Copies the value.
     pub fn copied(&self) -> Self
         ensures { result ≡ self.now }
     {
         *self
     }
 
-    /// Whether two orders are equal.
+    /// Tells whether two orders are equal.
     pub fn is_same(&self, other: &Order) -> bool
         ensures { IsTrue result ↔ (self.now ≡ other.now) }
     {
@@ -82,7 +82,7 @@ impl Order {
 impl OrderLine {
     ghost use Rattle.oe_rows.specs.Order.{IsOrderLine};
 
-    /// OL_I_ID, OL_SUPPLY_W_ID, OL_DELIVERY_D in seconds, OL_QUANTITY and OL_AMOUNT in cents.
+    /// Gives OL_I_ID, OL_SUPPLY_W_ID, OL_DELIVERY_D in seconds, OL_QUANTITY and OL_AMOUNT in cents.
     pub fn figures(&self) -> (u32, u32, Option<u64>, u32, u64)
         ensures ranges { IsOrderLine self.now }
         ensures value { result ≡ (
@@ -103,7 +103,7 @@ impl OrderLine {
         )
     }
 
-    /// A copy, which takes no memory.
+    /// Copies the value, and takes no memory.
     pub fn copied(&self) -> Self
         ensures { result ≡ self.now }
     {
@@ -117,7 +117,7 @@ impl OrderLine {
         }
     }
 
-    /// Whether two lines are equal.
+    /// Tells whether two lines are equal.
     pub fn is_same(&self, other: &OrderLine) -> bool
         ensures { IsTrue result ↔ (self.now ≡ other.now) }
     {

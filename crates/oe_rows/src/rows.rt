@@ -26,7 +26,7 @@ pub enum Row {
 }
 
 impl Row {
-    /// The table that the row is of.
+    /// Gives the table that the row is of.
     pub fn table(&self) -> Table
         ensures { result ≡ table_of_row self.now }
     {
@@ -43,7 +43,7 @@ impl Row {
         }
     }
 
-    /// A copy, which takes no memory.
+    /// Copies the value, and takes no memory.
     pub fn copied(&self) -> Self
         ensures { result ≡ self.now }
     {
@@ -60,7 +60,7 @@ impl Row {
         }
     }
 
-    /// Whether two rows are of one table and equal.
+    /// Tells whether two rows are of one table and equal.
     pub fn is_same(&self, other: &Row) -> bool
         ensures { IsTrue result ↔ (self.now ≡ other.now) }
     {

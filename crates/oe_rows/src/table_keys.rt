@@ -63,7 +63,7 @@ impl TableKey for StockKey {
     ghost exact = { exact_stock };
 }
 
-/// The shelf of a district's rows: ten follow one another for each warehouse.
+/// Gives the shelf of a district's rows: ten follow one another for each warehouse.
 #[inline]
 fn district_shelf(warehouse: WarehouseNumber, district: DistrictNumber) -> usize
     ensures number { result ≡ district_shelf warehouse district }

@@ -29,7 +29,7 @@ pub struct Warehouse {
 impl Address {
     ghost use Rattle.oe_rows.specs.Warehouse.{IsAddress};
 
-    /// The first street line, the second, the city, the state and the zip.
+    /// Gives the first street line, the second, the city, the state and the zip.
     pub fn lines(&self) -> [&str; 5]
         ensures ranges { IsAddress self.now }
         ensures value { map (λ s. s.now) result ≡ self.now.street_1 ∷ self.now.street_2
@@ -44,7 +44,7 @@ impl Address {
         ]
     }
 
-    /// A copy, which takes no memory.
+    /// Copies the value, and takes no memory.
     pub fn copied(&self) -> Self
         ensures { result ≡ self.now }
     {
@@ -57,7 +57,7 @@ impl Address {
         }
     }
 
-    /// Whether two addresses are equal.
+    /// Tells whether two addresses are equal.
     pub fn is_same(&self, other: &Address) -> bool
         ensures { IsTrue result ↔ (self.now ≡ other.now) }
     {
@@ -72,7 +72,7 @@ impl Address {
 impl Warehouse {
     ghost use Rattle.oe_rows.specs.Warehouse.{IsWarehouse};
 
-    /// W_TAX and W_YTD.
+    /// Gives W_TAX and W_YTD.
     pub fn figures(&self) -> (u32, u64)
         ensures ranges { IsWarehouse self.now }
         ensures value { result ≡ (self.now.tax, self.now.ytd) }
@@ -82,7 +82,7 @@ impl Warehouse {
         (self.tax.get(), self.ytd.cents())
     }
 
-    /// A copy, which takes no memory.
+    /// Copies the value, and takes no memory.
     pub fn copied(&self) -> Self
         ensures { result ≡ self.now }
     {
@@ -94,7 +94,7 @@ impl Warehouse {
         }
     }
 
-    /// Whether two warehouses are equal.
+    /// Tells whether two warehouses are equal.
     pub fn is_same(&self, other: &Warehouse) -> bool
         ensures { IsTrue result ↔ (self.now ≡ other.now) }
     {

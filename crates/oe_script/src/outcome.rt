@@ -76,7 +76,7 @@ fn take_line<W: Outlet>(
     }
 }
 
-/// The same before something is open.
+/// Answers a line before something is open.
 #[inline(never)]
 fn first_line(core: &mut Option<Core>, alloc: Global, line: &[u8], number: u128, out: &mut Pending)
     requires room { array_vec_len out.old + LONGEST ≤ SIZE }
@@ -91,7 +91,7 @@ fn first_line(core: &mut Option<Core>, alloc: Global, line: &[u8], number: u128,
     }
 }
 
-/// The same where something is open. A run has the terminal alone, since a command is long.
+/// Answers a line where something is open. A run has the terminal alone, since a command is long.
 fn run_or_later<W: Outlet>(
     core: &mut Core,
     line: &[u8],
@@ -112,7 +112,7 @@ fn run_or_later<W: Outlet>(
     begin_or_later(core, line, number, out, to)
 }
 
-/// The same where the line runs nothing. Of a payment no more is written than it has.
+/// Answers a line that runs nothing. Of a payment no more is written than it has.
 fn begin_or_later<W: Outlet>(
     core: &mut Core,
     line: &[u8],
@@ -133,7 +133,7 @@ fn begin_or_later<W: Outlet>(
     later_line(core, line, number, out, to)
 }
 
-/// The same of any line.
+/// Answers any line.
 #[inline(never)]
 fn later_line<W: Outlet>(
     core: &mut Core,
@@ -155,7 +155,7 @@ fn later_line<W: Outlet>(
     later(core, &asked, number, out, to)
 }
 
-/// The same of what a line asks for.
+/// Answers what a line asks for.
 fn first(core: &mut Option<Core>, alloc: Global, asked: &Command, number: u128, out: &mut Pending)
     requires room { array_vec_len out.old + LONGEST ≤ SIZE }
     requires none { core.old ≡ None }
@@ -177,7 +177,7 @@ fn first(core: &mut Option<Core>, alloc: Global, asked: &Command, number: u128, 
     }
 }
 
-/// A core with the population of a scale.
+/// Opens a core with the population of a scale.
 fn populated(alloc: Global, scale: Scale, extents: ExtentCount) -> Result<Core, NoMemory>
     requires { HasForm (asks.Open scale extents) }
     ensures { IfOk result (λ c.
@@ -189,7 +189,7 @@ fn populated(alloc: Global, scale: Scale, extents: ExtentCount) -> Result<Core, 
     }
 }
 
-/// The same of what a line asks for.
+/// Answers what a line asks for.
 fn later<W: Outlet>(
     core: &mut Core,
     asked: &Command,
@@ -389,7 +389,7 @@ fn tell_rewind(core: &mut Core, moment: MomentChoice, out: &mut Pending)
     tell(core, Step::Rewind(moment), out);
 }
 
-/// The moment that is asked for.
+/// Gives the moment that is asked for.
 fn moment_of(core: &Core, choice: MomentChoice) -> Moment
     ensures { result ≡ moment_in (world_of core.now) choice }
 {

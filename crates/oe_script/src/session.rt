@@ -40,7 +40,7 @@ pub enum Fault {
 }
 
 impl Session {
-    /// Nothing is open, read or answered.
+    /// Makes a session where nothing is open, read or answered.
     pub fn new() -> Session
         ensures { result ≡ record {
           core = None;
@@ -182,7 +182,7 @@ impl Session {
         Ok(())
     }
 
-    /// Further bytes of a line.
+    /// Keeps further bytes of a line.
     fn keep(&mut self, bytes: &[u8])
         ensures core { self.new.core ≡ self.old.core }
         ensures count { self.new.count ≡ self.old.count }
@@ -198,7 +198,7 @@ impl Session {
         }
     }
 
-    /// The end of a line, whose last bytes these are: its answer goes out.
+    /// Ends a line with these last bytes, and answers it.
     fn end_line<W: Outlet>(&mut self, alloc: Global, last: &[u8], to: &mut W) -> Result<(), Failed>
         requires count { self.old.count + 1 < 2 ^ 128 }
         requires live { IsLive (state_of self.old.core) }
@@ -219,14 +219,14 @@ impl Session {
         answer_line(&mut self.core, alloc, last, self.count, &mut self.out, to)
     }
 
-    /// A line was begun whose end was not read yet.
+    /// Tells whether a line was begun whose end was not read yet.
     fn is_begun(&self) -> bool
         ensures { result ≡ false → (self.now.over ≡ false) × (self.now.line.items ≡ []) }
     {
         self.over || !self.line.is_empty()
     }
 
-    /// The end of a line that was kept, of this number: its answer goes out.
+    /// Ends a line of this number that was kept, and answers it.
     #[inline(never)]
     fn end_kept<W: Outlet>(&mut self, alloc: Global, to: &mut W) -> Result<(), Failed>
         requires live { IsLive (state_of self.old.core) }

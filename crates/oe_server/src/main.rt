@@ -39,7 +39,7 @@ fn main(rt: HostRuntime) -> io::Result<ExitCode> {
     }
 }
 
-/// The words of the command line, the program's name first.
+/// Gives the words of the command line, the program's name first.
 fn words<R: Env + AllocGlobal>(rt: &R) -> io::Result<Vec<String>> {
     Ok(env::args(rt)?.collect(rt.alloc())?)
 }
@@ -74,7 +74,7 @@ fn tell<R: Print + Eprint>(rt: &R, error: Error) -> io::Result<ExitCode> {
     }
 }
 
-/// The name of a fault at a write.
+/// Gives the name of a fault at a write.
 fn write_fault(closed: bool) -> &'static str {
     if closed { "output closed" } else { "write" }
 }

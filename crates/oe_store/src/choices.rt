@@ -17,7 +17,7 @@ use oe_rows::{Customer, CustomerKey, CustomerName, DistrictKey, Order, OrderKey}
 use oe_values::{CustomerNumber, OrderNumber, Text};
 use std::cmp::Ordering;
 
-/// Whether a customer of that key and name is of the district and has the last name.
+/// Tells whether a customer of that key and name is of the district and has the last name.
 fn is_named(
     key: &CustomerKey,
     name: &CustomerName,
@@ -32,7 +32,7 @@ fn is_named(
         && name.last.as_str().cmp(last.as_str()) == Ordering::Equal
 }
 
-/// Whether a customer comes before another, by C_FIRST, and where that ties by C_ID.
+/// Tells whether a customer comes before another, by C_FIRST, and where that ties by C_ID.
 fn is_before(
     first: &Text<0, 16>,
     customer: CustomerNumber,
@@ -48,7 +48,7 @@ fn is_before(
         == Ordering::Less
 }
 
-/// Whether the order is the customer's.
+/// Tells whether the order is the customer's.
 fn is_own(key: &OrderKey, order: &Order, customer: &CustomerKey) -> bool
     ensures { result ≡ eq_by_cmp customer_cmp (customer_of_order key.now order.now) customer.now }
 {
@@ -64,7 +64,7 @@ struct Standing {
 }
 
 impl Tables {
-    /// A walk that meets a customer's orders in their keys' order, and few others.
+    /// Gives a walk that meets a customer's orders in their keys' order, and few others.
     pub fn orders_of_customer(&self, customer: &CustomerKey) -> Found<'_, OrderKey, Order>
         ensures { own_of customer.now result ≡ orders_of customer.now (rows self.now).orders }
     {
@@ -72,8 +72,8 @@ impl Tables {
         self.orders.of_customer(customer, others)
     }
 
-    /// A walk that meets the customers of a district with that C_LAST in their keys' order, and few
-    /// others.
+    /// Gives a walk that meets the customers of a district with that C_LAST in their keys' order,
+    /// and few others.
     fn namesakes_of(
         &self,
         district: &DistrictKey,
@@ -91,7 +91,7 @@ impl Tables {
         self.customers.namesakes(district, last, others)
     }
 
-    /// The least NO_O_ID of a district's orders that are not delivered (clause 2.7.4.2).
+    /// Gives the least NO_O_ID of a district's orders that are not delivered (clause 2.7.4.2).
     pub fn oldest(&self, district: &DistrictKey) -> Option<OrderNumber>
         ensures { result ≡ oldest district.now (rows self.now).new_orders }
     {
@@ -100,7 +100,7 @@ impl Tables {
         Some(key.order)
     }
 
-    /// How one stands among the customers of a district with that C_LAST.
+    /// Tells how one stands among the customers of a district with that C_LAST.
     fn standing(
         &self,
         district: &DistrictKey,
@@ -128,7 +128,7 @@ impl Tables {
         Standing { count, before }
     }
 
-    /// Whether that one is in the middle of them, rounded up.
+    /// Tells whether that one is in the middle of them, rounded up.
     fn is_middle(
         &self,
         district: &DistrictKey,
@@ -145,8 +145,8 @@ impl Tables {
         standing.before + 1 == (standing.count + 1) / 2
     }
 
-    /// C_ID of the customer of a district and last name in position n / 2, rounded up, of n, by
-    /// C_FIRST and where that ties by C_ID (clauses 2.5.2.2 and 2.6.2.2).
+    /// Gives C_ID of the customer of a district and last name in position n / 2, rounded up, of n,
+    /// by C_FIRST and where that ties by C_ID (clauses 2.5.2.2 and 2.6.2.2).
     pub fn middle(&self, district: &DistrictKey, last: &Text<0, 16>) -> Option<CustomerNumber>
         ensures { result ≡ middle (namesakes district.now last.now (rows self.now).customers) }
     {
@@ -160,7 +160,7 @@ impl Tables {
         None
     }
 
-    /// O_ID of a customer's last order, which is the greatest (clause 2.6.2.2).
+    /// Gives O_ID of a customer's last order, which is the greatest (clause 2.6.2.2).
     pub fn last_order(&self, customer: &CustomerKey) -> Option<OrderNumber>
         ensures { result ≡ option_map (λ e. e.0.order)
             (last_order customer.now (rows self.now).orders) }

@@ -108,8 +108,8 @@ impl<'a> Iterator for KeyWalk<'a> {
 }
 
 impl Tables {
-    /// The keys of a table that have a place, in their order, those that were blanked too. It takes
-    /// no memory.
+    /// Gives the keys of a table that have a place, in their order, those that were blanked too. It
+    /// takes no memory.
     pub fn keys(&self, table: Table) -> KeyWalk<'_>
         ensures { result ≡ placed_keys table self.now }
     {

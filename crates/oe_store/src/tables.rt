@@ -110,7 +110,7 @@ impl Tables {
         drop(self);
     }
 
-    /// Tables without a row.
+    /// Makes tables without a row.
     pub fn new(alloc: Global) -> Self
         ensures { rows result ≡ no_rows }
     {
@@ -127,7 +127,7 @@ impl Tables {
         }
     }
 
-    /// Nine tables whose rows meet the schema.
+    /// Makes one value of nine tables whose rows meet the schema.
     pub fn of(nine: NineTables) -> Self
         requires { IsSound (rows nine) }
         ensures { result ≡ nine }
@@ -145,86 +145,86 @@ impl Tables {
         }
     }
 
-    /// The WAREHOUSE row of a key, if it has one.
+    /// Gives the WAREHOUSE row of a key, if it has one.
     pub fn warehouse(&self, key: WarehouseKey) -> Option<&Warehouse>
         ensures { option_copied result ≡ get (rows self.now).warehouses key }
     {
         self.warehouses.get(&key)
     }
 
-    /// The DISTRICT row of a key, if it has one.
+    /// Gives the DISTRICT row of a key, if it has one.
     pub fn district(&self, key: DistrictKey) -> Option<&District>
         ensures { option_copied result ≡ get (rows self.now).districts key }
     {
         self.districts.get(&key)
     }
 
-    /// The CUSTOMER row of a key, if it has one.
+    /// Gives the CUSTOMER row of a key, if it has one.
     pub fn customer(&self, key: CustomerKey) -> Option<&Customer>
         ensures { option_copied result ≡ get (rows self.now).customers key }
     {
         self.customers.get(&key)
     }
 
-    /// The HISTORY row of a key, if it has one.
+    /// Gives the HISTORY row of a key, if it has one.
     pub fn history(&self, key: HistoryKey) -> Option<&History>
         ensures { option_copied result ≡ get (rows self.now).histories key }
     {
         self.histories.get(&key)
     }
 
-    /// Whether a HISTORY key has a place, with a row or blanked.
+    /// Tells whether a HISTORY key has a place, with a row or blanked.
     pub fn history_has_place(&self, key: &HistoryKey) -> bool
         ensures { IsTrue result ↔ HasPlace self.now (Key.History key.now) }
     {
         self.histories.has_place(key)
     }
 
-    /// The NEW-ORDER row of a key, if it has one.
+    /// Gives the NEW-ORDER row of a key, if it has one.
     pub fn new_order(&self, key: NewOrderKey) -> Option<&NewOrder>
         ensures { option_copied result ≡ get (rows self.now).new_orders key }
     {
         self.new_orders.get(&key)
     }
 
-    /// The ORDER row of a key, if it has one.
+    /// Gives the ORDER row of a key, if it has one.
     pub fn order(&self, key: OrderKey) -> Option<&Order>
         ensures { option_copied result ≡ get (rows self.now).orders key }
     {
         self.orders.get(&key)
     }
 
-    /// The ORDER-LINE row of a key, if it has one.
+    /// Gives the ORDER-LINE row of a key, if it has one.
     pub fn order_line(&self, key: OrderLineKey) -> Option<&OrderLine>
         ensures { option_copied result ≡ get (rows self.now).order_lines key }
     {
         self.order_lines.get(&key)
     }
 
-    /// The ITEM row of a key, if it has one.
+    /// Gives the ITEM row of a key, if it has one.
     pub fn item(&self, key: ItemKey) -> Option<&Item>
         ensures { option_copied result ≡ get (rows self.now).items key }
     {
         self.items.get(&key)
     }
 
-    /// The STOCK row of a key, if it has one.
+    /// Gives the STOCK row of a key, if it has one.
     pub fn stock(&self, key: StockKey) -> Option<&Stock>
         ensures { option_copied result ≡ get (rows self.now).stocks key }
     {
         self.stocks.get(&key)
     }
 
-    /// The rows meet the schema (clauses 1.3 and 1.4). It does nothing: it is for proofs above,
-    /// which see the rows alone.
+    /// States that the rows meet the schema (clauses 1.3 and 1.4). It does nothing: it is for
+    /// proofs above, which see the rows alone.
     pub fn schema_holds(&self)
         ensures { Meets (rows self.now) }
     {
         let _known = &self.warehouses;
     }
 
-    /// The numbers in the keys of rows are in their ranges (clause 1.3.1). It does nothing, as
-    /// `schema_holds`.
+    /// States that the numbers in the keys of rows are in their ranges (clause 1.3.1). It does
+    /// nothing, as `schema_holds`.
     pub fn numbers_hold(&self)
         ensures { AreNumbered (rows self.now) }
     {

@@ -14,7 +14,7 @@ use oe_rows::{
 use oe_table::shelf_walks::Rows;
 use oe_values::Number;
 
-/// The least number of a range.
+/// Gives the least number of a range.
 fn least<const LOW: u32, const HIGH: u32>() -> Number<LOW, HIGH>
     requires { LOW ≤ HIGH }
     ensures { result ≡ LOW }
@@ -25,7 +25,7 @@ fn least<const LOW: u32, const HIGH: u32>() -> Number<LOW, HIGH>
     }
 }
 
-/// The greatest number of a range.
+/// Gives the greatest number of a range.
 fn greatest<const LOW: u32, const HIGH: u32>() -> Number<LOW, HIGH>
     requires { LOW ≤ HIGH }
     ensures { result ≡ HIGH }
@@ -37,70 +37,70 @@ fn greatest<const LOW: u32, const HIGH: u32>() -> Number<LOW, HIGH>
 }
 
 impl Tables {
-    /// The WAREHOUSE rows with their keys, in the keys' order.
+    /// Gives the WAREHOUSE rows with their keys, in the keys' order.
     pub fn warehouses(&self) -> Rows<'_, WarehouseKey, Warehouse>
         ensures { result ≡ entries (rows self.now).warehouses }
     {
         self.warehouses.iter()
     }
 
-    /// The DISTRICT rows with their keys, in the keys' order.
+    /// Gives the DISTRICT rows with their keys, in the keys' order.
     pub fn districts(&self) -> Rows<'_, DistrictKey, District>
         ensures { result ≡ entries (rows self.now).districts }
     {
         self.districts.iter()
     }
 
-    /// The CUSTOMER rows with their keys, in the keys' order.
+    /// Gives the CUSTOMER rows with their keys, in the keys' order.
     pub fn customers(&self) -> Rows<'_, CustomerKey, Customer>
         ensures { result ≡ entries (rows self.now).customers }
     {
         self.customers.iter()
     }
 
-    /// The HISTORY rows with their keys, in the keys' order.
+    /// Gives the HISTORY rows with their keys, in the keys' order.
     pub fn histories(&self) -> Rows<'_, HistoryKey, History>
         ensures { result ≡ entries (rows self.now).histories }
     {
         self.histories.iter()
     }
 
-    /// The NEW-ORDER rows with their keys, in the keys' order.
+    /// Gives the NEW-ORDER rows with their keys, in the keys' order.
     pub fn new_orders(&self) -> Rows<'_, NewOrderKey, NewOrder>
         ensures { result ≡ entries (rows self.now).new_orders }
     {
         self.new_orders.iter()
     }
 
-    /// The ORDER rows with their keys, in the keys' order.
+    /// Gives the ORDER rows with their keys, in the keys' order.
     pub fn orders(&self) -> Rows<'_, OrderKey, Order>
         ensures { result ≡ entries (rows self.now).orders }
     {
         self.orders.iter()
     }
 
-    /// The ORDER-LINE rows with their keys, in the keys' order.
+    /// Gives the ORDER-LINE rows with their keys, in the keys' order.
     pub fn order_lines(&self) -> Rows<'_, OrderLineKey, OrderLine>
         ensures { result ≡ entries (rows self.now).order_lines }
     {
         self.order_lines.iter()
     }
 
-    /// The ITEM rows with their keys, in the keys' order.
+    /// Gives the ITEM rows with their keys, in the keys' order.
     pub fn items(&self) -> Rows<'_, ItemKey, Item>
         ensures { result ≡ entries (rows self.now).items }
     {
         self.items.iter()
     }
 
-    /// The STOCK rows with their keys, in the keys' order.
+    /// Gives the STOCK rows with their keys, in the keys' order.
     pub fn stocks(&self) -> Rows<'_, StockKey, Stock>
         ensures { result ≡ entries (rows self.now).stocks }
     {
         self.stocks.iter()
     }
 
-    /// The DISTRICT rows of a warehouse, in the keys' order.
+    /// Gives the DISTRICT rows of a warehouse, in the keys' order.
     pub fn districts_of(&self, warehouse: WarehouseKey) -> Rows<'_, DistrictKey, District>
         ensures { result ≡ entries_of warehouse_cmp warehouse_of_district warehouse
             (rows self.now).districts }
@@ -116,7 +116,7 @@ impl Tables {
         self.districts.range_inclusive(first, last)
     }
 
-    /// The CUSTOMER rows of a district, in the keys' order.
+    /// Gives the CUSTOMER rows of a district, in the keys' order.
     pub fn customers_of(&self, district: DistrictKey) -> Rows<'_, CustomerKey, Customer>
         ensures { result ≡ entries_of district_cmp district_of_customer district
             (rows self.now).customers }
@@ -133,7 +133,7 @@ impl Tables {
         self.customers.range_inclusive(first, last)
     }
 
-    /// The ORDER rows of a district, in the keys' order.
+    /// Gives the ORDER rows of a district, in the keys' order.
     pub fn orders_of(&self, district: DistrictKey) -> Rows<'_, OrderKey, Order>
         ensures { result ≡ entries_of district_cmp district_of_order district
             (rows self.now).orders }
@@ -150,7 +150,7 @@ impl Tables {
         self.orders.range_inclusive(first, last)
     }
 
-    /// The NEW-ORDER rows of a district, in the keys' order.
+    /// Gives the NEW-ORDER rows of a district, in the keys' order.
     pub fn new_orders_of(&self, district: DistrictKey) -> Rows<'_, NewOrderKey, NewOrder>
         ensures { result ≡ entries_of district_cmp district_of_new_order district
             (rows self.now).new_orders }
@@ -167,7 +167,7 @@ impl Tables {
         self.new_orders.range_inclusive(first, last)
     }
 
-    /// The ORDER-LINE rows of an order, in the keys' order.
+    /// Gives the ORDER-LINE rows of an order, in the keys' order.
     pub fn order_lines_of(&self, order: OrderKey) -> Rows<'_, OrderLineKey, OrderLine>
         ensures { result ≡ entries_of order_cmp order_of_line order (rows self.now).order_lines }
     {
@@ -184,7 +184,7 @@ impl Tables {
         self.order_lines.range_inclusive(first, last)
     }
 
-    /// The ORDER-LINE rows of a district, in the keys' order.
+    /// Gives the ORDER-LINE rows of a district, in the keys' order.
     pub fn order_lines_of_district(
         &self,
         district: DistrictKey,

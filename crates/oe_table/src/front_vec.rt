@@ -42,7 +42,7 @@ fn cut_front<T: Drop>(all: &mut Vec<T>, count: usize)
 impl<T> FrontVec<T> {
     ghost use Rattle.oe_table.specs.FrontVecLends.{lends_item};
 
-    /// A list without an element, which takes no memory.
+    /// Makes a list without an element, which takes no memory.
     pub(crate) fn new(alloc: Global) -> Self
         ensures { result ≡ [] }
     {
@@ -52,7 +52,7 @@ impl<T> FrontVec<T> {
         }
     }
 
-    /// The elements.
+    /// Gives the elements.
     #[inline(always)]
     pub(crate) fn as_slice(&self) -> &[T]
         ensures { result.now ≡ self.now }
@@ -60,7 +60,7 @@ impl<T> FrontVec<T> {
         &self.all[self.gone..]
     }
 
-    /// The element at an index, to be changed there.
+    /// Gives the element at an index, to be changed there.
     #[inline(always)]
     pub(crate) fn item_mut(&mut self, at: usize) -> &mut T
         requires { at < length self.old }

@@ -33,7 +33,7 @@ impl<K, R> Model for Slot<K, R> {
 impl<K, R> Slot<K, R> {
     ghost use Rattle.oe_table.specs.ShelfLends.{lends_content};
 
-    /// The key and what stands at it.
+    /// Gives the key and what stands at it.
     pub fn parts(&self) -> (&K, &Option<R>)
         ensures { (result.0.now, result.1.now) ≡ self.now }
     {
@@ -67,7 +67,7 @@ impl<K, R> Model for Shelf<K, R> {
 }
 
 impl<K, R> Shelf<K, R> {
-    /// A shelf without a slot, which takes no memory.
+    /// Makes a shelf without a slot, which takes no memory.
     pub fn empty(alloc: Global) -> Self
         ensures { result ≡ [] }
     {
@@ -79,7 +79,7 @@ impl<K, R> Shelf<K, R> {
 }
 
 impl<K, R> Shelf<K, R> {
-    /// The slots, in their keys' order.
+    /// Gives the slots, in their keys' order.
     #[inline(always)]
     pub fn slots(&self) -> &[Slot<K, R>]
         ensures { result.now ≡ self.now }
@@ -87,7 +87,7 @@ impl<K, R> Shelf<K, R> {
         self.slots.as_slice()
     }
 
-    /// A number of slots at the beginning that have no row.
+    /// Counts slots at the beginning that have no row.
     pub(crate) fn blanked(&self) -> usize
         ensures { live (take result self.now) ≡ [] }
     {
@@ -282,7 +282,7 @@ impl<K: ShelvedKey, R> Shelf<K, R> {
         }
     }
 
-    /// How many keys are less than a key.
+    /// Tells how many keys are less than a key.
     pub(crate) fn lower(&self, key: &K) -> usize
         requires { IsAscending K.cmp self.now }
         ensures { result ≡ lower K.cmp self.now key.now }
@@ -293,7 +293,7 @@ impl<K: ShelvedKey, R> Shelf<K, R> {
         }
     }
 
-    /// How many keys are not greater than a key.
+    /// Tells how many keys are not greater than a key.
     pub(crate) fn upper(&self, key: &K) -> usize
         requires { IsAscending K.cmp self.now }
         ensures { result ≡ upper K.cmp self.now key.now }
@@ -305,7 +305,7 @@ impl<K: ShelvedKey, R> Shelf<K, R> {
         }
     }
 
-    /// What stands at a key.
+    /// Gives what stands at a key.
     #[inline(always)]
     pub(crate) fn slot(&self, key: &K) -> Option<&Option<R>>
         requires { IsAscending K.cmp self.now }
@@ -318,7 +318,7 @@ impl<K: ShelvedKey, R> Shelf<K, R> {
         }
     }
 
-    /// What stands at a key, to be changed there.
+    /// Gives what stands at a key, to be changed there.
     #[inline(always)]
     pub(crate) fn slot_mut(&mut self, key: &K) -> Option<&mut Option<R>>
         requires { IsAscending K.cmp self.old }

@@ -260,7 +260,7 @@ fn rows_between<K, R>(shelves: &[Shelf<K, R>], from: Cut, to: Cut) -> Rows<'_, K
 impl<K: ShelvedKey, R> Shelves<K, R> {
     ghost use Rattle.oe_table.specs.ShelvesLends.{lends_place, lends_row};
 
-    /// A table without a place, which takes no memory.
+    /// Makes a table without a place, which takes no memory.
     pub fn new(alloc: Global) -> Self
         ensures places { result ≡ [] }
         ensures rows { rows_of K.cmp result ≡ map.empty }
@@ -294,7 +294,7 @@ impl<K: ShelvedKey, R> Shelves<K, R> {
         self.shelves.get_mut(number)?.slot_mut(key)
     }
 
-    /// The row at a key; a blanked key and one without a place have none.
+    /// Gives the row at a key; a blanked key and one without a place have none.
     #[tactic(auto, using(crate::proofs::TableFacts::at_keys))]
     pub fn get(&self, key: &K) -> Option<&R>
         ensures { option_copied result ≡ map.get (rows_of K.cmp self.now) key.now }
@@ -302,14 +302,14 @@ impl<K: ShelvedKey, R> Shelves<K, R> {
         self.slot(key)?.as_ref()
     }
 
-    /// Whether a key was blanked: it has a place, and no row.
+    /// Tells whether a key was blanked: it has a place, and no row.
     pub fn is_blanked(&self, key: &K) -> bool
         ensures { IsTrue result ↔ IsBlanked K.cmp self.now key.now }
     {
         matches!(self.slot(key), Some(None))
     }
 
-    /// Whether a key has a place, with a row or blanked.
+    /// Tells whether a key has a place, with a row or blanked.
     pub fn has_place(&self, key: &K) -> bool
         ensures { IsTrue result ↔ IsSome (place K.cmp self.now key.now) }
     {
@@ -350,8 +350,8 @@ impl<K: ShelvedKey, R> Shelves<K, R> {
         slot.replace(row).unwrap()
     }
 
-    /// The row at a key, to be changed where it stands; a blanked key and one without a place have
-    /// none.
+    /// Gives the row at a key, to be changed where it stands; a blanked key and one without a place
+    /// have none.
     pub fn row_mut(&mut self, key: &K) -> Option<&mut R>
         ensures* writes_back { sem 𝓛
             (lends_row K.row R.row K.ShelvedKey self.entry key.now result) }
@@ -438,7 +438,7 @@ impl<K: ShelvedKey, R> Shelves<K, R> {
         sweep_each(&mut self.shelves);
     }
 
-    /// The rows with their keys, in the keys' order.
+    /// Gives the rows with their keys, in the keys' order.
     pub fn iter(&self) -> Rows<'_, K, R>
         ensures rows { result ≡ entries (rows_of K.cmp self.now) }
         ensures ordered { IsStrictlySortedBy K.cmp (keys_of result) }
@@ -447,7 +447,7 @@ impl<K: ShelvedKey, R> Shelves<K, R> {
         Rows { slots }
     }
 
-    /// The rows whose keys lie from `from` up to `to`, both included, in the keys' order.
+    /// Gives the rows whose keys lie from `from` up to `to`, both included, in the keys' order.
     pub fn range_inclusive(&self, from: K, to: K) -> Rows<'_, K, R>
     where
         K: Drop,
@@ -461,8 +461,8 @@ impl<K: ShelvedKey, R> Shelves<K, R> {
         rows_between(&self.shelves, start, end)
     }
 
-    /// The keys that have a place, in their order, each with its row or, where it was blanked,
-    /// `None`.
+    /// Gives the keys that have a place, in their order, each with its row or, where it was
+    /// blanked, `None`.
     pub fn places(&self) -> Candidates<'_, K, R>
         ensures { result ≡ self.now }
     {

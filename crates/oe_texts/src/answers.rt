@@ -13,7 +13,7 @@ use crate::replies::{lent_reply, query, reply};
 use oe_requests::{Answer, Condition, Refusal, Reply, ReplyRef, Verdict};
 use oe_values::Moment;
 
-/// `holds`, or `fails at <key columns>`.
+/// Appends `holds`, or `fails at <key columns>`.
 fn verdict(out: &mut Pending, verdict: &Verdict)
     requires { array_vec_len out.old + 52 ≤ SIZE }
     ensures items { out.new.items ≡ out.old.items ++ verdict_text verdict.now }
@@ -28,7 +28,7 @@ fn verdict(out: &mut Pending, verdict: &Verdict)
     }
 }
 
-/// `commit <moment> `.
+/// Appends `commit <moment> `.
 fn commit_at(out: &mut Pending, moment: Moment)
     requires { array_vec_len out.old + 28 ≤ SIZE }
     ensures items { out.new.items ≡ out.old.items
@@ -40,7 +40,7 @@ fn commit_at(out: &mut Pending, moment: Moment)
     out.push(b' ');
 }
 
-/// `commit <moment> <reply>`.
+/// Appends `commit <moment> <reply>`.
 fn commit(out: &mut Pending, moment: Moment, given: &Reply)
     requires { array_vec_len out.old + 1239 ≤ SIZE }
     ensures items { out.new.items ≡ out.old.items

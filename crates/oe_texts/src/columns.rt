@@ -10,7 +10,7 @@ use crate::pending::{Pending, SIZE, text};
 use oe_rows::Credit;
 use oe_values::{Balance, Carrier, Rate, Stamp};
 
-/// Two digits.
+/// Appends two digits.
 #[inline]
 fn two(out: &mut Pending, n: u8)
     requires room { array_vec_len out.old + 2 ≤ SIZE }
@@ -22,7 +22,7 @@ fn two(out: &mut Pending, n: u8)
     out.push(b'0' + n % 10);
 }
 
-/// A number below 100.
+/// Appends a number below 100.
 #[inline]
 fn below_hundred(out: &mut Pending, n: u8)
     requires room { array_vec_len out.old + length (decimal n) ≤ SIZE }
@@ -37,7 +37,7 @@ fn below_hundred(out: &mut Pending, n: u8)
     }
 }
 
-/// A number, two digits at a time from the left; up to four digits are written straight.
+/// Appends a number, two digits at a time from the left; up to four digits are written straight.
 fn digits(out: &mut Pending, n: u64)
     requires { array_vec_len out.old + length (decimal n) ≤ SIZE }
     ensures items { out.new.items ≡ out.old.items ++ decimal n }
@@ -54,7 +54,7 @@ fn digits(out: &mut Pending, n: u64)
     }
 }
 
-/// A number.
+/// Appends a number.
 #[tactic(auto, using(crate::proofs::DigitFacts::length_of_u64))]
 pub(crate) fn number(out: &mut Pending, n: u64)
     requires { array_vec_len out.old + 20 ≤ SIZE }
@@ -64,7 +64,7 @@ pub(crate) fn number(out: &mut Pending, n: u64)
     digits(out, n);
 }
 
-/// A number of a column.
+/// Appends a number of a column.
 #[tactic(auto, using(crate::proofs::DigitFacts::length_of_u32))]
 pub(crate) fn small(out: &mut Pending, n: u32)
     requires { array_vec_len out.old + 10 ≤ SIZE }
@@ -74,7 +74,7 @@ pub(crate) fn small(out: &mut Pending, n: u32)
     digits(out, u64::from(n));
 }
 
-/// Money with two decimals.
+/// Appends money with two decimals.
 pub(crate) fn money(out: &mut Pending, cents: u64)
     requires { array_vec_len out.old + 23 ≤ SIZE }
     ensures items { out.new.items ≡ out.old.items ++ money_text cents }
@@ -85,7 +85,7 @@ pub(crate) fn money(out: &mut Pending, cents: u64)
     two(out, (cents % 100) as u8);
 }
 
-/// Money with two decimals, and a minus sign where it is negative.
+/// Appends money with two decimals, and a minus sign where it is negative.
 pub(crate) fn balance(out: &mut Pending, balance: Balance)
     requires { array_vec_len out.old + 24 ≤ SIZE }
     ensures items { out.new.items ≡ out.old.items ++ balance_text balance }
@@ -98,7 +98,7 @@ pub(crate) fn balance(out: &mut Pending, balance: Balance)
     money(out, cents.unsigned_abs());
 }
 
-/// A rate with four decimals.
+/// Appends a rate with four decimals.
 pub(crate) fn rate(out: &mut Pending, rate: Rate)
     requires { array_vec_len out.old + 6 ≤ SIZE }
     ensures items { out.new.items ≡ out.old.items ++ rate_text rate }
@@ -110,7 +110,7 @@ pub(crate) fn rate(out: &mut Pending, rate: Rate)
     two(out, (rate % 100) as u8);
 }
 
-/// A stamp as `YYYY-MM-DDTHH:MM:SS`.
+/// Appends a stamp as `YYYY-MM-DDTHH:MM:SS`.
 pub(crate) fn stamp(out: &mut Pending, stamp: Stamp)
     requires { array_vec_len out.old + 19 ≤ SIZE }
     ensures items { out.new.items ≡ out.old.items ++ stamp_text stamp }
@@ -119,7 +119,7 @@ pub(crate) fn stamp(out: &mut Pending, stamp: Stamp)
     text(out, &stamp.bytes());
 }
 
-/// A stamp, or `-` for a null.
+/// Appends a stamp, or `-` for a null.
 pub(crate) fn nullable_stamp(out: &mut Pending, date: Option<Stamp>)
     requires { array_vec_len out.old + 19 ≤ SIZE }
     ensures items { out.new.items ≡ out.old.items ++ nullable stamp_text date }
@@ -131,7 +131,7 @@ pub(crate) fn nullable_stamp(out: &mut Pending, date: Option<Stamp>)
     }
 }
 
-/// A carrier, or `-` for a null.
+/// Appends a carrier, or `-` for a null.
 pub(crate) fn nullable_carrier(out: &mut Pending, carrier: Option<Carrier>)
     requires { array_vec_len out.old + 10 ≤ SIZE }
     ensures items { out.new.items ≡ out.old.items ++ nullable decimal carrier }
@@ -143,7 +143,7 @@ pub(crate) fn nullable_carrier(out: &mut Pending, carrier: Option<Carrier>)
     }
 }
 
-/// `GC` or `BC`.
+/// Appends `GC` or `BC`.
 pub(crate) fn credit(out: &mut Pending, credit: Credit)
     requires { array_vec_len out.old + 2 ≤ SIZE }
     ensures items { out.new.items ≡ out.old.items ++ credit_text credit }
@@ -155,7 +155,7 @@ pub(crate) fn credit(out: &mut Pending, credit: Credit)
     }
 }
 
-/// `1` or `0`, and the byte after it.
+/// Appends `1` or `0`, and the byte after it.
 pub(crate) fn flag_then(out: &mut Pending, flag: bool, end: u8)
     requires { array_vec_len out.old + 2 ≤ SIZE }
     ensures items { out.new.items ≡ out.old.items ++ (flag_text flag ++ end ∷ []) }
@@ -165,7 +165,7 @@ pub(crate) fn flag_then(out: &mut Pending, flag: bool, end: u8)
     out.push(end);
 }
 
-/// A number and the byte after it.
+/// Appends a number and the byte after it.
 pub(crate) fn small_then(out: &mut Pending, n: u32, end: u8)
     requires { array_vec_len out.old + 11 ≤ SIZE }
     ensures items { out.new.items ≡ out.old.items ++ (decimal n ++ end ∷ []) }
@@ -175,7 +175,7 @@ pub(crate) fn small_then(out: &mut Pending, n: u32, end: u8)
     out.push(end);
 }
 
-/// A text and the byte after it.
+/// Appends a text and the byte after it.
 pub(crate) fn text_then(out: &mut Pending, column: &str, end: u8)
     requires { array_vec_len out.old + length column.now + 1 ≤ SIZE }
     ensures items { out.new.items ≡ out.old.items ++ (column.now ++ end ∷ []) }
@@ -185,7 +185,7 @@ pub(crate) fn text_then(out: &mut Pending, column: &str, end: u8)
     out.push(end);
 }
 
-/// Money and the byte after it.
+/// Appends money and the byte after it.
 pub(crate) fn money_then(out: &mut Pending, cents: u64, end: u8)
     requires { array_vec_len out.old + 24 ≤ SIZE }
     ensures items { out.new.items ≡ out.old.items ++ (money_text cents ++ end ∷ []) }
@@ -195,7 +195,7 @@ pub(crate) fn money_then(out: &mut Pending, cents: u64, end: u8)
     out.push(end);
 }
 
-/// A balance and the byte after it.
+/// Appends a balance and the byte after it.
 pub(crate) fn balance_then(out: &mut Pending, cents: Balance, end: u8)
     requires { array_vec_len out.old + 25 ≤ SIZE }
     ensures items { out.new.items ≡ out.old.items ++ (balance_text cents ++ end ∷ []) }
@@ -205,7 +205,7 @@ pub(crate) fn balance_then(out: &mut Pending, cents: Balance, end: u8)
     out.push(end);
 }
 
-/// A rate and the byte after it.
+/// Appends a rate and the byte after it.
 pub(crate) fn rate_then(out: &mut Pending, column: Rate, end: u8)
     requires { array_vec_len out.old + 7 ≤ SIZE }
     ensures items { out.new.items ≡ out.old.items ++ (rate_text column ++ end ∷ []) }
@@ -215,7 +215,7 @@ pub(crate) fn rate_then(out: &mut Pending, column: Rate, end: u8)
     out.push(end);
 }
 
-/// A stamp and the byte after it.
+/// Appends a stamp and the byte after it.
 pub(crate) fn stamp_then(out: &mut Pending, column: Stamp, end: u8)
     requires { array_vec_len out.old + 20 ≤ SIZE }
     ensures items { out.new.items ≡ out.old.items ++ (stamp_text column ++ end ∷ []) }
@@ -225,7 +225,7 @@ pub(crate) fn stamp_then(out: &mut Pending, column: Stamp, end: u8)
     out.push(end);
 }
 
-/// A credit and the byte after it.
+/// Appends a credit and the byte after it.
 pub(crate) fn credit_then(out: &mut Pending, column: Credit, end: u8)
     requires { array_vec_len out.old + 3 ≤ SIZE }
     ensures items { out.new.items ≡ out.old.items ++ (credit_text column ++ end ∷ []) }
@@ -235,7 +235,7 @@ pub(crate) fn credit_then(out: &mut Pending, column: Credit, end: u8)
     out.push(end);
 }
 
-/// A stamp or `-`, and the byte after it.
+/// Appends a stamp or `-`, and the byte after it.
 pub(crate) fn nullable_stamp_then(out: &mut Pending, column: Option<Stamp>, end: u8)
     requires { array_vec_len out.old + 20 ≤ SIZE }
     ensures items { out.new.items ≡ out.old.items ++ (nullable stamp_text column ++ end ∷ []) }
@@ -245,7 +245,7 @@ pub(crate) fn nullable_stamp_then(out: &mut Pending, column: Option<Stamp>, end:
     out.push(end);
 }
 
-/// A carrier or `-`, and the byte after it.
+/// Appends a carrier or `-`, and the byte after it.
 pub(crate) fn nullable_carrier_then(out: &mut Pending, column: Option<Carrier>, end: u8)
     requires { array_vec_len out.old + 11 ≤ SIZE }
     ensures items { out.new.items ≡ out.old.items ++ (nullable decimal column ++ end ∷ []) }

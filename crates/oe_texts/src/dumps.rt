@@ -18,7 +18,7 @@ use oe_rows::{
 };
 use oe_values::Text;
 
-/// The five columns of an address.
+/// Appends the five columns of an address.
 fn address(out: &mut Pending, address: &Address)
     requires { array_vec_len out.old + 76 ≤ SIZE }
     ensures items { out.new.items ≡ out.old.items ++ tabbed (address_columns address.now) }
@@ -58,7 +58,7 @@ pub fn district_row(out: &mut Pending, key: DistrictKey, row: &District)
     small_then(out, row.next_order.get(), b'\n');
 }
 
-/// C_FIRST, C_MIDDLE and C_LAST.
+/// Appends C_FIRST, C_MIDDLE and C_LAST.
 fn customer_name(out: &mut Pending, name: &CustomerName)
     requires { array_vec_len out.old + 37 ≤ SIZE }
     ensures items { out.new.items ≡ out.old.items ++ tabbed (name_columns name.now) }
@@ -69,7 +69,7 @@ fn customer_name(out: &mut Pending, name: &CustomerName)
     text_then(out, name.last.as_str(), b'\t');
 }
 
-/// The money and the counts of a customer.
+/// Appends the money and the counts of a customer.
 fn account(out: &mut Pending, account: Account)
     requires { array_vec_len out.old + 102 ≤ SIZE }
     ensures items { out.new.items ≡ out.old.items ++ tabbed (account_columns account) }
@@ -83,7 +83,7 @@ fn account(out: &mut Pending, account: Account)
     small_then(out, account.delivery_count.get(), b'\t');
 }
 
-/// C_PHONE, C_SINCE and C_CREDIT.
+/// Appends C_PHONE, C_SINCE and C_CREDIT.
 fn standing(out: &mut Pending, row: &Customer)
     requires { array_vec_len out.old + 40 ≤ SIZE }
     ensures items { out.new.items ≡ out.old.items ++ tabbed (standing_columns row.now) }
@@ -108,7 +108,7 @@ pub fn customer_row(out: &mut Pending, key: CustomerKey, row: &Customer)
     text_then(out, row.data.as_str(), b'\n');
 }
 
-/// H_C_ID, H_C_D_ID, H_C_W_ID, H_D_ID and H_W_ID.
+/// Appends H_C_ID, H_C_D_ID, H_C_W_ID, H_D_ID and H_W_ID.
 fn references(out: &mut Pending, customer: CustomerKey, district: DistrictKey)
     requires { array_vec_len out.old + 55 ≤ SIZE }
     ensures items { out.new.items
@@ -159,7 +159,7 @@ pub fn order_row(out: &mut Pending, key: OrderKey, row: &Order)
     flag_then(out, row.all_local, b'\n');
 }
 
-/// OL_I_ID, OL_SUPPLY_W_ID and OL_DELIVERY_D.
+/// Appends OL_I_ID, OL_SUPPLY_W_ID and OL_DELIVERY_D.
 fn supply(out: &mut Pending, row: &OrderLine)
     requires { array_vec_len out.old + 42 ≤ SIZE }
     ensures items { out.new.items ≡ out.old.items ++ tabbed (supply_columns row.now) }
@@ -196,7 +196,7 @@ pub fn item_row(out: &mut Pending, key: ItemKey, row: &Item)
     text_then(out, row.data.as_str(), b'\n');
 }
 
-/// S_DIST_01 to S_DIST_10.
+/// Appends S_DIST_01 to S_DIST_10.
 fn dist_infos(out: &mut Pending, infos: &[Text<24, 24>])
     requires ten { length infos.now ≤ 10 }
     requires room { array_vec_len out.old + 250 ≤ SIZE }
@@ -208,7 +208,7 @@ fn dist_infos(out: &mut Pending, infos: &[Text<24, 24>])
     }
 }
 
-/// S_YTD, S_ORDER_CNT and S_REMOTE_CNT.
+/// Appends S_YTD, S_ORDER_CNT and S_REMOTE_CNT.
 fn counts(out: &mut Pending, row: &Stock)
     requires { array_vec_len out.old + 33 ≤ SIZE }
     ensures items { out.new.items ≡ out.old.items ++ tabbed (count_columns row.now) }

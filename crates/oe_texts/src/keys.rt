@@ -13,7 +13,7 @@ use oe_rows::{
     StockKey,
 };
 
-/// D_W_ID, D_ID.
+/// Appends D_W_ID, D_ID.
 fn district(out: &mut Pending, key: DistrictKey, between: u8)
     requires { array_vec_len out.old + 21 ≤ SIZE }
     ensures items { out.new.items ≡ out.old.items
@@ -24,7 +24,7 @@ fn district(out: &mut Pending, key: DistrictKey, between: u8)
     small(out, key.district.get());
 }
 
-/// C_W_ID, C_D_ID, C_ID.
+/// Appends C_W_ID, C_D_ID, C_ID.
 fn customer(out: &mut Pending, key: CustomerKey, between: u8)
     requires { array_vec_len out.old + 32 ≤ SIZE }
     ensures items { out.new.items ≡ out.old.items
@@ -36,7 +36,7 @@ fn customer(out: &mut Pending, key: CustomerKey, between: u8)
     small(out, key.customer.get());
 }
 
-/// The terminal, the transaction's number, the row's ordinal.
+/// Appends the terminal, the transaction's number, the row's ordinal.
 fn history(out: &mut Pending, key: HistoryKey, between: u8)
     requires { array_vec_len out.old + 32 ≤ SIZE }
     ensures items { out.new.items ≡ out.old.items
@@ -48,7 +48,7 @@ fn history(out: &mut Pending, key: HistoryKey, between: u8)
     small(out, key.ordinal.get());
 }
 
-/// NO_W_ID, NO_D_ID, NO_O_ID: those of its order.
+/// Appends NO_W_ID, NO_D_ID and NO_O_ID.
 fn new_order(out: &mut Pending, key: NewOrderKey, between: u8)
     requires { array_vec_len out.old + 32 ≤ SIZE }
     ensures items { out.new.items ≡ out.old.items
@@ -58,7 +58,7 @@ fn new_order(out: &mut Pending, key: NewOrderKey, between: u8)
     order(out, key.order_key(), between);
 }
 
-/// O_W_ID, O_D_ID, O_ID.
+/// Appends O_W_ID, O_D_ID, O_ID.
 fn order(out: &mut Pending, key: OrderKey, between: u8)
     requires { array_vec_len out.old + 32 ≤ SIZE }
     ensures items { out.new.items ≡ out.old.items
@@ -70,7 +70,7 @@ fn order(out: &mut Pending, key: OrderKey, between: u8)
     small(out, key.order.get());
 }
 
-/// OL_W_ID, OL_D_ID, OL_O_ID, OL_NUMBER.
+/// Appends OL_W_ID, OL_D_ID, OL_O_ID, OL_NUMBER.
 fn order_line(out: &mut Pending, key: OrderLineKey, between: u8)
     requires { array_vec_len out.old + 43 ≤ SIZE }
     ensures items { out.new.items ≡ out.old.items
@@ -83,7 +83,7 @@ fn order_line(out: &mut Pending, key: OrderLineKey, between: u8)
     small(out, key.number.get());
 }
 
-/// S_W_ID, S_I_ID.
+/// Appends S_W_ID, S_I_ID.
 fn stock(out: &mut Pending, key: StockKey, between: u8)
     requires { array_vec_len out.old + 21 ≤ SIZE }
     ensures items { out.new.items ≡ out.old.items
@@ -94,7 +94,7 @@ fn stock(out: &mut Pending, key: StockKey, between: u8)
     small(out, key.item.get());
 }
 
-/// A key's columns, parted by that byte.
+/// Appends a key's columns, parted by that byte.
 pub(crate) fn columns(out: &mut Pending, key: &Key, between: u8)
     requires { array_vec_len out.old + 43 ≤ SIZE }
     ensures items { out.new.items ≡ out.old.items ++ join_with_byte between (key_texts key.now) }
@@ -113,7 +113,7 @@ pub(crate) fn columns(out: &mut Pending, key: &Key, between: u8)
     }
 }
 
-/// A key's columns, with a tab byte after each.
+/// Appends a key's columns, with a tab byte after each.
 pub(crate) fn tabbed(out: &mut Pending, key: &Key)
     requires { array_vec_len out.old + 44 ≤ SIZE }
     ensures items { out.new.items ≡ out.old.items ++ tabbed (key_texts key.now) }
@@ -123,7 +123,7 @@ pub(crate) fn tabbed(out: &mut Pending, key: &Key)
     out.push(b'\t');
 }
 
-/// The name of a key's table, which has at most 9 letters.
+/// Appends the name of a key's table, which has at most 9 letters.
 fn table(out: &mut Pending, key: &Key)
     requires { array_vec_len out.old + 9 ≤ SIZE }
     ensures items { out.new.items ≡ out.old.items ++ table_name (table_of key.now) }
@@ -132,7 +132,7 @@ fn table(out: &mut Pending, key: &Key)
     text(out, key.table().name().as_bytes());
 }
 
-/// A row by its table and its key.
+/// Appends a row by its table and its key.
 pub(crate) fn row(out: &mut Pending, key: &Key)
     requires { array_vec_len out.old + 53 ≤ SIZE }
     ensures items { out.new.items ≡ out.old.items ++ key_text key.now }
@@ -143,7 +143,7 @@ pub(crate) fn row(out: &mut Pending, key: &Key)
     columns(out, key, b' ');
 }
 
-/// The name of a lock.
+/// Appends the name of a lock.
 pub(crate) fn name(out: &mut Pending, name: &Name)
     requires { array_vec_len out.old + 43 ≤ SIZE }
     ensures items { out.new.items ≡ out.old.items ++ name_text name.now }

@@ -13,7 +13,7 @@ pub const LONGEST: usize = 1280;
 /// Bytes that wait to be written.
 pub type Pending = ArrayVec<u8, SIZE>;
 
-/// Whether the longest line still fits.
+/// Tells whether the longest line still fits.
 pub fn has_room(out: &Pending) -> bool
     ensures { IsTrue result ↔ (array_vec_len out.now + LONGEST ≤ SIZE) }
 {

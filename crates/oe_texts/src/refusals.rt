@@ -8,7 +8,7 @@ use crate::keys::{name, row};
 use crate::pending::{Pending, SIZE, text};
 use oe_requests::Refusal;
 
-/// A refusal's name, and what it tells.
+/// Appends a refusal's name, and what it tells.
 fn told(out: &mut Pending, refusal: &Refusal)
     requires { array_vec_len out.old + 70 ≤ SIZE }
     ensures items { out.new.items ≡ out.old.items ++ refusal_text refusal.now }
@@ -63,7 +63,7 @@ fn told(out: &mut Pending, refusal: &Refusal)
     }
 }
 
-/// `error <number> <text>`.
+/// Appends `error <number> <text>`.
 pub(crate) fn error(out: &mut Pending, refusal: &Refusal)
     requires { array_vec_len out.old + 90 ≤ SIZE }
     ensures items { out.new.items ≡ out.old.items ++ error_text refusal.now }

@@ -17,7 +17,7 @@ use oe_requests::{
 use oe_rows::Credit;
 use oe_values::{Cents, OrderNumber, Text};
 
-/// `payment <C_ID> <C_LAST> <C_CREDIT> <new C_BALANCE>`.
+/// Appends `payment <C_ID> <C_LAST> <C_CREDIT> <new C_BALANCE>`.
 #[inline(always)]
 fn payment(out: &mut Pending, reply: &PaymentReply)
     requires { array_vec_len out.old + 63 ≤ SIZE }
@@ -31,7 +31,7 @@ fn payment(out: &mut Pending, reply: &PaymentReply)
     balance(out, reply.balance);
 }
 
-/// `B` or `G`.
+/// Appends `B` or `G`.
 fn brand(out: &mut Pending, brand: Brand)
     requires { array_vec_len out.old + 1 ≤ SIZE }
     ensures items { out.new.items ≡ out.old.items ++ brand_text brand }
@@ -43,7 +43,7 @@ fn brand(out: &mut Pending, brand: Brand)
     });
 }
 
-/// ` <B or G>:<new S_QUANTITY>:<OL_AMOUNT>`.
+/// Appends ` <B or G>:<new S_QUANTITY>:<OL_AMOUNT>`.
 fn line(out: &mut Pending, line: LineReply)
     requires { array_vec_len out.old + 37 ≤ SIZE }
     ensures items { out.new.items ≡ out.old.items ++ line_text line }
@@ -56,7 +56,7 @@ fn line(out: &mut Pending, line: LineReply)
     money(out, line.amount.cents());
 }
 
-/// The lines of an order.
+/// Appends the lines of an order.
 fn lines(out: &mut Pending, replies: &[LineReply])
     requires few { length replies.now ≤ 15 }
     requires room { array_vec_len out.old + 37 * length replies.now ≤ SIZE }
@@ -68,7 +68,7 @@ fn lines(out: &mut Pending, replies: &[LineReply])
     }
 }
 
-/// `neworder <O_ID> <C_LAST> <C_CREDIT> <total>`, and each line.
+/// Appends `neworder <O_ID> <C_LAST> <C_CREDIT> <total>`, and each line.
 fn new_order(
     out: &mut Pending,
     order: OrderNumber,
@@ -90,7 +90,7 @@ fn new_order(
     lines(out, done.as_slice());
 }
 
-/// `delivery <O_ID> <C_ID> <sum>`, or `delivery skipped`.
+/// Appends `delivery <O_ID> <C_ID> <sum>`, or `delivery skipped`.
 fn delivery(out: &mut Pending, delivery: DistrictDelivery)
     requires { array_vec_len out.old + 54 ≤ SIZE }
     ensures items { out.new.items ≡ out.old.items ++ delivery_text delivery }
@@ -107,7 +107,7 @@ fn delivery(out: &mut Pending, delivery: DistrictDelivery)
     }
 }
 
-/// `<O_ID>:<C_ID>:<sum>`, or `skipped`.
+/// Appends `<O_ID>:<C_ID>:<sum>`, or `skipped`.
 fn district(out: &mut Pending, delivery: DistrictDelivery)
     requires { array_vec_len out.old + 45 ≤ SIZE }
     ensures items { out.new.items ≡ out.old.items ++ district_text delivery }
@@ -123,7 +123,7 @@ fn district(out: &mut Pending, delivery: DistrictDelivery)
     }
 }
 
-/// ` <d>:<what was done there>` of each district, from 1 on.
+/// Appends ` <d>:<what was done there>` of each district, from 1 on.
 fn districts(out: &mut Pending, deliveries: &[DistrictDelivery])
     requires ten { length deliveries.now ≤ 10 }
     requires room { array_vec_len out.old + 570 ≤ SIZE }
@@ -139,7 +139,7 @@ fn districts(out: &mut Pending, deliveries: &[DistrictDelivery])
     }
 }
 
-/// `deliveries`, and what was done in each district.
+/// Appends `deliveries`, and what was done in each district.
 fn deliveries(out: &mut Pending, reply: &DistrictDeliveries)
     requires { array_vec_len out.old + 580 ≤ SIZE }
     ensures items { out.new.items
@@ -150,7 +150,7 @@ fn deliveries(out: &mut Pending, reply: &DistrictDeliveries)
     districts(out, reply.as_slice());
 }
 
-/// `rename <C_ID> <C_LAST> <C_FIRST>`.
+/// Appends `rename <C_ID> <C_LAST> <C_FIRST>`.
 fn rename(out: &mut Pending, reply: &RenameReply)
     requires { array_vec_len out.old + 51 ≤ SIZE }
     ensures items { out.new.items ≡ out.old.items ++ rename_text reply.now }
@@ -162,7 +162,7 @@ fn rename(out: &mut Pending, reply: &RenameReply)
     text(out, reply.first.as_str().as_bytes());
 }
 
-/// What a transaction replies when it has committed.
+/// Appends what a transaction replies when it has committed.
 pub(crate) fn reply(out: &mut Pending, reply: &Reply)
     requires { array_vec_len out.old + 618 ≤ SIZE }
     ensures items { out.new.items ≡ out.old.items ++ reply_text reply.now }
@@ -184,7 +184,7 @@ pub(crate) fn reply(out: &mut Pending, reply: &Reply)
     }
 }
 
-/// The same, of one that is lent.
+/// Appends a reply that is lent.
 pub(crate) fn lent_reply(out: &mut Pending, reply: &ReplyRef)
     requires { array_vec_len out.old + 618 ≤ SIZE }
     ensures items { out.new.items ≡ out.old.items ++ reply_text (told_reply reply.now) }
@@ -204,7 +204,7 @@ pub(crate) fn lent_reply(out: &mut Pending, reply: &ReplyRef)
     }
 }
 
-/// ` <supply>:<item>:<quantity>:<amount>:<delivery date>`.
+/// Appends ` <supply>:<item>:<quantity>:<amount>:<delivery date>`.
 fn status_line(out: &mut Pending, line: StatusLine)
     requires { array_vec_len out.old + 77 ≤ SIZE }
     ensures items { out.new.items ≡ out.old.items ++ status_line_text line }
@@ -218,7 +218,7 @@ fn status_line(out: &mut Pending, line: StatusLine)
     nullable_stamp(out, line.delivery);
 }
 
-/// The lines of a customer's newest order.
+/// Appends the lines of a customer's newest order.
 fn status_lines(out: &mut Pending, lines: &[StatusLine])
     requires few { length lines.now ≤ 15 }
     requires room { array_vec_len out.old + 77 * length lines.now ≤ SIZE }
@@ -230,7 +230,7 @@ fn status_lines(out: &mut Pending, lines: &[StatusLine])
     }
 }
 
-/// `<O_ID> <O_ENTRY_D> <carrier>`, and each line.
+/// Appends `<O_ID> <O_ENTRY_D> <carrier>`, and each line.
 fn order(out: &mut Pending, order: &OrderStatus)
     requires { array_vec_len out.old + 1196 ≤ SIZE }
     ensures items { out.new.items ≡ out.old.items ++ order_text (Some order.now) }
@@ -242,7 +242,7 @@ fn order(out: &mut Pending, order: &OrderStatus)
     status_lines(out, order.lines.as_slice());
 }
 
-/// `status <C_ID> <C_BALANCE>`, and the order or `no order`.
+/// Appends `status <C_ID> <C_BALANCE>`, and the order or `no order`.
 fn status(out: &mut Pending, reply: &StatusReply)
     requires { array_vec_len out.old + 1239 ≤ SIZE }
     ensures items { out.new.items ≡ out.old.items ++ query_text (QueryReply.Status reply.now) }
@@ -257,7 +257,7 @@ fn status(out: &mut Pending, reply: &StatusReply)
     }
 }
 
-/// What a query replies.
+/// Appends what a query replies.
 pub(crate) fn query(out: &mut Pending, reply: &QueryReply)
     requires { array_vec_len out.old + 1239 ≤ SIZE }
     ensures items { out.new.items ≡ out.old.items ++ query_text reply.now }

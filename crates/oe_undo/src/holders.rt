@@ -23,7 +23,7 @@ pub struct Link {
 }
 
 impl Holder {
-    /// The link that a previous one is in a record of this holder.
+    /// Gives the link that a previous one is in a record of this holder.
     pub(crate) fn link_from(self, previous: Previous) -> Option<Link>
         ensures { result ≡ link_from self previous }
     {
@@ -42,7 +42,7 @@ impl Holder {
 }
 
 impl Link {
-    /// What a record has as previous that is pushed where its key has this link.
+    /// Gives what a record has as previous, where its key has this link.
     fn previous(&self) -> Previous
         ensures { result ≡ previous_by self.now.holder self.now.address }
     {
@@ -54,7 +54,7 @@ impl Link {
     }
 }
 
-/// The same, where the key has a link or none.
+/// Gives what a record has as previous, where the key has a link or none.
 pub(crate) fn previous_of(link: Option<Link>) -> Previous
     ensures { result ≡ previous_of link }
 {

@@ -139,8 +139,8 @@ fn is_not_above<K: NumberedKey>(own: &K, key: &K) -> bool
     own.shelf() == key.shelf() && key.number() <= own.number()
 }
 
-/// Whether the second key gets a place where the first does: it is that key, or one before it on
-/// its shelf.
+/// Tells whether the second key gets a place where the first does: it is that key, or one before it
+/// on its shelf.
 pub fn comes_with(own: &Key, key: &Key) -> bool
     ensures { result ≡ comes_with own.now key.now }
 {
@@ -163,7 +163,7 @@ impl Links {
     ghost use Rattle.std.specs.Option.{option_copied_mut};
     ghost use Rattle.oe_undo.specs.LinksLend.{lends_link};
 
-    /// No place, which takes no memory.
+    /// Makes links without a place, and takes no memory.
     pub fn new(alloc: Global) -> Links
         ensures { result ≡ no_links }
     {
@@ -180,7 +180,7 @@ impl Links {
         }
     }
 
-    /// The link of a key, if it has one.
+    /// Gives the link of a key, if it has one.
     pub fn link(&self, key: &Key) -> Option<OwnedLink>
         ensures { result ≡ links_of self.now key.now }
     {
@@ -218,8 +218,8 @@ impl Links {
         }
     }
 
-    /// The place of a key that has one, with the key's link in it, to be set there. It takes no
-    /// memory.
+    /// Gives the place of a key that has one, with the key's link in it, to be set there. It takes
+    /// no memory.
     #[inline(always)]
     pub fn place_mut(&mut self, key: &Key) -> Option<&mut Option<OwnedLink>>
         ensures* writes_back { sem 𝓛 (lends_link self.entry key.now result) }

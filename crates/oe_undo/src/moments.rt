@@ -30,7 +30,7 @@ impl Model for TerminalMoments {
 }
 
 impl TerminalMoments {
-    /// None.
+    /// Makes an empty list.
     fn new(alloc: Global) -> Self
         ensures { result.moments ≡ [] }
     {
@@ -89,7 +89,7 @@ impl TerminalMoments {
     }
 }
 
-/// The terminals before anything was committed; `NoMemory` where memory was refused.
+/// Makes the terminals before anything was committed; `NoMemory` where memory was refused.
 pub(crate) fn idle_moments(alloc: Global) -> Result<PerTerminal<TerminalMoments>, NoMemory>
     ensures { IfOk result AreIdle }
 {

@@ -10,7 +10,8 @@ use oe_values::ShelvedKey;
 pub(crate) trait NumberedKey: ShelvedKey {
     ghost number_of: { Self → Option ℕ };
 
-    /// The number, from 0 on. The numbers of keys that follow one another are near to one another.
+    /// Gives the number, from 0 on. The numbers of keys that follow one another are near to one
+    /// another.
     fn number(&self) -> usize
         ensures number { number_of self.now ≡ Some result }
         ensures few { result < 4_294_967_296 };

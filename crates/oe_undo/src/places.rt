@@ -70,7 +70,7 @@ fn reach_in<T: Drop>(
 impl<T> Places<T> {
     ghost use Rattle.oe_undo.specs.PlacesLends.{lends_place};
 
-    /// No place, which takes no memory.
+    /// Makes no place, and takes no memory.
     pub(crate) fn new(alloc: Global) -> Self
         ensures { result ≡ [] }
     {
@@ -93,7 +93,7 @@ impl<T> Places<T> {
         }
     }
 
-    /// A place, where there is such a one, to be set there. It takes no memory.
+    /// Gives a place, where there is such a one, to be set there. It takes no memory.
     #[inline(always)]
     pub(crate) fn place_mut(&mut self, shelf: usize, number: usize) -> Option<&mut Option<T>>
     where

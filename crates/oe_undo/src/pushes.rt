@@ -137,8 +137,8 @@ impl Undo {
         let _taken = self.take_newest(segment);
     }
 
-    /// The newest record of an open segment, which is taken off as by `pop`; none exactly where it
-    /// has none.
+    /// Gives the newest record of an open segment, which is taken off as by `pop`; none exactly
+    /// where it has none.
     pub fn take_newest(&mut self, segment: Segment) -> Option<OwnRecord>
         requires { IsSome (active_at self.old.log segment) }
         ensures newest { option_map record_of_own result

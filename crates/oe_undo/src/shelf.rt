@@ -59,7 +59,7 @@ fn meet<T: Drop>(met: &mut Vec<Option<T>>, number: usize)
 impl<T> PlaceShelf<T> {
     ghost use Rattle.oe_undo.specs.ShelfLends.{lends_place};
 
-    /// No place, which takes no memory.
+    /// Makes no place, and takes no memory.
     pub(crate) fn new(alloc: Global) -> Self
         ensures { result ≡ [] }
     {
@@ -83,7 +83,7 @@ impl<T> PlaceShelf<T> {
         }
     }
 
-    /// The place of that number, where there is one, to be set there. It takes no memory.
+    /// Gives the place of that number, where there is one, to be set there. It takes no memory.
     #[inline(always)]
     pub(crate) fn place_mut(&mut self, number: usize) -> Option<&mut Option<T>>
     where

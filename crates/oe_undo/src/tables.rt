@@ -12,7 +12,7 @@ use crate::numbers::NumberedKey;
 use crate::places::Places;
 use oe_values::NoMemory;
 
-/// The link of a key, if it has one.
+/// Gives the link of a key, if it has one.
 #[inline(always)]
 pub(crate) fn link_in<K: NumberedKey>(links: &Places<OwnedLink>, key: &K) -> Option<OwnedLink>
     ensures { result ≡ link_in (numbered_at links.now (K.shelf_of key.now) (K.number_of key.now)) }
@@ -20,7 +20,7 @@ pub(crate) fn link_in<K: NumberedKey>(links: &Places<OwnedLink>, key: &K) -> Opt
     links.content(key.shelf(), key.number())
 }
 
-/// The place of a key that has one, to be set there.
+/// Gives the place of a key that has one, to be set there.
 #[inline(always)]
 pub(crate) fn place_in<'a, K: NumberedKey>(
     links: &'a mut Places<OwnedLink>,

@@ -52,7 +52,8 @@ impl Model for Undo {
     ghost invariant = { λ u. IsLinked u.segments (links_of u.links) u.moments };
 }
 
-/// What became of a transaction that has committed or is open; none where its commit was given up.
+/// Tells what became of a transaction that has committed or is open; none where its commit was
+/// given up.
 #[inline(always)]
 fn holder_in(
     segments: &Log,
@@ -74,7 +75,7 @@ fn holder_in(
     }
 }
 
-/// A key's link, if it has one, with what became of its transaction by now.
+/// Gives a key's link, if it has one, with what became of its transaction by now.
 #[inline(always)]
 pub(crate) fn followed_in(
     segments: &Log,
@@ -117,7 +118,7 @@ impl Undo {
         drop(self);
     }
 
-    /// The segments alone.
+    /// Gives the segments alone.
     #[inline(always)]
     pub fn segments(&self) -> &Log
         ensures { result.now ≡ self.now.log }
@@ -125,7 +126,7 @@ impl Undo {
         &self.segments
     }
 
-    /// The link of a key to its newest record, if it has a record.
+    /// Gives the link of a key to its newest record, if it has a record.
     #[inline(always)]
     pub fn link(&self, key: &Key) -> Option<Link>
         ensures { result ≡ seen self.now key.now }
@@ -133,8 +134,8 @@ impl Undo {
         followed_in(&self.segments, &self.moments, self.links.link(key))
     }
 
-    /// Each key's link leads along the key's records. It does nothing: it is for proofs above,
-    /// which see no invariant.
+    /// States that each key's link leads along the key's records. It does nothing: it is for proofs
+    /// above, which see no invariant.
     #[inline(always)]
     pub fn is_chained(&self)
         ensures whole { IsWhole self.now.log }
@@ -191,8 +192,8 @@ impl Undo {
         self.segments.drop_segment(segment)
     }
 
-    /// The link to where a previous one leads, which a record of an open segment has; none where
-    /// its commit was given up.
+    /// Gives the link to where a previous one leads, which a record of an open segment has; none
+    /// where its commit was given up.
     pub(crate) fn owned(&self, segment: Segment, previous: Previous) -> Option<OwnedLink>
         requires open { IsSome (active_at self.now.log segment) }
         requires made { IsMade self.now.log (link_from (Open segment) previous) }

@@ -15,8 +15,8 @@ use oe_log::Ticks;
 use oe_rows::Key;
 use oe_values::Moment;
 
-/// Whether a record of this holder is put back on the way to the moment: it is open, or of a later
-/// commit.
+/// Tells whether a record of this holder is put back on the way to the moment: it is open, or of a
+/// later commit.
 fn is_later(holder: &Holder, moment: Moment) -> bool
     ensures { result ≡ is_later moment holder.now }
 {
@@ -27,8 +27,8 @@ fn is_later(holder: &Holder, moment: Moment) -> bool
 }
 
 impl Undo {
-    /// The record where a link leads, as it lies in its holder's segment, with what leads to the
-    /// previous one of its key. It ticks once. No row is read, and no memory is taken.
+    /// Gives the record where a link leads, as it lies in its holder's segment, with what leads to
+    /// the previous one of its key. It ticks once. No row is read, and no memory is taken.
     pub fn read_record(&self, link: &Link, ticks: &mut Ticks) -> (Previous, StoredRecord<'_>)
         requires { HasAddress (records_by self.now.log link.now.holder) link.now.address }
         ensures record { IsRecordAt (records_by self.now.log link.now.holder) link.now.address

@@ -3,7 +3,7 @@ ghost use Rattle.std.specs.Prelude.{◌≡◌, ◌<◌, ◌^◌, IfSome};
 ghost use Rattle.std.specs.Option.{option_map};
 ghost use Rattle.oe_values.specs.Front.{after_of, pair_of, digits_from, decimal_of};
 
-/// What follows `front`, where the text begins with it.
+/// Gives what follows `front`, where the text begins with it.
 #[inline]
 pub fn after<'a>(text: &'a [u8], front: &[u8]) -> Option<&'a [u8]>
     ensures { option_map (λ rest. rest.now) result ≡ after_of front.now text.now }
@@ -19,7 +19,7 @@ pub fn after<'a>(text: &'a [u8], front: &[u8]) -> Option<&'a [u8]>
     Some(&text[front.len()..])
 }
 
-/// The number below 100 that the first two bytes say as digits, and what follows them.
+/// Gives the number below 100 that the first two bytes say as digits, and what follows them.
 #[inline]
 #[tactic(auto, unfolding(crate::specs::Front::pair_of))]
 pub fn pair(text: &[u8]) -> Option<(u8, &[u8])>
@@ -34,7 +34,7 @@ pub fn pair(text: &[u8]) -> Option<(u8, &[u8])>
     Some(((*tens - b'0') * 10 + (*ones - b'0'), rest))
 }
 
-/// The number that goes on with the digits at the front, and what follows them.
+/// Gives the number that goes on with the digits at the front, and what follows them.
 #[inline]
 fn digits_from(start: u64, text: &[u8]) -> Option<(u64, &[u8])>
     requires { start < 10 ^ 15 }
@@ -54,8 +54,8 @@ fn digits_from(start: u64, text: &[u8]) -> Option<(u64, &[u8])>
     Some((value, &text[text.len()..]))
 }
 
-/// The number of at most 15 digits, without a leading zero, at the front, and what follows its
-/// digits. After a 0 that may be a digit.
+/// Gives the number of at most 15 digits, without a leading zero, at the front, and what follows
+/// its digits. After a 0 that may be a digit.
 #[inline]
 #[tactic(auto, unfolding(crate::specs::Front::decimal_of))]
 pub fn decimal(text: &[u8]) -> Option<(u64, &[u8])>

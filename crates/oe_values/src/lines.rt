@@ -24,7 +24,7 @@ impl<T, const LEAST: usize, const MOST: usize> Model for Lines<T, LEAST, MOST> {
 }
 
 impl<T: Copy + Default, const LEAST: usize, const MOST: usize> Lines<T, LEAST, MOST> {
-    /// The list, where its length is in the range.
+    /// Makes the list, where its length is in the range.
     pub fn read(lines: &[T]) -> Option<Self>
         ensures variant { IsSome result ↔ ((LEAST ≤ length lines.now) × (length lines.now ≤ MOST)) }
         ensures value { IfSome result (λ l. l ≡ lines.now) }
@@ -39,7 +39,7 @@ impl<T: Copy + Default, const LEAST: usize, const MOST: usize> Lines<T, LEAST, M
         }
     }
 
-    /// The list.
+    /// Gives the list.
     #[inline]
     pub fn as_slice(&self) -> &[T]
         ensures value { result.now ≡ self.now }
@@ -58,7 +58,7 @@ impl<T: Copy + Default, const LEAST: usize, const MOST: usize> Lines<T, LEAST, M
         self.lines.push(line);
     }
 
-    /// A copy, which takes no memory.
+    /// Copies the value, and takes no memory.
     pub fn copied(&self) -> Self
         ensures { result ≡ self.now }
     {
@@ -71,7 +71,7 @@ impl<T: Copy + Default, const LEAST: usize, const MOST: usize> Lines<T, LEAST, M
 }
 
 impl<T: Copy + Default, const MOST: usize> Lines<T, 0, MOST> {
-    /// No value.
+    /// Gives no value.
     pub fn new() -> Self
         ensures { result ≡ [] }
     {

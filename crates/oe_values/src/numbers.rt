@@ -26,7 +26,7 @@ impl<const LOW: u32, const HIGH: u32> Model for Number<LOW, HIGH> {
 }
 
 impl<const LOW: u32, const HIGH: u32> Number<LOW, HIGH> {
-    /// That number, where it is in the range.
+    /// Gives that number, where it is in the range.
     #[inline]
     pub fn new(value: u32) -> Option<Self>
         ensures variant { IsSome result ↔ ((LOW ≤ value) × (value ≤ HIGH)) }
@@ -38,7 +38,7 @@ impl<const LOW: u32, const HIGH: u32> Number<LOW, HIGH> {
         Some(Number { value })
     }
 
-    /// The number.
+    /// Gives the number.
     #[inline]
     pub fn get(self) -> u32
         ensures value { result ≡ self.entry }
@@ -144,7 +144,7 @@ impl<const MOST: u64> Model for Amount<MOST> {
 }
 
 impl<const MOST: u64> Amount<MOST> {
-    /// That many cents, where they are in the range.
+    /// Gives that many cents, where they are in the range.
     #[inline]
     pub fn new(cents: u64) -> Option<Self>
         ensures variant { IsSome result ↔ (cents ≤ MOST) }
@@ -156,7 +156,7 @@ impl<const MOST: u64> Amount<MOST> {
         Some(Amount { cents })
     }
 
-    /// The cents.
+    /// Gives the cents.
     #[inline]
     pub fn cents(self) -> u64
         ensures value { result ≡ self.entry }
@@ -192,7 +192,7 @@ impl Model for Balance {
 }
 
 impl Balance {
-    /// That many cents, where they are in the range.
+    /// Gives that many cents, where they are in the range.
     #[inline]
     pub fn new(cents: i64) -> Option<Self>
         ensures variant { IsSome result ↔ IsWithin 999_999_999_999 cents }
@@ -204,7 +204,7 @@ impl Balance {
         Some(Balance { balance: cents })
     }
 
-    /// The cents.
+    /// Gives the cents.
     #[inline]
     pub fn cents(self) -> i64
         ensures value { result ≡ self }
@@ -229,7 +229,7 @@ impl Model for Cents {
 }
 
 impl Cents {
-    /// That many cents.
+    /// Gives that many cents.
     #[inline]
     pub fn new(cents: u64) -> Self
         ensures { result ≡ cents }
@@ -237,7 +237,7 @@ impl Cents {
         Cents { total: cents }
     }
 
-    /// The cents.
+    /// Gives the cents.
     #[inline]
     pub fn cents(self) -> u64
         ensures { result ≡ self }
@@ -263,7 +263,7 @@ impl Model for Moment {
 }
 
 impl Moment {
-    /// The moment after that many commits, where it is in the range.
+    /// Gives the moment after that many commits, where it is in the range.
     #[inline]
     pub fn new(commits: u64) -> Option<Self>
         ensures variant { IsSome result ↔ (commits ≤ 999_999_999_999) }
@@ -275,7 +275,7 @@ impl Moment {
         Some(Moment { commits })
     }
 
-    /// The number of commits before it.
+    /// Gives the number of commits before it.
     #[inline]
     pub fn get(self) -> u64
         ensures value { result ≡ self }

@@ -25,7 +25,7 @@ const DAYS: u32 = 73_414;
 /// The seconds from 1900-01-01T00:00:00 to 2101-01-01T00:00:00: one more than the last stamp has.
 pub const SECONDS: u64 = 6_342_969_600;
 
-/// The year, month and day of `YYYY-MM-DD` at the front, and what follows it.
+/// Reads the year, month and day of `YYYY-MM-DD` at the front, and what follows it.
 #[inline]
 #[tactic(auto, unfolding(crate::specs::Reading::date_of))]
 fn date(text: &[u8]) -> Option<((u16, u8, u8), &[u8])>
@@ -39,7 +39,7 @@ fn date(text: &[u8]) -> Option<((u16, u8, u8), &[u8])>
     Some(((year, month, day), rest))
 }
 
-/// The hour, minute and second of `HH:MM:SS` at the front, and what follows it.
+/// Reads the hour, minute and second of `HH:MM:SS` at the front, and what follows it.
 #[inline]
 #[tactic(auto, unfolding(crate::specs::Reading::time_of))]
 fn time(text: &[u8]) -> Option<((u8, u8, u8), &[u8])>
@@ -51,7 +51,7 @@ fn time(text: &[u8]) -> Option<((u8, u8, u8), &[u8])>
     Some(((hour, minute, second), rest))
 }
 
-/// The numbers of `YYYY-MM-DDTHH:MM:SS`.
+/// Gives the numbers of `YYYY-MM-DDTHH:MM:SS`.
 #[inline]
 #[tactic(auto, unfolding(crate::specs::Reading::numbers_of))]
 fn numbers(text: &[u8]) -> Option<((u16, u8, u8), (u8, u8, u8))>
@@ -66,7 +66,7 @@ fn numbers(text: &[u8]) -> Option<((u16, u8, u8), (u8, u8, u8))>
     }
 }
 
-/// The days from 1900-01-01 to a date, where the calendar has it and it lies before 2101.
+/// Gives the days from 1900-01-01 to a date, where the calendar has it and it lies before 2101.
 #[inline]
 fn days_at(date: (u16, u8, u8)) -> Option<u32>
     ensures some { IfSome result (IsDay date.0 date.1 date.2) }
@@ -87,7 +87,7 @@ fn days_at(date: (u16, u8, u8)) -> Option<u32>
     Some(days - BEFORE_1900)
 }
 
-/// The seconds from midnight to a time that the clock shows.
+/// Gives the seconds from midnight to a time that the clock shows.
 #[inline]
 fn seconds_at(time: (u8, u8, u8)) -> Option<u32>
     ensures some { IfSome result (IsSecond time.0 time.1 time.2) }
@@ -100,8 +100,8 @@ fn seconds_at(time: (u8, u8, u8)) -> Option<u32>
     Some(u32::from(hour) * 3600 + u32::from(minute) * 60 + u32::from(second))
 }
 
-/// The seconds after 1900-01-01T00:00:00 at which the calendar and the clock have these numbers,
-/// before 2101.
+/// Gives the seconds after 1900-01-01T00:00:00 at which the calendar and the clock have these
+/// numbers, before 2101.
 #[inline]
 fn count(date: (u16, u8, u8), time: (u8, u8, u8)) -> Option<u64>
     ensures some { IfSome result (IsCounted date.0 date.1 date.2 time.0 time.1 time.2) }
@@ -113,7 +113,7 @@ fn count(date: (u16, u8, u8), time: (u8, u8, u8)) -> Option<u64>
     Some(u64::from(days) * 86_400 + u64::from(seconds))
 }
 
-/// The seconds after 1900-01-01T00:00:00 that `YYYY-MM-DDTHH:MM:SS` says.
+/// Reads the seconds after 1900-01-01T00:00:00 that `YYYY-MM-DDTHH:MM:SS` says.
 fn read_seconds(text: &[u8]) -> Option<u64>
     ensures some { IfSome result (SaysStamp text.now) }
     ensures none { IsNone result → (n : ℕ) → SaysStamp text.now n → ⊥ }
@@ -122,7 +122,7 @@ fn read_seconds(text: &[u8]) -> Option<u64>
     count(date, time)
 }
 
-/// The date and time that many seconds after 1900-01-01T00:00:00.
+/// Gives the date and time that many seconds after 1900-01-01T00:00:00.
 fn moment_at(seconds: u64) -> civil::DateTime
     requires { seconds < SECONDS }
     ensures seconds { pos seconds ≡ civil_seconds result +ℤ pos 2_208_988_800 }
@@ -134,7 +134,7 @@ fn moment_at(seconds: u64) -> civil::DateTime
     }
 }
 
-/// `YYYY-MM-DDTHH:MM:SS` at a date from the year 0 on.
+/// Spells `YYYY-MM-DDTHH:MM:SS` at a date from the year 0 on.
 fn spelled(date: civil::Date, time: civil::Time) -> [u8; 19]
     requires { pos 0 ≤ℤ date.year }
     ensures value { result ≡ date_text (unsigned_abs date.year) date.month date.day
@@ -193,7 +193,7 @@ impl Stamp {
         Stamp::read_bytes(text.as_bytes())
     }
 
-    /// The same, of the text's bytes.
+    /// Reads a stamp from the text's bytes.
     #[inline]
     pub fn read_bytes(text: &[u8]) -> Option<Stamp>
         ensures some { IfSome result (SaysStamp text.now) }
@@ -203,7 +203,7 @@ impl Stamp {
         Some(Stamp { since_1900 })
     }
 
-    /// The text `YYYY-MM-DDTHH:MM:SS`, which is the only one that says this stamp.
+    /// Gives the text `YYYY-MM-DDTHH:MM:SS`, which is the only one that says this stamp.
     pub fn text(self) -> Text<19, 19>
         ensures says { SaysStamp result self }
         ensures only { (text : List ℕ) → SaysStamp text self → text ≡ result }
@@ -214,7 +214,7 @@ impl Stamp {
         }
     }
 
-    /// The bytes of that text.
+    /// Gives the bytes of that text.
     #[inline]
     pub fn bytes(self) -> [u8; 19]
         ensures says { SaysStamp result self }
@@ -239,7 +239,7 @@ impl Stamp {
         })
     }
 
-    /// The seconds after 1900-01-01T00:00:00, each civil day being 86,400.
+    /// Gives the seconds after 1900-01-01T00:00:00, each civil day being 86,400.
     #[inline]
     pub fn seconds(self) -> u64
         ensures value { result ≡ self }

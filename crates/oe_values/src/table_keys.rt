@@ -16,14 +16,14 @@ pub trait TableKey: Ord {
 pub trait ShelvedKey: TableKey {
     ghost shelf_of: { Self → ℕ };
 
-    /// The shelf that the key lies on. A table keeps a few words for each shelf up to its last
-    /// key's.
+    /// Gives the shelf that the key lies on. A table keeps a few words for each shelf up to its
+    /// last key's.
     fn shelf(&self) -> usize
         ensures number { result ≡ shelf_of self.now }
         ensures few { result < 1024 };
 
-    /// Where to look on the shelf: how far two keys lie apart there, if each number between them
-    /// has a key. It is a hint, on which no answer of a table rests.
+    /// Tells where to look on the shelf: how far two keys lie apart there, if each number between
+    /// them has a key. It is a hint, on which no answer of a table rests.
     fn place(&self) -> usize;
 
     ghost ascends: { (j k : Self) → shelf_of j < shelf_of k → Self.cmp j k ≡ Less };

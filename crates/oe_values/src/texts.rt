@@ -27,14 +27,14 @@ impl<const LEAST: usize, const MOST: usize> Model for Text<LEAST, MOST> {
     ghost invariant = { λ t. IsText LEAST MOST t.held.bytes };
 }
 
-/// Whether every byte is printable ASCII.
+/// Tells whether every byte is printable ASCII.
 fn is_printable(bytes: &[u8]) -> bool
     ensures { IsTrue result ↔ All IsPrintable bytes.now }
 {
     bytes.iter().all(|&b| b >= 32 && b <= 126)
 }
 
-/// Printable bytes as a text, which is not tested.
+/// Gives printable bytes as a text, which is not tested.
 #[inline]
 fn ascii(bytes: &[u8]) -> &str
     requires { All IsPrintable bytes.now }
@@ -43,7 +43,7 @@ fn ascii(bytes: &[u8]) -> &str
     unsafe { str::from_utf8_unchecked(bytes) }
 }
 
-/// At most `most` bytes of the front of a printable text.
+/// Gives at most `most` bytes of the front of a printable text.
 fn front(text: &str, most: usize) -> &str
     requires { All IsPrintable text.now }
     ensures { result.now ≡ take most text.now }
@@ -56,7 +56,7 @@ fn front(text: &str, most: usize) -> &str
 }
 
 impl<const LEAST: usize, const MOST: usize> Text<LEAST, MOST> {
-    /// The text, where its bytes are printable and its length fits.
+    /// Gives the text, where its bytes are printable and its length fits.
     pub fn read(text: &str) -> Option<Self>
         ensures variant { IsSome result ↔ IsText LEAST MOST text.now }
         ensures value { IfSome result (λ t. t ≡ text.now) }
@@ -64,7 +64,7 @@ impl<const LEAST: usize, const MOST: usize> Text<LEAST, MOST> {
         Text::read_bytes(text.as_bytes())
     }
 
-    /// The text of these bytes, where they are printable and their number fits.
+    /// Gives the text of these bytes, where they are printable and their number fits.
     pub fn read_bytes(bytes: &[u8]) -> Option<Self>
         ensures variant { IsSome result ↔ IsText LEAST MOST bytes.now }
         ensures value { IfSome result (λ t. t ≡ bytes.now) }
@@ -75,7 +75,8 @@ impl<const LEAST: usize, const MOST: usize> Text<LEAST, MOST> {
         Some(Text::of_printable(bytes))
     }
 
-    /// The text of these bytes, which are known to be printable and to fit: nothing is tested.
+    /// Gives the text of these bytes, which are known to be printable and to fit: nothing is
+    /// tested.
     #[inline]
     pub fn of_printable(bytes: &[u8]) -> Self
         requires { IsText LEAST MOST bytes.now }
@@ -86,7 +87,7 @@ impl<const LEAST: usize, const MOST: usize> Text<LEAST, MOST> {
         Text { held }
     }
 
-    /// The text.
+    /// Gives the text.
     #[inline]
     pub fn as_str(&self) -> &str
         ensures value { result.now ≡ self.now }
@@ -107,7 +108,7 @@ impl<const LEAST: usize, const MOST: usize> Text<LEAST, MOST> {
         Text { held }
     }
 
-    /// A copy, which takes no memory.
+    /// Copies the value, and takes no memory.
     pub fn copied(&self) -> Self
         ensures { result ≡ self.now }
     {
@@ -130,7 +131,7 @@ impl<const LEAST: usize, const MOST: usize> Eq for Text<LEAST, MOST> {
 }
 
 impl<const LEAST: usize, const MOST: usize> Text<LEAST, MOST> {
-    /// The same text, of any length up to `MOST`.
+    /// Gives the same text, of any length up to `MOST`.
     pub fn of_any_length(&self) -> Text<0, MOST>
         ensures { result ≡ self.now }
     {
@@ -139,14 +140,14 @@ impl<const LEAST: usize, const MOST: usize> Text<LEAST, MOST> {
     }
 }
 
-/// Whether every byte is a letter from A to Z.
+/// Tells whether every byte is a letter from A to Z.
 fn is_capitals(bytes: &[u8]) -> bool
     ensures { IsTrue result ↔ All IsCapital bytes.now }
 {
     bytes.iter().all(|&b| b >= b'A' && b <= b'Z')
 }
 
-/// Whether every byte is a letter from A to Z or a digit.
+/// Tells whether every byte is a letter from A to Z or a digit.
 fn is_capitals_or_digits(bytes: &[u8]) -> bool
     ensures { IsTrue result ↔ All IsCapitalOrDigit bytes.now }
 {
@@ -170,7 +171,7 @@ impl Model for LastName {
 }
 
 impl LastName {
-    /// The name, where it is one.
+    /// Gives the name, where it is one.
     pub fn read(text: &str) -> Option<Self>
         ensures variant { IsSome result ↔ IsLastName text.now }
         ensures value { IfSome result (λ n. n ≡ text.now) }
@@ -182,7 +183,7 @@ impl LastName {
         Some(LastName { capitals: name })
     }
 
-    /// The name.
+    /// Gives the name.
     #[inline]
     pub fn as_str(&self) -> &str
         ensures value { result.now ≡ self.now }
@@ -191,14 +192,14 @@ impl LastName {
         self.capitals.as_str()
     }
 
-    /// The name as C_LAST has it.
+    /// Gives the name as C_LAST has it.
     pub fn as_text(&self) -> Text<0, 16>
         ensures { result ≡ self.now }
     {
         self.capitals.of_any_length()
     }
 
-    /// A copy, which takes no memory.
+    /// Copies the value, and takes no memory.
     pub fn copied(&self) -> Self
         ensures { result ≡ self.now }
     {
@@ -223,7 +224,7 @@ impl Model for FirstName {
 }
 
 impl FirstName {
-    /// The name, where it is one.
+    /// Gives the name, where it is one.
     pub fn read(text: &str) -> Option<Self>
         ensures variant { IsSome result ↔ IsFirstName text.now }
         ensures value { IfSome result (λ n. n ≡ text.now) }
@@ -235,7 +236,7 @@ impl FirstName {
         Some(FirstName { name })
     }
 
-    /// The name.
+    /// Gives the name.
     #[inline]
     pub fn as_str(&self) -> &str
         ensures value { result.now ≡ self.now }
@@ -244,14 +245,14 @@ impl FirstName {
         self.name.as_str()
     }
 
-    /// The name as C_FIRST has it.
+    /// Gives the name as C_FIRST has it.
     pub fn as_text(&self) -> Text<0, 16>
         ensures { result ≡ self.now }
     {
         self.name.of_any_length()
     }
 
-    /// A copy, which takes no memory.
+    /// Copies the value, and takes no memory.
     pub fn copied(&self) -> Self
         ensures { result ≡ self.now }
     {

@@ -14,7 +14,7 @@ use oe_rows::{Account, CustomerKey, DistrictKey, Key, StockKey, WarehouseKey};
 use oe_store::Tables;
 use oe_values::{Balance, Count, OrderNumber, YearToDate};
 
-/// W_YTD of the row that a record has, or of the one that stands where there is no record.
+/// Gives W_YTD of the row that a record has, or of the one that stands where there is no record.
 fn ytd_of_warehouse(
     tables: &Tables,
     key: &WarehouseKey,
@@ -32,7 +32,7 @@ fn ytd_of_warehouse(
     }
 }
 
-/// D_YTD of the row that a record has, or of the one that stands where there is no record.
+/// Gives D_YTD of the row that a record has, or of the one that stands where there is no record.
 fn ytd_of_district(
     tables: &Tables,
     key: &DistrictKey,
@@ -50,7 +50,8 @@ fn ytd_of_district(
     }
 }
 
-/// D_NEXT_O_ID of the row that a record has, or of the one that stands where there is no record.
+/// Gives D_NEXT_O_ID of the row that a record has, or of the one that stands where there is no
+/// record.
 fn next_order_of(
     tables: &Tables,
     key: &DistrictKey,
@@ -68,7 +69,8 @@ fn next_order_of(
     }
 }
 
-/// C_BALANCE of the row that a record has, or of the one that stands where there is no record.
+/// Gives C_BALANCE of the row that a record has, or of the one that stands where there is no
+/// record.
 fn balance_of(
     tables: &Tables,
     key: &CustomerKey,
@@ -86,8 +88,8 @@ fn balance_of(
     }
 }
 
-/// The money and counts of the row that a record has, or of the one that stands where there is no
-/// record.
+/// Gives the money and counts of the row that a record has, or of the one that stands where there
+/// is no record.
 fn account_of(
     tables: &Tables,
     key: &CustomerKey,
@@ -105,7 +107,8 @@ fn account_of(
     }
 }
 
-/// S_QUANTITY of the row that a record has, or of the one that stands where there is no record.
+/// Gives S_QUANTITY of the row that a record has, or of the one that stands where there is no
+/// record.
 fn quantity_of(tables: &Tables, key: &StockKey, found: Option<StoredRecord<'_>>) -> Option<Count>
     ensures { result ≡ quantity_of (option_and_then as_stock
         (row_found found.entry (row_at (rows tables.now) (keys.Stock key.now)))) }
@@ -120,7 +123,7 @@ fn quantity_of(tables: &Tables, key: &StockKey, found: Option<StoredRecord<'_>>)
 }
 
 impl<'a> Version<'a> {
-    /// W_YTD of a warehouse, if it was there.
+    /// Gives W_YTD of a warehouse, if it was there.
     pub fn warehouse_ytd(&self, key: &WarehouseKey) -> Option<YearToDate>
         ensures { result ≡ ytd_of_warehouse (get (rows_of self.now).warehouses key.now) }
     {
@@ -128,7 +131,7 @@ impl<'a> Version<'a> {
         ytd_of_warehouse(self.tables(), key, found)
     }
 
-    /// D_YTD of a district, if it was there.
+    /// Gives D_YTD of a district, if it was there.
     pub fn district_ytd(&self, key: &DistrictKey) -> Option<YearToDate>
         ensures { result ≡ ytd_of_district (get (rows_of self.now).districts key.now) }
     {
@@ -136,7 +139,7 @@ impl<'a> Version<'a> {
         ytd_of_district(self.tables(), key, found)
     }
 
-    /// D_NEXT_O_ID of a district, if it was there.
+    /// Gives D_NEXT_O_ID of a district, if it was there.
     pub fn next_order(&self, key: &DistrictKey) -> Option<OrderNumber>
         ensures { result ≡ next_order_of (get (rows_of self.now).districts key.now) }
     {
@@ -144,7 +147,7 @@ impl<'a> Version<'a> {
         next_order_of(self.tables(), key, found)
     }
 
-    /// C_BALANCE of a customer, if it was there.
+    /// Gives C_BALANCE of a customer, if it was there.
     pub fn balance(&self, key: &CustomerKey) -> Option<Balance>
         ensures { result ≡ balance_of (get (rows_of self.now).customers key.now) }
     {
@@ -152,7 +155,8 @@ impl<'a> Version<'a> {
         balance_of(self.tables(), key, found)
     }
 
-    /// C_BALANCE, C_YTD_PAYMENT and the other money and counts of a customer, if it was there.
+    /// Gives C_BALANCE, C_YTD_PAYMENT and the other money and counts of a customer, if it was
+    /// there.
     pub fn customer_account(&self, key: &CustomerKey) -> Option<Account>
         ensures { result ≡ account_of (get (rows_of self.now).customers key.now) }
     {
@@ -160,7 +164,7 @@ impl<'a> Version<'a> {
         account_of(self.tables(), key, found)
     }
 
-    /// S_QUANTITY of a stock, if it was there.
+    /// Gives S_QUANTITY of a stock, if it was there.
     pub fn stock_quantity(&self, key: &StockKey) -> Option<Count>
         ensures { result ≡ quantity_of (get (rows_of self.now).stocks key.now) }
     {

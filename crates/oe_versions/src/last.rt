@@ -11,7 +11,7 @@ use crate::moments::Version;
 use oe_rows::{CustomerKey, Order, OrderKey};
 use std::cmp::Ordering;
 
-/// Whether the order is the customer's.
+/// Tells whether the order is the customer's.
 fn is_own(key: &OrderKey, order: &Order, customer: &CustomerKey) -> bool
     ensures { result
         ≡ eq_by_cmp customer_cmp (customer_of_order key.now order.now) customer.now }
@@ -21,8 +21,8 @@ fn is_own(key: &OrderKey, order: &Order, customer: &CustomerKey) -> bool
 }
 
 impl<'a> Version<'a> {
-    /// The order with the largest O_ID that a customer had, with its key, if there was any (clause
-    /// 2.6.2.2).
+    /// Gives the order with the largest O_ID that a customer had, with its key, if there was any
+    /// (clause 2.6.2.2).
     pub fn last_order(&self, customer: CustomerKey) -> Option<(OrderKey, Order)>
         requires { Stand self.now.tables self.now.log }
         ensures { result ≡ last_order customer (rows_of self.now).orders }

@@ -41,8 +41,8 @@ impl<'a> Model for Version<'a> {
 }
 
 impl<'a> Version<'a> {
-    /// The version of a moment. `TooOld` with the horizon and `Future` with the newest moment,
-    /// exactly where the moment is not between the two.
+    /// Gives the version of a moment. `TooOld` with the horizon and `Future` with the newest
+    /// moment, exactly where the moment is not between the two.
     pub fn at(tables: &'a Tables, undo: &'a Undo, moment: Moment) -> Result<Version<'a>, Refusal>
         ensures version { IfOk result (λ v.
             v ≡ record { tables = tables.now; log = undo.now.log; moment = moment }) }
@@ -59,7 +59,7 @@ impl<'a> Version<'a> {
         }
     }
 
-    /// The tables as they stand, which it borrows.
+    /// Gives the tables as they stand, which it borrows.
     pub fn tables(&self) -> &'a Tables
         ensures { result.now ≡ self.now.tables }
     {

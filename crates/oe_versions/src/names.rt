@@ -9,8 +9,8 @@ use oe_rows::DistrictKey;
 use oe_values::{CustomerNumber, Text};
 
 impl<'a> Version<'a> {
-    /// C_ID of the customer of a district and last name in position n / 2, rounded up, of the n
-    /// that there were, by C_FIRST and where that ties by C_ID (clauses 2.5.2.2 and 2.6.2.2).
+    /// Gives C_ID of the customer of a district and last name in position n / 2, rounded up, of the
+    /// n that there were, by C_FIRST and where that ties by C_ID (clauses 2.5.2.2 and 2.6.2.2).
     ///
     /// Names stay, so it walks over the customers that stand, and looks at no record.
     pub fn customer_named(

@@ -13,8 +13,8 @@ use oe_rows::Key;
 use oe_undo::{Ticks, Undo};
 use oe_values::Moment;
 
-/// The record that has the row which the key had at a moment that is kept, or none where that row
-/// stands. Each record that is read ticks: the key's own that are open or of later commits.
+/// Gives the record that has the row which the key had at a moment that is kept, or none where that
+/// row stands. Each record that is read ticks: the key's own that are open or of later commits.
 #[tactic(auto, using(crate::proofs::FoundFacts::is_kept, crate::proofs::FoundFacts::is_made, crate::proofs::FoundFacts::is_found))]
 fn found_since<'a>(
     undo: &'a Undo,
@@ -32,8 +32,8 @@ fn found_since<'a>(
 }
 
 impl<'a> Version<'a> {
-    /// The record that has the key's row, or none where that row stands. Each record that is read
-    /// ticks.
+    /// Gives the record that has the key's row, or none where that row stands. Each record that is
+    /// read ticks.
     pub(crate) fn found_counted(&self, key: &Key, ticks: &mut Ticks) -> Option<StoredRecord<'a>>
         ensures found { HasRow self.now.log self.now.moment key.now result }
         ensures ticks { ticks.new
@@ -42,7 +42,7 @@ impl<'a> Version<'a> {
         found_since(self.undo, key, self.moment, ticks)
     }
 
-    /// The record that `found_counted` finds.
+    /// Gives the record that `found_counted` finds.
     pub(crate) fn found(&self, key: &Key) -> Option<StoredRecord<'a>>
         ensures { HasRow self.now.log self.now.moment key.now result }
     {

@@ -20,7 +20,7 @@ use oe_rows::{
 use oe_store::Tables;
 use oe_undo::Ticks;
 
-/// A copy of the row of a key as it stands, if it has one.
+/// Gives a copy of the row of a key as it stands, if it has one.
 fn row_now(tables: &Tables, key: &Key) -> Option<Row>
     ensures { result ≡ row_at (rows tables.now) key.now }
 {
@@ -37,7 +37,7 @@ fn row_now(tables: &Tables, key: &Key) -> Option<Row>
     }
 }
 
-/// The row that a record has, if it has one.
+/// Gives the row that a record has, if it has one.
 fn row_before(before: OwnRecord) -> Option<Row>
     ensures { result ≡ row_before (record_of_own before) }
 {
@@ -56,8 +56,8 @@ fn row_before(before: OwnRecord) -> Option<Row>
     }
 }
 
-/// Whether the row that a record has, or the one that stands where there is no record, is one of
-/// HISTORY. No record has one, since such a row is neither changed nor deleted.
+/// Tells whether the row that a record has, or the one that stands where there is no record, is one
+/// of HISTORY. No record has one, since such a row is neither changed nor deleted.
 fn is_history(tables: &Tables, key: &HistoryKey, found: Option<StoredRecord<'_>>) -> bool
     ensures { result ≡ is_some (option_and_then as_history
         (row_found found.entry (row_at (rows tables.now) (keys.History key.now)))) }
@@ -68,8 +68,8 @@ fn is_history(tables: &Tables, key: &HistoryKey, found: Option<StoredRecord<'_>>
     }
 }
 
-/// Whether the row that a record has, or the one that stands where there is no record, is one of
-/// NEW-ORDER: that has no column but its key's.
+/// Tells whether the row that a record has, or the one that stands where there is no record, is one
+/// of NEW-ORDER: that has no column but its key's.
 fn is_new_order(tables: &Tables, key: &NewOrderKey, found: Option<StoredRecord<'_>>) -> bool
     ensures { result ≡ is_some (option_and_then as_new_order
         (row_found found.entry (row_at (rows tables.now) (keys.NewOrder key.now)))) }
@@ -80,7 +80,7 @@ fn is_new_order(tables: &Tables, key: &NewOrderKey, found: Option<StoredRecord<'
     }
 }
 
-/// The ORDER row that a record has, or the one that stands where there is no record.
+/// Gives the ORDER row that a record has, or the one that stands where there is no record.
 fn order_row(tables: &Tables, key: &OrderKey, found: Option<StoredRecord<'_>>) -> Option<Order>
     ensures { result ≡ option_and_then as_order
         (row_found found.entry (row_at (rows tables.now) (keys.Order key.now))) }
@@ -94,7 +94,7 @@ fn order_row(tables: &Tables, key: &OrderKey, found: Option<StoredRecord<'_>>) -
     }
 }
 
-/// The ORDER-LINE row that a record has, or the one that stands where there is no record.
+/// Gives the ORDER-LINE row that a record has, or the one that stands where there is no record.
 fn order_line_row(
     tables: &Tables,
     key: &OrderLineKey,
@@ -113,7 +113,7 @@ fn order_line_row(
 }
 
 impl<'a> Version<'a> {
-    /// A copy of the row that a key had, if it had one.
+    /// Gives a copy of the row that a key had, if it had one.
     pub fn row(&self, key: &Key) -> Option<Row>
         ensures { result ≡ row_at (rows_of self.now) key.now }
     {
@@ -121,8 +121,8 @@ impl<'a> Version<'a> {
         self.row_counted(key, &mut ticks)
     }
 
-    /// `row`, and each record that is read ticks: the key's own that are open or of commits after
-    /// the moment, each once.
+    /// Gives the row as `row` does, and each record that is read ticks: the key's own that are open
+    /// or of commits after the moment, each once.
     pub fn row_counted(&self, key: &Key, ticks: &mut Ticks) -> Option<Row>
         ensures row { result ≡ row_at (rows_of self.now) key.now }
         ensures ticks { ticks.new
@@ -134,7 +134,7 @@ impl<'a> Version<'a> {
         }
     }
 
-    /// Whether a key had a HISTORY row.
+    /// Tells whether a key had a HISTORY row.
     pub fn has_history(&self, key: &HistoryKey) -> bool
         ensures { result ≡ is_some (get (rows_of self.now).histories key.now) }
     {
@@ -142,7 +142,7 @@ impl<'a> Version<'a> {
         is_history(self.tables(), key, found)
     }
 
-    /// Whether a key had a NEW-ORDER row.
+    /// Tells whether a key had a NEW-ORDER row.
     pub fn has_new_order(&self, key: &NewOrderKey) -> bool
         ensures { result ≡ is_some (get (rows_of self.now).new_orders key.now) }
     {
@@ -150,7 +150,7 @@ impl<'a> Version<'a> {
         is_new_order(self.tables(), key, found)
     }
 
-    /// A copy of the ORDER row that a key had, if it had one.
+    /// Gives a copy of the ORDER row that a key had, if it had one.
     pub fn order(&self, key: &OrderKey) -> Option<Order>
         ensures { result ≡ get (rows_of self.now).orders key.now }
     {
@@ -158,7 +158,7 @@ impl<'a> Version<'a> {
         order_row(self.tables(), key, found)
     }
 
-    /// A copy of the ORDER-LINE row that a key had, if it had one.
+    /// Gives a copy of the ORDER-LINE row that a key had, if it had one.
     pub fn order_line(&self, key: &OrderLineKey) -> Option<OrderLine>
         ensures { result ≡ get (rows_of self.now).order_lines key.now }
     {
