@@ -33,7 +33,7 @@ pub fn abort_has_no_effect()
     ensures { Abort_has_no_effect bank }
 {}
 
-/// The commits are those of their transactions run one at a time, each on the version before it,
+/// The same transactions, run one at a time, make the same commits, each on the version before it,
 /// with its reply.
 pub fn history_is_serial()
     ensures { History_is_serial bank }
@@ -70,7 +70,7 @@ pub fn undo_goes_back()
     ensures { Undo_goes_back bank }
 {}
 
-/// The money of the opening is that of every version.
+/// Every version has the money of the opening.
 pub fn money_is_kept()
     ensures { (money : ℕ) → Holds_of_versions bank (HasMoney money) }
 {}
@@ -122,7 +122,7 @@ pub fn version_is_unwound()
     ensures { Version_is_unwound bank }
 {}
 
-/// A row with the records of its key put back is that of the version.
+/// A row with the records of its key put back is the version's row.
 pub fn row_is_unwound()
     ensures { Row_is_unwound bank }
 {}
@@ -157,8 +157,8 @@ pub fn run_is_reached()
     ensures { Run_is_reached bank }
 {}
 
-/// A refusal that rolls back is that of the program alone on the newest version, and one of those
-/// that it may end with.
+/// A refusal that rolls back is the one to which the program alone comes on the newest version, and
+/// one that it may end with.
 pub fn abort_is_its_own()
     ensures { Abort_is_its_own bank }
 {}

@@ -70,7 +70,7 @@ ArePaid r h sums =
     (c : ℕ) → 1 ≤ c → c ≤ 3_000
     → (sum_for sums c ≡ paid_by r (customer_in h c)) × (sum_for sums c ≤ 1_000_000_000_000_000_000)
 
--- the sums of a ledger are those of the district that it names
+-- a ledger has the sums of the district that it names
 pub record IsLedger (r : Rows) (l : Ledger) : Type 0 where
   pub delivered : (h : DistrictKey) → l.district ≡ Some h → AreDelivered r h l.delivered
   pub paid : (h : DistrictKey) → l.district ≡ Some h → ArePaid r h l.paid

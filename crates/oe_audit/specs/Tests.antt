@@ -1,4 +1,4 @@
--- Tests of a row that are told its key, and no column or one, and what they go by.
+-- Tests of a row, given its key and at most one column, and what they go by.
 use Rattle.std.specs.Prelude.{ℕ, ◌+◌, ◌-◌, ◌==◌, Bool, true, ◌&&◌, Option, None, Some, is_some}
 use Rattle.std.specs.FinMap.{get}
 use Rattle.oe_rows.specs.declared.keys.WarehouseKey.{WarehouseKey}

@@ -3,7 +3,7 @@
 //!
 //! Rows of all tables but NEW-ORDER stay where they were inserted, and a NEW-ORDER row has its
 //! ORDER row at each moment. So the rows of a moment are found at the keys that have rows now,
-//! those of NEW-ORDER at the keys of the orders. A HISTORY row is never changed: it is read as it
+//! NEW-ORDER rows at the keys of the orders. A HISTORY row is never changed: it is read as it
 //! stands.
 ghost use Rattle.std.specs.Prelude.{◌≡◌, is_some, option_map};
 ghost use Rattle.std.specs.FinMap.{get};

@@ -108,8 +108,8 @@ fn found<'a>(number: Condition, tables: &'a Tables, when: &AsOf<'a>) -> Verdict
 /// 9, an ORDER row for 5 and 6, an ORDER-LINE row for 7, and a CUSTOMER row for 10 and 12; a
 /// district without an order fails the second.
 ///
-/// Each audit walks the rows that it concerns once, but for those of HISTORY: it walks them once
-/// for each warehouse or district. It takes no memory.
+/// Each audit walks the rows that it concerns once, but HISTORY rows once for each warehouse or
+/// district. It takes no memory.
 pub fn condition(number: Condition, tables: &Tables) -> Verdict
     ensures { IsAudited number (rows tables.now) result }
 {

@@ -1,8 +1,8 @@
 //! The sums of a district's customers: what was delivered to each, and what each has paid.
 //!
 //! A ledger has one sum for each C_ID, 3,000 in all, which lie in the value: it takes no memory. By
-//! `IsLedger` its sums are those of the district that it names. The sums of another district
-//! replace them; nothing can fail.
+//! `IsLedger` it has the sums of the district that it names. The sums of another district replace
+//! them; nothing can fail.
 ghost use Rattle.std.specs.Prelude.{◌≡◌, ℕ, ◌≤◌, ◌==◌, ◌&&◌, cond, IsTrue, Some};
 ghost use Rattle.std.specs.Ordering.{eq_by_cmp};
 ghost use Rattle.oe_rows.specs.Key.{customer_cmp};

@@ -1,6 +1,6 @@
 //! Audits of the tables as they stand or stood at a moment: the verdict of each consistency
-//! condition, and the test of a population. No memory is taken. Clauses of the standard are those
-//! of TPC Benchmark C 5.11.
+//! condition, and the test of a population. No memory is taken. Clause numbers are TPC Benchmark C
+//! 5.11's.
 #![tactic(auto)]
 
 mod as_of;

@@ -68,10 +68,9 @@ fn are_of_population(tables: &Tables) -> bool
     tables.histories().all(|(key, _)| key.terminal.get() == 0)
 }
 
-/// Tells whether the tables are such as to begin from: conditions 1 to 4 hold (clause 3.3.2), by
-/// the second of which each district has an order; each warehouse has a STOCK row for each ITEM
-/// row; and each HISTORY row is of terminal 0. The schema holds by the tables' type. No memory is
-/// taken.
+/// Tells whether the tables are such as to begin from: conditions 1 to 4 hold (clause 3.3.2), and
+/// by the second each district has an order; each warehouse has a STOCK row for each ITEM row; and
+/// each HISTORY row is of terminal 0. The schema holds by the tables' type. No memory is taken.
 pub fn is_population(tables: &Tables) -> bool
     ensures { IsTrue result ↔ IsPopulation (rows tables.now) }
 {

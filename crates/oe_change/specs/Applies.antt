@@ -18,7 +18,7 @@ pub record Applies (c : Change) (old new : Places) (b : Record) : Type 0 where
   -- each key that had a place has one, and the change's key
   pub places : AddsPlace old new (key_of c)
 
--- so it is, with a record as it is kept
+-- it has applied the change, with a record as it is kept
 abbrev pub HasApplied : Change → Places → Places → OwnRecord → Type 0
 HasApplied c old new b = Applies c old new (record_of_own b)
 

@@ -27,7 +27,7 @@ pub enum Write {
     NextOrder(DistrictKey, OrderNumber),
     /// The account of a customer.
     CustomerAccount(CustomerKey, Account),
-    /// The same of one with bad credit, with the entry that goes before C_DATA.
+    /// The account of a customer with bad credit, and the entry that goes before C_DATA.
     BadCredit(CustomerKey, Account, Text<0, 90>),
     /// S_QUANTITY, S_YTD, S_ORDER_CNT and S_REMOTE_CNT.
     StockCounters(StockKey, StockCounters),

@@ -6,7 +6,7 @@ use Rattle.oe_model.specs.FurtherConditions.{More}
 use Rattle.oe_model.specs.Population.{IsScale, IsPopulated}
 use Rattle.oe_model.specs.System.{system}
 
--- a whole effect, on tables between transactions of which they hold, leaves tables of which they hold
+-- where the conditions hold of the tables between transactions, they hold of the tables that a whole effect leaves
 abbrev pub Further_conditions_are_kept : Type 0
 Further_conditions_are_kept = IsKept system More
 

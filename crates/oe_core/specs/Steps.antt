@@ -1,4 +1,4 @@
--- Steps and answers as those of the theory of transactions, and what a step may be answered.
+-- Steps and answers as the theory of transactions has them, and what a step may be answered.
 use Rattle.std.specs.Prelude.{◌≡◌, ℕ, Option, None, Some, Result, Ok, Err}
 use Rattle.oe_theory.specs.World.{World}
 use Rattle.oe_theory.specs.Next as theory
@@ -28,7 +28,7 @@ step_in (step.Purge m) = theory.Purge m
 step_in (step.Rewind m) = theory.Rewind m
 step_in (step.Audit c m) = theory.Audit m (condition_of c)
 
--- a refusal of an Advance that is none of those that change nothing has rolled its transaction back
+-- a refusal of an Advance has rolled its transaction back, but for the refusals that change nothing
 abbrev pub other_refusal : Step → Refusal → theory.Answer system
 other_refusal (step.Advance t) e = theory.Aborted e
 other_refusal i e = theory.Rejected e

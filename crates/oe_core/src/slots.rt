@@ -12,7 +12,7 @@ use oe_requests::Request;
 use oe_values::{PerTerminal, Terminal, empty_slots};
 use std::alloc::{AllocError, Global};
 
-/// Makes slots for what terminals carry out, and for their transactions; those of 0 stay empty.
+/// Makes slots for what terminals carry out, and for their transactions; the slots of 0 stay empty.
 /// Where memory is refused, only the first are there to be dropped.
 pub fn empty_places(
     alloc: Global,

@@ -104,7 +104,7 @@ impl Work {
         }
     }
 
-    /// Becomes what a transaction of this request carries out that has just begun.
+    /// Becomes the work of a transaction of this request, which has just begun.
     #[inline]
     pub fn start(&mut self, request: &Request)
         requires { HasProgram request.now }
@@ -128,7 +128,7 @@ impl Work {
         }
     }
 
-    // The same where a payment does not follow a payment. It has room for the whole, which a
+    // Starts where a payment does not follow a payment. It has room for the whole, which a
     // payment's start does without.
     #[inline(never)]
     fn start_other(&mut self, request: &Request)
@@ -218,7 +218,8 @@ impl Work {
         }
     }
 
-    // The same of any task. It has room for a whole reply, which a payment's end does without.
+    // Gives request and reply of any task. It has room for a whole reply, which a payment's end
+    // does without.
     #[inline(never)]
     fn ended_other(&self) -> Option<(Snapshot<Request>, Snapshot<Reply>)>
         ensures request { IfSome result (λ s. s.0.value ≡ self.now.request) }
@@ -258,8 +259,8 @@ impl Work {
         }
     }
 
-    // The same of any program. It has room for what orders and deliveries write, which a payment's
-    // stage does without.
+    // Carries out a stage of any program. It has room for what orders and deliveries write, which a
+    // payment's stage does without.
     #[inline(never)]
     fn next_other(&mut self, engine: &mut Engine, tx: &Tx) -> Progress
         requires held { IsOpen engine.old tx.now

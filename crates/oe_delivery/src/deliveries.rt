@@ -101,9 +101,9 @@ impl Deliveries {
     /// its stages before have taken are held.
     ///
     /// A district in which no order waits has one stage, which takes the name of its queue; the
-    /// stage at the customer goes on to the next district. The refusals are those of a district's
-    /// delivery, in their order. A refused stage leaves the program, the tables and the locks as
-    /// they were. Each stage is told the same request.
+    /// stage at the customer goes on to the next district. It refuses as a district's delivery
+    /// does, in the same order. A refused stage leaves the program, the tables and the locks as
+    /// they were. Each stage gets the same request.
     pub fn next(&mut self, request: &DeliveriesRequest, engine: &mut Engine, tx: &Tx) -> Progress
         requires { IsOpen engine.old tx.now
             → HoldsNames request.now tx.now engine.old self.old }

@@ -1,5 +1,5 @@
-//! The Delivery transaction of one district and of all ten (clause 2.7), a stage at a time. Clauses
-//! of the standard are those of TPC Benchmark C 5.11.
+//! The Delivery transaction of one district and of all ten (clause 2.7), a stage at a time. Clause
+//! numbers are TPC Benchmark C 5.11's.
 #![tactic(auto)]
 
 pub mod deliveries;

@@ -119,7 +119,7 @@ impl Program {
     /// the second is ready. The order of refusals is `Busy`, `Overflow`, `UndoFull` where the
     /// change's record has no room, and `NoMemory` where memory was refused for a new name. A
     /// refused stage leaves the program, the tables and the locks as they were. Each stage of a
-    /// delivery is told the same request.
+    /// delivery gets the same request.
     pub fn next(&mut self, request: &DeliveryRequest, engine: &mut Engine, tx: &Tx) -> Progress
         requires { IsOpen engine.old tx.now
             → HoldsTaken request.now tx.now engine.old (position_of self.old) }

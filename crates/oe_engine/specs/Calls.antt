@@ -104,7 +104,7 @@ IsFullFor v t c =
     ((filled system (lengths_of system (v.undo.active t))).1 < system.size_of (record_on system c v.rows))
     × (v.extents ≤ used_of system v.undo)
 
--- so it is with that of a stage's change, if it makes one
+-- it has no room for the record of a stage's change, if the stage makes one
 abbrev pub IsFullForAny : View → ℕ → Option Change → Type 0
 IsFullForAny v t None = ⊥
 IsFullForAny v t (Some c) = IsFullFor v t c
@@ -192,7 +192,7 @@ newest v = total terminal_limit v.counts
 abbrev pub horizon : View → ℕ
 horizon v = newest v - length v.seals
 
--- a moment of which the later commits are kept
+-- a moment whose later commits are kept
 abbrev pub IsKeptMoment : View → ℕ → Type 0
 IsKeptMoment v m = IsBetween (horizon v) (newest v) m
 
@@ -200,7 +200,7 @@ IsKeptMoment v m = IsBetween (horizon v) (newest v) m
 abbrev pub IsQuiet : View → Type 0
 IsQuiet v = (t : ℕ) → v.is_open t ≡ false
 
--- so many transactions are open
+-- n transactions are open
 abbrev pub AreOpen : View → ℕ → Type 0
 AreOpen v n = (slots : ℕ → Option (Slot system)) → ((t : ℕ) → is_some (slots t) ≡ v.is_open t)
     → count_slots system slots terminal_limit ≡ n

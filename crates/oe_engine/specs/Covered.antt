@@ -72,8 +72,8 @@ abbrev pub HaveNone : (ℕ → List Record) → Type 0
 HaveNone active = (t : ℕ) → active t ≡ []
 
 -- the newest records of these terminals' transactions can be put back, one after another in this order: each finds the
--- row that its change left, and after the last the schema holds. Where no terminal has a record left, those of the
--- commits can be put back next
+-- row that its change left, and after the last the schema holds. Where no terminal has a record left, the commits'
+-- records can be put back next
 abbrev pub Unwinds : List (List Record) → (ℕ → List Record) → Rows → List ℕ → Type 0
 Unwinds history active r [] = Meets r × (HaveNone active → CanUnwindAll history r)
 Unwinds history active r (t ∷ ts) = FindsNewest (active t) r × Unwinds history (set t (drop 1 (active t)) active)

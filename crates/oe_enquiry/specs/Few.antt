@@ -17,6 +17,6 @@ Orders_are_short r = (k : OrderKey) → length (lines_of k r.order_lines) ≤ 15
 abbrev pub Recent_are_few : Rows → Type 0
 Recent_are_few r = (h : DistrictKey) (next : ℕ) → length (recent_lines h next r.order_lines) ≤ 300
 
--- and so Stock-Level counts at most 300 items (clause 2.8.2.2)
+-- Stock-Level counts at most 300 items (clause 2.8.2.2)
 abbrev pub Levels_are_small : Rows → Type 0
 Levels_are_small r = (q : LevelQuery) (n : ℕ) → stock_level q r ≡ Here (told.Level n) → n ≤ 300

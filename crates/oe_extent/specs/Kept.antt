@@ -15,7 +15,7 @@ addressed_in n (x ∷ xs) =
     record { address = record { extent = n; offset = length (joined xs) }; bytes = x }
     ∷ addressed_in n xs
 
--- those of a list of extents
+-- the strings of a list of extents, with their addresses
 abbrev pub addressed_of : List Contents → List Addressed
 addressed_of [] = []
 addressed_of (c ∷ cs) = addressed_in c.number c.strings ++ addressed_of cs

@@ -91,7 +91,7 @@ newest_bytes (s ∷ ss) = s.bytes
 abbrev pub strings_of : List Addressed → List (List ℕ)
 strings_of ss = map (λ s. s.bytes) ss
 
--- the string with these bytes is one of those, at that address
+-- the string with these bytes is in the list, at that address
 abbrev pub StandsAt : Address → List ℕ → List Addressed → Type 0
 StandsAt a bytes [] = ⊥
 StandsAt a bytes (s ∷ ss) = (s ≡ record { address = a; bytes = bytes }) ⊎ StandsAt a bytes ss

@@ -24,7 +24,7 @@ use std::marker::Model;
 #[derive(Clone, Copy)]
 pub struct Full;
 
-/// Byte strings in extents of 4,096 bytes: those of each slot, and those of each commit.
+/// Byte strings in extents of 4,096 bytes, by slot and by commit.
 #[derive(Drop)]
 pub struct Ring {
     pool: Pool,
@@ -107,8 +107,7 @@ impl Ring {
         self.committed.push_front_reserved(list);
     }
 
-    /// Makes the newest commit's strings those of a slot that has none. There is room for a commit
-    /// more.
+    /// Gives the newest commit's strings to a slot that has none. There is room for a commit more.
     pub fn reopen_newest(&mut self, slot: usize)
         requires slot { slot < length self.old.active }
         requires empty { get_or self.old.active slot [] ≡ [] }

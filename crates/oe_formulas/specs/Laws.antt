@@ -80,7 +80,7 @@ pub record Total_is_nearest : Type 0 where
   pub below : (amounts : List ℕ) (c w d : ℕ)
       → exact_total amounts c w d < order_total amounts c w d * 100_000_000 + 50_000_000
 
--- a delivery's sum is that of the OL_AMOUNTs of all ORDER-LINE rows of the order (clause 2.7.4.2)
+-- a delivery's sum adds up the OL_AMOUNTs of all ORDER-LINE rows of the order (clause 2.7.4.2)
 abbrev pub Delivery_sums_lines : Type 0
 Delivery_sums_lines =
     (k : OrderKey) (lines : FinMap order_line_cmp OrderLine)

@@ -1,5 +1,5 @@
 //! The rows that each transaction leaves, one row at a time, without tables or locks. Each function
-//! is a formula of the model; clauses of the standard are those of TPC Benchmark C 5.11.
+//! is a formula of the model; clause numbers are TPC Benchmark C 5.11's.
 #![tactic(auto)]
 
 pub mod deliveries;

@@ -21,7 +21,7 @@ module _ (M : Machine) where
   begins_at (Rewind m) = None
 
   -- the refusal may be there only since terminal t has a transaction open: it holds the lock, it is the one that is
-  -- open, its records fill the ring, or it is one of those that have to end first
+  -- open, its records fill the ring, or it has to end first
   abbrev pub gives_way : ℕ → Step M → Answer M → Bool
   gives_way t i (Busy n u) = u == t
   gives_way t i Already_open = names M t (begins_at i)

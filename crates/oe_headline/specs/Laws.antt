@@ -40,7 +40,7 @@ use Rattle.oe_headline.specs.Deeds.{answers_of}
 use Rattle.oe_headline.specs.Without.{is_rolled_back, Without}
 use Rattle.oe_headline.specs.Moments.{IsVersion, AreUnpurged, IsRewound, IsRewoundTo}
 
--- each run of lines is lines one after another, of each of which it is known what it was; and the other way round
+-- each run of lines is lines one after another, and each line is known as a deed; and the other way round
 pub record Lines_are_deeds : Type 0 where
   pub each : (s : State) (n : ℕ) (lines : List (List ℕ)) (text : List ℕ) (s' : State) → RunOfLines s n lines text s'
       → (es : List Entry) × Passed s es s' × (lines_of es ≡ lines) × (texts_of n es ≡ text)
@@ -109,7 +109,7 @@ abbrev pub HasMore : State → Type 0
 HasMore None = Unit {0}
 HasMore (Some w) = (m : ℕ) → More (at system w m)
 
--- A script opens a population of the formulas, of which they hold. So each of its audits, of any of the eleven
+-- A script opens a population of the formulas, and they hold of it. So each of its audits, of any of the eleven
 -- conditions, is answered that the condition holds
 pub record More_audits_hold : Type 0 where
   -- at each place between two lines
@@ -149,8 +149,8 @@ IsRead base w q m text =
     ⊎ ((query_rejection q (tables system w) ≡ None) × IsReadAt base w q m text)
 
 -- The lines of a script up to its opening, and what follows of those after it. They are one run of the machine, from
--- the population that was opened: each of its transactions ends whole, although others overlap it; the commits are
--- those of transactions run one at a time; conditions 1 to 4 hold all the way
+-- the population that was opened: each of its transactions ends whole, although others overlap it; the same
+-- transactions, run one at a time, make the same commits; conditions 1 to 4 hold all the way
 pub record IsOneRun (es : List Entry) (w : World system) : Type 0 where
   pub before : List Entry
   pub opening : Entry
@@ -171,7 +171,7 @@ pub record Scripts_are_runs : Type 0 where
   pub from_world : (w : World system) (es : List Entry) (s : State) → IsReached system w → Passed (Some w) es s
       → (w' : World system) × (s ≡ Some w') × Ran w (steps_of es) (answers_of es) w'
 
--- so it is with each line that asks a query
+-- each line that asks a query is answered so
 pub record Reads_are_of_moments : Type 0 where
   -- in each world that steps led to from a base
   pub of_world : (w : World system) (made : IsReached system w) (n : ℕ) (line text : List ℕ) (s : State)
@@ -225,7 +225,7 @@ pub record IsOutputOf (input out : List ℕ) (o : Output input out) (es : List E
 abbrev pub OutputTo : List ℕ → List ℕ → State → Type 0
 OutputTo input out s = (o : Output input out) × (o.state ≡ s)
 
--- so it is of a whole input and its output
+-- a whole input and its output, without the lines of a transaction that was rolled back
 abbrev pub Outputs_without_rollback : Type 0
 Outputs_without_rollback =
     (input out : List ℕ) (o : Output input out) (before after : List Entry) (first : Entry) (t : ℕ) (q : Request)

@@ -42,8 +42,8 @@ pub fn reads_are_of_moments()
 
 /// From the opening on, the lines are one run of the machine. So each commit is the whole effect of
 /// its request on the newest version, although others overlapped it; each refusal that rolls a
-/// transaction back is its program's own; and the commits are those of the same transactions run
-/// one at a time.
+/// transaction back is its program's own; and the same transactions, run one at a time, make the
+/// same commits.
 pub fn scripts_are_runs()
     ensures { Scripts_are_runs }
 {}
@@ -68,8 +68,8 @@ pub fn rollback_leaves_no_trace()
     ensures { Lines_without_rollback }
 {}
 
-/// So it is of a whole input and its output, in which the numbers of lines that are none of the
-/// forms are counted anew.
+/// A whole input without the lines of a transaction that was rolled back has the same other output,
+/// but that lines which are none of the forms have their new numbers.
 pub fn outputs_without_rollback()
     ensures { Outputs_without_rollback }
 {}

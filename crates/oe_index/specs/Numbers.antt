@@ -1,4 +1,4 @@
--- The numbers of lists: that of the customers of a district and last name, and that of a customer's orders.
+-- The numbers of lists: of the customers of a district and last name, and of a customer's orders.
 use Rattle.std.specs.Prelude.{ℕ, ◌+◌, ◌*◌, ◌%◌, List, [], ◌∷◌}
 use Rattle.oe_rows.specs.declared.keys.DistrictKey.{DistrictKey}
 use Rattle.oe_rows.specs.declared.keys.CustomerKey.{CustomerKey}
@@ -7,7 +7,7 @@ use Rattle.oe_rows.specs.declared.customers.Customer.{Customer}
 use Rattle.oe_rows.specs.declared.orders.Order.{Order}
 use Rattle.oe_model.specs.Keys.{district_of_customer, customer_of_order}
 
--- a number below 1,009 of a name's bytes, from that of those before them
+-- a number below 1,009 of a name's bytes, from the number of the bytes before them
 abbrev pub name_number_from : ℕ → List ℕ → ℕ
 name_number_from n [] = n
 name_number_from n (b ∷ bs) = name_number_from ((n * 31 + b) % 1_009) bs

@@ -1,9 +1,9 @@
 //! The customers, which are found by last name too.
 //!
 //! Beside the rows each customer's key is listed under a number of district and last name, so that
-//! a walk over those of one name meets few others. By the invariant each row's key is in the list
-//! of its last name, unless the lists were given up: that is done where a row takes the place of
-//! one of another name, since to list it could take memory. Walks then go over all rows that they
+//! a walk over customers of one name meets few others. By the invariant each row's key is in the
+//! list of its last name, unless the lists were given up: they are where a row takes the place of
+//! one of another name, since listing it could take memory. Walks then go over all rows that they
 //! are given. Only `put_new` takes memory; where that is refused the table is as before.
 ghost use Rattle.std.specs.Prelude.{◌≡◌, Some, None, OnOk, OnErr, IsSome, []};
 ghost use Rattle.std.specs.Option.{option_copied};

@@ -1,5 +1,5 @@
 //! Tables whose rows are found by something other than their key: customers by last name, and
-//! orders by customer. Clauses of the standard are those of TPC Benchmark C 5.11.
+//! orders by customer. Clause numbers are TPC Benchmark C 5.11's.
 #![tactic(auto)]
 
 pub mod customers;

@@ -1,5 +1,5 @@
-//! The number of the list that a customer is in, by the last name, and of that of a customer's
-//! orders: each district has 1,009. Nothing can fail.
+//! The number of the list that a customer is in, by the last name, and of the list of a customer's
+//! orders: each district has 1,009 lists. Nothing can fail.
 ghost use Rattle.std.specs.Prelude.{◌≡◌, ◌<◌};
 ghost use Rattle.oe_index.specs.Numbers.{name_number, number_in, list_number, owner_number};
 

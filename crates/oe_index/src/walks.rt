@@ -1,5 +1,5 @@
-//! A walk over rows among which are all those of one number, as customers of a last name or orders
-//! of a customer. It takes no memory.
+//! A walk over all rows of one number, as customers of a last name or orders of a customer, and
+//! others. It takes no memory.
 //!
 //! It is seen as the list of what is left of it. Nothing can fail.
 ghost use Rattle.std.specs.Prelude.{List, cond};
@@ -15,8 +15,8 @@ use oe_values::ShelvedKey;
 use std::marker::Model;
 use std::slice::Iter;
 
-/// Rows with their keys, in the keys' order: those of a list, or where lists were given up those of
-/// another walk.
+/// Rows with their keys, in the keys' order: a list's rows, or where lists were given up the rows
+/// of another walk.
 #[derive(Drop)]
 pub struct Found<'a, K: ShelvedKey, R> {
     pub(crate) rows: &'a Shelves<K, R>,

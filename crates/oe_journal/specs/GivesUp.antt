@@ -40,6 +40,7 @@ HasNoRecord u k = of_key k (held u) ≡ []
 abbrev pub GivesUpThose : Places → Places → (Key → Type 0) → Type 0
 GivesUpThose old new P = (k : Key) → HasPlace new k ↔ (HasPlace old k × (P k → IsSome (row_at (rows old) k)))
 
--- so it is with the keys of the NEW-ORDER rows that these commits deleted, where the log has no record of the key
+-- the keys of the NEW-ORDER rows that these commits deleted have no place any more, where the log has no record of the
+-- key
 abbrev pub GivesUpDeleted : Places → Places → List (List Record) → SegmentLog → Type 0
 GivesUpDeleted old new ss u = GivesUpThose old new (λ k. IsDeletedIn k ss × HasNoRecord u k)

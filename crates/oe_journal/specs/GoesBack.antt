@@ -13,7 +13,7 @@ abbrev pub CanUnwind : List Record → Rows → Type 0
 CanUnwind [] r = Unit {0}
 CanUnwind (b ∷ bs) r = Stands b r × Meets (put_back b r) × CanUnwind bs (put_back b r)
 
--- the same of the records of commits, by falling moment
+-- the records of commits can be unwound, by falling moment
 abbrev pub CanUnwindAll : List (List Record) → Rows → Type 0
 CanUnwindAll [] r = Unit {0}
 CanUnwindAll (bs ∷ ss) r = CanUnwind bs r × CanUnwindAll ss (unwind system bs r)
@@ -23,7 +23,7 @@ abbrev pub HavePlaces : Places → List Record → Type 0
 HavePlaces ts [] = Unit {0}
 HavePlaces ts (b ∷ bs) = HasPlace ts (record_key b) × HavePlaces ts bs
 
--- the same of the records of commits
+-- the keys of commits' records have places
 abbrev pub AllHavePlaces : Places → List (List Record) → Type 0
 AllHavePlaces ts [] = Unit {0}
 AllHavePlaces ts (bs ∷ ss) = HavePlaces ts bs × AllHavePlaces ts ss

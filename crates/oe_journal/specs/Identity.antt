@@ -27,13 +27,13 @@ use Rattle.oe_journal.specs.Unwinds.{TakesBack}
 use Rattle.oe_journal.specs.Writes.{HasRecorded}
 
 -- Where the keys lead once these records of a terminal's open segment, the newest first, are taken off: each gives its
--- key the link back that led to the record before, or none where the commit of that was given up
+-- key the link back that led to the record before, or none where that record's commit was given up
 abbrev pub led_back : ℕ → ℕ → List Logged → (Key → Option Link) → Key → Option Link
 led_back h t [] links = links
 led_back h t (r ∷ rs) links = led_back h t rs
     (linked links (record_key r.before) (unended h (link_from (Open t) r.previous)))
 
--- so it is after this count of the newest records was put back
+-- the links lead so after the `count` newest records were put back
 abbrev pub LeadBack : UndoState → UndoState → ℕ → ℕ → Type 0
 LeadBack old new t count = (k : Key) → seen new k ≡ led_back (horizon old.log) t (take count (records_at old.log t))
     (seen old) k

@@ -8,7 +8,7 @@ use Rattle.oe_model.specs.Changes.{Record, InsertedHistory}
 use Rattle.oe_undo.specs.Links.{LinkMaps, HasPlace, GivesUpLink}
 use Rattle.oe_undo.specs.Undo.{UndoState, seen}
 
--- rows of this key's table are changed; those of ITEM never are
+-- rows of this key's table are changed; ITEM rows never are
 abbrev pub MayChange : Key → Type 0
 MayChange (key.Item k) = ⊥
 MayChange _ = Unit {0}

@@ -30,7 +30,7 @@ pub record StandsRewound (w v : SegmentLog) (n : ℕ) : Type 0 where
   pub seals : seals_of w ≡ drop n (seals_of v)
   pub counts : counts_of w ≡ counts_before system (counts_of v) (take n (seals_of v))
 
--- why a rewind is refused; the first in this order is named: transactions are open, so many, or the moment is not kept
+-- why a rewind is refused; the first in this order is named: n transactions are open, or the moment is not kept
 abbrev pub CantRewind : SegmentLog → ℕ → Refusal → Type 0
 CantRewind v m (NotQuiet n) = (n ≡ open_total v) × (0 < n)
 CantRewind v m e = (open_total v ≡ 0) × IsUnkept v m e

@@ -21,7 +21,7 @@ pub record Unwinding (ts : tables.Places) (u : SegmentLog) (t : ℕ) (ts' : tabl
   pub places : GivesUpUnnamed ts ts' (undo_of u) (undo_of u')
   pub own : HavePlaces ts' ((undo_of u').active t)
 
--- so many records were put back, the newest first, and dropped
+-- `count` records were put back, the newest first, and dropped
 pub record TakesBack (ts : tables.Places) (u : SegmentLog) (t count : ℕ) (ts' : tables.Places) (u' : SegmentLog) : Type
     0 where
   pub rows : rows ts' ≡ unwind system (take count ((undo_of u).active t)) (rows ts)

@@ -55,7 +55,7 @@ pub record IsRecorded (c : Change) (old new : Places) (u u' : UndoState) (t : �
   pub size : length u'.log.terminals ≡ length u.log.terminals
   pub extents : u'.log.extents ≡ u.log.extents
 
--- so it is with the change that the write is of these rows
+-- the change that the write is of these rows has been recorded so
 abbrev pub HasRecorded : Write → Places → Places → UndoState → UndoState → ℕ → Type 0
 HasRecorded w old new u u' t = IsSomeAnd (written w (rows old)) (λ c. IsRecorded c old new u u' t)
 

@@ -52,8 +52,8 @@ pub fn purge(tables: &mut Tables, undo: &mut Undo, moment: Moment) -> Result<(),
     }
 }
 
-/// Drops the segments of the `count` oldest commits, the last of which made `moment`, with the
-/// places of what they deleted.
+/// Drops the segments of the `count` oldest commits, the last of which made `moment`, and gives up
+/// the places of what they deleted.
 fn forget_oldest(tables: &mut Tables, undo: &mut Undo, moment: Moment, count: usize)
     requires kept { count ≤ length undo.old.log.committed }
     requires last { moment

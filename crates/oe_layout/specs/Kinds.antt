@@ -28,7 +28,7 @@ kind_numbers DeletedNewOrder = (3, 5)
 abbrev pub kind_image : RecordKind → List ℕ
 kind_image k = number 1 (kind_numbers k).0 ++ number 1 (kind_numbers k).1
 
--- that of a record
+-- the kind of a record
 abbrev pub kind_of : model.Record → RecordKind
 kind_of (model.InsertedHistory k v) = InsertedHistory
 kind_of (model.InsertedNewOrder k v) = InsertedNewOrder

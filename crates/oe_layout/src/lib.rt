@@ -1,8 +1,8 @@
 //! Undo records as bytes, as they will lie in the ring. A record has its length at both its ends,
 //! so that it is found from either; between them stand what was done, and in which table, where the
 //! previous record of the same row lies, the key, and the row before. Numbers have their most
-//! significant byte first. Bytes that are no record are refused. No call takes memory. Clauses of
-//! the standard are those of TPC Benchmark C 5.11.
+//! significant byte first. Bytes that are no record are refused. No call takes memory. Clause
+//! numbers are TPC Benchmark C 5.11's.
 #![tactic(auto)]
 
 pub mod kinds;

@@ -21,7 +21,7 @@ pub const CONTENTS_START: usize = LINK_START + LINK_BYTES;
 /// How many bytes stand before the contents and behind them.
 pub const OTHER_BYTES: usize = CONTENTS_START + LENGTH_BYTES;
 
-/// The most bytes that contents have: those of a customer's key and row.
+/// The most bytes that contents have: a customer's key and row.
 pub const MOST_CONTENTS: usize = 688;
 
 /// The most bytes that a record has.

@@ -110,7 +110,7 @@ number_or_name None name = option_map (λ n. (choice.LastName n.0, n.1)) name
 unfoldable pub customer_of : List ℕ → Option (CustomerChoice × List ℕ)
 customer_of s = number_or_name (number_before 1 3_000 s) (name_before s)
 
--- the same at the end
+-- a number, or else a last name, at the end
 abbrev pub last_number_or_name : Option ℕ → Option (List ℕ) → Option CustomerChoice
 last_number_or_name (Some c) name = Some (choice.Number c)
 last_number_or_name None name = option_map (λ n. choice.LastName n) name

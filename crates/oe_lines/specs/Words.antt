@@ -23,7 +23,7 @@ number_of low high s = do
   n ← within low high p.0
   Some (n, p.1)
 
--- the same before a byte, which is passed over
+-- a number before a byte, which is passed over
 unfoldable pub number_then : ℕ → ℕ → ℕ → List ℕ → Option (ℕ × List ℕ)
 number_then mark low high s = do
   p ← number_of low high s
@@ -34,7 +34,7 @@ number_then mark low high s = do
 abbrev pub number_before : ℕ → ℕ → List ℕ → Option (ℕ × List ℕ)
 number_before low high s = number_then 32 low high s
 
--- the same at the end
+-- a number at the end
 unfoldable pub last_number : ℕ → ℕ → List ℕ → Option ℕ
 last_number low high s = do
   p ← number_of low high s
@@ -65,7 +65,7 @@ counted s =
 unfoldable pub stamp_of : List ℕ → Option ℕ
 stamp_of s = let n = counted s in if nat_lt n SECONDS && bytes_eq (stamp_text n) s then Some n else None
 
--- the same of the first 19 bytes before a space, which is passed over
+-- a stamp in the first 19 bytes before a space, which is passed over
 unfoldable pub stamp_before : List ℕ → Option (ℕ × List ℕ)
 stamp_before s =
     if nat_lt (length s) 19 then None
@@ -82,7 +82,7 @@ is_capital b = nat_le 65 b && nat_le b 90
 unfoldable pub last_name_of : List ℕ → Option (List ℕ)
 last_name_of s = if (nat_le 1 (length s) && nat_le (length s) 16) && list_all is_capital s then Some s else None
 
--- the same before the first space, which is passed over
+-- such letters before the first space, which is passed over
 unfoldable pub name_before : List ℕ → Option (List ℕ × List ℕ)
 name_before s = do
   n ← position (λ b. b == 32) s

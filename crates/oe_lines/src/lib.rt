@@ -1,5 +1,5 @@
-//! The grammar of a script's lines. Nothing here takes memory. Clauses of the standard are those of
-//! TPC Benchmark C 5.11.
+//! The grammar of a script's lines. Nothing here takes memory. Clause numbers are TPC Benchmark C
+//! 5.11's.
 #![tactic(auto)]
 
 pub mod commands;

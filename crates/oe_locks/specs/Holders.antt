@@ -21,7 +21,7 @@ abbrev pub mode_among : Holders → ℕ → Option Mode
 mode_among (Alone t) u = if u == t then Some Exclusive else None
 mode_among (Together set) u = if has set u then Some Shared else None
 
--- the same where perhaps nobody holds it
+-- the mode in which a terminal holds a name that perhaps nobody holds
 abbrev pub mode_by : Option Holders → ℕ → Option Mode
 mode_by None u = None
 mode_by (Some h) u = mode_among h u

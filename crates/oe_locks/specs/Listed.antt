@@ -11,11 +11,11 @@ abbrev pub stands : List Name → Name → Bool
 stands [] q = false
 stands (x ∷ xs) q = is_name q x || stands xs q
 
--- the terminal holds no name but those of the list
+-- the terminal holds no name that is not in the list
 abbrev pub IsListed : Holdings → ℕ → List Name → Type 0
 IsListed locks t names = (q : Name) → stands names q ≡ false → held locks t q ≡ None
 
--- each terminal holds no name but those of its list; the first list is nobody's
+-- each terminal holds no name that is not in its list; the first list is nobody's
 abbrev pub AreListed : Holdings → List (Vec Name) → Type 0
 AreListed locks lists = (t : ℕ) → 1 ≤ t → IsListed locks t (get_or (map (λ v. v.items) lists) t [])
 

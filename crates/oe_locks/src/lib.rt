@@ -61,7 +61,7 @@ fn depart(holders: &mut NameMap, name: &Name, before: &Holders, terminal: Termin
     }
 }
 
-// The same, where perhaps nobody holds it.
+// Takes the terminal from a name's holders, where perhaps nobody holds the name.
 #[inline(never)]
 fn leave_elsewhere(holders: &mut NameMap, name: &Name, terminal: Terminal)
     ensures own { GivesBack holders.old holders.new terminal name.now None }
@@ -73,7 +73,8 @@ fn leave_elsewhere(holders: &mut NameMap, name: &Name, terminal: Terminal)
     }
 }
 
-// The same, with one look where the terminal alone holds the name and it is the last on the map's list.
+// Takes the terminal from a name's holders, with one look where it alone holds the name, the last
+// on the map's list.
 #[inline(always)]
 fn leave(holders: &mut NameMap, name: &Name, terminal: Terminal)
     ensures own { GivesBack holders.old holders.new terminal name.now None }
@@ -85,7 +86,8 @@ fn leave(holders: &mut NameMap, name: &Name, terminal: Terminal)
     leave_elsewhere(holders, name, terminal);
 }
 
-// The same with each name of the terminal's list, from the last one on. The list keeps its room.
+// Takes the terminal from the holders of each name of its list, from the last one on. The list
+// keeps its room.
 fn leave_all(holders: &mut NameMap, names: &mut Vec<Name>, terminal: Terminal)
     requires { IsListed holders.old terminal names.old.items }
     ensures own { HoldsNothing holders.new terminal }

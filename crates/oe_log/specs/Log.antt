@@ -149,7 +149,7 @@ reopened v (c ∷ cs) =
 
 -- ---- when a record has no room
 
--- how many extents all records fill, those of each segment in order
+-- how many extents all records fill, each segment's in order
 abbrev pub used_of : SegmentLog → ℕ
 used_of v =
     sum_by (λ s. (filled (lengths (records_in s.active))).0) v.terminals

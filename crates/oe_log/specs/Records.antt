@@ -35,7 +35,7 @@ StandElsewhere a rs = AllByRecursion (λ r. r.address ≢ a) rs
 
 -- ---- records by their addresses
 
--- this record is one of those
+-- this record is in the list
 abbrev pub IsAmong : Logged → List Logged → Type 0
 IsAmong r [] = ⊥
 IsAmong r (x ∷ xs) = (x ≡ r) ⊎ IsAmong r xs

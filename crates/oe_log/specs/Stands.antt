@@ -29,7 +29,7 @@ undo_of v = record {
   history = map (λ c. model_records c.records) v.committed;
 }
 
--- the same, for the machine of any layout of records
+-- these records, for the machine of any layout
 abbrev pub undo_in : (layout : Layout) → SegmentLog → Undo (machine layout)
 undo_in layout v = record {
   active = λ t. model_records (records_at v t);

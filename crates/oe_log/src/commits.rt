@@ -1,5 +1,5 @@
-//! Commits: how an open segment becomes that of one, and how their segments are given up, or opened
-//! again.
+//! Commits: how an open segment becomes a commit's, and how commits' segments are given up, or
+//! opened again.
 ghost use Rattle.std.specs.Prelude.{◌≡◌, ◌+◌, ◌-◌, ℕ, length, slice_get, option_map, None, IsSome};
 ghost use Rattle.oe_log.specs.Log.{active_at, total_count, owner_of, sealed, with_newest, reopened};
 ghost use Rattle.oe_log.specs.Moments.{newest, horizon};

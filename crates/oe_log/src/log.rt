@@ -1,11 +1,10 @@
 //! The undo log: the segments of undo records of one transaction each.
 //!
-//! Records lie in the ring as byte strings, those of each terminal's open transaction in its slot,
-//! those of a commit in its place. Heads stand beside them: whose a segment is, and how many
-//! records it has. By the invariant each string is a record's, heads and strings are as many, and
-//! the ring and the list of commits have room for the commit of each open segment. `new` and
-//! `open_segment` may be refused memory, `push` is refused where the ring is full, and no other
-//! call is refused.
+//! Records lie in the ring as byte strings: each terminal's open transaction has its slot, and a
+//! commit its place. Heads stand beside them: whose a segment is, and how many records it has. By
+//! the invariant each string is a record's, heads and strings are as many, and the ring and the
+//! list of commits have room for the commit of each open segment. `new` and `open_segment` may be
+//! refused memory, `push` is refused where the ring is full, and no other call is refused.
 ghost use Rattle.std.specs.Prelude.{◌≡◌, ℕ, replicate, IfOk};
 ghost use Rattle.oe_log.specs.Log.{no_segments};
 ghost use Rattle.oe_log.specs.Kept.{idle_heads};
@@ -48,8 +47,8 @@ impl Segment {
     }
 }
 
-/// The segments of undo records: the open one of each terminal, and those of commits, the newest
-/// first; and the terminals' counts of commits. Moment `newest` less k is that before the k newest
+/// The segments of undo records: each terminal's open one, and the commits', the newest first; and
+/// the terminals' counts of commits. Moment `newest` less k is the moment before the k newest
 /// commits.
 ///
 /// All memory for records is taken by `new`, and that for a segment's later commit by

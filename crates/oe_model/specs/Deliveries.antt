@@ -44,7 +44,7 @@ at_hand q done = in_district q (length done + 1)
 abbrev pub after_done : DeliveriesRequest → List DistrictDelivery → Position
 after_done q done = cond (length done == 10) (DeliveriesEnd done) (InDeliveries q done DeliveryQueue)
 
--- a transaction of all ten districts, of which these are done
+-- a transaction of all ten districts, once these are done
 abbrev pub among_ten : DeliveriesRequest → List DistrictDelivery → Setting
 among_ten q done = record {
   here = InDeliveries q done;

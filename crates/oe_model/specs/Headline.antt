@@ -131,8 +131,7 @@ pub record Schema_always_holds : Type 0 where
   pub of_tables : Holds_of_tables system Meets
   pub while_undone : Holds_while_undone system Meets
   pub while_rewound : Holds_while_rewound system Meets
-  -- and between any two of all stored records that are put back in turn, of which each finds the row that its change
-  -- left
+  -- and between any two of all stored records that are put back in turn; each finds the row that its change left
   pub in_turn : Each_goes_back system Meets
   pub in_turn_here : Each_goes_back_here system Meets
 
@@ -141,9 +140,9 @@ pub record Is_consistent (w : World system) : Type 0 where
   pub of_versions : (m : ℕ) → Conditions (at system w m)
   pub when_quiet : IsQuiet system w → Conditions (tables system w)
 
--- so it is of every world that steps lead to
+-- they hold so of every world that steps lead to
 pub record Conditions_hold : Type 0 where
   pub of_versions : (w : World system) → IsReached system w → (m : ℕ) → Conditions (at system w m)
   pub when_quiet : (w : World system) → IsReached system w → IsQuiet system w → Conditions (tables system w)
-  -- and of each world that a run passes, of which each row that ends a transaction ends it whole
+  -- and of each world that a run passes; each row of the run that ends a transaction ends it whole
   pub along_runs : Runs_pass system Is_consistent (IsEnding system)

@@ -89,7 +89,7 @@ abbrev pub before_length : Option Row → ℕ
 before_length None = 0
 before_length (Some r) = row_length r
 
--- Of a record: its length twice in 2 bytes each, what was done to a row of which table in 1 and 1, the previous
--- record's address in 4 and its moment in 8, the key, and the row before.
+-- Of a record: its length twice in 2 bytes each, what was done to the row in 1, its table in 1, the previous record's
+-- address in 4 and its moment in 8, the key, and the row before.
 abbrev pub record_length : Record → ℕ
 record_length b = 18 + key_length (record_key b) + before_length (row_before b)

@@ -44,8 +44,8 @@ conflict Exclusive m = true
 abbrev pub hold : Name → theory.Mode → Hold Name
 hold n m = record { name = n; mode = m }
 
--- the name that a row lies under, present or absent: a queue's is that of all NEW-ORDER rows of its district, an
--- order's that of its ORDER row and its lines. ITEM rows never change, and a HISTORY row is its own transaction's
+-- the name that a row lies under, present or absent: a queue's name is over all NEW-ORDER rows of its district, an
+-- order's over its ORDER row and its lines. ITEM rows never change, and a HISTORY row is its own transaction's
 abbrev pub governs : Key → Guard Name
 governs (key.Warehouse k) = Under (name.Warehouse k)
 governs (key.District k) = Under (name.District k)

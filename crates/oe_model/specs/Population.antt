@@ -48,7 +48,7 @@ unfoldable pub dec : ℕ → ℕ → List ℕ
 dec n zero = []
 dec n (suc k) = dec (n / 10) k ++ (48 + n % 10) ∷ []
 
--- n letters of the alphabet, which begins anew after Z; the first is that of number i, where A has number 0
+-- n letters of the alphabet, which begins anew after Z; the first has number i, where A has number 0
 unfoldable pub letters : ℕ → ℕ → List ℕ
 letters n i = map (λ j. 65 + (i + j) % 26) (range_with_len 0 n)
 

@@ -39,7 +39,7 @@ found e (Some x) f = f x
 abbrev pub orders_of : CustomerKey → FinMap order_cmp Order → List (OrderKey × Order)
 orders_of k orders = filter (λ e. eq_by_cmp customer_cmp (customer_of_order e.0 e.1) k) (entries orders)
 
--- that of them of which none has a larger O_ID
+-- the customer's order with the largest O_ID
 abbrev pub last_order : CustomerKey → FinMap order_cmp Order → Option (OrderKey × Order)
 last_order k orders = find (λ e. not (list_any (λ g. nat_le (suc e.0.order) g.0.order) (orders_of k orders)))
     (orders_of k orders)
@@ -53,7 +53,7 @@ status_line x = record {
   delivery = x.delivery;
 }
 
--- what is told of an order, with its lines by OL_NUMBER
+-- what Order-Status says of an order, with its lines by OL_NUMBER
 abbrev pub status_of : FinMap order_line_cmp OrderLine → Option (OrderKey × Order) → Option OrderStatus
 status_of lines None = None
 status_of lines (Some e) =
@@ -88,7 +88,7 @@ abbrev pub is_low : LevelQuery → List (OrderLineKey × OrderLine) → StockKey
 is_low q lines e = (e.0.warehouse == q.district.warehouse) && nat_le (suc e.1.quantity) q.threshold && list_any
     (λ l. l.1.item == e.0.item) lines
 
--- the number of them is that of the items, since a warehouse has one STOCK row of an item
+-- there are as many as items, since a warehouse has one STOCK row of an item
 abbrev pub stock_level : LevelQuery → Rows → Outcome QueryReply Refusal
 stock_level q r =
     found (NoSuchRow (key.District q.district)) (get r.districts q.district) (λ x.

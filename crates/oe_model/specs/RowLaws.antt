@@ -9,7 +9,7 @@ use Rattle.oe_model.specs.Changes.{put_back, redo}
 use Rattle.oe_model.specs.Meets.{Meets, Accepts, Cause}
 use Rattle.std.specs.Prelude.{Some}
 
--- the nine tables are one map from key to row, of which a change gives one key another row
+-- the nine tables are one map from key to row; a change gives one key another row
 pub record Tables_are_a_map : Type 0 where
   pub key_true : (a b : Key) → is_key a b ≡ true → a ≡ b
   pub key_refl : (a : Key) → is_key a a ≡ true
@@ -24,7 +24,7 @@ pub record Records_undo : Type 0 where
   pub before : (c : Change) (r : Rows) → row_before (record_of c (row_at r (key_of c))) ≡ row_at r (key_of c)
   pub at_put_back : (b : Record) (r : Rows) (k : Key)
       → row_at (put_back b r) k ≡ cond (is_key k (record_key b)) (row_before b) (row_at r k)
-  -- that of an accepted insert has no row before, that of an accepted update or delete has one
+  -- an accepted insert's record has no row before, an accepted update's or delete's has one
   pub made : (c : Change) (r : Rows) → Accepts c r → IsRecord (record_of c (row_at r (key_of c)))
   pub redoes : (c : Change) (v : Option Row) (r : Rows) → row_at r (key_of c) ≡ row_of c
       → redo (record_of c v) r ≡ Some c

@@ -1,5 +1,4 @@
--- The nine tables (clause 1.3), and the tables as one map from key to row. The ranges of columns are those of the rows'
--- types.
+-- The nine tables (clause 1.3), and the tables as one map from key to row. The rows' types have the ranges of columns.
 use Rattle.std.specs.Prelude.{Bool, false, Option, None, Some, option_map}
 use Rattle.std.specs.Ordering.{eq_by_cmp}
 use Rattle.std.specs.declared.cmp.Ordering.{Ordering}

@@ -53,7 +53,7 @@ pub record Payment_is_exact : Type 0 where
   pub district : (q : PaymentRequest) (x : District) → (paid_district q x).ytd ≡ q.amount + x.ytd
   -- the data of a good credit stays
   pub good : (c : ℕ) (q : PaymentRequest) (x : Customer) → x.credit ≡ Good → (paid_customer c q x).data ≡ x.data
-  -- that of a bad credit begins with the payment and goes on with the old data; what is cut off is past 500 bytes
+  -- the data of a bad credit begins with the payment and goes on with the old data; what is cut off is past 500 bytes
   pub bad : (c : ℕ) (q : PaymentRequest) (x : Customer) → x.credit ≡ Bad
       → (cut : List ℕ)
       × (credit_entry (record { customer = customer_in q.customer_district c; district = q.district }) q.amount
@@ -143,7 +143,7 @@ pub record Name_is_middle : Type 0 where
       → chosen h (LastName last) m ≡ None
       → get m (customer_in h c) ≡ Some x → x.name.last ≡ last → ⊥
 
--- an order of the customer, of which no order has a larger O_ID
+-- an order of the customer, none of whose orders has a larger O_ID
 pub record IsLastOrder (r : Rows) (k : CustomerKey) (e : OrderKey × Order) : Type 0 where
   pub there : get r.orders e.0 ≡ Some e.1
   pub own : customer_of_order e.0 e.1 ≡ k

@@ -174,6 +174,6 @@ machine layout = record {
   terminal_limit = terminal_limit;
 }
 
--- that of the server: its records lie in extents
+-- the server's machine: its records lie in extents
 abbrev pub system : Machine
 system = machine InExtents

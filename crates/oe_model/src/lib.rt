@@ -1,6 +1,6 @@
 //! The tables, transactions and consistency conditions of an order-entry server, as definitions,
-//! and their laws. Each public function has an empty body and carries one law; clauses of the
-//! standard are those of TPC Benchmark C 5.11.
+//! and their laws. Each public function has an empty body and carries one law; clause numbers are
+//! TPC Benchmark C 5.11's.
 #![tactic(auto)]
 
 pub mod populations;
@@ -50,7 +50,7 @@ pub fn transactions_are_atomic()
     ensures { Transactions_are_atomic }
 {}
 
-/// The commits are those of transactions run one at a time; a rewind restores each moment's
+/// The same transactions, run one at a time, make the same commits; a rewind restores each moment's
 /// version.
 pub fn versions_are_serial()
     ensures { Versions_are_serial }

@@ -8,8 +8,7 @@ use Rattle.oe_requests.specs.declared.requests.CustomerChoice.{CustomerChoice}
 use Rattle.oe_requests.specs.declared.requests.CustomerChoice.TheVariants.{Number, LastName}
 use Rattle.oe_model.specs.Choice.{namesakes, middle}
 
--- the C_ID that is given, whether or not there is such a row, or that of the customer in the middle of those of the
--- last name
+-- the C_ID that is given, whether or not there is such a row, or the C_ID of the middle customer of the last name
 abbrev pub meant : DistrictKey → CustomerChoice → FinMap customer_cmp Customer → Option ℕ
 meant h (Number c) customers = Some c
 meant h (LastName last) customers = middle (namesakes h last customers)

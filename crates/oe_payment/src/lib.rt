@@ -1,5 +1,5 @@
-//! The Payment transaction (clause 2.5), a stage at a time. Clauses of the standard are those of
-//! TPC Benchmark C 5.11.
+//! The Payment transaction (clause 2.5), a stage at a time. Clause numbers are TPC Benchmark C
+//! 5.11's.
 #![tactic(auto)]
 
 pub mod choices;

@@ -1,5 +1,5 @@
-//! The population by formula: all rows of the nine tables at a scale. Clauses of the standard are
-//! those of TPC Benchmark C 5.11.
+//! The population by formula: all rows of the nine tables at a scale. Clause numbers are TPC
+//! Benchmark C 5.11's.
 #![tactic(auto)]
 
 mod fills;

@@ -14,13 +14,13 @@ pub record TheQueue : Type 0 where
   pub table : TableId
   pub key : Badge (Key Message)
 
--- a sender: of which queue and which terminal, and what it submitted
+-- a sender: its queue, its terminal, and what it submitted
 pub record TheSender : Type 0 where
   pub queue : TheQueue
   pub terminal : ℕ
   pub sent : List Message
 
--- the taker: of which queue, and what it took
+-- the taker: its queue, and what it took
 pub record TheTaker : Type 0 where
   pub queue : TheQueue
   pub taken : List Message

@@ -8,7 +8,7 @@ abbrev pub sender_of : Message → ℕ
 sender_of (Delivery t d) = t
 sender_of (End t) = t
 
--- those of one terminal, in their order
+-- the messages of one terminal, in their order
 abbrev pub messages_of : ℕ → List Message → List Message
 messages_of t [] = []
 messages_of t (m ∷ ms) = if sender_of m == t then m ∷ messages_of t ms else messages_of t ms

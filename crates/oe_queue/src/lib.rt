@@ -1,7 +1,6 @@
 //! A queue of up to 16 messages, in which terminals leave deliveries for the one that carries them
 //! out (clause 2.7.2). What was taken of a sender is a beginning of what it submitted, in order,
-//! each once; with its end mark, the whole. Clauses of the standard are those of TPC Benchmark C
-//! 5.11.
+//! each once; with its end mark, the whole. Clause numbers are TPC Benchmark C 5.11's.
 #![tactic(auto)]
 
 pub mod ends;

@@ -1,6 +1,6 @@
 //! The small values between terminals and the server: requests, queries and errands, their replies,
-//! and refusals; steps, and what they are answered. Copying any of them takes no memory. Clauses of
-//! the standard are those of TPC Benchmark C 5.11.
+//! and refusals; steps, and what they are answered. Copying any of them takes no memory. Clause
+//! numbers are TPC Benchmark C 5.11's.
 #![tactic(auto)]
 
 pub mod answers;

@@ -1,7 +1,7 @@
 //! Refusals, and the columns whose range a result may leave.
 //!
-//! Their numbers are 2 to 17: number 1 is that of a script's line which is none of the forms. Each
-//! refusal says its cause; what has changed then is said where it is answered.
+//! Their numbers are 2 to 17: number 1 is a script's line which is none of the forms. Each refusal
+//! says its cause; the calls that answer it say what has changed then.
 ghost use Rattle.std.specs.Prelude.{◌≡◌};
 ghost use Rattle.oe_requests.specs.Refusal.{refusal_number, column_name};
 

@@ -1,7 +1,7 @@
 //! The nine tables' keys and rows, each column in its range by type, and the names that
 //! transactions lock. Beside them stand the total of an order and the data of a customer with bad
-//! credit. Rows are copied by `copied`, which takes no memory, and compared by `is_same`. Clauses
-//! of the standard are those of TPC Benchmark C 5.11.
+//! credit. Rows are copied by `copied`, which takes no memory, and compared by `is_same`. Clause
+//! numbers are TPC Benchmark C 5.11's.
 #![tactic(auto)]
 
 pub mod credits;

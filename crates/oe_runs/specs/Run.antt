@@ -67,7 +67,7 @@ pub record Ran (w : World system) (is : List Step) (ys : List Answer) (w' : Worl
       → is_rolled_back system t (events system after later) ≡ true
       → Runs system w (steps_of system (without system (events system before said) t (events system after later)))
       (answers_of system (without system (events system before said) t (events system after later))) w'
-  -- the commits are those of transactions run one at a time
+  -- the same transactions, run one at a time, make the same commits
   pub serial : IsSerial system w'.counts w'.base w'.history
   -- conditions 1 to 4 (clauses 3.3.2.1 to 3.3.2.4) hold of the version of each moment, and of the tables when none is
   -- open

@@ -61,7 +61,7 @@ abbrev pub Ended : {T E : Type 0} → Option Sink → List ℕ → Option Sink �
 Ended start input now r = MatchResult r (λ _. (out : List ℕ) × Output input out × Sent start [] now [] out)
     (λ _. (out : List ℕ) × Output input out × Cut start [] now out)
 
--- so many calls gave these bytes, and none failed
+-- calls gave these bytes, no more calls than bytes, and none failed
 abbrev pub ReadSoFar : Option Source → Option Source → List ℕ → ℕ → Type 0
 ReadSoFar None now read calls = ⊤
 ReadSoFar (Some a) None read calls = ⊥

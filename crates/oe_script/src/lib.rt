@@ -1,7 +1,6 @@
 #![tactic(auto)]
 //! What a script is answered: a session between the bytes that are read and the bytes that are
-//! written. Clauses of the standard are those of TPC Benchmark C 5.11. A test says four lines to a
-//! session:
+//! written. Clause numbers are TPC Benchmark C 5.11's. A test says four lines to a session:
 //!
 //! ```
 //! let mut session = Session::new();

@@ -51,7 +51,7 @@ pub fn answer_line<W: Outlet>(
     take_line(core, alloc, line, number, out, to)
 }
 
-// The same where there is room.
+// Takes a line where there is room.
 #[inline(always)]
 fn take_line<W: Outlet>(
     core: &mut Option<Core>,

@@ -1,6 +1,6 @@
 #![tactic(auto)]
-//! An order-entry server that answers scripts and runs drives. Clauses of the standard are those of
-//! TPC Benchmark C 5.11.
+//! An order-entry server that answers scripts and runs drives. Clause numbers are TPC Benchmark C
+//! 5.11's.
 //!
 //! This file is trusted: it has no contract, and hands the script's bytes to `run_script`, whose
 //! contract tells all that is answered, or the numbers of a drive to `run_drive`, whose contract

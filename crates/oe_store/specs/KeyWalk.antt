@@ -6,7 +6,7 @@ use Rattle.oe_rows.specs.declared.keys.Table.{Table}
 use Rattle.oe_rows.specs.declared.keys.Table.TheVariants as table
 use Rattle.oe_store.specs.Places.{Places}
 
--- those that were blanked too
+-- the keys that have a place, blanked ones too
 abbrev pub placed_keys : Table → Places → List Key
 placed_keys table.Warehouse s = map (λ e. key.Warehouse e.0) s.warehouses
 placed_keys table.District s = map (λ e. key.District e.0) s.districts

@@ -1,5 +1,5 @@
-//! The nine tables as one value, whose type keeps the schema. Clauses of the standard are those of
-//! TPC Benchmark C 5.11. A test asks and sets them so:
+//! The nine tables as one value, whose type keeps the schema. Clause numbers are TPC Benchmark C
+//! 5.11's. A test asks and sets them so:
 //!
 //! ```
 //! let oldest = tables.oldest(district)?.get();

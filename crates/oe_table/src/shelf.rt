@@ -202,7 +202,7 @@ impl<K: ShelvedKey, R> Shelf<K, R> {
         }
     }
 
-    // Where a key stands, or would stand.
+    // Finds where a key stands, or would stand.
     #[inline(always)]
     fn find(&self, key: &K) -> Result<usize, usize>
         requires { IsAscending K.cmp self.now }
@@ -215,7 +215,7 @@ impl<K: ShelvedKey, R> Shelf<K, R> {
         self.find_elsewhere(key)
     }
 
-    // The same, whatever the hint.
+    // Finds where a key stands, or would stand, whatever the hint.
     #[inline(never)]
     fn find_elsewhere(&self, key: &K) -> Result<usize, usize>
         requires { IsAscending K.cmp self.now }
@@ -349,7 +349,7 @@ impl<K: ShelvedKey, R> Shelf<K, R> {
         self.put_in(key, row)
     }
 
-    // The same, whether or not the key stands before the last one.
+    // Puts a row at a key, whether or not the key stands before the last one.
     #[inline(never)]
     fn put_in(&mut self, key: K, row: R) -> Result<(), NoMemory>
     where

@@ -21,7 +21,7 @@ own_district s terminal = record { warehouse = home s terminal; district = 1 + (
 abbrev pub other : Scale → ℕ → ℕ
 other s warehouse = 1 + warehouse % s.warehouses
 
--- the request's stamp: so many seconds after 2001-01-01T00:00:00, which is in seconds since 1900-01-01T00:00:00
+-- the stamp of request r: r seconds after 2001-01-01T00:00:00, in seconds since 1900-01-01T00:00:00
 abbrev pub stamp_of : ℕ → ℕ
 stamp_of r = 3_187_296_000 + r
 
@@ -35,7 +35,7 @@ district_in warehouse g =
 abbrev pub customer_number : ℕ → Lcg → ℕ × Lcg
 customer_number customers g = if customers == 3_000 then nurand 1_023 987 1 3_000 g else random 1 customers g
 
--- C_LAST, and its number, which is that of some customer's name (clause 4.3.2.3)
+-- C_LAST, and its number, which some customer's name has (clause 4.3.2.3)
 abbrev pub name_number : ℕ → Lcg → ℕ × Lcg
 name_number customers g = if customers == 3_000 then nurand 255 157 0 999 g else random 0 (min customers 1_000 - 1) g
 

@@ -32,7 +32,7 @@ line s warehouse is_unused g =
       q.1,
     )
 
--- so many lines, each of an item that is there
+-- as many lines as asked for, each of an item that is there
 abbrev pub used_lines : Scale → ℕ → ℕ → Lcg → List RequestLine × Lcg
 used_lines s warehouse zero g = ([], g)
 used_lines s warehouse (suc n) g =
@@ -40,7 +40,7 @@ used_lines s warehouse (suc n) g =
     let next = line s warehouse false before.1 in
     (before.0 ++ next.0 ∷ [], next.1)
 
--- so many lines, of which the last one's item may be unused (clause 2.4.1.5)
+-- `count` lines; the last one's item may be unused (clause 2.4.1.5)
 abbrev pub lines : Scale → ℕ → Bool → ℕ → Lcg → List RequestLine × Lcg
 lines s warehouse is_unused count g =
     let before = used_lines s warehouse (count - 1) g in
@@ -107,7 +107,7 @@ errand_of_kind kind.StockLevel s terminal r g = let q = stock_level s terminal g
 abbrev pub errand_of : Scale → ℕ → ℕ → Lcg → Errand × Lcg
 errand_of s terminal r g = errand_of_kind (kind_of r) s terminal r g
 
--- the generator after so many errands
+-- the generator after this number of errands
 abbrev pub words_after : Scale → ℕ → ℕ → ℕ → Lcg
 words_after s seed terminal zero = words_of seed terminal
 words_after s seed terminal (suc r) = (errand_of s terminal (suc r) (words_after s seed terminal r)).1

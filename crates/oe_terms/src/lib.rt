@@ -1,6 +1,6 @@
 //! The requests of seeded terminals: what a terminal sends as its r-th is a function of the scale,
-//! the seed, the terminal and r. Nothing can fail, and nothing takes memory. Clauses of the
-//! standard are those of TPC Benchmark C 5.11.
+//! the seed, the terminal and r. Nothing can fail, and nothing takes memory. Clause numbers are TPC
+//! Benchmark C 5.11's.
 #![tactic(auto)]
 
 pub mod columns;

@@ -1,4 +1,4 @@
--- The texts of answers, each of which is one line.
+-- The texts of answers, one line each.
 use Rattle.std.specs.Prelude.{ℕ, List, ◌++◌, decimal, codes}
 use Rattle.std.specs.List.{join_with_byte}
 use Rattle.oe_requests.specs.Condition.{condition_number}

@@ -1,5 +1,5 @@
 //! The texts of answers and of dumped rows, appended to a buffer of fixed size. Nothing here takes
-//! memory. Clauses of the standard are those of TPC Benchmark C 5.11.
+//! memory. Clause numbers are TPC Benchmark C 5.11's.
 #![tactic(auto)]
 
 pub mod answers;

@@ -55,9 +55,9 @@ pub record Machine : Type 1 where
   pub put : Change → Map → Map
   -- the tables accept a change: its key is absent or present as it must be, and what its row refers to is there
   pub Accepts : Change → Map → Type 0
-  -- undo records: that of a change, by the row before it; its key; the row before, by the row that stands there; what
-  -- putting it back leaves; the change itself, where the row that it left still stands; and its length, with an
-  -- extent's (in bytes)
+  -- undo records: a change's, by the row before it; its key; the row before, by the row that stands there; what putting
+  -- it back leaves; the change itself, where the row that it left still stands; and its length, with an extent's (in
+  -- bytes)
   pub Record : Type 0
   pub record_of : Change → Option Row → Record
   pub record_key : Record → Key

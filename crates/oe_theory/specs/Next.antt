@@ -110,7 +110,7 @@ module _ (M : Machine) where
   abbrev pub record_on : Change → Map → Record
   record_on c r = record_of c (row_at r (key_of c))
 
-  -- the lengths with that of one more record, where r are the tables before
+  -- the lengths with one more record's, where r are the tables before
   abbrev pub add_length : Option Change → Map → List ℕ → List ℕ
   add_length None r ls = ls
   add_length (Some c) r ls = size_of (record_on c r) ∷ ls
@@ -193,7 +193,7 @@ module _ (M : Machine) where
   GivesWay f (Go c p) = Unit {0}
   GivesWay f (Ready y) = ⊥
 
-  -- and so it may be in place of this stage
+  -- memory may be wanted in place of this stage
   abbrev pub MayLackMemory : World M → ℕ → Open M → Ask Name Refusal → Type 0
   MayLackMemory w t o (Stop e) = yields (tx_of M t o) o.now.position e ≡ true
   MayLackMemory w t o a =
@@ -358,7 +358,7 @@ module _ (M : Machine) where
   Runs w [] (a ∷ ys) w' = ⊥
   Runs w (i ∷ is) [] w' = ⊥
 
-  -- the same over steps with their answers
+  -- such runs, over steps with their answers
   pub record Event : Type 0 where
     pub step : Step
     pub answer : Answer

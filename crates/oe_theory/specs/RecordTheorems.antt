@@ -22,8 +22,8 @@ module _ (M : Machine) where
       (w : World M) (u : Undo M) (t v : ℕ) (k : M.Key) → IsReached M w → Keeps M w u
       → HasRecord M k (u.active t) → HasRecord M k (u.active v) → t ≡ v
 
-  -- put back in turn, those of open transactions in any order and then those of commits from the newest, each record
-  -- finds the row that its change left, and P holds all the way
+  -- put back in turn, open transactions' in any order and then commits' from the newest, each record finds the row that
+  -- its change left, and P holds all the way
   abbrev pub Each_goes_back : (M.Map → Type 0) → Type 0
   Each_goes_back P =
       (w : World M) (u : Undo M) (ts : List ℕ) → IsReached M w → Keeps M w u → AreAll M w ts

@@ -26,7 +26,7 @@ module _ (M : Machine) where
   HorizonBy (Purged m) n after = (after ≡ m) × (n ≤ m)
   HorizonBy a n after = after ≡ n
 
-  -- the newest version: of a commit `Is_whole` tells; a rewind gives that of its moment; else it is the same
+  -- the newest version: of a commit `Is_whole` tells; a rewind gives its moment's; else it is the same
   abbrev pub LatestBy : World M → Answer M → World M → Type 0
   LatestBy w (Committed m y) v = Unit {0}
   LatestBy w (Rewound m) v = latest M v ≡ at M w m
@@ -51,7 +51,7 @@ module _ (M : Machine) where
   IsEnding w (Aborted e) (Advance t) v = Is_none M w t × Is_refused M w t e
   IsEnding w a i v = Unit {0}
 
-  -- so it is with each stage
+  -- each stage that ends its transaction ends it so
   abbrev pub Endings_are_whole : Type 0
   Endings_are_whole = (w v : World M) (i : Step M) (a : Answer M) → IsReached M w → Next M w i a v → IsEnding w a i v
 

@@ -211,7 +211,7 @@ module _ (M : Machine) where
     slots = set t None s.slots;
   }
 
-  -- the records with that of one more change of the tables r
+  -- the records with one more, of a change of the tables r
   abbrev pub with_record_of : Option Change → Map → List Record → List Record
   with_record_of None r bs = bs
   with_record_of (Some c) r bs = record_on M c r ∷ bs

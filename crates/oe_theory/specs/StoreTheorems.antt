@@ -37,7 +37,7 @@ module _ (M : Machine) where
   World_is_stored = (w : World M) (u : Undo M) → IsReached M w → Keeps M w u
       → (world_of M (store_of M w u) ≡ w) × IsStanding (store_of M w u)
 
-  -- and so each step of the world is one of the store
+  -- so each step of the world is a step of the store
   abbrev pub Store_follows : Type 0
   Store_follows =
       (s : Store M) (i : Step M) (a : Answer M) (v : World M) → IsStanding s → Next M (world_of M s) i a v
@@ -108,7 +108,7 @@ module _ (M : Machine) where
       → M.ask (tx_in M t p) p.position s.tables ≡ Stop e
       → Leads s (Advance t) (Aborted e) (dropped M t s)
 
-  -- and so does one that fails
+  -- a stage that fails rolls its transaction back
   abbrev pub Fails_here : Type 0
   Fails_here =
       (s : Store M) (t : ℕ) (p : Slot M) (e : M.Refusal) → IsStanding s → s.slots t ≡ Some p
@@ -168,7 +168,7 @@ module _ (M : Machine) where
       → M.find q (version_of M s m) ≡ Here f
       → Leads s (Read m q) (Replied f) s
 
-  -- and so is one that finds nothing there
+  -- a query that finds nothing there is answered from that version too
   abbrev pub Misses_here : Type 0
   Misses_here =
       (s : Store M) (m : ℕ) (q : M.Query) (e : M.Refusal) → IsStanding s → M.query_rejection q s.tables ≡ None
@@ -297,7 +297,7 @@ module _ (M : Machine) where
     -- if none is open below the limit none is, and then the tables are the newest version
     pub quiet : count_slots M s.slots M.terminal_limit ≡ 0 → IsQuietIn M s.slots
     pub quiet_tables : IsQuietIn M s.slots → s.tables ≡ newest_version M s
-    -- the newest version is that of the newest moment, and every version is good
+    -- the newest version is the newest moment's, and every version is good
     pub newest : newest_version M s ≡ version_of M s (newest_of M s)
     pub good : (m : ℕ) → M.Good (counts_of M s m) (version_of M s m)
 
@@ -355,8 +355,8 @@ module _ (M : Machine) where
       (s : Store M) (t v : ℕ) (k : M.Key) → IsStanding s → HasRecord M k (s.undo.active t)
       → HasRecord M k (s.undo.active v) → t ≡ v
 
-  -- put back in turn, those of open transactions in any order and then those of commits from the newest, each record
-  -- finds the row that its change left, and P holds all the way
+  -- put back in turn, open transactions' in any order and then commits' from the newest, each record finds the row that
+  -- its change left, and P holds all the way
   abbrev pub Each_goes_back_here : (M.Map → Type 0) → Type 0
   Each_goes_back_here P =
       (s : Store M) (ts : List ℕ) → IsStanding s → AreAllIn s ts
@@ -382,7 +382,7 @@ module _ (M : Machine) where
     pub seals : s'.seals ≡ s.seals
     pub counts : s'.counts ≡ s.counts
 
-  -- so it is after the transactions of a list that has all open ones were rolled back
+  -- the rows are so once the transactions of a list that has all open ones were rolled back
   abbrev pub Closing_leaves_newest : Type 0
   Closing_leaves_newest = (s : Store M) (ts : List ℕ) → IsStanding s → AreAllIn s ts → Is_closed s (all_dropped M ts s)
 

@@ -78,7 +78,7 @@ module _ (M : Machine) where
       → M.rejection o.request (latest M w) ≡ None
 
   -- the transaction that a refusal has ended: its program alone, from the newest version, comes to that refusal, which
-  -- is one of those that it may end with
+  -- it may end with
   pub record Is_refused (w : World M) (t : ℕ) (e : M.Refusal) : Type 0 where
     pub was : Open M
     pub is_open : w.active t ≡ Some was
@@ -103,11 +103,11 @@ module _ (M : Machine) where
       → M.act (tx_of M t o) o.now.position (tables M w) ≡ Go (Some c) p
       → M.Accepts c (tables M w)
 
-  -- the history is that of its transactions run one at a time, each on the version before it, with its reply
+  -- the same transactions, run one at a time, make the history, each on the version before it, with its reply
   abbrev pub History_is_serial : Type 0
   History_is_serial = (w : World M) → IsReached w → IsSerial M w.counts w.base w.history
 
-  -- the records that are stored are those of the world's transactions, and the lengths in the world are theirs
+  -- the stored records are the world's transactions', and the lengths in the world are theirs
   abbrev pub Nothing_is_recorded : Type 0
   Nothing_is_recorded = (b : M.Map) (n : ℕ) → Keeps M (opened b n) (no_records M)
 
@@ -134,20 +134,20 @@ module _ (M : Machine) where
       (w : World M) (u : Undo M) (t : ℕ) → IsReached w → Keeps M w u
       → unwind M (u.active t) (tables M w) ≡ tables M (put_active M t None w)
 
-  -- and putting those since its mark back gives the tables in which it is back at the mark
+  -- and putting its records since its mark back gives the tables in which it is back at the mark
   abbrev pub Undo_goes_back : Type 0
   Undo_goes_back =
       (w : World M) (u : Undo M) (t : ℕ) (o : Open M) → IsReached w → Keeps M w u → w.active t ≡ Some o
       → unwind M (take (length (u.active t) - length o.mark.changes) (u.active t)) (tables M w)
       ≡ tables M (put_active M t (Some (record o { now = o.mark; lengths = o.mark_lengths })) w)
 
-  -- the tables with all records put back, those of open transactions first, are the base
+  -- the tables with all records put back, open transactions' first, are the base
   abbrev pub Base_is_unwound : Type 0
   Base_is_unwound =
       (w : World M) (u : Undo M) (ts : List ℕ) → IsReached w → Keeps M w u → AreAll M w ts
       → unwind_commits M u.history (unwind_open M u.active ts (tables M w)) ≡ w.base
 
-  -- and with those of open transactions and of commits after a moment they are its version
+  -- and with the records of open transactions and of commits after a moment put back, they are its version
   abbrev pub Version_is_unwound : Type 0
   Version_is_unwound =
       (w : World M) (u : Undo M) (ts : List ℕ) (m : ℕ) → IsReached w → Keeps M w u → AreAll M w ts
@@ -274,7 +274,7 @@ module _ (M : Machine) where
     pub next : Next M w i answer after
     pub other : answer ≢ No_memory
 
-  -- so it is for each step
+  -- there is such an answer for each step
   abbrev pub Each_is_answered : Type 0
   Each_is_answered = (w : World M) (i : Step M) → IsReached w → IsStep i → IsAnswered w i
 

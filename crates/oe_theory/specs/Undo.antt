@@ -48,17 +48,17 @@ module _ (M : Machine) where
   unwind [] r = r
   unwind (b ∷ bs) r = unwind bs (put_back b r)
 
-  -- those of the open transactions of these terminals, in any order
+  -- the records of these terminals' open transactions put back, in any order
   abbrev pub unwind_open : (ℕ → List Record) → List ℕ → Map → Map
   unwind_open active [] r = r
   unwind_open active (t ∷ ts) r = unwind_open (set t [] active) ts (unwind (active t) r)
 
-  -- those of commits
+  -- the records of commits put back
   abbrev pub unwind_commits : List (List Record) → Map → Map
   unwind_commits [] r = r
   unwind_commits (bs ∷ ss) r = unwind_commits ss (unwind bs r)
 
-  -- the same for one key, by its own records alone
+  -- one key's row, by its own records alone
   abbrev pub restored : Key → List Record → Option Row → Option Row
   restored k [] v = v
   restored k (b ∷ bs) v = restored k bs (cond (is_key k (record_key b)) (restore b v) v)
@@ -68,7 +68,7 @@ module _ (M : Machine) where
   restored_open k active [] v = v
   restored_open k active (t ∷ ts) v = restored_open k (set t [] active) ts (restored k (active t) v)
 
-  -- and by those of commits
+  -- and by commits' records
   abbrev pub restored_commits : Key → List (List Record) → Option Row → Option Row
   restored_commits k [] v = v
   restored_commits k (bs ∷ ss) v = restored_commits k ss (restored k bs v)
@@ -152,7 +152,7 @@ module _ (M : Machine) where
   used_open active zero = 0
   used_open active (suc n) = used_open active n + (filled M (lengths_of (active n))).0
 
-  -- the same of commits
+  -- the extents that commits' records fill
   abbrev pub used_commits : List (List Record) → ℕ
   used_commits [] = 0
   used_commits (bs ∷ ss) = (filled M (lengths_of bs)).0 + used_commits ss

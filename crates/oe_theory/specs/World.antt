@@ -124,7 +124,7 @@ module _ (M : Machine) where
   version b [] = b
   version b (c ∷ cs) = map_after (whole c.tx (version b cs)) (version b cs)
 
-  -- the commits of each terminal after those of a list
+  -- the number of each terminal's commits, with a list of commits more
   abbrev pub counts_after : (ℕ → ℕ) → List Commit → ℕ → ℕ
   counts_after f [] = f
   counts_after f (c ∷ cs) = bump c.tx.terminal (counts_after f cs)
@@ -167,7 +167,7 @@ module _ (M : Machine) where
     pub terminal : IsTerminal c.tx.terminal
     pub number : c.tx.number ≡ suc (f c.tx.terminal)
 
-  -- the commits are those of a run one at a time
+  -- transactions that run one at a time make these commits
   abbrev pub IsSerial : (ℕ → ℕ) → Map → List Commit → Type 0
   IsSerial f b [] = Unit {0}
   IsSerial f b (c ∷ cs) = IsCommit (counts_after f cs) (version b cs) c × IsSerial f b cs

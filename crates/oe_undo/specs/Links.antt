@@ -102,7 +102,7 @@ SetsLink old new own l = (k : Key) → place_of new k ≡ cond (is_key own k) (S
 abbrev pub GivesPlaces : LinkMaps → LinkMaps → Key → Type 0
 GivesPlaces old new own = (k : Key) → place_of new k ≡ cond (comes_with own k) (Some (links_of old k)) (place_of old k)
 
--- the same, and the key has this link
+-- the key has a place, and those that get one with it, and the key has this link
 abbrev pub InsertsLink : LinkMaps → LinkMaps → Key → Option OwnedLink → Type 0
 InsertsLink old new own l =
     (k : Key) → place_of new k ≡ cond (is_key own k) (Some l)

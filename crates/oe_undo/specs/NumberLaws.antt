@@ -97,7 +97,7 @@ order_numbered j k n s p q =
     ∙ ap (λ (x : ℕ). record { warehouse = k.warehouse; district = x; order = j.order }) h.district
     ∙ ap (λ (x : ℕ). record { warehouse = k.warehouse; district = k.district; order = x }) (a.same ∙ sym b.same)
 
--- an order line's number, and that of its order
+-- an order line's number, and its order's
 record IsLine (k : OrderLineKey) (n : ℕ) : Type 0 where
   pub first : 0 < k.number
   pub last : k.number < 16

@@ -8,7 +8,8 @@ use Rattle.oe_model.specs.System.{system, terminal_limit}
 use Rattle.oe_log.specs.Stands.{undo_of}
 use Rattle.oe_log.specs.Log.{SegmentLog}
 
--- among a transaction's records, the newest first; where none is of the key, that of newer transactions
+-- the oldest record of the key among a transaction's records, the newest first; where none is of the key, the one of
+-- newer transactions
 abbrev pub oldest_in : Key → List Record → Option Record → Option Record
 oldest_in k [] newer = newer
 oldest_in k (b ∷ bs) newer = oldest_in k bs (cond (is_key k (record_key b)) (Some b) newer)

@@ -48,7 +48,7 @@ module _ {K : Type 0} (cmp : K → K → Ordering) (shelf_of : K → ℕ) (numbe
       (k : K) → key_place shelf_of number_of new k ≡ cond (eq_by_cmp cmp own k) (Some l)
       (key_place shelf_of number_of old k)
 
-  -- the same, and each key of the shelf up to this one has a place
+  -- the key's place has this link, and each key of the shelf up to this one has a place
   abbrev pub InsertsNumber : LinkTable → LinkTable → K → Option OwnedLink → Type 0
   InsertsNumber old new own l =
       (k : K) → key_place shelf_of number_of new k ≡ cond (eq_by_cmp cmp own k) (Some l)

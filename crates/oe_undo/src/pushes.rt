@@ -91,7 +91,7 @@ impl Undo {
         Ok(())
     }
 
-    // The same for a key that has no place for a link, and so no record.
+    // Pushes a record of a key that has no place for a link, and so no record.
     #[inline(never)]
     fn push_new(&mut self, segment: Segment, lent: &mut LinkedRecord<'_>) -> Result<(), CantPush>
         requires open { IsSome (active_at self.old.log segment) }

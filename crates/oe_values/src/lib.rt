@@ -1,6 +1,6 @@
 //! Numbers, money, moments, stamps and texts in their ranges, and short lists, whose copies take no
 //! memory; what is kept by terminal; what makes a value a key of a table, and the refusal of
-//! memory. Clauses of the standard are those of TPC Benchmark C 5.11.
+//! memory. Clause numbers are TPC Benchmark C 5.11's.
 #![tactic(auto)]
 
 pub mod fronts;

@@ -120,8 +120,8 @@ pub type RequestedItem = Number<1, 999_999>;
 /// The threshold of a stock level (clause 2.8.1.2).
 pub type Threshold = Number<10, 20>;
 
-/// The number of items below a threshold, among those of at most 20 orders of at most 15 lines
-/// (clause 2.8.2.2).
+/// The number of items below a threshold, of at most 20 orders of at most 15 lines (clause
+/// 2.8.2.2).
 pub type LowStock = Number<0, 300>;
 
 /// H_AMOUNT in cents as a payment asks for it, from 1.00 to 5,000.00 (clause 2.5.1.3).

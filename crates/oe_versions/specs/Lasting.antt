@@ -33,13 +33,13 @@ Lasts (key.OrderLine k) before now = IsSome before → IsSome now
 Lasts (key.Item k) before now = is_some before ≡ is_some now
 Lasts (key.Stock k) before now = is_some before ≡ is_some now
 
--- so it is of each moment
+-- rows last so at each moment
 abbrev pub Rows_last : Type 0
 Rows_last =
     (s : Store system) (m : ℕ) (k : Key) → IsStanding system s
     → Lasts k (row_at (version_of system s m) k) (row_at s.tables k)
 
--- and so each last name has the same customers in a district at each moment
+-- each last name has the same customers in a district at each moment
 abbrev pub Names_last : Type 0
 Names_last =
     (s : Store system) (m : ℕ) (h : DistrictKey) (last : List ℕ) → IsStanding system s

@@ -1,5 +1,5 @@
-//! Rows as they stood at a moment, read from the tables and the undo log on the ring alone. Clauses
-//! of the standard are those of TPC Benchmark C 5.11.
+//! Rows as they stood at a moment, read from the tables and the undo log on the ring alone. Clause
+//! numbers are TPC Benchmark C 5.11's.
 #![tactic(auto)]
 
 pub mod columns;
