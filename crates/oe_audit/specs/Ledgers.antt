@@ -64,7 +64,7 @@ abbrev pub AreDelivered : Rows → DistrictKey → List ℕ → Type 0
 AreDelivered r h sums =
     (c : ℕ) → 1 ≤ c → c ≤ 3_000 → sum_for sums c ≡ min (delivered_for r (customer_in h c)) most
 
--- and these are what each has paid
+-- the sums are what each customer of the district has paid
 abbrev pub ArePaid : Rows → DistrictKey → List ℕ → Type 0
 ArePaid r h sums =
     (c : ℕ) → 1 ≤ c → c ≤ 3_000
@@ -95,7 +95,7 @@ abbrev pub agrees : CustomerCondition → Account → ℕ → ℕ → Bool
 agrees of_customers.Tenth x delivered paid = int_eq (x.balance +ℤ pos paid) (pos delivered)
 agrees of_customers.Twelfth x delivered paid = int_eq (x.balance +ℤ pos x.ytd_payment) (pos delivered)
 
--- its columns are in their ranges
+-- an account's columns are in their ranges
 pub record IsAccount (x : Account) : Type 0 where
   pub balance : x.balance ≤ℤ pos 999_999_999_999
   pub ytd_payment : x.ytd_payment ≤ 999_999_999_999

@@ -27,7 +27,7 @@ abbrev pub verdict_of : Verdict → model.Verdict
 verdict_of told.Holds = model.Holds
 verdict_of (told.Fails k) = model.Fails k
 
--- it is what the model finds of these rows
+-- the verdict is what the model finds of these rows
 abbrev pub IsVerdict : model.Condition → Rows → Verdict → Type 0
 IsVerdict c r v = verdict_of v ≡ model.verdict c r
 

@@ -38,6 +38,6 @@ pub record What_was_applied_can_be_undone : Type 0 where
 abbrev pub Changes_are_told_apart : Type 0
 Changes_are_told_apart = (c d : own.Change) → change_of c ≡ change_of d → c ≡ d
 
--- and so are two undo records that stand for one of the model
+-- two undo records that stand for one of the model are equal
 abbrev pub Records_are_told_apart : Type 0
 Records_are_told_apart = (b d : OwnRecord) → record_of_own b ≡ record_of_own d → b ≡ d

@@ -10,10 +10,10 @@ use Rattle.oe_model.specs.System.{system}
 abbrev pub Further_conditions_are_kept : Type 0
 Further_conditions_are_kept = IsKept system More
 
--- so they hold of each version where they hold of the base as it is now
+-- where the conditions hold of the base as it is now, they hold of each version
 abbrev pub More_holds_from_base : Type 0
 More_holds_from_base = Holds_from_base system More
 
--- and of the population by formula
+-- the conditions hold of the population by formula
 abbrev pub Population_has_more : Type 0
 Population_has_more = (s : Scale) (r : Rows) → IsScale s → IsPopulated s r → More r

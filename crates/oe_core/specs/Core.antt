@@ -117,7 +117,7 @@ abbrev pub IsEndable : engine.EngineState → Option Handle → Type 0
 IsEndable e None = Unit {0}
 IsEndable e (Some x) = IsOpen e x
 
--- and was, where there is one
+-- the transaction of a slot was rolled back, where there is one
 abbrev pub IsEnded : engine.EngineState → Option Handle → engine.EngineState → Type 0
 IsEnded e None e' = e' ≡ e
 IsEnded e (Some x) e' = (view_of e' ≡ rolled_back x.terminal (view_of e)) × (e'.name ≡ e.name)

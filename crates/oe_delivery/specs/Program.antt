@@ -18,7 +18,7 @@ position_of (program.Order o) = DeliveryOrder o
 position_of (program.Lines l) = line_position l
 position_of (program.End y) = DeliveryEnd y.order y.customer y.sum
 
--- its next stage is at this line
+-- the program's next stage is at this line
 abbrev pub HasLine : Program → ℕ → Type 0
 HasLine (program.Lines l) n = l.numbers ≡ n ∷ drop 1 l.numbers
 HasLine _ n = ⊥

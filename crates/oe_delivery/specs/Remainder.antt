@@ -12,7 +12,7 @@ pub record Left : Type 0 where
   pub numbers : List ℕ
   pub sum : ℕ
 
--- of an order that has just got its carrier: all its lines are to come
+-- what is left of an order that has just got its carrier: all its lines are to come
 abbrev pub remainder_of : OrderKey → Rows → Order → Left
 remainder_of k r x =
     record {

@@ -62,7 +62,7 @@ abbrev pub FindsNewest : List Record → Rows → Type 0
 FindsNewest [] r = Unit {0}
 FindsNewest (b ∷ bs) r = Stands b r
 
--- and is put back
+-- the rows with the newest of these records put back, if there is one
 abbrev pub put_newest : List Record → Rows → Rows
 put_newest [] r = r
 put_newest (b ∷ bs) r = put_back b r

@@ -16,6 +16,6 @@ abbrev pub HasWaiting : LinkMaps → Option Key → Type 0
 HasWaiting links None = ⊤
 HasWaiting links (Some k) = HasPlace links k
 
--- it has one as soon as this one has
+-- the waiting key, if there is one, has a place as soon as this key has
 abbrev pub IsCovered : LinkMaps → Option Key → Key → Type 0
 IsCovered links waiting next = (m : LinkMaps) → KeepsPlaces links m → HasPlace m next → HasWaiting m waiting

@@ -40,7 +40,8 @@ MayWrite held t k w = Owns held t k (governs (key_written w)) × WriteHoldsOrder
 abbrev pub AbsentRefused : Key → Refusal → Type 0
 AbsentRefused k e = e ≡ NoSuchRow k
 
--- and with a lock: another is in the way of it; or it is free, and memory is wanted for it or the row is absent
+-- why a write with a lock but without its row is refused: another is in the way of the lock; or the lock is free, and
+-- memory is wanted for it or the row is absent
 abbrev pub AbsentPairRefused : View → ℕ → Name → theory.Mode → Key → Refusal → Type 0
 AbsentPairRefused v t n m k (Busy name u) = LockRefused v t n m (Busy name u)
 AbsentPairRefused v t n m k NoMemory = IsFree v t (Take n m)

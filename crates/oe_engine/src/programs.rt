@@ -13,10 +13,10 @@ pub struct Lock {
 /// How one stage of a program ends.
 #[derive(Drop)]
 pub enum Progress {
-    /// It is done, and there is a further one.
+    /// The stage is done, and there is a further one.
     More,
     /// All stages are done, and the program has its reply; nothing is left but to commit.
     Ready,
-    /// It was refused, and nothing has changed.
+    /// The stage was refused, and nothing has changed.
     Refused(Refusal),
 }

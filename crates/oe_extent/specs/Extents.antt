@@ -11,7 +11,7 @@ pub record Contents : Type 0 where
   pub number : ℕ
   pub strings : List (List ℕ)
 
--- of an extent and those before it
+-- what an extent and those before it hold
 abbrev mutual
   pub contents_in : Extent → List Contents
   contents_in (Extent' number strings older) =

@@ -41,7 +41,7 @@ taken_at p number = record { is_free = set p.is_free number false; cursor = numb
 abbrev pub given_at : FreeExtents → ℕ → FreeExtents
 given_at p number = record p { is_free = set p.is_free number true }
 
--- these are free again
+-- these extents are free again
 abbrev pub freed : List ℕ → List Bool → List Bool
 freed [] free = free
 freed (e ∷ es) free = freed es (set free e true)

@@ -46,7 +46,7 @@ pub record IsLine (n : ℕ) (l : RequestLine) (f : Filled) : Type 0 where
   pub quantity : f.row.quantity ≡ l.quantity
   pub amount : f.reply.amount ≡ f.row.amount
 
--- they are these lines one by one, numbered from n on
+-- the filled lines are these lines one by one, numbered from n on
 abbrev pub AreLines : ℕ → List RequestLine → List Filled → Type 0
 AreLines n [] [] = Unit {0}
 AreLines n (l ∷ ls) (f ∷ fs) = IsLine n l f × AreLines (n + 1) ls fs

@@ -167,7 +167,7 @@ pub record IsOneRun (es : List Entry) (w : World system) : Type 0 where
 pub record Scripts_are_runs : Type 0 where
   -- of a whole script
   pub from_start : (es : List Entry) (w : World system) → Passed None es (Some w) → IsOneRun es w
-  -- and from each world that steps led to
+  -- from each world that steps led to
   pub from_world : (w : World system) (es : List Entry) (s : State) → IsReached system w → Passed (Some w) es s
       → (w' : World system) × (s ≡ Some w') × Ran w (steps_of es) (answers_of es) w'
 

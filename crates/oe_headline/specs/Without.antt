@@ -18,7 +18,7 @@ is_own t (Opening text) = false
 is_own t (Dump text) = false
 is_own t (Steps n i x) = is_of system t (step_in i)
 
--- its answer says that a transaction was rolled back
+-- the deed's answer says that a transaction was rolled back
 abbrev pub is_undone : Deed → Bool
 is_undone No_form = false
 is_undone (Opening text) = false
@@ -32,7 +32,7 @@ is_done (Opening text) = false
 is_done (Dump text) = false
 is_done (Steps n i x) = is_commit system (answer_in i x)
 
--- its last step was refused, as may be only since the terminal has a transaction open
+-- the deed's last step was refused, as may be only since the terminal has a transaction open
 abbrev pub gave_way : ℕ → Deed → Bool
 gave_way t No_form = false
 gave_way t (Opening text) = false

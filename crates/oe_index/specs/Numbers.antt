@@ -19,14 +19,14 @@ name_number last = name_number_from 0 last
 abbrev pub number_in : DistrictKey → ℕ → ℕ
 number_in h n = (h.warehouse * 16 + h.district) * 1_009 + n
 
--- by last name
+-- the number of the list of a last name's customers
 abbrev pub list_number : DistrictKey → List ℕ → ℕ
 list_number h last = number_in h (name_number last)
 
 abbrev pub list_of_name : CustomerKey → Customer → ℕ
 list_of_name k x = list_number (district_of_customer k) x.name.last
 
--- by customer
+-- the number of the list of a customer's orders
 abbrev pub owner_number : CustomerKey → ℕ
 owner_number k = number_in (district_of_customer k) (k.customer % 1_009)
 

@@ -41,7 +41,7 @@ pub record HasMore (b : Record) (u u' : UndoState) (t : ℕ) : Type 0 where
   pub leads : link_from (Open t) previous ≡ seen u (record_key b)
   pub pushed : HasPushed u u' t previous b
 
--- it has the write's record more
+-- a terminal's open segment has the write's record more
 abbrev pub HasWritten : Write → Rows → UndoState → UndoState → ℕ → Type 0
 HasWritten w r u u' t = IsSomeAnd (record_of_write w r) (λ b. HasMore b u u' t)
 
@@ -63,7 +63,7 @@ HasRecorded w old new u u' t = IsSomeAnd (written w (rows old)) (λ c. IsRecorde
 abbrev pub HasRoomFor : Write → Rows → SegmentLog → ℕ → Type 0
 HasRoomFor w r u t = IsSomeAnd (record_of_write w r) (λ b. IsFull u t (record_length b) → ⊥)
 
--- it fits neither there nor in a free extent
+-- the write's record fits neither there nor in a free extent
 abbrev pub IsFullForWrite : Write → Rows → SegmentLog → ℕ → Type 0
 IsFullForWrite w r u t = IsSomeAnd (record_of_write w r) (λ b. IsFull u t (record_length b))
 

@@ -33,7 +33,7 @@ abbrev pub record_image : Previous → model.Record → List ℕ
 record_image p b =
     number LENGTH_BYTES (record_length b) ++ (body_image p b ++ number LENGTH_BYTES (record_length b))
 
--- its key and its row are in their ranges
+-- a record's key and row are in their ranges
 abbrev pub IsInRanges : model.Record → Type 0
 IsInRanges b = IsKey (model.record_key b) × IfSome (model.row_before b) IsRow
 
@@ -51,7 +51,7 @@ record_of_own (own.UpdatedOrderLine k x) = model.UpdatedOrderLine k (Some x)
 record_of_own (own.UpdatedStock k x) = model.UpdatedStock k (Some x)
 record_of_own (own.DeletedNewOrder k) = model.DeletedNewOrder k (Some (record {}))
 
--- and one whose row is lent
+-- the record of the model that a record with a lent row stands for
 abbrev pub record_of_lent : LentRecord → model.Record
 record_of_lent (lent.InsertedHistory k) = model.InsertedHistory k None
 record_of_lent (lent.InsertedNewOrder k) = model.InsertedNewOrder k None

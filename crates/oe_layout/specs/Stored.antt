@@ -31,13 +31,13 @@ told_of (Some x) = record_of_own x.1
 abbrev pub told : List ℕ → model.Record
 told bytes = told_of (record_at bytes)
 
--- it is the record that the bytes are the image of
+-- this is the record whose image the bytes are
 abbrev pub IsTold : List ℕ → model.Record → Type 0
 IsTold bytes record_told =
     (p : Previous) (b : OwnRecord) → IsPrevious p → IsInRanges (record_of_own b)
     → bytes ≡ record_image p (record_of_own b) → record_told ≡ record_of_own b
 
--- they are the link and the record that the bytes are the image of
+-- these are the link and the record whose image the bytes are
 abbrev pub IsToldLinked : List ℕ → Previous × model.Record → Type 0
 IsToldLinked bytes told_linked =
     (p : Previous) (b : OwnRecord) → IsPrevious p → IsInRanges (record_of_own b)

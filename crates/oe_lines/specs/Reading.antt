@@ -177,7 +177,7 @@ delivery_of s = do
   stamp ← stamp_of carrier.1
   Some (record { district = at.0; carrier = carrier.0; stamp = stamp })
 
--- of all ten districts
+-- a delivery of all ten districts
 unfoldable pub deliveries_of : List ℕ → Option DeliveriesRequest
 deliveries_of s = do
   w ← number_before 1 16 s
@@ -185,7 +185,7 @@ deliveries_of s = do
   stamp ← stamp_of carrier.1
   Some (record { warehouse = record { warehouse = w.0 }; carrier = carrier.0; stamp = stamp })
 
--- of all ten districts, or else of one
+-- a delivery of all ten districts, or else of one
 abbrev pub all_or_one : Option DeliveriesRequest → Option DeliveryRequest → Option Request
 all_or_one (Some q) one = Some (request.Deliveries q)
 all_or_one None one = option_map (λ q. request.Delivery q) one

@@ -90,7 +90,7 @@ abbrev pub AreNumbered : (ℕ → ℕ) → List Head → Type 0
 AreNumbered counts cs = (later : ℕ) (c : Head) → slice_get cs later ≡ Some c
     → c.number + heads_of c.terminal (take later cs) ≡ counts c.terminal
 
--- of the transactions alone
+-- what is kept of the transactions alone
 pub record AreHeads (hs : List TerminalHead) (cs : List Head) (capacity newest opens : ℕ) : Type 0 where
   pub size : length hs ≡ suc TERMINALS
   pub nobody : (head_at hs 0).active ≡ None
@@ -116,7 +116,7 @@ lens_of hs = map (λ h. h.len) hs
 abbrev pub committed_lens_of : List Head → List ℕ
 committed_lens_of cs = map (λ c. c.len) cs
 
--- of all that is kept
+-- all that is kept
 pub record IsKept (hs : List TerminalHead) (cs : List Head) (capacity : ℕ) (r : ring.RingStrings)
     (opens newest : ℕ) : Type 0 where
   pub heads : AreHeads hs cs capacity newest opens

@@ -48,7 +48,7 @@ state_at v t = get_or v.terminals t idle
 abbrev pub count_at : SegmentLog → ℕ → ℕ
 count_at v t = (state_at v t).count
 
--- its open segment
+-- a terminal's open segment
 abbrev pub active_at : SegmentLog → ℕ → Option Open
 active_at v t = (state_at v t).active
 
@@ -96,7 +96,7 @@ no_segments e = record { terminals = idle_terminals; committed = []; extents = e
 abbrev pub with_state : SegmentLog → ℕ → TerminalState → SegmentLog
 with_state v t s = record v { terminals = set v.terminals t s }
 
--- its open segment replaced
+-- a terminal's open segment replaced
 abbrev pub with_active : SegmentLog → ℕ → Option Open → SegmentLog
 with_active v t a = with_state v t (record { count = count_at v t; active = a })
 

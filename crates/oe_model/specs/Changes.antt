@@ -122,7 +122,7 @@ record_of (UpdateOrderLine k x) v = UpdatedOrderLine k (option_and_then as_order
 record_of (UpdateStock k x) v = UpdatedStock k (option_and_then as_stock v)
 record_of (DeleteNewOrder k) v = DeletedNewOrder k (option_and_then as_new_order v)
 
--- its key
+-- a record's key
 abbrev pub record_key : Record → Key
 record_key (InsertedHistory k v) = key.History k
 record_key (InsertedNewOrder k v) = key.NewOrder k

@@ -19,7 +19,7 @@ named h last k x = cond
     (eq_by_cmp district_cmp (district_of_customer k) h && eq_by_cmp (slice_cmp nat_cmp) x.name.last last)
     (Some (x.name.first, k.customer)) None
 
--- of each of them
+-- C_FIRST and C_ID of each customer of the district with this C_LAST
 abbrev pub namesakes : DistrictKey → List ℕ → FinMap customer_cmp Customer → List (List ℕ × ℕ)
 namesakes h last customers = filter_map (λ e. named h last e.0 e.1) (entries customers)
 

@@ -27,12 +27,12 @@ in_range out x = elim (out x) [ None ↦ Some x | Some c ↦ None ]
 abbrev pub Doing : Type 0
 Doing = Act Change Position Reply Refusal
 
--- it goes on where there is a value, and otherwise fails
+-- a stage goes on where there is a value, and otherwise fails
 abbrev pub given : {A : Type 0} → Refusal → Option A → (A → Doing) → Doing
 given e None f = Fail e
 given e (Some x) f = f x
 
--- it goes on where no column is out of its range
+-- a stage goes on where no column is out of its range
 abbrev pub within : Option Column → Doing → Doing
 within None a = a
 within (Some c) a = Fail (Overflow c)

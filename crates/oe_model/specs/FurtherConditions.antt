@@ -34,11 +34,11 @@ lines_of_order r k = sum_of (λ l y. if_of_order k (order_of_line l) 1) r.order_
 abbrev pub paid_in_warehouse : Rows → WarehouseKey → ℕ
 paid_in_warehouse r w = sum_of (λ k y. if_of_warehouse w y.district y.amount) r.histories
 
--- by (H_W_ID, H_D_ID)
+-- the sum of H_AMOUNT by (H_W_ID, H_D_ID)
 abbrev pub paid_in_district : Rows → DistrictKey → ℕ
 paid_in_district r h = sum_of (λ k y. if_of h y.district y.amount) r.histories
 
--- by (H_C_W_ID, H_C_D_ID, H_C_ID)
+-- the sum of H_AMOUNT by (H_C_W_ID, H_C_D_ID, H_C_ID)
 abbrev pub paid_by : Rows → CustomerKey → ℕ
 paid_by r c = sum_of (λ k y. if_of_customer c y.customer y.amount) r.histories
 
@@ -105,7 +105,7 @@ Condition_10 r = (c : CustomerKey) (x : Customer) → get r.customers c ≡ Some
 abbrev pub Condition_12 : Rows → Type 0
 Condition_12 r = (c : CustomerKey) (x : Customer) → get r.customers c ≡ Some x → Condition_12_at r c x
 
--- these seven hold
+-- these seven conditions hold
 pub record More (r : Rows) : Type 0 where
   pub condition_5 : Condition_5 r
   pub condition_6 : Condition_6 r

@@ -62,7 +62,7 @@ item_length i = 4 + text_length i.name + 8 + text_length i.data
 abbrev pub stock_length : Stock → ℕ
 stock_length s = 2 + 10 * (2 + 24) + 4 + 2 + 2 + text_length s.data
 
--- of NEW-ORDER the key has all columns
+-- how long a row is; of NEW-ORDER the key has all columns
 abbrev pub row_length : Row → ℕ
 row_length (row.Warehouse r) = warehouse_length r
 row_length (row.District r) = district_length r

@@ -90,7 +90,7 @@ history_row q c info =
       «data» = info;
     }
 
--- of transaction k of terminal t
+-- the key of the HISTORY row of transaction k of terminal t
 abbrev pub history_key : ℕ → ℕ → HistoryKey
 history_key t k = record { terminal = t; number = k; ordinal = 1 }
 

@@ -121,11 +121,11 @@ pub record Kept (desks : ℕ) (s : State ℕ Notes) : Type 0 where
 
 -- WHAT EACH STEP OF A DESK MAKES OF ITS NOTES
 
--- it has seen, or told, that newest moment
+-- the desk has seen, or told, that newest moment
 abbrev pub saw : ℕ → DeskNotes → DeskNotes
 saw n p = record p { seen = n }
 
--- its pin has come that far
+-- the desk's pin has come that far
 abbrev pub with_pin : PinState → DeskNotes → DeskNotes
 with_pin t p = record p { pin = t }
 
@@ -136,7 +136,7 @@ looked_pin Free = Free
 looked_pin (Looked n) = Looked n
 looked_pin (Sure n) = Sure n
 
--- it has looked at what the keeper claims
+-- the desk has looked at what the keeper claims
 abbrev pub looked : ℕ → DeskNotes → DeskNotes
 looked c p = record { number = p.number; seen = p.seen; claim = c; pin = looked_pin p.pin }
 
@@ -174,7 +174,7 @@ reads_purged s v found w = (w.0 ≡ v.0) × (found ≤ most)
 abbrev pub raised : ℕ → ℕ → ℕ
 raised m n = max n m
 
--- it begins a scan
+-- the keeper begins a scan
 abbrev pub claimed : ℕ → KeeperNotes → KeeperNotes
 claimed m k = record { scanning = true; passed = 0; least = m; horizon = k.horizon }
 
@@ -182,11 +182,11 @@ claimed m k = record { scanning = true; passed = 0; least = m; horizon = k.horiz
 abbrev pub lowered : ℕ → ℕ → ℕ
 lowered least found = if found == 0 then least else min least ((found - 1) / 2)
 
--- it has passed a desk, whose pin word it found
+-- the keeper has passed a desk, whose pin word it found
 abbrev pub scanned : ℕ → KeeperNotes → KeeperNotes
 scanned found k = record { scanning = true; passed = k.passed + 1; least = lowered k.least found; horizon = k.horizon }
 
--- it has purged up to the least moment of the scan, or no further than before
+-- the keeper has purged up to the least moment of the scan, or no further than before
 abbrev pub settled : KeeperNotes → KeeperNotes
 settled k = record { scanning = false; passed = k.passed; least = k.least; horizon = max k.horizon k.least }
 

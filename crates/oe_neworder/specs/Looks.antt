@@ -24,7 +24,7 @@ use Rattle.oe_neworder.specs.declared.looks.Numbered.{Numbered}
 use Rattle.oe_neworder.specs.declared.looks.Supply.{Supply}
 use Rattle.oe_neworder.specs.declared.looks.Supply.TheVariants as supply
 
--- it makes the change that this write is of these rows, and the next stage is at that position
+-- the stage makes the change that this write is of these rows, and the next stage is at that position
 abbrev pub Writes : NewOrderRequest → Rows → NewOrderPosition → Write → NewOrderPosition → Type 0
 Writes q r p w p' =
     (c : Change) × (written w r ≡ Some c) × (new_order_act q p r ≡ Go (Some c) (InNewOrder q p'))

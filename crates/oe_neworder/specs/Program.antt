@@ -39,7 +39,7 @@ position_of q (program.Order s) = NewOrderOrder (seen_by s)
 position_of q (program.Queue s) = NewOrderQueue (seen_by s)
 position_of q (program.Lines f) = line_position q f
 
--- its next stage is none of the lines'
+-- the program's next stage is none of the lines'
 abbrev pub IsBeforeLines : Program → Type 0
 IsBeforeLines (program.Lines f) = ⊥
 IsBeforeLines _ = Unit {0}

@@ -24,7 +24,7 @@ IsAnswer last (advanced.Refused e) x = x ≡ answer.Refused e
 abbrev pub Tells : World system → Step → World system → List ℕ → List ℕ → Type 0
 Tells w i w' old new = (x : Answer) × Next system w (step_in i) (answer_in i x) w' × (new ≡ old ++ told i x)
 
--- of a run the last answer's
+-- a run's stages were served, and the line of the last answer appended
 abbrev pub TellsRun : World system → ℕ → World system → List ℕ → List ℕ → Type 0
 TellsRun w t w' old new = (n : ℕ) × (x : Answer) × RunsIn n w t x w' × (new ≡ old ++ answer_line x)
 

@@ -55,7 +55,7 @@ RunsIn zero w t x w' = (x ≢ answer.More) × Next system w (step_in (step.Advan
 RunsIn (suc n) w t x w' = (mid : World system) × Next system w (step_in (step.Advance t))
     (answer_in (step.Advance t) answer.More) mid × RunsIn n mid t x w'
 
--- of a run the last answer alone is written
+-- a run of the terminal writes the last answer alone
 abbrev pub Ran : World system → ℕ → List ℕ → State → Type 0
 Ran w t text s = (n : ℕ) × (x : Answer) × (w' : World system) × RunsIn n w t x w' × (text ≡ answer_line x)
     × (s ≡ Some w')

@@ -72,7 +72,7 @@ HasPlace s (key.Stock k) = IsSome (place stock_cmp s.stocks k)
 abbrev pub SamePlaces : Places → Places → Type 0
 SamePlaces old new = (k : Key) → HasPlace new k ↔ HasPlace old k
 
--- and this key
+-- the same keys have places, and this key
 abbrev pub AddsPlace : Places → Places → Key → Type 0
 AddsPlace old new own = (k : Key) → HasPlace new k ↔ (HasPlace old k ⊎ (k ≡ own))
 

@@ -96,7 +96,7 @@ module _ (M : Machine) where
       cond (is_of t e.step) (cond (is_rollback e.answer) true (cond (is_commit e.answer) false (is_rolled_back t es)))
       (is_rolled_back t es)
 
-  -- and the events without it
+  -- the events without the terminal's transaction
   abbrev pub erased : ℕ → List (Event M) → List (Event M)
   erased t [] = []
   erased t (e ∷ es) =

@@ -59,7 +59,7 @@ module _ (M : Machine) where
   MayWrite P x (Under n) = P n Exclusive
   MayWrite P x (Own t k) = (t ≡ x.terminal) × (k ≡ x.number)
 
-  -- and may read a facet under this guard: what never changes anyone may read
+  -- who holds these names may read a facet under this guard: what never changes anyone may read
   abbrev pub MayReadPart : (Name → Mode → Type 0) → Tx Request → Guard Name → Type 0
   MayReadPart P x Free = Unit {0}
   MayReadPart P x (Under n) = P n Shared

@@ -139,17 +139,17 @@ module _ (M : Machine) where
   used_by None = 0
   used_by (Some o) = (filled o.lengths).0
 
-  -- of the open transactions of terminals below n
+  -- the extents of the open transactions of terminals below n
   abbrev pub used_active : (ℕ → Option (Open M)) → ℕ → ℕ
   used_active active zero = 0
   used_active active (suc n) = used_active active n + used_by (active n)
 
-  -- of commits
+  -- the extents of commits
   abbrev pub used_history : List (Commit M) → ℕ
   used_history [] = 0
   used_history (c ∷ cs) = (filled c.lengths).0 + used_history cs
 
-  -- of all
+  -- the extents of all
   abbrev pub used : World M → ℕ
   used w = used_history w.history + used_active w.active terminal_limit
 

@@ -34,7 +34,7 @@ module _ (M : Machine) where
     terminal_limit,
   }
 
-  -- of an open transaction, beside its records
+  -- what a server stores of an open transaction, beside its records
   pub record Slot : Type 0 where
     pub number : ℕ
     pub request : Request
@@ -44,7 +44,7 @@ module _ (M : Machine) where
     pub mark_count : ℕ
     pub held : Name → Option Mode
 
-  -- of a commit, beside its records
+  -- what a server stores of a commit, beside its records
   pub record Seal : Type 0 where
     pub tx : Tx Request
     pub reply : Reply
@@ -54,7 +54,7 @@ module _ (M : Machine) where
     -- the tables as they stand, open work included
     pub tables : Map
     pub undo : Undo M
-    -- by terminal
+    -- the slot of each terminal
     pub slots : ℕ → Option Slot
     -- newest first, as far back as they were not purged
     pub seals : List Seal
@@ -138,12 +138,12 @@ module _ (M : Machine) where
         held = o.held;
       })
 
-  -- of commits
+  -- what is stored of commits beside their records
   abbrev pub seals_of : List (Commit M) → List Seal
   seals_of [] = []
   seals_of (c ∷ cs) = record { tx = c.tx; reply = c.reply } ∷ seals_of cs
 
-  -- and of the whole, where u has its records
+  -- what is stored of a whole world, where u has its records
   abbrev pub store_of : World M → Undo M → Store
   store_of w u =
       record {
@@ -171,7 +171,7 @@ module _ (M : Machine) where
   abbrev pub version_of : Store → ℕ → Map
   version_of s m = unwind_commits M (take (commits_after s m) s.undo.history) (newest_version s)
 
-  -- and the commits of each terminal up to it
+  -- each terminal's number of commits up to a moment
   abbrev pub counts_of : Store → ℕ → ℕ → ℕ
   counts_of s m = counts_before s.counts (take (commits_after s m) s.seals)
 

@@ -210,7 +210,7 @@ module _ (M : Machine) where
       (s : Store M) (i : Step M) (m : ℕ) → IsStanding s → moment M i ≡ Some m → IsPastIn M s i → m < horizon_of M s
       → Leads s i (Too_old (horizon_of M s)) s
 
-  -- and one after the newest with the newest
+  -- a moment after the newest is refused with the newest, by each step that names one
   abbrev pub Is_future_here : Type 0
   Is_future_here =
       (s : Store M) (i : Step M) (m : ℕ) → IsStanding s → moment M i ≡ Some m → IsPastIn M s i → newest_of M s < m
@@ -333,7 +333,7 @@ module _ (M : Machine) where
       → unwind_commits M (take (commits_after M s m) s.undo.history) (unwind_open M s.undo.active ts s.tables)
       ≡ version_of M s m
 
-  -- and one row of it, by the records of its key
+  -- one row of a version is found so, by the records of its key
   abbrev pub Row_is_here : Type 0
   Row_is_here =
       (s : Store M) (ts : List ℕ) (m : ℕ) (k : M.Key) → IsStanding s → AreAllIn s ts

@@ -31,7 +31,7 @@ module _ (M : Machine) where
   abbrev pub Opening_is_reached : Type 0
   Opening_is_reached = (b : M.Map) (n : ℕ) → M.Good (λ _. 0) b → IsReached (opened b n)
 
-  -- and each run goes on from a world that was reached
+  -- each run goes on from a world that was reached
   abbrev pub Run_is_reached : Type 0
   Run_is_reached = (w w' : World M) (is : List (Step M)) (ys : List (Answer M)) → IsReached w → Runs M w is ys w'
       → IsReached w'
@@ -54,7 +54,7 @@ module _ (M : Machine) where
     pub effect : M.whole (tx_of M t was) (latest M w) ≡ Some (overlay M was.now.changes (latest M w), reply)
     pub next : latest M w' ≡ overlay M was.now.changes (latest M w)
 
-  -- at each commit, although others committed since its begin
+  -- each commit is whole, although others committed since its begin
   abbrev pub Commit_is_whole : Type 0
   Commit_is_whole =
       (w w' : World M) (t m : ℕ) (reply : M.Reply) → IsReached w
@@ -90,7 +90,7 @@ module _ (M : Machine) where
         ⊎ (IsAsked M (all_held M) (M.ask (tx_of M t was) was.now.position (overlay M was.now.changes (latest M w)))
         × (M.act (tx_of M t was) was.now.position (overlay M was.now.changes (latest M w)) ≡ Fail e))
 
-  -- at each refusal that ends a transaction
+  -- each refusal that ends a transaction is its program's own
   abbrev pub Abort_is_its_own : Type 0
   Abort_is_its_own = (w w' : World M) (t : ℕ) (e : M.Refusal) → IsReached w → Next M w (Advance t) (Aborted e) w'
       → Is_refused w t e
@@ -117,11 +117,11 @@ module _ (M : Machine) where
       (w v : World M) (u : Undo M) (i : Step M) (a : Answer M) → IsReached w → Keeps M w u → Next M w i a v
       → Keeps M v (undo_after M w u a i)
 
-  -- so there is such a store for each world
+  -- each world has such records
   abbrev pub World_has_records : Type 0
   World_has_records = (w : World M) → IsReached w → (u : Undo M) × Keeps M w u
 
-  -- and the tables are what changes and records put back in place make of them
+  -- the tables are what changes and records put back in place make of them
   abbrev pub Tables_follow : Type 0
   Tables_follow =
       (w v : World M) (u : Undo M) (i : Step M) (a : Answer M) → IsReached w → Keeps M w u → Next M w i a v
@@ -153,7 +153,7 @@ module _ (M : Machine) where
       (w : World M) (u : Undo M) (ts : List ℕ) (m : ℕ) → IsReached w → Keeps M w u → AreAll M w ts
       → unwind_commits M (take (newest M w - m) u.history) (unwind_open M u.active ts (tables M w)) ≡ at M w m
 
-  -- of one row, by the records of its key
+  -- one row of a version is found so, by the records of its key
   abbrev pub Row_is_unwound : Type 0
   Row_is_unwound =
       (w : World M) (u : Undo M) (ts : List ℕ) (m : ℕ) (k : M.Key) → IsReached w → Keeps M w u → AreAll M w ts
@@ -166,7 +166,7 @@ module _ (M : Machine) where
     pub between : (f : ℕ → ℕ) (r : M.Map) → M.Good f r → P r
     pub kept : (c : M.Change) (r : M.Map) → M.Accepts c r → P r → P (M.put c r)
 
-  -- so it holds of the tables as they stand
+  -- what each change keeps so holds of the tables as they stand
   abbrev pub Holds_of_tables : (M.Map → Type 0) → Type 0
   Holds_of_tables P = (w : World M) → IsReached w → P (tables M w)
 
@@ -175,7 +175,7 @@ module _ (M : Machine) where
   Holds_while_undone P = (w : World M) (u : Undo M) (t n : ℕ) → IsReached w → Keeps M w u
       → P (unwind M (take n (u.active t)) (tables M w))
 
-  -- and while commits are undone, the newest first
+  -- it holds while commits are undone too, the newest first
   abbrev pub Holds_while_rewound : (M.Map → Type 0) → Type 0
   Holds_while_rewound P =
       (w : World M) (u : Undo M) (j n : ℕ) → IsReached w → IsQuiet M w → Keeps M w u
@@ -226,11 +226,11 @@ module _ (M : Machine) where
   IsKept P = (f : ℕ → ℕ) (x : Tx M.Request) (r after : M.Map) (reply : M.Reply) → IsGood M f x r
       → M.whole x r ≡ Some (after, reply) → P r → P after
 
-  -- so it holds of each version where it held of the first base
+  -- a test that whole effects keep holds of each version where it held of the first base
   abbrev pub Holds_of_versions : (M.Map → Type 0) → Type 0
   Holds_of_versions P = (w : World M) (r : IsReached w) → P r.base → (m : ℕ) → P (at M w m)
 
-  -- and where it holds of the base as it is now
+  -- a test that whole effects keep holds of each version where it holds of the base as it is now
   abbrev pub Holds_from_base : (M.Map → Type 0) → Type 0
   Holds_from_base P = (w : World M) → IsReached w → P w.base → (m : ℕ) → P (at M w m)
 
@@ -302,6 +302,6 @@ module _ (M : Machine) where
   AreSteps [] = Unit {0}
   AreSteps (i ∷ is) = IsStep i × AreSteps is
 
-  -- so they are a function of the world and the script
+  -- but for wants of memory, a script's answers and the last world are a function of the world and the script
   abbrev pub Scripts_are_answered : Type 0
   Scripts_are_answered = (w : World M) (is : List (Step M)) → IsReached w → AreSteps is → Is_only_run w is

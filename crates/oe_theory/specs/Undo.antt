@@ -68,7 +68,7 @@ module _ (M : Machine) where
   restored_open k active [] v = v
   restored_open k active (t ∷ ts) v = restored_open k (set t [] active) ts (restored k (active t) v)
 
-  -- and by commits' records
+  -- one key's row, by commits' records
   abbrev pub restored_commits : Key → List (List Record) → Option Row → Option Row
   restored_commits k [] v = v
   restored_commits k (bs ∷ ss) v = restored_commits k ss (restored k bs v)
@@ -104,7 +104,7 @@ module _ (M : Machine) where
   open_records active [] = []
   open_records active (t ∷ ts) = active t ++ open_records (set t [] active) ts
 
-  -- and of commits
+  -- all records of commits, in the order in which `unwind_commits` puts them back
   abbrev pub commit_records : List (List Record) → List Record
   commit_records [] = []
   commit_records (bs ∷ ss) = bs ++ commit_records ss
@@ -157,7 +157,7 @@ module _ (M : Machine) where
   used_commits [] = 0
   used_commits (bs ∷ ss) = (filled M (lengths_of bs)).0 + used_commits ss
 
-  -- and of all together
+  -- how many extents all records fill
   abbrev pub used_of : Undo → ℕ
   used_of u = used_commits u.history + used_open u.active terminal_limit
 

@@ -15,7 +15,7 @@ use Rattle.oe_undo.specs.Numbers.{order_line_number, item_number, stock_number}
 pub use Rattle.oe_undo.specs.Tables.{link_in}
 use Rattle.oe_undo.specs.Tables.{LinkTable, numbered_at, with_number, is_not_above}
 
--- of each key that has a place, its link, if it has one
+-- the links by table: of each key that has a place, its link, if it has one
 pub record LinkMaps : Type 0 where
   pub warehouses : LinkTable
   pub districts : LinkTable

@@ -23,9 +23,9 @@ use oe_log::{Segment, Ticks};
 /// Why a record was not pushed.
 #[derive(Clone, Copy)]
 pub enum CantPush {
-    /// It fits neither the rest of its segment's newest extent nor a free one.
+    /// The record fits neither the rest of its segment's newest extent nor a free one.
     Full,
-    /// It does, and memory was refused for the place of its key's link.
+    /// The record fits, and memory was refused for the place of its key's link.
     NoMemory,
 }
 

@@ -45,6 +45,6 @@ Names_last =
     (s : Store system) (m : ℕ) (h : DistrictKey) (last : List ℕ) → IsStanding system s
     → namesakes h last (version_of system s m).customers ≡ namesakes h last s.tables.customers
 
--- and the schema holds of the version of each moment (clauses 1.3 and 1.4)
+-- the schema holds of the version of each moment (clauses 1.3 and 1.4)
 abbrev pub Versions_meet : Type 0
 Versions_meet = (s : Store system) (m : ℕ) → IsStanding system s → Meets (version_of system s m)
