@@ -126,7 +126,7 @@ pub(crate) fn passes_third<'a>(tables: &'a Tables, when: &AsOf<'a>, key: &Distri
 }
 
 /// Takes rows off the front of a walk until `count` of them stood then, and answers whether there
-/// were that many.
+/// were `count`.
 pub(crate) fn takes<'a>(
     lines: &mut Rows<'a, OrderLineKey, OrderLine>,
     tables: &'a Tables,

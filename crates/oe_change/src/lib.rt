@@ -1,5 +1,5 @@
-//! Changes of one row of the tables, and their undo, for whoever has the tables alone; and writes,
-//! by which transactions set columns where they lie. Clause numbers are TPC Benchmark C 5.11's.
+//! Changes of one row of the tables, and their undo, for users of the tables alone; and writes, by
+//! which transactions set columns where they lie. Clause numbers are TPC Benchmark C 5.11's.
 #![tactic(auto)]
 
 pub mod accepts;

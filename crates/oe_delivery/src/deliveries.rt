@@ -19,7 +19,8 @@ use oe_values::DistrictNumber;
 use std::marker::Model;
 
 /// Where a delivery of ten districts stands: what it did in the districts that are done, and where
-/// the one after them stands. Its request lies with whoever carries it out. It is of fixed size.
+/// the one after them stands. Whoever carries the program out keeps its request. The program has a
+/// fixed size.
 ///
 /// By its invariant the district at hand is not at its end: a stage that ends it goes on to the
 /// next one.

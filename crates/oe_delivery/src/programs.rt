@@ -15,8 +15,8 @@ use oe_requests::{DeliveredOrder, DeliveryRequest, DistrictDelivery, Refusal};
 use oe_values::{LineNumber, OrderNumber};
 
 /// Where the delivery of a district stands: the stage that it comes to next, with what the stages
-/// before have read. Its request lies with whoever carries it out. It is of fixed size, and any
-/// value of it is a position of any request.
+/// before have read. Whoever carries the program out keeps its request. The program has a fixed
+/// size, and any value of it is a position of any request.
 #[derive(Drop)]
 pub enum Program {
     Queue,

@@ -2,7 +2,7 @@
 //!
 //! Beside the rows each order's key is listed under a number of its customer, so that a walk over a
 //! customer's orders meets few others. By the invariant each row's key is in the list of its
-//! customer, unless the lists were given up: that is done where a row takes the place of another
+//! customer, unless the lists were given up: they are where a row takes the place of another
 //! customer's, or a blanked place is filled for a customer under whom there is no memory to list
 //! it. Walks then go over all rows that they are given. A key that was blanked stays listed, so
 //! that an order of the same customer fills its place again without memory; one that is removed is

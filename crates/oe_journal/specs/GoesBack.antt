@@ -18,7 +18,7 @@ abbrev pub CanUnwindAll : List (List Record) → Rows → Type 0
 CanUnwindAll [] r = Unit {0}
 CanUnwindAll (bs ∷ ss) r = CanUnwind bs r × CanUnwindAll ss (unwind system bs r)
 
--- each record's key has a place, so that to put its row back takes no memory
+-- each record's key has a place, so putting its row back takes no memory
 abbrev pub HavePlaces : Places → List Record → Type 0
 HavePlaces ts [] = Unit {0}
 HavePlaces ts (b ∷ bs) = HasPlace ts (record_key b) × HavePlaces ts bs

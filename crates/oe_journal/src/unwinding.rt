@@ -1,7 +1,7 @@
 //! Undoing the changes of the newest records of an open segment.
 //!
-//! A key that loses its row keeps its place as long as a record names it, so that to put the row
-//! back takes no memory. With its last record the key's place goes, and a HISTORY key's place for a
+//! A key that loses its row keeps its place as long as a record names it, so putting the row back
+//! takes no memory. With its last record the key's place goes, and a HISTORY key's place for a
 //! link. Nothing can fail.
 ghost use Rattle.std.specs.Prelude.{◌≡◌, ◌≤◌, length, take, drop, IsSome};
 ghost use Rattle.oe_model.specs.Changes.{put_back, record_key};

@@ -15,7 +15,7 @@ pub(crate) fn is_word(text: &[u8], word: &[u8]) -> bool
     text == word
 }
 
-/// Gives that number, where it is in the range of its type.
+/// Gives `n` as a number, where it is in the range of its type.
 #[inline]
 fn in_range<const LOW: u32, const HIGH: u32>(n: u64) -> Option<Number<LOW, HIGH>>
     ensures { result ≡ within LOW HIGH n }

@@ -17,8 +17,8 @@ use oe_requests::{NewOrderRequest, Refusal, ReplyRef};
 use oe_values::{OrderNumber, Rate};
 
 /// Where a New-Order stands: the stage that it comes to next, with what the stages before have
-/// read. Its request lies with whoever carries it out. It is of fixed size, and any value of it is
-/// a position of any request.
+/// read. Whoever carries the program out keeps its request. The program has a fixed size, and any
+/// value of it is a position of any request.
 #[derive(Drop)]
 pub enum Program {
     Warehouse,

@@ -14,7 +14,7 @@ use oe_requests::{PaymentReply, PaymentRequest, Refusal};
 use std::marker::Model;
 
 /// Where a payment stands: the stage that it comes to next, with what the stages before have read.
-/// Its request lies with whoever carries it out. It is of fixed size.
+/// Whoever carries the program out keeps its request. The program has a fixed size.
 #[derive(Drop)]
 pub struct Program {
     position: Position,

@@ -3,7 +3,7 @@ ghost use Rattle.std.specs.Prelude.{◌≡◌, ◌≤◌};
 
 use oe_values::{Amount, Number};
 
-/// Gives that number, of a range that has it.
+/// Makes the number `value`, in a range that has it.
 pub(crate) fn number<const LOW: u32, const HIGH: u32>(value: u32) -> Number<LOW, HIGH>
     requires low { LOW ≤ value }
     requires high { value ≤ HIGH }
@@ -15,7 +15,7 @@ pub(crate) fn number<const LOW: u32, const HIGH: u32>(value: u32) -> Number<LOW,
     }
 }
 
-/// Gives that many cents, of a range that has them.
+/// Makes an amount of `cents`, in a range that has them.
 pub(crate) fn amount<const MOST: u64>(cents: u64) -> Amount<MOST>
     requires { cents ≤ MOST }
     ensures { result ≡ cents }

@@ -43,7 +43,7 @@ pub(crate) fn plain<const LEAST: usize, const MOST: usize>(text: &str) -> Text<L
     Text::of_printable(text.as_bytes())
 }
 
-/// Gives a label, and a number in that many digits.
+/// Gives a label, and a number in `digits` digits.
 pub(crate) fn numbered<const LEAST: usize, const MOST: usize>(
     label: &str,
     number: u32,

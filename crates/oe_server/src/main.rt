@@ -166,7 +166,7 @@ fn answer_drive<R: Threads + Wait + Clock + Print + Eprint + AllocGlobal + Sync>
     }
 }
 
-/// Gives the ending of a word for that many.
+/// Gives the ending of a word that `count` stands before.
 fn ending(count: u32) -> &'static str {
     if count == 1 { "" } else { "s" }
 }

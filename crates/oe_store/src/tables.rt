@@ -54,7 +54,7 @@ impl Model for NineTables {
 
 /// The nine tables, whose rows meet the schema (clauses 1.3 and 1.4): each reference finds its row,
 /// each warehouse has ten districts, and each column is in its range. A key that lost its row keeps
-/// its place until that is given up, so that to put a row back takes no memory.
+/// its place until that is given up, so putting a row back takes no memory.
 ///
 /// The customers are found by last name too, and the orders by customer.
 #[derive(Drop)]

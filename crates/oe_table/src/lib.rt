@@ -1,4 +1,4 @@
-//! Tables whose blanked keys keep their places, so that to put a row back never takes memory.
+//! Tables whose blanked keys keep their places, so putting a row back never takes memory.
 #![tactic(auto)]
 
 mod front_vec;

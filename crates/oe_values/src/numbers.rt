@@ -26,7 +26,7 @@ impl<const LOW: u32, const HIGH: u32> Model for Number<LOW, HIGH> {
 }
 
 impl<const LOW: u32, const HIGH: u32> Number<LOW, HIGH> {
-    /// Gives that number, where it is in the range.
+    /// Makes the number `value`, where it is in the range.
     #[inline]
     pub fn new(value: u32) -> Option<Self>
         ensures variant { IsSome result ↔ ((LOW ≤ value) × (value ≤ HIGH)) }
@@ -144,7 +144,7 @@ impl<const MOST: u64> Model for Amount<MOST> {
 }
 
 impl<const MOST: u64> Amount<MOST> {
-    /// Gives that many cents, where they are in the range.
+    /// Makes an amount of `cents`, where they are in the range.
     #[inline]
     pub fn new(cents: u64) -> Option<Self>
         ensures variant { IsSome result ↔ (cents ≤ MOST) }
@@ -192,7 +192,7 @@ impl Model for Balance {
 }
 
 impl Balance {
-    /// Gives that many cents, where they are in the range.
+    /// Makes an amount of `cents`, where they are in the range.
     #[inline]
     pub fn new(cents: i64) -> Option<Self>
         ensures variant { IsSome result ↔ IsWithin 999_999_999_999 cents }
@@ -229,7 +229,7 @@ impl Model for Cents {
 }
 
 impl Cents {
-    /// Gives that many cents.
+    /// Makes an amount of `cents`.
     #[inline]
     pub fn new(cents: u64) -> Self
         ensures { result ≡ cents }
@@ -263,7 +263,7 @@ impl Model for Moment {
 }
 
 impl Moment {
-    /// Gives the moment after that many commits, where it is in the range.
+    /// Makes the moment after `commits` commits, where it is in the range.
     #[inline]
     pub fn new(commits: u64) -> Option<Self>
         ensures variant { IsSome result ↔ (commits ≤ 999_999_999_999) }

@@ -122,7 +122,7 @@ fn read_seconds(text: &[u8]) -> Option<u64>
     count(date, time)
 }
 
-/// Gives the date and time that many seconds after 1900-01-01T00:00:00.
+/// Gives the date and time `seconds` seconds after 1900-01-01T00:00:00.
 fn moment_at(seconds: u64) -> civil::DateTime
     requires { seconds < SECONDS }
     ensures seconds { pos seconds ≡ civil_seconds result +ℤ pos 2_208_988_800 }
