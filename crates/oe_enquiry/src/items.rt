@@ -24,7 +24,7 @@ impl Model for Listed {
 }
 
 impl Listed {
-    /// Holds that item.
+    /// Makes an entry for that item.
     pub fn new(item: ItemNumber) -> Self
         ensures { result ≡ item }
     {

@@ -57,7 +57,7 @@ fn zeros() -> [u8; EXTENT_BYTES]
 }
 
 impl PackedStrings {
-    /// Makes bytes without strings.
+    /// Makes an extent's bytes, without strings.
     pub(crate) fn new() -> Self
         ensures { result ≡ [] }
     {

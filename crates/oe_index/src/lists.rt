@@ -32,7 +32,7 @@ impl<K: ShelvedKey> Model for Lists<K> {
 }
 
 impl<K: ShelvedKey> Lists<K> {
-    /// Makes no lists, and takes no memory.
+    /// Makes a value without lists, and takes no memory.
     pub(crate) fn new(alloc: Global) -> Self
         ensures { result ≡ [] }
     {

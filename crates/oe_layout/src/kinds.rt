@@ -27,7 +27,7 @@ pub enum RecordKind {
 }
 
 impl RecordKind {
-    /// Gives it as two numbers: 1 to 3 for what was done, and 1 to 9 for the table.
+    /// Gives the kind as two numbers: 1 to 3 for what was done, and 1 to 9 for the table.
     fn numbers(self) -> (u8, u8)
         ensures { result ≡ kind_numbers self }
     {

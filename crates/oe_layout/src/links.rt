@@ -29,7 +29,7 @@ pub enum Previous {
 }
 
 impl Previous {
-    /// Gives it as three numbers: extent, offset and moment.
+    /// Gives the link as three numbers: extent, offset and moment.
     #[inline]
     fn numbers(&self) -> (u16, (u16, u64))
         ensures { result ≡ link_numbers self.now }

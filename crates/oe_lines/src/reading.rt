@@ -84,7 +84,7 @@ fn read_begun_payment(line: &[u8]) -> Option<(Terminal, PaymentRequest)>
     Some((terminal, payment(rest)?))
 }
 
-/// Reads a line, the forms that most lines have first.
+/// Reads a line, and tries the commonest forms first.
 #[tactic(auto, unfolding(crate::specs::Reading::command_of))]
 fn read_command(line: &[u8]) -> Option<Command>
     ensures { result ≡ command_of line.now }

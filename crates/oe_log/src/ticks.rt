@@ -23,7 +23,7 @@ impl Model for Ticks {
 }
 
 impl Ticks {
-    /// Starts with none.
+    /// Starts the count at none.
     pub fn new() -> Ticks
         ensures { result ≡ 0 }
     {

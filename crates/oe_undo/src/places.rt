@@ -70,7 +70,7 @@ fn reach_in<T: Drop>(
 impl<T> Places<T> {
     ghost use Rattle.oe_undo.specs.PlacesLends.{lends_place};
 
-    /// Makes no place, and takes no memory.
+    /// Makes a list without places, and takes no memory.
     pub(crate) fn new(alloc: Global) -> Self
         ensures { result ≡ [] }
     {

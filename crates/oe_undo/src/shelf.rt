@@ -59,7 +59,7 @@ fn meet<T: Drop>(met: &mut Vec<Option<T>>, number: usize)
 impl<T> PlaceShelf<T> {
     ghost use Rattle.oe_undo.specs.ShelfLends.{lends_place};
 
-    /// Makes no place, and takes no memory.
+    /// Makes a shelf without places, and takes no memory.
     pub(crate) fn new(alloc: Global) -> Self
         ensures { result ≡ [] }
     {
