@@ -1,2 +1,4 @@
 -- The proofs of this crate.
+mod EndFacts
+mod PlanFacts
 pub mod SlotFacts

@@ -1,2 +1,4 @@
 -- What the clauses of this crate cite.
 pub mod Ends
+pub mod Plans
+pub mod Runs

@@ -20,7 +20,6 @@ use oe_values::{NoMemory, Number, Terminal};
 use std::alloc::Global;
 use std::sync::Wait;
 use std::sync::atomic::{AtomicBool, Ordering};
-use std::sync::ledger::Ledger;
 use std::thread;
 use std::thread::Threads;
 
@@ -39,24 +38,16 @@ pub struct Driven {
 /// The worker's thread is made first, and without it no other; where a terminal's can't be made, it
 /// submits its end mark alone. Both, and any want of memory before, are `NoMemory` once all threads
 /// have ended and the shop is closed.
-pub fn drive<
-    J: Naming + Send + Sync,
-    B: Ledger + Send + Sync,
-    C: Ledger + Send + Sync,
-    R: Ledger + Send + Sync,
-    H: Threads + Wait + Sync,
-    G: Gate + Sync,
->(
+pub fn drive<J: Naming + Send + Sync, H: Threads + Wait + Sync, G: Gate + Sync>(
     rt: &H,
     alloc: Global,
     gate: &G,
-    shop: Shop<J, B, C, R>,
+    shop: Shop<J>,
     plans: Vec<Plan>,
 ) -> Result<Driven, NoMemory>
     requires plans { (1 ≤ vec_len plans) × (vec_len plans ≤ 63) }
     requires new { shop.given ≡ 0 }
     requires free { (t : ℕ) → seat_for shop t ≢ Some None }
-    requires same { (B.parts ≡ 65) × (C.parts ≡ 65) × (R.parts ≡ 65) }
     ensures ended { IfOk result (λ d.
         d.counted.begun ≡ d.counted.committed + d.counted.rolled_back) }
     ensures quiet { IfOk result (λ d. open_count (world_of d.core) ≡ 0) }
@@ -77,12 +68,8 @@ pub fn drive<
 }
 
 // Closes a shop that gave no desk.
-fn give_up<J: Naming, B: Ledger, C: Ledger, R: Ledger>(
-    alloc: Global,
-    shop: Shop<J, B, C, R>,
-) -> Result<Driven, NoMemory>
+fn give_up<J: Naming>(alloc: Global, shop: Shop<J>) -> Result<Driven, NoMemory>
     requires new { shop.given ≡ 0 }
-    requires same { (B.parts ≡ 65) × (C.parts ≡ 65) × (R.parts ≡ 65) }
     ensures { OnOk result ⊥ }
 {
     match shop.close(Vec::new(alloc)) {
@@ -93,27 +80,19 @@ fn give_up<J: Naming, B: Ledger, C: Ledger, R: Ledger>(
 }
 
 // Drives, once all memory is there.
-fn drive_all<
-    J: Naming + Send + Sync,
-    B: Ledger + Send + Sync,
-    C: Ledger + Send + Sync,
-    R: Ledger + Send + Sync,
-    H: Threads + Wait + Sync,
-    G: Gate + Sync,
->(
+fn drive_all<J: Naming + Send + Sync, H: Threads + Wait + Sync, G: Gate + Sync>(
     rt: &H,
     gate: &G,
-    mut shop: Shop<J, B, C, R>,
+    mut shop: Shop<J>,
     plans: Vec<Plan>,
     ends: (Vec<Sender>, Taker),
-    desks: Vec<Desk<J, B, C, R>>,
-    mut stations: Vec<Station<J, B, C, R>>,
+    desks: Vec<Desk<J>>,
+    mut stations: Vec<Station<J>>,
 ) -> Result<Driven, NoMemory>
     requires plans { (1 ≤ vec_len plans) × (vec_len plans ≤ 63) }
     requires senders { vec_len ends.0 ≡ vec_len plans }
     requires new { shop.given ≡ 0 }
     requires free { (t : ℕ) → seat_for shop t ≢ Some None }
-    requires same { (B.parts ≡ 65) × (C.parts ≡ 65) × (R.parts ≡ 65) }
     requires stations { (stations.items ≡ []) × (vec_len plans ≤ vec_capacity stations) }
     requires desks { (desks.items ≡ []) × (vec_len plans + 1 ≤ vec_capacity desks) }
     ensures ended { IfOk result (λ d.
@@ -145,10 +124,7 @@ fn drive_all<
 }
 
 // Takes the desk of a terminal that has none.
-fn take_desk<J: Naming, B: Ledger, C: Ledger, R: Ledger>(
-    shop: &mut Shop<J, B, C, R>,
-    terminal: Terminal,
-) -> Desk<J, B, C, R>
+fn take_desk<J: Naming>(shop: &mut Shop<J>, terminal: Terminal) -> Desk<J>
     requires { seat_for shop.old terminal ≢ Some None }
     ensures told { result.told ≡ untold 1 }
     ensures free { is_pinned result.seat.notes.pin ≡ false }
@@ -163,10 +139,10 @@ fn take_desk<J: Naming, B: Ledger, C: Ledger, R: Ledger>(
 
 // Gives each sender's terminal its desk, the last terminal first.
 #[tactic(auto, using(crate::proofs::SlotFacts::still_free))]
-fn sit_down<J: Naming, B: Ledger, C: Ledger, R: Ledger>(
-    shop: &mut Shop<J, B, C, R>,
+fn sit_down<J: Naming>(
+    shop: &mut Shop<J>,
     senders: Vec<Sender>,
-    stations: &mut Vec<Station<J, B, C, R>>,
+    stations: &mut Vec<Station<J>>,
     plans: Vec<Plan>,
 )
     requires senders { vec_len senders ≡ vec_len plans }
@@ -189,25 +165,18 @@ fn sit_down<J: Naming, B: Ledger, C: Ledger, R: Ledger>(
 }
 
 // Runs the worker and all terminals to their ends. Tells whether each had a thread.
-fn run_all<
-    J: Naming + Send + Sync,
-    B: Ledger + Send + Sync,
-    C: Ledger + Send + Sync,
-    R: Ledger + Send + Sync,
-    H: Threads + Wait + Sync,
-    G: Gate + Sync,
->(
+fn run_all<J: Naming + Send + Sync, H: Threads + Wait + Sync, G: Gate + Sync>(
     rt: &H,
-    front: &Front<J, B, C, R>,
+    front: &Front<J>,
     gate: &G,
-    bench: &mut Bench<J, B, C, R>,
-    stations: &mut [Station<J, B, C, R>],
+    bench: &mut Bench<J>,
+    stations: &mut [Station<J>],
 ) -> bool {
     let stop = AtomicBool::new(false);
     let stop = &stop;
     let walk = stations.iter_mut();
     thread::scope(thread::scope_env(), rt, move |scope| {
-        front_crosses::<J, B, C, R>();
+        front_crosses::<J>();
         let work = move || bench.run(rt, front, gate);
         if let Err(_refused) = scope.spawn(work) {
             return false;
@@ -225,11 +194,11 @@ fn run_all<
 }
 
 // Takes all desks back, with what was done at them.
-fn rise<J: Naming, B: Ledger, C: Ledger, R: Ledger>(
-    bench: Bench<J, B, C, R>,
-    stations: Vec<Station<J, B, C, R>>,
-    desks: Vec<Desk<J, B, C, R>>,
-) -> (Vec<Desk<J, B, C, R>>, Deeds)
+fn rise<J: Naming>(
+    bench: Bench<J>,
+    stations: Vec<Station<J>>,
+    desks: Vec<Desk<J>>,
+) -> (Vec<Desk<J>>, Deeds)
     requires { (desks.items ≡ []) × (length stations.items + 1 ≤ vec_capacity desks) }
     ensures count { length result.0.items ≡ length stations.items + 1 }
     ensures ended { HaveEnded result.0.items }

@@ -16,7 +16,6 @@ use oe_requests::{Query, Refusal, Request};
 use oe_values::Moment;
 use std::marker::Model;
 use std::sync::Wait;
-use std::sync::ledger::Ledger;
 use std::thread;
 
 /// How often a transaction is answered `Busy` before it is given up.
@@ -24,11 +23,11 @@ const MOST_BUSY: u32 = 100;
 
 /// A desk whose transactions have ended, and that has no pin out.
 #[derive(Drop)]
-pub struct Idle<J: Naming, B: Ledger, C: Ledger, R: Ledger> {
-    desk: Desk<J, B, C, R>,
+pub struct Idle<J: Naming> {
+    desk: Desk<J>,
 }
 
-impl<J: Naming, B: Ledger, C: Ledger, R: Ledger> Model for Idle<J, B, C, R> {
+impl<J: Naming> Model for Idle<J> {
     ghost Value = { TheDesk };
 
     ghost view = { λ i. i.desk };
@@ -38,9 +37,9 @@ impl<J: Naming, B: Ledger, C: Ledger, R: Ledger> Model for Idle<J, B, C, R> {
         × (is_pinned i.desk.seat.notes.pin ≡ false) };
 }
 
-impl<J: Naming, B: Ledger, C: Ledger, R: Ledger> Idle<J, B, C, R> {
+impl<J: Naming> Idle<J> {
     /// Makes an idle desk of one that was told nothing.
-    pub fn new(desk: Desk<J, B, C, R>) -> Idle<J, B, C, R>
+    pub fn new(desk: Desk<J>) -> Idle<J>
         requires told { desk.told ≡ untold 1 }
         requires free { is_pinned desk.seat.notes.pin ≡ false }
         ensures { result ≡ desk }
@@ -49,7 +48,7 @@ impl<J: Naming, B: Ledger, C: Ledger, R: Ledger> Idle<J, B, C, R> {
     }
 
     /// Gives the desk, whose transactions have ended.
-    pub fn into_desk(self) -> Desk<J, B, C, R>
+    pub fn into_desk(self) -> Desk<J>
         ensures same { result ≡ self }
         ensures ended { self.told.begun ≡ self.told.committed + self.told.rolled_back }
     {
@@ -62,7 +61,7 @@ impl<J: Naming, B: Ledger, C: Ledger, R: Ledger> Idle<J, B, C, R> {
     pub fn carry_out<W: Wait, G: Gate>(
         &mut self,
         rt: &W,
-        front: &Front<J, B, C, R>,
+        front: &Front<J>,
         request: &Request,
         calls: &mut Calls<'_, G>,
         deeds: &mut Deeds,
@@ -78,7 +77,7 @@ impl<J: Naming, B: Ledger, C: Ledger, R: Ledger> Idle<J, B, C, R> {
     pub fn read<W: Wait, G: Gate>(
         &mut self,
         rt: &W,
-        front: &Front<J, B, C, R>,
+        front: &Front<J>,
         query: &Query,
         calls: &mut Calls<'_, G>,
         deeds: &mut Deeds,
@@ -116,10 +115,10 @@ fn note(refusal: &Refusal, deeds: &mut Deeds) {
 }
 
 // Carries a transaction out, and gives the moment that it made, if it committed.
-fn carry_one_out<J: Naming, B: Ledger, C: Ledger, R: Ledger, W: Wait, G: Gate>(
+fn carry_one_out<J: Naming, W: Wait, G: Gate>(
     rt: &W,
-    front: &Front<J, B, C, R>,
-    desk: &mut Desk<J, B, C, R>,
+    front: &Front<J>,
+    desk: &mut Desk<J>,
     request: &Request,
     calls: &mut Calls<'_, G>,
     deeds: &mut Deeds,
@@ -143,10 +142,10 @@ fn carry_one_out<J: Naming, B: Ledger, C: Ledger, R: Ledger, W: Wait, G: Gate>(
 }
 
 // Advances a transaction to its end, or gives it up.
-fn advance_to_end<J: Naming, B: Ledger, C: Ledger, R: Ledger, W: Wait, G: Gate>(
+fn advance_to_end<J: Naming, W: Wait, G: Gate>(
     rt: &W,
-    front: &Front<J, B, C, R>,
-    desk: &mut Desk<J, B, C, R>,
+    front: &Front<J>,
+    desk: &mut Desk<J>,
     work: Open,
     calls: &mut Calls<'_, G>,
     deeds: &mut Deeds,
@@ -184,10 +183,10 @@ fn advance_to_end<J: Naming, B: Ledger, C: Ledger, R: Ledger, W: Wait, G: Gate>(
 
 // Ends a transaction. It asks until the transaction has ended, which is for ever where it is none
 // of this desk's: no clause ties what lies under the lock to it.
-fn give_up<J: Naming, B: Ledger, C: Ledger, R: Ledger, W: Wait, G: Gate>(
+fn give_up<J: Naming, W: Wait, G: Gate>(
     rt: &W,
-    front: &Front<J, B, C, R>,
-    desk: &mut Desk<J, B, C, R>,
+    front: &Front<J>,
+    desk: &mut Desk<J>,
     work: Open,
     calls: &mut Calls<'_, G>,
 )

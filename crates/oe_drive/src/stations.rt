@@ -18,7 +18,6 @@ use oe_values::Terminal;
 use std::marker::Model;
 use std::sync::Wait;
 use std::sync::atomic::{AtomicBool, Ordering};
-use std::sync::ledger::Ledger;
 
 /// What a terminal is to do, in order.
 #[derive(Drop)]
@@ -28,15 +27,15 @@ pub struct Plan {
 
 /// A terminal's station. Its sender is gone once it has finished.
 #[derive(Drop)]
-pub(crate) struct Station<J: Naming, B: Ledger, C: Ledger, R: Ledger> {
-    idle: Idle<J, B, C, R>,
+pub(crate) struct Station<J: Naming> {
+    idle: Idle<J>,
     terminal: Terminal,
     sender: Option<Sender>,
     plan: Plan,
     deeds: Deeds,
 }
 
-impl<J: Naming, B: Ledger, C: Ledger, R: Ledger> Model for Station<J, B, C, R> {
+impl<J: Naming> Model for Station<J> {
     ghost Value = { TheDesk };
 
     ghost view = { λ s. s.idle };
@@ -46,15 +45,15 @@ impl<J: Naming, B: Ledger, C: Ledger, R: Ledger> Model for Station<J, B, C, R> {
 
 /// The worker's station.
 #[derive(Drop)]
-pub(crate) struct Bench<J: Naming, B: Ledger, C: Ledger, R: Ledger> {
-    idle: Idle<J, B, C, R>,
+pub(crate) struct Bench<J: Naming> {
+    idle: Idle<J>,
     terminal: Terminal,
     taker: Taker,
     terminals: u32,
     deeds: Deeds,
 }
 
-impl<J: Naming, B: Ledger, C: Ledger, R: Ledger> Model for Bench<J, B, C, R> {
+impl<J: Naming> Model for Bench<J> {
     ghost Value = { TheDesk };
 
     ghost view = { λ b. b.idle };
@@ -81,10 +80,10 @@ fn of_warehouse(deliveries: &DeliveriesRequest) -> Request
 }
 
 // Carries out an errand. A request that has no program is given up.
-fn carry_out<J: Naming, B: Ledger, C: Ledger, R: Ledger, W: Wait, G: Gate>(
+fn carry_out<J: Naming, W: Wait, G: Gate>(
     rt: &W,
-    front: &Front<J, B, C, R>,
-    idle: &mut Idle<J, B, C, R>,
+    front: &Front<J>,
+    idle: &mut Idle<J>,
     sender: &mut Option<Sender>,
     errand: &Errand,
     calls: &mut Calls<'_, G>,
@@ -119,9 +118,9 @@ fn submit<W: Wait>(
     }
 }
 
-impl<J: Naming, B: Ledger, C: Ledger, R: Ledger> Station<J, B, C, R> {
+impl<J: Naming> Station<J> {
     /// Makes the station of a desk that was told nothing, with its sender and its plan.
-    pub(crate) fn new(desk: Desk<J, B, C, R>, sender: Sender, plan: Plan) -> Station<J, B, C, R>
+    pub(crate) fn new(desk: Desk<J>, sender: Sender, plan: Plan) -> Station<J>
         requires told { desk.told ≡ untold 1 }
         requires free { is_pinned desk.seat.notes.pin ≡ false }
         ensures { result ≡ desk }
@@ -139,7 +138,7 @@ impl<J: Naming, B: Ledger, C: Ledger, R: Ledger> Station<J, B, C, R> {
     pub(crate) fn run<W: Wait, G: Gate>(
         &mut self,
         rt: &W,
-        front: &Front<J, B, C, R>,
+        front: &Front<J>,
         gate: &G,
         stop: &AtomicBool,
     ) {
@@ -164,7 +163,7 @@ impl<J: Naming, B: Ledger, C: Ledger, R: Ledger> Station<J, B, C, R> {
     }
 
     /// Gives the desk, whose transactions have ended, and what was done there.
-    pub(crate) fn into_parts(self) -> (Desk<J, B, C, R>, Deeds)
+    pub(crate) fn into_parts(self) -> (Desk<J>, Deeds)
         ensures desk { result.0 ≡ self }
         ensures ended { self.told.begun ≡ self.told.committed + self.told.rolled_back }
     {
@@ -179,9 +178,9 @@ impl<J: Naming, B: Ledger, C: Ledger, R: Ledger> Station<J, B, C, R> {
     }
 }
 
-impl<J: Naming, B: Ledger, C: Ledger, R: Ledger> Bench<J, B, C, R> {
+impl<J: Naming> Bench<J> {
     /// Makes the station of a desk that was told nothing, with the taker of that number of senders.
-    pub(crate) fn new(desk: Desk<J, B, C, R>, taker: Taker, terminals: u32) -> Bench<J, B, C, R>
+    pub(crate) fn new(desk: Desk<J>, taker: Taker, terminals: u32) -> Bench<J>
         requires told { desk.told ≡ untold 1 }
         requires free { is_pinned desk.seat.notes.pin ≡ false }
         ensures { result ≡ desk }
@@ -196,7 +195,7 @@ impl<J: Naming, B: Ledger, C: Ledger, R: Ledger> Bench<J, B, C, R> {
     }
 
     /// Carries out what is taken, until the end mark of each terminal was.
-    pub(crate) fn run<W: Wait, G: Gate>(&mut self, rt: &W, front: &Front<J, B, C, R>, gate: &G) {
+    pub(crate) fn run<W: Wait, G: Gate>(&mut self, rt: &W, front: &Front<J>, gate: &G) {
         let mut calls = Calls::new(gate, self.terminal);
         let mut left = self.terminals;
         for _ in rt.forever() {
@@ -220,7 +219,7 @@ impl<J: Naming, B: Ledger, C: Ledger, R: Ledger> Bench<J, B, C, R> {
     fn deliver<W: Wait, G: Gate>(
         &mut self,
         rt: &W,
-        front: &Front<J, B, C, R>,
+        front: &Front<J>,
         deliveries: &DeliveriesRequest,
         calls: &mut Calls<'_, G>,
     ) {
@@ -230,7 +229,7 @@ impl<J: Naming, B: Ledger, C: Ledger, R: Ledger> Bench<J, B, C, R> {
     }
 
     /// Gives the desk, whose transactions have ended, and what was done there.
-    pub(crate) fn into_parts(self) -> (Desk<J, B, C, R>, Deeds)
+    pub(crate) fn into_parts(self) -> (Desk<J>, Deeds)
         ensures desk { result.0 ≡ self }
         ensures ended { self.told.begun ≡ self.told.committed + self.told.rolled_back }
     {

@@ -3,7 +3,6 @@ use denote.RattleType.{RattleType}
 use denote.Param.Send.{IsSend, IsSync, view_send, view_sync, recorded_send, recorded_sync, struct_send, struct_sync}
 use denote.Param.Send.{sendable}
 use denote.Struct.Declared.{shape}
-use Rattle.std.specs.declared.sync.ledger.Ledger
 use Rattle.std.proofs.Crossing.{frees}
 use Rattle.std.proofs.alloc.Global.TheSendSync as heap
 use Rattle.std.proofs.marker.PhantomData.TheSendSync as phantom
@@ -13,26 +12,25 @@ use Rattle.oe_core.specs.contracts.cores.Core.{the_row as core_row}
 use Rattle.oe_moments.specs.contracts.words.Moments.{the_row as moments_row}
 use Rattle.oe_moments.proofs.words.Moments.TheSendSync as moments
 use Rattle.oe_moments.proofs.words.KeeperSeat.TheSendSync as keeper
-use Rattle.oe_hall.specs.declared.hall.Naming
+use Rattle.oe_hall.specs.declared.naming.Naming
 use Rattle.oe_hall.specs.contracts.hall.Hall.{the_row as hall_row}
 use Rattle.oe_hall.specs.contracts.hall.Hall.TheInside as hall
 use Rattle.oe_hall.specs.contracts.shop.Front.{the_row as front_row}
 use Rattle.oe_hall.specs.contracts.shop.Front.TheInside as front
 use Rattle.oe_hall.proofs.counts.Books.TheSendSync as books
 
-module _ (J B C R : RattleType) (j : Naming.Ghosts J.Denot) (b : Ledger.Ghosts B.Denot) (c : Ledger.Ghosts C.Denot)
-    (r : Ledger.Ghosts R.Denot) where
-  pub hall_send : IsSend core_row → IsSend (hall_row J B C R j b c r)
+module _ (J : RattleType) (j : Naming.Ghosts J.Denot) where
+  pub hall_send : IsSend core_row → IsSend (hall_row J j)
   hall_send core_send =
-      view_send _ _ _ _ _ (recorded_send (hall.the_field J B C R j b c r).row _ _ (hall.the_type J B C R j b c r).to_one
-      (struct_send (shape (hall.the_type J B C R j b c r)) (
+      view_send _ _ _ _ _ (recorded_send (hall.the_field J j).row _ _ (hall.the_type J j).to_one
+      (struct_send (shape (hall.the_type J j)) (
         core_send,
         (
           search sendable,
           (
             search sendable,
             (
-              books.the_send B C R b c r,
+              books.the_send J j,
               (
                 arc.the_send _ _ _ moments.the_send heap.the_send moments.the_sync heap.the_sync frees,
                 (keeper.the_send, (phantom.the_field_send J, tt)),
@@ -42,11 +40,11 @@ module _ (J B C R : RattleType) (j : Naming.Ghosts J.Denot) (b : Ledger.Ghosts B
         ),
       )))
 
-  pub front_sync : IsSend core_row → IsSync (front_row J B C R j b c r)
+  pub front_sync : IsSend core_row → IsSync (front_row J j)
   front_sync core_send =
-      view_sync _ _ _ _ _ (recorded_sync (front.the_field J B C R j b c r).row _ _
-      (front.the_type J B C R j b c r).to_one
-      (struct_sync (shape (front.the_type J B C R j b c r)) (
+      view_sync _ _ _ _ _ (recorded_sync (front.the_field J j).row _ _
+      (front.the_type J j).to_one
+      (struct_sync (shape (front.the_type J j)) (
         mutex.the_sync _ (hall_send core_send),
         (arc.the_sync _ _ _ moments.the_send heap.the_send moments.the_sync heap.the_sync frees, tt),
       )))

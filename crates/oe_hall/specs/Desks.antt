@@ -8,6 +8,7 @@ use Rattle.oe_requests.specs.declared.requests.Query.{Query}
 use Rattle.oe_requests.specs.declared.replies.QueryReply.{QueryReply}
 use Rattle.oe_requests.specs.declared.refusals.Refusal.{Refusal}
 use Rattle.oe_requests.specs.declared.refusals.Refusal.TheVariants as refusal
+use Rattle.oe_hall.specs.Naming.{TheNames}
 use Rattle.oe_hall.specs.Counts.{Tally}
 use Rattle.oe_hall.specs.Turns.{TheHall, IsHall, IsTold, BeginTurn, AdvanceTurn, EndTurn, ReadTurn, PurgeTurn}
 use Rattle.oe_hall.specs.Turns.{begin_told, told_of, end_told}
@@ -30,9 +31,9 @@ pub record TheDesk : Type 0 where
   pub seat : TheSeat
   pub told : Tally
 
--- the words and seats of a shop that is not opened yet
+-- the names of a shop that is not opened yet
 pub record TheSeats : Type 0 where
-  pub words : TableId
+  pub names : TheNames
   pub shop : ℕ
 
 -- the seat of a terminal that has no desk yet
@@ -45,9 +46,9 @@ with_told c d = record d { told = c }
 abbrev pub with_seat : TheSeat → TheDesk → TheDesk
 with_seat s d = record d { seat = s }
 
--- the desk began it
-abbrev pub IsOwn : TheDesk → Open → Type 0
-IsOwn d o = (o.shop ≡ d.seat.shop) × (o.terminal ≡ d.seat.terminal)
+-- the desk with this seat began it
+abbrev pub IsOwn : TheSeat → Open → Type 0
+IsOwn s o = (o.shop ≡ s.shop) × (o.terminal ≡ s.terminal)
 
 -- WHAT THE HALL ANSWERED
 
@@ -67,28 +68,43 @@ ends (Err e) = Err e.0
 
 -- IN ONE TURN OF SOME HALL
 
+-- between two halls that count so, with what the desk was told before and after
+abbrev pub ATurn : Tally → Tally → (TheHall → TheHall → Type 0) → Type 0
+ATurn told told' Went =
+    (h : TheHall) × (h' : TheHall) × IsHall h × IsHall h' × IsTold told h × IsTold told' h' × Went h h'
+
 abbrev pub ABegin : TheDesk → Request → Result Open Refusal → Type 0
 ABegin d q r =
-    (h : TheHall) × (h' : TheHall) × IsHall h × IsHall h' × IsTold d.told h × IsTold (begin_told (begins r) d.told) h'
-    × BeginTurn h d.seat.terminal q (begins r) h'
+    ATurn d.told (begin_told (begins r) d.told) (λ h h'. BeginTurn h d.seat.terminal q (begins r) h')
 
--- of the desk's own transaction; any other is handed back
+-- a transaction that stays open is the one that was handed in
+abbrev pub Keeps : Open → Turn → Type 0
+Keeps o (turn.More p) = p ≡ o
+Keeps o (turn.Kept p e) = p ≡ o
+Keeps o (turn.Committed m y) = Unit {0}
+Keeps o (turn.RolledBack e) = Unit {0}
+
+abbrev pub KeepsOnErr : Open → Result (Unit {0}) (Refusal × Open) → Type 0
+KeepsOnErr o (Ok u) = Unit {0}
+KeepsOnErr o (Err e) = e.1 ≡ o
+
+-- of the desk's own transaction; any other comes back
 abbrev pub AnAdvance : TheDesk → Open → Turn → Type 0
 AnAdvance d o r =
-    ((h : TheHall) × (h' : TheHall) × IsHall h × IsHall h' × IsTold d.told h × IsTold (told_of (advances r) d.told) h'
-    × AdvanceTurn h d.seat.terminal (advances r) h')
-    ⊎ (r ≡ turn.Kept o refusal.NotOpen) × (IsOwn d o → ⊥)
+    IsOwn d.seat o × Keeps o r
+    × ATurn d.told (told_of (advances r) d.told) (λ h h'. AdvanceTurn h d.seat.terminal (advances r) h')
+    ⊎ (r ≡ turn.Kept o refusal.NotOpen) × (IsOwn d.seat o → ⊥)
 
 abbrev pub AnEnd : TheDesk → Open → Result (Unit {0}) (Refusal × Open) → Type 0
 AnEnd d o r =
-    ((h : TheHall) × (h' : TheHall) × IsHall h × IsHall h' × IsTold d.told h × IsTold (end_told (ends r) d.told) h'
-    × EndTurn h d.seat.terminal (ends r) h')
-    ⊎ (r ≡ Err (refusal.NotOpen, o)) × (IsOwn d o → ⊥)
+    IsOwn d.seat o × KeepsOnErr o r
+    × ATurn d.told (end_told (ends r) d.told) (λ h h'. EndTurn h d.seat.terminal (ends r) h')
+    ⊎ (r ≡ Err (refusal.NotOpen, o)) × (IsOwn d.seat o → ⊥)
 
--- at the pin's moment; another desk's pin is refused with this desk's pin word
+-- at the moment of the desk's own pin; the desk refuses any other with the word of its own pin
 abbrev pub ARead : TheDesk → ThePin → Query → Result QueryReply Refusal → Type 0
 ARead d p q r =
-    ((h : TheHall) × (h' : TheHall) × IsHall h × IsHall h' × ReadTurn h p.moment q r h')
+    Holds d.seat p × ((h : TheHall) × (h' : TheHall) × IsHall h × IsHall h' × ReadTurn h p.moment q r h')
     ⊎ (r ≡ Err (refusal.NotPinned (pin_word d.seat.notes.pin))) × (Holds d.seat p → ⊥)
 
 abbrev pub APurge : ℕ → ℕ → Type 0

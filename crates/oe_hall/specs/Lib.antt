@@ -1,4 +1,5 @@
 -- What the clauses of this crate cite.
+pub mod Naming
 pub mod Counts
 pub mod Turns
 pub mod Seats

@@ -7,18 +7,55 @@
 ghost use Rattle.std.specs.Prelude.{◌≡◌, ◌+◌, ◌<◌, ◌≤◌};
 ghost use Rattle.oe_hall.specs.Counts.{Counts, Tally, none, untold, tally, with_one_more, IsAtMost, AreTotals, begun_once, committed_once, rolled_back_once, told_begun, told_committed, told_rolled_back};
 
-use std::marker::Model;
+use crate::naming::Naming;
+use std::marker::{Model, PhantomData};
 use std::sync::ledger::{Blank, Book, Ledger, Share};
+
+/// How many parts a ledger has: one for each of 64 desks, and one for the shop.
+const PARTS: u64 = 65;
+
+/// The ledger of the transactions that a shop began.
+pub struct Begins<J: Naming> {
+    of: PhantomData<J>,
+}
+
+impl<J: Naming> Ledger for Begins<J> {
+    ghost name = { J.names.begun };
+
+    ghost parts = { 65 };
+}
+
+/// The ledger of those that it committed.
+pub struct Commits<J: Naming> {
+    of: PhantomData<J>,
+}
+
+impl<J: Naming> Ledger for Commits<J> {
+    ghost name = { J.names.committed };
+
+    ghost parts = { 65 };
+}
+
+/// The ledger of those that it rolled back.
+pub struct Rollbacks<J: Naming> {
+    of: PhantomData<J>,
+}
+
+impl<J: Naming> Ledger for Rollbacks<J> {
+    ghost name = { J.names.rolled_back };
+
+    ghost parts = { 65 };
+}
 
 /// What a hand was told: how many transactions it began, and how many of them ended either way.
 #[derive(Drop)]
-pub struct Told<B: Ledger, C: Ledger, R: Ledger> {
-    begun: Share<B>,
-    committed: Share<C>,
-    rolled_back: Share<R>,
+pub struct Told<J: Naming> {
+    begun: Share<Begins<J>>,
+    committed: Share<Commits<J>>,
+    rolled_back: Share<Rollbacks<J>>,
 }
 
-impl<B: Ledger, C: Ledger, R: Ledger> Model for Told<B, C, R> {
+impl<J: Naming> Model for Told<J> {
     ghost Value = { Tally };
 
     ghost view = { λ t. record {
@@ -42,13 +79,13 @@ pub struct Counted {
 
 /// The totals of what all hands were told.
 #[derive(Drop)]
-pub struct Books<B: Ledger, C: Ledger, R: Ledger> {
-    begun: Book<B>,
-    committed: Book<C>,
-    rolled_back: Book<R>,
+pub struct Books<J: Naming> {
+    begun: Book<Begins<J>>,
+    committed: Book<Commits<J>>,
+    rolled_back: Book<Rollbacks<J>>,
 }
 
-impl<B: Ledger, C: Ledger, R: Ledger> Model for Books<B, C, R> {
+impl<J: Naming> Model for Books<J> {
     ghost Value = { Counts };
 
     ghost view = { λ b. record {
@@ -60,47 +97,42 @@ impl<B: Ledger, C: Ledger, R: Ledger> Model for Books<B, C, R> {
     ghost invariant = { λ b. Unit {0} };
 }
 
-/// Ledgers that are not opened, for 64 desks and the shop.
+/// Ledgers that are not opened yet, each with a part for every desk and one for the shop.
 #[derive(Drop)]
-pub struct Blanks {
-    pub begun: Blank,
-    pub committed: Blank,
-    pub rolled_back: Blank,
+pub(crate) struct Blanks {
+    begun: Blank,
+    committed: Blank,
+    rolled_back: Blank,
+    ghost parts: { (begun.parts ≡ 65) × (committed.parts ≡ 65) × (rolled_back.parts ≡ 65) },
 }
 
 impl Blanks {
-    /// Makes blank ledgers of 65 parts.
-    pub fn new() -> Blanks
-        ensures { (result.begun.parts ≡ 65) × (result.committed.parts ≡ 65)
-            × (result.rolled_back.parts ≡ 65) }
-    {
+    /// Makes blank ledgers.
+    pub(crate) fn new() -> Blanks {
         Blanks {
-            begun: Blank::new(65),
-            committed: Blank::new(65),
-            rolled_back: Blank::new(65),
+            begun: Blank::new(PARTS),
+            committed: Blank::new(PARTS),
+            rolled_back: Blank::new(PARTS),
         }
     }
 }
 
 /// Opens the ledgers: no total yet, and all parts in one hand.
-pub(crate) fn open_books<B: Ledger, C: Ledger, R: Ledger>(
-    blanks: Blanks,
-) -> (Books<B, C, R>, Told<B, C, R>)
-    requires names { (blanks.begun.name ≡ B.name) × (blanks.committed.name ≡ C.name)
-        × (blanks.rolled_back.name ≡ R.name) }
-    requires parts { (blanks.begun.parts ≡ B.parts) × (blanks.committed.parts ≡ C.parts)
-        × (blanks.rolled_back.parts ≡ R.parts) }
-    requires same { (C.parts ≡ B.parts) × (R.parts ≡ B.parts) }
-    ensures { (result.0 ≡ none) × (result.1 ≡ untold B.parts) }
+pub(crate) fn open_books<J: Naming>(blanks: Blanks) -> (Books<J>, Told<J>)
+    requires begun { blanks.begun.name ≡ J.names.begun }
+    requires committed { blanks.committed.name ≡ J.names.committed }
+    requires rolled_back { blanks.rolled_back.name ≡ J.names.rolled_back }
+    ensures { (result.0 ≡ none) × (result.1 ≡ untold 65) }
 {
     let Blanks {
         begun,
         committed,
         rolled_back,
+        ..
     } = blanks;
-    let (begun_book, begun) = begun.open::<B>();
-    let (committed_book, committed) = committed.open::<C>();
-    let (rolled_back_book, rolled_back) = rolled_back.open::<R>();
+    let (begun_book, begun) = begun.open::<Begins<J>>();
+    let (committed_book, committed) = committed.open::<Commits<J>>();
+    let (rolled_back_book, rolled_back) = rolled_back.open::<Rollbacks<J>>();
     let books = Books {
         begun: begun_book,
         committed: committed_book,
@@ -114,9 +146,9 @@ pub(crate) fn open_books<B: Ledger, C: Ledger, R: Ledger>(
     (books, told)
 }
 
-impl<B: Ledger, C: Ledger, R: Ledger> Told<B, C, R> {
+impl<J: Naming> Told<J> {
     /// Gives one part away, with nothing told.
-    pub(crate) fn split_one(&mut self) -> Told<B, C, R>
+    pub(crate) fn split_one(&mut self) -> Told<J>
         requires { 1 < self.old.parts }
         ensures one { result ≡ untold 1 }
         ensures rest { self.old ≡ record self.new { parts = self.new.parts + 1 } }
@@ -129,7 +161,7 @@ impl<B: Ledger, C: Ledger, R: Ledger> Told<B, C, R> {
     }
 
     /// Gives one part to another hand, and what it was told.
-    pub(crate) fn give(&mut self, to: &mut Told<B, C, R>, told: Counted)
+    pub(crate) fn give(&mut self, to: &mut Told<J>, told: Counted)
         requires part { 0 < self.old.parts }
         requires enough { (told.begun ≤ self.old.begun) × (told.committed ≤ self.old.committed)
             × (told.rolled_back ≤ self.old.rolled_back) }
@@ -144,9 +176,9 @@ impl<B: Ledger, C: Ledger, R: Ledger> Told<B, C, R> {
     }
 }
 
-impl<B: Ledger, C: Ledger, R: Ledger> Books<B, C, R> {
+impl<J: Naming> Books<J> {
     /// Counts a transaction that was begun, and that this hand is told of it.
-    pub(crate) fn add_begun(&mut self, told: &mut Told<B, C, R>)
+    pub(crate) fn add_begun(&mut self, told: &mut Told<J>)
         requires { 0 < told.old.parts }
         ensures total { self.new ≡ begun_once self.old }
         ensures told { told.new ≡ told_begun told.old }
@@ -155,7 +187,7 @@ impl<B: Ledger, C: Ledger, R: Ledger> Books<B, C, R> {
     }
 
     /// Counts a commit, and that this hand is told of it.
-    pub(crate) fn add_committed(&mut self, told: &mut Told<B, C, R>)
+    pub(crate) fn add_committed(&mut self, told: &mut Told<J>)
         requires { 0 < told.old.parts }
         ensures total { self.new ≡ committed_once self.old }
         ensures told { told.new ≡ told_committed told.old }
@@ -164,7 +196,7 @@ impl<B: Ledger, C: Ledger, R: Ledger> Books<B, C, R> {
     }
 
     /// Counts a transaction that was rolled back, and that this hand is told of it.
-    pub(crate) fn add_rolled_back(&mut self, told: &mut Told<B, C, R>)
+    pub(crate) fn add_rolled_back(&mut self, told: &mut Told<J>)
         requires { 0 < told.old.parts }
         ensures total { self.new ≡ rolled_back_once self.old }
         ensures told { told.new ≡ told_rolled_back told.old }
@@ -173,7 +205,7 @@ impl<B: Ledger, C: Ledger, R: Ledger> Books<B, C, R> {
     }
 
     /// Shows that what one hand was told is at most the totals. This does nothing: it is a law.
-    pub(crate) fn bound(&mut self, told: &mut Told<B, C, R>)
+    pub(crate) fn bound(&mut self, told: &mut Told<J>)
         ensures same { (self.new ≡ self.old) × (told.new ≡ told.old) }
         ensures bound { IsAtMost told.old self.old }
     {
@@ -183,9 +215,8 @@ impl<B: Ledger, C: Ledger, R: Ledger> Books<B, C, R> {
     }
 
     /// Shows that what all parts were told is the totals. This does nothing: it is a law.
-    pub(crate) fn audit(&mut self, told: &mut Told<B, C, R>)
-        requires same { (C.parts ≡ B.parts) × (R.parts ≡ B.parts) }
-        requires whole { told.old.parts ≡ B.parts }
+    pub(crate) fn audit(&mut self, told: &mut Told<J>)
+        requires whole { told.old.parts ≡ 65 }
         ensures same { (self.new ≡ self.old) × (told.new ≡ told.old) }
         ensures whole { AreTotals told.old self.old }
     {

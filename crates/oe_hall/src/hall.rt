@@ -3,9 +3,8 @@
 //! By its invariant the newest moment counts the commits, what was begun is what was committed, was
 //! rolled back and is open, and the keeper's horizon is the world's. Each call is one step of the
 //! machine, or none, as its clause says. Nothing here takes memory of its own.
-ghost use Rattle.std.specs.Prelude.{◌≡◌, ◌<◌, ◌^◌, min, []};
+ghost use Rattle.std.specs.Prelude.{◌≡◌, ◌<◌, ◌^◌, min};
 ghost use Rattle.std.specs.Arc.{arc_value};
-ghost use Rattle.atomic_table.specs.Seated.{TableId};
 ghost use Rattle.oe_theory.specs.World.{newest, horizon};
 ghost use Rattle.oe_model.specs.System.{system};
 ghost use Rattle.oe_admission.specs.Programs.{HasProgram};
@@ -18,44 +17,26 @@ ghost use Rattle.oe_hall.specs.Turns.{IsHall, IsTold, open_count, BeginTurn, Adv
 use crate::calls;
 use crate::calls::Ended;
 use crate::counts::{Books, Counted, Told};
+use crate::naming::Naming;
 use oe_core::Core;
 use oe_moments::{KeeperSeat, Moments, Pin};
 use oe_requests::{Column, Query, QueryReply, Refusal, Request};
 use oe_values::{Moment, Terminal};
-use std::marker::{Brand, Model, PhantomData};
+use std::marker::{Model, PhantomData};
 use std::sync::Arc;
-use std::sync::ledger::Ledger;
-
-/// Names the words of a shop. So the hall, the front and the desks of one shop are of one type, and
-/// those of another shop of another type.
-pub trait Naming {
-    ghost words: { TableId };
-}
-
-impl Naming for Brand {
-    ghost words = { record {
-      words = 0;
-      slots = 0;
-      views_name = 0;
-      atom = 0;
-      block = 0;
-      offset = 0;
-      slot_names = [];
-    } };
-}
 
 /// The hall of a shop. It can't be dropped, since the core can't.
-pub struct Hall<J: Naming, B: Ledger, C: Ledger, R: Ledger> {
+pub struct Hall<J: Naming> {
     core: Core,
     begun: u64,
     rolled_back: u64,
-    books: Books<B, C, R>,
+    books: Books<J>,
     moments: Arc<Moments>,
     keeper: KeeperSeat,
     of: PhantomData<J>,
 }
 
-impl<J: Naming, B: Ledger, C: Ledger, R: Ledger> Model for Hall<J, B, C, R> {
+impl<J: Naming> Model for Hall<J> {
     ghost use Rattle.std.specs.Prelude.{◌≡◌};
     ghost use Rattle.std.specs.Arc.{arc_value};
     ghost use Rattle.std.specs.Coded.{codes};
@@ -80,24 +61,24 @@ impl<J: Naming, B: Ledger, C: Ledger, R: Ledger> Model for Hall<J, B, C, R> {
     ghost invariant = { λ h. (h.begun ≡ h.books.begun) × (h.rolled_back ≡ h.books.rolled_back)
         × AreCounts h.books (world_of h.core) × (h.keeper.words ≡ arc_value h.moments)
         × (h.keeper.notes.horizon ≡ horizon system (world_of h.core))
-        × AreOfDesks (arc_value h.moments) 64 × (arc_value h.moments ≡ J.words) };
+        × AreOfDesks (arc_value h.moments) 64 × (arc_value h.moments ≡ J.names.words) };
 }
 
-impl<J: Naming, B: Ledger, C: Ledger, R: Ledger> Hall<J, B, C, R> {
+impl<J: Naming> Hall<J> {
     /// Makes a hall of a core that has begun nothing, and of words that nothing is told of.
     pub(crate) fn new(
         core: Core,
-        books: Books<B, C, R>,
+        books: Books<J>,
         moments: Arc<Moments>,
         keeper: KeeperSeat,
-    ) -> Hall<J, B, C, R>
+    ) -> Hall<J>
         requires newest { newest system (world_of core) ≡ 0 }
         requires quiet { open_count (world_of core) ≡ 0 }
         requires horizon { horizon system (world_of core) ≡ 0 }
         requires books { books ≡ none }
         requires keeper { keeper ≡ record { words = arc_value moments; notes = at_start } }
         requires words { AreOfDesks (arc_value moments) 64 }
-        requires naming { arc_value moments ≡ J.words }
+        requires naming { arc_value moments ≡ J.names.words }
         ensures { result ≡ record {
           core = core;
           counts = none;
@@ -120,7 +101,7 @@ impl<J: Naming, B: Ledger, C: Ledger, R: Ledger> Hall<J, B, C, R> {
     /// also where 2^64 - 1 were begun.
     pub fn begin(
         &mut self,
-        told: &mut Told<B, C, R>,
+        told: &mut Told<J>,
         terminal: Terminal,
         request: &Request,
     ) -> Result<(), Refusal>
@@ -146,7 +127,7 @@ impl<J: Naming, B: Ledger, C: Ledger, R: Ledger> Hall<J, B, C, R> {
     }
 
     /// Carries out the next stage of the terminal's transaction, which commits after the last.
-    pub fn advance(&mut self, told: &mut Told<B, C, R>, terminal: Terminal) -> Ended
+    pub fn advance(&mut self, told: &mut Told<J>, terminal: Terminal) -> Ended
         requires { 0 < told.old.parts }
         ensures counted { IsTold told.old self.old × IsTold told.new self.new }
         ensures hall { IsHall self.old × IsHall self.new }
@@ -170,7 +151,7 @@ impl<J: Naming, B: Ledger, C: Ledger, R: Ledger> Hall<J, B, C, R> {
 
     /// Rolls the terminal's transaction back. `NotOpen` where it has none; nothing has changed
     /// then.
-    pub fn end(&mut self, told: &mut Told<B, C, R>, terminal: Terminal) -> Result<(), Refusal>
+    pub fn end(&mut self, told: &mut Told<J>, terminal: Terminal) -> Result<(), Refusal>
         requires { 0 < told.old.parts }
         ensures counted { IsTold told.old self.old × IsTold told.new self.new }
         ensures hall { IsHall self.old × IsHall self.new }
@@ -216,9 +197,8 @@ impl<J: Naming, B: Ledger, C: Ledger, R: Ledger> Hall<J, B, C, R> {
     }
 
     /// Counts what was told, where all of it is in one hand.
-    pub(crate) fn audit(&mut self, all: &mut Told<B, C, R>) -> Counted
-        requires same { (C.parts ≡ B.parts) × (R.parts ≡ B.parts) }
-        requires whole { all.old.parts ≡ B.parts }
+    pub(crate) fn audit(&mut self, all: &mut Told<J>) -> Counted
+        requires whole { all.old.parts ≡ 65 }
         ensures same { (self.new ≡ self.old) × (all.new ≡ all.old) }
         ensures hall { IsHall self.old }
         ensures counts { AreTotals (tally 1 result) self.old.counts }

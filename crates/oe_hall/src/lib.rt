@@ -7,9 +7,11 @@ pub mod calls;
 pub mod counts;
 pub mod crossing;
 pub mod hall;
+pub mod naming;
 pub mod shop;
 
 pub use calls::Ended;
-pub use counts::{Blanks, Counted, Told};
-pub use hall::{Hall, Naming};
+pub use counts::{Counted, Told};
+pub use hall::Hall;
+pub use naming::Naming;
 pub use shop::{Desk, Front, NotQuiet, Open, Seats, Shop, Turn};

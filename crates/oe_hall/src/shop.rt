@@ -24,7 +24,8 @@ ghost use Rattle.oe_hall.specs.Desks.{TheDesk, TheShop, TheSeats, AreSums, AreOp
 
 use crate::calls::Ended;
 use crate::counts::{Blanks, Counted, Told, open_books};
-use crate::hall::{Hall, Naming};
+use crate::hall::Hall;
+use crate::naming::Naming;
 use oe_core::Core;
 use oe_moments::{DealerSeat, DeskSeat, KeeperSeat, Moments, NotPinned, Pin, TooOld};
 use oe_requests::{Query, QueryReply, Refusal, Reply, Request};
@@ -33,7 +34,6 @@ use oe_values::{ExtentCount, Moment, NoMemory, Number, Terminal};
 use std::alloc::{AllocError, Global};
 use std::hint;
 use std::marker::{Model, PhantomData};
-use std::sync::ledger::Ledger;
 use std::sync::{Arc, Mutex, MutexGuard, Wait};
 
 /// A transaction that a desk began.
@@ -55,34 +55,43 @@ pub enum Turn {
 }
 
 /// What a shop lends to its desks: the locked hall, and the words.
-pub struct Front<J: Naming, B: Ledger, C: Ledger, R: Ledger> {
-    hall: Mutex<Hall<J, B, C, R>>,
+pub struct Front<J: Naming> {
+    hall: Mutex<Hall<J>>,
     moments: Arc<Moments>,
 }
 
-impl<J: Naming, B: Ledger, C: Ledger, R: Ledger> Model for Front<J, B, C, R> {
+impl<J: Naming> Model for Front<J> {
     ghost Value = { TableId };
 
     ghost view = { λ f. arc_value f.moments };
 
     ghost invariant = { λ f. AreOfDesks (arc_value f.moments) 64
-        × (arc_value f.moments ≡ J.words) };
+        × (arc_value f.moments ≡ J.names.words) };
 }
 
-/// The words of a shop, the keeper's seat, and a seat for each terminal.
+/// The words of a shop, the keeper's seat, a seat for each terminal, and its blank ledgers.
 #[derive(Drop)]
 pub struct Seats {
     moments: Arc<Moments>,
     other: Arc<Moments>,
     keeper: KeeperSeat,
     desks: Vec<Option<DeskSeat>>,
+    blanks: Blanks,
     shop: u32,
 }
 
 impl Model for Seats {
     ghost Value = { TheSeats };
 
-    ghost view = { λ s. record { words = arc_value s.moments; shop = s.shop } };
+    ghost view = { λ s. record {
+      names = record {
+        words = arc_value s.moments;
+        begun = s.blanks.begun.name;
+        committed = s.blanks.committed.name;
+        rolled_back = s.blanks.rolled_back.name;
+      };
+      shop = s.shop;
+    } };
 
     ghost invariant = { λ s. AreOfDesks (arc_value s.moments) 64
         × (arc_value s.other ≡ arc_value s.moments)
@@ -92,15 +101,15 @@ impl Model for Seats {
 }
 
 /// A shop: what it lends, and what gives the desks.
-pub struct Shop<J: Naming, B: Ledger, C: Ledger, R: Ledger> {
-    front: Front<J, B, C, R>,
+pub struct Shop<J: Naming> {
+    front: Front<J>,
     seats: Vec<Option<DeskSeat>>,
-    rest: Told<B, C, R>,
+    rest: Told<J>,
     given: u64,
     name: u32,
 }
 
-impl<J: Naming, B: Ledger, C: Ledger, R: Ledger> Model for Shop<J, B, C, R> {
+impl<J: Naming> Model for Shop<J> {
     ghost Value = { TheShop };
 
     ghost view = { λ s. record {
@@ -113,26 +122,26 @@ impl<J: Naming, B: Ledger, C: Ledger, R: Ledger> Model for Shop<J, B, C, R> {
     ghost invariant = { λ s. AreOfDesks s.front 64 × (length s.seats.items ≡ 64)
         × AreFresh s.front s.name s.seats.items × (s.rest.parts + s.given ≡ 65)
         × (waiting s.seats.items + s.given ≡ 64) × (s.rest ≡ untold s.rest.parts)
-        × (s.front ≡ J.words) };
+        × (s.front ≡ J.names.words) };
 }
 
 /// A terminal's desk.
 #[derive(Drop)]
-pub struct Desk<J: Naming, B: Ledger, C: Ledger, R: Ledger> {
+pub struct Desk<J: Naming> {
     seat: DeskSeat,
-    told: Told<B, C, R>,
+    told: Told<J>,
     begun: u64,
     committed: u64,
     rolled_back: u64,
     of: PhantomData<J>,
 }
 
-impl<J: Naming, B: Ledger, C: Ledger, R: Ledger> Model for Desk<J, B, C, R> {
+impl<J: Naming> Model for Desk<J> {
     ghost Value = { TheDesk };
 
     ghost view = { λ d. record { seat = d.seat; told = d.told } };
 
-    ghost invariant = { λ d. (d.seat.words ≡ J.words) × (d.told ≡ record {
+    ghost invariant = { λ d. (d.seat.words ≡ J.names.words) × (d.told ≡ record {
       parts = 1;
       begun = d.begun;
       committed = d.committed;
@@ -142,25 +151,33 @@ impl<J: Naming, B: Ledger, C: Ledger, R: Ledger> Model for Desk<J, B, C, R> {
 
 /// Why a shop can't be closed: its desks were told that many more begins than ends. It comes back
 /// with its desks.
-pub struct NotQuiet<J: Naming, B: Ledger, C: Ledger, R: Ledger> {
+pub struct NotQuiet<J: Naming> {
     pub open: u64,
-    pub shop: Shop<J, B, C, R>,
-    pub desks: Vec<Desk<J, B, C, R>>,
+    pub shop: Shop<J>,
+    pub desks: Vec<Desk<J>>,
 }
 
 /// How often a turn asks for the lock before it waits. A turn is shorter than a sleep.
-const TRIES: u32 = 200;
+const TRIES: u32 = 32;
+
+/// How many pauses come between two such tries. Who has the hall's rows in its cache does a few
+/// turns meanwhile, and the rows change hands less often.
+const PAUSES: u32 = 64;
+
+// Lets a few turns of others pass.
+fn pause() {
+    for _ in 0..PAUSES {
+        hint::spin_loop();
+    }
+}
 
 // Enters the hall, once nobody else is in it.
-fn enter<'h, J: Naming, B: Ledger, C: Ledger, R: Ledger, W: Wait>(
-    rt: &W,
-    hall: &'h Mutex<Hall<J, B, C, R>>,
-) -> MutexGuard<'h, Hall<J, B, C, R>> {
+fn enter<'h, J: Naming, W: Wait>(rt: &W, hall: &'h Mutex<Hall<J>>) -> MutexGuard<'h, Hall<J>> {
     for _ in 0..TRIES {
         if let Some(guard) = hall.try_lock() {
             return guard;
         }
-        hint::spin_loop();
+        pause();
     }
     hall.lock(rt)
 }
@@ -189,7 +206,8 @@ fn take_seat(seats: &mut Vec<Option<DeskSeat>>, slot: usize) -> Option<DeskSeat>
 }
 
 impl Seats {
-    /// Makes the words of a shop of that name, and deals all seats. Memory is the only refusal.
+    /// Makes the words and the ledgers of a shop of that name, and deals all seats. Memory is the
+    /// only refusal.
     pub fn new(alloc: Global, shop: u32) -> Result<Seats, AllocError>
         ensures { IfOk result (λ s. s.shop ≡ shop) }
     {
@@ -205,45 +223,35 @@ impl Seats {
             other,
             keeper,
             desks,
+            blanks: Blanks::new(),
             shop,
         })
     }
 }
 
-impl<J: Naming, B: Ledger, C: Ledger, R: Ledger> Shop<J, B, C, R> {
-    /// Opens a shop on a population. Memory is the only refusal; seats and ledgers have theirs.
+impl<J: Naming> Shop<J> {
+    /// Opens a shop on a population. Memory is the only refusal; seats have theirs.
     pub fn open(
         alloc: Global,
         tables: Tables,
         extents: ExtentCount,
         seats: Seats,
-        blanks: Blanks,
-    ) -> Result<Shop<J, B, C, R>, NoMemory>
+    ) -> Result<Shop<J>, NoMemory>
         requires population { IsPopulation (rows tables) }
-        requires words { seats.words ≡ J.words }
-        requires names { (blanks.begun.name ≡ B.name) × (blanks.committed.name ≡ C.name)
-            × (blanks.rolled_back.name ≡ R.name) }
-        requires parts { (blanks.begun.parts ≡ B.parts) × (blanks.committed.parts ≡ C.parts)
-            × (blanks.rolled_back.parts ≡ R.parts) }
-        requires same { (B.parts ≡ 65) × (C.parts ≡ 65) × (R.parts ≡ 65) }
+        requires names { seats.names ≡ J.names }
         ensures new { IfOk result (λ s. (s.name ≡ seats.shop) × (s.given ≡ 0)) }
         ensures free { IfOk result (λ s. (t : ℕ) → seat_for s t ≢ Some None) }
     {
         let core = Core::open(alloc, tables, extents)?;
-        Ok(Shop::over(core, seats, blanks))
+        Ok(Shop::over(core, seats))
     }
 
     // Opens a shop on a core that has begun nothing.
-    fn over(core: Core, seats: Seats, blanks: Blanks) -> Shop<J, B, C, R>
+    fn over(core: Core, seats: Seats) -> Shop<J>
         requires newest { newest system (world_of core) ≡ 0 }
         requires quiet { open_count (world_of core) ≡ 0 }
         requires horizon { horizon system (world_of core) ≡ 0 }
-        requires words { seats.words ≡ J.words }
-        requires names { (blanks.begun.name ≡ B.name) × (blanks.committed.name ≡ C.name)
-            × (blanks.rolled_back.name ≡ R.name) }
-        requires parts { (blanks.begun.parts ≡ B.parts) × (blanks.committed.parts ≡ C.parts)
-            × (blanks.rolled_back.parts ≡ R.parts) }
-        requires same { (B.parts ≡ 65) × (C.parts ≡ 65) × (R.parts ≡ 65) }
+        requires names { seats.names ≡ J.names }
         ensures new { (result.name ≡ seats.shop) × (result.given ≡ 0) }
         ensures free { (t : ℕ) → seat_for result t ≢ Some None }
     {
@@ -252,9 +260,10 @@ impl<J: Naming, B: Ledger, C: Ledger, R: Ledger> Shop<J, B, C, R> {
             other,
             keeper,
             desks,
+            blanks,
             shop,
         } = seats;
-        let (books, rest) = open_books::<B, C, R>(blanks);
+        let (books, rest) = open_books::<J>(blanks);
         let hall = Hall::new(core, books, other, keeper);
         Shop {
             front: Front {
@@ -270,7 +279,7 @@ impl<J: Naming, B: Ledger, C: Ledger, R: Ledger> Shop<J, B, C, R> {
 
     /// Gives a terminal its desk. `AlreadyOpen` where it has one, and nothing has changed then.
     #[tactic(auto, using(crate::proofs::SeatFacts::fresh_set, crate::proofs::SeatFacts::waiting_set, crate::proofs::SeatFacts::set_idle, crate::proofs::SeatFacts::get_set))]
-    pub fn desk(&mut self, terminal: Terminal) -> Result<Desk<J, B, C, R>, Refusal>
+    pub fn desk(&mut self, terminal: Terminal) -> Result<Desk<J>, Refusal>
         ensures ok { IfOk result (λ d.
             d ≡ record {
               seat = fresh_seat self.old.words self.old.name (terminal - 1);
@@ -301,7 +310,7 @@ impl<J: Naming, B: Ledger, C: Ledger, R: Ledger> Shop<J, B, C, R> {
     }
 
     /// Lends what the calls of its desks take.
-    pub fn front(&self) -> &Front<J, B, C, R>
+    pub fn front(&self) -> &Front<J>
         ensures { result.now ≡ self.now.words }
     {
         let _name = self.name;
@@ -317,12 +326,8 @@ impl<J: Naming, B: Ledger, C: Ledger, R: Ledger> Shop<J, B, C, R> {
 
     /// Closes the shop, where all that its desks began has ended: gives the core, and how much each
     /// desk was told in sum. `NotQuiet` where a transaction is open; shop and desks come back.
-    pub fn close(
-        self,
-        mut desks: Vec<Desk<J, B, C, R>>,
-    ) -> Result<(Core, Counted), NotQuiet<J, B, C, R>>
+    pub fn close(self, mut desks: Vec<Desk<J>>) -> Result<(Core, Counted), NotQuiet<J>>
         requires all { length desks.items ≡ self.given }
-        requires same { (B.parts ≡ 65) × (C.parts ≡ 65) × (R.parts ≡ 65) }
         ensures sums { IfOk result (λ r. AreSums desks.items r.1) }
         ensures ended { IfOk result (λ r. r.1.begun ≡ r.1.committed + r.1.rolled_back) }
         ensures quiet { IfOk result (λ r. open_count (world_of r.0) ≡ 0) }
@@ -359,13 +364,8 @@ impl<J: Naming, B: Ledger, C: Ledger, R: Ledger> Shop<J, B, C, R> {
 }
 
 // Counts what the desks of a list were told.
-fn audit_list<J: Naming, B: Ledger, C: Ledger, R: Ledger>(
-    hall: &mut Hall<J, B, C, R>,
-    all: &mut Told<B, C, R>,
-    desks: &mut Vec<Desk<J, B, C, R>>,
-) -> Counted
-    requires same { (C.parts ≡ B.parts) × (R.parts ≡ B.parts) }
-    requires parts { all.old.parts + length desks.old.items ≡ B.parts }
+fn audit_list<J: Naming>(hall: &mut Hall<J>, all: &mut Told<J>, desks: &mut Vec<Desk<J>>) -> Counted
+    requires parts { all.old.parts + length desks.old.items ≡ 65 }
     requires some { 0 < all.old.parts }
     ensures same { (hall.new ≡ hall.old) × (all.new ≡ all.old) }
     ensures desks { desks.new.items ≡ desks.old.items }
@@ -380,13 +380,8 @@ fn audit_list<J: Naming, B: Ledger, C: Ledger, R: Ledger>(
 
 // Counts what the desks were told: lends it to one hand, and looks at the totals.
 #[cycle(audit)]
-fn audit_desks<J: Naming, B: Ledger, C: Ledger, R: Ledger>(
-    hall: &mut Hall<J, B, C, R>,
-    all: &mut Told<B, C, R>,
-    desks: &mut [Desk<J, B, C, R>],
-) -> Counted
-    requires same { (C.parts ≡ B.parts) × (R.parts ≡ B.parts) }
-    requires parts { all.old.parts + length desks.old ≡ B.parts }
+fn audit_desks<J: Naming>(hall: &mut Hall<J>, all: &mut Told<J>, desks: &mut [Desk<J>]) -> Counted
+    requires parts { all.old.parts + length desks.old ≡ 65 }
     requires some { 0 < all.old.parts }
     ensures same { (hall.new ≡ hall.old) × (all.new ≡ all.old) × (desks.new ≡ desks.old) }
     ensures hall { IsHall hall.old }
@@ -402,14 +397,13 @@ fn audit_desks<J: Naming, B: Ledger, C: Ledger, R: Ledger>(
 }
 
 #[cycle(audit)]
-fn audit_first<J: Naming, B: Ledger, C: Ledger, R: Ledger>(
-    hall: &mut Hall<J, B, C, R>,
-    all: &mut Told<B, C, R>,
-    first: &mut Desk<J, B, C, R>,
-    others: &mut [Desk<J, B, C, R>],
+fn audit_first<J: Naming>(
+    hall: &mut Hall<J>,
+    all: &mut Told<J>,
+    first: &mut Desk<J>,
+    others: &mut [Desk<J>],
 ) -> Counted
-    requires same { (C.parts ≡ B.parts) × (R.parts ≡ B.parts) }
-    requires parts { all.old.parts + length others.old + 1 ≡ B.parts }
+    requires parts { all.old.parts + length others.old + 1 ≡ 65 }
     requires some { 0 < all.old.parts }
     ensures same { (hall.new ≡ hall.old) × (all.new ≡ all.old) × (first.new ≡ first.old)
         × (others.new ≡ others.old) }
@@ -433,7 +427,7 @@ fn audit_first<J: Naming, B: Ledger, C: Ledger, R: Ledger>(
     counted
 }
 
-impl<J: Naming, B: Ledger, C: Ledger, R: Ledger> Front<J, B, C, R> {
+impl<J: Naming> Front<J> {
     /// Purges up to a moment, no further than the newest and each pin, and gives the horizon.
     pub fn purge<W: Wait>(&self, rt: &W, moment: Moment) -> Moment
         ensures { APurge moment result }
@@ -442,7 +436,7 @@ impl<J: Naming, B: Ledger, C: Ledger, R: Ledger> Front<J, B, C, R> {
     }
 }
 
-impl<J: Naming, B: Ledger, C: Ledger, R: Ledger> Desk<J, B, C, R> {
+impl<J: Naming> Desk<J> {
     /// Gives the terminal whose desk it is.
     pub fn terminal(&self) -> Terminal
         ensures { result ≡ self.now.seat.terminal }
@@ -455,7 +449,7 @@ impl<J: Naming, B: Ledger, C: Ledger, R: Ledger> Desk<J, B, C, R> {
     pub fn begin<W: Wait>(
         &mut self,
         rt: &W,
-        front: &Front<J, B, C, R>,
+        front: &Front<J>,
         request: &Request,
     ) -> Result<Open, Refusal>
         requires { HasProgram request.now }
@@ -479,11 +473,11 @@ impl<J: Naming, B: Ledger, C: Ledger, R: Ledger> Desk<J, B, C, R> {
 
     /// Carries out the next stage of a transaction that the desk began, which commits after the
     /// last. `NotOpen` of any other.
-    pub fn advance<W: Wait>(&mut self, rt: &W, front: &Front<J, B, C, R>, work: Open) -> Turn
+    pub fn advance<W: Wait>(&mut self, rt: &W, front: &Front<J>, work: Open) -> Turn
         ensures turn { AnAdvance self.old work result }
         ensures told { self.new ≡ with_told (told_of (advances result) self.old.told) self.old }
     {
-        if !self.began(&work) {
+        if !began(&self.seat, &work) {
             return Turn::Kept(work, Refusal::NotOpen);
         }
         let terminal = self.seat.terminal();
@@ -507,23 +501,23 @@ impl<J: Naming, B: Ledger, C: Ledger, R: Ledger> Desk<J, B, C, R> {
     pub fn end<W: Wait>(
         &mut self,
         rt: &W,
-        front: &Front<J, B, C, R>,
-        work: Open,
+        front: &Front<J>,
+        transaction: Open,
     ) -> Result<(), (Refusal, Open)>
-        ensures turn { AnEnd self.old work result }
+        ensures turn { AnEnd self.old transaction result }
         ensures told { self.new ≡ with_told (end_told (ends result) self.old.told) self.old }
     {
-        if !self.began(&work) {
-            return Err((Refusal::NotOpen, work));
+        if !began(&self.seat, &transaction) {
+            return Err((Refusal::NotOpen, transaction));
         }
         let terminal = self.seat.terminal();
         match enter(rt, &front.hall).end(&mut self.told, terminal) {
             Ok(()) => {
                 self.rolled_back += 1;
-                work.spend();
+                transaction.spend();
                 Ok(())
             }
-            Err(refusal) => Err((refusal, work)),
+            Err(refusal) => Err((refusal, transaction)),
         }
     }
 
@@ -532,7 +526,7 @@ impl<J: Naming, B: Ledger, C: Ledger, R: Ledger> Desk<J, B, C, R> {
     pub fn read<W: Wait>(
         &self,
         rt: &W,
-        front: &Front<J, B, C, R>,
+        front: &Front<J>,
         pin: &Pin,
         query: &Query,
     ) -> Result<QueryReply, Refusal>
@@ -546,7 +540,7 @@ impl<J: Naming, B: Ledger, C: Ledger, R: Ledger> Desk<J, B, C, R> {
     }
 
     /// Loads the newest moment, which is at least each that this desk saw or told.
-    pub fn newest(&mut self, front: &Front<J, B, C, R>) -> Moment
+    pub fn newest(&mut self, front: &Front<J>) -> Moment
         ensures desk { self.new ≡
             with_seat (with_notes (saw result self.old.seat.notes) self.old.seat) self.old }
         ensures rises { self.old.seat.notes.seen ≤ result }
@@ -556,7 +550,7 @@ impl<J: Naming, B: Ledger, C: Ledger, R: Ledger> Desk<J, B, C, R> {
     }
 
     /// Tells a moment: from then on this desk sees no earlier one as the newest.
-    pub fn told(&mut self, front: &Front<J, B, C, R>, moment: Moment)
+    pub fn told(&mut self, front: &Front<J>, moment: Moment)
         ensures desk { self.new ≡ with_seat (with_notes
             (saw self.new.seat.notes.seen self.old.seat.notes) self.old.seat) self.old }
         ensures rises { self.old.seat.notes.seen ≤ self.new.seat.notes.seen }
@@ -574,7 +568,7 @@ impl<J: Naming, B: Ledger, C: Ledger, R: Ledger> Desk<J, B, C, R> {
     }
 
     /// Pins the newest moment. `TooOld` with the keeper's claim, where that is above it.
-    pub fn pin(&mut self, front: &Front<J, B, C, R>) -> Result<Pin, TooOld>
+    pub fn pin(&mut self, front: &Front<J>) -> Result<Pin, TooOld>
         requires { is_pinned self.old.seat.notes.pin ≡ false }
         ensures desk { self.new ≡
             with_seat (with_notes self.new.seat.notes self.old.seat) self.old }
@@ -590,7 +584,7 @@ impl<J: Naming, B: Ledger, C: Ledger, R: Ledger> Desk<J, B, C, R> {
 
     /// Ends a pin of this desk. Any other is handed back with this desk's pin word, and nothing has
     /// changed.
-    pub fn unpin(&mut self, front: &Front<J, B, C, R>, pin: Pin) -> Result<(), (NotPinned, Pin)>
+    pub fn unpin(&mut self, front: &Front<J>, pin: Pin) -> Result<(), (NotPinned, Pin)>
         ensures ok { OnOk result (self.new ≡ with_seat
             (with_notes (with_pin Free self.old.seat.notes) self.old.seat) self.old) }
         ensures own { OnOk result (Holds self.old.seat pin) }
@@ -601,14 +595,13 @@ impl<J: Naming, B: Ledger, C: Ledger, R: Ledger> Desk<J, B, C, R> {
         let moments = &*front.moments;
         moments.unpin(&mut self.seat, pin)
     }
+}
 
-    // Tells whether the desk began a transaction.
-    fn began(&self, work: &Open) -> bool
-        ensures { IsTrue result ↔ IsOwn self.now work.now }
-    {
-        let seat = &self.seat;
-        work.shop == seat.shop() && work.terminal.get() == seat.terminal().get()
-    }
+// Tells whether the desk with a seat began a transaction.
+fn began(seat: &DeskSeat, work: &Open) -> bool
+    ensures { IsTrue result ↔ IsOwn seat.now work.now }
+{
+    work.shop == seat.shop() && work.terminal.get() == seat.terminal().get()
 }
 
 impl Open {

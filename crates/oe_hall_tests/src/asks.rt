@@ -2,75 +2,55 @@
 ghost use Rattle.oe_admission.specs.Programs.{HasProgram};
 
 use oe_requests::{
-    CustomerChoice, DeliveryRequest, LevelQuery, NewOrderRequest, PaymentRequest, Query, Request,
-    RequestLine, RequestLines, StatusQuery,
+    CustomerChoice, DeliveriesRequest, DeliveryRequest, LevelQuery, NewOrderRequest,
+    PaymentRequest, Query, Request, RequestLine, RequestLines, StatusQuery,
 };
-use oe_rows::DistrictKey;
+use oe_rows::{DistrictKey, WarehouseKey};
 use oe_values::{Number, Stamp};
 use std::process::Abort;
 
-/// Where a script takes place: its terminals have four numbers from `terminal` on, its orders are
-/// supplied by `supply`, and `quantity` is each line's.
-#[derive(Drop)]
+/// Where a script takes place, in a population of two warehouses: whose district, whose customer,
+/// from which warehouse an order is supplied, and how many of each item.
+#[derive(Clone, Copy)]
 pub(crate) struct Place {
     pub(crate) warehouse: u32,
     pub(crate) district: u32,
     pub(crate) customer: u32,
     pub(crate) supply: u32,
     pub(crate) quantity: u32,
-    pub(crate) terminal: u32,
 }
 
-/// Customer 1 of district 1 in a warehouse.
-pub(crate) fn home(warehouse: u32) -> Place {
-    Place {
-        warehouse,
-        district: 1,
-        customer: 1,
-        supply: warehouse,
-        quantity: 1,
-        terminal: 1,
-    }
+/// A request at a place.
+#[derive(Clone, Copy)]
+pub(crate) enum Ask {
+    /// An order of items 1 to 5, in the district that is that many further.
+    Order(u32),
+    /// An order of items 1 to 4, and of one that is unused.
+    Unused,
+    /// A payment by a customer of the district that is that many further.
+    Payment(u32),
+    /// A payment in the other warehouse.
+    PaymentAway,
+    /// The delivery of the district's oldest order by that carrier.
+    Delivery(u32),
+    /// The delivery of all ten districts' oldest orders by that carrier.
+    Deliveries(u32),
 }
 
-/// That district of that warehouse.
-pub(crate) fn moved(at: &Place, warehouse: u32, district: u32) -> Place {
-    Place {
-        warehouse,
-        district,
-        customer: at.customer,
-        supply: at.supply,
-        quantity: at.quantity,
-        terminal: at.terminal,
-    }
+/// A query at a place.
+#[derive(Clone, Copy)]
+pub(crate) enum Look {
+    /// The newest order of the customer.
+    Status,
+    /// How many items of the district are short of 20.
+    Level,
 }
 
-fn district(rt: &impl Abort, at: &Place) -> DistrictKey {
+fn district(rt: &impl Abort, warehouse: u32, district: u32) -> DistrictKey {
     DistrictKey {
-        warehouse: Number::new(at.warehouse).expect(rt, "a warehouse"),
-        district: Number::new(at.district).expect(rt, "a district"),
+        warehouse: Number::new(warehouse).expect(rt, "a warehouse"),
+        district: Number::new(district).expect(rt, "a district"),
     }
-}
-
-fn customer(rt: &impl Abort, at: &Place) -> CustomerChoice {
-    CustomerChoice::Number(Number::new(at.customer).expect(rt, "a customer"))
-}
-
-fn stamp(rt: &impl Abort) -> Stamp {
-    Stamp::from_seconds(3_187_296_000).expect(rt, "a stamp")
-}
-
-/// A payment of 2.50 at a place, by the customer of another.
-pub(crate) fn payment(rt: &impl Abort, at: &Place, by: &Place) -> Request
-    ensures { HasProgram result }
-{
-    Request::Payment(PaymentRequest {
-        district: district(rt, at),
-        customer_district: district(rt, by),
-        customer: customer(rt, by),
-        amount: Number::new(250).expect(rt, "an amount"),
-        stamp: stamp(rt),
-    })
 }
 
 fn line(rt: &impl Abort, at: &Place, item: u32) -> RequestLine {
@@ -81,53 +61,75 @@ fn line(rt: &impl Abort, at: &Place, item: u32) -> RequestLine {
     }
 }
 
-fn lines(rt: &impl Abort, at: &Place) -> RequestLines {
+fn order(rt: &impl Abort, at: &Place, further: u32, last: u32) -> NewOrderRequest {
     let lines = [
         line(rt, at, 1),
         line(rt, at, 2),
         line(rt, at, 3),
         line(rt, at, 4),
-        line(rt, at, 5),
+        line(rt, at, last),
     ];
-    RequestLines::read(&lines).expect(rt, "five lines")
-}
-
-/// An order of items 1 to 5.
-pub(crate) fn order(rt: &impl Abort, at: &Place) -> Request
-    ensures { HasProgram result }
-{
-    let lines = lines(rt, at);
-    Request::NewOrder(NewOrderRequest {
-        district: district(rt, at),
+    NewOrderRequest {
+        district: district(rt, at.warehouse, at.district.saturating_add(further)),
         customer: Number::new(at.customer).expect(rt, "a customer"),
         stamp: stamp(rt),
-        lines,
-    })
+        lines: RequestLines::read(&lines).expect(rt, "five lines"),
+    }
 }
 
-/// The delivery of the oldest order that waits in a district.
-pub(crate) fn delivery(rt: &impl Abort, at: &Place, carrier: u32) -> Request
+fn payment(rt: &impl Abort, at: &Place, warehouse: u32, further: u32) -> PaymentRequest {
+    let by = at.district.saturating_add(further);
+    PaymentRequest {
+        district: district(rt, warehouse, at.district),
+        customer_district: district(rt, warehouse, by),
+        customer: CustomerChoice::Number(Number::new(at.customer).expect(rt, "a customer")),
+        amount: Number::new(250).expect(rt, "an amount"),
+        stamp: stamp(rt),
+    }
+}
+
+fn stamp(rt: &impl Abort) -> Stamp {
+    Stamp::from_seconds(3_187_296_000).expect(rt, "a stamp")
+}
+
+/// Makes a request at a place.
+pub(crate) fn request(rt: &impl Abort, at: &Place, ask: Ask) -> Request
     ensures { HasProgram result }
 {
-    Request::Delivery(DeliveryRequest {
-        district: district(rt, at),
-        carrier: Number::new(carrier).expect(rt, "a carrier"),
-        stamp: stamp(rt),
-    })
+    match ask {
+        Ask::Order(further) => Request::NewOrder(order(rt, at, further, 5)),
+        Ask::Unused => Request::NewOrder(order(rt, at, 0, 21)),
+        Ask::Payment(further) => Request::Payment(payment(rt, at, at.warehouse, further)),
+        Ask::PaymentAway => {
+            let away = 3u32.saturating_sub(at.warehouse);
+            Request::Payment(payment(rt, at, away, 0))
+        }
+        Ask::Delivery(carrier) => Request::Delivery(DeliveryRequest {
+            district: district(rt, at.warehouse, at.district),
+            carrier: Number::new(carrier).expect(rt, "a carrier"),
+            stamp: stamp(rt),
+        }),
+        Ask::Deliveries(carrier) => Request::Deliveries(DeliveriesRequest {
+            warehouse: WarehouseKey {
+                warehouse: Number::new(at.warehouse).expect(rt, "a warehouse"),
+            },
+            carrier: Number::new(carrier).expect(rt, "a carrier"),
+            stamp: stamp(rt),
+        }),
+    }
 }
 
-/// The newest order of the place's customer.
-pub(crate) fn status(rt: &impl Abort, at: &Place) -> Query {
-    Query::Status(StatusQuery {
-        district: district(rt, at),
-        customer: customer(rt, at),
-    })
-}
-
-/// How many items of the place's district are short of 20.
-pub(crate) fn level(rt: &impl Abort, at: &Place) -> Query {
-    Query::Level(LevelQuery {
-        district: district(rt, at),
-        threshold: Number::new(20).expect(rt, "a threshold"),
-    })
+/// Makes a query at a place.
+pub(crate) fn query(rt: &impl Abort, at: &Place, look: Look) -> Query {
+    let district = district(rt, at.warehouse, at.district);
+    match look {
+        Look::Status => Query::Status(StatusQuery {
+            district,
+            customer: CustomerChoice::Number(Number::new(at.customer).expect(rt, "a customer")),
+        }),
+        Look::Level => Query::Level(LevelQuery {
+            district,
+            threshold: Number::new(20).expect(rt, "a threshold"),
+        }),
+    }
 }

@@ -26,7 +26,7 @@ impl Outlet for Sum {
 }
 
 /// The sum of the dumps of all tables.
-pub(crate) fn sum_of(tables: &Tables) -> u64 {
+fn sum_of(tables: &Tables) -> u64 {
     let mut to = Sum { sum: 7 };
     let mut out = Pending::new();
     for table in [
@@ -44,4 +44,12 @@ pub(crate) fn sum_of(tables: &Tables) -> u64 {
     }
     let _flushed = flush(&mut out, &mut to).is_ok();
     to.sum
+}
+
+/// Tells whether the dumps of tables are the same, and lets go of the tables.
+pub(crate) fn is_same(left: Tables, right: Tables) -> bool {
+    let same = sum_of(&left) == sum_of(&right);
+    left.discard();
+    right.discard();
+    same
 }

@@ -1,10 +1,11 @@
 //! Drives of two terminals: one waits at the gate until the other was answered.
 ghost use Rattle.std.specs.Prelude.{◌≡◌};
 
-use crate::asks::{home, payment};
-use crate::made::{opened, seats};
+use crate::asks::{Ask, request};
+use crate::scripts::PLACES;
+use crate::shows::{opened, seats};
 use oe_drive::{Driven, Gate, Plan, drive};
-use oe_hall::{Blanks, Naming, Seats};
+use oe_hall::{Naming, Seats};
 use oe_requests::Errand;
 use oe_values::Terminal;
 use std::alloc::Global;
@@ -12,7 +13,6 @@ use std::marker::Brand;
 use std::process::Abort;
 use std::sync::Wait;
 use std::sync::atomic::{AtomicBool, Ordering};
-use std::sync::ledger::Ledger;
 use std::thread;
 use std::thread::Threads;
 
@@ -22,7 +22,7 @@ struct HeldGate {
     held: u32,
     other: u32,
     is_answered: AtomicBool,
-    is_given_up: AtomicBool,
+    has_waited: AtomicBool,
 }
 
 impl Gate for HeldGate {
@@ -32,11 +32,11 @@ impl Gate for HeldGate {
         }
         for _ in 0..1_000_000u32 {
             if self.is_answered.load(Ordering::SeqCst) {
+                self.has_waited.store(true, Ordering::SeqCst);
                 return;
             }
             thread::yield_now();
         }
-        self.is_given_up.store(true, Ordering::SeqCst);
     }
 
     fn after(&self, terminal: Terminal, call: u64) {
@@ -46,47 +46,31 @@ impl Gate for HeldGate {
     }
 }
 
-/// A gate that holds a terminal for another.
-fn awaits(held: u32, other: u32) -> HeldGate {
-    HeldGate {
-        held,
-        other,
-        is_answered: AtomicBool::new(false),
-        is_given_up: AtomicBool::new(false),
-    }
-}
-
-/// A plan of one payment in a warehouse.
-fn plan(rt: &impl Abort, alloc: Global, warehouse: u32) -> Plan {
-    let at = home(warehouse);
+// Makes a plan of one payment.
+fn plan(rt: &impl Abort, alloc: Global, ask: Ask) -> Plan {
     let mut errands = Vec::new(alloc);
-    if errands.push(Errand::Begin(payment(rt, &at, &at))).is_err() {
+    let payment = request(rt, &PLACES[0], ask);
+    if errands.push(Errand::Begin(payment)).is_err() {
         panic!(rt; "no memory");
     }
     Plan { errands }
 }
 
-/// Drives terminals 1 and 2, and gives how many payments they committed.
-fn driven<
-    J: Naming + Send + Sync,
-    B: Ledger + Send + Sync,
-    C: Ledger + Send + Sync,
-    R: Ledger + Send + Sync,
-    H: Threads + Wait + Abort + Sync,
->(rt: &H, alloc: Global, gate: &HeldGate, seats: Seats, blanks: Blanks) -> u64
-    requires words { seats.words ≡ J.words }
-    requires names { (blanks.begun.name ≡ B.name) × (blanks.committed.name ≡ C.name)
-        × (blanks.rolled_back.name ≡ R.name) }
-    requires parts { (blanks.begun.parts ≡ B.parts) × (blanks.committed.parts ≡ C.parts)
-        × (blanks.rolled_back.parts ≡ R.parts) }
-    requires same { (B.parts ≡ 65) × (C.parts ≡ 65) × (R.parts ≡ 65) }
+// Drives terminals 1 and 2, and counts the payments that they committed.
+fn driven<J: Naming + Send + Sync, H: Threads + Wait + Abort + Sync>(
+    rt: &H,
+    alloc: Global,
+    gate: &HeldGate,
+    seats: Seats,
+) -> u64
+    requires names { seats.names ≡ J.names }
 {
-    let shop = opened::<J, B, C, R>(rt, alloc, seats, blanks, 4_096);
+    let shop = opened::<J>(rt, alloc, seats, 4_096);
     let Ok(mut plans) = Vec::with_capacity(alloc, 2) else {
         panic!(rt; "no memory")
     };
-    plans.push_reserved(plan(rt, alloc, 1));
-    plans.push_reserved(plan(rt, alloc, 2));
+    plans.push_reserved(plan(rt, alloc, Ask::Payment(0)));
+    plans.push_reserved(plan(rt, alloc, Ask::PaymentAway));
     match drive(rt, alloc, gate, shop, plans) {
         Ok(driven) => {
             let Driven {
@@ -101,34 +85,30 @@ fn driven<
     }
 }
 
+// Drives both terminals, and tells whether both committed, the held one behind the other.
+fn is_driven<H: Threads + Wait + Abort + Sync>(
+    rt: &H,
+    alloc: Global,
+    held: u32,
+    other: u32,
+) -> bool {
+    let gate = HeldGate {
+        held,
+        other,
+        is_answered: AtomicBool::new(false),
+        has_waited: AtomicBool::new(false),
+    };
+    let seats = seats(rt, alloc, 7);
+    let made = driven::<Brand, H>(rt, alloc, &gate, seats);
+    made == 2 && gate.has_waited.load(Ordering::SeqCst)
+}
+
 #[test]
 fn first_call_waits_for_second(rt: HostRuntime) {
-    let gate = awaits(1, 2);
-    let seats = seats(&rt, rt.alloc(), 7);
-    let blanks = Blanks::new();
-    let made = driven::<Brand, Brand, Brand, Brand, HostRuntime>(
-        &rt,
-        rt.alloc(),
-        &gate,
-        seats,
-        blanks,
-    );
-    assert!(rt; made == 2);
-    assert!(rt; !gate.is_given_up.load(Ordering::SeqCst));
+    assert!(rt; is_driven(&rt, rt.alloc(), 1, 2));
 }
 
 #[test]
 fn second_call_waits_for_first(rt: HostRuntime) {
-    let gate = awaits(2, 1);
-    let seats = seats(&rt, rt.alloc(), 7);
-    let blanks = Blanks::new();
-    let made = driven::<Brand, Brand, Brand, Brand, HostRuntime>(
-        &rt,
-        rt.alloc(),
-        &gate,
-        seats,
-        blanks,
-    );
-    assert!(rt; made == 2);
-    assert!(rt; !gate.is_given_up.load(Ordering::SeqCst));
+    assert!(rt; is_driven(&rt, rt.alloc(), 2, 1));
 }

@@ -1,31 +1,28 @@
 //! The tests of hall, shop and desks, and of a drive: that their calls come back with the core's
 //! answers, that what is left under the lock is what the call left, and that two desks overlap.
 //! What a clause says is not tested again.
+//!
+//! Most tests are lists of moves (`scripts`), which one player (`plays`) carries out by the desks
+//! of a shop and by a core.
 #![tactic(auto)]
 
 #[cfg(test)]
-mod alike;
-#[cfg(test)]
 mod asks;
+#[cfg(test)]
+mod desks;
 #[cfg(test)]
 mod dumps;
 #[cfg(test)]
 mod gates;
 #[cfg(test)]
-mod made;
-#[cfg(test)]
-mod memory;
-#[cfg(test)]
-mod pinning;
+mod moves;
 #[cfg(test)]
 mod pins;
 #[cfg(test)]
-mod readers;
+mod plays;
 #[cfg(test)]
-mod replies;
+mod readers;
 #[cfg(test)]
 mod scripts;
 #[cfg(test)]
-mod strangers;
-#[cfg(test)]
-mod turns;
+mod shows;

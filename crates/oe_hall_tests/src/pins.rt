@@ -1,18 +1,9 @@
-//! Purges between any two steps of a pin, a read and the pin's end.
+//! Purges between any two steps of a pin and its end, at the words that desks and keeper share.
 ghost use Rattle.std.specs.Prelude.{◌≡◌};
 
-use crate::asks::{home, level};
-use crate::made::{desk, moment, opened, seats};
-use crate::pinning::{pinned, unpinned};
-use crate::turns::{closed, paid, told};
-use oe_hall::{Blanks, Desk, Front, Naming, Seats};
 use oe_moments::{KeeperSeat, Moments};
 use oe_values::{Moment, Number};
 use std::alloc::Global;
-use std::marker::Brand;
-use std::process::Abort;
-use std::sync::Wait;
-use std::sync::ledger::Ledger;
 
 // The keeper purges at 5 where it is its turn: the horizon; else 0.
 fn turn(moments: &Moments, keeper: &mut KeeperSeat, is_turn: bool) -> u64
@@ -60,98 +51,4 @@ fn a_purge_between_any_two_steps(rt: HostRuntime) {
     assert!(rt; beside_a_purge(rt.alloc(), 4) == Some((3, 0, Some(3))));
     assert!(rt; beside_a_purge(rt.alloc(), 5) == Some((3, 0, Some(0))));
     assert!(rt; beside_a_purge(rt.alloc(), 6) == Some((5, 0, Some(0))));
-}
-
-// The first desk tells three payments, and the second makes two that it does not tell.
-fn pay_five<J: Naming, B: Ledger, C: Ledger, R: Ledger, H: Wait + Abort>(
-    rt: &H,
-    front: &Front<J, B, C, R>,
-    one: &mut Desk<J, B, C, R>,
-    two: &mut Desk<J, B, C, R>,
-) {
-    for _ in 0..3u32 {
-        told(rt, front, one, 1);
-    }
-    for _ in 0..2u32 {
-        paid(rt, front, two, 2);
-    }
-}
-
-// Purges at 5 beside a pin of 3, between all that is done with it: what is reached before a read,
-// behind it, and behind the pin's end.
-fn beside_a_pin<J: Naming, B: Ledger, C: Ledger, R: Ledger, H: Wait + Abort>(
-    rt: &H,
-    front: &Front<J, B, C, R>,
-    desk: &mut Desk<J, B, C, R>,
-) -> (u64, u64, u64) {
-    let pin = pinned(rt, front, desk, 3);
-    let before = front.purge(rt, moment(rt, 5)).get();
-    assert!(rt; desk.read(rt, front, &pin, &level(rt, &home(1))).is_ok());
-    let behind = front.purge(rt, moment(rt, 5)).get();
-    assert!(rt; desk.read(rt, front, &pin, &level(rt, &home(1))).is_ok());
-    unpinned(rt, front, desk, pin);
-    let after = front.purge(rt, moment(rt, 5)).get();
-    (before, behind, after)
-}
-
-// The desk knows of no later moment than 3, and the horizon is 5: the claim with which its pin is
-// refused, and the horizon after a purge at 4.
-fn behind_a_purge<J: Naming, B: Ledger, C: Ledger, R: Ledger, H: Wait + Abort>(
-    rt: &H,
-    front: &Front<J, B, C, R>,
-    desk: &mut Desk<J, B, C, R>,
-) -> (u64, u64) {
-    if desk.is_pinned() {
-        panic!(rt; "a pin is out");
-    }
-    match desk.pin(front) {
-        Ok(_) => panic!(rt; "a pin below the horizon was made"),
-        Err(old) => (old.claim.get(), front.purge(rt, moment(rt, 4)).get()),
-    }
-}
-
-// Tells the desk the horizon, pins it, and reads there.
-fn at_the_horizon<J: Naming, B: Ledger, C: Ledger, R: Ledger, H: Wait + Abort>(
-    rt: &H,
-    front: &Front<J, B, C, R>,
-    desk: &mut Desk<J, B, C, R>,
-) {
-    desk.told(front, moment(rt, 5));
-    let pin = pinned(rt, front, desk, 5);
-    front.purge(rt, moment(rt, 5));
-    assert!(rt; desk.read(rt, front, &pin, &level(rt, &home(1))).is_ok());
-    unpinned(rt, front, desk, pin);
-}
-
-/// Makes five payments, tells three, and purges beside a pin and behind it.
-fn purges<J: Naming, B: Ledger, C: Ledger, R: Ledger, H: Wait + Abort>(
-    rt: &H,
-    alloc: Global,
-    seats: Seats,
-    blanks: Blanks,
-) -> ((u64, u64, u64), (u64, u64))
-    requires words { seats.words ≡ J.words }
-    requires names { (blanks.begun.name ≡ B.name) × (blanks.committed.name ≡ C.name)
-        × (blanks.rolled_back.name ≡ R.name) }
-    requires parts { (blanks.begun.parts ≡ B.parts) × (blanks.committed.parts ≡ C.parts)
-        × (blanks.rolled_back.parts ≡ R.parts) }
-    requires same { (B.parts ≡ 65) × (C.parts ≡ 65) × (R.parts ≡ 65) }
-{
-    let mut shop = opened::<J, B, C, R>(rt, alloc, seats, blanks, 64);
-    let mut one = desk(rt, &mut shop, 1);
-    let mut two = desk(rt, &mut shop, 64);
-    pay_five(rt, shop.front(), &mut one, &mut two);
-    let beside = beside_a_pin(rt, shop.front(), &mut one);
-    let behind = behind_a_purge(rt, shop.front(), &mut two);
-    at_the_horizon(rt, shop.front(), &mut two);
-    closed(rt, alloc, shop, one, two);
-    (beside, behind)
-}
-
-#[test]
-fn a_pin_holds_the_horizon_until_it_ends(rt: HostRuntime) {
-    let seats = seats(&rt, rt.alloc(), 7);
-    let blanks = Blanks::new();
-    let told = purges::<Brand, Brand, Brand, Brand, HostRuntime>(&rt, rt.alloc(), seats, blanks);
-    assert!(rt; told == ((3, 3, 5), (5, 5)));
 }

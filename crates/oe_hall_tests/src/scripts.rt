@@ -1,145 +1,354 @@
-//! The worked scripts: each is carried out by the desks of four terminals and by a core, and ends
-//! with a purge at the newest moment, with no pin out.
+//! The scripts: each move says which desk is asked, whose hand holds what it is asked with, what it
+//! is asked for, and what it is told.
 
-use crate::alike::{begin, carry_out, end, goes_on, is_kept, purge, read};
-use crate::asks::{Place, delivery, level, moved, order, payment, status};
-use crate::pinning::{pinned, unpinned};
-use crate::strangers::strangers;
-use oe_core::Core;
-use oe_hall::{Desk, Front, Naming};
-use oe_moments::Pin;
-use std::process::Abort;
-use std::sync::Wait;
-use std::sync::ledger::Ledger;
+use crate::asks::{Ask, Look, Place};
+use crate::moves::{Act, Move, Told};
+use crate::shows::Show;
 
-/// The desks of a script's terminals.
-pub(crate) struct Desks<J: Naming, B: Ledger, C: Ledger, R: Ledger> {
-    pub(crate) one: Desk<J, B, C, R>,
-    pub(crate) two: Desk<J, B, C, R>,
-    pub(crate) three: Desk<J, B, C, R>,
-    pub(crate) four: Desk<J, B, C, R>,
-}
+/// Where the scripts are, and another place, whose orders are supplied from elsewhere.
+pub(crate) const PLACES: [Place; 2] = [
+    Place {
+        warehouse: 1,
+        district: 1,
+        customer: 1,
+        supply: 1,
+        quantity: 1,
+    },
+    Place {
+        warehouse: 2,
+        district: 7,
+        customer: 4,
+        supply: 1,
+        quantity: 8,
+    },
+];
 
-// A delivery holds up another of its district, which delivers the order once it was rolled back.
-fn deliveries<J: Naming, B: Ledger, C: Ledger, R: Ledger, H: Wait + Abort>(
-    rt: &H,
-    front: &Front<J, B, C, R>,
-    desks: &mut Desks<J, B, C, R>,
-    core: &mut Core,
-    at: &Place,
-) {
-    let first = begin(rt, front, &mut desks.one, core, &delivery(rt, at, 3));
-    let first = goes_on(rt, front, &mut desks.one, core, first, 1);
-    let second = begin(rt, front, &mut desks.two, core, &delivery(rt, at, 4));
-    let second = is_kept(rt, front, &mut desks.two, core, second, 7);
-    end(rt, front, &mut desks.one, core, first);
-    carry_out(rt, front, &mut desks.two, core, second);
-    purge(rt, front, core);
-}
+/// A delivery holds up another of its district, which delivers the order once it was rolled back.
+const DELIVERIES: [Move; 8] = [
+    Move(0, 0, Act::Begin(Ask::Delivery(3)), Told::Done),
+    Move(0, 0, Act::Advance, Told::More),
+    Move(1, 1, Act::Begin(Ask::Delivery(4)), Told::Done),
+    Move(1, 1, Act::Advance, Told::Kept(7)),
+    Move(0, 0, Act::End, Told::Done),
+    Move(1, 1, Act::CarryOut, Told::Moment(1)),
+    Move(1, 1, Act::Tell(1), Told::Done),
+    Move(2, 2, Act::Purge(1), Told::Moment(1)),
+];
 
-// A payment holds up another in its warehouse, and both commit.
-fn payments<J: Naming, B: Ledger, C: Ledger, R: Ledger, H: Wait + Abort>(
-    rt: &H,
-    front: &Front<J, B, C, R>,
-    desks: &mut Desks<J, B, C, R>,
-    core: &mut Core,
-    at: &Place,
-) {
-    let by = moved(at, at.warehouse, at.district.saturating_add(2));
-    let first = begin(rt, front, &mut desks.three, core, &payment(rt, at, at));
-    let first = goes_on(rt, front, &mut desks.three, core, first, 1);
-    let second = begin(rt, front, &mut desks.four, core, &payment(rt, at, &by));
-    let second = is_kept(rt, front, &mut desks.four, core, second, 7);
-    carry_out(rt, front, &mut desks.three, core, first);
-    carry_out(rt, front, &mut desks.four, core, second);
-    purge(rt, front, core);
-}
+/// The same of deliveries in ten districts.
+const TEN_DELIVERIES: [Move; 8] = [
+    Move(1, 1, Act::Begin(Ask::Deliveries(5)), Told::Done),
+    Move(1, 1, Act::Advance, Told::More),
+    Move(2, 2, Act::Begin(Ask::Deliveries(6)), Told::Done),
+    Move(2, 2, Act::Advance, Told::Kept(7)),
+    Move(1, 1, Act::End, Told::Done),
+    Move(2, 2, Act::CarryOut, Told::Moment(1)),
+    Move(2, 2, Act::Tell(1), Told::Done),
+    Move(0, 0, Act::Purge(1), Told::Moment(1)),
+];
 
-// Reads under two pins beside an order that is open, ends the pins, and purges.
-fn read_both<J: Naming, B: Ledger, C: Ledger, R: Ledger, H: Wait + Abort>(
-    rt: &H,
-    front: &Front<J, B, C, R>,
-    desks: &mut Desks<J, B, C, R>,
-    core: &mut Core,
-    at: &Place,
-    old: Pin,
-) {
-    let new = pinned(rt, front, &mut desks.four, 1);
-    read(rt, front, &desks.one, core, &old, &status(rt, at));
-    read(rt, front, &desks.four, core, &new, &status(rt, at));
-    read(rt, front, &desks.one, core, &old, &level(rt, at));
-    unpinned(rt, front, &mut desks.one, old);
-    unpinned(rt, front, &mut desks.four, new);
-    purge(rt, front, core);
-}
+/// An order of an unused item is rolled back. Another commits, a third of its district is open, and
+/// the customer of the second is read before and after it.
+const ORDERS: [Move; 19] = [
+    Move(0, 0, Act::Pin, Told::Moment(0)),
+    Move(2, 2, Act::Begin(Ask::Unused), Told::Done),
+    Move(2, 2, Act::CarryOut, Told::RolledBack(12)),
+    Move(2, 2, Act::Begin(Ask::Order(0)), Told::Done),
+    Move(2, 2, Act::CarryOut, Told::Moment(1)),
+    Move(2, 2, Act::Tell(1), Told::Done),
+    Move(1, 1, Act::Newest, Told::Moment(1)),
+    Move(1, 1, Act::Begin(Ask::Order(0)), Told::Done),
+    Move(1, 1, Act::Advance, Told::More),
+    Move(1, 1, Act::Advance, Told::More),
+    Move(1, 1, Act::Advance, Told::More),
+    Move(1, 1, Act::Pin, Told::Moment(1)),
+    Move(0, 0, Act::Read(Look::Status), Told::Done),
+    Move(1, 1, Act::Read(Look::Status), Told::Done),
+    Move(0, 0, Act::Read(Look::Level), Told::Done),
+    Move(0, 0, Act::Unpin, Told::Done),
+    Move(1, 1, Act::Unpin, Told::Done),
+    Move(0, 0, Act::Purge(1), Told::Moment(1)),
+    Move(1, 1, Act::End, Told::Done),
+];
 
-// An order commits, another of its district is open, and the first one's customer is read before
-// and after it.
-fn orders<J: Naming, B: Ledger, C: Ledger, R: Ledger, H: Wait + Abort>(
-    rt: &H,
-    front: &Front<J, B, C, R>,
-    desks: &mut Desks<J, B, C, R>,
-    core: &mut Core,
-    at: &Place,
-) {
-    let old = pinned(rt, front, &mut desks.one, 0);
-    let first = begin(rt, front, &mut desks.three, core, &order(rt, at));
-    carry_out(rt, front, &mut desks.three, core, first);
-    let second = begin(rt, front, &mut desks.two, core, &order(rt, at));
-    let second = goes_on(rt, front, &mut desks.two, core, second, 4);
-    read_both(rt, front, desks, core, at, old);
-    end(rt, front, &mut desks.two, core, second);
-}
+/// Orders in three districts, where the undo ring has two extents: the third goes on once the first
+/// was rolled back.
+const FULL_RING: [Move; 14] = [
+    Move(0, 0, Act::Begin(Ask::Order(0)), Told::Done),
+    Move(1, 1, Act::Begin(Ask::Order(1)), Told::Done),
+    Move(2, 2, Act::Begin(Ask::Order(2)), Told::Done),
+    Move(0, 0, Act::Advance, Told::More),
+    Move(0, 0, Act::Advance, Told::More),
+    Move(1, 1, Act::Advance, Told::More),
+    Move(1, 1, Act::Advance, Told::More),
+    Move(2, 2, Act::Advance, Told::More),
+    Move(2, 2, Act::Advance, Told::Kept(8)),
+    Move(0, 0, Act::End, Told::Done),
+    Move(2, 2, Act::Advance, Told::More),
+    Move(0, 0, Act::Purge(0), Told::Moment(0)),
+    Move(1, 1, Act::End, Told::Done),
+    Move(2, 2, Act::End, Told::Done),
+];
 
-// Orders in three districts, where the undo ring has two extents: the third goes on once the first
-// was rolled back.
-fn full_ring<J: Naming, B: Ledger, C: Ledger, R: Ledger, H: Wait + Abort>(
-    rt: &H,
-    front: &Front<J, B, C, R>,
-    desks: &mut Desks<J, B, C, R>,
-    core: &mut Core,
-    at: &Place,
-) {
-    let next = moved(at, at.warehouse, at.district.saturating_add(1));
-    let last = moved(at, at.warehouse, at.district.saturating_add(2));
-    let first = begin(rt, front, &mut desks.one, core, &order(rt, at));
-    let second = begin(rt, front, &mut desks.two, core, &order(rt, &next));
-    let third = begin(rt, front, &mut desks.three, core, &order(rt, &last));
-    let first = goes_on(rt, front, &mut desks.one, core, first, 2);
-    let second = goes_on(rt, front, &mut desks.two, core, second, 2);
-    let third = goes_on(rt, front, &mut desks.three, core, third, 1);
-    let third = is_kept(rt, front, &mut desks.three, core, third, 8);
-    end(rt, front, &mut desks.one, core, first);
-    let third = goes_on(rt, front, &mut desks.three, core, third, 1);
-    purge(rt, front, core);
-    end(rt, front, &mut desks.two, core, second);
-    end(rt, front, &mut desks.three, core, third);
-}
+/// A payment holds up another in its warehouse, and both commit.
+const PAYMENTS: [Move; 9] = [
+    Move(2, 2, Act::Begin(Ask::Payment(0)), Told::Done),
+    Move(2, 2, Act::Advance, Told::More),
+    Move(1, 1, Act::Begin(Ask::Payment(2)), Told::Done),
+    Move(1, 1, Act::Advance, Told::Kept(7)),
+    Move(2, 2, Act::CarryOut, Told::Moment(1)),
+    Move(2, 2, Act::Tell(1), Told::Done),
+    Move(1, 1, Act::CarryOut, Told::Moment(2)),
+    Move(1, 1, Act::Tell(2), Told::Done),
+    Move(0, 0, Act::Purge(2), Told::Moment(2)),
+];
 
-/// Which script it is.
-#[derive(Drop)]
-pub(crate) enum Script {
-    Deliveries,
-    Orders,
-    FullRing,
-    Payments,
-    Strangers,
-}
+/// The worked scripts, each with a purge at the newest moment and no pin out.
+pub(crate) const WORKED: [Show; 5] = [
+    Show {
+        extents: 64,
+        terminals: [1, 2, 3],
+        moves: &DELIVERIES,
+        open: 0,
+        rest: &[],
+        begun: 2,
+        committed: 1,
+        rolled_back: 1,
+    },
+    Show {
+        extents: 64,
+        terminals: [62, 61, 60],
+        moves: &TEN_DELIVERIES,
+        open: 0,
+        rest: &[],
+        begun: 2,
+        committed: 1,
+        rolled_back: 1,
+    },
+    Show {
+        extents: 64,
+        terminals: [61, 5, 63],
+        moves: &ORDERS,
+        open: 0,
+        rest: &[],
+        begun: 3,
+        committed: 1,
+        rolled_back: 2,
+    },
+    Show {
+        extents: 2,
+        terminals: [64, 9, 8],
+        moves: &FULL_RING,
+        open: 0,
+        rest: &[],
+        begun: 3,
+        committed: 0,
+        rolled_back: 3,
+    },
+    Show {
+        extents: 64,
+        terminals: [10, 33, 32],
+        moves: &PAYMENTS,
+        open: 0,
+        rest: &[],
+        begun: 2,
+        committed: 2,
+        rolled_back: 0,
+    },
+];
 
-/// Carries a script out.
-pub(crate) fn play<J: Naming, B: Ledger, C: Ledger, R: Ledger, H: Wait + Abort>(
-    rt: &H,
-    front: &Front<J, B, C, R>,
-    desks: &mut Desks<J, B, C, R>,
-    core: &mut Core,
-    script: &Script,
-    at: &Place,
-) {
-    match script {
-        Script::Deliveries => deliveries(rt, front, desks, core, at),
-        Script::Orders => orders(rt, front, desks, core, at),
-        Script::FullRing => full_ring(rt, front, desks, core, at),
-        Script::Payments => payments(rt, front, desks, core, at),
-        Script::Strangers => strangers(rt, front, desks, core, at),
-    }
-}
+const HANDED_OVER: [Move; 27] = [
+    Move(0, 0, Act::Pin, Told::Moment(0)),
+    Move(0, 0, Act::Begin(Ask::Payment(0)), Told::Done),
+    Move(0, 0, Act::Advance, Told::More),
+    Move(0, 0, Act::Advance, Told::More),
+    Move(1, 1, Act::Begin(Ask::PaymentAway), Told::Done),
+    Move(1, 1, Act::CarryOut, Told::Moment(1)),
+    Move(1, 1, Act::Tell(1), Told::Done),
+    Move(1, 1, Act::Begin(Ask::PaymentAway), Told::Done),
+    Move(1, 1, Act::Pin, Told::Moment(1)),
+    Move(1, 0, Act::Advance, Told::Kept(10)),
+    Move(1, 0, Act::End, Told::Refused(10)),
+    Move(1, 0, Act::Read(Look::Level), Told::NotPinned(4)),
+    Move(1, 0, Act::Unpin, Told::NotPinned(4)),
+    Move(0, 1, Act::Advance, Told::Kept(10)),
+    Move(0, 1, Act::End, Told::Refused(10)),
+    Move(0, 1, Act::Read(Look::Level), Told::NotPinned(2)),
+    Move(0, 1, Act::Unpin, Told::NotPinned(2)),
+    Move(2, 0, Act::Advance, Told::Kept(10)),
+    Move(2, 0, Act::Unpin, Told::NotPinned(0)),
+    Move(0, 0, Act::CarryOut, Told::Moment(2)),
+    Move(0, 0, Act::Tell(2), Told::Done),
+    Move(1, 1, Act::End, Told::Done),
+    Move(0, 0, Act::Read(Look::Status), Told::Done),
+    Move(1, 1, Act::Read(Look::Status), Told::Done),
+    Move(0, 0, Act::Unpin, Told::Done),
+    Move(1, 1, Act::Unpin, Told::Done),
+    Move(0, 0, Act::Purge(2), Told::Moment(2)),
+];
+
+/// Two desks hand each other what is theirs, with pins of moments 0 and 1; a core knows nothing of
+/// it.
+pub(crate) const STRANGERS: Show = Show {
+    extents: 64,
+    terminals: [1, 2, 4],
+    moves: &HANDED_OVER,
+    open: 0,
+    rest: &[],
+    begun: 3,
+    committed: 2,
+    rolled_back: 1,
+};
+
+const LEFT_HOME: [Move; 2] = [
+    Move(2, 2, Act::Begin(Ask::Payment(0)), Told::Done),
+    Move(2, 2, Act::Pin, Told::Moment(0)),
+];
+
+const CAME_HOME: [Move; 4] = [
+    Move(2, 2, Act::Advance, Told::More),
+    Move(2, 2, Act::End, Told::Done),
+    Move(2, 2, Act::Read(Look::Level), Told::Done),
+    Move(2, 2, Act::Unpin, Told::Done),
+];
+
+/// What terminal 63 holds goes to another shop, and ends at its own.
+pub(crate) const HOME: Show = Show {
+    extents: 64,
+    terminals: [1, 2, 63],
+    moves: &LEFT_HOME,
+    open: 1,
+    rest: &CAME_HOME,
+    begun: 1,
+    committed: 0,
+    rolled_back: 1,
+};
+
+const FROM_HOME: [Move; 10] = [
+    Move(0, 0, Act::Begin(Ask::Payment(0)), Told::Done),
+    Move(0, 0, Act::Pin, Told::Moment(0)),
+    Move(0, 2, Act::Advance, Told::Kept(10)),
+    Move(0, 2, Act::End, Told::Refused(10)),
+    Move(0, 2, Act::Read(Look::Level), Told::NotPinned(2)),
+    Move(0, 2, Act::Unpin, Told::NotPinned(2)),
+    Move(0, 0, Act::Advance, Told::More),
+    Move(0, 0, Act::End, Told::Done),
+    Move(0, 0, Act::Read(Look::Level), Told::Done),
+    Move(0, 0, Act::Unpin, Told::Done),
+];
+
+/// The desk of terminal 63 in the other shop has a pin of the same moment. Its shop counts what its
+/// own desk did, and nothing else.
+pub(crate) const AWAY: Show = Show {
+    extents: 64,
+    terminals: [63, 62, 61],
+    moves: &FROM_HOME,
+    open: 0,
+    rest: &[],
+    begun: 1,
+    committed: 0,
+    rolled_back: 1,
+};
+
+const PURGED: [Move; 28] = [
+    Move(0, 0, Act::Begin(Ask::Payment(0)), Told::Done),
+    Move(0, 0, Act::CarryOut, Told::Moment(1)),
+    Move(0, 0, Act::Begin(Ask::Payment(0)), Told::Done),
+    Move(0, 0, Act::CarryOut, Told::Moment(2)),
+    Move(0, 0, Act::Begin(Ask::Payment(0)), Told::Done),
+    Move(0, 0, Act::CarryOut, Told::Moment(3)),
+    Move(0, 0, Act::Tell(3), Told::Done),
+    Move(1, 1, Act::Begin(Ask::PaymentAway), Told::Done),
+    Move(1, 1, Act::CarryOut, Told::Moment(4)),
+    Move(1, 1, Act::Begin(Ask::PaymentAway), Told::Done),
+    Move(1, 1, Act::CarryOut, Told::Moment(5)),
+    Move(0, 0, Act::Pin, Told::Moment(3)),
+    Move(2, 2, Act::Purge(5), Told::Moment(3)),
+    Move(0, 0, Act::Read(Look::Level), Told::Done),
+    Move(2, 2, Act::Purge(5), Told::Moment(3)),
+    Move(0, 0, Act::Read(Look::Status), Told::Done),
+    Move(0, 0, Act::Unpin, Told::Done),
+    Move(2, 2, Act::Purge(5), Told::Moment(5)),
+    Move(1, 1, Act::Newest, Told::Moment(3)),
+    Move(1, 1, Act::Pin, Told::TooOld(5)),
+    Move(2, 2, Act::Purge(4), Told::Moment(5)),
+    Move(1, 1, Act::Tell(5), Told::Done),
+    Move(1, 1, Act::Pin, Told::Moment(5)),
+    Move(1, 1, Act::Read(Look::Level), Told::Done),
+    Move(2, 2, Act::Purge(5), Told::Moment(5)),
+    Move(1, 1, Act::Read(Look::Status), Told::Done),
+    Move(1, 1, Act::Unpin, Told::Done),
+    Move(0, 0, Act::Newest, Told::Moment(5)),
+];
+
+/// Five payments, of which three are told, and purges at 5 beside a pin of 3, behind it, and beside
+/// a pin at the horizon. A desk that knows of no later moment than 3 can't pin behind the purge.
+pub(crate) const PURGES: Show = Show {
+    extents: 64,
+    terminals: [1, 64, 30],
+    moves: &PURGED,
+    open: 0,
+    rest: &[],
+    begun: 5,
+    committed: 5,
+    rolled_back: 0,
+};
+
+const WAITED: [Move; 11] = [
+    Move(0, 0, Act::Begin(Ask::Payment(0)), Told::Done),
+    Move(1, 1, Act::Begin(Ask::Payment(0)), Told::Done),
+    Move(0, 0, Act::Advance, Told::More),
+    Move(0, 0, Act::Advance, Told::More),
+    Move(1, 1, Act::Advance, Told::Kept(7)),
+    Move(0, 0, Act::End, Told::Done),
+    Move(1, 1, Act::Advance, Told::More),
+    Move(1, 1, Act::Advance, Told::More),
+    Move(1, 1, Act::Advance, Told::More),
+    Move(1, 1, Act::Advance, Told::More),
+    Move(1, 1, Act::Advance, Told::Moment(1)),
+];
+
+/// Two payments in one warehouse: the second is kept until the first has ended.
+pub(crate) const WAITS: Show = Show {
+    extents: 4_096,
+    terminals: [1, 2, 3],
+    moves: &WAITED,
+    open: 0,
+    rest: &[],
+    begun: 2,
+    committed: 1,
+    rolled_back: 1,
+};
+
+const BEGUN: [Move; 1] = [Move(0, 0, Act::Begin(Ask::Payment(0)), Told::Done)];
+
+const ROLLED_BACK: [Move; 1] = [Move(0, 0, Act::End, Told::Done)];
+
+/// A payment is open when the shop is asked to close.
+pub(crate) const STAYS_OPEN: Show = Show {
+    extents: 4_096,
+    terminals: [1, 2, 3],
+    moves: &BEGUN,
+    open: 1,
+    rest: &ROLLED_BACK,
+    begun: 1,
+    committed: 0,
+    rolled_back: 1,
+};
+
+const ORDERED: [Move; 2] = [
+    Move(2, 2, Act::Begin(Ask::Order(2)), Told::Done),
+    Move(2, 2, Act::CarryOut, Told::Moment(1)),
+];
+
+/// An order at the desk of terminal 64.
+pub(crate) const AN_ORDER: Show = Show {
+    extents: 64,
+    terminals: [1, 2, 64],
+    moves: &ORDERED,
+    open: 0,
+    rest: &[],
+    begun: 1,
+    committed: 1,
+    rolled_back: 0,
+};

@@ -8,10 +8,9 @@
 
 use clap::Error;
 use clap::error::ErrorKind;
-use oe_drive::Gate;
+use oe_drive::{Fault as DriveFault, Gate, Ran, run_drive};
 use oe_numbers::DriveNumbers;
 use oe_ports::standard::{Printed, Standard};
-use oe_run_drive::{Fault as DriveFault, Ran, run_drive};
 use oe_script::script::run_script;
 use oe_script::session::Fault;
 use oe_tasks::{Task, job};

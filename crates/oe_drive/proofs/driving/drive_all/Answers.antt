@@ -20,8 +20,8 @@ rise-desks-requires g c =
     let senders = c.requires.senders in
     (room.0, omega (arith, long, count, room.1, senders))
 
-pub close-requires-clause-all : goal.close-requires-clause-all
-close-requires-clause-all g c =
+pub close-requires : goal.close-requires
+close-requires g c =
     let same = c.run_all-is_whole.auto.stations ∙ ap length c.as_mut_slice.ensures.value in
     let long = as_long c.sit_down.new.stations.len c.sit_down.new.stations.items c.run_all-is_whole.new.stations
     (search rules) same in

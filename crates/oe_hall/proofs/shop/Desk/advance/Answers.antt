@@ -8,13 +8,17 @@ returns-in-More-clause-turn g c =
     let e = c.in-More.ensures in
     let own : c.terminal-terminal.result ≡ c.args.self.now.seat.terminal = search rules in
     inl (
-      c.deref_mut.result.now,
-      c.advance.new.self,
-      e.hall.0,
-      e.hall.1,
       search rules,
       search rules,
-      subst (λ (t : ℕ). AdvanceTurn c.deref_mut.result.now t ended.More c.advance.new.self) own e.turn,
+      (
+        c.deref_mut.result.now,
+        c.advance.new.self,
+        e.hall.0,
+        e.hall.1,
+        search rules,
+        search rules,
+        subst (λ (t : ℕ). AdvanceTurn c.deref_mut.result.now t ended.More c.advance.new.self) own e.turn,
+      ),
     )
 
 pub returns-in-Kept-clause-turn : goal.returns-in-Kept-clause-turn
@@ -22,14 +26,18 @@ returns-in-Kept-clause-turn g c =
     let e = c.in-Kept.ensures in
     let own : c.terminal-terminal.result ≡ c.args.self.now.seat.terminal = search rules in
     inl (
-      c.deref_mut.result.now,
-      c.advance.new.self,
-      e.hall.0,
-      e.hall.1,
       search rules,
       search rules,
-      subst (λ (t : ℕ). AdvanceTurn c.deref_mut.result.now t (ended.Kept c.in-Kept.refusal) c.advance.new.self) own
-          e.turn,
+      (
+        c.deref_mut.result.now,
+        c.advance.new.self,
+        e.hall.0,
+        e.hall.1,
+        search rules,
+        search rules,
+        subst (λ (t : ℕ). AdvanceTurn c.deref_mut.result.now t (ended.Kept c.in-Kept.refusal) c.advance.new.self) own
+            e.turn,
+      ),
     )
 
 pub returns-in-Committed-clause-turn : goal.returns-in-Committed-clause-turn
@@ -37,14 +45,18 @@ returns-in-Committed-clause-turn g c =
     let e = c.in-Committed.ensures in
     let own : c.terminal-terminal.result ≡ c.args.self.now.seat.terminal = search rules in
     inl (
-      c.deref_mut.result.now,
-      c.advance.new.self,
-      e.hall.0,
-      e.hall.1,
       search rules,
       search rules,
-      subst (λ (t : ℕ). AdvanceTurn c.deref_mut.result.now t
-          (ended.Committed c.in-Committed.moment c.in-Committed.reply) c.advance.new.self) own e.turn,
+      (
+        c.deref_mut.result.now,
+        c.advance.new.self,
+        e.hall.0,
+        e.hall.1,
+        search rules,
+        search rules,
+        subst (λ (t : ℕ). AdvanceTurn c.deref_mut.result.now t
+            (ended.Committed c.in-Committed.moment c.in-Committed.reply) c.advance.new.self) own e.turn,
+      ),
     )
 
 pub returns-clause-turn : goal.returns-clause-turn
@@ -52,12 +64,16 @@ returns-clause-turn g c =
     let e = c.in-RolledBack.ensures in
     let own : c.terminal-terminal.result ≡ c.args.self.now.seat.terminal = search rules in
     inl (
-      c.deref_mut.result.now,
-      c.advance.new.self,
-      e.hall.0,
-      e.hall.1,
       search rules,
       search rules,
-      subst (λ (t : ℕ). AdvanceTurn c.deref_mut.result.now t (ended.RolledBack c.in-RolledBack.refusal)
-          c.advance.new.self) own e.turn,
+      (
+        c.deref_mut.result.now,
+        c.advance.new.self,
+        e.hall.0,
+        e.hall.1,
+        search rules,
+        search rules,
+        subst (λ (t : ℕ). AdvanceTurn c.deref_mut.result.now t (ended.RolledBack c.in-RolledBack.refusal)
+            c.advance.new.self) own e.turn,
+      ),
     )

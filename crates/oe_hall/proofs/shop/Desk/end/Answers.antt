@@ -7,13 +7,17 @@ returns-in-Ok-clause-turn g c =
     let e = c.in-Ok.ensures in
     let own : c.terminal-terminal.result ≡ c.args.self.now.seat.terminal = search rules in
     inl (
-      c.deref_mut.result.now,
-      c.end.new.self,
-      e.hall.0,
-      e.hall.1,
       search rules,
       search rules,
-      subst (λ (t : ℕ). EndTurn c.deref_mut.result.now t (Ok tt) c.end.new.self) own e.turn,
+      (
+        c.deref_mut.result.now,
+        c.end.new.self,
+        e.hall.0,
+        e.hall.1,
+        search rules,
+        search rules,
+        subst (λ (t : ℕ). EndTurn c.deref_mut.result.now t (Ok tt) c.end.new.self) own e.turn,
+      ),
     )
 
 pub returns-clause-turn : goal.returns-clause-turn
@@ -21,11 +25,15 @@ returns-clause-turn g c =
     let e = c.in-Err.ensures in
     let own : c.terminal-terminal.result ≡ c.args.self.now.seat.terminal = search rules in
     inl (
-      c.deref_mut.result.now,
-      c.end.new.self,
-      e.hall.0,
-      e.hall.1,
       search rules,
       search rules,
-      subst (λ (t : ℕ). EndTurn c.deref_mut.result.now t (Err c.in-Err.refusal) c.end.new.self) own e.turn,
+      (
+        c.deref_mut.result.now,
+        c.end.new.self,
+        e.hall.0,
+        e.hall.1,
+        search rules,
+        search rules,
+        subst (λ (t : ℕ). EndTurn c.deref_mut.result.now t (Err c.in-Err.refusal) c.end.new.self) own e.turn,
+      ),
     )

@@ -1,0 +1,51 @@
+//! What a drive left: its verdict, and whether a rewind to moment 0 gives the population back.
+ghost use Rattle.std.specs.Prelude.{IfOk};
+ghost use Rattle.oe_core.specs.Core.{world_of};
+ghost use Rattle.oe_store.specs.Places.{rows};
+ghost use Rattle.oe_drive.specs.Runs.{IsRewound, IsEnding};
+
+use oe_core::Core;
+use oe_population::populate;
+use oe_report::{are_same, first_failing};
+use oe_requests::{Condition, Step};
+use oe_rows::Scale;
+use oe_store::Tables;
+use oe_values::{Moment, NoMemory};
+use std::alloc::Global;
+
+/// What a drive left.
+#[derive(Clone, Copy)]
+pub struct Ending {
+    pub failing: Option<Condition>,
+    pub is_restored: bool,
+}
+
+// Rewinds a core to moment 0, and gives its tables. They stay where the rewind is refused.
+fn rewound(core: Core) -> Tables
+    ensures { IsRewound (world_of core) (rows result) }
+{
+    let mut core = core;
+    let start = Moment::new(0).unwrap();
+    let _rewound = core.step(Step::Rewind(start));
+    core.close()
+}
+
+/// Audits the core, rewinds it to moment 0, and compares it with a new population of the scale.
+/// Memory for that is the only refusal.
+pub(crate) fn ended(alloc: Global, scale: Scale, core: Core) -> Result<Ending, NoMemory>
+    ensures { IfOk result (λ e. IsEnding scale (world_of core) e) }
+{
+    let failing = first_failing(core.tables());
+    let Ok(fresh) = populate(alloc, scale) else {
+        core.discard();
+        return Err(NoMemory);
+    };
+    let left = rewound(core);
+    let is_restored = are_same(&left, &fresh);
+    left.discard();
+    fresh.discard();
+    Ok(Ending {
+        failing,
+        is_restored,
+    })
+}

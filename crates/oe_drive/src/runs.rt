@@ -1,0 +1,106 @@
+//! The whole run.
+ghost use Rattle.std.specs.Prelude.{◌≡◌, ◌+◌, ◌≤◌, IfOk, vec_len};
+ghost use Rattle.oe_core.specs.Core.{world_of};
+ghost use Rattle.oe_drive.specs.Runs.{DriveRan, IsLeft};
+
+use crate::deeds::Deeds;
+use crate::driving::Driven;
+use crate::endings::ended;
+use crate::gates::Gate;
+use crate::openings::driven;
+use crate::planning::plans;
+use crate::stations::Plan;
+use oe_hall::{Counted, Seats};
+use oe_numbers::DriveNumbers;
+use oe_ports::output::flush;
+use oe_ports::ports::Outlet;
+use oe_report::{report, status};
+use oe_texts::Pending;
+use oe_values::NoMemory;
+use std::alloc::Global;
+use std::marker::Brand;
+use std::sync::Wait;
+use std::thread::Threads;
+
+/// Why a drive ends without its lines.
+#[derive(Clone, Copy, PartialEq, Eq)]
+pub enum Fault {
+    /// Memory or a thread was refused. Nothing was written.
+    NoMemory,
+    /// A write failed. A beginning of the lines was written.
+    Write,
+}
+
+/// How a drive ended: its exit status, what its desks were told, and what its terminals did.
+#[derive(Clone, Copy)]
+pub struct Ran {
+    pub status: u8,
+    pub counted: Counted,
+    pub deeds: Deeds,
+}
+
+/// The name of the one shop of a drive.
+const SHOP: u32 = 0;
+
+// Runs the plans in a shop of its own, which is named here.
+fn driven_here<H: Threads + Wait + Sync, G: Gate + Sync>(
+    rt: &H,
+    alloc: Global,
+    gate: &G,
+    numbers: &DriveNumbers,
+    plans: Vec<Plan>,
+) -> Result<Driven, NoMemory>
+    requires plans { (1 ≤ vec_len plans) × (vec_len plans ≤ 63) }
+    ensures ended { IfOk result (λ d.
+        d.counted.begun ≡ d.counted.committed + d.counted.rolled_back) }
+    ensures left { IfOk result (λ d. IsLeft (world_of d.core) d.counted.committed) }
+{
+    let Ok(seats) = Seats::new(alloc, SHOP) else {
+        return Err(NoMemory);
+    };
+    driven::<Brand, H, G>(rt, alloc, gate, numbers, plans, seats)
+}
+
+/// Opens a shop on a new population, runs all terminals and the worker, audits conditions 1 to 4,
+/// rewinds to moment 0, compares with a new population, and writes the two lines.
+///
+/// The status is 0 where the conditions hold and the population is restored, else 1. `NoMemory`
+/// where memory or a thread is refused, and nothing is written then; `Write` where a write fails.
+pub fn run_drive<H: Threads + Wait + Sync, G: Gate + Sync, W: Outlet>(
+    rt: &H,
+    alloc: Global,
+    gate: &G,
+    numbers: &DriveNumbers,
+    writer: &mut W,
+) -> Result<Ran, Fault>
+    ensures lines { DriveRan numbers.now.scale (W.sink writer.old) (W.sink writer.new) result }
+    ensures ended { IfOk result (λ r.
+        r.counted.begun ≡ r.counted.committed + r.counted.rolled_back) }
+{
+    let _terminals = numbers.terminals.get();
+    let Ok(plans) = plans(alloc, numbers) else {
+        return Err(Fault::NoMemory);
+    };
+    let driven = match driven_here(rt, alloc, gate, numbers, plans) {
+        Ok(driven) => driven,
+        Err(_) => return Err(Fault::NoMemory),
+    };
+    let Driven {
+        core,
+        counted,
+        deeds,
+    } = driven;
+    let Ok(ending) = ended(alloc, numbers.scale, core) else {
+        return Err(Fault::NoMemory);
+    };
+    let mut out = Pending::new();
+    report(&mut out, ending.failing, ending.is_restored);
+    match flush(&mut out, writer) {
+        Err(_) => Err(Fault::Write),
+        Ok(()) => Ok(Ran {
+            status: status(ending.failing, ending.is_restored),
+            counted,
+            deeds,
+        }),
+    }
+}

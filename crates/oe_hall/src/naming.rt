@@ -1,0 +1,14 @@
+//! What tells the values of one shop from those of another.
+ghost use Rattle.oe_hall.specs.Naming.{TheNames, nameless};
+
+use std::marker::Brand;
+
+/// Names a shop: its words and its three ledgers. The hall, the front and the desks of one shop are
+/// of one type, and the hall, the front and the desks of another shop are of another type.
+pub trait Naming {
+    ghost names: { TheNames };
+}
+
+impl Naming for Brand {
+    ghost names = { nameless };
+}

@@ -1,3 +1,0 @@
--- The proofs of this crate.
-mod EndFacts
-mod PlanFacts

@@ -1,8 +1,0 @@
-use Rattle.std.proofs.Common.{◌≡◌, rules}
-use Rattle.oe_run_drive.proofs.EndFacts.{goes_to_start}
-use Rattle.oe_run_drive.proofs.endings.rewound.Goals as goal
-
-pub returns : goal.returns
-returns c =
-    let zero : c.unwrap-start.result ≡ 0 = search rules in
-    goes_to_start _ _ c.unwrap-start.result _ _ zero c.step-rewound.ensures.serves c.close.ensures

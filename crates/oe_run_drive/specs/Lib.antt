@@ -1,3 +1,0 @@
--- What the clauses of this crate cite.
-pub mod Plans
-pub mod Runs
