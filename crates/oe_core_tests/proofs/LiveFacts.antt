@@ -23,10 +23,6 @@ pub opened_is_live : (c : CoreState) (r : Rows) (n : ℕ) → world_of c ≡ ope
 opened_is_live c r n e p = subst (λ w. IsLive (Some w)) (sym e)
     (opening_is_reached system laws r n (population_is_good r p), λ t. tt)
 
-pub all_one : (s : Step) → IfSome (begins_with s) HasProgram → All (λ i. IfSome (begins_with i) HasProgram) (s ∷ [])
-all_one s h = All-cons (λ i. IfSome (begins_with i) HasProgram) s [] h
-    (All-nil (λ i. IfSome (begins_with i) HasProgram))
-
 abbrev Begins : Step → Type 0
 Begins i = IfSome (begins_with i) HasProgram
 

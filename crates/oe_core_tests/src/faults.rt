@@ -73,7 +73,7 @@ impl Outlet for FailingOutlet {
 
 /// How a script is run: the reader gives a piece of that length and the writer takes one, and each
 /// fails behind its good calls.
-#[derive(Clone, Copy)]
+#[derive(Drop)]
 struct Trial {
     given: usize,
     taken: usize,
@@ -81,17 +81,16 @@ struct Trial {
     good_writes: usize,
 }
 
-/// How it ended, how many bytes were written, and how often reader and writer were called.
-#[derive(Clone, Copy)]
-struct Trace {
-    fault: Option<Fault>,
-    written: usize,
-    reads: usize,
-    writes: usize,
-}
+/// How a script ended: whole, or by a fault.
+const WHOLE: usize = 0;
 
-/// Runs the script. `None` where something else than a front of the answers was written.
-fn run(alloc: Global, trial: &Trial) -> Option<Trace> {
+const READ: usize = 1;
+
+const WRITE: usize = 2;
+
+/// Runs the script, and answers how it ended, how many bytes were written, and how often reader and
+/// writer were called. `None` where something else than a front of the answers was written.
+fn run(alloc: Global, trial: &Trial) -> Option<[usize; 4]> {
     let mut reader = FailingIntake {
         rest: SCRIPT,
         piece: trial.given,
@@ -105,16 +104,15 @@ fn run(alloc: Global, trial: &Trial) -> Option<Trace> {
         written: 0,
         is_beginning: true,
     };
-    let fault = run_script(alloc, &mut reader, &mut writer).err();
+    let end = match run_script(alloc, &mut reader, &mut writer) {
+        Ok(()) => WHOLE,
+        Err(Fault::Read) => READ,
+        Err(Fault::Write) => WRITE,
+    };
     if !writer.is_beginning {
         return None;
     }
-    Some(Trace {
-        fault,
-        written: writer.written,
-        reads: reader.calls,
-        writes: writer.calls,
-    })
+    Some([end, writer.written, reader.calls, writer.calls])
 }
 
 /// Counts the ends of lines.
@@ -140,50 +138,29 @@ fn length_of(text: &[u8], lines: usize) -> usize {
     length
 }
 
-/// Counts the pieces of a text that have the end of a line.
-fn pieces_with_ends(text: &[u8], piece: usize) -> usize {
-    let mut count = 0usize;
-    let mut place = 0usize;
-    let mut has_end = false;
-    for byte in text {
-        if place == piece {
-            place = 0;
-            has_end = false;
+/// Tells whether a reader that fails ends the script with its fault, at each of its calls: the
+/// answers of the whole lines that were read were written before, once for each piece with the end
+/// of a line, and neither reader nor writer is called again. The call behind the last byte is the
+/// one that tells the end of the input.
+fn are_read_faults(alloc: Global, given: usize) -> bool {
+    let mut lines = 0usize;
+    let mut writes = 0usize;
+    for good_reads in 0..SCRIPT.len().div_ceil(given.max(1)).saturating_add(1) {
+        let front = SCRIPT
+            .get(..good_reads.saturating_mul(given))
+            .unwrap_or(SCRIPT);
+        if lines_in(front) > lines {
+            lines = lines_in(front);
+            writes = writes.saturating_add(1);
         }
-        if *byte == b'\n' && !has_end {
-            has_end = true;
-            count = count.saturating_add(1);
-        }
-        place = place.saturating_add(1);
-    }
-    count
-}
-
-/// Tells whether a reader that fails ends the script with its fault: the answers of the whole lines
-/// that were read were written before, and neither reader nor writer is called again. The call
-/// behind the last byte is the one that tells the end of the input.
-fn is_read_fault(alloc: Global, given: usize, good_reads: usize) -> bool {
-    let trial = Trial {
-        given,
-        taken: 8_192,
-        good_reads,
-        good_writes: usize::MAX,
-    };
-    let Some(trace) = run(alloc, &trial) else {
-        return false;
-    };
-    let front = SCRIPT
-        .get(..good_reads.saturating_mul(given))
-        .unwrap_or(SCRIPT);
-    matches!(trace.fault, Some(Fault::Read))
-        && trace.reads == good_reads.saturating_add(1)
-        && trace.writes == pieces_with_ends(front, given)
-        && trace.written == length_of(ANSWERS, lines_in(front))
-}
-
-fn are_read_faults(alloc: Global, given: usize, calls: usize) -> bool {
-    for good_reads in 0..calls {
-        if !is_read_fault(alloc, given, good_reads) {
+        let trial = Trial {
+            given,
+            taken: 8_192,
+            good_reads,
+            good_writes: usize::MAX,
+        };
+        let written = length_of(ANSWERS, lines);
+        if run(alloc, &trial) != Some([READ, written, good_reads.saturating_add(1), writes]) {
             return false;
         }
     }
@@ -198,67 +175,46 @@ fn is_whole(alloc: Global, given: usize, taken: usize) -> bool {
         good_reads: usize::MAX,
         good_writes: usize::MAX,
     };
-    match run(alloc, &trial) {
-        Some(trace) => trace.fault.is_none() && trace.written == ANSWERS.len(),
-        None => false,
-    }
+    let Some(trace) = run(alloc, &trial) else {
+        return false;
+    };
+    trace[0] == WHOLE && trace[1] == ANSWERS.len()
 }
 
 #[test]
 fn each_read_fails(rt: HostRuntime) {
-    let length = SCRIPT.len();
-    assert!(rt; are_read_faults(rt.alloc(), 1, length + 1));
+    assert!(rt; are_read_faults(rt.alloc(), 1));
     assert!(rt; is_whole(rt.alloc(), 1, 16));
-    assert!(rt; are_read_faults(rt.alloc(), 16, length.div_ceil(16) + 1));
+    assert!(rt; are_read_faults(rt.alloc(), 16));
     assert!(rt; is_whole(rt.alloc(), 16, 1));
 }
 
-/// Tells whether a writer that fails ends the script with its fault behind that many bytes, and
-/// neither reader nor writer is called again: the reader was called that often.
-fn is_write_fault(alloc: Global, trial: &Trial, written: usize, reads: usize) -> bool {
-    let Some(trace) = run(alloc, trial) else {
-        return false;
-    };
-    matches!(trace.fault, Some(Fault::Write))
-        && trace.writes == trial.good_writes.saturating_add(1)
-        && trace.written == written
-        && trace.reads == reads
-}
-
-/// The same of a reader and a writer of one byte: the line was read whose answer has the byte that
-/// was not written.
-fn is_write_fault_at(alloc: Global, written: usize) -> bool {
-    let trial = Trial {
-        given: 1,
-        taken: 1,
-        good_reads: usize::MAX,
-        good_writes: written,
-    };
-    let front = ANSWERS.get(..written).unwrap_or(ANSWERS);
-    let reads = length_of(SCRIPT, lines_in(front).saturating_add(1));
-    is_write_fault(alloc, &trial, written, reads)
-}
-
-/// The same of a reader that gives the script in one piece, and a writer of sixteen bytes.
-fn is_write_fault_of_sixteen(alloc: Global, good_writes: usize) -> bool {
-    let trial = Trial {
-        given: 8_192,
-        taken: 16,
-        good_reads: usize::MAX,
-        good_writes,
-    };
-    is_write_fault(alloc, &trial, good_writes.saturating_mul(16), 1)
+/// Tells whether a writer that fails ends the script with its fault, at each of its calls: what it
+/// took before was written, the line was read whose answer has the next byte, and neither reader
+/// nor writer is called again.
+fn are_write_faults(alloc: Global, given: usize, taken: usize) -> bool {
+    for good_writes in 0..ANSWERS.len().div_ceil(taken.max(1)) {
+        let written = good_writes.saturating_mul(taken);
+        let front = ANSWERS.get(..written).unwrap_or(ANSWERS);
+        let read = length_of(SCRIPT, lines_in(front).saturating_add(1));
+        let trial = Trial {
+            given,
+            taken,
+            good_reads: usize::MAX,
+            good_writes,
+        };
+        let reads = read.div_ceil(given.max(1));
+        if run(alloc, &trial) != Some([WRITE, written, reads, good_writes.saturating_add(1)]) {
+            return false;
+        }
+    }
+    true
 }
 
 #[test]
 fn each_write_fails(rt: HostRuntime) {
-    let length = ANSWERS.len();
-    for written in 0..length {
-        assert!(rt; is_write_fault_at(rt.alloc(), written));
-    }
+    assert!(rt; are_write_faults(rt.alloc(), 1, 1));
     assert!(rt; is_whole(rt.alloc(), 1, 1));
-    for good_writes in 0..length.div_ceil(16) {
-        assert!(rt; is_write_fault_of_sixteen(rt.alloc(), good_writes));
-    }
+    assert!(rt; are_write_faults(rt.alloc(), 8_192, 16));
     assert!(rt; is_whole(rt.alloc(), 8_192, 16));
 }

@@ -2,7 +2,7 @@
 //! script's session.
 ghost use Rattle.oe_admission.specs.Programs.{HasProgram};
 
-use crate::populations::{district_key, payment, populated};
+use crate::made::{district_key, payment, populated};
 use crate::sessions::{Nowhere, core_on};
 use oe_core::{Advanced, Core};
 use oe_requests::{Answer, Request};
@@ -11,10 +11,9 @@ use oe_script::session::Session;
 use oe_store::Tables;
 use oe_values::{LastName, Terminal, YearToDate};
 use std::alloc::Global;
-use std::process::Abort;
 
-// Of ten orders the last three wait, customer 7 alone has that name, and a column is set in its
-// row.
+/// Tells whether of ten orders the last three wait, customer 7 alone has that name, and a column is
+/// set in its row.
 fn tables_answer(tables: &mut Tables, district: &DistrictKey, last: &LastName) -> Option<bool> {
     let oldest = tables.oldest(district)?.get();
     let customer = tables.middle(district, &last.as_text())?.get();
@@ -25,7 +24,7 @@ fn tables_answer(tables: &mut Tables, district: &DistrictKey, last: &LastName) -
     Some((oldest, customer) == (8, 7) && after == before + 1)
 }
 
-// A payment takes one of its five stages, and is rolled back.
+/// Tells whether a payment takes one of its five stages, and is rolled back.
 fn core_goes_back(core: &mut Core, terminal: Terminal, request: &Request) -> bool
     requires { HasProgram request.now }
 {
@@ -38,7 +37,7 @@ fn core_goes_back(core: &mut Core, terminal: Terminal, request: &Request) -> boo
     is_under_way && open == 1 && is_gone
 }
 
-// Four lines are answered, each on a line of its own.
+/// Tells whether four lines are answered, each on a line of its own.
 fn session_answers(alloc: Global) -> bool {
     let mut session = Session::new();
     let lines =
@@ -49,43 +48,29 @@ fn session_answers(alloc: Global) -> bool {
     is_written && are_answers
 }
 
-// Two warehouses, ten customers in each district, and 20 items.
-fn tables(rt: &impl Abort, alloc: Global) -> Tables {
-    let Some(tables) = populated(alloc, 10, 20) else {
-        panic!(rt; "no population")
-    };
-    tables
-}
-
-fn are_found(tables: &mut Tables) -> Option<bool> {
+/// Asks and sets a population of ten customers a district.
+fn are_found(alloc: Global) -> Option<bool> {
     let district = district_key(2, 4)?;
     let last = LastName::read("BARBARANTI")?;
-    tables_answer(tables, &district, &last)
-}
-
-#[test]
-fn tables_are_asked_and_set(rt: HostRuntime) {
-    let mut tables = tables(&rt, rt.alloc());
-    assert!(rt; are_found(&mut tables) == Some(true));
+    let mut tables = populated(alloc, 10, 20)?;
+    let are_found = tables_answer(&mut tables, &district, &last);
     tables.discard();
-}
-
-fn is_paid_back(core: &mut Core) -> Option<bool> {
-    let terminal = Terminal::new(5)?;
-    let Some(request) = payment(9, 25_000) else {
-        return None;
-    };
-    Some(core_goes_back(core, terminal, &request))
+    are_found
 }
 
 #[test]
-fn a_payment_goes_a_stage_and_back(rt: HostRuntime) {
-    let mut core = core_on(&rt, rt.alloc(), tables(&rt, rt.alloc()));
-    assert!(rt; is_paid_back(&mut core) == Some(true));
-    core.discard();
-}
-
-#[test]
-fn a_session_answers_lines(rt: HostRuntime) {
+fn first_calls_are_answered(rt: HostRuntime) {
+    assert!(rt; are_found(rt.alloc()) == Some(true));
     assert!(rt; session_answers(rt.alloc()));
+    let terminal = Terminal::new(5).expect(&rt, "a terminal");
+    let Some(request) = payment(9, 25_000) else {
+        panic!(rt; "no payment")
+    };
+    let Some(tables) = populated(rt.alloc(), 10, 20) else {
+        panic!(rt; "no population")
+    };
+    let mut core = core_on(&rt, rt.alloc(), tables);
+    let goes_back = core_goes_back(&mut core, terminal, &request);
+    core.discard();
+    assert!(rt; goes_back);
 }

@@ -6,7 +6,7 @@ ghost use Rattle.std.specs.List.{All};
 ghost use Rattle.oe_admission.specs.Programs.{HasProgram};
 ghost use Rattle.oe_core.specs.Steps.{begins_with};
 
-use crate::populations::{payment, populated};
+use crate::made::{payment, populated};
 use crate::sessions::sum_of;
 use oe_audit::is_population;
 use oe_core::Core;
@@ -23,10 +23,7 @@ fn opened_once(rt: &impl Abort, alloc: Global) -> Option<Core> {
     if !is_population(&tables) {
         panic!(rt; "no population");
     }
-    match Core::open(alloc, tables, extents) {
-        Ok(core) => Some(core),
-        Err(_) => None,
-    }
+    Core::open(alloc, tables, extents).ok()
 }
 
 /// Opens one, and again where memory was refused.
@@ -42,12 +39,9 @@ fn opened(rt: &impl Abort, alloc: Global) -> Core {
 
 /// Tells what a core shows: the sum of its dumps, its newest moment, and how many transactions are
 /// open.
-fn shown(core: &Core) -> (u64, u64, u32) {
-    (
-        sum_of(core.tables()),
-        core.newest().get(),
-        core.open_count(),
-    )
+fn shown(core: &Core) -> [u64; 3] {
+    let sum = sum_of(core.tables());
+    [sum, core.newest().get(), u64::from(core.open_count())]
 }
 
 /// Runs these steps, and again where memory was refused. `None` where the refused run has changed
@@ -62,10 +56,7 @@ fn run_at_last(core: &mut Core, steps: &[Step]) -> Option<Vec<Answer>>
     if shown(core) != before {
         return None;
     }
-    match run(core, steps) {
-        Ok(answers) => Some(answers),
-        Err(_) => None,
-    }
+    run(core, steps).ok()
 }
 
 fn is_no_memory(answer: &Answer) -> bool {
@@ -118,7 +109,8 @@ fn runs_as_steps(running: &mut Core, stepping: &mut Core, steps: &[Step]) -> boo
     are_stepped(stepping, steps, answers.as_slice())
 }
 
-/// The same of a payment that goes back to its mark, beside a rewind and an audit, and is purged.
+/// Tells the same of a payment that goes back to its mark, beside a rewind and an audit, and is
+/// purged. A rollback behind it finds nothing open.
 #[tactic(auto, using(crate::proofs::LiveFacts::all_behind_begin))]
 fn payment_runs_as_steps(
     running: &mut Core,
@@ -142,28 +134,25 @@ fn payment_runs_as_steps(
         Step::Advance(terminal),
         Step::Audit(Condition::Second, moments.1),
         Step::Purge(moments.1),
+        Step::Rollback(terminal),
     ];
     runs_as_steps(running, stepping, &steps)
 }
 
-/// The same of customer 3, who pays 123.45 at terminal 9.
-fn are_alike(running: &mut Core, stepping: &mut Core) -> Option<bool> {
-    let terminal = Terminal::new(9)?;
-    let moments = (Moment::new(0)?, Moment::new(1)?);
-    let Some(payment) = payment(3, 12_345) else {
-        return None;
-    };
-    Some(payment_runs_as_steps(running, stepping, terminal, payment, moments))
-}
-
 #[test]
 fn a_refused_run_has_taken_no_step(rt: HostRuntime) {
+    let terminal = Terminal::new(9).expect(&rt, "a terminal");
+    let before = Moment::new(0).expect(&rt, "a moment");
+    let behind = Moment::new(1).expect(&rt, "a moment");
+    let Some(payment) = payment(3, 12_345) else {
+        panic!(rt; "no payment")
+    };
     let mut running = opened(&rt, rt.alloc());
     let mut stepping = opened(&rt, rt.alloc());
-    let are_alike = are_alike(&mut running, &mut stepping) == Some(true);
+    let moments = (before, behind);
+    let are_alike = payment_runs_as_steps(&mut running, &mut stepping, terminal, payment, moments);
     let newest = stepping.newest().get();
     running.discard();
     stepping.discard();
-    assert!(rt; are_alike);
-    assert!(rt; newest == 1);
+    assert!(rt; are_alike && newest == 1);
 }

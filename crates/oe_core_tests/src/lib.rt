@@ -1,8 +1,10 @@
-//! The tests of engine, core and script that need calls of the libraries: tables that no script
-//! comes to, lists of steps, refused memory, and readers and writers that fail. What a clause says
-//! is not tested again, and neither is what the program's examples show.
+//! The tests of engine, core, audits and script that need calls of the libraries: tables that no
+//! script comes to, a list of steps, refused memory, and readers and writers that fail. What a
+//! clause says is not tested again, and neither is what the program's examples show.
 #![tactic(auto)]
 
+#[cfg(test)]
+mod audits;
 #[cfg(test)]
 mod ends;
 #[cfg(test)]
@@ -14,8 +16,10 @@ mod first_calls;
 #[cfg(test)]
 mod growths;
 #[cfg(test)]
-mod populations;
+mod made;
 #[cfg(test)]
-mod runs;
+mod open_audits;
+#[cfg(test)]
+mod planted;
 #[cfg(test)]
 mod sessions;

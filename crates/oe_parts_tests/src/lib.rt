@@ -1,17 +1,13 @@
-//! The tests of what the engine is made of: tables, values, locks and texts; undo records, their
-//! bytes, at which addresses they come to stand, and where links lead; queues, pins, and errands of
-//! seeded terminals. They stand alone, so that each library is proved once. What a clause says is
-//! not tested again, and neither is what the program's examples show.
+//! The tests of what the engine is made of: values and texts; undo records, their bytes, at which
+//! addresses they come to stand, and where links lead; queues, pins, and errands of seeded
+//! terminals. They stand alone, so that each library is proved once. What a clause says is not
+//! tested again, and neither is what the program's examples show.
 #![tactic(auto)]
 
-#[cfg(test)]
-mod answers;
 #[cfg(test)]
 mod errands;
 #[cfg(test)]
 mod links;
-#[cfg(test)]
-mod locks;
 #[cfg(test)]
 mod logs;
 #[cfg(test)]
@@ -25,10 +21,6 @@ mod queues;
 #[cfg(test)]
 mod records;
 #[cfg(test)]
-mod refusals;
-#[cfg(test)]
-mod shelves;
-#[cfg(test)]
-mod takes;
+mod texts;
 #[cfg(test)]
 mod values;

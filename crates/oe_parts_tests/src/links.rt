@@ -1,5 +1,6 @@
-//! Where an order's link leads, call by call.
-use crate::made::{address, order, order_key};
+//! Where an order's link leads, call by call; and that the calls that take memory succeed where
+//! there is memory, which no clause says.
+use crate::made::{address, committed, order, order_key, stock_key};
 use crate::opened::{begin, commit, push_order, undo};
 use oe_layout::Previous;
 use oe_log::Segment;
@@ -7,19 +8,11 @@ use oe_rows::{Key, OrderKey};
 use oe_undo::{Holder, Link, Undo};
 use oe_values::{Moment, Terminal};
 
-fn own(extent: u32, offset: u32) -> Option<Previous> {
-    Some(Previous::Own(address(extent, offset)?))
-}
-
-fn committed(extent: u32, offset: u32, moment: u64) -> Option<Previous> {
-    Some(Previous::Committed(address(extent, offset)?, Moment::new(moment)?))
-}
-
 fn link(undo: &Undo, key: &OrderKey) -> Option<Link> {
     undo.link(&Key::Order(*key))
 }
 
-/// A link to a record that a terminal has open.
+/// Makes a link to a record that a terminal has open.
 fn open_at(extent: u32, offset: u32, terminal: Terminal) -> Option<Link> {
     Some(Link {
         address: address(extent, offset)?,
@@ -27,7 +20,7 @@ fn open_at(extent: u32, offset: u32, terminal: Terminal) -> Option<Link> {
     })
 }
 
-/// A link to a record of the commit at a moment.
+/// Makes a link to a record of the commit at a moment.
 fn made_at(extent: u32, offset: u32, moment: u64) -> Option<Link> {
     Some(Link {
         address: address(extent, offset)?,
@@ -35,7 +28,8 @@ fn made_at(extent: u32, offset: u32, moment: u64) -> Option<Link> {
     })
 }
 
-/// Two records of terminal 41, and its commit, after which terminal 5 has a segment open with one.
+/// Pushes two records of terminal 41 and commits them; then terminal 5 opens a segment, pushes one
+/// and takes it off. Tells whether each was pushed with the right link.
 fn pushed_by_turns(undo: &mut Undo, key: &OrderKey) -> Option<bool> {
     let row = order(11)?;
     let first = Terminal::new(41)?;
@@ -49,7 +43,7 @@ fn pushed_by_turns(undo: &mut Undo, key: &OrderKey) -> Option<bool> {
     pop(undo, second)?;
     Some(
         at_first == Previous::Nothing
-            && Some(behind_one) == own(0, 0)
+            && behind_one == Previous::Own(address(0, 0)?)
             && behind_commit == committed(0, 38, 1),
     )
 }
@@ -62,7 +56,8 @@ fn pop(undo: &mut Undo, terminal: Terminal) -> Option<()> {
     Some(())
 }
 
-/// Terminal 5 pushes a record, takes it off, pushes it again, and commits.
+/// Pushes a record of terminal 5, takes it off, pushes it again, and commits it. Tells whether the
+/// link leads where it should behind each.
 fn taken_off(undo: &mut Undo, key: &OrderKey) -> Option<bool> {
     let row = order(12)?;
     let terminal = Terminal::new(5)?;
@@ -87,8 +82,8 @@ fn reopen(undo: &mut Undo) -> Option<u32> {
     Some(undo.reopen_newest()?.terminal().get())
 }
 
-/// The newest commit is terminal 5's again, and then a commit; then both commits are given up, and
-/// the link leads nowhere.
+/// Opens the newest commit again, terminal 5's, and commits it; then gives both commits up. Tells
+/// whether the link leads where it should, at the end nowhere.
 fn given_up(undo: &mut Undo, key: &OrderKey) -> Option<bool> {
     let terminal = Terminal::new(5)?;
     let reopened = reopen(undo)?;
@@ -109,9 +104,12 @@ fn given_up(undo: &mut Undo, key: &OrderKey) -> Option<bool> {
 #[test]
 fn links_are_handed_on(rt: HostRuntime) {
     let key = order_key().expect(&rt, "a key");
+    let stock = stock_key(3, 41).expect(&rt, "a key");
     let mut undo = undo(rt.alloc(), 2).expect(&rt, "a log");
-    assert!(rt; pushed_by_turns(&mut undo, &key) == Some(true));
-    assert!(rt; taken_off(&mut undo, &key) == Some(true));
-    assert!(rt; given_up(&mut undo, &key) == Some(true));
-    drop(undo);
+    let has_place = undo.add_place(&Key::Stock(stock)).is_ok();
+    let by_turns = pushed_by_turns(&mut undo, &key);
+    let off = taken_off(&mut undo, &key);
+    let up = given_up(&mut undo, &key);
+    undo.discard();
+    assert!(rt; has_place && by_turns == Some(true) && off == Some(true) && up == Some(true));
 }

@@ -2,30 +2,15 @@
 //! come to stand.
 use crate::made::{queue_entry, warehouse};
 use crate::opened::request;
-use oe_layout::{LentRecord, LinkedRecord, Previous, RecordAddress};
+use oe_layout::{LentRecord, LinkedRecord, Previous};
 use oe_log::{Log, Segment};
 use oe_requests::{DistrictDelivery, Reply};
-use oe_rows::NewOrderKey;
 use oe_values::numbers::{Number, Terminal};
-use std::alloc::Global;
 use std::snapshot::Snapshot;
 
-/// An extent's number, and an offset in it.
-type Place = (u32, u32);
-
-/// That of a record that was refused, since the log is full.
-const REFUSED: Place = (9, 9);
-
-fn place(address: Option<RecordAddress>) -> Place {
-    match address {
-        Some(address) => (address.extent.get(), address.offset.get()),
-        None => REFUSED,
-    }
-}
-
-fn log(alloc: Global) -> Option<Log> {
-    Log::new(alloc, Number::new(2)?).ok()
-}
+/// Where a record stands: its extent's number, and its offset there. None where it was refused,
+/// since the log is full.
+type Place = Option<[u32; 2]>;
 
 /// Opens a segment of a terminal that has none open.
 fn begin(log: &mut Log, terminal: Terminal) -> Option<()> {
@@ -38,59 +23,48 @@ fn begin(log: &mut Log, terminal: Terminal) -> Option<()> {
     Some(())
 }
 
-/// Pushes a record, where the terminal has a segment open.
-fn push_record(log: &mut Log, terminal: Terminal, record: &LinkedRecord<'_>) -> Place {
+/// Pushes a record, where the terminal has a segment open, and answers its place.
+fn push(log: &mut Log, terminal: Terminal, record: &LinkedRecord<'_>) -> Place {
     if !log.is_open(terminal) {
-        return REFUSED;
+        return None;
     }
-    place(log.push(Segment::of(terminal), record).ok())
-}
-
-/// Pushes a delete of the queue entry.
-fn push(log: &mut Log, terminal: Terminal, key: &NewOrderKey) -> Place {
-    let record = LinkedRecord {
-        previous: Previous::Nothing,
-        record: LentRecord::DeletedNewOrder(*key),
-    };
-    push_record(log, terminal, &record)
-}
-
-/// Pushes 23 updates of the warehouse, and answers where the last one stands.
-fn push_updates(log: &mut Log, terminal: Terminal) -> Option<Place> {
-    let (key, row) = warehouse(100_000)?;
-    let record = LinkedRecord {
-        previous: Previous::Nothing,
-        record: LentRecord::UpdatedWarehouse(key, &row),
-    };
-    let mut last = REFUSED;
-    for _ in 0..23u8 {
-        last = push_record(log, terminal, &record);
+    match log.push(Segment::of(terminal), record) {
+        Ok(address) => Some([address.extent.get(), address.offset.get()]),
+        Err(_) => None,
     }
-    Some(last)
 }
 
-/// Pushes 92 deletes, and answers where the last one stands.
-fn push_deletes(log: &mut Log, terminal: Terminal, key: &NewOrderKey) -> Place {
-    let mut last = REFUSED;
-    for _ in 0..92u8 {
-        last = push(log, terminal, key);
+/// Pushes a record a number of times, and answers where the last one stands.
+fn push_times(log: &mut Log, terminal: Terminal, record: &LinkedRecord<'_>, times: u32) -> Place {
+    let mut last = None;
+    for _ in 0..times {
+        last = push(log, terminal, record);
     }
     last
 }
 
-/// Of 4,096 bytes, 23 updates and 92 deletes leave 25, into which one delete more fits exactly.
-/// Then the first terminal's extent is full, and the second's has room.
+/// Pushes 23 updates of the warehouse and 92 deletes, which of 4,096 bytes leave 25, into which one
+/// delete more fits exactly. Then the first terminal's extent is full, and the second's has room.
 fn filled(log: &mut Log, first: Terminal, second: Terminal) -> Option<[Place; 6]> {
     begin(log, first)?;
     begin(log, second)?;
-    let key = queue_entry()?;
-    let updated = push_updates(log, first)?;
-    let deleted = push_deletes(log, first, &key);
-    let exact = push(log, first, &key);
-    let other = push(log, second, &key);
-    let full = push(log, first, &key);
-    let behind = push(log, second, &key);
-    Some([updated, deleted, exact, other, full, behind])
+    let (key, row) = warehouse(100_000)?;
+    let update = LinkedRecord {
+        previous: Previous::Nothing,
+        record: LentRecord::UpdatedWarehouse(key, &row),
+    };
+    let delete = LinkedRecord {
+        previous: Previous::Nothing,
+        record: LentRecord::DeletedNewOrder(queue_entry()?),
+    };
+    Some([
+        push_times(log, first, &update, 23),
+        push_times(log, first, &delete, 92),
+        push(log, first, &delete),
+        push(log, second, &delete),
+        push(log, first, &delete),
+        push(log, second, &delete),
+    ])
 }
 
 /// Commits a terminal's segment, and opens another.
@@ -108,28 +82,44 @@ fn seal(log: &mut Log, terminal: Terminal) -> Option<()> {
     begin(log, terminal)
 }
 
-/// The first terminal's commit is given up, so that its extent alone is free; then the second's.
+/// Commits both. The first terminal's commit is given up, so that its extent alone is free; then
+/// the second's.
 fn filled_again(log: &mut Log, first: Terminal, second: Terminal) -> Option<[Place; 5]> {
-    let key = queue_entry()?;
+    let delete = LinkedRecord {
+        previous: Previous::Nothing,
+        record: LentRecord::DeletedNewOrder(queue_entry()?),
+    };
     seal(log, first)?;
     seal(log, second)?;
-    let full = push(log, first, &key);
+    let full = push(log, first, &delete);
     let _first = log.drop_oldest();
-    let around = push(log, second, &key);
-    let behind = push(log, second, &key);
-    let none_free = push(log, first, &key);
+    let around = push(log, second, &delete);
+    let behind = push(log, second, &delete);
+    let none_free = push(log, first, &delete);
     let _second = log.drop_oldest();
-    Some([full, around, behind, none_free, push(log, first, &key)])
+    Some([full, around, behind, none_free, push(log, first, &delete)])
 }
 
 #[test]
 fn records_fill_extents_and_go_around(rt: HostRuntime) {
-    let mut log = log(rt.alloc()).expect(&rt, "a log");
+    let extents = Number::new(2).expect(&rt, "extents");
+    let Ok(mut log) = Log::new(rt.alloc(), extents) else {
+        panic!(rt; "no log")
+    };
     let first = Terminal::new(1).expect(&rt, "a terminal");
     let second = Terminal::new(64).expect(&rt, "a terminal");
     let at = filled(&mut log, first, second);
-    assert!(rt; at == Some([(0, 1_694), (0, 4_046), (0, 4_071), (1, 0), REFUSED, (1, 25)]));
-    let at = filled_again(&mut log, first, second);
-    assert!(rt; at == Some([REFUSED, (0, 0), (0, 25), REFUSED, (1, 0)]));
+    let again = filled_again(&mut log, first, second);
     drop(log);
+    let is_full = [
+        Some([0, 1_694]),
+        Some([0, 4_046]),
+        Some([0, 4_071]),
+        Some([1, 0]),
+        None,
+        Some([1, 25]),
+    ];
+    let is_around = [None, Some([0, 0]), Some([0, 25]), None, Some([1, 0])];
+    assert!(rt; at == Some(is_full));
+    assert!(rt; again == Some(is_around));
 }

@@ -1,9 +1,9 @@
 //! Keys, rows and addresses, whose values differ. `None` where one could not be made.
-use oe_layout::RecordAddress;
+use oe_layout::{Previous, RecordAddress};
 use oe_rows::{
     Address, DistrictKey, NewOrderKey, Order, OrderKey, Stock, StockKey, Warehouse, WarehouseKey,
 };
-use oe_values::numbers::{Amount, Number};
+use oe_values::numbers::{Amount, Moment, Number};
 use oe_values::stamps::Stamp;
 use oe_values::texts::Text;
 
@@ -57,7 +57,7 @@ pub(crate) fn order_key() -> Option<OrderKey> {
     })
 }
 
-/// The order as one of this customer, not yet delivered: a record with its row has 38 bytes.
+/// Makes an order of this customer, not yet delivered: a record with its row has 38 bytes.
 pub(crate) fn order(customer: u32) -> Option<Order> {
     Some(Order {
         customer: Number::new(customer)?,
@@ -68,36 +68,41 @@ pub(crate) fn order(customer: u32) -> Option<Order> {
     })
 }
 
+/// Makes ten texts of two kinds.
 fn ten_texts() -> Option<[Text<24, 24>; 10]> {
+    let one = Text::read("STOCK-DIST-01-01-0000001")?;
+    let other = Text::read("STOCK-DIST-01-10-0000001")?;
     Some([
-        Text::read("STOCK-DIST-01-01-0000001")?,
-        Text::read("STOCK-DIST-01-02-0000001")?,
-        Text::read("STOCK-DIST-01-03-0000001")?,
-        Text::read("STOCK-DIST-01-04-0000001")?,
-        Text::read("STOCK-DIST-01-05-0000001")?,
-        Text::read("STOCK-DIST-01-06-0000001")?,
-        Text::read("STOCK-DIST-01-07-0000001")?,
-        Text::read("STOCK-DIST-01-08-0000001")?,
-        Text::read("STOCK-DIST-01-09-0000001")?,
-        Text::read("STOCK-DIST-01-10-0000001")?,
+        one.copied(),
+        one.copied(),
+        other.copied(),
+        one.copied(),
+        other.copied(),
+        other.copied(),
+        one.copied(),
+        other.copied(),
+        other.copied(),
+        other,
     ])
 }
 
-/// Makes stock (1, 1) after a sale of ten.
-pub(crate) fn stock() -> Option<(StockKey, Stock)> {
-    let key = StockKey {
-        warehouse: Number::new(1)?,
-        item: Number::new(1)?,
-    };
-    let row = Stock {
+pub(crate) fn stock_key(warehouse: u32, item: u32) -> Option<StockKey> {
+    Some(StockKey {
+        warehouse: Number::new(warehouse)?,
+        item: Number::new(item)?,
+    })
+}
+
+/// Makes a stock row after a sale of ten.
+pub(crate) fn stock() -> Option<Stock> {
+    Some(Stock {
         quantity: Number::new(14)?,
         dist_info: ten_texts()?,
         ytd: Number::new(10)?,
         order_count: Number::new(1)?,
         remote_count: Number::new(0)?,
         data: Text::read("STOCKDATA-000001")?,
-    };
-    Some((key, row))
+    })
 }
 
 pub(crate) fn address(extent: u32, offset: u32) -> Option<RecordAddress> {
@@ -105,4 +110,9 @@ pub(crate) fn address(extent: u32, offset: u32) -> Option<RecordAddress> {
         extent: Number::new(extent)?,
         offset: Number::new(offset)?,
     })
+}
+
+/// Makes a link to a record of the commit at a moment.
+pub(crate) fn committed(extent: u32, offset: u32, moment: u64) -> Option<Previous> {
+    Some(Previous::Committed(address(extent, offset)?, Moment::new(moment)?))
 }

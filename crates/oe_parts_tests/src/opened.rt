@@ -19,7 +19,7 @@ pub(crate) fn undo(alloc: Global, extents: u32) -> Option<Undo> {
     Undo::new(alloc, ExtentCount::new(extents)?).ok()
 }
 
-/// A delivery in district (4, 7).
+/// Makes the request of a delivery in district (4, 7).
 pub(crate) fn request() -> Option<Request> {
     let district = DistrictKey {
         warehouse: Number::new(4)?,
@@ -44,7 +44,7 @@ pub(crate) fn begin(undo: &mut Undo, terminal: Terminal) -> Option<()> {
     Some(())
 }
 
-/// A terminal's segment, where it alone has one open.
+/// Gives a terminal's segment, where it alone has one open.
 pub(crate) fn only_segment(undo: &Undo, terminal: Terminal) -> Option<Segment>
     ensures open { IfSome result (λ s. IsSome (active_at undo.now.log s)) }
     ensures alone { IfSome result (λ s. (k : Key) → IsAlone undo.now.log s k) }

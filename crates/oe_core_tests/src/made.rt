@@ -1,11 +1,11 @@
-//! Keys, a payment, and small populations.
+//! Keys, a payment, and small populations. `None` where a number is out of its range, or the system
+//! has refused memory.
 ghost use Rattle.std.specs.Prelude.{IfSome};
 ghost use Rattle.oe_admission.specs.Programs.{HasProgram};
 
-use oe_change::{Change, apply};
 use oe_population::populate;
 use oe_requests::{CustomerChoice, PaymentRequest, Request};
-use oe_rows::{DistrictKey, HistoryKey, Scale, StockKey};
+use oe_rows::{DistrictKey, HistoryKey, OrderKey, Scale};
 use oe_store::Tables;
 use oe_values::{Number, Stamp};
 use std::alloc::Global;
@@ -17,11 +17,9 @@ pub(crate) fn district_key(warehouse: u32, district: u32) -> Option<DistrictKey>
     })
 }
 
-pub(crate) fn stock_key(warehouse: u32, item: u32) -> Option<StockKey> {
-    Some(StockKey {
-        warehouse: Number::new(warehouse)?,
-        item: Number::new(item)?,
-    })
+/// Makes the key of an order from its three columns.
+pub(crate) fn order_key(columns: &[u32; 3]) -> Option<OrderKey> {
+    Some(district_key(columns[0], columns[1])?.order(Number::new(columns[2])?))
 }
 
 pub(crate) fn history_key(terminal: u32, number: u32) -> Option<HistoryKey> {
@@ -46,32 +44,13 @@ pub(crate) fn payment(customer: u32, cents: u32) -> Option<Request>
     }))
 }
 
-/// Two warehouses.
-fn scale(customers: u32, items: u32) -> Option<Scale> {
-    Some(Scale {
-        warehouses: Number::new(2)?,
-        customers: Number::new(customers)?,
-        items: Number::new(items)?,
-    })
-}
-
 /// Makes the population of two warehouses with that number of customers in each district, and of
 /// items.
 pub(crate) fn populated(alloc: Global, customers: u32, items: u32) -> Option<Tables> {
-    let scale = scale(customers, items)?;
-    match populate(alloc, scale) {
-        Ok(tables) => Some(tables),
-        Err(_) => None,
-    }
-}
-
-/// Makes a change that the tables take.
-pub(crate) fn amend(tables: &mut Tables, change: Change) -> Option<()> {
-    match apply(tables, change) {
-        Ok(before) => {
-            drop(before);
-            Some(())
-        }
-        Err(_) => None,
-    }
+    let scale = Scale {
+        warehouses: Number::new(2)?,
+        customers: Number::new(customers)?,
+        items: Number::new(items)?,
+    };
+    populate(alloc, scale).ok()
 }

@@ -1,5 +1,0 @@
-use Rattle.oe_script.specs.Session.{state_of, IsLive}
-use Rattle.oe_audit_tests.proofs.sessions.goes_on.Given as goal
-
-abbrev pub invariant-loop : goal.invariant-loop
-invariant-loop l = IsLive (state_of l.session.core)
