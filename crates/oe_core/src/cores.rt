@@ -132,8 +132,8 @@ impl Core {
 
     /// Carries out one step, and answers it.
     ///
-    /// A refusal has changed nothing, but for one of an Advance that is none of `Busy`, `UndoFull`, `NoMemory` and `NotOpen`:
-    /// that one has rolled its transaction back.
+    /// A refusal has changed nothing, but for one of an Advance that is none of `Busy`, `UndoFull`,
+    /// `NoMemory` and `NotOpen`: that one has rolled its transaction back.
     // In its callers, so that an answer is not copied from layer to layer.
     #[inline(always)]
     pub fn step(&mut self, step: Step) -> Answer
@@ -174,7 +174,8 @@ impl Core {
     }
 
     /// Rolls back what is open, and lets go of the tables.
-    // Whoever drops tables proves it of each of their parts: here once, and not in each crate above.
+    // Whoever drops tables proves it of each of their parts: here once, and not in each crate
+    // above.
     pub fn discard(self) {
         self.close().discard();
     }
@@ -186,7 +187,8 @@ impl Core {
 
     /// Gives the verdict on a condition, of a moment, whatever is open.
     ///
-    /// `TooOld` with the horizon, `Future` with the newest moment: the moment is not between the two.
+    /// `TooOld` with the horizon, `Future` with the newest moment: the moment is not between the
+    /// two.
     #[inline(never)]
     fn audit(&self, condition: Condition, moment: Moment) -> Answer
         ensures { Carries (world_of self.now) (Step.Audit condition moment) result
@@ -202,8 +204,9 @@ impl Core {
 
     /// Answers a query of that moment, whatever is open.
     ///
-    /// `NoSuchRow`: its warehouse isn't there. `TooOld`, `Future`: the moment is before the horizon, or after the newest, which is
-    /// named. `NoCustomer`: nobody has the number or the last name. The first of these is named.
+    /// `NoSuchRow`: its warehouse isn't there. `TooOld`, `Future`: the moment is before the
+    /// horizon, or after the newest, which is named. `NoCustomer`: nobody has the number or the
+    /// last name. The first of these is named.
     #[inline(never)]
     pub fn read(&self, moment: Moment, query: &Query) -> Answer
         ensures { Carries (world_of self.now) (Step.Read moment query.now) result
@@ -243,8 +246,9 @@ impl Core {
 
     /// Begins the terminal's transaction.
     ///
-    /// `NoSuchRow`: the first warehouse of the request that isn't there. `AlreadyOpen`: the terminal has a transaction open.
-    /// `Overflow` of H_NUMBER: it has had 4,294,967,295. `NoMemory`. The first of these is named, and nothing has changed.
+    /// `NoSuchRow`: the first warehouse of the request that isn't there. `AlreadyOpen`: the
+    /// terminal has a transaction open. `Overflow` of H_NUMBER: it has had 4,294,967,295.
+    /// `NoMemory`. The first of these is named, and nothing has changed.
     #[inline(never)]
     pub fn begin(&mut self, terminal: Terminal, request: &Request) -> Result<(), Refusal>
         requires { HasProgram request.now }
@@ -314,8 +318,8 @@ impl Core {
     /// Carries out one stage of the terminal's transaction; where none is left the transaction
     /// commits.
     ///
-    /// `NotOpen`, `Busy`, `UndoFull` and `NoMemory` have changed nothing. After another refusal the transaction is rolled back. The reply of a
-    /// commit is the terminal's `last_reply`.
+    /// `NotOpen`, `Busy`, `UndoFull` and `NoMemory` have changed nothing. After another refusal the
+    /// transaction is rolled back. The reply of a commit is the terminal's `last_reply`.
     #[inline(always)]
     pub fn advance(&mut self, terminal: Terminal) -> Advanced
         ensures { Advances (world_of self.old) terminal result (world_of self.new)
@@ -344,9 +348,11 @@ impl Core {
         }
     }
 
-    /// Forgets the commits up to a moment, which becomes the oldest that can be read, whatever is open.
+    /// Forgets the commits up to a moment, which becomes the oldest that can be read, whatever is
+    /// open.
     ///
-    /// `TooOld` with the horizon, `Future` with the newest moment: the moment is not between the two.
+    /// `TooOld` with the horizon, `Future` with the newest moment: the moment is not between the
+    /// two.
     #[inline(never)]
     pub fn purge(&mut self, moment: Moment) -> Answer
         ensures { Carries (world_of self.old) (Step.Purge moment) result (world_of self.new) }
@@ -359,8 +365,8 @@ impl Core {
 
     /// Undoes the commits after a moment, which becomes the newest, while no transaction is open.
     ///
-    /// `NotQuiet` with the number of open transactions. `TooOld` with the horizon, `Future` with the newest moment: the moment is not
-    /// between the two. The first of these is named.
+    /// `NotQuiet` with the number of open transactions. `TooOld` with the horizon, `Future` with
+    /// the newest moment: the moment is not between the two. The first of these is named.
     #[inline(never)]
     fn rewind(&mut self, moment: Moment) -> Answer
         ensures { Carries (world_of self.old) (Step.Rewind moment) result (world_of self.new) }

@@ -197,8 +197,9 @@ impl Engine {
 
     /// Begins a transaction of a terminal. It takes all memory that its commit will need.
     ///
-    /// `AlreadyOpen`: the terminal has one open. `Overflow` of H_NUMBER: its number would be past 4,294,967,295. `NoMemory`:
-    /// memory was refused. The first of these is named, and nothing has changed then.
+    /// `AlreadyOpen`: the terminal has one open. `Overflow` of H_NUMBER: its number would be past
+    /// 4,294,967,295. `NoMemory`: memory was refused. The first of these is named, and nothing has
+    /// changed then.
     pub fn begin(&mut self, terminal: Terminal) -> Result<Tx, Refusal>
         ensures handle { IfOk result
             (λ x. x ≡ record { engine = self.old.name; terminal = terminal }) }
@@ -278,8 +279,8 @@ impl Engine {
 }
 
 impl Engine {
-    // Takes a lock, or raises the mode in which its name is held, and answers the mode before. Tables and undo log stay as they
-    // are.
+    // Takes a lock, or raises the mode in which its name is held, and answers the mode before.
+    // Tables and undo log stay as they are.
     #[inline(always)]
     pub(crate) fn take(&mut self, terminal: Terminal, lock: Lock) -> Result<Option<Mode>, Refusal>
         requires { (view_of self.old).is_open terminal ≡ true }
@@ -300,7 +301,8 @@ impl Engine {
         self.locks.acquire(lock.name, terminal, lock.mode)
     }
 
-    // Puts a name back into a mode in which it was held, or lets go of it, where the transaction has changed nothing under it.
+    // Puts a name back into a mode in which it was held, or lets go of it, where the transaction
+    // has changed nothing under it.
     #[inline(never)]
     pub(crate) fn restore(&mut self, terminal: Terminal, name: Name, mode: Option<Mode>)
         requires open { (view_of self.old).is_open terminal ≡ true }
@@ -333,8 +335,8 @@ impl Engine {
         }
     }
 
-    /// Takes a transaction back to a savepoint of its own: what it has changed since then is forgotten, its locks are kept. It takes
-    /// no memory and can't fail.
+    /// Takes a transaction back to a savepoint of its own: what it has changed since then is
+    /// forgotten, its locks are kept. It takes no memory and can't fail.
     pub fn rollback_to(&mut self, tx: &Tx, savepoint: Savepoint)
         requires open { IsOpen self.old tx.now }
         requires savepoint { savepoint ≤ length ((view_of self.old).undo.active tx.now.terminal) }
@@ -346,8 +348,9 @@ impl Engine {
         oe_journal::take_back(&mut self.tables, &mut self.undo, segment, count);
     }
 
-    /// Commits a transaction with its request and reply, keeps no byte of either, and answers the moment of the commit. It takes no
-    /// memory. A transaction that is not open in this engine is handed back, and nothing has changed.
+    /// Commits a transaction with its request and reply, keeps no byte of either, and answers the
+    /// moment of the commit. It takes no memory. A transaction that is not open in this engine is
+    /// handed back, and nothing has changed.
     pub fn commit(
         &mut self,
         tx: Tx,

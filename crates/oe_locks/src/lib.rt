@@ -1,9 +1,11 @@
-//! A lock manager that never waits. A terminal has at most one transaction, so the holders of a name are terminals. Two
-//! of them conflict on a name where at least one of their modes is exclusive.
+//! A lock manager that never waits. A terminal has at most one transaction, so the holders of a
+//! name are terminals. Two of them conflict on a name where at least one of their modes is
+//! exclusive.
 //!
-//! One map goes from each name that is held to its holders, and it alone says who holds what. Beside it each terminal has a list
-//! on which all names stand that it holds: so a terminal lets go of its names without a look at the others'. Memory is wanted
-//! only for a name that a terminal does not hold yet.
+//! One map goes from each name that is held to its holders, and it alone says who holds what.
+//! Beside it each terminal has a list on which all names stand that it holds: so a terminal lets go
+//! of its names without a look at the others'. Memory is wanted only for a name that a terminal
+//! does not hold yet.
 #![tactic(auto)]
 
 ghost use Rattle.std.specs.Prelude.{◌≡◌, ◌≢◌, [], ◌++◌, ◌∷◌, ℕ, not, MatchOption, OnOk, OnErr, IfOk, IfErr, IfNone, IsSome, Some, None, true};
@@ -99,8 +101,8 @@ fn leave_all(holders: &mut NameMap, names: &mut Vec<Name>, terminal: Terminal)
     }
 }
 
-// Puts a name that nobody holds into the map, with its first holders, and on their terminal's list. A name that somebody holds
-// stays as it is, and its holders are answered.
+// Puts a name that nobody holds into the map, with its first holders, and on their terminal's list.
+// A name that somebody holds stays as it is, and its holders are answered.
 #[inline(always)]
 fn enter(
     holders: &mut NameMap,
@@ -131,7 +133,8 @@ fn enter(
     Ok(None)
 }
 
-// Gives a name the holders that it has once the list's terminal has joined them, and puts it on that list.
+// Gives a name the holders that it has once the list's terminal has joined them, and puts it on
+// that list.
 #[inline]
 fn join(
     holders: &mut NameMap,
@@ -188,7 +191,8 @@ impl Locks {
         })
     }
 
-    /// Lets go of the locks. A crate above that let them go out of scope would prove the drop of each of their parts again.
+    /// Lets go of the locks. A crate above that let them go out of scope would prove the drop of
+    /// each of their parts again.
     pub fn discard(self) {
         drop(self);
     }
@@ -212,7 +216,8 @@ impl Locks {
         self.holders.get(name)?.in_the_way(terminal, mode)
     }
 
-    // Gives a name that the terminal holds the holders that it has once the terminal's mode has changed.
+    // Gives a name that the terminal holds the holders that it has once the terminal's mode has
+    // changed.
     #[inline]
     fn change(&mut self, name: &Name, terminal: Terminal, after: Holders)
         requires held { IsSome (held self.old terminal name.now) }
@@ -262,7 +267,8 @@ impl Locks {
         enter(&mut self.holders, names, name, Holders::one(terminal, mode))
     }
 
-    // Takes a name that those hold, or raises the mode in which the terminal holds it, where nobody is in the way.
+    // Takes a name that those hold, or raises the mode in which the terminal holds it, where nobody
+    // is in the way.
     #[inline(never)]
     fn rise(
         &mut self,
@@ -300,12 +306,14 @@ impl Locks {
         }
     }
 
-    /// Takes the name for the terminal, or raises the mode in which the terminal holds it, where nobody is in the way, and
-    /// answers the mode in which the terminal held it before, or `None` where it did not hold it. A mode is never lowered. A
-    /// name that nobody holds is looked up once, and so is one that the terminal holds in that mode or a greater one.
+    /// Takes the name for the terminal, or raises the mode in which the terminal holds it, where
+    /// nobody is in the way, and answers the mode in which the terminal held it before, or `None`
+    /// where it did not hold it. A mode is never lowered. A name that nobody holds is looked up
+    /// once, and so is one that the terminal holds in that mode or a greater one.
     ///
-    /// `Busy` names the least other terminal that holds the name in a mode that conflicts. `NoMemory` comes only where
-    /// nobody does, and the terminal does not hold the name yet in any mode. After an error nothing has changed.
+    /// `Busy` names the least other terminal that holds the name in a mode that conflicts.
+    /// `NoMemory` comes only where nobody does, and the terminal does not hold the name yet in any
+    /// mode. After an error nothing has changed.
     #[inline(always)]
     pub fn acquire(
         &mut self,
@@ -327,7 +335,8 @@ impl Locks {
         }
     }
 
-    /// Lowers the mode in which the terminal holds the name, or with `None` lets go of the name. Takes no memory.
+    /// Lowers the mode in which the terminal holds the name, or with `None` lets go of the name.
+    /// Takes no memory.
     pub fn give_back(&mut self, name: Name, terminal: Terminal, mode: Option<Mode>)
         requires { IsBelow mode (held self.old terminal name) }
         ensures own { GivesBack self.old self.new terminal name mode }
