@@ -1,3 +1,18 @@
+pub mod RecordFacts
+pub mod RewindFacts
+pub mod BackFacts
+mod SetFacts
+mod UndoneFacts
+pub mod LinkedFacts
+mod ChainedFacts
+pub mod MoreFacts
+pub mod RecordedFacts
+mod UnplacedFacts
+pub mod LedFacts
+pub mod PurgeFacts
+pub mod LeftFacts
+pub mod NamedFacts
+pub mod ExactFacts
 pub mod CoveredFacts
 pub mod StageFacts
 pub mod EndFacts

@@ -13,9 +13,9 @@ use Rattle.oe_store.specs.Places.{rows}
 use Rattle.oe_store.specs.Places as tables
 use Rattle.oe_log.specs.Log.{IsFull}
 use Rattle.oe_undo.specs.Undo.{UndoState}
-use Rattle.oe_journal.specs.Linked.{AreLinked}
-use Rattle.oe_journal.specs.Writes.{IsRecorded, HasRecorded, HasRoomFor}
-use Rattle.oe_journal.proofs.RecordFacts.{write_records}
+use Rattle.oe_engine.specs.Linked.{AreLinked}
+use Rattle.oe_engine.specs.Recorded.{IsRecorded, HasRecorded, HasRoomFor}
+use Rattle.oe_engine.proofs.RecordFacts.{write_records}
 use Rattle.oe_locks.specs.Held.{Holdings}
 use Rattle.oe_engine.specs.View.{view_from}
 use Rattle.oe_engine.specs.Covered.{MayMake, IsSafe}

@@ -28,9 +28,9 @@ use Rattle.oe_change.specs.Writes.{key_written, written}
 use Rattle.oe_store.specs.Places.{Places, rows}
 use Rattle.oe_change.specs.Applies.{Refuses, IsFirst}
 use Rattle.oe_log.specs.Log.{IsFull, SegmentLog}
-use Rattle.oe_journal.specs.Records.{record_of_write}
-use Rattle.oe_journal.specs.Writes.{CantWrite, Absent, Full, Refused}
-use Rattle.oe_journal.proofs.RecordFacts.{recorded}
+use Rattle.oe_engine.specs.Records.{record_of_write}
+use Rattle.oe_engine.specs.Recorded.{CantWrite, Absent, Full, Refused}
+use Rattle.oe_engine.proofs.RecordFacts.{recorded}
 use Rattle.oe_engine.specs.View.{View}
 use Rattle.oe_engine.specs.Covered.{Owns, HoldsOrder, MayMake, IsOwn}
 use Rattle.oe_engine.specs.Calls.{locked, ChangeRefused}

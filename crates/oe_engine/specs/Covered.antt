@@ -12,7 +12,7 @@ use Rattle.oe_model.specs.Changes.{UpdatedCustomer, UpdatedOrder, UpdatedOrderLi
 use Rattle.oe_model.specs.Meets.{Meets}
 use Rattle.oe_model.specs.Locks.{governs}
 use Rattle.oe_change.specs.PutBack.{Stands}
-use Rattle.oe_journal.specs.GoesBack.{CanUnwindAll}
+use Rattle.oe_engine.specs.GoesBack.{CanUnwindAll}
 use Rattle.oe_engine.specs.View.{View}
 
 -- transaction k of terminal t alone may change rows under this guard: it holds their name exclusively, or they are its

@@ -10,13 +10,14 @@ ghost use Rattle.oe_model.specs.Locks.{mode_of};
 ghost use Rattle.oe_model.specs.Requests.{number_rejection};
 ghost use Rattle.oe_model.specs.System.{system, terminal_limit};
 ghost use Rattle.oe_store.specs.Places.{rows};
-ghost use Rattle.oe_journal.specs.GoesBack.{CanUnwind};
-ghost use Rattle.oe_journal.specs.Named.{AreExact};
+ghost use Rattle.oe_engine.specs.GoesBack.{CanUnwind};
+ghost use Rattle.oe_engine.specs.Named.{AreExact};
 ghost use Rattle.oe_locks.specs.Held as locks;
 ghost use Rattle.oe_engine.specs.View.{view_of, opened_view, IsOpen};
 ghost use Rattle.oe_engine.specs.Covered.{IsUnused, IsSafe};
 ghost use Rattle.oe_engine.specs.Calls.{ask_of, IsFree, IsBusy, IsBelow, begun, CantBegin, locked, put_mode, LockRefused, back_at, committed, rolled_back};
 
+use crate::journal;
 use crate::opening::beside;
 use crate::programs::Lock;
 use oe_locks::Locks;
@@ -345,7 +346,7 @@ impl Engine {
     {
         let segment = Segment::of(tx.terminal);
         let count = self.undo.segments().mark(segment) - savepoint.records;
-        oe_journal::take_back(&mut self.tables, &mut self.undo, segment, count);
+        journal::take_back(&mut self.tables, &mut self.undo, segment, count);
     }
 
     /// Commits a transaction with its request and reply, keeps no byte of either, and answers the
@@ -403,7 +404,7 @@ impl Engine {
         let _number = terminal.get();
         let segment = Segment::of(terminal);
         let count = self.undo.segments().mark(segment);
-        oe_journal::take_back(&mut self.tables, &mut self.undo, segment, count);
+        journal::take_back(&mut self.tables, &mut self.undo, segment, count);
         self.undo.drop_segment(segment);
         self.locks.release_all(terminal);
         Ok(())

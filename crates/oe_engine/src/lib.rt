@@ -17,6 +17,7 @@ pub mod access;
 pub mod choices;
 pub mod crossing;
 pub mod engine;
+pub mod journal;
 mod opening;
 pub mod past;
 pub mod programs;

@@ -2,11 +2,12 @@
 //! nothing.
 ghost use Rattle.std.specs.Prelude.{◌≡◌, IfErr, OnOk, OnErr};
 ghost use Rattle.oe_log.specs.Moments.{IsOutside};
-ghost use Rattle.oe_journal.specs.GivesUp.{GivesUpDeleted};
+ghost use Rattle.oe_engine.specs.GivesUp.{GivesUpDeleted};
 ghost use Rattle.oe_engine.specs.View.{view_of};
 ghost use Rattle.oe_engine.specs.Calls.{newest, horizon, records_up_to, IsQuiet, IsKeptMoment, CantRewind, purged_to, rewound_to};
 
 use crate::engine::Engine;
+use crate::journal;
 use oe_requests::Refusal;
 use oe_values::Moment;
 
@@ -29,7 +30,7 @@ impl Engine {
             (IsOutside (horizon (view_of self.old)) (newest (view_of self.old)) moment) }
         ensures err { OnErr result (self.new ≡ self.old) }
     {
-        oe_journal::purge(&mut self.tables, &mut self.undo, moment)
+        journal::purge(&mut self.tables, &mut self.undo, moment)
     }
 
     /// Undoes the commits after a moment, the newest first, while no transaction is open: the
@@ -47,7 +48,7 @@ impl Engine {
         ensures cause { IfErr result (CantRewind (view_of self.old) moment) }
         ensures err { OnErr result (self.new ≡ self.old) }
     {
-        let answer = oe_journal::rewind(&mut self.tables, &mut self.undo, moment);
+        let answer = journal::rewind(&mut self.tables, &mut self.undo, moment);
         self.tables.schema_holds();
         answer
     }

@@ -14,6 +14,7 @@ ghost use Rattle.oe_engine.specs.Writes.{ask_of_write, change_written, WriteHold
 
 use crate::access::lock_of_write;
 use crate::engine::{Engine, Tx};
+use crate::journal;
 use crate::programs::Lock;
 use oe_change::Write;
 use oe_log::Segment;
@@ -47,7 +48,7 @@ impl Engine {
         ensures err { OnErr result (view_of self.new ≡ view_of self.old) }
     {
         let segment = Segment::of(terminal);
-        oe_journal::write(&mut self.tables, &mut self.undo, segment, write)
+        journal::write(&mut self.tables, &mut self.undo, segment, write)
     }
 
     // Takes a lock and writes; where the write is refused, the name is held as it was. Where the

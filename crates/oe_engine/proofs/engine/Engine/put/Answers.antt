@@ -4,7 +4,7 @@ use Rattle.oe_store.specs.Places.{rows}
 use Rattle.oe_log.specs.Log.{active_at}
 use Rattle.oe_change.specs.Writes.{key_written}
 use Rattle.oe_undo.specs.Chains.{IsAlone}
-use Rattle.oe_journal.specs.Writes.{HasRecorded, HasRoomFor, CantWrite}
+use Rattle.oe_engine.specs.Recorded.{HasRecorded, HasRoomFor, CantWrite}
 use Rattle.oe_engine.specs.View.{view_of, view_from}
 use Rattle.oe_engine.proofs.PartFacts.{if_err, on_ok}
 use Rattle.oe_engine.proofs.SafeFacts.{is_alone}

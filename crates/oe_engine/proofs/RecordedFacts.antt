@@ -1,0 +1,90 @@
+-- What a write's record and its change make together, and why a write is refused.
+use Rattle.std.proofs.Common.{◌≡◌, ℕ, refl, sym, ap, ◌∙◌, subst, None, Some, is_some, true}
+use Rattle.std.specs.Prelude.{IsSome}
+use Rattle.std.specs.FinMap.{get}
+use Rattle.oe_theory.proofs.Sets.{some_inj}
+use Rattle.oe_requests.specs.declared.refusals.Refusal.{Refusal}
+use Rattle.oe_requests.specs.declared.refusals.Refusal.TheVariants.{NoSuchRow}
+use Rattle.oe_model.specs.Rows.{Rows}
+use Rattle.oe_model.specs.Changes.{Record, record_key}
+use Rattle.oe_change.specs.declared.writes.Write.{Write}
+use Rattle.oe_change.specs.declared.writes.Write.TheVariants.{WarehouseYtd, DistrictYtd, NextOrder, CustomerAccount}
+use Rattle.oe_change.specs.declared.writes.Write.TheVariants.{BadCredit, StockCounters, Carrier, DeliveryDate}
+use Rattle.oe_change.specs.declared.writes.Write.TheVariants.{InsertHistory, InsertNewOrder, InsertOrder}
+use Rattle.oe_change.specs.declared.writes.Write.TheVariants.{InsertOrderLine, DeleteNewOrder}
+use Rattle.oe_change.specs.Writes.{key_written, written}
+use Rattle.oe_store.specs.Places.{Places, rows}
+use Rattle.oe_change.specs.Applies.{Applies}
+use Rattle.oe_log.specs.Log.{SegmentLog, active_at}
+use Rattle.oe_undo.specs.Undo.{UndoState}
+use Rattle.oe_engine.specs.Linked.{MayChange, AreLinked}
+use Rattle.oe_engine.specs.Records.{record_in, record_of_write}
+use Rattle.oe_engine.specs.Recorded.{IsMade, HasMore, HasWritten, IsRecorded, HasRecorded, CantWrite, Absent}
+use Rattle.oe_engine.proofs.RecordFacts.{write_records, recorded}
+use Rattle.oe_log.proofs.StateFacts.{some_of}
+use Rattle.oe_engine.proofs.MoreFacts.{of_some, there_is, mapped_key, own_key, more_stands, recorded_linked}
+
+-- ---- the record's key is the one that is written
+
+pub record_written : (w : Write) (r : Rows) (b : Record) → record_of_write w r ≡ Some b → record_key b ≡ key_written w
+record_written (WarehouseYtd k y) r b e = mapped_key _ _ (get r.warehouses k) b (λ x. refl) e
+record_written (DistrictYtd k y) r b e = mapped_key _ _ (get r.districts k) b (λ x. refl) e
+record_written (NextOrder k n) r b e = mapped_key _ _ (get r.districts k) b (λ x. refl) e
+record_written (CustomerAccount k a) r b e = mapped_key _ _ (get r.customers k) b (λ x. refl) e
+record_written (BadCredit k a m) r b e = mapped_key _ _ (get r.customers k) b (λ x. refl) e
+record_written (StockCounters k n) r b e = mapped_key _ _ (get r.stocks k) b (λ x. refl) e
+record_written (Carrier k c) r b e = mapped_key _ _ (get r.orders k) b (λ x. refl) e
+record_written (DeliveryDate k t) r b e = mapped_key _ _ (get r.order_lines k) b (λ x. refl) e
+record_written (InsertHistory k x) r b e = own_key _ b e
+record_written (InsertNewOrder k) r b e = own_key _ b e
+record_written (InsertOrder k x) r b e = own_key _ b e
+record_written (InsertOrderLine k x) r b e = own_key _ b e
+record_written (DeleteNewOrder k) r b e = own_key _ b e
+
+-- it is of a table that is changed
+pub writes_may : (w : Write) → MayChange (key_written w)
+writes_may (WarehouseYtd k y) = tt
+writes_may (DistrictYtd k y) = tt
+writes_may (NextOrder k n) = tt
+writes_may (CustomerAccount k a) = tt
+writes_may (BadCredit k a m) = tt
+writes_may (StockCounters k n) = tt
+writes_may (Carrier k c) = tt
+writes_may (DeliveryDate k t) = tt
+writes_may (InsertHistory k x) = tt
+writes_may (InsertNewOrder k) = tt
+writes_may (InsertOrder k x) = tt
+writes_may (InsertOrderLine k x) = tt
+writes_may (DeleteNewOrder k) = tt
+
+-- ---- a record that was pushed makes the write a change
+
+pub pushed_there : (w : Write) (r : Rows) (u u' : UndoState) (t : ℕ) → HasWritten w r u u' t → IsSome (written w r)
+pushed_there w r u u' t h =
+    let b = there_is (λ b. HasMore b u u' t) (record_of_write w r) h in
+    recorded w r (ap is_some b.1)
+
+-- the record first, and then the change
+pub made_recorded : (w : Write) (old new : Places) (u u' : UndoState) (t : ℕ) → is_some (active_at u.log t) ≡ true
+    → HasWritten w (rows old) u u' t → IsMade w old new → HasRecorded w old new u u' t
+made_recorded w old new u u' t is push made =
+    let c = there_is (λ c. Applies c old new (record_in c (rows old))) (written w (rows old)) made in
+    let b = there_is (λ b. HasMore b u u' t) (record_of_write w (rows old)) push in
+    let o = some_of (active_at u.log t) is in
+    let same : b.0 ≡ record_in c.0 (rows old) =
+    some_inj _ _ (sym b.1 ∙ write_records w c.0 (rows old) c.1 c.2.accepted) in
+    of_some (λ c. IsRecorded c old new u u' t) (written w (rows old)) c.0 c.1
+    (more_stands b.0 c.0 old new u u' t o.0 o.1 same c.2 b.2)
+
+pub made_linked : (w : Write) (old new : Places) (u u' : UndoState) (t : ℕ) → is_some (active_at u.log t) ≡ true
+    → HasWritten w (rows old) u u' t → IsMade w old new → AreLinked old u.links → AreLinked new u'.links
+made_linked w old new u u' t is push made linked =
+    let c = there_is (λ c. IsRecorded c old new u u' t) (written w (rows old))
+    (made_recorded w old new u u' t is push made) in
+    recorded_linked c.0 old new u u' t linked c.2
+
+-- ---- refusals
+
+pub absent_write : (w : Write) (s : Places) (u : SegmentLog) (t : ℕ) (e : Refusal) → written w (rows s) ≡ None
+    → e ≡ NoSuchRow (key_written w) → CantWrite w s u t e
+absent_write w s u t e none is = subst (CantWrite w s u t) (sym is) (Absent none)

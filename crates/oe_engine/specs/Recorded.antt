@@ -1,0 +1,77 @@
+-- What a write makes of the tables and the undo log, and why one is refused.
+use Rattle.std.specs.Prelude.{◌≡◌, ℕ, ◌∷◌, length, None, is_some}
+use Rattle.std.specs.Option.{IsSomeAnd}
+use Rattle.oe_requests.specs.declared.refusals.Refusal.{Refusal}
+use Rattle.oe_requests.specs.declared.refusals.Refusal.TheVariants.{NoSuchRow, UndoFull}
+use Rattle.oe_model.specs.Rows.{Rows}
+use Rattle.oe_model.specs.Changes.{Change, Record, record_key}
+use Rattle.oe_model.specs.Lengths.{record_length}
+use Rattle.oe_change.specs.declared.writes.Write.{Write}
+use Rattle.oe_change.specs.Writes.{key_written, written}
+use Rattle.oe_layout.specs.declared.links.Previous.{Previous}
+use Rattle.oe_store.specs.Places.{Places, rows}
+use Rattle.oe_change.specs.Applies.{Applies, Refuses, IsFirst}
+use Rattle.oe_log.specs.Log.{IsFull, SegmentLog, active_at}
+use Rattle.oe_log.specs.Stands.{undo_of}
+use Rattle.oe_log.specs.Laws.{StandsWith}
+use Rattle.oe_undo.specs.declared.holders.Holder.TheVariants.{Open}
+use Rattle.oe_undo.specs.Chains.{link_from}
+use Rattle.oe_undo.specs.Undo.{UndoState, seen, HasPushed}
+use Rattle.oe_engine.specs.Records.{record_in, record_of_write}
+
+-- a change is accepted and made, and its record would have the row before
+abbrev pub IsApplied : Change → Places → Places → Type 0
+IsApplied c old new = Applies c old new (record_in c (rows old))
+
+-- why the tables refuse a change; of several causes the first is named
+abbrev pub IsRefused : Change → Places → Refusal → Type 0
+IsRefused c s e = Refuses c s e × IsFirst c (rows s) e
+
+-- the write is a change of these rows, which is accepted and made
+abbrev pub IsMade : Write → Places → Places → Type 0
+IsMade w old new = IsSomeAnd (written w (rows old)) (λ c. IsApplied c old new)
+
+-- why the tables refuse the change that a write is
+abbrev pub RefusesWrite : Write → Places → Refusal → Type 0
+RefusesWrite w s e = IsSomeAnd (written w (rows s)) (λ c. IsRefused c s e)
+
+-- a terminal's open segment has this record more, with its key's link, which leads to it then
+pub record HasMore (b : Record) (u u' : UndoState) (t : ℕ) : Type 0 where
+  pub previous : Previous
+  pub leads : link_from (Open t) previous ≡ seen u (record_key b)
+  pub pushed : HasPushed u u' t previous b
+
+-- a terminal's open segment has the write's record more
+abbrev pub HasWritten : Write → Rows → UndoState → UndoState → ℕ → Type 0
+HasWritten w r u u' t = IsSomeAnd (record_of_write w r) (λ b. HasMore b u u' t)
+
+-- a change was accepted and made, with its record in the log; nothing else has changed there
+pub record IsRecorded (c : Change) (old new : Places) (u u' : UndoState) (t : ℕ) : Type 0 where
+  pub applies : Applies c old new (record_in c (rows old))
+  pub has_more : HasMore (record_in c (rows old)) u u' t
+  -- in the theory's words
+  pub stands : StandsWith u'.log u.log t (record_in c (rows old) ∷ (undo_of u.log).active t)
+  pub is_open : (x : ℕ) → is_some (active_at u'.log x) ≡ is_some (active_at u.log x)
+  pub size : length u'.log.terminals ≡ length u.log.terminals
+  pub extents : u'.log.extents ≡ u.log.extents
+
+-- the change that the write is of these rows has been recorded so
+abbrev pub HasRecorded : Write → Places → Places → UndoState → UndoState → ℕ → Type 0
+HasRecorded w old new u u' t = IsSomeAnd (written w (rows old)) (λ c. IsRecorded c old new u u' t)
+
+-- the write's record fits the rest of the terminal's newest extent, or an extent is free
+abbrev pub HasRoomFor : Write → Rows → SegmentLog → ℕ → Type 0
+HasRoomFor w r u t = IsSomeAnd (record_of_write w r) (λ b. IsFull u t (record_length b) → ⊥)
+
+-- the write's record fits neither there nor in a free extent
+abbrev pub IsFullForWrite : Write → Rows → SegmentLog → ℕ → Type 0
+IsFullForWrite w r u t = IsSomeAnd (record_of_write w r) (λ b. IsFull u t (record_length b))
+
+-- why a write is refused, by its first cause
+pub data CantWrite (w : Write) (s : Places) (u : SegmentLog) (t : ℕ) : Refusal → Type 0 where
+  -- the row to be updated is absent
+  Absent : written w (rows s) ≡ None → CantWrite w s u t (NoSuchRow (key_written w))
+  -- the record has no room
+  Full : IsFullForWrite w (rows s) u t → CantWrite w s u t UndoFull
+  -- it has, and the tables refuse the change: they never say `UndoFull`
+  Refused : (e : Refusal) → HasRoomFor w (rows s) u t → RefusesWrite w s e → CantWrite w s u t e

@@ -1,0 +1,18 @@
+//! The nine tables and their undo log on the ring as one: a write with its record, records put
+//! back, a purge and a rewind. The record goes first, so that no row is changed without one, and
+//! each row is changed where it lies. Nothing takes memory but an insert at a key without a place.
+mod inserts;
+pub mod laws;
+mod lending;
+mod names;
+pub mod purges;
+pub mod rewinds;
+mod settings;
+mod unplaced;
+pub mod unwinding;
+pub mod writes;
+
+pub use purges::purge;
+pub use rewinds::rewind;
+pub use unwinding::take_back;
+pub use writes::write;

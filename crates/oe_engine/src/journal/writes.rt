@@ -1,0 +1,108 @@
+//! What a transaction writes to one row, with its record.
+ghost use Rattle.std.specs.Prelude.{◌≡◌, IsSome, IfErr, OnOk, OnErr};
+ghost use Rattle.oe_change.specs.Writes.{key_written, written};
+ghost use Rattle.oe_store.specs.Places.{rows};
+ghost use Rattle.oe_log.specs.Log.{active_at};
+ghost use Rattle.oe_undo.specs.Chains.{IsAlone};
+ghost use Rattle.oe_undo.specs.Links.{GivesAtMost};
+ghost use Rattle.oe_engine.specs.Linked.{AreLinked, SameLinks, StayLinked};
+ghost use Rattle.oe_engine.specs.Recorded.{HasRoomFor, HasWritten, HasRecorded, CantWrite};
+
+use crate::journal::lending::lend;
+use crate::journal::settings::set;
+use crate::journal::unplaced::unplaced;
+use oe_change::Write;
+use oe_layout::{LinkedRecord, Previous};
+use oe_log::Segment;
+use oe_requests::Refusal;
+use oe_store::Tables;
+use oe_undo::{CantPush, Undo};
+
+/// Writes to one row in its place, with its record in an open segment, or says why not. The record
+/// goes first, straight from where the row lies.
+///
+/// `NoSuchRow`: the row to be updated is absent. `UndoFull`: its record fits neither the rest of
+/// the segment's newest extent nor a free one. Else, where the tables refuse the change,
+/// `RowExists`: the key of an insert is there; `Reference`: what the new row refers to is absent
+/// (clauses 1.3 and 1.4); `NoSuchRow`: the row to be deleted is absent; `NoMemory`: the tables
+/// accept the insert, but its key takes a new place there and one for its link, and memory for one
+/// of them was refused. The first of these is named. Nothing has changed then, but that the key,
+/// and those that come with it, may have empty places for their links where they had none.
+pub fn write(
+    tables: &mut Tables,
+    undo: &mut Undo,
+    segment: Segment,
+    write: &Write,
+) -> Result<(), Refusal>
+    requires open { IsSome (active_at undo.old.log segment) }
+    requires alone { IsAlone undo.old.log segment (key_written write.now) }
+    requires linked { AreLinked tables.old undo.old.links }
+    ensures there { OnOk result (IsSome (written write.now (rows tables.old))) }
+    ensures written { OnOk result
+        (HasRecorded write.now tables.old tables.new undo.old undo.new segment) }
+    ensures room { OnOk result (HasRoomFor write.now (rows tables.old) undo.old.log segment) }
+    ensures linked { AreLinked tables.new undo.new.links }
+    ensures cause { IfErr result (CantWrite write.now tables.old undo.old.log segment) }
+    ensures err { OnErr result (tables.new ≡ tables.old) }
+    ensures err_undo { OnErr result (undo.new.log ≡ undo.old.log) }
+    ensures err_links { OnErr result (SameLinks undo.old undo.new) }
+    ensures err_places { OnErr result
+        (GivesAtMost undo.old.links undo.new.links (key_written write.now)) }
+{
+    if let Err(refusal) = push(tables, undo, segment, write) {
+        return Err(refusal);
+    }
+    match set(tables, write) {
+        Ok(()) => Ok(()),
+        Err(refusal) => {
+            undo.pop(segment);
+            // For the proof: the log keeps no more commits than were made.
+            undo.is_chained();
+            give_up_unplaced(tables, undo, write);
+            Err(refusal)
+        }
+    }
+}
+
+/// Gives up the empty place for the link of a HISTORY key that has no place in its table.
+fn give_up_unplaced(tables: &Tables, undo: &mut Undo, write: &Write)
+    ensures log { undo.new.log ≡ undo.old.log }
+    ensures links { StayLinked tables.now tables.now undo.old.links undo.new.links }
+    ensures seen { SameLinks undo.old undo.new }
+{
+    let Write::InsertHistory(key, _) = write else {
+        return;
+    };
+    if !tables.history_has_place(key) {
+        undo.give_up_history(key);
+    }
+}
+
+/// Appends the record of a write to rows as they stand to an open segment, with its key's link;
+/// refused as `write`, where the row to be updated is absent, the record has no room, or memory was
+/// refused for the place of its key's link. Nothing has changed then.
+#[inline(always)]
+fn push(tables: &Tables, undo: &mut Undo, segment: Segment, write: &Write) -> Result<(), Refusal>
+    requires open { IsSome (active_at undo.old.log segment) }
+    requires alone { IsAlone undo.old.log segment (key_written write.now) }
+    requires linked { AreLinked tables.now undo.old.links }
+    ensures pushed { OnOk result
+        (HasWritten write.now (rows tables.now) undo.old undo.new segment) }
+    ensures room { OnOk result (HasRoomFor write.now (rows tables.now) undo.old.log segment) }
+    ensures cause { IfErr result (CantWrite write.now tables.now undo.old.log segment) }
+    ensures err { OnErr result (undo.new ≡ undo.old) }
+{
+    let before = match lend(tables, write) {
+        Ok(before) => before,
+        Err(refusal) => return Err(refusal),
+    };
+    let mut lent = LinkedRecord {
+        previous: Previous::Nothing,
+        record: before,
+    };
+    match undo.push(segment, &mut lent) {
+        Ok(()) => Ok(()),
+        Err(CantPush::Full) => Err(Refusal::UndoFull),
+        Err(CantPush::NoMemory) => Err(unplaced(tables, write)),
+    }
+}
