@@ -1,7 +1,7 @@
 -- What this crate's proofs rest on.
 mod SumFacts
 mod NumberFacts
-mod DistrictFacts
+pub mod DistrictFacts
 mod PopulationFacts
 mod StoodFacts
 mod PassedFacts

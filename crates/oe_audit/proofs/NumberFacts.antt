@@ -110,6 +110,11 @@ counted n (m ∷ ms) r = by_test (n == m - 1) refl (counted m ms r.1) (reaches m
         let l : n < m = r.0 in
         sym (ne_eqb (last m ms) (n + length (m ∷ ms)) (λ q. s (omega arith)))
 
+-- the first of numbers that rise is the least
+pub least_first : (n : ℕ) (ms : List ℕ) → Rises n ms → least (n ∷ ms) ≡ Some n
+least_first n ms r =
+    least_found (λ i. IsAmong i (n ∷ ms)) (n ∷ ms) (each_among_own (n ∷ ms)) (λ i k. k) n (first_is n ms r)
+
 -- of numbers that rise, each follows the one before it exactly where the greatest less the least, and 1, is their
 -- number
 pub gaps_counted : (ns : List ℕ) → Rise ns
@@ -119,14 +124,11 @@ gaps_counted (n ∷ ms) r =
     let above = reaches n ms r in
     counted n ms r
     ∙ same_test (last n ms) (n + length ms) (last n ms - n + 1) (length (n ∷ ms)) (λ q. omega arith) (λ q. omega arith)
-    ∙ sym (λ i. none_or (most i) (λ g. none_or (first i) (λ l. g - l + 1 == length (n ∷ ms))))
+    ∙ sym (λ i. none_or (most i) (λ g. none_or (least_first n ms r i) (λ l. g - l + 1 == length (n ∷ ms))))
   where
     most : greatest (n ∷ ms) ≡ Some (last n ms)
     most = greatest_found (λ i. IsAmong i (n ∷ ms)) (n ∷ ms) (each_among_own (n ∷ ms)) (λ i k. k) (last n ms)
         (last_is n ms r)
-
-    first : least (n ∷ ms) ≡ Some n
-    first = least_found (λ i. IsAmong i (n ∷ ms)) (n ∷ ms) (each_among_own (n ∷ ms)) (λ i k. k) n (first_is n ms r)
 
 -- the first number of those that are left, where it does not follow, and where it does
 pub stops : (b : Option ℕ) (n : ℕ) (ns : List ℕ) → follows b n ≡ false → false ≡ has_no_gap b (n ∷ ns)

@@ -52,7 +52,7 @@ fn agrees_with(
 
 /// Tells whether the CUSTOMER row that a key has then, where it has this one now, passes a
 /// condition.
-fn passes<'a>(
+pub(crate) fn passes<'a>(
     condition: &CustomerCondition,
     tables: &'a Tables,
     when: &AsOf<'a>,

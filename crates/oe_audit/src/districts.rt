@@ -23,7 +23,7 @@ fn greater(before: Option<u32>, number: u32) -> u32
 }
 
 /// Gives the greatest O_ID of a district.
-fn last_order<'a>(tables: &'a Tables, when: &AsOf<'a>, key: &DistrictKey) -> Option<u32>
+pub(crate) fn last_order<'a>(tables: &'a Tables, when: &AsOf<'a>, key: &DistrictKey) -> Option<u32>
     requires { ArePassed (rows_then tables.now when.now) (rows tables.now) }
     ensures { result ≡ greatest (order_numbers key.now (rows_then tables.now when.now).orders) }
 {
@@ -38,7 +38,11 @@ fn last_order<'a>(tables: &'a Tables, when: &AsOf<'a>, key: &DistrictKey) -> Opt
 }
 
 /// Gives the greatest NO_O_ID of a district.
-fn last_new_order<'a>(tables: &'a Tables, when: &AsOf<'a>, key: &DistrictKey) -> Option<u32>
+pub(crate) fn last_new_order<'a>(
+    tables: &'a Tables,
+    when: &AsOf<'a>,
+    key: &DistrictKey,
+) -> Option<u32>
     requires { ArePassed (rows_then tables.now when.now) (rows tables.now) }
     ensures { result
         ≡ greatest (new_order_numbers key.now (rows_then tables.now when.now).new_orders) }

@@ -4,14 +4,16 @@
 #![tactic(auto)]
 
 mod as_of;
+pub mod at_rows;
 pub mod conditions;
 mod customers;
 mod districts;
-mod ledgers;
+pub mod ledgers;
 mod orders;
 mod payments;
 pub mod populations;
 mod warehouses;
 
 pub use conditions::{condition, condition_at};
+pub use ledgers::{CustomerSums, Ledger};
 pub use populations::is_population;

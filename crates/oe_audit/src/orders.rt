@@ -19,7 +19,12 @@ pub(crate) enum OrderCondition {
 }
 
 /// Tells whether O_CARRIER_ID is null exactly where the order has a NEW-ORDER row (clause 3.3.2.5).
-fn passes_fifth<'a>(tables: &'a Tables, when: &AsOf<'a>, key: &OrderKey, order: &Order) -> bool
+pub(crate) fn passes_fifth<'a>(
+    tables: &'a Tables,
+    when: &AsOf<'a>,
+    key: &OrderKey,
+    order: &Order,
+) -> bool
     ensures { result ≡ passes_5 (rows_then tables.now when.now) key.now order.now }
 {
     let waits = when.has_new_order(tables, &key.new_order_key());
@@ -30,7 +35,12 @@ fn passes_fifth<'a>(tables: &'a Tables, when: &AsOf<'a>, key: &OrderKey, order: 
 }
 
 /// Tells whether O_OL_CNT is the number of the order's ORDER-LINE rows (clause 3.3.2.6).
-fn passes_sixth<'a>(tables: &'a Tables, when: &AsOf<'a>, key: &OrderKey, line_count: u32) -> bool
+pub(crate) fn passes_sixth<'a>(
+    tables: &'a Tables,
+    when: &AsOf<'a>,
+    key: &OrderKey,
+    line_count: u32,
+) -> bool
     requires { ArePassed (rows_then tables.now when.now) (rows tables.now) }
     ensures { result
         ≡ (line_count == lines_of_order (rows_then tables.now when.now) key.now) }
@@ -85,7 +95,7 @@ pub(crate) fn of_orders<'a>(
 }
 
 /// Tells whether OL_DELIVERY_D is null exactly where the order's O_CARRIER_ID is (clause 3.3.2.7).
-fn passes_seventh<'a>(
+pub(crate) fn passes_seventh<'a>(
     tables: &'a Tables,
     when: &AsOf<'a>,
     key: &OrderLineKey,

@@ -56,7 +56,7 @@ fn digits(out: &mut Pending, n: u64)
 
 /// Appends a number.
 #[tactic(auto, using(crate::proofs::DigitFacts::length_of_u64))]
-pub(crate) fn number(out: &mut Pending, n: u64)
+pub fn number(out: &mut Pending, n: u64)
     requires { array_vec_len out.old + 20 ≤ SIZE }
     ensures items { out.new.items ≡ out.old.items ++ decimal n }
     ensures len { array_vec_len out.new ≤ array_vec_len out.old + 20 }
@@ -66,7 +66,7 @@ pub(crate) fn number(out: &mut Pending, n: u64)
 
 /// Appends a number of a column.
 #[tactic(auto, using(crate::proofs::DigitFacts::length_of_u32))]
-pub(crate) fn small(out: &mut Pending, n: u32)
+pub fn small(out: &mut Pending, n: u32)
     requires { array_vec_len out.old + 10 ≤ SIZE }
     ensures items { out.new.items ≡ out.old.items ++ decimal n }
     ensures len { array_vec_len out.new ≤ array_vec_len out.old + 10 }
@@ -75,7 +75,7 @@ pub(crate) fn small(out: &mut Pending, n: u32)
 }
 
 /// Appends money with two decimals.
-pub(crate) fn money(out: &mut Pending, cents: u64)
+pub fn money(out: &mut Pending, cents: u64)
     requires { array_vec_len out.old + 23 ≤ SIZE }
     ensures items { out.new.items ≡ out.old.items ++ money_text cents }
     ensures len { array_vec_len out.new ≤ array_vec_len out.old + 23 }
@@ -86,7 +86,7 @@ pub(crate) fn money(out: &mut Pending, cents: u64)
 }
 
 /// Appends money with two decimals, and a minus sign where it is negative.
-pub(crate) fn balance(out: &mut Pending, balance: Balance)
+pub fn balance(out: &mut Pending, balance: Balance)
     requires { array_vec_len out.old + 24 ≤ SIZE }
     ensures items { out.new.items ≡ out.old.items ++ balance_text balance }
     ensures len { array_vec_len out.new ≤ array_vec_len out.old + 24 }
@@ -120,7 +120,7 @@ pub(crate) fn stamp(out: &mut Pending, stamp: Stamp)
 }
 
 /// Appends a stamp, or `-` for a null.
-pub(crate) fn nullable_stamp(out: &mut Pending, date: Option<Stamp>)
+pub fn nullable_stamp(out: &mut Pending, date: Option<Stamp>)
     requires { array_vec_len out.old + 19 ≤ SIZE }
     ensures items { out.new.items ≡ out.old.items ++ nullable stamp_text date }
     ensures len { array_vec_len out.new ≤ array_vec_len out.old + 19 }
@@ -132,7 +132,7 @@ pub(crate) fn nullable_stamp(out: &mut Pending, date: Option<Stamp>)
 }
 
 /// Appends a carrier, or `-` for a null.
-pub(crate) fn nullable_carrier(out: &mut Pending, carrier: Option<Carrier>)
+pub fn nullable_carrier(out: &mut Pending, carrier: Option<Carrier>)
     requires { array_vec_len out.old + 10 ≤ SIZE }
     ensures items { out.new.items ≡ out.old.items ++ nullable decimal carrier }
     ensures len { array_vec_len out.new ≤ array_vec_len out.old + 10 }

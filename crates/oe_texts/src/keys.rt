@@ -95,7 +95,7 @@ fn stock(out: &mut Pending, key: StockKey, between: u8)
 }
 
 /// Appends a key's columns, parted by that byte.
-pub(crate) fn columns(out: &mut Pending, key: &Key, between: u8)
+pub fn columns(out: &mut Pending, key: &Key, between: u8)
     requires { array_vec_len out.old + 43 ≤ SIZE }
     ensures items { out.new.items ≡ out.old.items ++ join_with_byte between (key_texts key.now) }
     ensures len { array_vec_len out.new ≤ array_vec_len out.old + 43 }
@@ -133,7 +133,7 @@ fn table(out: &mut Pending, key: &Key)
 }
 
 /// Appends a row by its table and its key.
-pub(crate) fn row(out: &mut Pending, key: &Key)
+pub fn row(out: &mut Pending, key: &Key)
     requires { array_vec_len out.old + 53 ≤ SIZE }
     ensures items { out.new.items ≡ out.old.items ++ key_text key.now }
     ensures len { array_vec_len out.new ≤ array_vec_len out.old + 53 }
@@ -144,7 +144,7 @@ pub(crate) fn row(out: &mut Pending, key: &Key)
 }
 
 /// Appends the name of a lock.
-pub(crate) fn name(out: &mut Pending, name: &Name)
+pub fn name(out: &mut Pending, name: &Name)
     requires { array_vec_len out.old + 43 ≤ SIZE }
     ensures items { out.new.items ≡ out.old.items ++ name_text name.now }
     ensures len { array_vec_len out.new ≤ array_vec_len out.old + 43 }

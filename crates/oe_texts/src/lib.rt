@@ -3,18 +3,20 @@
 #![tactic(auto)]
 
 pub mod answers;
-mod columns;
+pub mod columns;
 pub mod dumps;
-mod keys;
+pub mod keys;
 pub mod laws;
 pub mod pending;
 mod refusals;
 mod replies;
 
 pub use answers::{answer, audited, begun, committed, more, opened, refused};
+pub use columns::small;
 pub use dumps::{
     customer_row, district_row, history_row, item_row, new_order_row, order_line_row, order_row,
     rows, stock_row, warehouse_row,
 };
+pub use keys::name;
 pub use laws::stamps_are_read;
-pub use pending::{LONGEST, Pending, SIZE, has_room};
+pub use pending::{LONGEST, Pending, SIZE, has_room, text};

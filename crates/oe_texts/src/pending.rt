@@ -21,7 +21,7 @@ pub fn has_room(out: &Pending) -> bool
 }
 
 /// Appends these bytes.
-pub(crate) fn text(out: &mut Pending, bytes: &[u8])
+pub fn text(out: &mut Pending, bytes: &[u8])
     requires { array_vec_len out.old + length bytes.now ≤ SIZE }
     ensures items { out.new.items ≡ out.old.items ++ bytes.now }
     ensures len { array_vec_len out.new ≡ array_vec_len out.old + length bytes.now }

@@ -1,0 +1,5 @@
+pub mod HistoryFacts
+pub mod BaseFacts
+pub mod ReadFacts
+pub mod LoadFacts
+pub mod PlaceFacts

@@ -1,0 +1,12 @@
+use Rattle.oe_loading.specs.Loading.{TellsNone}
+use Rattle.oe_loading.specs.Placing.{Puts}
+use Rattle.oe_loading.proofs.loading.put_rows.Given as goal
+
+-- the rows so far are put
+abbrev pub invariant-loop-numbered : goal.invariant-loop-numbered
+invariant-loop-numbered g l = record {
+  told : TellsNone l.initial.faults l.faults;
+  puts : Puts g.R.RowLine.own_table g.R.RowLine.key_of g.T.Placing.accepts g.T.Placing.with_row l.yielded
+      (g.T.Placing.rows_in l.initial.into) (g.T.Placing.rows_in l.into) l.initial.apart.items l.apart.items
+      l.initial.faults l.faults;
+}

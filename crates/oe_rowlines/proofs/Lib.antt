@@ -1,0 +1,5 @@
+pub mod WordFacts
+pub mod FieldFacts
+pub mod LineFacts
+pub mod RowFacts
+pub mod DumpFacts
