@@ -108,18 +108,23 @@ fn drive_all<J: Naming + Send + Sync, H: Threads + Wait + Sync, G: Gate + Sync>(
     let is_whole = run_all(rt, shop.front(), gate, &mut bench, stations.as_mut_slice());
     let (desks, deeds) = rise(bench, stations, desks);
     match shop.close(desks) {
-        Ok((core, counted)) => {
-            if is_whole {
-                return Ok(Driven {
-                    core,
-                    counted,
-                    deeds,
-                });
-            }
-            core.discard();
-        }
+        Ok((core, counted)) => left(core, counted, deeds, is_whole),
         Err(_) => unreachable!(),
     }
+}
+
+// Gives what a drive left, where each terminal had a thread, and lets it go otherwise.
+fn left(core: Core, counted: Counted, deeds: Deeds, is_whole: bool) -> Result<Driven, NoMemory>
+    ensures { IfOk result (λ d. (d.core ≡ core) × (d.counted ≡ counted)) }
+{
+    if is_whole {
+        return Ok(Driven {
+            core,
+            counted,
+            deeds,
+        });
+    }
+    core.discard();
     Err(NoMemory)
 }
 

@@ -174,7 +174,7 @@ fn advance_to_end<J: Naming, W: Wait, G: Gate>(
                 work = next;
                 thread::yield_now();
             }
-            Turn::Committed(moment, _) => return Some(moment),
+            Turn::Committed(moment) => return Some(moment),
             Turn::RolledBack(_) => return None,
         }
     }

@@ -5,7 +5,6 @@ use denote.Param.Send.{sendable}
 use denote.Struct.Declared.{shape}
 use Rattle.std.proofs.Crossing.{frees}
 use Rattle.std.proofs.alloc.Global.TheSendSync as heap
-use Rattle.std.proofs.marker.PhantomData.TheSendSync as phantom
 use Rattle.std.proofs.sync.Arc.TheSendSync as arc
 use Rattle.std.proofs.sync.Mutex.TheSendSync as mutex
 use Rattle.oe_core.specs.contracts.cores.Core.{the_row as core_row}
@@ -33,7 +32,7 @@ module _ (J : RattleType) (j : Naming.Ghosts J.Denot) where
               books.the_send J j,
               (
                 arc.the_send _ _ _ moments.the_send heap.the_send moments.the_sync heap.the_sync frees,
-                (keeper.the_send, (phantom.the_field_send J, tt)),
+                (keeper.the_send, tt),
               ),
             ),
           ),

@@ -6,6 +6,7 @@ use Rattle.oe_moments.specs.Pins.{TheSeat, ThePin, Holds}
 use Rattle.oe_requests.specs.declared.requests.Request.{Request}
 use Rattle.oe_requests.specs.declared.requests.Query.{Query}
 use Rattle.oe_requests.specs.declared.replies.QueryReply.{QueryReply}
+use Rattle.oe_requests.specs.declared.replies.Reply.{Reply}
 use Rattle.oe_requests.specs.declared.refusals.Refusal.{Refusal}
 use Rattle.oe_requests.specs.declared.refusals.Refusal.TheVariants as refusal
 use Rattle.oe_hall.specs.Naming.{TheNames}
@@ -26,10 +27,11 @@ pub record TheShop : Type 0 where
   pub given : ℕ
   pub seats : List (Option TheSeat)
 
--- and of a desk: its seat, and what it was told
+-- and of a desk: its seat, what it was told, and the reply of its newest commit
 pub record TheDesk : Type 0 where
   pub seat : TheSeat
   pub told : Tally
+  pub reply : Option Reply
 
 -- the names of a shop that is not opened yet
 pub record TheSeats : Type 0 where
@@ -42,6 +44,9 @@ seat_for s t = slice_get s.seats (t - 1)
 
 abbrev pub with_told : Tally → TheDesk → TheDesk
 with_told c d = record d { told = c }
+
+abbrev pub with_reply : Option Reply → TheDesk → TheDesk
+with_reply y d = record d { reply = y }
 
 abbrev pub with_seat : TheSeat → TheDesk → TheDesk
 with_seat s d = record d { seat = s }
@@ -59,7 +64,7 @@ begins (Err r) = Err r
 abbrev pub advances : Turn → Ended
 advances (turn.More o) = ended.More
 advances (turn.Kept o e) = ended.Kept e
-advances (turn.Committed m y) = ended.Committed m y
+advances (turn.Committed m) = ended.Committed m
 advances (turn.RolledBack e) = ended.RolledBack e
 
 abbrev pub ends : Result (Unit {0}) (Refusal × Open) → Result (Unit {0}) Refusal
@@ -81,18 +86,18 @@ ABegin d q r =
 abbrev pub Keeps : Open → Turn → Type 0
 Keeps o (turn.More p) = p ≡ o
 Keeps o (turn.Kept p e) = p ≡ o
-Keeps o (turn.Committed m y) = Unit {0}
+Keeps o (turn.Committed m) = Unit {0}
 Keeps o (turn.RolledBack e) = Unit {0}
 
 abbrev pub KeepsOnErr : Open → Result (Unit {0}) (Refusal × Open) → Type 0
 KeepsOnErr o (Ok u) = Unit {0}
 KeepsOnErr o (Err e) = e.1 ≡ o
 
--- of the desk's own transaction; any other comes back
-abbrev pub AnAdvance : TheDesk → Open → Turn → Type 0
-AnAdvance d o r =
+-- of the desk's own transaction, which leaves this reply at the desk; any other comes back
+abbrev pub AnAdvance : TheDesk → Open → Turn → Option Reply → Type 0
+AnAdvance d o r reply =
     IsOwn d.seat o × Keeps o r
-    × ATurn d.told (told_of (advances r) d.told) (λ h h'. AdvanceTurn h d.seat.terminal (advances r) h')
+    × ATurn d.told (told_of (advances r) d.told) (λ h h'. AdvanceTurn h d.seat.terminal (advances r) reply h')
     ⊎ (r ≡ turn.Kept o refusal.NotOpen) × (IsOwn d.seat o → ⊥)
 
 abbrev pub AnEnd : TheDesk → Open → Result (Unit {0}) (Refusal × Open) → Type 0

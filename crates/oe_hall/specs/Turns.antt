@@ -1,5 +1,5 @@
 -- One turn of the hall: a step of the machine with what it counts, or none.
-use Rattle.std.specs.Prelude.{◌≡◌, ◌≢◌, ◌⊎◌, ℕ, suc, ◌+◌, ◌≤◌, max, Bool, true, false, Result, Ok, Err}
+use Rattle.std.specs.Prelude.{◌≡◌, ◌≢◌, ◌⊎◌, ℕ, suc, ◌+◌, ◌≤◌, max, Bool, true, false, Option, Result, Ok, Err}
 use Rattle.atomic_table.specs.Seated.{TableId}
 use Rattle.oe_moments.specs.Rule.{pin_word}
 use Rattle.oe_moments.specs.declared.notes.PinState.TheVariants.{Sure}
@@ -7,10 +7,13 @@ use Rattle.oe_theory.specs.World.{World, newest, horizon}
 use Rattle.oe_theory.specs.Next.{count_open}
 use Rattle.oe_model.specs.System.{system, terminal_limit}
 use Rattle.oe_core.specs.Core.{CoreState, world_of}
-use Rattle.oe_core.specs.Steps.{Carries}
+use Rattle.oe_core.specs.Steps.{Carries, Advances}
+use Rattle.oe_core.specs.declared.advances.Advanced.{Advanced}
+use Rattle.oe_core.specs.declared.advances.Advanced.TheVariants as advanced
 use Rattle.oe_requests.specs.declared.requests.Request.{Request}
 use Rattle.oe_requests.specs.declared.requests.Query.{Query}
 use Rattle.oe_requests.specs.declared.replies.QueryReply.{QueryReply}
+use Rattle.oe_requests.specs.declared.replies.Reply.{Reply}
 use Rattle.oe_requests.specs.declared.refusals.Refusal.{Refusal}
 use Rattle.oe_requests.specs.declared.refusals.Refusal.TheVariants as refusal
 use Rattle.oe_requests.specs.declared.refusals.Column.TheVariants.{HistoryNumber}
@@ -60,7 +63,7 @@ HasPurged m w v = (newest system v ≡ newest system w) × (open_count v ≡ ope
 abbrev pub HasMoved : Ended → World system → World system → Type 0
 HasMoved ended.More w v = HasSame w v
 HasMoved (ended.Kept e) w v = HasSame w v
-HasMoved (ended.Committed m y) w v = HasCommitted w v
+HasMoved (ended.Committed m) w v = HasCommitted w v
 HasMoved (ended.RolledBack e) w v = HasEnded w v
 
 abbrev pub BeginMoves : Result (Unit {0}) Refusal → World system → World system → Type 0
@@ -100,21 +103,28 @@ keeps _ = false
 abbrev pub counted : Ended → Counts → Counts
 counted ended.More c = c
 counted (ended.Kept e) c = c
-counted (ended.Committed m y) c = committed_once c
+counted (ended.Committed m) c = committed_once c
 counted (ended.RolledBack e) c = rolled_back_once c
 
 abbrev pub told_of : Ended → Tally → Tally
 told_of ended.More c = c
 told_of (ended.Kept e) c = c
-told_of (ended.Committed m y) c = told_committed c
+told_of (ended.Committed m) c = told_committed c
 told_of (ended.RolledBack e) c = told_rolled_back c
 
--- the step's answer
-abbrev pub answer_of : Ended → Answer
-answer_of ended.More = answer.More
-answer_of (ended.Kept e) = answer.Refused e
-answer_of (ended.Committed m y) = answer.Committed m y
-answer_of (ended.RolledBack e) = answer.Refused e
+-- as the core tells it
+abbrev pub advanced_of : Ended → Advanced
+advanced_of ended.More = advanced.More
+advanced_of (ended.Kept e) = advanced.Refused e
+advanced_of (ended.Committed m) = advanced.Committed m
+advanced_of (ended.RolledBack e) = advanced.Refused e
+
+-- the reply that was kept stays, unless a commit has left its own
+abbrev pub LeavesReply : Ended → Option Reply → Option Reply → Type 0
+LeavesReply ended.More old new = new ≡ old
+LeavesReply (ended.Kept e) old new = new ≡ old
+LeavesReply (ended.Committed m) old new = Unit {0}
+LeavesReply (ended.RolledBack e) old new = new ≡ old
 
 -- a refusal is sorted by what it left
 abbrev pub IsSorted : Ended → Type 0
@@ -134,9 +144,9 @@ BeginTurn h t q (Err e) h' =
     (Carries (world h) (step.Begin t q) (answer.Refused e) (world h') × (h'.counts ≡ h.counts) × (h'.words ≡ h.words))
     ⊎ (e ≡ refusal.Overflow HistoryNumber) × (h.counts.begun ≡ most_begun) × (h' ≡ h)
 
--- an advance is one step
-abbrev pub AdvanceTurn : TheHall → ℕ → Ended → TheHall → Type 0
-AdvanceTurn h t r h' = Carries (world h) (step.Advance t) (answer_of r) (world h') × IsSorted r
+-- an advance is one step, and the reply that is kept is a commit's own
+abbrev pub AdvanceTurn : TheHall → ℕ → Ended → Option Reply → TheHall → Type 0
+AdvanceTurn h t r reply h' = Advances (world h) t (advanced_of r) (world h') reply × IsSorted r
     × (h'.counts ≡ counted r h.counts) × (h'.words ≡ h.words)
 
 abbrev pub end_answer : Result (Unit {0}) Refusal → Answer

@@ -12,7 +12,7 @@ ghost use Rattle.oe_core.specs.Core.{world_of};
 ghost use Rattle.oe_moments.specs.Rule.{at_start};
 ghost use Rattle.oe_moments.specs.Pins.{AreOfDesks};
 ghost use Rattle.oe_hall.specs.Counts.{none, tally, AreTotals};
-ghost use Rattle.oe_hall.specs.Turns.{IsHall, IsTold, open_count, BeginTurn, AdvanceTurn, EndTurn, ReadTurn, PurgeTurn, begin_told, told_of, end_told, IsYoung};
+ghost use Rattle.oe_hall.specs.Turns.{IsHall, IsTold, open_count, BeginTurn, AdvanceTurn, LeavesReply, EndTurn, ReadTurn, PurgeTurn, begin_told, told_of, end_told, IsYoung};
 
 use crate::calls;
 use crate::calls::Ended;
@@ -20,9 +20,9 @@ use crate::counts::{Books, Counted, Told};
 use crate::naming::Naming;
 use oe_core::Core;
 use oe_moments::{KeeperSeat, Moments, Pin};
-use oe_requests::{Column, Query, QueryReply, Refusal, Request};
+use oe_requests::{Column, Query, QueryReply, Refusal, Reply, Request};
 use oe_values::{Moment, Terminal};
-use std::marker::{Model, PhantomData};
+use std::marker::Model;
 use std::sync::Arc;
 
 /// The hall of a shop. It can't be dropped, since the core can't.
@@ -33,7 +33,6 @@ pub struct Hall<J: Naming> {
     books: Books<J>,
     moments: Arc<Moments>,
     keeper: KeeperSeat,
-    of: PhantomData<J>,
 }
 
 impl<J: Naming> Model for Hall<J> {
@@ -93,7 +92,6 @@ impl<J: Naming> Hall<J> {
             books,
             moments,
             keeper,
-            of: PhantomData,
         }
     }
 
@@ -127,19 +125,27 @@ impl<J: Naming> Hall<J> {
     }
 
     /// Carries out the next stage of the terminal's transaction, which commits after the last.
-    pub fn advance(&mut self, told: &mut Told<J>, terminal: Terminal) -> Ended
+    /// `reply` is then that commit's, and stays as it is otherwise.
+    #[inline]
+    pub fn advance(
+        &mut self,
+        told: &mut Told<J>,
+        terminal: Terminal,
+        reply: &mut Option<Reply>,
+    ) -> Ended
         requires { 0 < told.old.parts }
         ensures counted { IsTold told.old self.old × IsTold told.new self.new }
         ensures hall { IsHall self.old × IsHall self.new }
-        ensures turn { AdvanceTurn self.old terminal result self.new }
+        ensures turn { AdvanceTurn self.old terminal result reply.new self.new }
+        ensures reply { LeavesReply result reply.old reply.new }
         ensures told { told.new ≡ told_of result told.old }
         ensures fits { (told.new.committed < 2 ^ 64) × (told.new.rolled_back < 2 ^ 64) }
     {
         self.books.bound(told);
-        let ended = calls::advance(&mut self.core, terminal);
+        let ended = calls::advance(&mut self.core, terminal, reply);
         match &ended {
             Ended::More | Ended::Kept(_) => {}
-            Ended::Committed(_, _) => self.books.add_committed(told),
+            Ended::Committed(_) => self.books.add_committed(told),
             Ended::RolledBack(_) => {
                 self.rolled_back += 1;
                 self.books.add_rolled_back(told);
@@ -224,7 +230,6 @@ impl<J: Naming> Hall<J> {
             books: _,
             moments: _,
             keeper: _,
-            of: _,
         } = self;
         core
     }

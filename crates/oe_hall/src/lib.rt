@@ -8,6 +8,7 @@ pub mod counts;
 pub mod crossing;
 pub mod hall;
 pub mod naming;
+mod replies;
 pub mod shop;
 
 pub use calls::Ended;

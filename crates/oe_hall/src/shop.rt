@@ -7,6 +7,7 @@
 //! `Pin`, can't be dropped: the desk that began it ends it.
 ghost use Rattle.std.specs.Prelude.{◌≡◌, ◌≢◌, ◌↔◌, ℕ, ◌+◌, ◌-◌, ◌<◌, ◌≤◌, length, [], vec_capacity, slice_get, slice_set, sum_by, IfOk, IfErr, OnOk, OnErr, Some, None, IsTrue, false};
 ghost use Rattle.std.specs.Arc.{arc_value};
+ghost use Rattle.std.specs.Option.{option_copied};
 ghost use Rattle.atomic_table.specs.Seated.{TableId};
 ghost use Rattle.oe_theory.specs.World.{newest, horizon};
 ghost use Rattle.oe_model.specs.Conditions.{IsPopulation};
@@ -18,9 +19,9 @@ ghost use Rattle.oe_moments.specs.Rule.{saw, with_pin, at_start, pin_word};
 ghost use Rattle.oe_moments.specs.Pins.{AreOfDesks, with_notes, is_pinned, Holds};
 ghost use Rattle.oe_moments.specs.declared.notes.PinState.TheVariants.{Free};
 ghost use Rattle.oe_hall.specs.Counts.{untold, tally, with_one_more, AreTotals};
-ghost use Rattle.oe_hall.specs.Turns.{TheHall, IsHall, open_count, begin_told, told_of, end_told, IsYoung};
+ghost use Rattle.oe_hall.specs.Turns.{TheHall, IsHall, open_count, begin_told, told_of, end_told, LeavesReply, IsYoung};
 ghost use Rattle.oe_hall.specs.Seats.{fresh_seat, AreFresh, waiting};
-ghost use Rattle.oe_hall.specs.Desks.{TheDesk, TheShop, TheSeats, AreSums, AreOpen, begun_by, committed_by, rolled_back_by, with_told, with_seat, seat_for, IsOwn, begins, advances, ends, ABegin, AnAdvance, AnEnd, ARead, APurge};
+ghost use Rattle.oe_hall.specs.Desks.{TheDesk, TheShop, TheSeats, AreSums, AreOpen, begun_by, committed_by, rolled_back_by, with_told, with_reply, with_seat, seat_for, IsOwn, begins, advances, ends, ABegin, AnAdvance, AnEnd, ARead, APurge};
 
 use crate::calls::Ended;
 use crate::counts::{Blanks, Counted, Told, open_books};
@@ -33,7 +34,7 @@ use oe_store::Tables;
 use oe_values::{ExtentCount, Moment, NoMemory, Number, Terminal};
 use std::alloc::{AllocError, Global};
 use std::hint;
-use std::marker::{Model, PhantomData};
+use std::marker::Model;
 use std::sync::{Arc, Mutex, MutexGuard, Wait};
 
 /// A transaction that a desk began.
@@ -48,8 +49,8 @@ pub enum Turn {
     More(Open),
     /// Nothing has changed.
     Kept(Open, Refusal),
-    /// The transaction committed and made that moment.
-    Committed(Moment, Reply),
+    /// The transaction committed and made that moment. The desk lends its reply.
+    Committed(Moment),
     /// The transaction is rolled back.
     RolledBack(Refusal),
 }
@@ -133,13 +134,13 @@ pub struct Desk<J: Naming> {
     begun: u64,
     committed: u64,
     rolled_back: u64,
-    of: PhantomData<J>,
+    reply: Option<Reply>,
 }
 
 impl<J: Naming> Model for Desk<J> {
     ghost Value = { TheDesk };
 
-    ghost view = { λ d. record { seat = d.seat; told = d.told } };
+    ghost view = { λ d. record { seat = d.seat; told = d.told; reply = d.reply } };
 
     ghost invariant = { λ d. (d.seat.words ≡ J.names.words) × (d.told ≡ record {
       parts = 1;
@@ -157,14 +158,14 @@ pub struct NotQuiet<J: Naming> {
     pub desks: Vec<Desk<J>>,
 }
 
-/// How often a turn asks for the lock before it waits. A turn is shorter than a sleep.
-const TRIES: u32 = 32;
+/// How often a turn asks for the lock again before it sleeps. A turn is shorter than a sleep.
+const TRIES: u32 = 64;
 
-/// How many pauses come between two such tries. Who has the hall's rows in its cache does a few
-/// turns meanwhile, and the rows change hands less often.
-const PAUSES: u32 = 64;
+/// How many pauses come between two such tries. Who has the hall's rows in its cache does some tens
+/// of turns meanwhile, and the rows change hands less often.
+const PAUSES: u32 = 256;
 
-// Lets a few turns of others pass.
+// Lets some turns of others pass.
 fn pause() {
     for _ in 0..PAUSES {
         hint::spin_loop();
@@ -172,12 +173,25 @@ fn pause() {
 }
 
 // Enters the hall, once nobody else is in it.
+#[inline]
 fn enter<'h, J: Naming, W: Wait>(rt: &W, hall: &'h Mutex<Hall<J>>) -> MutexGuard<'h, Hall<J>> {
+    match hall.try_lock() {
+        Some(guard) => guard,
+        None => enter_later(rt, hall),
+    }
+}
+
+// Enters the hall, in which somebody was.
+#[inline(never)]
+fn enter_later<'h, J: Naming, W: Wait>(
+    rt: &W,
+    hall: &'h Mutex<Hall<J>>,
+) -> MutexGuard<'h, Hall<J>> {
     for _ in 0..TRIES {
+        pause();
         if let Some(guard) = hall.try_lock() {
             return guard;
         }
-        pause();
     }
     hall.lock(rt)
 }
@@ -284,6 +298,7 @@ impl<J: Naming> Shop<J> {
             d ≡ record {
               seat = fresh_seat self.old.words self.old.name (terminal - 1);
               told = untold 1;
+              reply = None;
             }) }
         ensures given { OnOk result ((self.new.given ≡ self.old.given + 1)
             × (self.new.words ≡ self.old.words) × (self.new.name ≡ self.old.name)
@@ -305,7 +320,7 @@ impl<J: Naming> Shop<J> {
             begun: 0,
             committed: 0,
             rolled_back: 0,
-            of: PhantomData,
+            reply: None,
         })
     }
 
@@ -472,22 +487,25 @@ impl<J: Naming> Desk<J> {
     }
 
     /// Carries out the next stage of a transaction that the desk began, which commits after the
-    /// last. `NotOpen` of any other.
+    /// last: its reply is the desk's `reply` until the next commit. `NotOpen` of any other.
+    #[inline]
     pub fn advance<W: Wait>(&mut self, rt: &W, front: &Front<J>, work: Open) -> Turn
-        ensures turn { AnAdvance self.old work result }
-        ensures told { self.new ≡ with_told (told_of (advances result) self.old.told) self.old }
+        ensures turn { AnAdvance self.old work result self.new.reply }
+        ensures reply { LeavesReply (advances result) self.old.reply self.new.reply }
+        ensures told { self.new ≡ with_told (told_of (advances result) self.old.told)
+            (with_reply self.new.reply self.old) }
     {
         if !began(&self.seat, &work) {
             return Turn::Kept(work, Refusal::NotOpen);
         }
         let terminal = self.seat.terminal();
-        match enter(rt, &front.hall).advance(&mut self.told, terminal) {
+        match enter(rt, &front.hall).advance(&mut self.told, terminal, &mut self.reply) {
             Ended::More => Turn::More(work),
             Ended::Kept(refusal) => Turn::Kept(work, refusal),
-            Ended::Committed(moment, reply) => {
+            Ended::Committed(moment) => {
                 self.committed += 1;
                 work.spend();
-                Turn::Committed(moment, reply)
+                Turn::Committed(moment)
             }
             Ended::RolledBack(refusal) => {
                 self.rolled_back += 1;
@@ -495,6 +513,13 @@ impl<J: Naming> Desk<J> {
                 Turn::RolledBack(refusal)
             }
         }
+    }
+
+    /// Lends the reply of the desk's newest commit; none before its first.
+    pub fn reply(&self) -> Option<&Reply>
+        ensures { option_copied result ≡ self.now.reply }
+    {
+        self.reply.as_ref()
     }
 
     /// Rolls a transaction back that the desk began. `NotOpen` of any other, which comes back.

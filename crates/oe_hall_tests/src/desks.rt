@@ -14,6 +14,17 @@ pub(crate) fn moment(rt: &impl Abort, commits: u64) -> Moment {
     Moment::new(commits).expect(rt, "a moment")
 }
 
+// Says that a transaction has committed, with the reply that the desk keeps.
+fn committed<J: Naming>(rt: &impl Abort, desk: &Desk<J>, made: Moment) -> Said {
+    let Some(reply) = desk.reply() else {
+        panic!(rt; "no reply is kept")
+    };
+    answered(
+        Told::Moment(made.get()),
+        Answer::Committed(made, reply.copied()),
+    )
+}
+
 // Advances what the hand holds.
 fn advanced<J: Naming, H: Wait + Abort>(
     rt: &H,
@@ -31,10 +42,7 @@ fn advanced<J: Naming, H: Wait + Abort>(
             put(rt, &mut hand.open, open);
             answered(Told::Kept(refusal.number()), Answer::Refused(refusal))
         }
-        Turn::Committed(made, reply) => answered(
-            Told::Moment(made.get()),
-            Answer::Committed(made, reply),
-        ),
+        Turn::Committed(made) => committed(rt, desk, made),
         Turn::RolledBack(refusal) => answered(
             Told::RolledBack(refusal.number()),
             Answer::Refused(refusal),

@@ -17,7 +17,8 @@ returns-in-More-clause-turn g c =
         e.hall.1,
         search rules,
         search rules,
-        subst (λ (t : ℕ). AdvanceTurn c.deref_mut.result.now t ended.More c.advance.new.self) own e.turn,
+        subst (λ (t : ℕ). AdvanceTurn c.deref_mut.result.now t ended.More c.advance.new.reply c.advance.new.self) own
+            e.turn,
       ),
     )
 
@@ -35,8 +36,8 @@ returns-in-Kept-clause-turn g c =
         e.hall.1,
         search rules,
         search rules,
-        subst (λ (t : ℕ). AdvanceTurn c.deref_mut.result.now t (ended.Kept c.in-Kept.refusal) c.advance.new.self) own
-            e.turn,
+        subst (λ (t : ℕ). AdvanceTurn c.deref_mut.result.now t (ended.Kept c.in-Kept.refusal) c.advance.new.reply
+            c.advance.new.self) own e.turn,
       ),
     )
 
@@ -55,7 +56,7 @@ returns-in-Committed-clause-turn g c =
         search rules,
         search rules,
         subst (λ (t : ℕ). AdvanceTurn c.deref_mut.result.now t
-            (ended.Committed c.in-Committed.moment c.in-Committed.reply) c.advance.new.self) own e.turn,
+            (ended.Committed c.in-Committed.moment) c.advance.new.reply c.advance.new.self) own e.turn,
       ),
     )
 
@@ -74,6 +75,6 @@ returns-clause-turn g c =
         search rules,
         search rules,
         subst (λ (t : ℕ). AdvanceTurn c.deref_mut.result.now t (ended.RolledBack c.in-RolledBack.refusal)
-            c.advance.new.self) own e.turn,
+            c.advance.new.reply c.advance.new.self) own e.turn,
       ),
     )
