@@ -10,3 +10,4 @@ pub mod ReadFacts
 pub mod PastFacts
 mod SendFacts
 pub mod CountFacts
+mod AskFacts

@@ -2,3 +2,4 @@
 pub mod Steps
 pub mod Core
 pub mod Works
+pub mod Asks

@@ -2,27 +2,32 @@
 //! mark. By its invariant it stands for a world that steps of the machine led to; each public call
 //! is one such step, or is refused with its cause and changes nothing. Memory may be refused to
 //! `open` and `begin`, and to an advance.
-ghost use Rattle.std.specs.Prelude.{◌≡◌, ◌↔◌, IfOk, IfSome, IsSome, is_some, suc, option_map};
+ghost use Rattle.std.specs.Prelude.{◌≡◌, ◌↔◌, IfOk, IfSome, IsSome, None, false, is_some, suc, option_map};
 ghost use Rattle.oe_theory.specs.World.{horizon, latest, newest, tables, total};
 ghost use Rattle.oe_theory.specs.Next.{Next, IsQuiet, count_open};
 ghost use Rattle.oe_theory.specs.Theorems.{opened, IsReached};
+ghost use Rattle.oe_rows.specs.declared.locks.Name.{Name};
 ghost use Rattle.oe_requests.specs.Reply.{told_reply};
+ghost use Rattle.oe_locks.specs.Listed.{stands};
+ghost use Rattle.oe_model.specs.Locks.{mode_of};
 ghost use Rattle.oe_model.specs.Conditions.{IsPopulation};
 ghost use Rattle.oe_model.specs.System.{system, terminal_limit};
 ghost use Rattle.oe_store.specs.Places.{rows};
 ghost use Rattle.oe_engine.specs.View.{view_of, IsOpen};
 ghost use Rattle.oe_engine.specs.Calls.{committed, rolled_back};
-ghost use Rattle.oe_engine.specs.Programs.{reply_at};
+ghost use Rattle.oe_engine.specs.Programs.{hold_of, reply_at};
 ghost use Rattle.oe_admission.specs.Programs.{HasProgram};
 ghost use Rattle.oe_core.specs.Steps.{step_in, answer_in, Carries, begin_answer, Advances, begins_with};
+ghost use Rattle.oe_core.specs.Asks.{held_by, wanted_by};
 ghost use Rattle.oe_core.specs.Core.{world_of, last_reply, keeps_open, IsEndable, IsEnded};
 
 use crate::advances::Advanced;
 use crate::slots::{begin_work, empty_places, open_tx, put_tx, take_tx};
 use crate::works::Work;
 use oe_admission::{ranges_hold, rejection};
-use oe_engine::{Engine, Progress, Tx};
+use oe_engine::{Engine, Lock, Progress, Tx};
 use oe_requests::{Answer, Condition, Query, Refusal, ReplyRef, Request, Step};
+use oe_rows::{Mode, Name};
 use oe_store::Tables;
 use oe_values::{ExtentCount, Moment, NoMemory, PerTerminal, Terminal};
 use std::alloc::Global;
@@ -106,6 +111,39 @@ impl Core {
         ensures { result ≡ is_some ((world_of self.now).active terminal) }
     {
         self.txs.at(terminal).is_some()
+    }
+
+    /// Gives the lock that the next stage of a terminal's transaction asks for; none where it asks
+    /// for none or stops before it, and where the terminal has no transaction open.
+    pub fn wanted(&self, terminal: Terminal) -> Option<Lock>
+        ensures { option_map hold_of result ≡ wanted_by (world_of self.now) terminal }
+    {
+        let Some(_open) = self.txs.at(terminal) else {
+            return None;
+        };
+        match self.works.at(terminal) {
+            Some(work) => work.wanted(self.engine.tables()),
+            None => None,
+        }
+    }
+
+    /// Gives the mode in which a terminal's transaction holds a name; none where it does not hold
+    /// it, and where the terminal has no transaction open.
+    pub fn held(&self, terminal: Terminal, name: &Name) -> Option<Mode>
+        ensures { option_map mode_of result ≡ held_by (world_of self.now) terminal name.now }
+    {
+        match self.txs.at(terminal) {
+            Some(tx) => self.engine.held(tx, name),
+            None => None,
+        }
+    }
+
+    /// Lends a list on which all names stand that a terminal's transaction holds.
+    pub fn names(&self, terminal: Terminal) -> &[Name]
+        ensures { (q : Name) → stands result.now q ≡ false
+            → held_by (world_of self.now) terminal q ≡ None }
+    {
+        self.engine.names(terminal)
     }
 
     /// Gives the reply of a terminal's last transaction, where that has committed; none where it is

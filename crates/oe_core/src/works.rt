@@ -7,15 +7,19 @@ ghost use Rattle.std.specs.Prelude.{◌≡◌, option_map, length, IfSome};
 ghost use Rattle.oe_requests.specs.declared.requests.Request.{Request};
 ghost use Rattle.oe_requests.specs.Reply.{told_reply};
 ghost use Rattle.oe_engine.specs.View.{IsOpen, view_of};
-ghost use Rattle.oe_engine.specs.Programs.{Progresses, reply_at};
+ghost use Rattle.oe_theory.specs.Machine as theory;
+ghost use Rattle.oe_model.specs.System.{ask};
+ghost use Rattle.oe_store.specs.Places.{rows};
+ghost use Rattle.oe_engine.specs.Programs.{Progresses, hold_of, reply_at, wanted};
 ghost use Rattle.oe_admission.specs.Programs.{HasProgram};
 ghost use Rattle.oe_delivery.specs.Deliveries.{place_of, HoldsNames};
 ghost use Rattle.oe_core.specs.Works.{begun, state_of, HoldsTaken, Leaves};
 
-use oe_engine::{Engine, Progress, Savepoint, Tx};
+use oe_engine::{Engine, Lock, Progress, Savepoint, Tx};
 use oe_requests::{
     DeliveriesRequest, DeliveryRequest, NewOrderRequest, PaymentRequest, Reply, ReplyRef, Request,
 };
+use oe_store::Tables;
 use std::marker::Model;
 use std::snapshot::Snapshot;
 
@@ -236,6 +240,36 @@ impl Work {
             Task::Deliveries { request, .. } => Request::Deliveries(*request),
         };
         Some((Snapshot::of(&request), Snapshot::of(&reply)))
+    }
+
+    /// Gives the lock that the next stage of the program asks for; none where it asks for none, or
+    /// stops before it.
+    pub fn wanted(&self, tables: &Tables) -> Option<Lock>
+        ensures { (x : theory.Tx Request) → option_map hold_of result
+            ≡ wanted (ask x self.now.position (rows tables.now)) }
+    {
+        match &self.task {
+            Task::Payment {
+                request,
+                program,
+                ..
+            } => program.wanted(request, tables),
+            Task::NewOrder {
+                request,
+                program,
+                ..
+            } => program.wanted(request, tables),
+            Task::Delivery {
+                request,
+                program,
+                ..
+            } => program.wanted(request),
+            Task::Deliveries {
+                request,
+                program,
+                ..
+            } => program.wanted(request),
+        }
     }
 
     /// Carries out one stage of the program: its lock and its change. Where the stage moves the

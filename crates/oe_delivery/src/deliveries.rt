@@ -6,13 +6,15 @@ ghost use Rattle.oe_requests.specs.declared.requests.Request.{Request};
 ghost use Rattle.oe_requests.specs.declared.requests.DeliveriesRequest.{DeliveriesRequest};
 ghost use Rattle.oe_requests.specs.declared.replies.Reply.{Reply};
 ghost use Rattle.oe_model.specs.Positions.{DeliveryQueue};
-ghost use Rattle.oe_model.specs.System.{marks};
+ghost use Rattle.oe_theory.specs.Machine as theory;
+ghost use Rattle.oe_model.specs.Rows.{Rows};
+ghost use Rattle.oe_model.specs.System.{ask, marks};
 ghost use Rattle.oe_engine.specs.View.{IsOpen};
-ghost use Rattle.oe_engine.specs.Programs.{Progresses, reply_at};
+ghost use Rattle.oe_engine.specs.Programs.{Progresses, hold_of, reply_at, wanted};
 ghost use Rattle.oe_delivery.specs.Deliveries.{place_of, next_district, HoldsNames};
 
 use crate::programs::Program;
-use oe_engine::{Engine, Progress, Tx};
+use oe_engine::{Engine, Lock, Progress, Tx};
 use oe_requests::{DeliveriesRequest, DeliveryRequest, DistrictDeliveries, Refusal};
 use oe_rows::DistrictKey;
 use oe_values::DistrictNumber;
@@ -96,6 +98,15 @@ impl Deliveries {
             carrier: request.carrier,
             stamp: request.stamp,
         })
+    }
+
+    /// Gives the lock that the next stage asks for; none where it asks for none.
+    pub fn wanted(&self, request: &DeliveriesRequest) -> Option<Lock>
+        ensures { (x : theory.Tx Request) (r : Rows) → option_map hold_of result
+            ≡ wanted (ask x (place_of request.now self.now) r) }
+    {
+        let district = self.at_hand(request)?;
+        self.program.wanted(&district)
     }
 
     /// Carries out one stage of the district at hand: its lock and its one change. The names that

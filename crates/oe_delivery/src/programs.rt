@@ -1,17 +1,24 @@
 //! The program of a district's delivery: one stage at each call, by its position.
-ghost use Rattle.std.specs.Prelude.{◌≡◌, None};
+ghost use Rattle.std.specs.Prelude.{◌≡◌, None, option_map};
 ghost use Rattle.std.specs.Option.{MatchOption};
+ghost use Rattle.oe_theory.specs.Machine as theory;
+ghost use Rattle.oe_rows.specs.declared.locks.Name.TheVariants as name;
+ghost use Rattle.oe_model.specs.Keys.{customer_in};
+ghost use Rattle.oe_model.specs.Locks.{hold};
+ghost use Rattle.oe_model.specs.Rows.{Rows};
+ghost use Rattle.oe_model.specs.Delivery.{delivery_ask};
 ghost use Rattle.oe_requests.specs.declared.requests.Request.{Request};
 ghost use Rattle.oe_model.specs.Positions.{InDelivery};
 ghost use Rattle.oe_engine.specs.View.{IsOpen};
-ghost use Rattle.oe_engine.specs.Programs.{Progresses, district_reply};
+ghost use Rattle.oe_engine.specs.Programs.{Progresses, district_reply, hold_of, wanted};
 ghost use Rattle.oe_delivery.specs.Program.{position_of, HasLine, HasNoLine};
 ghost use Rattle.oe_delivery.specs.Stages.{Advances, HoldsTaken, Steps};
 
 use crate::remainders::Remainder;
 use crate::stages::{credit_customer, date_line, set_carrier, take_oldest};
-use oe_engine::{Engine, Progress, Tx};
+use oe_engine::{Engine, Lock, Progress, Tx};
 use oe_requests::{DeliveredOrder, DeliveryRequest, DistrictDelivery, Refusal};
+use oe_rows::{DistrictKey, Name};
 use oe_values::{LineNumber, OrderNumber};
 
 /// Where the delivery of a district stands: the stage that it comes to next, with what the stages
@@ -28,6 +35,14 @@ pub enum Program {
     Lines(Remainder),
     /// With the reply.
     End(DeliveredOrder),
+}
+
+/// Gives the lock of the customer whose order is delivered in a district.
+fn customer_lock(district: &DistrictKey, remainder: &Remainder) -> Lock
+    ensures { hold_of result
+        ≡ hold (name.Customer (customer_in district.now remainder.now.customer)) theory.Exclusive }
+{
+    Lock::exclusive(Name::Customer(district.customer(remainder.customer())))
 }
 
 impl Program {
@@ -59,6 +74,23 @@ impl Program {
             Program::Nothing => Some(DistrictDelivery::Skipped),
             Program::End(reply) => Some(DistrictDelivery::Delivered(*reply)),
             _ => None,
+        }
+    }
+
+    /// Gives the lock that the next stage asks for; none where it asks for none.
+    pub fn wanted(&self, request: &DeliveryRequest) -> Option<Lock>
+        ensures { (r : Rows) → option_map hold_of result
+            ≡ wanted (delivery_ask request.now (position_of self.now) r) }
+    {
+        let district = request.district;
+        match self {
+            Program::Queue => Some(Lock::exclusive(Name::Queue(district))),
+            Program::Order(order) => Some(Lock::exclusive(Name::Order(district.order(*order)))),
+            Program::Lines(remainder) => match remainder.next_number() {
+                Some(_) => None,
+                None => Some(customer_lock(&district, remainder)),
+            },
+            Program::Nothing | Program::End(_) => None,
         }
     }
 

@@ -1,9 +1,11 @@
 //! Names and rows of a transaction, one at a time.
-ghost use Rattle.std.specs.Prelude.{◌≡◌, ◌<◌, Option, None, Some, option_map, IfErr, OnOk, OnErr};
+ghost use Rattle.std.specs.Prelude.{◌≡◌, ◌<◌, Option, None, Some, false, option_map, IfErr, OnOk, OnErr};
 ghost use Rattle.oe_theory.specs.Machine.{Take};
 ghost use Rattle.oe_model.specs.Locks.{mode_of, governs};
 ghost use Rattle.oe_model.specs.Rows.{row_at};
 ghost use Rattle.oe_store.specs.Places.{rows};
+ghost use Rattle.oe_rows.specs.declared.locks.Name.{Name};
+ghost use Rattle.oe_locks.specs.Listed.{stands};
 ghost use Rattle.oe_engine.specs.View.{view_of, IsOpen};
 ghost use Rattle.oe_engine.specs.Covered.{IsUnused};
 ghost use Rattle.oe_engine.specs.Writes.{ask_of_write};
@@ -15,6 +17,7 @@ use oe_change::Write;
 use oe_requests::Refusal;
 use oe_rows::{Key, Mode, Name, Row};
 use oe_store::Tables;
+use oe_values::Terminal;
 
 // A name alone.
 #[inline(always)]
@@ -105,6 +108,15 @@ impl Engine {
             return None;
         }
         self.locks.holds(name, tx.terminal())
+    }
+
+    /// Lends a list on which all names stand that a terminal holds.
+    #[tactic(auto, unfolding(crate::specs::View::view_of, crate::specs::View::view_from))]
+    pub fn names(&self, terminal: Terminal) -> &[Name]
+        ensures { (q : Name) → stands result.now q ≡ false
+            → (view_of self.now).held terminal q ≡ None }
+    {
+        self.locks.names(terminal)
     }
 
     /// Gives a copy of the row of a key, if it has one, for an open transaction that holds the

@@ -1,4 +1,6 @@
 //! What a stage of a program asks for, and how a stage ends.
+ghost use Rattle.std.specs.Prelude.{◌≡◌};
+ghost use Rattle.oe_rows.specs.declared.locks.Mode.{Mode};
 
 use oe_requests::Refusal;
 use oe_rows::{Mode, Name};
@@ -8,6 +10,28 @@ use oe_rows::{Mode, Name};
 pub struct Lock {
     pub name: Name,
     pub mode: Mode,
+}
+
+impl Lock {
+    /// Makes a lock of the name alone.
+    pub fn exclusive(name: Name) -> Self
+        ensures { result ≡ record { name = name; mode = Mode.Exclusive } }
+    {
+        Lock {
+            name,
+            mode: Mode::Exclusive,
+        }
+    }
+
+    /// Makes a lock of the name beside others.
+    pub fn shared(name: Name) -> Self
+        ensures { result ≡ record { name = name; mode = Mode.Shared } }
+    {
+        Lock {
+            name,
+            mode: Mode::Shared,
+        }
+    }
 }
 
 /// How one stage of a program ends.

@@ -36,7 +36,7 @@ use Rattle.oe_core.specs.Steps.{step_in, answer_in}
 use Rattle.oe_script.specs.Script as script
 use Rattle.oe_script.specs.Script.{State, moment_in, told, Answers, Asks, LineAnswer, RunOfLines}
 use Rattle.oe_script.proofs.LineFacts.{one_command}
-use Rattle.oe_headline.specs.Deeds.{Deed, No_form, Opening, Dump, Steps, Entry, Takes, Was, Passed}
+use Rattle.oe_headline.specs.Deeds.{Deed, No_form, Opening, Shown, Steps, Entry, Takes, Was, Passed}
 use Rattle.oe_headline.specs.Laws.{IsReachedState, IsConsistentState, IsOfFour, IsAudited, Audits_hold, HasMore}
 use Rattle.oe_headline.specs.Laws.{More_audits_hold}
 use Rattle.oe_headline.proofs.AnswerFacts.{answer_once}
@@ -236,8 +236,8 @@ was_more None line (Opening text) s' l (scale, extents, asks, inl (r, p, e, same
     (opened_reached scale extents r asks.says.form.0 p, population_has_more scale r asks.says.form.0 p)
 was_more None line (Opening text) s' l (scale, extents, asks, inr (e, same)) = subst HasMoreSo (sym same) tt
 was_more (Some w) line (Opening text) s' l (scale, extents, asks, a) = absurd a
-was_more None line (Dump text) s' l (b, asks, a) = absurd a
-was_more (Some w) line (Dump text) s' l (b, asks, (e, same)) = subst HasMoreSo (sym same) l
+was_more None line (Shown text) s' l (b, asks, a) = absurd a
+was_more (Some w) line (Shown text) s' l (b, asks, (e, same)) = subst HasMoreSo (sym same) l
 was_more None line (Steps n i x) s' l h = absurd h
 was_more (Some w) line (Steps n i x) s' l (c, w', asks, e, z, h, same) =
     subst HasMoreSo (sym same) (takes_more n w i x w' l h)

@@ -13,7 +13,7 @@ use Rattle.oe_lines.specs.declared.commands.Command.{Command}
 use Rattle.oe_lines.specs.declared.commands.Command.TheVariants as command
 use Rattle.oe_script.specs.Script as script
 use Rattle.oe_script.specs.Script.{State, told, RunsIn, Answers, Asks, LineAnswer, RunOfLines}
-use Rattle.oe_headline.specs.Deeds.{Deed, No_form, Opening, Dump, Steps, Entry, step_of, IsUpTo, Takes, Was, Passed}
+use Rattle.oe_headline.specs.Deeds.{Deed, No_form, Opening, Shown, Steps, Entry, step_of, IsUpTo, Takes, Was, Passed}
 use Rattle.oe_headline.specs.Deeds.{text_of, lines_of, texts_of}
 use Rattle.oe_headline.specs.Laws.{Lines_are_deeds}
 
@@ -42,7 +42,7 @@ deed_of None line (command.Run t) text s' asks a = absurd a
 deed_of None line (command.Save t) text s' asks a = absurd a
 deed_of None line (command.Back t) text s' asks a = absurd a
 deed_of None line (command.Rollback t) text s' asks a = absurd a
-deed_of None line (command.Dump t) text s' asks a = absurd a
+deed_of None line (command.Show t) text s' asks a = absurd a
 deed_of None line (command.Audit c m) text s' asks a = absurd a
 deed_of None line (command.Read m q) text s' asks a = absurd a
 deed_of None line (command.Purge m) text s' asks a = absurd a
@@ -58,7 +58,7 @@ deed_of (Some w) line (command.Save t) text s' asks a = single w line (command.S
 deed_of (Some w) line (command.Back t) text s' asks a = single w line (command.Back t) _ text s' asks refl (λ x. refl) a
 deed_of (Some w) line (command.Rollback t) text s' asks a = single w line (command.Rollback t) _ text s' asks refl
     (λ x. refl) a
-deed_of (Some w) line (command.Dump t) text s' asks a = (Dump text, (t, asks, a), λ n. refl)
+deed_of (Some w) line (command.Show t) text s' asks a = (Shown text, (t, asks, a), λ n. refl)
 deed_of (Some w) line (command.Audit c m) text s' asks a = single w line (command.Audit c m) _ text s' asks refl
     (λ x. refl) a
 deed_of (Some w) line (command.Read m q) text s' asks a = single w line (command.Read m q) _ text s' asks refl
@@ -120,7 +120,7 @@ answers_of w (command.Run t) i n x w' s e ne h same =
 answers_of w (command.Save t) i n x w' s e z h same = alone w _ i n x w' s e z h same
 answers_of w (command.Back t) i n x w' s e z h same = alone w _ i n x w' s e z h same
 answers_of w (command.Rollback t) i n x w' s e z h same = alone w _ i n x w' s e z h same
-answers_of w (command.Dump b) i n x w' s e z h same = let none : ⊥ = cc in absurd none
+answers_of w (command.Show b) i n x w' s e z h same = let none : ⊥ = cc in absurd none
 answers_of w (command.Audit c m) i n x w' s e z h same = alone w _ i n x w' s e z h same
 answers_of w (command.Read m q) i n x w' s e z h same = alone w _ i n x w' s e z h same
 answers_of w (command.Purge m) i n x w' s e z h same = alone w _ i n x w' s e z h same
@@ -130,7 +130,7 @@ pub line_back : (s : State) (n : ℕ) (line : List ℕ) (d : Deed) (s' : State) 
     → LineAnswer s n line (text_of n d) s'
 line_back s n line No_form s' (bad, same) = inr (bad, refl, same)
 line_back s n line (Opening text) s' (scale, extents, asks, a) = inl (command.Open scale extents, asks, a)
-line_back s n line (Dump text) s' (b, asks, a) = inl (command.Dump b, asks, a)
+line_back s n line (Shown text) s' (b, asks, a) = inl (command.Show b, asks, a)
 line_back None n line (Steps k i x) s' h = absurd h
 line_back (Some w) n line (Steps k i x) s' (c, w', asks, e, z, h, same) =
     inl (c, asks, answers_of w c i k x w' s' e z h same)

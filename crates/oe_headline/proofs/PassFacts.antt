@@ -22,7 +22,7 @@ use Rattle.oe_core.specs.Steps.{step_in, answer_in}
 use Rattle.oe_runs.specs.Run.{Served, Ran}
 use Rattle.oe_runs.proofs.RunFacts.{ran_so}
 use Rattle.oe_script.specs.Script.{State, RunOfLines}
-use Rattle.oe_headline.specs.Deeds.{Deed, No_form, Opening, Dump, Steps, Entry, Takes, Was, Passed, repeated}
+use Rattle.oe_headline.specs.Deeds.{Deed, No_form, Opening, Shown, Steps, Entry, Takes, Was, Passed, repeated}
 use Rattle.oe_headline.specs.Deeds.{steps_in_deed, answers_in_deed, steps_of, answers_of}
 use Rattle.oe_headline.specs.Laws.{IsReachedState, Worlds_are_reached, IsOneRun, Scripts_are_runs}
 use Rattle.oe_headline.proofs.DeedFacts.{lines_are_deeds}
@@ -63,8 +63,8 @@ was_reached None line (Opening text) s' l (scale, extents, asks, inl (r, p, e, s
     subst IsReachedState (sym same) (opened_reached scale extents r asks.says.form.0 p)
 was_reached None line (Opening text) s' l (scale, extents, asks, inr (e, same)) = subst IsReachedState (sym same) tt
 was_reached (Some w) line (Opening text) s' l (scale, extents, asks, a) = absurd a
-was_reached None line (Dump text) s' l (b, asks, a) = absurd a
-was_reached (Some w) line (Dump text) s' l (b, asks, (e, same)) = subst IsReachedState (sym same) l
+was_reached None line (Shown text) s' l (b, asks, a) = absurd a
+was_reached (Some w) line (Shown text) s' l (b, asks, (e, same)) = subst IsReachedState (sym same) l
 was_reached None line (Steps n i x) s' l h = absurd h
 was_reached (Some w) line (Steps n i x) s' l (c, w', asks, e, z, h, same) =
     subst IsReachedState (sym same) (takes_reached n w i x w' l h)
@@ -152,7 +152,7 @@ served w (Some u) (e ∷ es) s z (mid, was, rest) = go e.deed was (λ v same. se
         → IsServed w (steps_in_deed d ++ steps_of es) (answers_in_deed d ++ answers_of es) s
     go No_form (bad, same) more = more w (same ∙ z)
     go (Opening text) (scale, extents, asks, a) more = absurd a
-    go (Dump text) (b, asks, (e, same)) more = more w (same ∙ z)
+    go (Shown text) (b, asks, (e, same)) more = more w (same ∙ z)
     go (Steps n i x) (c, w', asks, e, k, h, same) more =
         let here : u ≡ w = some_inj u w z in
         served_from w w' _ _ mid es s same
@@ -215,7 +215,7 @@ from_start (e ∷ es) w (mid, was, rest) = go e.deed was
     go (Opening text) (scale, extents, asks, inl (rows, populated, t, same)) f =
         opened_here e es mid w scale extents rows asks.says populated same rest
     go (Opening text) (scale, extents, asks, inr (t, same)) f = f same
-    go (Dump text) (b, asks, a) f = absurd a
+    go (Shown text) (b, asks, a) f = absurd a
     go (Steps n i x) h f = absurd h
 
 pub scripts_are_runs : Scripts_are_runs

@@ -20,12 +20,11 @@ use Rattle.oe_requests.specs.declared.steps.Step.{Step}
 use Rattle.oe_texts.specs.Answer.{answer_line}
 use Rattle.oe_lines.specs.declared.commands.Command.{Command}
 use Rattle.oe_lines.specs.declared.commands.Command.TheVariants as command
-use Rattle.oe_rows.specs.declared.keys.Table.{Table}
+use Rattle.oe_lines.specs.declared.commands.Display.{Display}
 use Rattle.oe_core.specs.Steps.{step_in, answer_in}
-use Rattle.oe_ports.specs.Dump.{dump_text}
-use Rattle.oe_script.specs.Script.{State, Opens, Answers, IsInLine, ended, last_text, Output}
+use Rattle.oe_script.specs.Script.{State, shown_text, Opens, Answers, IsInLine, ended, last_text, Output}
 use Rattle.oe_script.proofs.LineFacts.{one_command}
-use Rattle.oe_headline.specs.Deeds.{Deed, No_form, Opening, Dump, Steps, Entry, step_of, IsUpTo, Takes, Was, Passed}
+use Rattle.oe_headline.specs.Deeds.{Deed, No_form, Opening, Shown, Steps, Entry, step_of, IsUpTo, Takes, Was, Passed}
 use Rattle.oe_headline.specs.Deeds.{lines_of, texts_of}
 use Rattle.oe_headline.specs.Laws.{HasMemory, HaveMemory, IsOutputOf, Answers_are_determined}
 use Rattle.oe_headline.proofs.AnswerFacts.{answer_once}
@@ -75,7 +74,7 @@ up_to (command.Run t) n m x y p q = inr (p, q)
 up_to (command.Save t) n m x y p q = inl (p, q)
 up_to (command.Back t) n m x y p q = inl (p, q)
 up_to (command.Rollback t) n m x y p q = inl (p, q)
-up_to (command.Dump b) n m x y p q = inl (p, q)
+up_to (command.Show b) n m x y p q = inl (p, q)
 up_to (command.Audit c k) n m x y p q = inl (p, q)
 up_to (command.Read k r) n m x y p q = inl (p, q)
 up_to (command.Purge k) n m x y p q = inl (p, q)
@@ -112,7 +111,7 @@ was_once : (s : State) (line : List ℕ) (d f : Deed) (s₁ s₂ : State) → Wa
 was_once s line No_form No_form s₁ s₂ (bad, e) (bad', e') p q = (refl, e ∙ sym e')
 was_once s line No_form (Opening t) s₁ s₂ (bad, e) (scale, extents, asks, a) p q =
     absurd (bad (command.Open scale extents) asks)
-was_once s line No_form (Dump t) s₁ s₂ (bad, e) (b, asks, a) p q = absurd (bad (command.Dump b) asks)
+was_once s line No_form (Shown t) s₁ s₂ (bad, e) (b, asks, a) p q = absurd (bad (command.Show b) asks)
 was_once None line No_form (Steps n i x) s₁ s₂ (bad, e) h p q = absurd h
 was_once (Some w) line No_form (Steps n i x) s₁ s₂ (bad, e) (c, v, asks, is, up, h, same) p q = absurd (bad c asks)
 was_once s line (Opening t) No_form s₁ s₂ (scale, extents, asks, a) (bad, e) p q =
@@ -121,28 +120,28 @@ was_once None line (Opening t) (Opening t') s₁ s₂ (scale, extents, asks, a) 
     let one : command.Open scale' extents' ≡ command.Open scale extents = one_command line _ _ asks'.says asks.says in
     opens_once scale extents t t' s₁ s₂ a (subst (λ (c : Command). Answers None c t' s₂) one a') p q
 was_once (Some w) line (Opening t) (Opening t') s₁ s₂ (scale, extents, asks, a) h p q = absurd a
-was_once None line (Opening t) (Dump t') s₁ s₂ h (b, asks, a) p q = absurd a
-was_once (Some w) line (Opening t) (Dump t') s₁ s₂ (scale, extents, asks, a) h p q = absurd a
+was_once None line (Opening t) (Shown t') s₁ s₂ h (b, asks, a) p q = absurd a
+was_once (Some w) line (Opening t) (Shown t') s₁ s₂ (scale, extents, asks, a) h p q = absurd a
 was_once None line (Opening t) (Steps n i x) s₁ s₂ h k p q = absurd k
 was_once (Some w) line (Opening t) (Steps n i x) s₁ s₂ (scale, extents, asks, a) k p q = absurd a
-was_once s line (Dump t) No_form s₁ s₂ (b, asks, a) (bad, e) p q = absurd (bad (command.Dump b) asks)
-was_once None line (Dump t) (Opening t') s₁ s₂ (b, asks, a) h p q = absurd a
-was_once (Some w) line (Dump t) (Opening t') s₁ s₂ h (scale, extents, asks, a) p q = absurd a
-was_once None line (Dump t) (Dump t') s₁ s₂ (b, asks, a) h p q = absurd a
-was_once (Some w) line (Dump t) (Dump t') s₁ s₂ (b, asks, (e, same)) (b', asks', (e', same')) p q =
-    let one : command.Dump b ≡ command.Dump b' = one_command line _ _ asks.says asks'.says in
+was_once s line (Shown t) No_form s₁ s₂ (b, asks, a) (bad, e) p q = absurd (bad (command.Show b) asks)
+was_once None line (Shown t) (Opening t') s₁ s₂ (b, asks, a) h p q = absurd a
+was_once (Some w) line (Shown t) (Opening t') s₁ s₂ h (scale, extents, asks, a) p q = absurd a
+was_once None line (Shown t) (Shown t') s₁ s₂ (b, asks, a) h p q = absurd a
+was_once (Some w) line (Shown t) (Shown t') s₁ s₂ (b, asks, (e, same)) (b', asks', (e', same')) p q =
+    let one : command.Show b ≡ command.Show b' = one_command line _ _ asks.says asks'.says in
     let table : b ≡ b' = cc in
-    (ap Dump (e ∙ (ap (λ (z : Table). dump_text z (tables system w)) table ∙ sym e')), same ∙ sym same')
-was_once None line (Dump t) (Steps n i x) s₁ s₂ h k p q = absurd k
-was_once (Some w) line (Dump t) (Steps n i x) s₁ s₂ (b, asks, a) (c, v, other, e, up, h, same) p q =
-    let one : c ≡ command.Dump b = one_command line _ _ other.says asks.says in
+    (ap Shown (e ∙ (ap (λ (z : Display). shown_text z w) table ∙ sym e')), same ∙ sym same')
+was_once None line (Shown t) (Steps n i x) s₁ s₂ h k p q = absurd k
+was_once (Some w) line (Shown t) (Steps n i x) s₁ s₂ (b, asks, a) (c, v, other, e, up, h, same) p q =
+    let one : c ≡ command.Show b = one_command line _ _ other.says asks.says in
     let none : ◌≡◌ {A = Option Step} None (Some i) = ap (step_of w) (sym one) ∙ e in
     cc
 was_once None line (Steps n i x) f s₁ s₂ h k p q = absurd h
 was_once (Some w) line (Steps n i x) No_form s₁ s₂ (c, v, asks, is, up, h, same) (bad, e) p q = absurd (bad c asks)
 was_once (Some w) line (Steps n i x) (Opening t) s₁ s₂ h (scale, extents, asks, a) p q = absurd a
-was_once (Some w) line (Steps n i x) (Dump t) s₁ s₂ (c, v, other, e, up, h, same) (b, asks, a) p q =
-    let one : c ≡ command.Dump b = one_command line _ _ other.says asks.says in
+was_once (Some w) line (Steps n i x) (Shown t) s₁ s₂ (c, v, other, e, up, h, same) (b, asks, a) p q =
+    let one : c ≡ command.Show b = one_command line _ _ other.says asks.says in
     let none : ◌≡◌ {A = Option Step} None (Some i) = ap (step_of w) (sym one) ∙ e in
     cc
 was_once (Some w) line (Steps n i x) (Steps m j y) s₁ s₂ h k p q = steps_once w line n m i j x y s₁ s₂ h k p q

@@ -27,10 +27,9 @@ use Rattle.oe_lines.specs.declared.commands.Command.TheVariants as command
 use Rattle.oe_lines.specs.declared.commands.MomentChoice.{MomentChoice}
 use Rattle.oe_lines.specs.declared.commands.MomentChoice.TheVariants as moment
 use Rattle.oe_core.specs.Steps.{step_in, answer_in}
-use Rattle.oe_ports.specs.Dump.{dump_text}
-use Rattle.oe_script.specs.Script.{State, moment_in, IsAllowed, Asks, IsInLine}
+use Rattle.oe_script.specs.Script.{State, moment_in, shown_text, IsAllowed, Asks, IsInLine}
 use Rattle.oe_headline.specs.Beside.{gives_way, without_open}
-use Rattle.oe_headline.specs.Deeds.{Deed, No_form, Opening, Dump, Steps, Entry, step_of, IsUpTo, Takes, Stepped, Was}
+use Rattle.oe_headline.specs.Deeds.{Deed, No_form, Opening, Shown, Steps, Entry, step_of, IsUpTo, Takes, Stepped, Was}
 use Rattle.oe_headline.specs.Deeds.{Passed, lines_of, texts_of}
 use Rattle.oe_headline.specs.Without.{is_own, gave_way, is_rolled_back, next_line, nexts, before_last, Without, ends}
 use Rattle.oe_headline.specs.Without.{was_own, went_away, shows, stays}
@@ -93,7 +92,7 @@ allowed_any w v (command.Run t) h = h
 allowed_any w v (command.Save t) h = h
 allowed_any w v (command.Back t) h = h
 allowed_any w v (command.Rollback t) h = h
-allowed_any w v (command.Dump b) h = h
+allowed_any w v (command.Show b) h = h
 allowed_any w v (command.Audit c m) h = h
 allowed_any w v (command.Read m q) h = h
 allowed_any w v (command.Purge m) h = h
@@ -114,7 +113,7 @@ same_step w t (command.Run u) = refl
 same_step w t (command.Save u) = refl
 same_step w t (command.Back u) = refl
 same_step w t (command.Rollback u) = refl
-same_step w t (command.Dump b) = refl
+same_step w t (command.Show b) = refl
 same_step w t (command.Audit c m) = ap (λ (k : ℕ). Some (step.Audit c k)) (same_moment w t m)
 same_step w t (command.Read m q) = ap (λ (k : ℕ). Some (step.Read k q)) (same_moment w t m)
 same_step w t (command.Purge m) = ap (λ (k : ℕ). Some (step.Purge k)) (same_moment w t m)
@@ -234,7 +233,7 @@ done_before u (command.Run t) line n i x w v a e z k =
 done_before u (command.Save t) line n i x w v a e z k = nothing_before n w v i x z k
 done_before u (command.Back t) line n i x w v a e z k = nothing_before n w v i x z k
 done_before u (command.Rollback t) line n i x w v a e z k = nothing_before n w v i x z k
-done_before u (command.Dump b) line n i x w v a e z k = let none : ⊥ = cc in absurd none
+done_before u (command.Show b) line n i x w v a e z k = let none : ⊥ = cc in absurd none
 done_before u (command.Audit c m) line n i x w v a e z k = nothing_before n w v i x z k
 done_before u (command.Read m q) line n i x w v a e z k = nothing_before n w v i x z k
 done_before u (command.Purge m) line n i x w v a e z k = nothing_before n w v i x z k
@@ -277,17 +276,17 @@ module _ (t : ℕ) (w : World system) (o : Open system) (r : IsReached system w)
   bad_here bad same h = kept No_form refl refl w (λ c a. bad c (asks_any (without_open system t w) w line c a), refl)
       (more w o same r l h)
 
-  -- a dump
-  shown_here : (text : List ℕ) → Was (Some w) line (Dump text) mid → is_rolled_back t es ≡ true
-      → IsLeft t w (record { line = line; deed = Dump text } ∷ es) s
+  -- a line that shows something
+  shown_here : (text : List ℕ) → Was (Some w) line (Shown text) mid → is_rolled_back t es ≡ true
+      → IsLeft t w (record { line = line; deed = Shown text } ∷ es) s
   shown_here text (b, asks, (e, same)) h =
       let (left, gone, passed, each) = more w o same r l h in
-      let other = dump_text b (tables system (without_open system t w)) in (
-        record { line = line; deed = Dump other } ∷ left,
+      let other = shown_text b (without_open system t w) in (
+        record { line = line; deed = Shown other } ∷ left,
         shows line text other es left gone,
         (
           Some (without_open system t w),
-          (b, asks_any w (without_open system t w) line (command.Dump b) asks, (refl, refl)),
+          (b, asks_any w (without_open system t w) line (command.Show b) asks, (refl, refl)),
           passed,
         ),
         λ h. All-cons IsInLine line (lines_of left) (All-head IsInLine line (lines_of es) h)
@@ -370,7 +369,7 @@ module _ (t : ℕ) (w : World system) (o : Open system) (r : IsReached system w)
       → IsLeft t w (record { line = line; deed = d } ∷ es) s
   line_here No_form (bad, same) h = bad_here bad same h
   line_here (Opening text) (scale, extents, asks, a) h = absurd a
-  line_here (Dump text) was h = shown_here text was h
+  line_here (Shown text) was h = shown_here text was h
   line_here (Steps n i x) (c, w', asks, e, up, takes, same) h = step_here n i x c w' asks e up takes same
       (is_of system t (step_in i)) refl h
 

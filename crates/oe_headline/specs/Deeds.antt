@@ -2,7 +2,6 @@
 use Rattle.std.specs.Prelude.{◌≡◌, ◌≢◌, ℕ, zero, suc, ◌+◌, List, [], ◌∷◌, ◌++◌, Option, Some, None}
 use Rattle.oe_theory.specs.World.{World}
 use Rattle.oe_theory.specs.Next.{Next}
-use Rattle.oe_rows.specs.declared.keys.Table.{Table}
 use Rattle.oe_rows.specs.declared.scales.Scale.{Scale}
 use Rattle.oe_model.specs.System.{system}
 use Rattle.oe_requests.specs.declared.answers.Answer.{Answer}
@@ -11,16 +10,17 @@ use Rattle.oe_requests.specs.declared.steps.Step.{Step}
 use Rattle.oe_requests.specs.declared.steps.Step.TheVariants as step
 use Rattle.oe_lines.specs.declared.commands.Command.{Command}
 use Rattle.oe_lines.specs.declared.commands.Command.TheVariants as command
+use Rattle.oe_lines.specs.declared.commands.Display.{Display}
 use Rattle.oe_core.specs.Steps.{step_in, answer_in}
 use Rattle.oe_ports.specs.Lines.{bad_line}
 use Rattle.oe_script.specs.Script.{State, moment_in, told, Answers, Asks}
 
--- what a line was: none of the forms; an opening or a dump, with its text; or a step with its answer, before which so
--- many times the same step was answered `more`, as a `run` has it
+-- what a line was: none of the forms; an opening, or what it showed, with its text; or n times a step that was answered
+-- `more`, as a `run` has it, and then that step with this answer
 pub data Deed : Type 0 where
   No_form : Deed
   Opening : List ℕ → Deed
-  Dump : List ℕ → Deed
+  Shown : List ℕ → Deed
   Steps : ℕ → Step → Answer → Deed
 
 -- a line, without its end, and what it was
@@ -28,7 +28,7 @@ pub record Entry : Type 0 where
   pub line : List ℕ
   pub deed : Deed
 
--- the step that a command asks for; an opening and a dump are none
+-- the step that a command asks for; an opening and what is only shown are none
 abbrev pub step_of : World system → Command → Option Step
 step_of w (command.Open scale extents) = None
 step_of w (command.Begin t q) = Some (step.Begin t q)
@@ -37,7 +37,7 @@ step_of w (command.Run t) = Some (step.Advance t)
 step_of w (command.Save t) = Some (step.Save t)
 step_of w (command.Back t) = Some (step.Back t)
 step_of w (command.Rollback t) = Some (step.Rollback t)
-step_of w (command.Dump b) = None
+step_of w (command.Show b) = None
 step_of w (command.Audit c m) = Some (step.Audit c (moment_in w m))
 step_of w (command.Read m q) = Some (step.Read (moment_in w m) q)
 step_of w (command.Purge m) = Some (step.Purge (moment_in w m))
@@ -66,7 +66,7 @@ abbrev pub Was : State → List ℕ → Deed → State → Type 0
 Was s line No_form s' = ((c : Command) → Asks s line c → ⊥) × (s' ≡ s)
 Was s line (Opening text) s' = (scale : Scale) × (extents : ℕ) × Asks s line (command.Open scale extents)
     × Answers s (command.Open scale extents) text s'
-Was s line (Dump text) s' = (b : Table) × Asks s line (command.Dump b) × Answers s (command.Dump b) text s'
+Was s line (Shown text) s' = (b : Display) × Asks s line (command.Show b) × Answers s (command.Show b) text s'
 Was s line (Steps n i x) s' = Stepped s line n i x s'
 
 -- lines one after another
@@ -78,7 +78,7 @@ Passed s (e ∷ es) s' = (mid : State) × Was s e.line e.deed mid × Passed mid 
 abbrev pub text_of : ℕ → Deed → List ℕ
 text_of n No_form = bad_line n
 text_of n (Opening text) = text
-text_of n (Dump text) = text
+text_of n (Shown text) = text
 text_of n (Steps k i x) = told i x
 
 -- the lines, and their answers where n lines came before
@@ -98,13 +98,13 @@ repeated (suc n) x last = x ∷ repeated n x last
 abbrev pub steps_in_deed : Deed → List Step
 steps_in_deed No_form = []
 steps_in_deed (Opening text) = []
-steps_in_deed (Dump text) = []
+steps_in_deed (Shown text) = []
 steps_in_deed (Steps n i x) = repeated n i i
 
 abbrev pub answers_in_deed : Deed → List Answer
 answers_in_deed No_form = []
 answers_in_deed (Opening text) = []
-answers_in_deed (Dump text) = []
+answers_in_deed (Shown text) = []
 answers_in_deed (Steps n i x) = repeated n answer.More x
 
 abbrev pub steps_of : List Entry → List Step

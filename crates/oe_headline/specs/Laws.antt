@@ -35,7 +35,7 @@ use Rattle.oe_script.specs.declared.session.Fault.TheVariants as fault
 use Rattle.oe_ports.specs.Ports.{Source, Sink}
 use Rattle.oe_script.specs.Session.{ScriptRan}
 use Rattle.oe_script.specs.Script.{State, moment_in, Asks, LineAnswer, RunOfLines, ended, last_text, Output}
-use Rattle.oe_headline.specs.Deeds.{Deed, No_form, Opening, Dump, Steps, Entry, Passed, lines_of, texts_of, steps_of}
+use Rattle.oe_headline.specs.Deeds.{Deed, No_form, Opening, Shown, Steps, Entry, Passed, lines_of, texts_of, steps_of}
 use Rattle.oe_headline.specs.Deeds.{answers_of}
 use Rattle.oe_headline.specs.Without.{is_rolled_back, Without}
 use Rattle.oe_headline.specs.Moments.{IsVersion, AreUnpurged, IsRewound, IsRewoundTo}
@@ -239,7 +239,7 @@ Outputs_without_rollback =
 abbrev pub HasMemory : Deed → Type 0
 HasMemory No_form = Unit {0}
 HasMemory (Opening text) = text ≢ answer_line (answer.Refused refusal.NoMemory)
-HasMemory (Dump text) = Unit {0}
+HasMemory (Shown text) = Unit {0}
 HasMemory (Steps n i x) = x ≢ answer.Refused refusal.NoMemory
 
 -- no line was

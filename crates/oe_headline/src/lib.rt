@@ -6,8 +6,8 @@ ghost use Rattle.oe_headline.specs.Beside.{Others_see_nothing};
 ghost use Rattle.oe_headline.specs.Laws.{Lines_are_deeds, Worlds_are_reached, Audits_hold, More_audits_hold, Reads_are_of_moments, Scripts_are_runs, Lines_without_rollback, Outputs_without_rollback, Answers_are_determined, Rewinds_restore, Faults_cut_outputs};
 ghost use Rattle.oe_model.specs.System.{system};
 
-/// Of each line that is answered it is known what it was: none of the forms, an opening, a dump, or
-/// steps of the machine with their answers.
+/// Of each line that is answered it is known what it was: none of the forms, an opening, one that
+/// shows a table or who waits for whom, or steps of the machine with their answers.
 pub fn lines_are_deeds()
     ensures { Lines_are_deeds }
 {}

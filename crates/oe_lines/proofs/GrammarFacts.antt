@@ -32,6 +32,7 @@ use Rattle.oe_requests.specs.declared.audits.Condition.TheVariants as condition
 use Rattle.oe_texts.specs.Stamp.{stamp_text}
 use Rattle.oe_lines.specs.declared.commands.Command.{Command}
 use Rattle.oe_lines.specs.declared.commands.Command.TheVariants as command
+use Rattle.oe_lines.specs.declared.commands.Display.TheVariants as display
 use Rattle.oe_lines.specs.declared.commands.MomentChoice.{MomentChoice}
 use Rattle.oe_lines.specs.declared.commands.MomentChoice.TheVariants as moment
 use Rattle.oe_rows.specs.declared.scales.Scale.{Scale}
@@ -45,7 +46,7 @@ use Rattle.oe_lines.specs.Reading.{condition_of, audit_of, opening_of, district_
 use Rattle.oe_lines.specs.Reading.{status_of, level_of, query_of, reading_of, payment_of, line_of, line_and}
 use Rattle.oe_lines.specs.Reading.{lines_within, lines_of, new_order_of, delivery_of, deliveries_of, all_or_one}
 use Rattle.oe_lines.specs.Reading.{request_of, beginning_of, terminal_of, rare_command_of, command_of, run_of}
-use Rattle.oe_lines.specs.Reading.{begun_payment_of}
+use Rattle.oe_lines.specs.Reading.{begun_payment_of, at_end}
 use Rattle.oe_lines.specs.Words.{is_word, within, number_of, number_then, number_before, last_number, amount_before}
 use Rattle.oe_lines.specs.Words.{stamp_of, stamp_before, last_name_of, name_before}
 use Rattle.oe_lines.proofs.StampFacts.{stamp_found, stamp_only, stamp_of-longer, stamp_before_found, stamp_before_only}
@@ -796,12 +797,18 @@ terminal_found made word line rest c e says f =
     let g = last_found 1 64 rest t.0 t.1 in
     says_at line _ c (made t.0) (e ∙ ap (λ z. word ++ 32 ∷ z) g.0) t.2 (says t.0 (g.1, g.2))
 
-dumped_found : (s : List ℕ) (c : Command) → option_map (λ t. command.Dump t) (table_of s) ≡ Some c
+dumped_found : (s : List ℕ) (c : Command) → option_map (λ t. command.Show (display.Rows t)) (table_of s) ≡ Some c
     → Says (codes "dump" ++ 32 ∷ s) c
 dumped_found s c e =
-    let t = map_some (λ t. command.Dump t) (table_of s) c e in
-    says_at _ _ c (command.Dump t.0) (ap (λ z. codes "dump" ++ 32 ∷ z) (table_found s t.0 t.1)) t.2
+    let t = map_some (λ t. command.Show (display.Rows t)) (table_of s) c e in
+    says_at _ _ c (command.Show (display.Rows t.0)) (ap (λ z. codes "dump" ++ 32 ∷ z) (table_found s t.0 t.1)) t.2
     (record { form = tt; spelled = refl })
+
+waits_found : (s : List ℕ) (c : Command) → at_end (command.Show display.Waits) s ≡ Some c → Says (codes "waits" ++ s) c
+unfolding at_end
+waits_found [] c e = says_at _ _ c (command.Show display.Waits) refl (some_same _ c e)
+    (record { form = tt; spelled = refl })
+waits_found (b ∷ bs) c e = let none : ⊥ = cc in absurd none
 
 rare_found : (s : List ℕ) (c : Command) → rare_command_of s ≡ Some c → Says s c
 unfolding rare_command_of
@@ -822,15 +829,18 @@ rare_found s c e = elim (begun_some (after_of (codes "save ") s) _ _ c e) [
             | inl h ↦ rw (after_found (codes "audit ") s h.0 h.1) (audit_found h.0 c h.2)
             | inr e ↦ elim (begun_some (after_of (codes "read ") s) _ _ c e) [
               | inl h ↦ rw (after_found (codes "read ") s h.0 h.1) (reading_found h.0 c h.2)
-              | inr e ↦ elim (begun_some (after_of (codes "purge ") s) _ _ c e) [
-                | inl h ↦ rw (after_found (codes "purge ") s h.0 h.1)
-                    (of_moment_found (λ m. command.Purge m) (codes "purge") h.0 c
-                    (λ m r. record { form = r; spelled = refl }) h.2)
-                | inr e ↦ elim (begun_some (after_of (codes "rewind ") s) _ None c e) [
-                  | inl h ↦ rw (after_found (codes "rewind ") s h.0 h.1)
-                      (of_moment_found (λ m. command.Rewind m) (codes "rewind") h.0 c
+              | inr e ↦ elim (begun_some (after_of (codes "waits") s) _ _ c e) [
+                | inl h ↦ rw (after_found (codes "waits") s h.0 h.1) (waits_found h.0 c h.2)
+                | inr e ↦ elim (begun_some (after_of (codes "purge ") s) _ _ c e) [
+                  | inl h ↦ rw (after_found (codes "purge ") s h.0 h.1)
+                      (of_moment_found (λ m. command.Purge m) (codes "purge") h.0 c
                       (λ m r. record { form = r; spelled = refl }) h.2)
-                  | inr e ↦ cc
+                  | inr e ↦ elim (begun_some (after_of (codes "rewind ") s) _ None c e) [
+                    | inl h ↦ rw (after_found (codes "rewind ") s h.0 h.1)
+                        (of_moment_found (λ m. command.Rewind m) (codes "rewind") h.0 c
+                        (λ m r. record { form = r; spelled = refl }) h.2)
+                    | inr e ↦ cc
+                  ]
                 ]
               ]
             ]
@@ -870,7 +880,7 @@ unfolding command_of rare_command_of
 read_only m q h k = ap command_of (read_words m q) ∙ rw (reading_only m q h k) refl
 
 spelled : (c : Command) → HasForm c → command_of (join_with_byte 32 (words_of c)) ≡ Some c
-unfolding command_of rare_command_of
+unfolding command_of rare_command_of at_end
 spelled (command.Open s x) h = opening_only s x h.0 h.1
 spelled (command.Begin t r) h = begin_only t r h.0 h.1
 spelled (command.Next t) h = rw (terminal t h) refl
@@ -878,7 +888,8 @@ spelled (command.Run t) h = rw (terminal t h) refl
 spelled (command.Save t) h = rw (terminal t h) refl
 spelled (command.Back t) h = rw (terminal t h) refl
 spelled (command.Rollback t) h = rw (terminal t h) refl
-spelled (command.Dump t) h = rw (table_only t) refl
+spelled (command.Show (display.Rows t)) h = rw (table_only t) refl
+spelled (command.Show display.Waits) h = refl
 spelled (command.Audit c m) h = audit_only c m h
 spelled (command.Read m q) h = read_only m q h.0 h.1
 spelled (command.Purge m) h = rw (moment_only m h) refl

@@ -20,6 +20,8 @@ use Rattle.oe_model.specs.Population.{IsScale}
 use Rattle.oe_model.specs.Requests as model
 use Rattle.oe_lines.specs.declared.commands.Command.{Command}
 use Rattle.oe_lines.specs.declared.commands.Command.TheVariants as command
+use Rattle.oe_lines.specs.declared.commands.Display.{Display}
+use Rattle.oe_lines.specs.declared.commands.Display.TheVariants as display
 use Rattle.oe_lines.specs.declared.commands.MomentChoice.{MomentChoice}
 use Rattle.oe_lines.specs.declared.commands.MomentChoice.TheVariants as moment
 
@@ -59,6 +61,11 @@ query_words (query.Status q) =
 query_words (query.Level q) =
     codes "level" ∷ decimal q.district.warehouse ∷ decimal q.district.district ∷ decimal q.threshold ∷ []
 
+-- the words that ask for something to be shown
+abbrev pub display_words : Display → List (List ℕ)
+display_words (display.Rows table) = codes "dump" ∷ table_name table ∷ []
+display_words display.Waits = codes "waits" ∷ []
+
 -- the words of a command
 abbrev pub words_of : Command → List (List ℕ)
 words_of (command.Open s extents) =
@@ -69,7 +76,7 @@ words_of (command.Run terminal) = codes "run" ∷ decimal terminal ∷ []
 words_of (command.Save terminal) = codes "save" ∷ decimal terminal ∷ []
 words_of (command.Back terminal) = codes "back" ∷ decimal terminal ∷ []
 words_of (command.Rollback terminal) = codes "rollback" ∷ decimal terminal ∷ []
-words_of (command.Dump table) = codes "dump" ∷ table_name table ∷ []
+words_of (command.Show d) = display_words d
 words_of (command.Audit c m) = codes "audit" ∷ decimal (condition_number c) ∷ moment_word m ∷ []
 words_of (command.Read m q) = codes "read" ∷ moment_word m ∷ query_words q
 words_of (command.Purge m) = codes "purge" ∷ moment_word m ∷ []
@@ -101,7 +108,7 @@ HasForm (command.Run terminal) = IsInRange 1 TERMINALS terminal
 HasForm (command.Save terminal) = IsInRange 1 TERMINALS terminal
 HasForm (command.Back terminal) = IsInRange 1 TERMINALS terminal
 HasForm (command.Rollback terminal) = IsInRange 1 TERMINALS terminal
-HasForm (command.Dump table) = Unit {0}
+HasForm (command.Show d) = Unit {0}
 HasForm (command.Audit c m) = IsMoment m
 HasForm (command.Read m q) = IsMoment m × IsQuery q
 HasForm (command.Purge m) = IsMoment m

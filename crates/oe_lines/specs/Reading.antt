@@ -22,6 +22,7 @@ use Rattle.oe_requests.specs.declared.audits.Condition.{Condition}
 use Rattle.oe_requests.specs.declared.audits.Condition.TheVariants as condition
 use Rattle.oe_lines.specs.declared.commands.Command.{Command}
 use Rattle.oe_lines.specs.declared.commands.Command.TheVariants as command
+use Rattle.oe_lines.specs.declared.commands.Display.TheVariants as display
 use Rattle.oe_lines.specs.declared.commands.MomentChoice.{MomentChoice}
 use Rattle.oe_lines.specs.declared.commands.MomentChoice.TheVariants as moment
 use Rattle.oe_values.specs.Front.{◌>>=◌, after_of, decimal_of, alone}
@@ -227,6 +228,11 @@ beginning_of s = do
   r ← request_of t.1
   Some (command.Begin t.0 r)
 
+-- a command whose words end the line
+unfoldable pub at_end : Command → List ℕ → Option Command
+at_end c [] = Some c
+at_end c (b ∷ bs) = None
+
 -- a command whose one word is a terminal
 abbrev pub terminal_of : (ℕ → Command) → List ℕ → Option Command
 terminal_of made s = option_map made (last_number 1 TERMINALS s)
@@ -237,12 +243,13 @@ rare_command_of line =
     (begun (after_of (codes "back ") line) (terminal_of (λ t. command.Back t))
     (begun (after_of (codes "rollback ") line) (terminal_of (λ t. command.Rollback t))
     (begun (after_of (codes "open ") line) opening_of
-    (begun (after_of (codes "dump ") line) (λ r. option_map (λ t. command.Dump t) (table_of r))
+    (begun (after_of (codes "dump ") line) (λ r. option_map (λ t. command.Show (display.Rows t)) (table_of r))
     (begun (after_of (codes "audit ") line) audit_of
     (begun (after_of (codes "read ") line) reading_of
+    (begun (after_of (codes "waits") line) (at_end (command.Show display.Waits))
     (begun (after_of (codes "purge ") line) (λ r. option_map (λ m. command.Purge m) (moment_of r))
     (begun (after_of (codes "rewind ") line) (λ r. option_map (λ m. command.Rewind m) (moment_of r))
-    None))))))))
+    None)))))))))
 
 unfoldable pub command_of : List ℕ → Option Command
 command_of line =

@@ -14,6 +14,15 @@ pub enum MomentChoice {
     At(Moment),
 }
 
+/// What a line asks to be shown.
+#[derive(Clone, Copy)]
+pub enum Display {
+    /// A table's rows.
+    Rows(Table),
+    /// Who waits for whom.
+    Waits,
+}
+
 /// What a line asks for.
 #[derive(Drop)]
 pub enum Command {
@@ -32,8 +41,8 @@ pub enum Command {
     Back(Terminal),
     /// The terminal's transaction is rolled back.
     Rollback(Terminal),
-    /// Shows a table's rows.
-    Dump(Table),
+    /// Shows something as it stands, open work included.
+    Show(Display),
     /// Audits a consistency condition.
     Audit(Condition, MomentChoice),
     /// Answers a query.

@@ -6,5 +6,5 @@ pub mod commands;
 pub mod reading;
 mod words;
 
-pub use commands::{Command, MomentChoice};
+pub use commands::{Command, Display, MomentChoice};
 pub use reading::{command, payment_to_begin, terminal_to_run};

@@ -7,9 +7,9 @@ ghost use Rattle.oe_requests.specs.declared.requests.Request.TheVariants as kind
 ghost use Rattle.oe_lines.specs.declared.commands.Command.{Command};
 ghost use Rattle.oe_lines.specs.declared.commands.Command.TheVariants as asks;
 ghost use Rattle.oe_lines.specs.Grammar.{Says};
-ghost use Rattle.oe_lines.specs.Reading.{command_of, run_of, begun_payment_of, rare_command_of, opening_of, beginning_of, request_of, district_of, customer_of, payment_of, new_order_of, delivery_of, deliveries_of, line_of, lines_of, table_of, moment_of, moment_before, condition_of, audit_of, last_customer_of, status_of, level_of, query_of, reading_of};
+ghost use Rattle.oe_lines.specs.Reading.{command_of, run_of, begun_payment_of, rare_command_of, at_end, opening_of, beginning_of, request_of, district_of, customer_of, payment_of, new_order_of, delivery_of, deliveries_of, line_of, lines_of, table_of, moment_of, moment_before, condition_of, audit_of, last_customer_of, status_of, level_of, query_of, reading_of};
 
-use crate::commands::{Command, MomentChoice};
+use crate::commands::{Command, Display, MomentChoice};
 use crate::words::{
     amount_before, is_word, last_name, last_number, name_before, number, number_before,
     number_then, stamp, stamp_before,
@@ -116,11 +116,13 @@ fn rare_command(line: &[u8]) -> Option<Command>
     } else if let Some(rest) = after(line, b"open ") {
         opening(rest)
     } else if let Some(rest) = after(line, b"dump ") {
-        Some(Command::Dump(table(rest)?))
+        Some(Command::Show(Display::Rows(table(rest)?)))
     } else if let Some(rest) = after(line, b"audit ") {
         audit(rest)
     } else if let Some(rest) = after(line, b"read ") {
         reading(rest)
+    } else if let Some(rest) = after(line, b"waits") {
+        at_end(rest, Command::Show(Display::Waits))
     } else if let Some(rest) = after(line, b"purge ") {
         Some(Command::Purge(moment(rest)?))
     } else if let Some(rest) = after(line, b"rewind ") {
@@ -128,6 +130,14 @@ fn rare_command(line: &[u8]) -> Option<Command>
     } else {
         None
     }
+}
+
+/// Gives a command where the line ends.
+#[tactic(auto, unfolding(crate::specs::Reading::at_end))]
+fn at_end(rest: &[u8], command: Command) -> Option<Command>
+    ensures { result ≡ at_end command rest.now }
+{
+    if rest.is_empty() { Some(command) } else { None }
 }
 
 /// Reads `W C I E`.

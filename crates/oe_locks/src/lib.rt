@@ -216,6 +216,13 @@ impl Locks {
         self.holders.get(name)?.in_the_way(terminal, mode)
     }
 
+    /// Lends a list on which all names stand that the terminal holds.
+    pub fn names(&self, terminal: Terminal) -> &[Name]
+        ensures { IsListed self.now terminal result.now }
+    {
+        self.names.at(terminal).as_slice()
+    }
+
     // Gives a name that the terminal holds the holders that it has once the terminal's mode has
     // changed.
     #[inline]

@@ -1,13 +1,15 @@
 -- Where the lines of a New-Order stand: the position of the model, and the names that are held there.
 use Rattle.std.proofs.Common.{◌≡◌, ℕ, suc, ◌+◌, ◌<◌, ◌≤◌, List, [], ◌∷◌, ◌++◌, length, take, drop, Option, None, Some}
 use Rattle.std.proofs.Common.{refl, sym, ap, ◌∙◌, subst, inl, inr, ◌⊎◌, arith}
-use Rattle.std.specs.Prelude.{Ok, Err, slice_get, get_or, IsSome}
+use Rattle.std.specs.Prelude.{Ok, Err, slice_get, get_or, IsSome, option_map}
 use Rattle.std.proofs.Math.Seq.{take-suc, drop-cons}
 use Rattle.std.proofs.lemmas.List.{length-take-le, length-append, drop_all}
 use Rattle.std.proofs.lemmas.Option.{slice_get_within, slice_get_cases, get_or_from_slice_get}
-use Rattle.oe_theory.specs.Machine.{Plain, Go}
+use Rattle.oe_theory.specs.Machine.{Stop, Plain, Take, Go}
 use Rattle.oe_theory.specs.Machine as theory
 use Rattle.oe_theory.specs.World.{IsEnough}
+use Rattle.oe_rows.specs.declared.items.Item.{Item}
+use Rattle.oe_rows.specs.declared.locks.Name.{Name}
 use Rattle.oe_rows.specs.declared.locks.Name.TheVariants as name
 use Rattle.oe_requests.specs.declared.requests.RequestLine.{RequestLine}
 use Rattle.oe_requests.specs.declared.requests.NewOrderRequest.{NewOrderRequest}
@@ -16,15 +18,17 @@ use Rattle.oe_requests.specs.declared.replies.Reply.{Reply}
 use Rattle.oe_requests.specs.declared.replies.Reply.TheVariants as reply
 use Rattle.oe_requests.specs.declared.requests.Request.TheVariants as request
 use Rattle.oe_requests.specs.declared.refusals.Refusal.{Refusal}
+use Rattle.oe_requests.specs.declared.refusals.Refusal.TheVariants.{InvalidItem}
 use Rattle.oe_formulas.specs.declared.orders.Seen as formulas
 use Rattle.oe_formulas.specs.Orders.{seen_by}
 use Rattle.oe_model.specs.Keys.{order_in, line_in}
 use Rattle.oe_model.specs.Changes.{InsertOrderLine}
+use Rattle.oe_model.specs.Locks.{hold}
 use Rattle.oe_model.specs.Positions.{Seen, NewOrderQueue, NewOrderStock, NewOrderLine, InNewOrder}
 use Rattle.oe_model.specs.NewOrder.{stock_holds, ordered_reply, new_order_ask, new_order_act, new_order_taken}
 use Rattle.oe_model.proofs.LawFacts.{holds_more}
 use Rattle.oe_engine.specs.View.{EngineState, View, view_of, Handle, IsOpen}
-use Rattle.oe_engine.specs.Programs.{GoesOn, IsReady, IsRefused, new_order_reply}
+use Rattle.oe_engine.specs.Programs.{GoesOn, IsReady, IsRefused, new_order_reply, wanted}
 use Rattle.oe_engine.specs.Stages.{Does, HoldsAll}
 use Rattle.oe_neworder.specs.Program.{filled_by, position_at, line_position}
 use Rattle.oe_neworder.specs.Stages.{Fills}
@@ -200,3 +204,9 @@ order_at_line v t q f l g here e h =
     (name.Order (order_in q.district f.seen.order)) theory.Exclusive
     (inr (holds_more (stock_holds (take (length f.done) q.lines)) _ (name.Order (order_in q.district f.seen.order))
     theory.Exclusive (inr (inl (refl, tt))))))
+
+-- the lock of an item's stock is asked for where the item is there
+pub stock_wanted : (n : Name) (o : Option Item) → option_map (λ (x : Item). hold n theory.Exclusive) o
+    ≡ wanted (elim o [ None ↦ Stop InvalidItem | Some x ↦ Take n theory.Exclusive ])
+stock_wanted n None = refl
+stock_wanted n (Some x) = refl

@@ -10,7 +10,10 @@ ghost use Rattle.oe_requests.specs.Reply.{told_reply};
 ghost use Rattle.oe_model.specs.Keys.{order_in, line_in};
 ghost use Rattle.oe_model.specs.Changes.{InsertOrderLine};
 ghost use Rattle.oe_engine.specs.View.{view_of, IsOpen};
-ghost use Rattle.oe_engine.specs.Programs.{new_order_reply};
+ghost use Rattle.oe_model.specs.Locks.{hold};
+ghost use Rattle.oe_model.specs.NewOrder.{item_at, new_order_ask, stock_of};
+ghost use Rattle.oe_store.specs.Places.{rows};
+ghost use Rattle.oe_engine.specs.Programs.{hold_of, new_order_reply, wanted};
 ghost use Rattle.oe_engine.specs.Stages.{Does};
 ghost use Rattle.oe_neworder.specs.Program.{line_position};
 ghost use Rattle.oe_neworder.specs.Stages.{Advances, HoldsTaken, Fills};
@@ -19,9 +22,10 @@ use crate::looks::{Supply, supply_of};
 use oe_change::Write;
 use oe_engine::stages::{failed, put, put_held};
 use oe_engine::{Engine, Lock, Progress, Tx};
-use oe_formulas::orders::Seen;
+use oe_formulas::orders::{Seen, stock_key};
 use oe_requests::{LineReplies, LineReply, NewOrderRequest, Refusal, ReplyRef, RequestLine};
 use oe_rows::{Mode, Name, OrderLine};
+use oe_store::Tables;
 use oe_values::{LineNumber, OrderNumber};
 
 /// A line whose stock has been taken: its OL_NUMBER, its ORDER-LINE row, which is still to be
@@ -125,6 +129,22 @@ fn insert(
     put_held(engine, tx, &write)
 }
 
+/// Gives the lock of a line's stock; none where the item is unused.
+fn stock_lock(line: &RequestLine, tables: &Tables) -> Option<Lock>
+    ensures { option_map hold_of result ≡ option_map
+        (λ x. hold (name.Stock (stock_of line.now)) theory.Exclusive)
+        (item_at line.now.item (rows tables.now).items) }
+{
+    let Some(key) = stock_key(*line) else {
+        return None;
+    };
+    let key = &key;
+    match tables.item(key.item_key()) {
+        Some(_) => Some(Lock::exclusive(Name::Stock(*key))),
+        None => None,
+    }
+}
+
 /// Gives the number of the line after those that are done.
 fn number_after(done: &LineReplies) -> LineNumber
     requires { length done.now < 15 }
@@ -197,6 +217,22 @@ impl Filling {
                 Progress::More
             }
             Err(refusal) => Progress::Refused(refusal),
+        }
+    }
+
+    /// Gives the lock that the next stage asks for: the next line's stock, unless that is taken; none
+    /// where no line is left, or the item is unused.
+    pub(crate) fn wanted(&self, request: &NewOrderRequest, tables: &Tables) -> Option<Lock>
+        ensures { option_map hold_of result
+            ≡ wanted (new_order_ask request.now (line_position request.now self.now)
+            (rows tables.now)) }
+    {
+        let Some(line) = self.next_line(request) else {
+            return None;
+        };
+        match &self.filled {
+            Some(_) => None,
+            None => stock_lock(&line, tables),
         }
     }
 

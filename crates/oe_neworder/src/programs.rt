@@ -1,19 +1,23 @@
 //! The program of a new order (clause 2.4): one stage at each call, by its position, under the lock
 //! that governs the stage's row.
-ghost use Rattle.std.specs.Prelude.{◌≡◌, option_map};
+ghost use Rattle.std.specs.Prelude.{◌≡◌, ℕ, option_map};
 ghost use Rattle.oe_requests.specs.declared.requests.Request.{Request};
 ghost use Rattle.oe_requests.specs.Reply.{told_reply};
-ghost use Rattle.oe_model.specs.Positions.{InNewOrder};
+ghost use Rattle.oe_model.specs.Positions.{InNewOrder, NewOrderCustomer};
 ghost use Rattle.oe_engine.specs.View.{IsOpen};
-ghost use Rattle.oe_engine.specs.Programs.{Progresses, new_order_reply};
+ghost use Rattle.oe_model.specs.NewOrder.{new_order_ask};
+ghost use Rattle.oe_store.specs.Places.{rows};
+ghost use Rattle.oe_engine.specs.Programs.{Progresses, hold_of, new_order_reply, wanted};
 ghost use Rattle.oe_neworder.specs.Program.{position_of, IsBeforeLines};
 ghost use Rattle.oe_neworder.specs.Stages.{HoldsTaken, Steps};
 
 use crate::fillings::Filling;
 use crate::stages::{insert_new_order, insert_order, read_customer, read_warehouse, take_number};
-use oe_engine::{Engine, Progress, Tx};
+use oe_engine::{Engine, Lock, Progress, Tx};
 use oe_formulas::orders::Seen;
 use oe_requests::{NewOrderRequest, Refusal, ReplyRef};
+use oe_rows::Name;
+use oe_store::Tables;
 use oe_values::{OrderNumber, Rate};
 
 /// Where a New-Order stands: the stage that it comes to next, with what the stages before have
@@ -29,6 +33,18 @@ pub enum Program {
     Order(Seen),
     Queue(Seen),
     Lines(Filling),
+}
+
+/// Gives the lock of the customer who orders; none where the customer is absent.
+fn customer_lock(request: &NewOrderRequest, tables: &Tables) -> Option<Lock>
+    ensures { (o w d : ℕ) → option_map hold_of result
+        ≡ wanted (new_order_ask request.now (NewOrderCustomer o w d) (rows tables.now)) }
+{
+    let key = &request.district.customer(request.customer);
+    match tables.customer(*key) {
+        Some(_) => Some(Lock::shared(Name::Customer(*key))),
+        None => None,
+    }
 }
 
 impl Program {
@@ -64,6 +80,24 @@ impl Program {
         match self {
             Program::Lines(filling) => filling.reply(request),
             _ => None,
+        }
+    }
+
+    /// Gives the lock that the next stage asks for; none where it asks for none, or stops before it:
+    /// the customer is absent, or an item unused.
+    pub fn wanted(&self, request: &NewOrderRequest, tables: &Tables) -> Option<Lock>
+        ensures { option_map hold_of result
+            ≡ wanted (new_order_ask request.now (position_of request.now self.now)
+            (rows tables.now)) }
+    {
+        let district = &request.district;
+        match self {
+            Program::Warehouse => Some(Lock::shared(Name::Warehouse(district.warehouse_key()))),
+            Program::District(_) => Some(Lock::exclusive(Name::District(*district))),
+            Program::Customer(_, _, _) => customer_lock(request, tables),
+            Program::Order(seen) => Some(Lock::exclusive(Name::Order(district.order(seen.order)))),
+            Program::Queue(_) => Some(Lock::exclusive(Name::Queue(*district))),
+            Program::Lines(filling) => filling.wanted(request, tables),
         }
     }
 

@@ -1,16 +1,21 @@
 //! The program of a payment (clause 2.5): one stage at each call, by its position, under the lock
 //! that governs the stage's row.
-ghost use Rattle.std.specs.Prelude.{◌≡◌, option_map};
+ghost use Rattle.std.specs.Prelude.{◌≡◌, ℕ, List, option_map};
 ghost use Rattle.std.specs.Option.{option_copied};
 ghost use Rattle.oe_requests.specs.declared.requests.Request.{Request};
 ghost use Rattle.oe_requests.specs.declared.replies.Reply.{Reply};
-ghost use Rattle.oe_model.specs.Positions.{InPayment, PaymentWarehouse};
-ghost use Rattle.oe_engine.specs.Programs.{Progresses, payment_reply};
+ghost use Rattle.oe_model.specs.Positions.{InPayment, PaymentCustomer, PaymentWarehouse};
+ghost use Rattle.oe_model.specs.Payment.{payment_ask};
+ghost use Rattle.oe_store.specs.Places.{rows};
+ghost use Rattle.oe_engine.specs.Programs.{Progresses, hold_of, payment_reply, wanted};
 
+use crate::choices::chosen_customer;
 use crate::positions::{Position, Stage};
 use crate::stages::carry_out;
-use oe_engine::{Engine, Progress, Tx};
+use oe_engine::{Engine, Lock, Progress, Tx};
 use oe_requests::{PaymentReply, PaymentRequest, Refusal};
+use oe_rows::Name;
+use oe_store::Tables;
 use std::marker::Model;
 
 /// Where a payment stands: the stage that it comes to next, with what the stages before have read.
@@ -27,6 +32,18 @@ impl Model for Program {
     ghost Value = { PaymentPosition };
 
     ghost view = { λ p. position_in p.position };
+}
+
+/// Gives the lock of the customer who pays; none where there is none.
+fn customer_lock(request: &PaymentRequest, tables: &Tables) -> Option<Lock>
+    ensures { (w d : List ℕ) → option_map hold_of result
+        ≡ wanted (payment_ask request.now (PaymentCustomer w d) (rows tables.now)) }
+{
+    let district = &request.customer_district;
+    match chosen_customer(district, &request.customer, tables) {
+        Some(number) => Some(Lock::exclusive(Name::Customer(district.customer(number)))),
+        None => None,
+    }
 }
 
 impl Program {
@@ -64,6 +81,21 @@ impl Program {
         match self.position.stage {
             Stage::End => Some(&self.position.reply),
             _ => None,
+        }
+    }
+
+    /// Gives the lock that the next stage asks for; none where it asks for none, or stops before it:
+    /// there is no such customer.
+    pub fn wanted(&self, request: &PaymentRequest, tables: &Tables) -> Option<Lock>
+        ensures { option_map hold_of result
+            ≡ wanted (payment_ask request.now self.now (rows tables.now)) }
+    {
+        let district = &request.district;
+        match self.position.stage {
+            Stage::Warehouse => Some(Lock::exclusive(Name::Warehouse(district.warehouse_key()))),
+            Stage::District => Some(Lock::exclusive(Name::District(*district))),
+            Stage::Customer => customer_lock(request, tables),
+            Stage::History | Stage::End => None,
         }
     }
 

@@ -4,10 +4,9 @@ use Rattle.std.proofs.Common.{◌∷◌, ◌++◌, length, refl, sym, ap, ◌∙
 use Rattle.std.specs.Prelude.{◌⊎◌, ◌≢◌, IfSome}
 use Rattle.std.proofs.lemmas.Bool.{cases_order}
 use Rattle.oe_theory.specs.Next.{Next}
-use Rattle.oe_theory.specs.World.{World, tables}
+use Rattle.oe_theory.specs.World.{World}
 use Rattle.oe_theory.specs.Theorems.{opened}
 use Rattle.oe_theory.proofs.Theorems.{opening_is_reached}
-use Rattle.oe_rows.specs.declared.keys.Table.{Table}
 use Rattle.oe_requests.specs.declared.refusals.Refusal.TheVariants as refusal
 use Rattle.oe_requests.specs.declared.replies.Reply.{Reply}
 use Rattle.oe_requests.specs.declared.requests.Request.{Request}
@@ -19,6 +18,7 @@ use Rattle.oe_requests.specs.declared.steps.Step.TheVariants as step
 use Rattle.oe_texts.specs.Answer.{answer_line}
 use Rattle.oe_lines.specs.declared.commands.Command.{Command}
 use Rattle.oe_lines.specs.declared.commands.Command.TheVariants as command
+use Rattle.oe_lines.specs.declared.commands.Display.{Display}
 use Rattle.oe_rows.specs.declared.scales.Scale.{Scale}
 use Rattle.oe_lines.specs.Grammar as grammar
 use Rattle.oe_lines.specs.Grammar.{Says, HasForm}
@@ -34,10 +34,9 @@ use Rattle.oe_admission.specs.Programs.{HasProgram}
 use Rattle.oe_core.specs.Steps.{step_in, answer_in, Advances, begins_with}
 use Rattle.oe_core.specs.declared.advances.Advanced.{Advanced}
 use Rattle.oe_core.specs.declared.advances.Advanced.TheVariants as advanced
-use Rattle.oe_ports.specs.Dump.{dump_text}
 use Rattle.oe_ports.specs.Lines.{bad_line}
 use Rattle.oe_script.specs.Script.{State, moment_in, told, Stepped, IsAllowed, Answers, Asks, LineAnswer, RunOfLines}
-use Rattle.oe_script.specs.Script.{Holds}
+use Rattle.oe_script.specs.Script.{Holds, shown_text}
 use Rattle.oe_script.specs.Session.{IsLive}
 use Rattle.oe_ports.specs.Ports.{Sink, Sent, Cut, Streams}
 use Rattle.oe_script.specs.Outcome.{IsAnswer, Replies}
@@ -93,7 +92,7 @@ live_answers None (command.Run t) text s' f l a = absurd a
 live_answers None (command.Save t) text s' f l a = absurd a
 live_answers None (command.Back t) text s' f l a = absurd a
 live_answers None (command.Rollback t) text s' f l a = absurd a
-live_answers None (command.Dump t) text s' f l a = absurd a
+live_answers None (command.Show t) text s' f l a = absurd a
 live_answers None (command.Audit c m) text s' f l a = absurd a
 live_answers None (command.Read m q) text s' f l a = absurd a
 live_answers None (command.Purge m) text s' f l a = absurd a
@@ -107,7 +106,7 @@ live_answers (Some w) (command.Run t) text s' f l (n, x, w', r, e, same) =
 live_answers (Some w) (command.Save t) text s' f l a = live_stepped w (step.Save t) text s' tt l a
 live_answers (Some w) (command.Back t) text s' f l a = live_stepped w (step.Back t) text s' tt l a
 live_answers (Some w) (command.Rollback t) text s' f l a = live_stepped w (step.Rollback t) text s' tt l a
-live_answers (Some w) (command.Dump t) text s' f l a = subst IsLive (sym a.1) l
+live_answers (Some w) (command.Show t) text s' f l a = subst IsLive (sym a.1) l
 live_answers (Some w) (command.Audit c m) text s' f l a = live_stepped w (step.Audit c (moment_in w m)) text s' tt l a
 live_answers (Some w) (command.Read m q) text s' f l a = live_stepped w (step.Read (moment_in w m) q) text s' tt l a
 live_answers (Some w) (command.Purge m) text s' f l a = live_stepped w (step.Purge (moment_in w m)) text s' tt l a
@@ -141,7 +140,7 @@ answered None (command.Run t) f l a = absurd a
 answered None (command.Save t) f l a = absurd a
 answered None (command.Back t) f l a = absurd a
 answered None (command.Rollback t) f l a = absurd a
-answered None (command.Dump t) f l a = absurd a
+answered None (command.Show t) f l a = absurd a
 answered None (command.Audit c m) f l a = absurd a
 answered None (command.Read m q) f l a = absurd a
 answered None (command.Purge m) f l a = absurd a
@@ -155,7 +154,7 @@ answered (Some w) (command.Run t) f l a = let r = told_run w t l in
 answered (Some w) (command.Save t) f l a = stepped w (step.Save t) (told_save w t)
 answered (Some w) (command.Back t) f l a = stepped w (step.Back t) (told_back w t)
 answered (Some w) (command.Rollback t) f l a = stepped w (step.Rollback t) (told_rollback w t)
-answered (Some w) (command.Dump t) f l a = (dump_text t (tables system w), Some w, (refl, refl))
+answered (Some w) (command.Show t) f l a = (shown_text t w, Some w, (refl, refl))
 answered (Some w) (command.Audit c m) f l a = stepped w (step.Audit c (moment_in w m)) (told_audit w c (moment_in w m))
 answered (Some w) (command.Read m q) f l a = stepped w (step.Read (moment_in w m) q) (told_read w (moment_in w m) q)
 answered (Some w) (command.Purge m) f l a = stepped w (step.Purge (moment_in w m)) (told_purge w (moment_in w m))
@@ -169,7 +168,7 @@ allowed None (command.Run t) = inr (λ h. h)
 allowed None (command.Save t) = inr (λ h. h)
 allowed None (command.Back t) = inr (λ h. h)
 allowed None (command.Rollback t) = inr (λ h. h)
-allowed None (command.Dump t) = inr (λ h. h)
+allowed None (command.Show t) = inr (λ h. h)
 allowed None (command.Audit c m) = inr (λ h. h)
 allowed None (command.Read m q) = inr (λ h. h)
 allowed None (command.Purge m) = inr (λ h. h)
@@ -181,7 +180,7 @@ allowed (Some w) (command.Run t) = inl tt
 allowed (Some w) (command.Save t) = inl tt
 allowed (Some w) (command.Back t) = inl tt
 allowed (Some w) (command.Rollback t) = inl tt
-allowed (Some w) (command.Dump t) = inl tt
+allowed (Some w) (command.Show t) = inl tt
 allowed (Some w) (command.Audit c m) = inl tt
 allowed (Some w) (command.Read m q) = inl tt
 allowed (Some w) (command.Purge m) = inl tt
@@ -264,15 +263,15 @@ pub told_here : (w w' : World system) (n : ℕ) (line : List ℕ) (asked c : Com
 told_here w w' n line asked c sink old new text short says e a answers same =
     (text, taken w n line asked c text (Some w') short says e a answers, sent_waits sink old new text same)
 
-pub dumped_here : {T E : Type 0} (w : World system) (n : ℕ) (line : List ℕ) (asked : Command) (t : Table)
+pub shown_here : {T E : Type 0} (w : World system) (n : ℕ) (line : List ℕ) (asked : Command) (t : Display)
     (old new : Option Sink) (waited waits text : List ℕ) (r : Result T E)
-    → length line ≤ 1_024 → Says line asked → asked ≡ command.Dump t → text ≡ dump_text t (tables system w)
+    → length line ≤ 1_024 → Says line asked → asked ≡ command.Show t → text ≡ shown_text t w
     → Streams old waited new waits text r
     → Replies (Some w) n line (Some w) old waited new waits r
-dumped_here w n line asked t old new waited waits text (Ok x) short says e is h =
-    (text, taken w n line asked (command.Dump t) text (Some w) short says e tt (is, refl), h)
-dumped_here w n line asked t old new waited waits text (Err x) short says e is h =
-    (refl, text, Some w, taken w n line asked (command.Dump t) text (Some w) short says e tt (is, refl), h)
+shown_here w n line asked t old new waited waits text (Ok x) short says e is h =
+    (text, taken w n line asked (command.Show t) text (Some w) short says e tt (is, refl), h)
+shown_here w n line asked t old new waited waits text (Err x) short says e is h =
+    (refl, text, Some w, taken w n line asked (command.Show t) text (Some w) short says e tt (is, refl), h)
 
 -- once something is open it can't be opened again
 pub not_opened : (w : World system) (line : List ℕ) (asked : Command) (scale : Scale) (extents : ℕ) → Says line asked

@@ -18,11 +18,14 @@ use Rattle.oe_requests.specs.declared.steps.Step.TheVariants as step
 use Rattle.oe_texts.specs.Answer.{answer_line, audit_line}
 use Rattle.oe_lines.specs.declared.commands.Command.{Command}
 use Rattle.oe_lines.specs.declared.commands.Command.TheVariants as command
+use Rattle.oe_lines.specs.declared.commands.Display.{Display}
+use Rattle.oe_lines.specs.declared.commands.Display.TheVariants as display
 use Rattle.oe_lines.specs.declared.commands.MomentChoice.{MomentChoice}
 use Rattle.oe_lines.specs.declared.commands.MomentChoice.TheVariants as moment
 use Rattle.oe_lines.specs.Grammar.{Says}
 use Rattle.oe_core.specs.Steps.{step_in, answer_in}
 use Rattle.oe_ports.specs.Dump.{dump_text}
+use Rattle.oe_waits.specs.Texts.{waits_text}
 use Rattle.oe_ports.specs.Lines.{bad_line}
 
 -- nothing is open yet, or the world that a core stands for
@@ -66,6 +69,11 @@ Opens scale extents text s =
     ((r : Rows) × IsPopulated scale r × (text ≡ codes "opened\n") × (s ≡ Some (opened system r extents)))
     ⊎ ((text ≡ answer_line (answer.Refused refusal.NoMemory)) × (s ≡ None))
 
+-- what is shown of a world as it stands: a table's rows, or who waits for whom
+abbrev pub shown_text : Display → World system → List ℕ
+shown_text (display.Rows t) w = dump_text t (tables system w)
+shown_text display.Waits w = waits_text w
+
 -- before something is open only `open` is in the grammar, and afterwards it is not
 abbrev pub IsAllowed : State → Command → Type 0
 IsAllowed None (command.Open scale extents) = Unit {0}
@@ -84,7 +92,7 @@ Answers (Some w) (command.Run t) text s = Ran w t text s
 Answers (Some w) (command.Save t) text s = Stepped w (step.Save t) text s
 Answers (Some w) (command.Back t) text s = Stepped w (step.Back t) text s
 Answers (Some w) (command.Rollback t) text s = Stepped w (step.Rollback t) text s
-Answers (Some w) (command.Dump t) text s = (text ≡ dump_text t (tables system w)) × (s ≡ Some w)
+Answers (Some w) (command.Show d) text s = (text ≡ shown_text d w) × (s ≡ Some w)
 Answers (Some w) (command.Audit c m) text s = Stepped w (step.Audit c (moment_in w m)) text s
 Answers (Some w) (command.Read m q) text s = Stepped w (step.Read (moment_in w m) q) text s
 Answers (Some w) (command.Purge m) text s = Stepped w (step.Purge (moment_in w m)) text s

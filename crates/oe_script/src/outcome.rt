@@ -14,12 +14,13 @@ ghost use Rattle.oe_texts.specs.Answer.{answer_line};
 ghost use Rattle.oe_core.specs.Core.{world_of, last_reply};
 ghost use Rattle.oe_admission.specs.Programs.{HasProgram};
 ghost use Rattle.oe_core.specs.Steps.{step_in, answer_in, begins_with};
-ghost use Rattle.oe_script.specs.Script.{LineAnswer, RunsIn, moment_in};
+ghost use Rattle.oe_ports.specs.Ports.{Streams};
+ghost use Rattle.oe_script.specs.Script.{LineAnswer, RunsIn, moment_in, shown_text};
 ghost use Rattle.oe_script.specs.Session.{state_of, IsLive};
 ghost use Rattle.oe_script.specs.Outcome.{IsAnswer, Tells, TellsRun, Replies};
 
 use oe_core::{Advanced, Core};
-use oe_lines::{Command, MomentChoice, command, payment_to_begin, terminal_to_run};
+use oe_lines::{Command, Display, MomentChoice, command, payment_to_begin, terminal_to_run};
 use oe_population::populate;
 use oe_ports::dumps::dump;
 use oe_ports::output::{bad, make_room};
@@ -28,6 +29,7 @@ use oe_requests::{Answer, Condition, Query, Refusal, Request, Step};
 use oe_rows::Scale;
 use oe_texts::{LONGEST, Pending, SIZE, answer, audited, begun, committed, more, opened, refused};
 use oe_values::{ExtentCount, Moment, NoMemory, Terminal};
+use oe_waits::show_waits;
 use std::alloc::Global;
 
 /// Answers a line, which stands without its end and has this number. What waits is written first
@@ -205,7 +207,7 @@ fn later<W: Outlet>(
         (W.sink to.old) out.old.items (W.sink to.new) out.new.items result }
 {
     match asked {
-        Command::Dump(table) => dump(core.tables(), *table, out, to),
+        Command::Show(shown) => show(core, *shown, out, to),
         Command::Open(_, _) => {
             bad(out, number);
             Ok(())
@@ -250,6 +252,17 @@ fn later<W: Outlet>(
             tell_rewind(core, *moment, out);
             Ok(())
         }
+    }
+}
+
+/// Shows a core's table, or who waits for whom.
+fn show<W: Outlet>(core: &Core, shown: Display, out: &mut Pending, to: &mut W) -> Result<(), Failed>
+    ensures { Streams (W.sink to.old) out.old.items (W.sink to.new) out.new.items
+        (shown_text shown (world_of core.now)) result }
+{
+    match shown {
+        Display::Rows(table) => dump(core.tables(), table, out, to),
+        Display::Waits => show_waits(core, out, to),
     }
 }
 

@@ -1,18 +1,17 @@
 use Rattle.std.proofs.Common.{Some, refl, ap}
 use Rattle.oe_lines.specs.declared.commands.Command.TheVariants as command
 use Rattle.oe_core.specs.Core.{world_of}
-use Rattle.oe_ports.specs.Dump.{dump_text}
 use Rattle.oe_ports.specs.Lines.{bad_line}
 use Rattle.oe_ports.proofs.Streaming.{sent_waits}
-use Rattle.oe_script.proofs.LineFacts.{told_here, dumped_here, refused, not_opened}
+use Rattle.oe_script.proofs.LineFacts.{told_here, shown_here, refused, not_opened}
 use Rattle.oe_script.proofs.outcome.later.Goals as goal
 
-pub returns-in-Dump : goal.returns-in-Dump
-returns-in-Dump g c = λ line short says.
-    dumped_here (world_of c.args.core.now) c.args.number line c.args.asked.now c.in-Dump.table
-    (g.W.Outlet.sink c.args.to.now) (g.W.Outlet.sink c.dump.new.to) c.args.out.now.items c.dump.new.out.items _
-    c.dump.result
-    short says c.in-Dump.is (ap (dump_text c.in-Dump.table) c.tables.ensures) c.dump.ensures
+pub returns-in-Show : goal.returns-in-Show
+returns-in-Show g c = λ line short says.
+    shown_here (world_of c.args.core.now) c.args.number line c.args.asked.now c.in-Show.shown
+    (g.W.Outlet.sink c.args.to.now) (g.W.Outlet.sink c.show.new.to) c.args.out.now.items c.show.new.out.items _
+    c.show.result
+    short says c.in-Show.is refl c.show.ensures
 
 pub returns-in-Open : goal.returns-in-Open
 returns-in-Open g c = λ line short says. (

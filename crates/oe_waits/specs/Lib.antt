@@ -1,0 +1,5 @@
+-- What the clauses of this crate cite.
+pub mod Knots
+pub mod Waits
+pub mod Reaching
+pub mod Texts
