@@ -1,10 +1,11 @@
 #![tactic(auto)]
-//! An order-entry server that answers scripts and runs drives. Clause numbers are TPC Benchmark C
-//! 5.11's.
+//! An order-entry server that answers scripts, decides on files of commits and runs drives. Clause
+//! numbers are TPC Benchmark C 5.11's.
 //!
 //! This file is trusted: it has no contract, and hands the script's bytes to `run_script`, whose
-//! contract tells all that is answered, or the numbers of a drive to `run_drive`, whose contract
-//! tells the two lines. What a drive says on standard error is for a person.
+//! contract tells all that is answered, those of a file of commits to `run_serial`, whose contract
+//! tells the verdict, or the numbers of a drive to `run_drive`, whose contract tells the two lines.
+//! What a drive says on standard error is for a person.
 
 use clap::Error;
 use clap::error::ErrorKind;
@@ -13,6 +14,7 @@ use oe_numbers::DriveNumbers;
 use oe_ports::standard::{Printed, Standard};
 use oe_script::script::run_script;
 use oe_script::session::Fault;
+use oe_serial::{BadLines, Fault as SerialFault, Shortage, Verdict, run_serial, status};
 use oe_tasks::{Task, job};
 use oe_values::Terminal;
 use std::env::Env;
@@ -33,6 +35,7 @@ fn main(rt: HostRuntime) -> io::Result<ExitCode> {
     match job(rt.alloc(), words.as_slice()) {
         Ok(Task::Script) => answer(&rt, rt.reader()),
         Ok(Task::File(name)) => answer_file(&rt, name),
+        Ok(Task::Serial(name)) => answer_serial(&rt, name),
         Ok(Task::Drive(numbers)) => answer_drive(&rt, &numbers, rt.stderr().is_terminal()),
         Err(error) => tell(&rt, error),
     }
@@ -104,6 +107,49 @@ fn answer<R: Print + Eprint + AllocGlobal, T: Read + Drop>(
         Err(Fault::Read) => fail(rt, "read"),
         Err(Fault::Write) => fail(rt, write_fault(writer.is_closed())),
     }
+}
+
+/// Tells whether the commits in a file are serial, on standard output.
+fn answer_serial<R: Files + Print + Eprint + AllocGlobal>(
+    rt: &R,
+    name: &str,
+) -> io::Result<ExitCode> {
+    let input = match fs::read(rt, name) {
+        Ok(input) => input,
+        Err(error) if error.kind() == io::ErrorKind::OutOfMemory => return fail(rt, "no memory"),
+        Err(error) => {
+            eprintln!(rt; "error: {name} can't be read: {error}")?;
+            return Ok(ExitCode::FAILURE);
+        }
+    };
+    let mut writer = Printed::new(rt);
+    match run_serial(rt.alloc(), input.as_slice(), &mut writer) {
+        Ok(verdict) => {
+            if let Verdict::Unreadable(bad) = &verdict {
+                tell_bad_lines(rt, bad)?;
+            }
+            Ok(ExitCode::from(status(&verdict)))
+        }
+        Err(SerialFault::Short(Shortage::NoMemory)) => fail(rt, "no memory"),
+        Err(SerialFault::Short(Shortage::UndoFull)) => fail(rt, "no undo extents"),
+        Err(SerialFault::Write) => fail(rt, write_fault(writer.is_closed())),
+    }
+}
+
+/// Tells which lines of a file of commits have no form.
+fn tell_bad_lines<R: Eprint>(rt: &R, bad: &BadLines) -> io::Result<()> {
+    for number in bad.first.as_slice() {
+        if *number == 1 {
+            eprintln!(rt; "line 1: no opening")?;
+        } else {
+            eprintln!(rt; "line {number}: no request and reply")?;
+        }
+    }
+    let more = bad.count.saturating_sub(20);
+    if more > 0 {
+        eprintln!(rt; "{more} more")?;
+    }
+    Ok(())
 }
 
 /// Tells a person how far a drive is, once a second from its second second on.

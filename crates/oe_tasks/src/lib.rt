@@ -1,7 +1,7 @@
 #![tactic(auto)]
 //! The words of the command line.
-ghost use Rattle.std.specs.Prelude.{◌≡◌, ◌↔◌, ◌==◌, IsFalse, codes, map, slice_index, MatchOption, MatchResult};
-ghost use Rattle.oe_tasks.specs.Words.{Asks, AsksScript, AsksDrive};
+ghost use Rattle.std.specs.Prelude.{◌≡◌, ◌↔◌, ◌==◌, ℕ, List, IsFalse, codes, map, slice_index, MatchOption, MatchResult};
+ghost use Rattle.oe_tasks.specs.Words.{Asks, AsksScript, AsksSerial, AsksDrive, NamesFile};
 ghost use Rattle.oe_tasks.specs.declared.Task.{Task};
 
 use clap::error::ErrorKind;
@@ -17,6 +17,8 @@ pub enum Task<'a> {
     Script,
     /// To answer the script in the file of that name.
     File(&'a str),
+    /// To decide whether the commits in the file of that name are serial.
+    Serial(&'a str),
     /// To run terminals in threads of their own.
     Drive(DriveNumbers),
 }
@@ -28,10 +30,13 @@ const SCRIPT: &str = "Answers the script in FILE, or on standard input";
 
 const VERSION: &str = "0.1.0";
 
+const SERIAL: &str = "Decides whether FILE's replies are those of its transactions one at a time";
+
 const DRIVE: &str = "Runs terminals in threads of their own, and tells what they left";
 
 const USAGE: &str = "oe_server script < FILE
        oe_server script FILE
+       oe_server serial FILE
        oe_server drive W C I E T N SEED
        oe_server --help | --version";
 
@@ -86,6 +91,9 @@ to 64. What stands behind the colon is the answer:
   rewind M           takes the commits after moment M back, while nothing is open: rewound M
   dump TABLE         shows warehouse, district, customer, history, neworder, order,
                      orderline, item or stock: a line for each row, and rows COUNT
+  waits              shows each terminal T that waits, the lock and its holders: T waits NAME
+                     MODE for HOLDERS; the terminals that wait for one another: cycle and them,
+                     or no cycle; and rows COUNT
 
 A step that is refused is answered error NUMBER CAUSE. It changes nothing, but that at a
 stage Overflow, NoCustomer and an item that is not valid roll the transaction back;
@@ -100,10 +108,20 @@ the tables with a new population. It writes two lines:
   conditions 1 2 3 4 hold, or condition N fails
   population restored, or population differs
 
-The status is 0 at the end of a script's input, whatever the answers, and for a drive whose
-conditions hold and whose population is restored; 1 for any other drive, after a fault,
-which standard error names (fault: read, fault: write, fault: output closed, fault: no
-memory), and for a FILE that can't be opened; and 2 where the command line is none of these.
+A file of commits begins with a line open W C I E, as a script. Each other line tells of a
+commit of another engine, in their order: T, the words of the request as behind a script's
+begin T, then \" => \", and the reply as behind commit MOMENT. It writes one line:
+  serial COUNT      each reply is that of its transaction, run alone behind those before it
+  line N: \"REPLY\", in this order \"REPLY\"
+                     the first line whose transaction replies otherwise, or is refused
+or, on standard error, which lines have no form (line N: no request and reply).
+
+The status is 0 at the end of a script's input, whatever the answers, for a file of commits
+that is serial, and for a drive whose conditions hold and whose population is restored; 1 for
+any other file of commits or drive, after a fault, which standard error names (fault: read,
+fault: write, fault: output closed, fault: no memory, fault: no undo extents), and for a FILE
+that can't be opened; and 2 where the command line is none of these, or a line of a file of
+commits has no form.
 docs/SCRIPTS.md is the manual: stages, locks, refusals and columns; examples/ has scripts.";
 
 /// Finds what these words ask for; the first is the program's name.
@@ -126,10 +144,13 @@ fn asked<'a, S: AsStr>(words: &'a [S]) -> Option<Task<'a>>
         ((task : Task) → Asks (map S.text words.now) task → ⊥)
         (Asks (map S.text words.now)) }
 {
-    match script_of(words) {
-        Some(task) => Some(task),
-        None => drive_of(words),
+    if let Some(task) = script_of(words) {
+        return Some(task);
     }
+    if let Some(task) = serial_of(words) {
+        return Some(task);
+    }
+    drive_of(words)
 }
 
 // Finds the script that these words ask for.
@@ -141,21 +162,50 @@ fn script_of<'a, S: AsStr>(words: &'a [S]) -> Option<Task<'a>>
     if words.len() < 2 || words[1].as_str() != "script" {
         return None;
     }
+    if words.len() == 2 {
+        return Some(Task::Script);
+    }
+    match file_of(words) {
+        Some(name) => Some(Task::File(name)),
+        None => None,
+    }
+}
+
+// Finds the file of commits that these words ask for.
+fn serial_of<'a, S: AsStr>(words: &'a [S]) -> Option<Task<'a>>
+    ensures { MatchOption result
+        ((task : Task) → AsksSerial (map S.text words.now) task → ⊥)
+        (AsksSerial (map S.text words.now)) }
+{
+    if words.len() < 2 || words[1].as_str() != "serial" {
+        return None;
+    }
+    match file_of(words) {
+        Some(name) => Some(Task::Serial(name)),
+        None => None,
+    }
+}
+
+// Finds the file that the words behind a verb name.
+fn file_of<'a, S: AsStr>(words: &'a [S]) -> Option<&'a str>
+    ensures { MatchOption result
+        ((file : List ℕ) → NamesFile (map S.text words.now) file → ⊥)
+        (λ file. NamesFile (map S.text words.now) file.now) }
+{
     match words.len() {
-        2 => Some(Task::Script),
         3 => {
             let name = words[2].as_str();
             if is_option(name) {
                 return None;
             }
-            Some(Task::File(name))
+            Some(name)
         }
         4 => {
             let mark = words[2].as_str();
             if is_no_mark(mark) {
                 return None;
             }
-            Some(Task::File(words[3].as_str()))
+            Some(words[3].as_str())
         }
         _ => None,
     }
@@ -229,7 +279,18 @@ fn grammar<'a>(alloc: Global) -> Result<Command<'a>, Error> {
         .after_help(FORMS)
         .subcommand_required(true)
         .subcommand(script)?
+        .subcommand(serial_grammar(alloc)?)?
         .subcommand(drive_grammar(alloc)?)?;
+    Ok(command)
+}
+
+/// Makes the grammar of a file of commits.
+fn serial_grammar<'a>(alloc: Global) -> Result<Command<'a>, Error> {
+    let command = Command::new(alloc, "serial")
+        .about(SERIAL)
+        .override_usage(USAGE)
+        .after_help(FORMS)
+        .arg(Arg::new(alloc, "FILE").help("An opening, and a line for each commit"))?;
     Ok(command)
 }
 

@@ -1,26 +1,19 @@
-use Rattle.std.proofs.Common.{◌≡◌, ◌==◌, slice_index, codes, false, sym, ◌∙◌, rules, arith}
-use Rattle.oe_tasks.proofs.WordFacts.{plain, two, three, four}
+use Rattle.std.proofs.Common.{◌≡◌, codes, sym, ◌∙◌, rules, arith}
+use Rattle.oe_tasks.proofs.WordFacts.{two, named, no_script}
 use Rattle.oe_tasks.proofs.script_of.Goals as goal
 
-pub returns-in-2 : goal.returns-in-2
-returns-in-2 g c =
+pub returns-then-words-eq2 : goal.returns-then-words-eq2
+returns-then-words-eq2 g c =
     let said : c.as_str.result.now ≡ codes "script" = search rules in
-    two g.S.AsStr.text c.args.words.now c.index-words-1.result (omega (arith, c.in-2.is)) c.index-words-1.is
+    two g.S.AsStr.text c.args.words.now c.index-words-1.result (search rules) c.index-words-1.is
     (sym c.as_str.ensures ∙ said)
 
-pub returns-else-is_option : goal.returns-else-is_option
-returns-else-is_option g c =
+pub returns-in-Some : goal.returns-in-Some
+returns-in-Some g c =
     let said : c.as_str.result.now ≡ codes "script" = search rules in
-    let other : (slice_index c.as_str-name.result.now 0 == 45) ≡ false = search rules in
-    three g.S.AsStr.text c.args.words.now c.index-words-1.result c.index-words-2.result c.as_str-name.result
-    (omega (arith, c.in-3.is)) c.index-words-1.is (sym c.as_str.ensures ∙ said)
-    c.index-words-2.is c.as_str-name.ensures (plain c.as_str-name.result.now other)
+    let long = c.if-words-lt2.false in
+    named g.S.AsStr.text c.args.words.now c.index-words-1.result c.in-Some.name (omega (arith, long))
+    c.index-words-1.is (sym c.as_str.ensures ∙ said) c.in-Some.ensures
 
-pub returns-else-is_no_mark : goal.returns-else-is_no_mark
-returns-else-is_no_mark g c =
-    let said : c.as_str.result.now ≡ codes "script" = search rules in
-    let mark : c.as_str-mark.result.now ≡ codes "--" = c.is_no_mark.ensures.0 c.if-is_no_mark.false in
-    four g.S.AsStr.text c.args.words.now c.index-words-1.result c.index-words-2-in-4.result c.index-words-3.result
-    c.as_str-in-4.result (omega (arith, c.in-4.is)) c.index-words-1.is
-    (sym c.as_str.ensures ∙ said) c.index-words-2-in-4.is (sym c.as_str-mark.ensures ∙ mark) c.index-words-3.is
-    c.as_str-in-4.ensures
+pub returns-in-None : goal.returns-in-None
+returns-in-None g c = no_script g.S.AsStr.text c.args.words.now (search rules) c.in-None.ensures

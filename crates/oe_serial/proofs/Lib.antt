@@ -1,0 +1,9 @@
+-- The proofs of this crate.
+mod LineFacts
+mod ToldFacts
+mod BadFacts
+mod AloneFacts
+mod WorkFacts
+mod AnswerFacts
+mod VerdictFacts
+mod SentFacts

@@ -1,0 +1,126 @@
+-- Of a transaction that runs alone in the server's machine.
+use Rattle.std.proofs.Common.{◌≡◌, ℕ, Option, None, Result, Ok, Err, IfOk, refl, sym, ap, subst, ◌∙◌, inr}
+use Rattle.oe_theory.specs.World.{World, Open}
+use Rattle.oe_theory.specs.Next as theory
+use Rattle.oe_theory.specs.Next.{Next, Begin, Advance, Purge, Answer}
+use Rattle.oe_theory.specs.Theorems.{opened}
+use Rattle.oe_theory.proofs.Theorems.{opening_is_reached}
+use Rattle.oe_requests.specs.declared.requests.Request.{Request}
+use Rattle.oe_requests.specs.declared.replies.Reply.{Reply}
+use Rattle.oe_requests.specs.declared.refusals.Refusal.{Refusal}
+use Rattle.oe_requests.specs.declared.refusals.Refusal.TheVariants as refusal
+use Rattle.oe_requests.specs.declared.steps.Step.TheVariants as step
+use Rattle.oe_rows.specs.declared.scales.Scale.{Scale}
+use Rattle.oe_model.specs.Rows.{Rows}
+use Rattle.oe_model.specs.Population.{IsScale, IsPopulated}
+use Rattle.oe_model.specs.System.{system}
+use Rattle.oe_model.proofs.PopulationFacts.{population_is_one}
+use Rattle.oe_model.proofs.SystemLaws.{laws, population_is_good}
+use Rattle.oe_admission.specs.Programs.{HasProgram}
+use Rattle.oe_core.specs.Steps.{refusal_in, Advances}
+use Rattle.oe_core.specs.declared.advances.Advanced.{Advanced}
+use Rattle.oe_core.specs.declared.advances.Advanced.TheVariants as advanced
+use Rattle.oe_script.proofs.WorldFacts.{live_step}
+use Rattle.oe_serial.specs.InOrder.{Between, at_first, Refuses, between}
+use Rattle.oe_serial.specs.Worlds.{IsFree, IsAtWork, Ends, shortage_of}
+use Rattle.oe_serial.proofs.AloneFacts.{begun_alone, more_alone, commits_alone, aborts_alone, of_advance, of_begin}
+use Rattle.oe_serial.proofs.AloneFacts.{Stays, purge_stays}
+
+pub begins_work : (w v : World system) (t : ℕ) (q : Request) → HasProgram q → IsFree w
+    → Next system w (Begin t q) theory.Begun v → IsAtWork (between system w) t q v
+begins_work w v t q p f n = record {
+  live = live_step w (step.Begin t q) theory.Begun v p f.live n;
+  open_alone = begun_alone system laws w v t q f.quiet n;
+}
+
+pub goes_on_at_work : (b : Between system) (t : ℕ) (q : Request) (w v : World system) → IsAtWork b t q w
+    → Next system w (Advance t) theory.More v → IsAtWork b t q v
+goes_on_at_work b t q w v h n = record {
+  live = live_step w (step.Advance t) theory.More v tt h.live n;
+  open_alone = more_alone system laws b t q w v h.open_alone n;
+}
+
+-- a refusal of its own
+refused : (b : Between system) (t : ℕ) (q : Request) (w v : World system) (e : Refusal) → IsAtWork b t q w
+    → Next system w (Advance t) (refusal_in (step.Advance t) e) v → shortage_of e ≡ None → Refuses system b t q e
+refused b t q w v (refusal.NoSuchRow x) h n s = inr (inr (aborts_alone system laws b t q w v _ h.live.0 h.open_alone n))
+refused b t q w v (refusal.RowExists x) h n s = inr (inr (aborts_alone system laws b t q w v _ h.live.0 h.open_alone n))
+refused b t q w v (refusal.Overflow x) h n s = inr (inr (aborts_alone system laws b t q w v _ h.live.0 h.open_alone n))
+refused b t q w v (refusal.Reference x) h n s = inr (inr (aborts_alone system laws b t q w v _ h.live.0 h.open_alone n))
+refused b t q w v refusal.KeyColumn h n s = inr (inr (aborts_alone system laws b t q w v _ h.live.0 h.open_alone n))
+refused b t q w v (refusal.Busy x u) h n s = absurd (of_advance system laws b t q w _ _ v h.open_alone n refl)
+refused b t q w v refusal.UndoFull h n s = let not : ⊥ = cc in absurd not
+refused b t q w v refusal.NoMemory h n s = let not : ⊥ = cc in absurd not
+refused b t q w v refusal.NotOpen h n s = absurd (of_advance system laws b t q w _ _ v h.open_alone n refl)
+refused b t q w v refusal.AlreadyOpen h n s = absurd (of_advance system laws b t q w _ _ v h.open_alone n refl)
+refused b t q w v refusal.InvalidItem h n s = inr (inr (aborts_alone system laws b t q w v _ h.live.0 h.open_alone n))
+refused b t q w v refusal.NoCustomer h n s = inr (inr (aborts_alone system laws b t q w v _ h.live.0 h.open_alone n))
+refused b t q w v (refusal.TooOld m) h n s = absurd (of_advance system laws b t q w _ _ v h.open_alone n refl)
+refused b t q w v (refusal.Future m) h n s = absurd (of_advance system laws b t q w _ _ v h.open_alone n refl)
+refused b t q w v (refusal.NotQuiet m) h n s = absurd (of_advance system laws b t q w _ _ v h.open_alone n refl)
+refused b t q w v (refusal.NotPinned m) h n s = inr (inr (aborts_alone system laws b t q w v _ h.live.0 h.open_alone n))
+
+pub begin_refused : (w v : World system) (t : ℕ) (q : Request) (e : Refusal) → IsFree w
+    → Next system w (Begin t q) (refusal_in (step.Begin t q) e) v → shortage_of e ≡ None
+    → Refuses system (between system w) t q e
+begin_refused w v t q (refusal.NoSuchRow x) f n s = of_begin system laws w _ _ v t q f.quiet n refl
+begin_refused w v t q (refusal.RowExists x) f n s = of_begin system laws w _ _ v t q f.quiet n refl
+begin_refused w v t q (refusal.Overflow x) f n s = of_begin system laws w _ _ v t q f.quiet n refl
+begin_refused w v t q (refusal.Reference x) f n s = of_begin system laws w _ _ v t q f.quiet n refl
+begin_refused w v t q refusal.KeyColumn f n s = of_begin system laws w _ _ v t q f.quiet n refl
+begin_refused w v t q (refusal.Busy x u) f n s = absurd (of_begin system laws w _ _ v t q f.quiet n refl)
+begin_refused w v t q refusal.UndoFull f n s = let not : ⊥ = cc in absurd not
+begin_refused w v t q refusal.NoMemory f n s = let not : ⊥ = cc in absurd not
+begin_refused w v t q refusal.NotOpen f n s = absurd (of_begin system laws w _ _ v t q f.quiet n refl)
+begin_refused w v t q refusal.AlreadyOpen f n s = absurd (of_begin system laws w _ _ v t q f.quiet n refl)
+begin_refused w v t q refusal.InvalidItem f n s = of_begin system laws w _ _ v t q f.quiet n refl
+begin_refused w v t q refusal.NoCustomer f n s = of_begin system laws w _ _ v t q f.quiet n refl
+begin_refused w v t q (refusal.TooOld m) f n s = absurd (of_begin system laws w _ _ v t q f.quiet n refl)
+begin_refused w v t q (refusal.Future m) f n s = absurd (of_begin system laws w _ _ v t q f.quiet n refl)
+begin_refused w v t q (refusal.NotQuiet m) f n s = absurd (of_begin system laws w _ _ v t q f.quiet n refl)
+begin_refused w v t q (refusal.NotPinned m) f n s = of_begin system laws w _ _ v t q f.quiet n refl
+
+-- HOW A RUN ENDS
+
+pub ends_work : (b : Between system) (t : ℕ) (q : Request) (w v : World system) (r : Advanced) (last : Option Reply)
+    → IsAtWork b t q w → Advances w t r v last → (r ≡ advanced.More → ⊥) → Ends b t q r last v
+ends_work b t q w v advanced.More last h n other = other refl
+ends_work b t q w v (advanced.Committed m) last h (y, is, n) other =
+    let k = commits_alone system laws b t q w v m y h.live.0 h.open_alone n.0 in (
+      y,
+      is,
+      k.0,
+      record { live = live_step w (step.Advance t) (theory.Committed m y) v tt h.live n.0; quiet = k.1 },
+    )
+ends_work b t q w v (advanced.Refused e) last h n other = λ s. refused b t q w v e h n.0 s
+
+-- WHAT A PURGE LEAVES
+
+pub purge_keeps : (w v : World system) (m : ℕ) (a : Answer system) → IsFree w → Next system w (Purge m) a v
+    → IsFree v × (between system v ≡ between system w)
+purge_keeps w v m a f n =
+    let s : Stays system laws w v = purge_stays system laws w v m a n in (
+      record {
+        live = live_step w (step.Purge m) a v tt f.live n;
+        quiet = λ u. ap (λ (g : ℕ → Option (Open system)). g u) s.active ∙ f.quiet u;
+      },
+      s.same,
+    )
+
+-- WHERE THE FIRST TRANSACTION BEGINS
+
+opened_free : (s : Scale) (x : Rows) (n : ℕ) → IsScale s → IsPopulated s x → IsFree (opened system x n)
+opened_free s x n h p = record {
+  live = (
+    opening_is_reached system laws x n (population_is_good x (population_is_one.is_population s x h p)),
+    λ t. tt,
+  );
+  quiet = λ t. refl;
+}
+
+pub opened_so : {A E : Type 0} (w : A → World system) (s : Scale) (x : Rows) (n : ℕ) → IsScale s → IsPopulated s x
+    → (r : Result A E) → IfOk r (λ c. w c ≡ opened system x n)
+    → IfOk r (λ c. IsFree (w c) × ((y : Rows) × IsPopulated s y × (between system (w c) ≡ at_first system y)))
+opened_so w s x n h p (Ok c) e =
+    (subst IsFree (sym e) (opened_free s x n h p), (x, p, ap (λ (z : World system). between system z) e))
+opened_so w s x n h p (Err e) u = u

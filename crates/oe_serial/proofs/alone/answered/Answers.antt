@@ -1,0 +1,50 @@
+use Rattle.std.proofs.Common.{lit<, sym, subst, ◌∙◌}
+use Rattle.oe_model.specs.System.{system}
+use Rattle.oe_core.specs.Core.{world_of}
+use Rattle.oe_serial.specs.InOrder.{Between, Commits, between}
+use Rattle.oe_serial.proofs.alone.answered.Goals as goal
+
+pub clear-requires : goal.clear-requires
+clear-requires c = lit< tt
+
+pub carried_out-requires-clause-program : goal.carried_out-requires-clause-program
+carried_out-requires-clause-program c = c.requires.program
+
+pub carried_out-requires-clause-free : goal.carried_out-requires-clause-free
+carried_out-requires-clause-free c = c.requires.free
+
+pub write_reply-requires-clause-empty : goal.write_reply-requires-clause-empty
+write_reply-requires-clause-empty c = c.clear.ensures
+
+pub write_reply-requires-clause-reply : goal.write_reply-requires-clause-reply
+write_reply-requires-clause-reply c = (c.in-Committed.ensures.0, c.in-Committed.ensures.1)
+
+pub forget-requires : goal.forget-requires
+forget-requires c = c.in-Committed.ensures.3
+
+pub write_refusal-requires : goal.write_refusal-requires
+write_refusal-requires c = c.clear.ensures
+
+pub unreachable-requires : goal.unreachable-requires
+unreachable-requires c = c.in-More.ensures
+
+pub unreachable-unreachable : goal.unreachable-unreachable
+unreachable-unreachable c = c.in-More.ensures
+
+pub returns-in-Committed : goal.returns-in-Committed
+returns-in-Committed c =
+    let e = c.in-Committed.ensures in (
+      e.0,
+      subst (λ (z : Between system). Commits system (between system (world_of c.args.core.now)) c.args.terminal
+          c.args.request.now e.0 z)
+          (sym c.forget.ensures.same) e.2,
+      c.forget.ensures.free,
+      c.write_reply.ensures e.0 e.1,
+    )
+
+pub returns-in-None : goal.returns-in-None
+returns-in-None c = (
+  c.in-Refused.refusal,
+  c.in-Refused.ensures (sym c.shortage.ensures ∙ c.in-None.is),
+  c.write_refusal.ensures,
+)

@@ -1,0 +1,89 @@
+-- A file that tells of commits: an opening, and a line for each commit.
+use Rattle.std.specs.Prelude.{◌≡◌, ◌≢◌, ℕ, ◌+◌, ◌≤◌, ◌==◌, ◌⊎◌, All, List, [], ◌∷◌, ◌++◌, length, take}
+use Rattle.std.specs.Prelude.{codes, if◌then◌else◌}
+use Rattle.oe_rows.specs.declared.scales.Scale.{Scale}
+use Rattle.oe_requests.specs.declared.requests.Request.{Request}
+use Rattle.oe_lines.specs.declared.commands.Command.TheVariants as command
+use Rattle.oe_lines.specs.Grammar.{Says}
+use Rattle.oe_serial.specs.declared.lines.BadLines.{BadLines}
+
+-- the byte stands nowhere
+abbrev pub IsWithout : ℕ → List ℕ → Type 0
+IsWithout mark bytes = All (λ b. b ≢ mark) bytes
+
+-- it parts the bytes where it stands first
+pub record IsParted (mark : ℕ) (bytes before behind : List ℕ) : Type 0 where
+  pub whole : bytes ≡ before ++ mark ∷ behind
+  pub first : IsWithout mark before
+
+-- the lines of a text, each without the byte 10 that ends it; `held` stands before the text in its first line
+abbrev pub lines_from : List ℕ → List ℕ → List (List ℕ)
+lines_from held [] = []
+lines_from held (b ∷ bs) = if b == 10 then held ∷ lines_from [] bs else lines_from (held ++ b ∷ []) bs
+
+abbrev pub lines_of : List ℕ → List (List ℕ)
+lines_of text = lines_from [] text
+
+-- what stands behind the last byte 10
+abbrev pub last_from : List ℕ → List ℕ → List ℕ
+last_from held [] = held
+last_from held (b ∷ bs) = if b == 10 then last_from [] bs else last_from (held ++ b ∷ []) bs
+
+abbrev pub last_of : List ℕ → List ℕ
+last_of text = last_from [] text
+
+-- ` => `, whose `=` is the line's first, stands between these words and this text
+abbrev pub Parts : List ℕ → List ℕ → List ℕ → Type 0
+Parts line words text = IsParted 61 line (words ++ codes " ") (codes "> " ++ text)
+
+-- the line, without its end, tells that terminal t asked for q, in the words behind a script's `begin`, and was
+-- answered this text
+pub record Tells (line : List ℕ) (t : ℕ) (q : Request) (text : List ℕ) : Type 0 where
+  pub short : length line ≤ 1_024
+  pub words : List ℕ
+  pub parts : Parts line words text
+  pub asks : Says (codes "begin " ++ words) (command.Begin t q)
+
+-- it tells of some commit
+abbrev pub IsTold : List ℕ → Type 0
+IsTold line = (t : ℕ) × (q : Request) × (text : List ℕ) × Tells line t q text
+
+-- it opens that scale, with any number of extents
+pub record Opens (line : List ℕ) (s : Scale) : Type 0 where
+  pub short : length line ≤ 1_024
+  pub extents : ℕ
+  pub says : Says line (command.Open s extents)
+
+-- LINES OF NO FORM
+
+-- the first line, where it opens nothing
+abbrev pub Unopened : List ℕ → List ℕ → Type 0
+Unopened line bad =
+    ((s : Scale) × Opens line s × (bad ≡ [])) ⊎ (((s : Scale) → Opens line s → ⊥) × (bad ≡ 1 ∷ []))
+
+-- of these lines, the first of which is the n-th, those that tell of no commit
+abbrev pub Untold : ℕ → List (List ℕ) → List ℕ → Type 0
+Untold n [] bad = bad ≡ []
+Untold n (line ∷ lines) bad =
+    (IsTold line × Untold (n + 1) lines bad)
+    ⊎ ((IsTold line → ⊥) × ((more : List ℕ) × Untold (n + 1) lines more × (bad ≡ n ∷ more)))
+
+-- a last line without its end, which would be the n-th
+abbrev pub unended : ℕ → List ℕ → List ℕ
+unended n [] = []
+unended n (b ∷ bs) = n ∷ []
+
+-- the numbers of all lines that have no form, in order; a file without a line has no opening
+abbrev pub AreBadOf : List (List ℕ) → List ℕ → List ℕ → Type 0
+AreBadOf [] last bad = bad ≡ 1 ∷ []
+AreBadOf (line ∷ lines) last bad =
+    (first more : List ℕ) × Unopened line first × Untold 2 lines more
+    × (bad ≡ first ++ more ++ unended (length lines + 2) last)
+
+abbrev pub AreBad : List ℕ → List ℕ → Type 0
+AreBad input bad = AreBadOf (lines_of input) (last_of input) bad
+
+-- the first twenty of them, and how many they are
+pub record Shows (shown : BadLines) (bad : List ℕ) : Type 0 where
+  pub first : shown.first.items ≡ take 20 bad
+  pub count : shown.count ≡ length bad

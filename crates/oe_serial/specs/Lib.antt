@@ -1,0 +1,5 @@
+-- What the clauses of this crate cite.
+pub mod InOrder
+pub mod Files
+pub mod Verdicts
+pub mod Worlds

@@ -1,0 +1,109 @@
+-- Whether lines tell of commits as their transactions make them, run one at a time in this order.
+use Rattle.std.specs.Prelude.{◌≡◌, ◌≢◌, ℕ, ◌+◌, ◌≤◌, ◌⊎◌, All, Option, Result, Ok, Err, List, [], ◌∷◌, ◌++◌, length}
+use Rattle.std.specs.Prelude.{codes, decimal}
+use Rattle.oe_rows.specs.declared.scales.Scale.{Scale}
+use Rattle.oe_requests.specs.declared.requests.Request.{Request}
+use Rattle.oe_requests.specs.declared.replies.Reply.{Reply}
+use Rattle.oe_requests.specs.declared.refusals.Refusal.{Refusal}
+use Rattle.oe_texts.specs.Reply.{reply_text}
+use Rattle.oe_texts.specs.Refusal.{error_text}
+use Rattle.oe_model.specs.Rows.{Rows}
+use Rattle.oe_model.specs.Population.{IsPopulated}
+use Rattle.oe_model.specs.System.{system}
+use Rattle.oe_ports.specs.Ports.{Sink, Sent, Cut}
+use Rattle.oe_serial.specs.InOrder.{Between, at_first, Commits, Refuses}
+use Rattle.oe_serial.specs.Files.{Tells, IsTold, Opens, lines_of, last_of, AreBad, Shows}
+use Rattle.oe_serial.specs.declared.verdicts.Verdict.{Verdict}
+use Rattle.oe_serial.specs.declared.verdicts.Verdict.TheVariants as verdict
+use Rattle.oe_serial.specs.declared.reports.Fault.{Fault}
+use Rattle.oe_serial.specs.declared.reports.Fault.TheVariants as fault
+
+-- the line's transaction commits, and the text of its reply is the line's
+abbrev pub Agrees : Between system → List ℕ → Between system → Type 0
+Agrees b line b' = (t : ℕ) × (q : Request) × (y : Reply) × Tells line t q (reply_text y) × Commits system b t q y b'
+
+-- lines agree, one after another
+abbrev pub AreSerial : Between system → List (List ℕ) → Between system → Type 0
+AreSerial b [] b' = b' ≡ b
+AreSerial b (line ∷ lines) b' = (mid : Between system) × Agrees b line mid × AreSerial mid lines b'
+
+-- a transaction commits with a reply of another text than `theirs`, or is refused; `ours` is the text that it is
+-- answered
+abbrev pub Gives : Between system → ℕ → Request → List ℕ → List ℕ → Type 0
+Gives b t q theirs ours =
+    ((y : Reply) × (b' : Between system) × Commits system b t q y b' × (ours ≡ reply_text y) × (theirs ≢ ours))
+    ⊎ ((e : Refusal) × Refuses system b t q e × (ours ≡ error_text e))
+
+abbrev pub Differs : Between system → List ℕ → List ℕ → List ℕ → Type 0
+Differs b line theirs ours = (t : ℕ) × (q : Request) × Tells line t q theirs × Gives b t q theirs ours
+
+-- the lines before one agree, and that one, of this number, does not; the opening is line 1
+pub record IsFirstOther (b : Between system) (lines : List (List ℕ)) (number : ℕ) (theirs ours : List ℕ) : Type 0 where
+  pub before : List (List ℕ)
+  pub line : List ℕ
+  pub behind : List (List ℕ)
+  pub mid : Between system
+  pub lines_are : lines ≡ before ++ line ∷ behind
+  pub number_is : number ≡ length before + 2
+  pub agree : AreSerial b before mid
+  pub differs : Differs mid line theirs ours
+
+-- all lines agree, and are so many; or one is the first that does not
+abbrev pub IsVerdict : Between system → List (List ℕ) → Verdict → List ℕ → Type 0
+IsVerdict b lines (verdict.Serial n) ours = (b' : Between system) × AreSerial b lines b' × (n ≡ length lines)
+IsVerdict b lines (verdict.Differs number theirs) ours = IsFirstOther b lines number theirs.now ours
+IsVerdict b lines (verdict.Unreadable bad) ours = ⊥
+
+-- the file opens a scale, each of its other lines tells of a commit, and this is the verdict on them from that scale's
+-- population
+pub record IsOfFile (input : List ℕ) (v : Verdict) (ours : List ℕ) : Type 0 where
+  pub opening : List ℕ
+  pub lines : List (List ℕ)
+  pub scale : Scale
+  pub base : Rows
+  pub lines_are : lines_of input ≡ opening ∷ lines
+  pub ended : last_of input ≡ []
+  pub opens : Opens opening scale
+  pub told : All IsTold lines
+  pub populated : IsPopulated scale base
+  pub is_verdict : IsVerdict (at_first system base) lines v ours
+
+-- that; or the numbers of lines that have no form
+abbrev pub IsDecided : List ℕ → Verdict → List ℕ → Type 0
+IsDecided input (verdict.Serial n) ours = IsOfFile input (verdict.Serial n) ours
+IsDecided input (verdict.Differs number theirs) ours = IsOfFile input (verdict.Differs number theirs) ours
+IsDecided input (verdict.Unreadable shown) ours = (bad : List ℕ) × AreBad input bad × (bad ≢ []) × Shows shown bad
+
+-- WHAT IS WRITTEN
+
+abbrev pub serial_line : ℕ → List ℕ
+serial_line n = codes "serial " ++ decimal n ++ codes "\n"
+
+-- line <number>: "<theirs>", in this order "<ours>"
+abbrev pub differs_line : ℕ → List ℕ → List ℕ → List ℕ
+differs_line number theirs ours =
+    codes "line " ++ decimal number ++ codes ": \"" ++ theirs ++ codes "\", in this order \"" ++ ours ++ codes "\"\n"
+
+abbrev pub verdict_text : Verdict → List ℕ → List ℕ
+verdict_text (verdict.Serial n) ours = serial_line n
+verdict_text (verdict.Differs number theirs) ours = differs_line number theirs.now ours
+verdict_text (verdict.Unreadable bad) ours = []
+
+abbrev pub status_of : Verdict → ℕ
+status_of (verdict.Serial n) = 0
+status_of (verdict.Differs number theirs) = 1
+status_of (verdict.Unreadable bad) = 2
+
+-- the text that a line tells is no longer than a line
+abbrev pub IsShort : Verdict → Type 0
+IsShort (verdict.Serial n) = Unit {0}
+IsShort (verdict.Differs number theirs) = length theirs.now ≤ 1_024
+IsShort (verdict.Unreadable bad) = Unit {0}
+
+-- The file is decided, and the verdict written; nothing was decided or written, for want of memory or extents; or a
+-- beginning of the verdict was.
+abbrev pub SerialRan : List ℕ → Option Sink → Option Sink → Result Verdict Fault → Type 0
+SerialRan input old new (Ok v) = (ours : List ℕ) × IsDecided input v ours × Sent old [] new [] (verdict_text v ours)
+SerialRan input old new (Err (fault.Short s)) = new ≡ old
+SerialRan input old new (Err fault.Write) =
+    (v : Verdict) × (ours : List ℕ) × IsDecided input v ours × Cut old [] new (verdict_text v ours)

@@ -1,0 +1,69 @@
+//! What is told of a file: a line on the output where it is decided, and an exit status.
+ghost use Rattle.std.specs.Prelude.{◌≡◌, ◌≤◌, ◌++◌, [], length};
+ghost use Rattle.oe_serial.specs.Verdicts.{verdict_text, status_of, IsShort, SerialRan};
+
+use crate::texts::{differs_line, serial_line};
+use crate::verdicts::{Shortage, Verdict, decide};
+use arrayvec::ArrayVec;
+use oe_ports::output::flush;
+use oe_ports::ports::Outlet;
+use oe_texts::{LONGEST, Pending};
+use std::alloc::Global;
+
+/// Why a file is not told of whole.
+#[derive(Clone, Copy, PartialEq, Eq)]
+pub enum Fault {
+    /// Nothing was decided, and nothing was written.
+    Short(Shortage),
+    /// A write failed. A beginning of the line was written.
+    Write,
+}
+
+/// Gives the exit status of a verdict: 0 where all agree, 1 where a line disagrees, and 2 where
+/// lines have no form.
+pub fn status(verdict: &Verdict) -> u8
+    ensures { result ≡ status_of verdict.now }
+{
+    match verdict {
+        Verdict::Serial(_) => 0,
+        Verdict::Differs(_, _) => 1,
+        Verdict::Unreadable(_) => 2,
+    }
+}
+
+// Writes the line of a verdict; none where nothing is decided.
+fn tell(out: &mut Pending, verdict: &Verdict, ours: &[u8])
+    requires empty { out.old.items ≡ [] }
+    requires short { IsShort verdict.now }
+    requires ours { length ours.now ≤ LONGEST }
+    ensures { out.new.items ≡ verdict_text verdict.now ours.now }
+{
+    match verdict {
+        Verdict::Serial(count) => serial_line(out, *count),
+        Verdict::Differs(number, theirs) => differs_line(out, *number, theirs, ours),
+        Verdict::Unreadable(_) => {}
+    }
+}
+
+/// Decides whether a file's lines tell of commits as their transactions make them, run one at a
+/// time in this order, and writes the verdict. Nothing is written where lines have no form: they
+/// are part of the verdict then.
+pub fn run_serial<'a, W: Outlet>(
+    alloc: Global,
+    input: &'a [u8],
+    writer: &mut W,
+) -> Result<Verdict<'a>, Fault>
+    ensures { SerialRan input.now (W.sink writer.old) (W.sink writer.new) result }
+{
+    let mut ours: ArrayVec<u8, LONGEST> = ArrayVec::new();
+    let verdict = match decide(alloc, input, &mut ours) {
+        Ok(verdict) => verdict,
+        Err(shortage) => return Err(Fault::Short(shortage)),
+    };
+    let mut out = Pending::new();
+    tell(&mut out, &verdict, ours.as_slice());
+    match flush(&mut out, writer) {
+        Ok(()) => Ok(verdict),
+        Err(_) => Err(Fault::Write),
+    }
+}
