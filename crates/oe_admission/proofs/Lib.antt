@@ -1,1 +1,3 @@
 pub mod RejectionFacts
+pub mod RankFacts
+pub mod LiveFacts

@@ -1,7 +1,7 @@
--- Sums that grow by what each row of a walk adds, as far as they can.
+-- The sums of a district's customers, and how great they can be.
 use Rattle.std.proofs.Common.{◌≡◌, ℕ, ◌+◌, ◌*◌, ◌-◌, ◌<◌, ◌≤◌, min, refl, sym, ◌∙◌, ap, subst, Bool, true, false, cond}
 use Rattle.std.proofs.Common.{List, [], ◌∷◌, length, set, get_or, arith}
-use Rattle.std.specs.Prelude.{T, ◌≢◌, ◌&&◌, ◌==◌, sum_by}
+use Rattle.std.specs.Prelude.{T, ◌≢◌, ◌&&◌, ◌==◌}
 use Rattle.std.specs.declared.cmp.Ordering.{Ordering}
 use Rattle.std.specs.declared.cmp.Ordering.TheVariants.{Less, Equal, Greater}
 use Rattle.std.specs.Cmp.{ranked}
@@ -9,16 +9,11 @@ use Rattle.std.specs.Ordering.{is_lt, nat_cmp, ordering_then}
 use Rattle.std.specs.FinMap.Entries.{is_sorted, below_all}
 use Rattle.std.proofs.lemmas.Bool.{eqb-true, eqb-false}
 use Rattle.std.proofs.lemmas.List.{get_or-set_same, get_or-set_other}
-use Rattle.std.proofs.lemmas.List.Sums.{sum_by-cons}
 use Rattle.oe_rows.specs.Key.{history_cmp}
 use Rattle.oe_rows.specs.declared.keys.HistoryKey.{HistoryKey}
 use Rattle.oe_rows.specs.declared.histories.History.{History}
 use Rattle.oe_model.proofs.EntryFacts.{EachOf}
 use Rattle.oe_audit.specs.Ledgers.{sum_for, most, HaveGrown, IsPayment}
-
--- a sum that is capped, then grows
-capped : (a b r t m : ℕ) → min (a + (b + r)) m ≡ min t m → min (min (a + b) m + r) m ≡ min t m
-capped a b r t m e = omega arith
 
 -- the sum of one customer, when an amount is added for one
 pub one_added : (sums : List ℕ) (length_is : length sums ≡ 3_000) (k amount : ℕ) → 1 ≤ k → k ≤ 3_000 → (c : ℕ) → 1 ≤ c
@@ -50,40 +45,9 @@ no_more false n = omega arith
 pub none_added : (sums : List ℕ) (more : ℕ → ℕ) → ((c : ℕ) → 1 ≤ c → c ≤ 3_000 → more c ≡ 0) → HaveGrown more sums sums
 none_added sums more none c low high fits = let z = none c low high in omega arith
 
-module _ {E : Type 0} (adds : E → ℕ → ℕ) (target : ℕ → ℕ) where
-  -- what the rest of a walk adds leads from these sums to their target
-  pub record Leads (sums : List ℕ) (es : List E) : Type 0 where
-    pub fits : (c : ℕ) → 1 ≤ c → c ≤ 3_000 → sum_for sums c ≤ most
-    pub leads : (c : ℕ) → 1 ≤ c → c ≤ 3_000 → min (sum_for sums c + sum_by (λ e. adds e c) es) most ≡ min (target c)
-        most
-
-  pub leads_first : (sums : List ℕ) (es : List E) → ((c : ℕ) → 1 ≤ c → c ≤ 3_000 → sum_for sums c ≡ 0)
-      → ((c : ℕ) → target c ≡ sum_by (λ e. adds e c) es) → Leads sums es
-  leads_first sums es zero is = record {
-    fits = λ c low high. let z = zero c low high in omega arith;
-    leads = λ c low high. let z = zero c low high in let t = is c in omega arith;
-  }
-
-  pub leads_on : (before after : List ℕ) (all es : List E) (e : E) → all ≡ e ∷ es → Leads before all
-      → HaveGrown (adds e) before after → Leads after es
-  leads_on before after all es e split l grown = record {
-    fits = λ c low high. let g = grown c low high (l.fits c low high) in omega arith;
-    leads = λ c low high.
-        let g = grown c low high (l.fits c low high) in
-        let whole : min (sum_for before c + (adds e c + sum_by (λ e. adds e c) es)) most ≡ min (target c) most =
-        (λ i. min (sum_for before c + sym (ap (sum_by (λ e. adds e c)) split ∙ sum_by-cons (λ e. adds e c) e es) i)
-        most) ∙ l.leads c low high in
-        ap (λ n. min (n + sum_by (λ e. adds e c) es) most) g ∙ capped (sum_for before c) (adds e c)
-        (sum_by (λ e. adds e c) es) (target c) most whole;
-  }
-
-  pub leads_last : (sums : List ℕ) (es : List E) → es ≡ [] → Leads sums es → (c : ℕ) → 1 ≤ c → c ≤ 3_000
-      → sum_for sums c ≡ min (target c) most
-  leads_last sums es none l c low high =
-      let f = l.fits c low high in
-      let all : min (sum_for sums c + 0) most ≡ min (target c) most =
-      (λ i. min (sum_for sums c + sum_by (λ e. adds e c) (sym none i)) most) ∙ l.leads c low high in
-      omega arith
+-- a C_ID
+abbrev pub IsNumber : ℕ → Type 0
+IsNumber c = (1 ≤ c) × (c ≤ 3_000)
 
 -- the place of a HISTORY key among all keys that there can be
 abbrev pub place_of : HistoryKey → ℕ

@@ -9,5 +9,6 @@ mod WalkFacts
 mod QuietFacts
 mod PaidFacts
 mod DeliveredFacts
+pub mod LeadFacts
 mod LedgerFacts
 mod AgreeFacts

@@ -11,3 +11,4 @@ pub mod PastFacts
 mod SendFacts
 pub mod CountFacts
 mod AskFacts
+pub mod LiveFacts

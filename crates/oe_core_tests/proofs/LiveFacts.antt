@@ -16,7 +16,8 @@ use Rattle.oe_requests.specs.declared.steps.Step.TheVariants as step
 use Rattle.oe_core.specs.Core.{CoreState, world_of}
 use Rattle.oe_admission.specs.Programs.{HasProgram}
 use Rattle.oe_core.specs.Steps.{begins_with}
-use Rattle.oe_script.specs.Session.{state_of, IsLive}
+use Rattle.oe_script.specs.Session.{state_of}
+use Rattle.oe_admission.specs.Programs.{IsLive}
 
 pub opened_is_live : (c : CoreState) (r : Rows) (n : ℕ) → world_of c ≡ opened system r n → IsPopulation r
     → IsLive (state_of (Some c))

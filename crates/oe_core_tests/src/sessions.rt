@@ -1,6 +1,7 @@
 //! Sessions on tables that no script opens, whose lines are said all at once, and sums of dumps.
 ghost use Rattle.std.specs.Prelude.{None};
-ghost use Rattle.oe_script.specs.Session.{state_of, IsLive};
+ghost use Rattle.oe_script.specs.Session.{state_of};
+ghost use Rattle.oe_admission.specs.Programs.{IsLive};
 
 use crate::made::populated;
 use crate::planted::{Planted, plant_all};

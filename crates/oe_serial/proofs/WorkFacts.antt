@@ -6,6 +6,7 @@ use Rattle.oe_theory.specs.Next.{Next, Begin, Advance, Purge, Answer}
 use Rattle.oe_theory.specs.Theorems.{opened}
 use Rattle.oe_theory.proofs.Theorems.{opening_is_reached}
 use Rattle.oe_requests.specs.declared.requests.Request.{Request}
+use Rattle.oe_requests.specs.declared.requests.Request.TheVariants as request
 use Rattle.oe_requests.specs.declared.replies.Reply.{Reply}
 use Rattle.oe_requests.specs.declared.refusals.Refusal.{Refusal}
 use Rattle.oe_requests.specs.declared.refusals.Refusal.TheVariants as refusal
@@ -16,15 +17,24 @@ use Rattle.oe_model.specs.Population.{IsScale, IsPopulated}
 use Rattle.oe_model.specs.System.{system}
 use Rattle.oe_model.proofs.PopulationFacts.{population_is_one}
 use Rattle.oe_model.proofs.SystemLaws.{laws, population_is_good}
+use Rattle.oe_lines.specs.Grammar as grammar
 use Rattle.oe_admission.specs.Programs.{HasProgram}
 use Rattle.oe_core.specs.Steps.{refusal_in, Advances}
 use Rattle.oe_core.specs.declared.advances.Advanced.{Advanced}
 use Rattle.oe_core.specs.declared.advances.Advanced.TheVariants as advanced
-use Rattle.oe_script.proofs.WorldFacts.{live_step}
+use Rattle.oe_core.proofs.LiveFacts.{live_step}
 use Rattle.oe_serial.specs.InOrder.{Between, at_first, Refuses, between}
 use Rattle.oe_serial.specs.Worlds.{IsFree, IsAtWork, Ends, shortage_of}
 use Rattle.oe_serial.proofs.AloneFacts.{begun_alone, more_alone, commits_alone, aborts_alone, of_advance, of_begin}
 use Rattle.oe_serial.proofs.AloneFacts.{Stays, purge_stays}
+
+-- a request that a line spells has a program
+pub has_program : (q : Request) → grammar.IsRequest q → HasProgram q
+has_program (request.Payment q) h = tt
+has_program (request.NewOrder q) h = tt
+has_program (request.Delivery q) h = tt
+has_program (request.Deliveries q) h = tt
+has_program (request.Rename q) h = absurd h
 
 pub begins_work : (w v : World system) (t : ℕ) (q : Request) → HasProgram q → IsFree w
     → Next system w (Begin t q) theory.Begun v → IsAtWork (between system w) t q v

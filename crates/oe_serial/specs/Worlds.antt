@@ -11,7 +11,7 @@ use Rattle.oe_texts.specs.Refusal.{error_text}
 use Rattle.oe_model.specs.System.{system}
 use Rattle.oe_core.specs.declared.advances.Advanced.{Advanced}
 use Rattle.oe_core.specs.declared.advances.Advanced.TheVariants as advanced
-use Rattle.oe_script.specs.Session.{IsLive}
+use Rattle.oe_admission.specs.Programs.{IsLive}
 use Rattle.oe_serial.specs.InOrder.{Between, Commits, Refuses, between, HasOpen}
 use Rattle.oe_serial.specs.declared.alone.Outcome.{Outcome}
 use Rattle.oe_serial.specs.declared.alone.Outcome.TheVariants as outcome

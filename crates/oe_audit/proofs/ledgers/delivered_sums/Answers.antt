@@ -7,7 +7,7 @@ use Rattle.oe_audit.specs.AsOf.{rows_then, row_then}
 use Rattle.oe_audit.specs.Ledgers.{line_then_adds}
 use Rattle.oe_audit.specs.declared.as_of.AsOf.{AsOf}
 use Rattle.oe_audit.proofs.DeliveredFacts.{delivered_was}
-use Rattle.oe_audit.proofs.LedgerFacts.{leads_first, leads_on}
+use Rattle.oe_audit.proofs.LeadFacts.{leads_first, leads_on, leads_last}
 use Rattle.oe_audit.proofs.ledgers.delivered_sums.Goals as goal
 
 abbrev all_add : Rows → AsOf → ℕ → List (OrderLineKey × OrderLine) → ℕ
@@ -15,11 +15,15 @@ all_add r w n es = sum_by (λ e. line_then_adds r e.0 (row_then w r.order_lines 
 
 pub loop-key-init : goal.loop-key-init
 loop-key-init c =
-    leads_first _ _ c.zeros-sums.result _ c.zeros-sums.ensures (λ n.
+    leads_first _ _ _ _ c.zeros-sums.result _ (λ n i. c.zeros-sums.ensures n i.0 i.1) (λ n.
     delivered_was c.args.tables.now c.args.when.now c.requires c.args.district.now n
     ∙ ap (all_add (rows_then c.args.tables.now c.args.when.now) c.args.when.now n)
     (sym (c.into_iter-key-iterator.ensures.into_iter_gives ∙ c.order_lines_of_district-key-items.ensures)))
 
 pub loop-key-preserved : goal.loop-key-preserved
-loop-key-preserved c = leads_on _ _ c.loop-key.sums _ _ _ _ c.in-Some.ensures.steps c.loop-key.invariant
-    c.add_line_then.ensures
+loop-key-preserved c = leads_on _ _ _ _ c.loop-key.sums _ _ _ _ c.in-Some.ensures.steps c.loop-key.invariant
+    (λ n i f. c.add_line_then.ensures n i.0 i.1 f)
+
+pub returns : goal.returns
+returns c n low high =
+    leads_last _ _ _ _ c.loop-key.sums _ c.in-None.ensures.steps.0 c.loop-key.invariant n (low, high)

@@ -1,4 +1,4 @@
-use Rattle.std.proofs.Common.{ℕ, sym, ◌∙◌, ap, subst, List}
+use Rattle.std.proofs.Common.{ℕ, sym, ◌∙◌, ap, subst, List, arith}
 use Rattle.std.specs.Prelude.{T, sum_by}
 use Rattle.std.specs.FinMap.{entries_sorted}
 use Rattle.std.specs.FinMap.Entries.{is_sorted}
@@ -12,7 +12,8 @@ use Rattle.oe_audit.specs.AsOf.{rows_then}
 use Rattle.oe_audit.specs.Ledgers.{payment_adds}
 use Rattle.oe_audit.specs.declared.as_of.AsOf.{AsOf}
 use Rattle.oe_audit.proofs.PaidFacts.{paid_by_was}
-use Rattle.oe_audit.proofs.LedgerFacts.{leads_first, leads_on, few_first, few_on, no_more}
+use Rattle.oe_audit.proofs.LeadFacts.{leads_first, leads_on, leads_last}
+use Rattle.oe_audit.proofs.LedgerFacts.{few_first, few_on, no_more}
 use Rattle.oe_audit.proofs.ledgers.paid_sums.Goals as goal
 
 abbrev all_add : Rows → AsOf → DistrictKey → ℕ → List (HistoryKey × History) → ℕ
@@ -21,7 +22,7 @@ all_add r w h n es = sum_by (λ e. payment_adds w r.histories h e n) es
 pub loop-key-init : goal.loop-key-init
 loop-key-init c =
     let walk = c.into_iter-key-iterator.ensures.into_iter_gives ∙ c.histories-key-items.ensures in (
-      leads_first _ _ c.zeros-sums.result _ c.zeros-sums.ensures (λ n.
+      leads_first _ _ _ _ c.zeros-sums.result _ (λ n i. c.zeros-sums.ensures n i.0 i.1) (λ n.
           paid_by_was c.args.tables.now c.args.when.now c.requires c.args.district.now n
           ∙ ap (all_add (rows_then c.args.tables.now c.args.when.now) c.args.when.now c.args.district.now n)
           (sym walk)),
@@ -32,7 +33,15 @@ loop-key-init c =
 
 pub loop-key-preserved : goal.loop-key-preserved
 loop-key-preserved c = (
-  leads_on _ _ c.loop-key.sums _ _ _ _ c.in-Some.ensures.steps c.loop-key.invariant.0 c.add_payment.ensures.sums,
+  leads_on _ _ _ _ c.loop-key.sums _ _ _ _ c.in-Some.ensures.steps c.loop-key.invariant.0
+      (λ n i f. c.add_payment.ensures.sums n i.0 i.1 f),
   few_on c.loop-key.sums _ _ _ _ _ c.in-Some.ensures.steps c.loop-key.invariant.1 c.add_payment.ensures.ranges
-      (λ n. no_more _ _) c.loop-key.invariant.0.fits c.add_payment.ensures.sums,
+      (λ n. no_more _ _) (λ n low high. c.loop-key.invariant.0.fits n (low, high)) c.add_payment.ensures.sums,
 )
+
+pub returns : goal.returns
+returns c n low high =
+    let sum = leads_last _ _ _ _ c.loop-key.sums _ c.in-None.ensures.steps.0 c.loop-key.invariant.0 n (low, high) in
+    let few = c.loop-key.invariant.1.few n low high in
+    let below = c.loop-key.invariant.1.below in
+    (omega arith, omega arith)

@@ -1,13 +1,14 @@
 use Rattle.oe_model.specs.Keys.{customer_in}
 use Rattle.oe_model.specs.FurtherConditions.{paid_by}
 use Rattle.oe_audit.specs.AsOf.{rows_then}
-use Rattle.oe_audit.specs.Ledgers.{payment_adds}
-use Rattle.oe_audit.proofs.LedgerFacts.{Leads, AreFew}
+use Rattle.oe_audit.specs.Ledgers.{sum_for, payment_adds}
+use Rattle.oe_audit.proofs.LeadFacts.{Leads}
+use Rattle.oe_audit.proofs.LedgerFacts.{IsNumber, AreFew}
 use Rattle.oe_audit.proofs.ledgers.paid_sums.Given as goal
 
 -- what the payments that are left add leads to what was paid, and no sum is too great
 abbrev pub invariant-loop-key : goal.invariant-loop-key
 invariant-loop-key l =
-    Leads (λ e c. payment_adds l.when (rows_then l.tables l.when).histories l.district e c)
+    Leads IsNumber sum_for (λ e c. payment_adds l.when (rows_then l.tables l.when).histories l.district e c)
     (λ c. paid_by (rows_then l.tables l.when) (customer_in l.district c)) l.sums l.key-iterator
     × AreFew l.sums l.key-iterator

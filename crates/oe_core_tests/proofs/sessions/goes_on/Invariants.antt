@@ -1,4 +1,5 @@
-use Rattle.oe_script.specs.Session.{state_of, IsLive}
+use Rattle.oe_script.specs.Session.{state_of}
+use Rattle.oe_admission.specs.Programs.{IsLive}
 use Rattle.oe_core_tests.proofs.sessions.goes_on.Given as goal
 
 abbrev pub invariant-loop : goal.invariant-loop

@@ -1,6 +1,6 @@
 use Rattle.oe_model.specs.System.{system}
 use Rattle.oe_core.specs.Core.{world_of, last_reply}
-use Rattle.oe_script.proofs.WorldFacts.{falls}
+use Rattle.oe_admission.proofs.LiveFacts.{falls}
 use Rattle.oe_serial.specs.InOrder.{between}
 use Rattle.oe_serial.proofs.WorkFacts.{begins_work, goes_on_at_work, ends_work, begin_refused}
 use Rattle.oe_serial.proofs.alone.carried_out.Goals as goal

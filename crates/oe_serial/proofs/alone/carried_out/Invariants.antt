@@ -1,6 +1,6 @@
 use Rattle.oe_model.specs.System.{system}
 use Rattle.oe_core.specs.Core.{world_of}
-use Rattle.oe_script.proofs.WorldFacts.{left}
+use Rattle.oe_admission.proofs.LiveFacts.{left}
 use Rattle.oe_serial.specs.InOrder.{between}
 use Rattle.oe_serial.specs.Worlds.{IsAtWork}
 use Rattle.oe_serial.proofs.alone.carried_out.Given as goal

@@ -1,7 +1,7 @@
 use Rattle.std.proofs.Common.{◌≡◌, ℕ, List, lit<, sym, subst, ◌∙◌, inl, inr, rules}
 use Rattle.oe_model.specs.System.{system}
 use Rattle.oe_core.specs.Core.{world_of}
-use Rattle.oe_script.proofs.LineFacts.{has_program}
+use Rattle.oe_serial.proofs.WorkFacts.{has_program}
 use Rattle.oe_serial.specs.Files.{Tells}
 use Rattle.oe_serial.specs.InOrder.{between}
 use Rattle.oe_serial.proofs.LineFacts.{words_short}
