@@ -810,6 +810,12 @@ waits_found [] c e = says_at _ _ c (command.Show display.Waits) refl (some_same 
     (record { form = tt; spelled = refl })
 waits_found (b ∷ bs) c e = let none : ⊥ = cc in absurd none
 
+locks_found : (s : List ℕ) (c : Command) → at_end (command.Show display.Locks) s ≡ Some c → Says (codes "locks" ++ s) c
+unfolding at_end
+locks_found [] c e = says_at _ _ c (command.Show display.Locks) refl (some_same _ c e)
+    (record { form = tt; spelled = refl })
+locks_found (b ∷ bs) c e = let none : ⊥ = cc in absurd none
+
 rare_found : (s : List ℕ) (c : Command) → rare_command_of s ≡ Some c → Says s c
 unfolding rare_command_of
 rare_found s c e = elim (begun_some (after_of (codes "save ") s) _ _ c e) [
@@ -831,15 +837,18 @@ rare_found s c e = elim (begun_some (after_of (codes "save ") s) _ _ c e) [
               | inl h ↦ rw (after_found (codes "read ") s h.0 h.1) (reading_found h.0 c h.2)
               | inr e ↦ elim (begun_some (after_of (codes "waits") s) _ _ c e) [
                 | inl h ↦ rw (after_found (codes "waits") s h.0 h.1) (waits_found h.0 c h.2)
-                | inr e ↦ elim (begun_some (after_of (codes "purge ") s) _ _ c e) [
-                  | inl h ↦ rw (after_found (codes "purge ") s h.0 h.1)
-                      (of_moment_found (λ m. command.Purge m) (codes "purge") h.0 c
-                      (λ m r. record { form = r; spelled = refl }) h.2)
-                  | inr e ↦ elim (begun_some (after_of (codes "rewind ") s) _ None c e) [
-                    | inl h ↦ rw (after_found (codes "rewind ") s h.0 h.1)
-                        (of_moment_found (λ m. command.Rewind m) (codes "rewind") h.0 c
+                | inr e ↦ elim (begun_some (after_of (codes "locks") s) _ _ c e) [
+                  | inl h ↦ rw (after_found (codes "locks") s h.0 h.1) (locks_found h.0 c h.2)
+                  | inr e ↦ elim (begun_some (after_of (codes "purge ") s) _ _ c e) [
+                    | inl h ↦ rw (after_found (codes "purge ") s h.0 h.1)
+                        (of_moment_found (λ m. command.Purge m) (codes "purge") h.0 c
                         (λ m r. record { form = r; spelled = refl }) h.2)
-                    | inr e ↦ cc
+                    | inr e ↦ elim (begun_some (after_of (codes "rewind ") s) _ None c e) [
+                      | inl h ↦ rw (after_found (codes "rewind ") s h.0 h.1)
+                          (of_moment_found (λ m. command.Rewind m) (codes "rewind") h.0 c
+                          (λ m r. record { form = r; spelled = refl }) h.2)
+                      | inr e ↦ cc
+                    ]
                   ]
                 ]
               ]
@@ -890,6 +899,7 @@ spelled (command.Back t) h = rw (terminal t h) refl
 spelled (command.Rollback t) h = rw (terminal t h) refl
 spelled (command.Show (display.Rows t)) h = rw (table_only t) refl
 spelled (command.Show display.Waits) h = refl
+spelled (command.Show display.Locks) h = refl
 spelled (command.Audit c m) h = audit_only c m h
 spelled (command.Read m q) h = read_only m q h.0 h.1
 spelled (command.Purge m) h = rw (moment_only m h) refl

@@ -65,6 +65,7 @@ query_words (query.Level q) =
 abbrev pub display_words : Display → List (List ℕ)
 display_words (display.Rows table) = codes "dump" ∷ table_name table ∷ []
 display_words display.Waits = codes "waits" ∷ []
+display_words display.Locks = codes "locks" ∷ []
 
 -- the words of a command
 abbrev pub words_of : Command → List (List ℕ)

@@ -247,9 +247,10 @@ rare_command_of line =
     (begun (after_of (codes "audit ") line) audit_of
     (begun (after_of (codes "read ") line) reading_of
     (begun (after_of (codes "waits") line) (at_end (command.Show display.Waits))
+    (begun (after_of (codes "locks") line) (at_end (command.Show display.Locks))
     (begun (after_of (codes "purge ") line) (λ r. option_map (λ m. command.Purge m) (moment_of r))
     (begun (after_of (codes "rewind ") line) (λ r. option_map (λ m. command.Rewind m) (moment_of r))
-    None)))))))))
+    None))))))))))
 
 unfoldable pub command_of : List ℕ → Option Command
 command_of line =

@@ -21,6 +21,8 @@ pub enum Display {
     Rows(Table),
     /// Who waits for whom.
     Waits,
+    /// Who holds which name in which mode.
+    Locks,
 }
 
 /// What a line asks for.

@@ -123,6 +123,8 @@ fn rare_command(line: &[u8]) -> Option<Command>
         reading(rest)
     } else if let Some(rest) = after(line, b"waits") {
         at_end(rest, Command::Show(Display::Waits))
+    } else if let Some(rest) = after(line, b"locks") {
+        at_end(rest, Command::Show(Display::Locks))
     } else if let Some(rest) = after(line, b"purge ") {
         Some(Command::Purge(moment(rest)?))
     } else if let Some(rest) = after(line, b"rewind ") {

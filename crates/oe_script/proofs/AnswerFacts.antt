@@ -44,8 +44,9 @@ use Rattle.oe_model.proofs.SystemLaws.{laws}
 use Rattle.oe_audit.specs.Verdict.{condition_of, verdict_of}
 use Rattle.oe_core.specs.Steps.{step_in, answer_in}
 use Rattle.oe_script.specs.Script.{RunsIn}
-use Rattle.oe_script.specs.Session.{IsLive}
-use Rattle.oe_script.proofs.WorldFacts.{left, falls, live_step}
+use Rattle.oe_admission.specs.Programs.{IsLive}
+use Rattle.oe_admission.proofs.LiveFacts.{left, falls}
+use Rattle.oe_core.proofs.LiveFacts.{live_step}
 
 -- the refusals that programs and requests come to
 abbrev IsOwn : Refusal → Type 0

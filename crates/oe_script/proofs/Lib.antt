@@ -1,5 +1,3 @@
-pub mod RankFacts
-pub mod WorldFacts
 pub mod AnswerFacts
 pub mod LineFacts
 pub mod Reaching

@@ -1,6 +1,6 @@
 -- Each line is answered.
 use Rattle.std.proofs.Common.{◌≡◌, Result, Ok, Err, ℕ, ◌+◌, ◌<◌, ◌≤◌, Bool, true, false, Option, None, Some, List, []}
-use Rattle.std.proofs.Common.{◌∷◌, ◌++◌, length, refl, sym, ap, ◌∙◌, subst, inl, inr, arith}
+use Rattle.std.proofs.Common.{zero, suc, ◌∷◌, ◌++◌, length, refl, sym, ap, ◌∙◌, subst, inl, inr, arith}
 use Rattle.std.specs.Prelude.{◌⊎◌, ◌≢◌, IfSome}
 use Rattle.std.proofs.lemmas.Bool.{cases_order}
 use Rattle.oe_theory.specs.Next.{Next}
@@ -36,11 +36,11 @@ use Rattle.oe_core.specs.declared.advances.Advanced.{Advanced}
 use Rattle.oe_core.specs.declared.advances.Advanced.TheVariants as advanced
 use Rattle.oe_ports.specs.Lines.{bad_line}
 use Rattle.oe_script.specs.Script.{State, moment_in, told, Stepped, IsAllowed, Answers, Asks, LineAnswer, RunOfLines}
-use Rattle.oe_script.specs.Script.{Holds, shown_text}
-use Rattle.oe_script.specs.Session.{IsLive}
+use Rattle.oe_script.specs.Script.{Holds, shown_text, RunsIn}
+use Rattle.oe_admission.specs.Programs.{IsLive}
+use Rattle.oe_core.proofs.LiveFacts.{live_step}
 use Rattle.oe_ports.specs.Ports.{Sink, Sent, Cut, Streams}
 use Rattle.oe_script.specs.Outcome.{IsAnswer, Replies}
-use Rattle.oe_script.proofs.WorldFacts.{live_step, live_runs}
 use Rattle.oe_ports.proofs.Streaming.{sent_waits, sent_then, sent_cut, cut_more}
 use Rattle.oe_script.proofs.AnswerFacts.{IsTold, told_advance, told_save, told_back, told_rollback, told_begin}
 use Rattle.oe_script.proofs.AnswerFacts.{told_audit, told_read, told_purge, told_rewind, told_run}
@@ -48,7 +48,7 @@ use Rattle.oe_script.proofs.AnswerFacts.{told_audit, told_read, told_purge, told
 -- THE FORMS OF LINES
 
 -- a request that a line spells has a program
-pub has_program : (q : Request) → grammar.IsRequest q → HasProgram q
+has_program : (q : Request) → grammar.IsRequest q → HasProgram q
 has_program (request.Payment q) h = tt
 has_program (request.NewOrder q) h = tt
 has_program (request.Delivery q) h = tt
@@ -68,6 +68,11 @@ one_command line c d h k =
     let same : ◌≡◌ {A = Option Command} (Some c) (Some d) = sym (said_is_read line c h) ∙ said_is_read line d k in cc
 
 -- WHAT LINES KEEP
+
+live_runs : (n : ℕ) (w : World system) (t : ℕ) (x : Answer) (w' : World system) → IsLive (Some w)
+    → RunsIn n w t x w' → IsLive (Some w')
+live_runs zero w t x w' l r = live_step w (step.Advance t) _ w' tt l r.1
+live_runs (suc n) w t x w' l r = live_runs n r.0 t x w' (live_step w (step.Advance t) _ r.0 tt l r.1) r.2
 
 live_opened : (s : Scale) (extents : ℕ) (r : Rows) → IsScale s → IsPopulated s r
     → IsLive (Some (opened system r extents))

@@ -10,7 +10,8 @@ use Rattle.std.proofs.lemmas.Bool.{cases_eq}
 use Rattle.oe_ports.specs.Ports.{Sink, Sent, Cut, Streams}
 use Rattle.oe_script.specs.Outcome.{Replies}
 use Rattle.oe_script.specs.Script.{State, LineAnswer, RunOfLines, IsInLine, ended, last_text, Output, Holds, Reached}
-use Rattle.oe_script.specs.Session.{IsLive, Standing, Broken, Fed, Ended}
+use Rattle.oe_script.specs.Session.{Standing, Broken, Fed, Ended}
+use Rattle.oe_admission.specs.Programs.{IsLive}
 use Rattle.oe_ports.proofs.Streaming.{sent_then, sent_cut, sent_as, cut_as, cut_more}
 use Rattle.oe_script.proofs.LineFacts.{live_lines, line_answered}
 

@@ -25,7 +25,7 @@ use Rattle.oe_lines.specs.declared.commands.MomentChoice.TheVariants as moment
 use Rattle.oe_lines.specs.Grammar.{Says}
 use Rattle.oe_core.specs.Steps.{step_in, answer_in}
 use Rattle.oe_ports.specs.Dump.{dump_text}
-use Rattle.oe_waits.specs.Texts.{waits_text}
+use Rattle.oe_waits.specs.Texts.{locks_text, waits_text}
 use Rattle.oe_ports.specs.Lines.{bad_line}
 
 -- nothing is open yet, or the world that a core stands for
@@ -69,10 +69,11 @@ Opens scale extents text s =
     ((r : Rows) × IsPopulated scale r × (text ≡ codes "opened\n") × (s ≡ Some (opened system r extents)))
     ⊎ ((text ≡ answer_line (answer.Refused refusal.NoMemory)) × (s ≡ None))
 
--- what is shown of a world as it stands: a table's rows, or who waits for whom
+-- what is shown of a world as it stands: a table's rows, who waits for whom, or who holds what
 abbrev pub shown_text : Display → World system → List ℕ
 shown_text (display.Rows t) w = dump_text t (tables system w)
 shown_text display.Waits w = waits_text w
+shown_text display.Locks w = locks_text w
 
 -- before something is open only `open` is in the grammar, and afterwards it is not
 abbrev pub IsAllowed : State → Command → Type 0

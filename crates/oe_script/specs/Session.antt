@@ -1,11 +1,6 @@
 -- A session between two bytes of its input, and how a script ends.
 use Rattle.std.specs.Prelude.{◌≡◌, ℕ, ◌+◌, ◌^◌, ◌<◌, ◌≤◌, ◌⊎◌, Bool, List, [], ◌++◌, length, ⊤, Option, Some, None}
 use Rattle.std.specs.Prelude.{Result, Ok, Err, MatchResult}
-use Rattle.oe_theory.specs.World.{Open, World}
-use Rattle.oe_theory.specs.Theorems.{IsReached}
-use Rattle.oe_model.specs.Positions.{Position, InPayment, InNewOrder, InDelivery, InDeliveries, DeliveriesEnd}
-use Rattle.oe_model.specs.Positions.{NoProgram}
-use Rattle.oe_model.specs.System.{system}
 use Rattle.oe_core.specs.Core.{CoreState, world_of}
 use Rattle.oe_script.specs.declared.session.Fault.{Fault}
 use Rattle.oe_script.specs.declared.session.Fault.TheVariants.{Read, Write}
@@ -16,30 +11,6 @@ use Rattle.oe_script.specs.Script.{State, Output, Holds, Reached}
 abbrev pub state_of : Option CoreState → State
 state_of None = None
 state_of (Some c) = Some (world_of c)
-
--- a position of a program that steps of today run: a payment's, an order's, or a delivery's, of one district or of ten;
--- while a district of ten is at hand, others are not done
-abbrev pub IsServed : Position → Type 0
-IsServed (InPayment q p) = Unit {0}
-IsServed (InNewOrder q p) = Unit {0}
-IsServed (InDelivery q p) = Unit {0}
-IsServed (InDeliveries q done p) = length done < 10
-IsServed (DeliveriesEnd done) = Unit {0}
-IsServed NoProgram = ⊥
-
--- an open transaction runs one of them, here and at its mark
-abbrev pub IsServing : Option (Open system) → Type 0
-IsServing None = Unit {0}
-IsServing (Some o) = IsServed o.now.position × IsServed o.mark.position
-
--- each of them does
-abbrev pub AreServing : World system → Type 0
-AreServing w = (t : ℕ) → IsServing (w.active t)
-
--- nothing is open, or a world that steps of today led to
-abbrev pub IsLive : State → Type 0
-IsLive None = Unit {0}
-IsLive (Some w) = IsReached system w × AreServing w
 
 -- The session stands behind this input: what it has written or holds back is the output so far.
 abbrev pub Standing : Option Sink → List ℕ → Option Sink → List ℕ → State → ℕ → List ℕ → Bool → Type 0

@@ -16,7 +16,8 @@ ghost use Rattle.oe_admission.specs.Programs.{HasProgram};
 ghost use Rattle.oe_core.specs.Steps.{step_in, answer_in, begins_with};
 ghost use Rattle.oe_ports.specs.Ports.{Streams};
 ghost use Rattle.oe_script.specs.Script.{LineAnswer, RunsIn, moment_in, shown_text};
-ghost use Rattle.oe_script.specs.Session.{state_of, IsLive};
+ghost use Rattle.oe_script.specs.Session.{state_of};
+ghost use Rattle.oe_admission.specs.Programs.{IsLive};
 ghost use Rattle.oe_script.specs.Outcome.{IsAnswer, Tells, TellsRun, Replies};
 
 use oe_core::{Advanced, Core};
@@ -29,7 +30,7 @@ use oe_requests::{Answer, Condition, Query, Refusal, Request, Step};
 use oe_rows::Scale;
 use oe_texts::{LONGEST, Pending, SIZE, answer, audited, begun, committed, more, opened, refused};
 use oe_values::{ExtentCount, Moment, NoMemory, Terminal};
-use oe_waits::show_waits;
+use oe_waits::{show_locks, show_waits};
 use std::alloc::Global;
 
 /// Answers a line, which stands without its end and has this number. What waits is written first
@@ -255,7 +256,7 @@ fn later<W: Outlet>(
     }
 }
 
-/// Shows a core's table, or who waits for whom.
+/// Shows a core's table, who waits for whom, or who holds what.
 fn show<W: Outlet>(core: &Core, shown: Display, out: &mut Pending, to: &mut W) -> Result<(), Failed>
     ensures { Streams (W.sink to.old) out.old.items (W.sink to.new) out.new.items
         (shown_text shown (world_of core.now)) result }
@@ -263,6 +264,7 @@ fn show<W: Outlet>(core: &Core, shown: Display, out: &mut Pending, to: &mut W) -
     match shown {
         Display::Rows(table) => dump(core.tables(), table, out, to),
         Display::Waits => show_waits(core, out, to),
+        Display::Locks => show_locks(core, out, to),
     }
 }
 

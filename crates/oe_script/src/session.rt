@@ -2,7 +2,8 @@
 ghost use Rattle.std.specs.Prelude.{◌≡◌, ◌<◌, ◌≤◌, ◌+◌, ◌++◌, ◌∷◌, ◌^◌, ℕ, List, [], length, Option, None, true, false, OnOk};
 ghost use Rattle.oe_ports.specs.Ports.{Sink, Streams};
 ghost use Rattle.oe_script.specs.Script.{Holds, last_text};
-ghost use Rattle.oe_script.specs.Session.{state_of, IsLive, Fed, Standing, Ended, ScriptRan};
+ghost use Rattle.oe_script.specs.Session.{state_of, Fed, Standing, Ended, ScriptRan};
+ghost use Rattle.oe_admission.specs.Programs.{IsLive};
 ghost use Rattle.oe_script.specs.Outcome.{Replies};
 
 use crate::outcome::answer_line;

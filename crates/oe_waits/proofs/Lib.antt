@@ -4,3 +4,5 @@ mod WaitFacts
 mod SetFacts
 mod ReachFacts
 mod TextFacts
+mod OrderFacts
+mod HeldFacts

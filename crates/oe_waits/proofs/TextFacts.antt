@@ -58,6 +58,10 @@ parted f n (suc m) h = go (cases_eq n (suc m)) (λ other. parted f n m (omega (a
           ap (λ z. z ++ f (suc m)) before.1 ∙ append_assoc (texts_to f n) before.0 (f (suc m)),
         )
 
+pub texts_parted : (f : ℕ → List ℕ) (n : ℕ) → n ≤ 64
+    → (rest : List ℕ) × (texts_to f last_terminal ≡ texts_to f n ++ rest)
+texts_parted f n small = parted f n last_terminal (last_within n small)
+
 -- a line goes out behind what went out
 pub went_on : (a b c : Option Sink) (h i j k : List ℕ) (f : ℕ → List ℕ) (n m : ℕ) → m ≡ suc n
     → Sent a h b i (texts_to f n) → Sent b i c j [] → k ≡ j ++ f m → Sent a h c k (texts_to f m)

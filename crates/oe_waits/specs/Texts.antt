@@ -1,5 +1,6 @@
--- What a script is told of the transactions that wait.
+-- What a script is told of the transactions that wait, and of the names that they hold.
 use Rattle.std.specs.Prelude.{ℕ, zero, suc, cond, List, [], ◌∷◌, ◌++◌, codes, decimal, Option, None, Some}
+use Rattle.std.specs.List.{flat_map}
 use Rattle.oe_theory.specs.Machine as theory
 use Rattle.oe_theory.specs.Machine.{Hold}
 use Rattle.oe_theory.specs.World.{World}
@@ -7,8 +8,9 @@ use Rattle.oe_rows.specs.declared.locks.Name.{Name}
 use Rattle.oe_model.specs.System.{system}
 use Rattle.oe_texts.specs.Dump.{count_line}
 use Rattle.oe_texts.specs.Key.{name_text}
-use Rattle.oe_core.specs.Asks.{wanted_by}
+use Rattle.oe_core.specs.Asks.{held_by, wanted_by}
 use Rattle.oe_waits.specs.Knots.{count_to}
+use Rattle.oe_waits.specs.Names.{held_count, held_names}
 use Rattle.oe_waits.specs.Waits.{waits_for, last_terminal, waits, wait_in_cycle, is_least_in_cycle}
 
 -- the texts of the numbers 1 to n, one behind the other
@@ -56,3 +58,19 @@ abbrev pub waits_text : World system → List ℕ
 waits_text w =
     texts_to (waiting_line w) last_terminal ++ or_no_cycle (texts_to (cycle_line w) last_terminal)
     ++ count_line (count_to (waits w) last_terminal)
+
+-- `3 Warehouse(1) S`, of a name in the mode in which the terminal holds it
+abbrev pub held_text : ℕ → Name → Option theory.Mode → List ℕ
+held_text t n None = []
+held_text t n (Some m) = decimal t ++ codes " " ++ name_text n ++ codes " " ++ mode_text m ++ codes "\n"
+
+abbrev pub held_line : World system → ℕ → Name → List ℕ
+held_line w t n = held_text t n (held_by w t n)
+
+-- a line of each name that the terminal holds
+abbrev pub held_lines : World system → ℕ → List ℕ
+held_lines w t = flat_map (held_line w t) (held_names w t)
+
+-- the names that the terminals hold, from the lowest terminal on, and how many there are
+abbrev pub locks_text : World system → List ℕ
+locks_text w = texts_to (held_lines w) last_terminal ++ count_line (held_count w last_terminal)

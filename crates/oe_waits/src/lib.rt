@@ -1,11 +1,13 @@
-//! Which open transactions wait for which, as a script is told. Nothing here changes a core or takes
-//! memory.
+//! Which open transactions wait for which, and what they hold, as a script is told. Nothing here
+//! changes a core or takes memory.
 #![tactic(auto)]
 
+pub mod holdings;
 pub mod laws;
 mod reaching;
 pub mod shows;
 pub mod waiting;
 
+pub use holdings::show_locks;
 pub use shows::show_waits;
 pub use waiting::waits_for;

@@ -23,7 +23,7 @@ use oe_texts::{LONGEST, Pending, SIZE, name, rows, small, text};
 use oe_values::{TERMINALS, Terminal};
 
 /// Appends `S` or `X`.
-fn mode(out: &mut Pending, mode: Mode)
+pub(crate) fn mode(out: &mut Pending, mode: Mode)
     requires { array_vec_len out.old + 1 ≤ SIZE }
     ensures items { out.new.items ≡ out.old.items ++ mode_text (mode_of mode) }
     ensures len { array_vec_len out.new ≤ array_vec_len out.old + 1 }
@@ -247,7 +247,7 @@ fn line<W: Outlet>(out: &mut Pending, to: &mut W, bytes: &[u8]) -> Result<(), Fa
 }
 
 /// Appends the line of a count, and writes what waits first where there is no room behind it.
-fn total<W: Outlet>(count: u64, out: &mut Pending, to: &mut W) -> Result<(), Failed>
+pub(crate) fn total<W: Outlet>(count: u64, out: &mut Pending, to: &mut W) -> Result<(), Failed>
     ensures { Streams (W.sink to.old) out.old.items (W.sink to.new) out.new.items
         (count_line count) result }
 {

@@ -3,7 +3,8 @@ use Rattle.oe_requests.specs.declared.answers.Answer.TheVariants as answer
 use Rattle.oe_requests.specs.declared.steps.Step.TheVariants as step
 use Rattle.oe_core.specs.Steps.{answer_in}
 use Rattle.oe_core.specs.Core.{world_of, last_reply}
-use Rattle.oe_script.proofs.WorldFacts.{falls, live_step}
+use Rattle.oe_admission.proofs.LiveFacts.{falls}
+use Rattle.oe_core.proofs.LiveFacts.{live_step}
 use Rattle.oe_script.proofs.LineFacts.{answer_of, not_more}
 use Rattle.oe_script.proofs.outcome.run.Goals as goal
 

@@ -4,8 +4,8 @@ use Rattle.oe_model.specs.System.{system}
 use Rattle.oe_requests.specs.declared.answers.Answer.{Answer}
 use Rattle.oe_core.specs.Core.{world_of}
 use Rattle.oe_script.specs.Script.{RunsIn}
-use Rattle.oe_script.specs.Session.{IsLive}
-use Rattle.oe_script.proofs.WorldFacts.{left}
+use Rattle.oe_admission.specs.Programs.{IsLive}
+use Rattle.oe_admission.proofs.LiveFacts.{left}
 use Rattle.oe_script.proofs.outcome.run.Given as goal
 
 -- what runs from here runs from the start

@@ -1,6 +1,7 @@
 use Rattle.std.proofs.Common.{◌≡◌, ℕ, ◌+◌, ◌≤◌, List, ◌++◌, length, Option}
 use Rattle.oe_ports.specs.Ports.{Sink}
-use Rattle.oe_script.specs.Session.{state_of, IsLive, Standing}
+use Rattle.oe_script.specs.Session.{state_of, Standing}
+use Rattle.oe_admission.specs.Programs.{IsLive}
 use Rattle.oe_script.proofs.session.Session.feed.Given as goal
 
 -- a front of the piece was taken

@@ -1,5 +1,6 @@
 use Rattle.std.proofs.Common.{◌≡◌, ℕ, ◌*◌, ◌≤◌, List, [], length}
-use Rattle.oe_script.specs.Session.{state_of, IsLive, Standing, ReadSoFar}
+use Rattle.oe_script.specs.Session.{state_of, Standing, ReadSoFar}
+use Rattle.oe_admission.specs.Programs.{IsLive}
 use Rattle.oe_script.proofs.session.Session.run.Given as goal
 
 abbrev pub invariant-loop : goal.invariant-loop

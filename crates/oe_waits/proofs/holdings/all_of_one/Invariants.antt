@@ -1,0 +1,15 @@
+use Rattle.std.proofs.Common.{◌≡◌, ◌-◌, length}
+use Rattle.oe_core.specs.Core.{world_of}
+use Rattle.oe_ports.specs.Ports.{Sent}
+use Rattle.oe_waits.proofs.HeldFacts.{shown_lines, shown_names}
+use Rattle.oe_waits.proofs.holdings.all_of_one.Given as goal
+
+-- the lines of the names up to the last place went out
+abbrev pub invariant-loop-name : goal.invariant-loop-name
+invariant-loop-name g l =
+    Sent (g.W.Outlet.sink l.initial.to) l.initial.out.items (g.W.Outlet.sink l.to) l.out.items
+    (shown_lines (world_of l.core) l.holder l.behind)
+    × (l.count ≡ length (shown_names (world_of l.core) l.holder l.behind))
+
+abbrev pub decreases-loop-name : goal.decreases-loop-name
+decreases-loop-name g l = 2_000_000_000 - l.count

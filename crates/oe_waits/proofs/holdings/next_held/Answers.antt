@@ -1,0 +1,20 @@
+use Rattle.std.proofs.Common.{◌+◌, take, option_map, sym, ap, ◌∙◌, subst, arith}
+use Rattle.oe_core.specs.Core.{world_of}
+use Rattle.oe_waits.specs.Names.{is_left, lesser}
+use Rattle.oe_waits.proofs.HeldFacts.{IsBest, best_all, best_more, not_left}
+use Rattle.oe_waits.proofs.holdings.next_held.Goals as goal
+
+pub loop-name-preserved : goal.loop-name-preserved
+loop-name-preserved c =
+    let f = is_left (world_of c.args.core.now) c.args.holder c.args.behind.now in
+    let best = option_map (λ n. n.now) c.loop-name.least in
+    subst (IsBest f (take (c.loop-name.name-index + 1) c.names-names.result.now))
+    (ap (λ b. lesser best c.name-item.result b) (sym c.is_left.ensures) ∙ sym c.lesser-least.ensures)
+    (best_more f c.names-names.result.now c.loop-name.name-index c.name-item.result best c.name-item.is (omega arith)
+    c.loop-name.invariant)
+
+pub returns : goal.returns
+returns c =
+    best_all (is_left (world_of c.args.core.now) c.args.holder c.args.behind.now) c.names-names.result.now
+    c.loop-name.name-index (option_map (λ n. n.now) c.loop-name.least) (omega arith) c.loop-name.invariant
+    (λ q absent. not_left (world_of c.args.core.now) c.args.holder c.args.behind.now q (c.names-names.ensures q absent))
