@@ -1,10 +1,8 @@
--- Sums by place that grow, one HISTORY row after another.
+-- Sums by place: the one that grows, and which place is whose.
 use Rattle.std.proofs.Common.{◌≡◌, ◌≢◌, ℕ, ◌+◌, ◌<◌, ◌≤◌, refl, sym, ◌∙◌, ap, subst, Bool, true, false, cond}
-use Rattle.std.proofs.Common.{List, [], ◌∷◌, length, set, replicate, zero, suc, arith}
-use Rattle.std.specs.Prelude.{sum_by}
+use Rattle.std.proofs.Common.{List, length, set, replicate, zero, suc, arith}
 use Rattle.std.specs.Ordering.{eq_by_cmp}
 use Rattle.std.proofs.lemmas.List.{get_or-set_same, get_or-set_other}
-use Rattle.std.proofs.lemmas.List.Sums.{sum_by-cons}
 use Rattle.oe_rows.specs.Key.{IsDistrictKey, warehouse_cmp, district_cmp}
 use Rattle.oe_rows.specs.declared.keys.WarehouseKey.{WarehouseKey}
 use Rattle.oe_rows.specs.declared.keys.DistrictKey.{DistrictKey}
@@ -13,47 +11,6 @@ use Rattle.oe_model.proofs.MapFacts.{is_same, is_self}
 use Rattle.oe_audit.specs.Ledgers.{most}
 use Rattle.oe_findings.specs.Findings.{held}
 use Rattle.oe_findings.specs.Sums.{IsWarehouseKey, warehouse_place, district_place, sum_at}
-
--- a sum that is capped, then grows
-capped : (a b r t : ℕ) → held (a + (b + r)) ≡ held t → held (held (a + b) + r) ≡ held t
-capped a b r t e = omega arith
-
--- sums at the places of keys in their ranges
-module _ {E K : Type 0} (InRange : K → Type 0) (place : K → ℕ) (adds : E → K → ℕ) (target : K → ℕ) where
-  -- what the rest of a walk adds leads from these sums to their target
-  pub record Leads (sums : List ℕ) (es : List E) : Type 0 where
-    pub fits : (k : K) → InRange k → sum_at sums (place k) ≤ most
-    pub leads : (k : K) → InRange k → held (sum_at sums (place k) + sum_by (λ e. adds e k) es) ≡ held (target k)
-
-  pub leads_first : (sums : List ℕ) (es : List E) → ((n : ℕ) → sum_at sums n ≡ 0)
-      → ((k : K) → target k ≡ sum_by (λ e. adds e k) es) → Leads sums es
-  leads_first sums es none is = record {
-    fits = λ k i. let z = none (place k) in omega arith;
-    leads = λ k i. let z = none (place k) in let t = is k in omega arith;
-  }
-
-  pub leads_on : (before after : List ℕ) (all es : List E) (e : E) → all ≡ e ∷ es → Leads before all
-      → ((k : K) → InRange k → sum_at before (place k) ≤ most
-      → sum_at after (place k) ≡ held (sum_at before (place k) + adds e k))
-      → Leads after es
-  leads_on before after all es e split l grown = record {
-    fits = λ k i. let g = grown k i (l.fits k i) in omega arith;
-    leads = λ k i.
-        let g = grown k i (l.fits k i) in
-        let whole : held (sum_at before (place k) + (adds e k + sum_by (λ e. adds e k) es)) ≡ held (target k) =
-        ap (λ n. held (sum_at before (place k) + n))
-        (sym (ap (sum_by (λ e. adds e k)) split ∙ sum_by-cons (λ e. adds e k) e es)) ∙ l.leads k i in
-        ap (λ n. held (n + sum_by (λ e. adds e k) es)) g
-        ∙ capped (sum_at before (place k)) (adds e k) (sum_by (λ e. adds e k) es) (target k) whole;
-  }
-
-  pub leads_last : (sums : List ℕ) (es : List E) → es ≡ [] → Leads sums es → (k : K) → InRange k
-      → sum_at sums (place k) ≡ held (target k)
-  leads_last sums es none l k i =
-      let f = l.fits k i in
-      let all : held (sum_at sums (place k) + 0) ≡ held (target k) =
-      ap (λ xs. held (sum_at sums (place k) + sum_by (λ e. adds e k) xs)) (sym none) ∙ l.leads k i in
-      omega arith
 
 -- each sum is 0 at first
 pub none_yet : (size n : ℕ) → sum_at (replicate size 0) n ≡ 0

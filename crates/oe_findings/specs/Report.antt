@@ -11,8 +11,8 @@ use Rattle.oe_rows.specs.declared.keys.Table.TheVariants as table
 use Rattle.oe_model.specs.Rows.{Rows}
 use Rattle.oe_texts.specs.Key.{key_text}
 use Rattle.oe_findings.specs.declared.findings.Finding.{Finding}
-use Rattle.oe_findings.specs.declared.apart.Apart.{Apart}
-use Rattle.oe_findings.specs.declared.apart.RowCounts.{RowCounts}
+use Rattle.oe_loading.specs.declared.counts.RowCounts.{RowCounts}
+use Rattle.oe_loading.specs.declared.loading.Apart.{Apart}
 use Rattle.oe_findings.specs.Findings.{held, findings}
 use Rattle.oe_findings.specs.Texts.{condition_text, finding_line}
 

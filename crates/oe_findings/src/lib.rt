@@ -3,7 +3,6 @@
 //! numbers are TPC Benchmark C 5.11's.
 #![tactic(auto)]
 
-pub mod apart;
 mod asked;
 mod figures;
 pub mod findings;
@@ -15,7 +14,6 @@ mod sums;
 pub mod texts;
 mod walks;
 
-pub use apart::{Apart, RowCounts};
 pub use findings::Finding;
 pub use laws::findings_are_exact;
 pub use reports::write_report;

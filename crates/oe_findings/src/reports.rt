@@ -10,11 +10,11 @@ ghost use Rattle.oe_ports.specs.Ports.{Streams};
 ghost use Rattle.oe_store.specs.Places.{rows};
 ghost use Rattle.oe_findings.specs.Report.{all_conditions, apart_line, condition_lines, count_text, ending_line, failing_count, fails, hidden, is_sound, last_line, read_line, report_text, status_of, total, verdict_text};
 
-use crate::apart::{Apart, RowCounts};
 use crate::lines::{Line, put, put_all};
 use crate::texts::condition;
 use crate::walks::put_condition;
 use itoa::Buffer;
+use oe_loading::{Apart, RowCounts};
 use oe_ports::output::flush;
 use oe_ports::ports::{Failed, Outlet};
 use oe_requests::Condition;
@@ -137,21 +137,19 @@ impl Line for RowCounts {
     }
 }
 
-impl RowCounts {
-    /// Gives how many rows were read in all.
-    pub fn total(&self) -> u128
-        ensures { result ≡ total self.now }
-    {
-        u128::from(self.warehouses)
-            + u128::from(self.districts)
-            + u128::from(self.customers)
-            + u128::from(self.histories)
-            + u128::from(self.new_orders)
-            + u128::from(self.orders)
-            + u128::from(self.order_lines)
-            + u128::from(self.items)
-            + u128::from(self.stocks)
-    }
+/// Gives how many rows were read in all.
+fn total(counts: &RowCounts) -> u128
+    ensures { result ≡ total counts.now }
+{
+    u128::from(counts.warehouses)
+        + u128::from(counts.districts)
+        + u128::from(counts.customers)
+        + u128::from(counts.histories)
+        + u128::from(counts.new_orders)
+        + u128::from(counts.orders)
+        + u128::from(counts.order_lines)
+        + u128::from(counts.items)
+        + u128::from(counts.stocks)
 }
 
 impl Last {
@@ -266,7 +264,7 @@ fn put_report<W: Outlet>(
     let last = Last {
         failing,
         apart: apart.len() as u64,
-        rows: counts.total(),
+        rows: total(counts),
     };
     match put(&last, out, to) {
         Ok(()) => Ok(u8::from(!last.is_sound())),

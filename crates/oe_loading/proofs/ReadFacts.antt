@@ -20,8 +20,12 @@ use Rattle.oe_loading.specs.declared.lines.Reading as reading
 use Rattle.oe_loading.specs.Fault.{Told, shown, pushed, all_pushed}
 use Rattle.oe_loading.specs.Lines.{IsInLine, ended, with_last, said_of, IsWrong, counts, Taken, Begins, TakesRow}
 use Rattle.oe_loading.specs.Lines.{TakesCount, TakesFault, Stands, Holds, AreAll, FileRead}
-use Rattle.oe_loading.specs.Loading.{TellsNone, ReadWell}
-use Rattle.std.specs.List.Sorted.{IsPermutation}
+use Rattle.oe_loading.specs.Loading.{LotRead, ReadWell}
+use Rattle.oe_loading.specs.Twice.{twice_in}
+use Rattle.oe_loading.proofs.TwiceFacts.{none_each, once}
+use Rattle.oe_rows.specs.declared.keys.Key.{Key}
+use Rattle.std.specs.Cmp.{IsTotalOrder}
+use Rattle.std.specs.declared.cmp.Ordering.{Ordering}
 use Rattle.oe_loading.specs.Reading.{CountsOne, TakesOne, Standing, Finished}
 
 -- ---- the number of the next line
@@ -268,23 +272,30 @@ pub none_pushed : (fs : List Fault) (t : Told Fault) → (all_pushed fs t).count
 none_pushed [] t e = (refl, e)
 none_pushed (f ∷ fs) t e = absurd (pushed_some (all_pushed fs t).count e)
 
-module _ {K X : Type 0} (spells : ℕ → List ℕ → K × X → Type 0) (table : Table) (old new : Option Source)
-    (start told : Told Fault) (rows : List (Numbered K X)) (read : FileRead spells table old new start rows told) where
-  pub told_before : TellsNone start told
-  told_before e = (none_pushed read.2.2 start (sym (ap (λ (t : Told Fault). t.count) read.2.5) ∙ e)).1
-
-  pub well_read : (sorted : List (Numbered K X)) → IsPermutation rows sorted → told.count ≡ 0
-      → ReadWell spells table old new sorted
-  well_read sorted moved e =
-      let none = (none_pushed read.2.2 start (sym (ap (λ (t : Told Fault). t.count) read.2.5) ∙ e)).0 in (
-        read.0,
-        read.1,
+-- a file in which nothing was told
+pub lot_read : {K X : Type 0} (cmp : K → K → Ordering) (total : IsTotalOrder cmp) (key_of : K → Key)
+    (spells : ℕ → List ℕ → K × X → Type 0) (table : Table) (old new : Option Source) (start told : Told Fault)
+    (rows : List (Numbered K X)) → LotRead cmp key_of spells table old new start told rows → told.count ≡ 0
+    → ReadWell cmp spells table old new rows × (start.count ≡ 0)
+lot_read cmp total key_of spells table old new start told rows l e =
+    let read = l.read in
+    let twice = none_each (twice_in cmp table key_of rows) l.middle (sym (ap (λ (t : Told Fault). t.count) l.twice) ∙ e)
+    in
+    let none = none_pushed read.2.2 start (sym (ap (λ (t : Told Fault). t.count) read.2.5) ∙ twice.1) in (
+      (
         (
-          read.2.0,
-          read.2.1,
-          rows,
-          read.2.3,
-          subst (λ fs. Taken spells table read.2.0 read.2.1 rows fs) none read.2.4,
-          moved,
+          read.0,
+          read.1,
+          (
+            read.2.0,
+            read.2.1,
+            l.taken,
+            read.2.3,
+            subst (λ fs. Taken spells table read.2.0 read.2.1 l.taken fs) none.0 read.2.4,
+            l.moved,
+          ),
         ),
-      )
+        once cmp total table key_of rows l.sorted twice.0,
+      ),
+      none.1,
+    )

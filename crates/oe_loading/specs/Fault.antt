@@ -25,3 +25,8 @@ pushed f t = record { kept = kept_more f t.kept; count = shown (t.count + 1) }
 abbrev pub all_pushed : {T : Type 0} → List T → Told T → Told T
 all_pushed [] t = t
 all_pushed (f ∷ fs) t = pushed f (all_pushed fs t)
+
+-- more faults, one after another
+abbrev pub each_pushed : {T : Type 0} → List T → Told T → Told T
+each_pushed [] t = t
+each_pushed (f ∷ fs) t = each_pushed fs (pushed f t)

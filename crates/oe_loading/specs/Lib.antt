@@ -7,3 +7,4 @@ pub mod Loaded
 pub mod Loading
 pub mod Placing
 pub mod Reading
+pub mod Twice

@@ -4,6 +4,7 @@
 #![tactic(auto)]
 
 mod base;
+pub mod counts;
 pub mod faults;
 mod homes;
 pub mod lines;
@@ -11,6 +12,7 @@ pub mod loading;
 pub mod places;
 pub mod rows;
 
+pub use counts::RowCounts;
 pub use faults::{Fault, Faults, Wrong};
 pub use lines::{LINE, Numbered, PIECE, Stop, read_file};
 pub use loading::{Apart, LoadError, Loaded, Sources, load};

@@ -1,19 +1,20 @@
 //! Nine files to nine tables: all are read, and then rows are put, table after table, each after the
 //! rows that it refers to.
-ghost use Rattle.std.specs.Prelude.{◌≡◌, ◌++◌, ◌∷◌, [], IfOk, IfSome, OnOk};
-ghost use Rattle.std.specs.List.Sorted.{IsPermutation};
-ghost use Rattle.oe_rows.specs.declared.keys.Table.TheVariants as table;
-ghost use Rattle.oe_rowlines.specs.Rows.{warehouse_forms, warehouse_values, district_forms, district_values, customer_forms, customer_values, new_order_forms, new_order_values, order_forms, order_values, order_line_forms, order_line_values, item_forms, item_values, stock_forms, stock_values};
-ghost use Rattle.oe_loading.specs.Rows.{SpellsRow, SpellsHistory};
+ghost use Rattle.std.specs.Prelude.{◌≡◌, ◌++◌, ◌∷◌, [], IfOk, OnOk, MatchOption, MatchResult};
+ghost use Rattle.std.specs.List.Sorted.{IsPermutation, IsSortedByKey};
+ghost use Rattle.oe_loading.specs.declared.faults.Fault.{Fault};
+ghost use Rattle.oe_loading.specs.Fault.{Told, no_faults, each_pushed};
+ghost use Rattle.oe_loading.specs.Twice.{twice_at, twice_in};
 ghost use Rattle.oe_loading.specs.Placing.{TellsOf, Puts};
-ghost use Rattle.oe_loading.specs.Loading.{ReadWell, TellsNone, nine_of};
+ghost use Rattle.oe_loading.specs.Loading.{LotRead, TellsNone, nine_of};
 ghost use Rattle.oe_store.specs.Places.{rows};
 ghost use Rattle.oe_table.specs.Table.{rows_of};
 ghost use Rattle.oe_rows.specs.Key.{warehouse_cmp, district_cmp};
 ghost use Rattle.oe_loading.specs.Base.{AreDistricts, ArePut};
-ghost use Rattle.oe_loading.specs.Loaded.{BasePut, DeedsPut, FilesPut, FilesRead, AreLoaded};
+ghost use Rattle.oe_loading.specs.Loaded.{BasePut, DeedsPut, FilesPut, FilesTold, AreFaults, IsLoaded, IsNotLoaded, counts_of, WarehousesRead, DistrictsRead, CustomersRead, ItemsRead, StocksRead, OrdersRead, OrderLinesRead, NewOrdersRead, HistoriesRead};
 
 use crate::base::Base;
+use crate::counts::RowCounts;
 use crate::faults::{Fault, Faults, Wrong};
 use crate::homes::{put_district, put_home};
 use crate::lines::{Numbered, Stop, read_file};
@@ -101,16 +102,37 @@ pub enum LoadError {
     Stopped(Stop),
 }
 
-/// Tables, and the rows that are set apart.
+/// Tables, the rows that are set apart, and how many rows there were of each table.
 #[derive(Drop)]
 pub struct Loaded {
     pub tables: Tables,
     pub apart: Vec<Apart>,
+    pub counts: RowCounts,
+}
+
+impl Files {
+    // Counts the rows of each file.
+    fn counts(&self) -> RowCounts
+        ensures { result ≡ counts_of self.now }
+    {
+        RowCounts {
+            warehouses: self.homes.warehouses.len() as u64,
+            districts: self.homes.districts.len() as u64,
+            customers: self.homes.customers.len() as u64,
+            histories: self.deeds.histories.len() as u64,
+            new_orders: self.deeds.new_orders.len() as u64,
+            orders: self.ordered.orders.len() as u64,
+            order_lines: self.ordered.order_lines.len() as u64,
+            items: self.goods.items.len() as u64,
+            stocks: self.goods.stocks.len() as u64,
+        }
+    }
 }
 
 /// Puts the lines' rows in the order of their keys.
 fn sort<K: TableKey, R>(lot: &mut Lot<K, R>) -> Result<(), NoMemory>
-    ensures { IsPermutation lot.old.items lot.new.items }
+    ensures moved { IsPermutation lot.old.items lot.new.items }
+    ensures sorted { OnOk result (IsSortedByKey (λ n. n.key) K.cmp lot.new.items) }
 {
     if lot.is_sorted_by(|a, b| a.key.cmp(&b.key).is_lt()) {
         return Ok(());
@@ -121,18 +143,31 @@ fn sort<K: TableKey, R>(lot: &mut Lot<K, R>) -> Result<(), NoMemory>
     }
 }
 
-/// Tells of each row whose key an earlier line has, where rows stand in the order of their keys.
+/// Tells of a row whose key the row before it has.
+fn tell_same<K: TableKey, R: RowLine<K>>(
+    before: &Numbered<K, R>,
+    row: &Numbered<K, R>,
+    faults: &mut Faults,
+)
+    ensures { faults.new
+        ≡ each_pushed (twice_at K.cmp R.own_table R.key_of before.now row.now) faults.old }
+{
+    if before.key.cmp(&row.key).is_eq() {
+        faults.push(Fault {
+            table: R::table(),
+            line: row.line,
+            wrong: Wrong::Twice(R::key(&row.key)),
+        });
+    }
+}
+
+/// Tells of each row whose key the row before it has, where rows stand in the order of their keys.
 fn tell_twice<K: TableKey, R: RowLine<K>>(lot: &[Numbered<K, R>], faults: &mut Faults)
-    ensures { TellsNone faults.old faults.new }
+    ensures { faults.new
+        ≡ each_pushed (twice_in K.cmp R.own_table R.key_of lot.now) faults.old }
 {
     for at in 1..lot.len() {
-        if lot[at - 1].key.cmp(&lot[at].key).is_eq() {
-            faults.push(Fault {
-                table: R::table(),
-                line: lot[at].line,
-                wrong: Wrong::Twice(R::key(&lot[at].key)),
-            });
-        }
+        tell_same(&lot[at - 1], &lot[at], faults);
     }
 }
 
@@ -142,9 +177,8 @@ fn read_lot<K: TableKey + Drop, R: RowLine<K> + Drop, S: Intake>(
     source: &mut S,
     faults: &mut Faults,
 ) -> Result<Lot<K, R>, Stop>
-    ensures { IfOk result (λ rows. TellsNone faults.old faults.new
-        × (faults.new.count ≡ 0
-        → ReadWell R.spells R.own_table (S.source source.old) (S.source source.new) rows.items)) }
+    ensures { IfOk result (λ rows. LotRead K.cmp R.key_of R.spells R.own_table
+        (S.source source.old) (S.source source.new) faults.old faults.new rows.items) }
 {
     let mut lot = match read_file(alloc, source, faults) {
         Ok(lot) => lot,
@@ -303,13 +337,13 @@ fn read_homes<S: Intake>(
     customer: &mut S,
     faults: &mut Faults,
 ) -> Result<Homes, Stop>
-    ensures { IfOk result (λ h. TellsNone faults.old faults.new × (faults.new.count ≡ 0 →
-        ReadWell (SpellsRow warehouse_forms warehouse_values) table.Warehouse
-        (S.source warehouse.old) (S.source warehouse.new) h.warehouses.items
-        × ReadWell (SpellsRow district_forms district_values) table.District
-        (S.source district.old) (S.source district.new) h.districts.items
-        × ReadWell (SpellsRow customer_forms customer_values) table.Customer
-        (S.source customer.old) (S.source customer.new) h.customers.items)) }
+    ensures { IfOk result (λ h. (told_1 told_2 : Told Fault)
+        × WarehousesRead (S.source warehouse.old) (S.source warehouse.new) faults.old told_1
+        h.warehouses.items
+        × DistrictsRead (S.source district.old) (S.source district.new) told_1 told_2
+        h.districts.items
+        × CustomersRead (S.source customer.old) (S.source customer.new) told_2 faults.new
+        h.customers.items) }
 {
     let warehouses = match read_lot(alloc, warehouse, faults) {
         Ok(lot) => lot,
@@ -336,11 +370,10 @@ fn read_goods<S: Intake>(
     stock: &mut S,
     faults: &mut Faults,
 ) -> Result<Goods, Stop>
-    ensures { IfOk result (λ h. TellsNone faults.old faults.new × (faults.new.count ≡ 0 →
-        ReadWell (SpellsRow item_forms item_values) table.Item
-        (S.source item.old) (S.source item.new) h.items.items
-        × ReadWell (SpellsRow stock_forms stock_values) table.Stock
-        (S.source stock.old) (S.source stock.new) h.stocks.items)) }
+    ensures { IfOk result (λ g. (told_1 : Told Fault)
+        × ItemsRead (S.source item.old) (S.source item.new) faults.old told_1 g.items.items
+        × StocksRead (S.source stock.old) (S.source stock.new) told_1 faults.new
+        g.stocks.items) }
 {
     let items = match read_lot(alloc, item, faults) {
         Ok(lot) => lot,
@@ -359,11 +392,10 @@ fn read_orders<S: Intake>(
     order_line: &mut S,
     faults: &mut Faults,
 ) -> Result<Ordered, Stop>
-    ensures { IfOk result (λ h. TellsNone faults.old faults.new × (faults.new.count ≡ 0 →
-        ReadWell (SpellsRow order_forms order_values) table.Order
-        (S.source order.old) (S.source order.new) h.orders.items
-        × ReadWell (SpellsRow order_line_forms order_line_values) table.OrderLine
-        (S.source order_line.old) (S.source order_line.new) h.order_lines.items)) }
+    ensures { IfOk result (λ o. (told_1 : Told Fault)
+        × OrdersRead (S.source order.old) (S.source order.new) faults.old told_1 o.orders.items
+        × OrderLinesRead (S.source order_line.old) (S.source order_line.new) told_1 faults.new
+        o.order_lines.items) }
 {
     let orders = match read_lot(alloc, order, faults) {
         Ok(lot) => lot,
@@ -385,11 +417,11 @@ fn read_deeds<S: Intake>(
     history: &mut S,
     faults: &mut Faults,
 ) -> Result<Deeds, Stop>
-    ensures { IfOk result (λ h. TellsNone faults.old faults.new × (faults.new.count ≡ 0 →
-        ReadWell (SpellsRow new_order_forms new_order_values) table.NewOrder
-        (S.source new_order.old) (S.source new_order.new) h.new_orders.items
-        × ReadWell SpellsHistory table.History
-        (S.source history.old) (S.source history.new) h.histories.items)) }
+    ensures { IfOk result (λ d. (told_1 : Told Fault)
+        × NewOrdersRead (S.source new_order.old) (S.source new_order.new) faults.old told_1
+        d.new_orders.items
+        × HistoriesRead (S.source history.old) (S.source history.new) told_1 faults.new
+        d.histories.items) }
 {
     let new_orders = match read_lot(alloc, new_order, faults) {
         Ok(lot) => lot,
@@ -461,8 +493,10 @@ fn put_deeds(
 
 // Puts all rows.
 fn put_all(alloc: Global, files: Files, faults: &mut Faults) -> Result<Loaded, NoMemory>
-    ensures { IfOk result (λ l. FilesPut files (rows l.tables) l.apart.items faults.new) }
+    ensures put { IfOk result (λ l. FilesPut files (rows l.tables) l.apart.items faults.new) }
+    ensures counts { IfOk result (λ l. l.counts ≡ counts_of files) }
 {
+    let counts = files.counts();
     let Files {
         homes,
         goods,
@@ -472,7 +506,11 @@ fn put_all(alloc: Global, files: Files, faults: &mut Faults) -> Result<Loaded, N
     let mut apart = Vec::new(alloc);
     let mut tables = put_base(alloc, homes, goods, &mut apart, faults)?;
     match put_deeds(&mut tables, ordered, deeds, &mut apart, faults) {
-        Ok(()) => Ok(Loaded { tables, apart }),
+        Ok(()) => Ok(Loaded {
+            tables,
+            apart,
+            counts,
+        }),
         Err(refusal) => {
             tables.discard();
             Err(refusal)
@@ -486,8 +524,8 @@ fn read_all<S: Intake>(
     sources: &mut Sources<S>,
     faults: &mut Faults,
 ) -> Result<Files, Stop>
-    ensures { IfOk result (λ files. faults.new.count ≡ 0 →
-        FilesRead (nine_of S.source sources.old) (nine_of S.source sources.new) files) }
+    ensures { IfOk result (λ files. FilesTold (nine_of S.source sources.old)
+        (nine_of S.source sources.new) files faults.old faults.new) }
 {
     let homes = match read_homes(
         alloc,
@@ -524,9 +562,10 @@ fn load_all<S: Intake>(
     sources: &mut Sources<S>,
     faults: &mut Faults,
 ) -> Result<Option<Loaded>, Stop>
-    ensures { IfOk result (λ made. IfSome made (λ l. faults.new.count ≡ 0 →
-        AreLoaded (nine_of S.source sources.old) (nine_of S.source sources.new)
-        (rows l.tables) l.apart.items)) }
+    requires { faults.old ≡ no_faults }
+    ensures { IfOk result (λ made. MatchOption made
+        (AreFaults (nine_of S.source sources.old) (nine_of S.source sources.new) faults.new)
+        (λ l. IsLoaded (nine_of S.source sources.old) (nine_of S.source sources.new) l)) }
 {
     let files = match read_all(alloc, sources, faults) {
         Ok(files) => files,
@@ -536,7 +575,13 @@ fn load_all<S: Intake>(
         return Ok(None);
     }
     match put_all(alloc, files, faults) {
-        Ok(loaded) => Ok(Some(loaded)),
+        Ok(loaded) => {
+            if faults.count() == 0 {
+                return Ok(Some(loaded));
+            }
+            loaded.tables.discard();
+            Ok(None)
+        }
         Err(_) => Err(Stop::NoMemory),
     }
 }
@@ -546,22 +591,17 @@ fn load_all<S: Intake>(
 /// Each line spells a row of its table, or says as the last one how many rows there are. Rows stand
 /// in any order. Where a line can't be read the answer is `Unreadable`. A row whose reference finds
 /// no row that is kept (clauses 1.3 and 1.4) is set apart: each warehouse has to have ten districts.
+/// The counts are of the rows whose lines stand in each file, those set apart too.
 pub fn load<S: Intake>(alloc: Global, sources: &mut Sources<S>) -> Result<Loaded, LoadError>
-    ensures { IfOk result (λ l.
-        AreLoaded (nine_of S.source sources.old) (nine_of S.source sources.new)
-        (rows l.tables) l.apart.items) }
+    ensures { MatchResult result
+        (IsLoaded (nine_of S.source sources.old) (nine_of S.source sources.new))
+        (IsNotLoaded (nine_of S.source sources.old) (nine_of S.source sources.new)) }
 {
     let Ok(mut faults) = Faults::new(alloc) else {
         return Err(LoadError::Stopped(Stop::NoMemory));
     };
     match load_all(alloc, sources, &mut faults) {
-        Ok(Some(loaded)) => {
-            if faults.count() == 0 {
-                return Ok(loaded);
-            }
-            drop(loaded);
-            Err(LoadError::Unreadable(faults))
-        }
+        Ok(Some(loaded)) => Ok(loaded),
         Ok(None) => Err(LoadError::Unreadable(faults)),
         Err(stop) => Err(LoadError::Stopped(stop)),
     }

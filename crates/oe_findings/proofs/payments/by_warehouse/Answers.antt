@@ -3,11 +3,12 @@ use Rattle.std.specs.Prelude.{sum_by}
 use Rattle.oe_model.specs.Conditions.{if_of_warehouse}
 use Rattle.oe_findings.specs.Findings.{held}
 use Rattle.oe_findings.specs.Sums.{warehouse_place, sum_at}
-use Rattle.oe_findings.proofs.PaymentFacts.{leads_first, leads_on, leads_last, none_yet}
+use Rattle.oe_audit.proofs.LeadFacts.{leads_first, leads_on, leads_last}
+use Rattle.oe_findings.proofs.PaymentFacts.{none_yet}
 use Rattle.oe_findings.proofs.payments.by_warehouse.Goals as goal
 
 pub loop-row-init : goal.loop-row-init
-loop-row-init c = leads_first _ _ _ _ _ _ (none_yet 16) (λ w.
+loop-row-init c = leads_first _ _ _ _ _ _ (λ k i. none_yet 16 (warehouse_place k)) (λ w.
     ap (sum_by (λ e. if_of_warehouse w e.1.district e.1.amount))
     (sym (c.into_iter-row-iterator.ensures.into_iter_gives ∙ c.histories-row-items.ensures)))
 

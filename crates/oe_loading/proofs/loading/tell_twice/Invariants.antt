@@ -1,5 +1,12 @@
-use Rattle.oe_loading.specs.Loading.{TellsNone}
+use Rattle.std.proofs.Common.{◌≡◌, ◌≤◌, take}
+use Rattle.oe_loading.specs.Fault.{each_pushed}
+use Rattle.oe_loading.specs.Twice.{twice_in}
 use Rattle.oe_loading.proofs.loading.tell_twice.Given as goal
 
+-- what the rows so far come to is told
 abbrev pub invariant-loop-at : goal.invariant-loop-at
-invariant-loop-at g l = TellsNone l.initial.faults l.faults
+invariant-loop-at g l = record {
+  begun : 1 ≤ l.at;
+  told : l.faults
+      ≡ each_pushed (twice_in g.K.Ord.cmp g.R.RowLine.own_table g.R.RowLine.key_of (take l.at l.lot)) l.initial.faults;
+}

@@ -1,0 +1,2 @@
+-- What this crate's proofs rest on.
+pub mod AuditFacts
