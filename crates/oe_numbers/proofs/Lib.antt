@@ -1,2 +1,3 @@
 -- The proofs of this crate.
 pub mod NumberFacts
+pub mod KindFacts

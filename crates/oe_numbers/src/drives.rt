@@ -23,8 +23,8 @@ pub struct DriveNumbers {
     pub seed: u32,
 }
 
-// Reads a number of a range.
-fn number_of<const LOW: u32, const HIGH: u32>(word: &str) -> Option<Number<LOW, HIGH>>
+/// Reads a number of a range: digits alone, and no zero before another digit.
+pub fn number_of<const LOW: u32, const HIGH: u32>(word: &str) -> Option<Number<LOW, HIGH>>
     ensures some { IfSome result (λ n. IsInRange LOW HIGH n × (word.now ≡ decimal n)) }
     ensures none { IfNone result ((n : ℕ) → LOW ≤ n → n ≤ HIGH → word.now ≢ decimal n) }
 {

@@ -1,4 +1,4 @@
-use Rattle.std.proofs.Common.{◌≡◌, ◌<◌, ◌^◌, sym, ap, ◌∙◌, rules, arith}
+use Rattle.std.proofs.Common.{◌≡◌, sym, ap, ◌∙◌, rules, arith}
 use Rattle.std.specs.Fmt.{decimal}
 use Rattle.oe_numbers.proofs.NumberFacts.{is_read, is_that, out_of_range}
 use Rattle.oe_numbers.proofs.drives.number_of.Goals as goal

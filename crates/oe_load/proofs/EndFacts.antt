@@ -1,0 +1,127 @@
+-- A script between two turns, and how it ends.
+use Rattle.std.proofs.Common.{◌≡◌, ℕ, List, [], ◌∷◌, ◌++◌, Option, Result, Ok, Err, refl, sym, ap, subst, ◌∙◌, inl, inr}
+use Rattle.std.specs.Prelude.{◌⊎◌, Bool, true, false}
+use Rattle.std.proofs.lemmas.List.{append-nil}
+use Rattle.oe_theory.specs.World.{World}
+use Rattle.oe_model.specs.System.{system}
+use Rattle.oe_lines.specs.declared.commands.Command.{Command}
+use Rattle.oe_ports.specs.declared.ports.Failed.{Failed}
+use Rattle.oe_ports.specs.Ports.{Sink, Sent, Cut}
+use Rattle.oe_ports.proofs.Streaming.{sent_none, sent_then, sent_cut, sent_as, sent_waits, cut_as}
+use Rattle.oe_words.specs.Texts.{line_text}
+use Rattle.oe_plans.specs.declared.plans.Plan.{Plan}
+use Rattle.oe_load.specs.Loads.{IsScript, IsDone, none_served, opening_text, script_text}
+use Rattle.oe_load.specs.Turns.{Tells}
+use Rattle.oe_load.specs.Ends.{IsBegun, IsWhole, IsFlatBegun, IsFlatWhole, Begun, Whole, Wrote, LoadRan}
+use Rattle.oe_load.specs.declared.turns.Shortage.{Shortage}
+use Rattle.oe_load.specs.declared.loads.Ending.{Ending}
+use Rattle.oe_load.specs.declared.loads.Ending.TheVariants as ending
+use Rattle.oe_load.specs.declared.loads.Fault.TheVariants as fault
+use Rattle.oe_load.proofs.LoadFacts.{script_more, text_more}
+
+-- what went out behind a text that waited, where nothing was added
+pub flushed : (a b c : Option Sink) (i j text : List ℕ) → Sent a [] b i text → Sent b i c j [] → Sent a [] c j text
+flushed a b c i j text s more =
+    sent_as a c [] j (text ++ []) text (append-nil text) (sent_then a b c [] i j text [] s more)
+
+pub cut_off : (a b c : Option Sink) (i text : List ℕ) → Sent a [] b i text → Cut b i c [] → Cut a [] c text
+cut_off a b c i text s k = cut_as a c [] (text ++ []) text (append-nil text) (sent_cut a b c [] i text [] s k)
+
+-- A SCRIPT SO FAR
+
+-- lines were told that led to this world; they are written or wait
+abbrev pub Standing : Plan → Option Sink → Option Sink → List ℕ → World system → (ℕ → ℕ) → Type 0
+Standing p a b i w s = (cs : List Command) × IsScript p cs w s × Sent a [] b i (script_text p cs)
+
+module _ (p : Plan) (a : Option Sink) where
+  pub at_first : (i : List ℕ) (w : World system) (s : ℕ → ℕ) → i ≡ opening_text p → s ≡ none_served
+      → IsScript p [] w none_served → Standing p a a i w s
+  at_first i w s e same h = (
+    [],
+    subst (λ (f : ℕ → ℕ). IsScript p [] w f) (sym same) h,
+    sent_waits a [] i (script_text p []) (e ∙ sym (append-nil (opening_text p))),
+  )
+
+  pub line_more : (b c : Option Sink) (i j k : List ℕ) (w : World system) (s : ℕ → ℕ) (v : World system) (u : ℕ → ℕ)
+      → Standing p a b i w s → Sent b i c j [] → Tells p w s j v u k → Standing p a c k v u
+  line_more b c i j k w s v u (cs, script, sent) more (x, told, e) = (
+    cs ++ x ∷ [],
+    script_more p cs w s x v u script told,
+    sent_as a c [] k (script_text p cs ++ line_text x) (script_text p (cs ++ x ∷ [])) (text_more p cs x)
+        (sent_then a c c [] j k (script_text p cs) (line_text x)
+        (flushed a b c i j (script_text p cs) sent more) (sent_waits c j k (line_text x) e)),
+  )
+
+  is_begun : (cs : List Command) (w : World system) (s : ℕ → ℕ) → IsScript p cs w s → IsBegun p (script_text p cs)
+  is_begun cs w s h = record { lines = cs; world = w; served = s; script = h; text_is = refl }
+
+  pub ends_served : (b : Option Sink) (i : List ℕ) (w : World system) (s : ℕ → ℕ) → Standing p a b i w s
+      → IsDone p w s → Wrote p false a b i (Ok ending.Served)
+  ends_served b i w s (cs, script, sent) done = (
+    script_text p cs,
+    record { lines = cs; world = w; served = s; script = script; done = done; text_is = refl },
+    sent,
+  )
+
+  pub ends_short : (b c : Option Sink) (i j k : List ℕ) (w : World system) (s : ℕ → ℕ) (e : Shortage)
+      → Standing p a b i w s → Sent b i c j [] → k ≡ j → Wrote p false a c k (Ok (ending.Short e))
+  ends_short b c i j k w s e (cs, script, sent) more same = (
+    script_text p cs,
+    inr (is_begun cs w s script),
+    subst (λ (z : List ℕ). Sent a [] c z (script_text p cs)) (sym same)
+        (flushed a b c i j (script_text p cs) sent more),
+  )
+
+  pub ends_there : (b : Option Sink) (i : List ℕ) (w : World system) (s : ℕ → ℕ) (e : Shortage)
+      → Standing p a b i w s → Wrote p false a b i (Ok (ending.Short e))
+  ends_there b i w s e (cs, script, sent) = (script_text p cs, inr (is_begun cs w s script), sent)
+
+  pub ends_cut : (b c : Option Sink) (i k : List ℕ) (w : World system) (s : ℕ → ℕ) (e : Failed)
+      → Standing p a b i w s → Cut b i c [] → Wrote p false a c k (Err e)
+  ends_cut b c i k w s e (cs, script, sent) cut =
+      (script_text p cs, inr (is_begun cs w s script), cut_off a b c i (script_text p cs) sent cut)
+
+  -- nothing was opened
+  pub ends_unopened : (k : List ℕ) (e : Shortage) → k ≡ [] → Wrote p false a a k (Ok (ending.Short e))
+  ends_unopened k e none =
+      ([], inl refl, subst (λ (z : List ℕ). Sent a [] a z []) (sym none) (sent_none a []))
+
+-- WHAT WAITS IS WRITTEN
+
+whole_begun : (p : Plan) (is_flat : Bool) (text : List ℕ) → Whole p is_flat text → Begun p is_flat text
+whole_begun p true text h = record {
+  requests = h.requests;
+  served = h.served;
+  in_turn = h.in_turn;
+  text_is = h.text_is;
+}
+whole_begun p false text h = record {
+  lines = h.lines;
+  world = h.world;
+  served = h.served;
+  script = h.script;
+  text_is = h.text_is;
+}
+
+module _ (p : Plan) (is_flat : Bool) (a : Option Sink) where
+  pub closes_served : (b c : Option Sink) (i j : List ℕ) → Wrote p is_flat a b i (Ok ending.Served)
+      → Sent b i c j [] → j ≡ [] → LoadRan p is_flat a c (Ok tt)
+  closes_served b c i j (text, whole, sent) more none = (
+    text,
+    whole,
+    subst (λ (z : List ℕ). Sent a [] c z text) none (flushed a b c i j text sent more),
+  )
+
+  pub closes_short : (b c : Option Sink) (i j : List ℕ) (e : Shortage) → Wrote p is_flat a b i (Ok (ending.Short e))
+      → Sent b i c j [] → j ≡ [] → LoadRan p is_flat a c (Err (fault.Short e))
+  closes_short b c i j e (text, begun, sent) more none = (
+    text,
+    begun,
+    subst (λ (z : List ℕ). Sent a [] c z text) none (flushed a b c i j text sent more),
+  )
+
+  pub closes_cut : (b c : Option Sink) (i : List ℕ) (e : Ending) → Wrote p is_flat a b i (Ok e) → Cut b i c []
+      → LoadRan p is_flat a c (Err fault.Write)
+  closes_cut b c i ending.Served (text, whole, sent) cut =
+      (text, inr (whole_begun p is_flat text whole), cut_off a b c i text sent cut)
+  closes_cut b c i (ending.Short e) (text, begun, sent) cut = (text, begun, cut_off a b c i text sent cut)

@@ -1,0 +1,4 @@
+pub mod ServedFacts
+pub mod LoadFacts
+pub mod EndFacts
+pub mod FlatFacts

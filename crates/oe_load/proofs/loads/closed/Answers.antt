@@ -1,0 +1,14 @@
+use Rattle.std.proofs.Common.{Result, subst}
+use Rattle.oe_ports.specs.declared.ports.Failed.{Failed}
+use Rattle.oe_load.specs.Ends.{Wrote}
+use Rattle.oe_load.specs.declared.loads.Ending.{Ending}
+use Rattle.oe_load.proofs.EndFacts.{closes_cut}
+use Rattle.oe_load.proofs.loads.closed.Goals as goal
+
+pub returns-in-Err : goal.returns-in-Err
+returns-in-Err g c = λ p is_flat start h.
+    closes_cut p is_flat start (g.W.Outlet.sink c.args.to.now) (g.W.Outlet.sink c.flush.new.to) c.args.out.now.items
+    c.in-Ok.ending
+    (subst (λ (z : Result Ending Failed). Wrote p is_flat start (g.W.Outlet.sink c.args.to.now) c.args.out.now.items z)
+    c.in-Ok.is h)
+    c.in-Err.ensures.stream

@@ -1,0 +1,31 @@
+use Rattle.std.proofs.Common.{arith, subst}
+use Rattle.oe_theory.specs.World.{World}
+use Rattle.oe_theory.specs.Next.{Next, Advance}
+use Rattle.oe_requests.specs.declared.steps.Step.TheVariants as step
+use Rattle.oe_requests.specs.declared.refusals.Refusal.{Refusal}
+use Rattle.oe_model.specs.System.{system}
+use Rattle.oe_core.specs.Core.{world_of}
+use Rattle.oe_core.specs.Steps.{refusal_in}
+use Rattle.oe_load.specs.Turns.{counts_of, Turned}
+use Rattle.oe_load.proofs.LoadFacts.{tells_busy, full_stays}
+use Rattle.oe_load.proofs.turns.refused.Goals as goal
+
+pub returns-in-Busy : goal.returns-in-Busy
+returns-in-Busy c = λ before n.
+    tells_busy c.args.plan.now before (counts_of c.args.served.now) (world_of c.args.core.now) c.args.out.now.items
+    c.next_line.new.out.items c.args.terminal _ _ (
+      omega (arith, c.get-number.ensures.low, c.get-number.ensures.value),
+      omega (arith, c.get-number.ensures.high, c.get-number.ensures.value),
+    )
+    (subst (λ (e : Refusal). Next system before (Advance c.args.terminal) (refusal_in (step.Advance c.args.terminal) e)
+    (world_of c.args.core.now)) c.in-Busy.is n)
+    c.next_line.ensures.items c.next_line.ensures.len
+
+pub returns-in-UndoFull : goal.returns-in-UndoFull
+returns-in-UndoFull c = λ before n.
+    subst (λ (z : World system). Turned c.args.plan.now z (counts_of c.args.served.now) c.args.out.now.items
+    c.make_way.result (world_of c.make_way.new.core) (counts_of c.args.served.now) c.make_way.new.out.items)
+    (full_stays system before (world_of c.args.core.now) c.args.terminal
+    (subst (λ (e : Refusal). Next system before (Advance c.args.terminal) (refusal_in (step.Advance c.args.terminal) e)
+    (world_of c.args.core.now)) c.in-UndoFull.is n))
+    c.make_way.ensures

@@ -1,0 +1,73 @@
+-- What is written of a load.
+use Rattle.std.specs.Prelude.{◌≡◌, ℕ, Bool, true, false, List, [], ◌++◌, ◌⊎◌, Option, Result, Ok, Err}
+use Rattle.std.specs.List.{flat_map}
+use Rattle.oe_theory.specs.World.{World}
+use Rattle.oe_model.specs.System.{system}
+use Rattle.oe_lines.specs.declared.commands.Command.{Command}
+use Rattle.oe_ports.specs.declared.ports.Failed.{Failed}
+use Rattle.oe_ports.specs.Ports.{Sink, Sent, Cut}
+use Rattle.oe_words.specs.Texts.{line_text}
+use Rattle.oe_plans.specs.declared.plans.Plan.{Plan}
+use Rattle.oe_load.specs.Loads.{IsScript, IsDone, AreServed, none_served, script_text}
+use Rattle.oe_load.specs.Flats as flats
+use Rattle.oe_load.specs.Flats.{InTurn, requests_text}
+use Rattle.oe_load.specs.declared.loads.Ending.{Ending}
+use Rattle.oe_load.specs.declared.loads.Ending.TheVariants as ending
+use Rattle.oe_load.specs.declared.loads.Fault.{Fault}
+use Rattle.oe_load.specs.declared.loads.Fault.TheVariants as fault
+
+-- the text is a script as far as it was told; whole, where all requests are served
+pub record IsBegun (p : Plan) (text : List ℕ) : Type 0 where
+  pub lines : List Command
+  pub world : World system
+  pub served : ℕ → ℕ
+  pub script : IsScript p lines world served
+  pub text_is : text ≡ script_text p lines
+
+pub record IsWhole (p : Plan) (text : List ℕ) : Type 0 where
+  pub lines : List Command
+  pub world : World system
+  pub served : ℕ → ℕ
+  pub script : IsScript p lines world served
+  pub done : IsDone p world served
+  pub text_is : text ≡ script_text p lines
+
+-- the same of the requests alone
+pub record IsFlatBegun (p : Plan) (text : List ℕ) : Type 0 where
+  pub requests : List flats.Sent
+  pub served : ℕ → ℕ
+  pub in_turn : InTurn p none_served requests served
+  pub text_is : text ≡ requests_text p requests
+
+pub record IsFlatWhole (p : Plan) (text : List ℕ) : Type 0 where
+  pub requests : List flats.Sent
+  pub served : ℕ → ℕ
+  pub in_turn : InTurn p none_served requests served
+  pub all : AreServed p served
+  pub text_is : text ≡ requests_text p requests
+
+-- flat or not
+abbrev pub Begun : Plan → Bool → List ℕ → Type 0
+Begun p true text = IsFlatBegun p text
+Begun p false text = IsBegun p text
+
+abbrev pub Whole : Plan → Bool → List ℕ → Type 0
+Whole p true text = IsFlatWhole p text
+Whole p false text = IsWhole p text
+
+-- The whole load was written; it stops short, and what there is of it was written, or nothing was; or a write failed
+-- behind a beginning of that.
+abbrev pub LoadRan : Plan → Bool → Option Sink → Option Sink → Result (Unit {0}) Fault → Type 0
+LoadRan p is_flat old new (Ok x) = (text : List ℕ) × Whole p is_flat text × Sent old [] new [] text
+LoadRan p is_flat old new (Err (fault.Short e)) =
+    (text : List ℕ) × ((text ≡ []) ⊎ Begun p is_flat text) × Sent old [] new [] text
+LoadRan p is_flat old new (Err fault.Write) =
+    (text : List ℕ) × ((text ≡ []) ⊎ Begun p is_flat text) × Cut old [] new text
+
+-- the same before what waits is written
+abbrev pub Wrote : Plan → Bool → Option Sink → Option Sink → List ℕ → Result Ending Failed → Type 0
+Wrote p is_flat old new waits (Ok ending.Served) = (text : List ℕ) × Whole p is_flat text × Sent old [] new waits text
+Wrote p is_flat old new waits (Ok (ending.Short e)) =
+    (text : List ℕ) × ((text ≡ []) ⊎ Begun p is_flat text) × Sent old [] new waits text
+Wrote p is_flat old new waits (Err e) =
+    (text : List ℕ) × ((text ≡ []) ⊎ Begun p is_flat text) × Cut old [] new text

@@ -1,0 +1,5 @@
+-- What the clauses of this crate cite.
+pub mod Loads
+pub mod Flats
+pub mod Turns
+pub mod Ends

@@ -1,0 +1,93 @@
+-- The script of a load: a run of the machine in which each line is answered, and by no refusal but `Busy`.
+use Rattle.std.specs.Prelude.{◌≡◌, ℕ, suc, ◌≤◌, ◌<◌, List, [], ◌∷◌, length}
+use Rattle.std.specs.List.{flat_map}
+use Rattle.oe_theory.specs.World.{World, newest, bump}
+use Rattle.oe_theory.specs.Next.{Next, IsQuiet, Begin, Advance, Rollback, Read, Purge}
+use Rattle.oe_theory.specs.Next.{Begun, More, Committed, Busy, Rolled_back, Replied, Purged}
+use Rattle.oe_theory.specs.Theorems.{opened}
+use Rattle.oe_rows.specs.declared.locks.Name.{Name}
+use Rattle.oe_requests.specs.declared.requests.Request.{Request}
+use Rattle.oe_requests.specs.declared.requests.Query.{Query}
+use Rattle.oe_requests.specs.declared.replies.Reply.{Reply}
+use Rattle.oe_requests.specs.declared.replies.QueryReply.{QueryReply}
+use Rattle.oe_model.specs.Rows.{Rows}
+use Rattle.oe_model.specs.Population.{IsPopulated}
+use Rattle.oe_model.specs.System.{system}
+use Rattle.oe_lines.specs.declared.commands.Command.{Command}
+use Rattle.oe_lines.specs.declared.commands.Command.TheVariants as command
+use Rattle.oe_lines.specs.declared.commands.MomentChoice.TheVariants as moment
+use Rattle.oe_lines.specs.Grammar.{HasForm, IsRequest, IsQuery}
+use Rattle.oe_words.specs.Texts.{line_text}
+use Rattle.oe_plans.specs.declared.plans.Plan.{Plan}
+use Rattle.oe_plans.specs.declared.plans.Asked.{Asked}
+use Rattle.oe_plans.specs.declared.plans.Asked.TheVariants as asked
+use Rattle.oe_plans.specs.Plans.{asked_of}
+
+-- it has a form in the grammar
+abbrev pub HasWords : Asked → Type 0
+HasWords (asked.Transaction q) = IsRequest q
+HasWords (asked.Query q) = IsQuery q
+
+-- of terminal t, which has had `served t` of its requests served, this is the next request
+pub record IsNext (p : Plan) (served : ℕ → ℕ) (t : ℕ) (a : Asked) : Type 0 where
+  pub low : 1 ≤ t
+  pub high : t ≤ p.numbers.terminals
+  pub left : served t < p.numbers.requests
+  pub asks : asked_of p t (suc (served t)) ≡ a
+
+-- A line asks for this in a world, and is answered without a refusal or by `Busy`; it leaves the last world. A commit
+-- serves its terminal's request, and so does a reply to a query.
+pub data Line (p : Plan) (w : World system) (served : ℕ → ℕ) : Command → World system → (ℕ → ℕ) → Type 0 where
+  begins : (t : ℕ) (q : Request) (v : World system) → IsNext p served t (asked.Transaction q)
+      → Next system w (Begin t q) Begun v → Line p w served (command.Begin t q) v served
+  goes_on : (t : ℕ) (v : World system) → Next system w (Advance t) More v → Line p w served (command.Next t) v served
+  waits : (t : ℕ) (n : Name) (u : ℕ) (v : World system) → Next system w (Advance t) (Busy n u) v
+      → Line p w served (command.Next t) v served
+  commits : (t m : ℕ) (y : Reply) (v : World system) → Next system w (Advance t) (Committed m y) v
+      → Line p w served (command.Next t) v (bump t served)
+  reads : (t : ℕ) (q : Query) (f : QueryReply) (v : World system) → IsNext p served t (asked.Query q)
+      → Next system w (Read (newest system w) q) (Replied f) v
+      → Line p w served (command.Read moment.Now q) v (bump t served)
+  gives_way : (t : ℕ) (v : World system) → Next system w (Rollback t) Rolled_back v
+      → Line p w served (command.Rollback t) v served
+  purges : (m : ℕ) (v : World system) → Next system w (Purge (newest system w)) (Purged m) v
+      → Line p w served (command.Purge moment.Now) v served
+
+-- such a line, which has a form and at most 1,024 bytes before its end
+pub record Told (p : Plan) (w : World system) (served : ℕ → ℕ) (c : Command) (v : World system) (after : ℕ → ℕ)
+    : Type 0 where
+  pub form : HasForm c
+  pub short : length (line_text c) ≤ 1_025
+  pub line : Line p w served c v after
+
+-- lines in order
+abbrev pub Lines : Plan → World system → (ℕ → ℕ) → List Command → World system → (ℕ → ℕ) → Type 0
+Lines p w served [] v after = (v ≡ w) × (after ≡ served)
+Lines p w served (c ∷ cs) v after =
+    (mid : World system) × (between : ℕ → ℕ) × Told p w served c mid between × Lines p mid between cs v after
+
+-- nothing was served yet
+abbrev pub none_served : ℕ → ℕ
+none_served t = 0
+
+-- the lines behind the opening run on the plan's population, and leave this world
+pub record IsScript (p : Plan) (cs : List Command) (w : World system) (served : ℕ → ℕ) : Type 0 where
+  pub base : Rows
+  pub populated : IsPopulated p.numbers.scale base
+  pub lines : Lines p (opened system base p.numbers.extents) none_served cs w served
+
+-- each terminal has had all of its requests served
+abbrev pub AreServed : Plan → (ℕ → ℕ) → Type 0
+AreServed p served = (t : ℕ) → 1 ≤ t → t ≤ p.numbers.terminals → served t ≡ p.numbers.requests
+
+-- all are served, and nothing is open
+pub record IsDone (p : Plan) (w : World system) (served : ℕ → ℕ) : Type 0 where
+  pub quiet : IsQuiet system w
+  pub all : AreServed p served
+
+-- the opening and these lines as text
+abbrev pub opening_text : Plan → List ℕ
+opening_text p = line_text (command.Open p.numbers.scale p.numbers.extents)
+
+abbrev pub script_text : Plan → List Command → List ℕ
+script_text p cs = flat_map line_text (command.Open p.numbers.scale p.numbers.extents ∷ cs)

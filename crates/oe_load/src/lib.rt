@@ -1,0 +1,13 @@
+//! Seeded loads: a script in which terminals' transactions overlap and that meets no error but
+//! `Busy`, or the requests alone for another engine. Clause numbers are TPC Benchmark C 5.11's.
+#![tactic(auto)]
+
+mod flats;
+mod loads;
+mod picks;
+mod ranges;
+mod served;
+mod turns;
+
+pub use loads::{Fault, run_load};
+pub use turns::Shortage;

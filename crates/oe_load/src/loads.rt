@@ -1,0 +1,238 @@
+//! The script of a load, from its opening to its end.
+ghost use Rattle.std.specs.Prelude.{◌≡◌, ◌≤◌, ◌+◌, [], Bool, Option, true, false, IfOk};
+ghost use Rattle.arrayvec.specs.ArrayVec.{array_vec_len};
+ghost use Rattle.oe_core.specs.Core.{world_of};
+ghost use Rattle.oe_model.specs.Population.{IsScale};
+ghost use Rattle.oe_load.specs.Loads.{none_served, opening_text, IsScript, IsDone};
+ghost use Rattle.oe_load.specs.Turns.{counts_of, Turned};
+ghost use Rattle.oe_ports.specs.Ports.{Sink};
+ghost use Rattle.oe_plans.specs.declared.plans.Plan.{Plan};
+ghost use Rattle.oe_load.specs.Ends.{Wrote, LoadRan};
+
+use crate::flats::flat;
+use crate::picks::{Holders, Pick, note, picked};
+use crate::served::{Served, are_served, none_served};
+use crate::turns::{Shortage, Told, Turn, give_way, take_turn};
+use oe_core::Core;
+use oe_numbers::{DriveNumbers, Kinds};
+use oe_plans::Plan;
+use oe_population::populate;
+use oe_ports::output::{flush, make_room};
+use oe_ports::ports::{Failed, Outlet};
+use oe_rows::Scale;
+use oe_terms::words;
+use oe_texts::{LONGEST, Pending, SIZE};
+use oe_values::{NoMemory, Terminal};
+use oe_words::open_line;
+use rand_pcg::Lcg64Xsh32;
+use std::alloc::Global;
+
+/// No load takes more turns for each of its requests. Most take some twenty.
+const TURNS: u32 = 2_000;
+
+/// Why a load is not told whole.
+#[derive(Clone, Copy, PartialEq, Eq)]
+pub enum Fault {
+    /// The load stops there. What was written is answered without an error but `Busy`.
+    Short(Shortage),
+    /// A write failed. A beginning of a load was written.
+    Write,
+}
+
+/// How the turns have ended.
+#[derive(Clone, Copy)]
+pub(crate) enum Ending {
+    /// All requests were served.
+    Served,
+    /// Something was wanting.
+    Short(Shortage),
+}
+
+/// Whose turn is drawn by which words, and who was answered `Busy`.
+#[derive(Drop)]
+struct Drawing {
+    words: Lcg64Xsh32,
+    holders: Holders,
+}
+
+/// Gives the number of the terminal that an answer `Busy` names, or 0.
+fn holder_in(turn: &Turn) -> u32 {
+    match turn {
+        Ok(Told::Waits(holder)) => holder.get(),
+        _ => 0,
+    }
+}
+
+/// Takes the turn that is picked.
+fn taken(
+    plan: &Plan,
+    core: &mut Core,
+    served: &mut Served,
+    drawing: &mut Drawing,
+    out: &mut Pending,
+) -> Turn
+    requires { array_vec_len out.old + LONGEST ≤ SIZE }
+    ensures { Turned plan.now (world_of core.old) (counts_of served.old) out.old.items result
+        (world_of core.new) (counts_of served.new) out.new.items }
+{
+    match picked(plan, core, served, &drawing.holders, &mut drawing.words) {
+        Pick::GiveWay(terminal) => {
+            note(&mut drawing.holders, terminal, 0);
+            give_way(plan, core, served, terminal, out)
+        }
+        Pick::Turn(terminal) => {
+            let turn = take_turn(plan, core, served, terminal, out);
+            note(&mut drawing.holders, terminal, holder_in(&turn));
+            turn
+        }
+    }
+}
+
+/// Tells whether all requests were served, and nothing is open.
+fn is_done(plan: &Plan, core: &Core, served: &Served) -> bool
+    ensures { result ≡ true → IsDone plan.now (world_of core.now) (counts_of served.now) }
+{
+    core.open_count() == 0 && are_served(plan, served)
+}
+
+/// Takes turns until all requests are served.
+fn told<W: Outlet>(
+    plan: &Plan,
+    core: &mut Core,
+    out: &mut Pending,
+    to: &mut W,
+) -> Result<Ending, Failed>
+    requires fresh { IsScript plan.now [] (world_of core.old) none_served }
+    requires opening { out.old.items ≡ opening_text plan.now }
+    ensures { Wrote plan.now false (W.sink to.old) (W.sink to.new) out.new.items result }
+{
+    let mut served = none_served();
+    let mut drawing = Drawing {
+        words: words(plan.numbers.seed, Terminal::new(64).unwrap()),
+        holders: [0; 65],
+    };
+    let requests = plan.numbers.terminals.get() * plan.numbers.requests.get();
+    for _ in 0..requests * TURNS {
+        if is_done(plan, core, &served) {
+            return Ok(Ending::Served);
+        }
+        if let Err(e) = make_room(out, to) {
+            return Err(e);
+        }
+        if let Err(shortage) = taken(plan, core, &mut served, &mut drawing, out) {
+            return Ok(Ending::Short(shortage));
+        }
+    }
+    Ok(Ending::Short(Shortage::NoEnd))
+}
+
+/// The numbers of a scale are in their ranges: a law.
+fn scale_holds(scale: &Scale)
+    ensures { IsScale scale.now }
+{
+    let _warehouses = scale.warehouses.get();
+    let _customers = scale.customers.get();
+    let _items = scale.items.get();
+}
+
+/// Opens a core on the population of a plan.
+fn opened(alloc: Global, plan: &Plan) -> Result<Core, NoMemory>
+    ensures { IfOk result (λ c. IsScript plan.now [] (world_of c) none_served) }
+{
+    scale_holds(&plan.numbers.scale);
+    match populate(alloc, plan.numbers.scale) {
+        Ok(tables) => Core::open(alloc, tables, plan.numbers.extents),
+        Err(e) => Err(e),
+    }
+}
+
+/// Writes the script of a plan; its opening waits.
+fn script<W: Outlet>(
+    alloc: Global,
+    plan: &Plan,
+    out: &mut Pending,
+    to: &mut W,
+) -> Result<Ending, Failed>
+    requires { out.old.items ≡ opening_text plan.now }
+    ensures { Wrote plan.now false (W.sink to.old) (W.sink to.new) out.new.items result }
+{
+    let Ok(mut core) = opened(alloc, plan) else {
+        out.clear();
+        return Ok(Ending::Short(Shortage::NoMemory));
+    };
+    let ending = told(plan, &mut core, out, to);
+    core.discard();
+    ending
+}
+
+/// Writes a plan's requests alone, or its script; the opening waits.
+fn written<W: Outlet>(
+    alloc: Global,
+    plan: &Plan,
+    is_flat: bool,
+    out: &mut Pending,
+    to: &mut W,
+) -> Result<Ending, Failed>
+    requires { out.old.items ≡ opening_text plan.now }
+    ensures { Wrote plan.now is_flat (W.sink to.old) (W.sink to.new) out.new.items result }
+{
+    if is_flat {
+        return flat(plan, out, to);
+    }
+    script(alloc, plan, out, to)
+}
+
+/// Writes what waits, and names how a load has ended.
+fn closed<W: Outlet>(
+    ending: Result<Ending, Failed>,
+    out: &mut Pending,
+    to: &mut W,
+) -> Result<(), Fault>
+    ensures { (p : Plan) (is_flat : Bool) (start : Option Sink) →
+        Wrote p is_flat start (W.sink to.old) out.old.items ending →
+        LoadRan p is_flat start (W.sink to.new) result }
+{
+    let Ok(ending) = ending else {
+        return Err(Fault::Write);
+    };
+    if let Err(_) = flush(out, to) {
+        return Err(Fault::Write);
+    }
+    match ending {
+        Ending::Served => Ok(()),
+        Ending::Short(shortage) => Err(Fault::Short(shortage)),
+    }
+}
+
+/// Writes a load: T terminals with N requests each, all drawn from the seed, in an order that is
+/// drawn too. Kinds that are not named are left out, where some are named.
+///
+/// The script opens the population, and its lines are answered without an error but `Busy`; at its
+/// end nothing is open, and each terminal has had its N requests answered, in their order. A
+/// terminal that is answered `Busy` goes on once its lock is free, or is rolled back and begins
+/// again where terminals wait for one another. Where extents run out, commits are purged.
+///
+/// Flat, it is the opening and the requests alone, each behind its terminal.
+///
+/// `Short`: memory was refused, one transaction filled the ring, a column's range was left, or too
+/// many turns were taken; what was written is a load that stops there, or nothing. `Write`: a write
+/// failed, and a beginning of that was written.
+pub fn run_load<W: Outlet>(
+    alloc: Global,
+    numbers: &DriveNumbers,
+    kinds: Kinds,
+    is_flat: bool,
+    writer: &mut W,
+) -> Result<(), Fault>
+    ensures { LoadRan (record { numbers = numbers.now; kinds = kinds }) is_flat
+        (W.sink writer.old) (W.sink writer.new) result }
+{
+    let plan = Plan {
+        numbers: *numbers,
+        kinds,
+    };
+    let mut out = Pending::new();
+    open_line(&mut out, &plan.numbers.scale, plan.numbers.extents);
+    let ending = written(alloc, &plan, is_flat, &mut out, writer);
+    closed(ending, &mut out, writer)
+}

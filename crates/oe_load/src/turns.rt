@@ -1,0 +1,294 @@
+//! Turns of a load. Each carries one step out in a core of its own, and tells the line that asks
+//! for it.
+ghost use Rattle.std.specs.Prelude.{◌≤◌, ◌<◌, ◌+◌, ℕ};
+ghost use Rattle.arrayvec.specs.ArrayVec.{array_vec_len};
+ghost use Rattle.oe_theory.specs.World.{World};
+ghost use Rattle.oe_theory.specs.Next.{Next, Advance, Committed};
+ghost use Rattle.oe_requests.specs.declared.replies.Reply.{Reply};
+ghost use Rattle.oe_requests.specs.declared.steps.Step.TheVariants as step;
+ghost use Rattle.oe_model.specs.System.{system};
+ghost use Rattle.oe_core.specs.Core.{world_of};
+ghost use Rattle.oe_core.specs.Steps.{refusal_in};
+ghost use Rattle.oe_admission.specs.Programs.{HasProgram};
+ghost use Rattle.oe_lines.specs.Grammar.{IsQuery};
+ghost use Rattle.oe_plans.specs.declared.plans.Asked.TheVariants as asked;
+ghost use Rattle.oe_load.specs.Loads.{IsNext};
+ghost use Rattle.oe_load.specs.Turns.{counts_of, Turned};
+
+use crate::ranges::asked_holds;
+use crate::served::{Served, serve, served_of};
+use oe_admission::ranges_hold;
+use oe_core::{Advanced, Core};
+use oe_plans::{Asked, Plan};
+use oe_requests::{Answer, Query, Refusal, Request};
+use oe_texts::{LONGEST, Pending, SIZE};
+use oe_values::{Number, Terminal};
+use oe_words::{begin_line, next_line, purge_line, read_line, rollback_line};
+
+/// Why a load stops before its end.
+#[derive(Clone, Copy, PartialEq, Eq)]
+pub enum Shortage {
+    /// Memory was refused.
+    NoMemory,
+    /// A transaction alone has filled the undo ring.
+    UndoFull,
+    /// A request was refused otherwise.
+    Refused(Refusal),
+    /// Too many turns were taken.
+    NoEnd,
+}
+
+/// What the line that was told is answered.
+#[derive(Clone, Copy)]
+pub(crate) enum Told {
+    /// No refusal.
+    Done,
+    /// `Busy`, which names that terminal.
+    Waits(Terminal),
+}
+
+/// What came of a turn. After an error no line was told.
+pub(crate) type Turn = Result<Told, Shortage>;
+
+/// Names what a refusal stops a load for.
+fn shortage_of(refusal: &Refusal) -> Shortage {
+    match refusal {
+        Refusal::NoMemory => Shortage::NoMemory,
+        Refusal::UndoFull => Shortage::UndoFull,
+        other => Shortage::Refused(*other),
+    }
+}
+
+/// Begins a terminal's next request.
+fn begin(
+    plan: &Plan,
+    core: &mut Core,
+    served: &Served,
+    terminal: Terminal,
+    request: &Request,
+    out: &mut Pending,
+) -> Turn
+    requires room { array_vec_len out.old + LONGEST ≤ SIZE }
+    requires next { IsNext plan.now (counts_of served.now) terminal
+        (asked.Transaction request.now) }
+    requires program { HasProgram request.now }
+    ensures { Turned plan.now (world_of core.old) (counts_of served.now) out.old.items result
+        (world_of core.new) (counts_of served.now) out.new.items }
+{
+    ranges_hold(request);
+    match core.begin(terminal, request) {
+        Ok(()) => {
+            let _number = terminal.get();
+            begin_line(out, terminal, request);
+            Ok(Told::Done)
+        }
+        Err(refusal) => Err(shortage_of(&refusal)),
+    }
+}
+
+/// Answers a terminal's next request, which is a query.
+fn read(
+    plan: &Plan,
+    core: &Core,
+    served: &mut Served,
+    terminal: Terminal,
+    query: &Query,
+    out: &mut Pending,
+) -> Turn
+    requires room { array_vec_len out.old + LONGEST ≤ SIZE }
+    requires next { IsNext plan.now (counts_of served.old) terminal (asked.Query query.now) }
+    requires left { counts_of served.old terminal < 1_000 }
+    requires form { IsQuery query.now }
+    ensures { Turned plan.now (world_of core.now) (counts_of served.old) out.old.items result
+        (world_of core.now) (counts_of served.new) out.new.items }
+{
+    match core.read(core.newest(), query) {
+        Answer::Replied(_) => {
+            serve(served, terminal);
+            read_line(out, query);
+            Ok(Told::Done)
+        }
+        Answer::Refused(refusal) => Err(shortage_of(&refusal)),
+        _ => Err(Shortage::NoEnd),
+    }
+}
+
+/// Rolls a terminal's transaction back.
+pub(crate) fn give_way(
+    plan: &Plan,
+    core: &mut Core,
+    served: &Served,
+    terminal: Terminal,
+    out: &mut Pending,
+) -> Turn
+    requires { array_vec_len out.old + LONGEST ≤ SIZE }
+    ensures { Turned plan.now (world_of core.old) (counts_of served.now) out.old.items result
+        (world_of core.new) (counts_of served.now) out.new.items }
+{
+    match core.rollback(terminal) {
+        Answer::RolledBack => {
+            let _number = terminal.get();
+            rollback_line(out, terminal);
+            Ok(Told::Done)
+        }
+        Answer::Refused(refusal) => Err(shortage_of(&refusal)),
+        _ => Err(Shortage::NoEnd),
+    }
+}
+
+/// Lets go of the commits so far.
+fn purge(plan: &Plan, core: &mut Core, served: &Served, out: &mut Pending) -> Turn
+    requires { array_vec_len out.old + LONGEST ≤ SIZE }
+    ensures { Turned plan.now (world_of core.old) (counts_of served.now) out.old.items result
+        (world_of core.new) (counts_of served.now) out.new.items }
+{
+    match core.purge(core.newest()) {
+        Answer::Purged(_) => {
+            purge_line(out);
+            Ok(Told::Done)
+        }
+        Answer::Refused(refusal) => Err(shortage_of(&refusal)),
+        _ => Err(Shortage::NoEnd),
+    }
+}
+
+/// Makes room where the ring is full: lets go of commits, or else rolls the terminal's transaction
+/// back, where others are open that may end.
+fn make_way(
+    plan: &Plan,
+    core: &mut Core,
+    served: &Served,
+    terminal: Terminal,
+    out: &mut Pending,
+) -> Turn
+    requires { array_vec_len out.old + LONGEST ≤ SIZE }
+    ensures { Turned plan.now (world_of core.old) (counts_of served.now) out.old.items result
+        (world_of core.new) (counts_of served.now) out.new.items }
+{
+    if core.horizon() < core.newest() {
+        return purge(plan, core, served, out);
+    }
+    if core.open_count() > 1 {
+        return give_way(plan, core, served, terminal, out);
+    }
+    Err(Shortage::UndoFull)
+}
+
+/// Tells what comes of an advance that is refused.
+fn refused(
+    plan: &Plan,
+    core: &mut Core,
+    served: &Served,
+    terminal: Terminal,
+    refusal: &Refusal,
+    out: &mut Pending,
+) -> Turn
+    requires { array_vec_len out.old + LONGEST ≤ SIZE }
+    ensures { (before : World system) →
+        Next system before (Advance terminal) (refusal_in (step.Advance terminal) refusal.now)
+        (world_of core.old) →
+        Turned plan.now before (counts_of served.now) out.old.items result (world_of core.new)
+        (counts_of served.now) out.new.items }
+{
+    match refusal {
+        Refusal::Busy(_, holder) => {
+            let _number = terminal.get();
+            next_line(out, terminal);
+            Ok(Told::Waits(*holder))
+        }
+        Refusal::UndoFull => make_way(plan, core, served, terminal, out),
+        other => Err(shortage_of(other)),
+    }
+}
+
+/// Tells an advance that has committed.
+fn committed(
+    plan: &Plan,
+    core: &Core,
+    served: &mut Served,
+    terminal: Terminal,
+    out: &mut Pending,
+) -> Turn
+    requires room { array_vec_len out.old + LONGEST ≤ SIZE }
+    requires left { counts_of served.old terminal < 1_000 }
+    ensures { (before : World system) (m : ℕ) (y : Reply) →
+        Next system before (Advance terminal) (Committed m y) (world_of core.now) →
+        Turned plan.now before (counts_of served.old) out.old.items result (world_of core.now)
+        (counts_of served.new) out.new.items }
+{
+    let _number = terminal.get();
+    serve(served, terminal);
+    next_line(out, terminal);
+    Ok(Told::Done)
+}
+
+/// Advances a terminal's transaction.
+fn advance(
+    plan: &Plan,
+    core: &mut Core,
+    served: &mut Served,
+    terminal: Terminal,
+    out: &mut Pending,
+) -> Turn
+    requires room { array_vec_len out.old + LONGEST ≤ SIZE }
+    requires left { counts_of served.old terminal < 1_000 }
+    ensures { Turned plan.now (world_of core.old) (counts_of served.old) out.old.items result
+        (world_of core.new) (counts_of served.new) out.new.items }
+{
+    let _number = terminal.get();
+    match core.advance(terminal) {
+        Advanced::More => {
+            next_line(out, terminal);
+            Ok(Told::Done)
+        }
+        Advanced::Committed(_) => committed(plan, core, served, terminal, out),
+        Advanced::Refused(refusal) => refused(plan, core, served, terminal, &refusal, out),
+    }
+}
+
+/// Asks for a terminal's next request.
+fn ask(
+    plan: &Plan,
+    core: &mut Core,
+    served: &mut Served,
+    terminal: Terminal,
+    out: &mut Pending,
+) -> Turn
+    requires room { array_vec_len out.old + LONGEST ≤ SIZE }
+    requires high { terminal ≤ plan.now.numbers.terminals }
+    requires left { counts_of served.old terminal < plan.now.numbers.requests }
+    requires few { counts_of served.old terminal < 1_000 }
+    ensures { Turned plan.now (world_of core.old) (counts_of served.old) out.old.items result
+        (world_of core.new) (counts_of served.new) out.new.items }
+{
+    let _number = terminal.get();
+    let r = Number::new(served_of(served, terminal) + 1).unwrap();
+    let asked = plan.asked(terminal, r);
+    asked_holds(&asked);
+    match asked {
+        Asked::Transaction(request) => begin(plan, core, served, terminal, &request, out),
+        Asked::Query(query) => read(plan, core, served, terminal, &query, out),
+    }
+}
+
+/// Takes a terminal's turn: its transaction advances, or its next request is asked for.
+pub(crate) fn take_turn(
+    plan: &Plan,
+    core: &mut Core,
+    served: &mut Served,
+    terminal: Terminal,
+    out: &mut Pending,
+) -> Turn
+    requires { array_vec_len out.old + LONGEST ≤ SIZE }
+    ensures { Turned plan.now (world_of core.old) (counts_of served.old) out.old.items result
+        (world_of core.new) (counts_of served.new) out.new.items }
+{
+    let is_left = served_of(served, terminal) < plan.numbers.requests.get();
+    if terminal.get() > plan.numbers.terminals.get() || !is_left {
+        return Err(Shortage::NoEnd);
+    }
+    if core.is_open(terminal) {
+        return advance(plan, core, served, terminal, out);
+    }
+    ask(plan, core, served, terminal, out)
+}

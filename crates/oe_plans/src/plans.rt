@@ -1,0 +1,150 @@
+//! The requests of a plan. A request is drawn from a generator of its own, so that none has to be
+//! kept.
+ghost use Rattle.std.specs.Prelude.{◌≡◌, ◌≤◌, length, map, min};
+ghost use Rattle.oe_plans.specs.Plans.{generator_of, used_line, used_order, delivery_of, asked_of_kind, asked_of, IsKnown};
+ghost use Rattle.oe_plans.specs.declared.plans.Asked.TheVariants as spec;
+
+use crate::kinds::kind_drawn;
+use oe_numbers::{DriveNumbers, Kinds};
+use oe_requests::{DeliveryRequest, NewOrderRequest, Query, Request, RequestLine, RequestLines};
+use oe_rows::Scale;
+use oe_terms::columns::{district_in, home};
+use oe_terms::draws::random;
+use oe_terms::orders::new_order;
+use oe_terms::payments::{delivery, order_status, payment, stock_level};
+use oe_terms::{Kind, RequestNumber, words};
+use oe_values::{Lines, Number, RequestedItem, Terminal};
+use rand_pcg::Lcg64Xsh32;
+
+/// A load: the scale, the extents, how many terminals send how many requests each, the seed, and
+/// which kinds are drawn.
+#[derive(Clone, Copy)]
+pub struct Plan {
+    pub numbers: DriveNumbers,
+    pub kinds: Kinds,
+}
+
+/// What a terminal asks for: a transaction, or a query of the newest moment.
+#[derive(Drop)]
+pub enum Asked {
+    Transaction(Request),
+    Query(Query),
+}
+
+/// Gives a requested item that is there: one past the last gives place to the last.
+fn used_item(scale: &Scale, item: RequestedItem) -> RequestedItem
+    ensures { result ≡ min item scale.now.items }
+{
+    let last = scale.items.get();
+    if item.get() <= last {
+        return item;
+    }
+    Number::new(last).unwrap()
+}
+
+/// Gives a line whose item is there.
+fn used_line(scale: &Scale, line: &RequestLine) -> RequestLine
+    ensures { result ≡ used_line scale.now line.now }
+{
+    RequestLine {
+        supply: line.supply,
+        item: used_item(scale, line.item),
+        quantity: line.quantity,
+    }
+}
+
+/// Gives lines whose items are all there.
+fn used_lines(scale: &Scale, lines: &[RequestLine]) -> Lines<RequestLine, 0, 15>
+    requires { length lines.now ≤ 15 }
+    ensures { result ≡ map (used_line scale.now) lines.now }
+{
+    let mut used = Lines::new();
+    for line in lines {
+        used.push(used_line(scale, line));
+    }
+    used
+}
+
+/// Gives an order whose items are all there, so that it isn't rolled back (clause 2.4.1.4).
+fn used_order(scale: &Scale, order: &NewOrderRequest) -> NewOrderRequest
+    ensures { result ≡ used_order scale.now order.now }
+{
+    let used = used_lines(scale, order.lines.as_slice());
+    match RequestLines::read(used.as_slice()) {
+        Some(lines) => NewOrderRequest {
+            district: order.district,
+            customer: order.customer,
+            stamp: order.stamp,
+            lines,
+        },
+        None => unreachable!(),
+    }
+}
+
+/// Draws a delivery: of ten districts (clause 2.7.1), or in 1 of 2 of one.
+fn delivery_of(
+    scale: &Scale,
+    terminal: Terminal,
+    r: RequestNumber,
+    words: &mut Lcg64Xsh32,
+) -> Request
+    ensures value { result ≡ delivery_of scale.now terminal r words.old }
+    ensures known { IsKnown (spec.Transaction result) }
+{
+    let deliveries = delivery(scale, terminal, r, words);
+    let form = random(words, 1, 2);
+    let district = district_in(home(scale, terminal), words);
+    if form == 1 {
+        return Request::Deliveries(deliveries);
+    }
+    Request::Delivery(DeliveryRequest {
+        district,
+        carrier: deliveries.carrier,
+        stamp: deliveries.stamp,
+    })
+}
+
+/// Draws a request of a kind.
+fn asked_of_kind(
+    kind: Kind,
+    scale: &Scale,
+    terminal: Terminal,
+    r: RequestNumber,
+    words: &mut Lcg64Xsh32,
+) -> Asked
+    ensures value { result ≡ asked_of_kind kind scale.now terminal r words.old }
+    ensures known { IsKnown result }
+{
+    match kind {
+        Kind::NewOrder => Asked::Transaction(Request::NewOrder(used_order(
+            scale,
+            &new_order(scale, terminal, r, words),
+        ))),
+        Kind::Payment => Asked::Transaction(Request::Payment(payment(scale, terminal, r, words))),
+        Kind::OrderStatus => Asked::Query(Query::Status(order_status(scale, terminal, words))),
+        Kind::Delivery => Asked::Transaction(delivery_of(scale, terminal, r, words)),
+        Kind::StockLevel => Asked::Query(Query::Level(stock_level(scale, terminal, words))),
+    }
+}
+
+/// Makes the generator of a terminal's r-th request: the terminal's, a thousand words further for
+/// each.
+fn generator(seed: u32, terminal: Terminal, r: RequestNumber) -> Lcg64Xsh32
+    ensures { result ≡ generator_of seed terminal r }
+{
+    let mut words = words(seed, terminal);
+    words.advance(u64::from(r.get()) * 1_000);
+    words
+}
+
+impl Plan {
+    /// Gives the r-th request of a terminal.
+    pub fn asked(&self, terminal: Terminal, r: RequestNumber) -> Asked
+        ensures value { result ≡ asked_of self.now terminal r }
+        ensures known { IsKnown result }
+    {
+        let mut words = generator(self.numbers.seed, terminal, r);
+        let kind = kind_drawn(&self.kinds, &mut words);
+        asked_of_kind(kind, &self.numbers.scale, terminal, r, &mut words)
+    }
+}
