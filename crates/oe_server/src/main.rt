@@ -1,24 +1,33 @@
 #![tactic(auto)]
-//! An order-entry server that answers scripts, decides on files of commits and runs drives. Clause
-//! numbers are TPC Benchmark C 5.11's.
+//! An order-entry server that answers scripts and makes them, decides on files of commits, audits
+//! files of tables and runs drives. Clause numbers are TPC Benchmark C 5.11's.
 //!
 //! This file is trusted: it has no contract, and hands the script's bytes to `run_script`, whose
 //! contract tells all that is answered, those of a file of commits to `run_serial`, whose contract
-//! tells the verdict, or the numbers of a drive to `run_drive`, whose contract tells the two lines.
-//! What a drive says on standard error is for a person.
+//! tells the verdict, those of nine tables to `run_audit`, whose contract tells the report, the
+//! numbers of a load to `run_load`, whose contract tells its script, or those of a drive to
+//! `run_drive`, whose contract tells the two lines. What a drive or an audit says on standard error
+//! besides is for a person.
+ghost use Rattle.std.specs.Prelude.{None};
 
 use clap::Error;
 use clap::error::ErrorKind;
 use oe_drive::{Fault as DriveFault, Gate, Ran, run_drive};
-use oe_numbers::DriveNumbers;
+use oe_inspection::{Fault as AuditFault, Verdict as AuditVerdict, run_audit, write_faults};
+use oe_load::{Fault as LoadFault, Shortage as LoadShortage, run_load};
+use oe_loading::{Sources, Stop};
+use oe_numbers::{DriveNumbers, Kinds};
+use oe_ports::ports::{Failed, Intake};
 use oe_ports::standard::{Printed, Standard};
+use oe_rows::Table;
 use oe_script::script::run_script;
 use oe_script::session::Fault;
 use oe_serial::{BadLines, Fault as SerialFault, Shortage, Verdict, run_serial, status};
 use oe_tasks::{Task, job};
 use oe_values::Terminal;
 use std::env::Env;
-use std::io::{IsTerminal, Read};
+use std::io::{ErrorKind as IoKind, IsTerminal, Read, Stderr};
+use std::path::Path;
 use std::process::ExitCode;
 use std::rt::Files;
 use std::sync::Wait;
@@ -36,6 +45,16 @@ fn main(rt: HostRuntime) -> io::Result<ExitCode> {
         Ok(Task::Script) => answer(&rt, rt.reader()),
         Ok(Task::File(name)) => answer_file(&rt, name),
         Ok(Task::Serial(name)) => answer_serial(&rt, name),
+        Ok(Task::Audit { directory, first }) => {
+            answer_audit(&rt, &rt.stderr(), directory, first)
+        }
+        Ok(
+            Task::Load {
+                numbers,
+                kinds,
+                is_flat,
+            },
+        ) => answer_load(&rt, &numbers, kinds, is_flat),
         Ok(Task::Drive(numbers)) => answer_drive(&rt, &numbers, rt.stderr().is_terminal()),
         Err(error) => tell(&rt, error),
     }
@@ -136,6 +155,24 @@ fn answer_serial<R: Files + Print + Eprint + AllocGlobal>(
     }
 }
 
+/// Writes a load on standard output.
+fn answer_load<R: Print + Eprint + AllocGlobal>(
+    rt: &R,
+    numbers: &DriveNumbers,
+    kinds: Kinds,
+    is_flat: bool,
+) -> io::Result<ExitCode> {
+    let mut writer = Printed::new(rt);
+    match run_load(rt.alloc(), numbers, kinds, is_flat, &mut writer) {
+        Ok(()) => Ok(ExitCode::SUCCESS),
+        Err(LoadFault::Short(LoadShortage::NoMemory)) => fail(rt, "no memory"),
+        Err(LoadFault::Short(LoadShortage::UndoFull)) => fail(rt, "no undo extents"),
+        Err(LoadFault::Short(LoadShortage::Refused(_))) => fail(rt, "a request is refused"),
+        Err(LoadFault::Short(LoadShortage::NoEnd)) => fail(rt, "the load has no end"),
+        Err(LoadFault::Write) => fail(rt, write_fault(writer.is_closed())),
+    }
+}
+
 /// Tells which lines of a file of commits have no form.
 fn tell_bad_lines<R: Eprint>(rt: &R, bad: &BadLines) -> io::Result<()> {
     for number in bad.first.as_slice() {
@@ -150,6 +187,184 @@ fn tell_bad_lines<R: Eprint>(rt: &R, bad: &BadLines) -> io::Result<()> {
         eprintln!(rt; "{more} more")?;
     }
     Ok(())
+}
+
+/// Tells a person how far the files are read, once a second from the second second on.
+#[derive(Drop)]
+struct Pace<'r, R> {
+    rt: &'r R,
+    begun: Instant,
+    is_shown: bool,
+    second_told: AtomicU64,
+}
+
+/// A table's file, which keeps the cause of a read that failed.
+#[derive(Drop)]
+struct TableFile<'p, 'r, R, F> {
+    table: Table,
+    file: F,
+    bytes: u64,
+    failure: Option<io::Error>,
+    pace: &'p Pace<'r, R>,
+}
+
+impl<R: Clock + Eprint> Pace<'_, R> {
+    /// Tells how many bytes of a table's file are read, where a second has begun.
+    fn tell(&self, table: Table, bytes: u64) {
+        if !self.is_shown {
+            return;
+        }
+        let Ok(took) = self.begun.elapsed(self.rt) else {
+            return;
+        };
+        let second = took.as_secs();
+        if second < 1 || self.second_told.fetch_max(second, Ordering::SeqCst) >= second {
+            return;
+        }
+        let _told = eprintln!(self.rt; "{}: {} MB read", table.name(), bytes / 1_000_000);
+    }
+}
+
+impl<R: Clock + Eprint, F: Read> Intake for TableFile<'_, '_, R, F> {
+    ghost source = { λ _. None };
+
+    fn read(&mut self, buf: &mut [u8]) -> Result<usize, Failed> {
+        match self.file.read(buf) {
+            Ok(count) => {
+                self.bytes = self.bytes.saturating_add(count as u64);
+                self.pace.tell(self.table, self.bytes);
+                Ok(count)
+            }
+            Err(error) => {
+                self.failure = Some(error);
+                Err(Failed)
+            }
+        }
+    }
+}
+
+/// Says why the file of a table can't be had.
+fn tell_file<R: Eprint>(rt: &R, table: Table, error: &io::Error) -> io::Result<()> {
+    match error.kind() {
+        IoKind::NotFound => eprintln!(rt; "{}: no such file", table.name()),
+        IoKind::IsADirectory => eprintln!(rt; "{}: a folder, and no file", table.name()),
+        _ => eprintln!(rt; "{}: can't be read: {error}", table.name()),
+    }
+}
+
+/// Opens the file of a table, or says why it can't be opened.
+fn open_table<'p, 'r, R: Files + Eprint + AllocGlobal>(
+    rt: &R,
+    folder: &str,
+    table: Table,
+    pace: &'p Pace<'r, R>,
+) -> io::Result<Option<TableFile<'p, 'r, R, R::File>>> {
+    let path = Path::new(folder).join(rt.alloc(), table.name())?;
+    match fs::open(rt, path.as_path()) {
+        Ok(file) => Ok(Some(TableFile {
+            table,
+            file,
+            bytes: 0,
+            failure: None,
+            pace,
+        })),
+        Err(error) if error.kind() == IoKind::OutOfMemory => Err(error),
+        Err(error) => {
+            tell_file(rt, table, &error)?;
+            Ok(None)
+        }
+    }
+}
+
+/// Opens the nine files of a folder, or says which can't be opened.
+fn open_tables<'p, 'r, R: Files + Eprint + AllocGlobal>(
+    rt: &R,
+    folder: &str,
+    pace: &'p Pace<'r, R>,
+) -> io::Result<Option<Sources<TableFile<'p, 'r, R, R::File>>>> {
+    let warehouse = open_table(rt, folder, Table::Warehouse, pace)?;
+    let district = open_table(rt, folder, Table::District, pace)?;
+    let customer = open_table(rt, folder, Table::Customer, pace)?;
+    let history = open_table(rt, folder, Table::History, pace)?;
+    let new_order = open_table(rt, folder, Table::NewOrder, pace)?;
+    let order = open_table(rt, folder, Table::Order, pace)?;
+    let order_line = open_table(rt, folder, Table::OrderLine, pace)?;
+    let item = open_table(rt, folder, Table::Item, pace)?;
+    let stock = open_table(rt, folder, Table::Stock, pace)?;
+    let (Some(warehouse), Some(district), Some(customer)) = (warehouse, district, customer) else {
+        return Ok(None);
+    };
+    let (Some(history), Some(new_order), Some(order)) = (history, new_order, order) else {
+        return Ok(None);
+    };
+    let (Some(order_line), Some(item), Some(stock)) = (order_line, item, stock) else {
+        return Ok(None);
+    };
+    Ok(Some(Sources {
+        warehouse,
+        district,
+        customer,
+        history,
+        new_order,
+        order,
+        order_line,
+        item,
+        stock,
+    }))
+}
+
+/// Gives the file of a table.
+fn file_of<S>(sources: &Sources<S>, table: Table) -> &S {
+    match table {
+        Table::Warehouse => &sources.warehouse,
+        Table::District => &sources.district,
+        Table::Customer => &sources.customer,
+        Table::History => &sources.history,
+        Table::NewOrder => &sources.new_order,
+        Table::Order => &sources.order,
+        Table::OrderLine => &sources.order_line,
+        Table::Item => &sources.item,
+        Table::Stock => &sources.stock,
+    }
+}
+
+/// Audits the nine files of a folder, and writes the report on standard output.
+fn answer_audit<R: Files + Clock + Print + Eprint + AllocGlobal>(
+    rt: &R,
+    errors: &Stderr,
+    folder: &str,
+    first: Option<u32>,
+) -> io::Result<ExitCode> {
+    let pace = Pace {
+        rt,
+        begun: Instant::now(rt)?,
+        is_shown: errors.is_terminal(),
+        second_told: AtomicU64::new(0),
+    };
+    let mut sources = match open_tables(rt, folder, &pace) {
+        Ok(Some(sources)) => sources,
+        Ok(None) => return Ok(ExitCode::from(2)),
+        Err(error) if error.kind() == IoKind::OutOfMemory => return fail(rt, "no memory"),
+        Err(error) => return Err(error),
+    };
+    let mut writer = Printed::new(rt);
+    match run_audit(rt.alloc(), &mut sources, first, &mut writer) {
+        Ok(verdict) => {
+            if let AuditVerdict::Unreadable(faults) = &verdict {
+                let _told = write_faults(faults, &mut Printed::new(errors));
+            }
+            Ok(ExitCode::from(oe_inspection::status(&verdict)))
+        }
+        Err(AuditFault::Stopped(Stop::NoMemory)) => fail(rt, "no memory"),
+        Err(AuditFault::Stopped(Stop::Read(table))) => {
+            match &file_of(&sources, table).failure {
+                Some(error) => tell_file(rt, table, error)?,
+                None => eprintln!(rt; "{}: can't be read", table.name())?,
+            }
+            Ok(ExitCode::from(2))
+        }
+        Err(AuditFault::Write) => fail(rt, write_fault(writer.is_closed())),
+    }
 }
 
 /// Tells a person how far a drive is, once a second from its second second on.

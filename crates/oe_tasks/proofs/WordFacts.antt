@@ -1,9 +1,15 @@
 -- Words in their order.
 use Rattle.std.proofs.Common.{◌≡◌, ◌==◌, ℕ, ◌-◌, ◌≤◌, false, List, [], ◌∷◌, length, take, drop, map, get_or}
-use Rattle.std.proofs.Common.{slice_index, codes, Bor, refl, sym, ap, ◌∙◌, inl, inr, arith}
+use Rattle.std.proofs.Common.{slice_index, codes, Bor, refl, sym, ap, subst, ◌∙◌, inl, inr, arith}
+use Rattle.std.proofs.Common.{Bool, Option}
 use Rattle.std.proofs.lemmas.Bool.{eq-eqb, both_ways}
 use Rattle.std.proofs.lemmas.List.{take_all}
-use Rattle.oe_tasks.specs.Words.{AsksScript, AsksSerial, AsksDrive, NamesFile, IsPlain}
+use Rattle.std.proofs.Common.{◌++◌}
+use Rattle.std.proofs.lemmas.List.{length-drop, take-append-drop, map-append}
+use Rattle.std.specs.Fmt.{decimal}
+use Rattle.oe_numbers.specs.declared.kinds.Kinds.{Kinds}
+use Rattle.oe_tasks.specs.Words.{AsksScript, AsksSerial, AsksDrive, AsksAudit, NamesFile, IsPlain, IsFirst, first_words}
+use Rattle.oe_tasks.specs.Words.{AsksLoad, AreLoadOptions}
 use Rattle.oe_tasks.specs.declared.Task.{Task}
 use Rattle.oe_numbers.specs.declared.drives.DriveNumbers.{DriveNumbers}
 use Rattle.oe_numbers.specs.Words.{AreInRange, words_of}
@@ -62,6 +68,8 @@ no_script f (x ∷ y ∷ z ∷ r) h n task.Script a = cc
 no_script f (x ∷ y ∷ r) h n (task.File name) a = n name.now a.1
 no_script f (x ∷ y ∷ r) h n (task.Serial name) a = a
 no_script f (x ∷ y ∷ r) h n (task.Drive d) a = a
+no_script f (x ∷ y ∷ r) h n (task.Audit name first) a = a
+no_script f (x ∷ y ∷ r) h n (task.Load d kinds flat) a = a
 
 pub no_serial : {X : Type 0} (f : X → List ℕ) (ws : List X) → ((file : List ℕ) → NamesFile (map f ws) file → ⊥)
     → (t : Task) → AsksSerial (map f ws) t → ⊥
@@ -71,6 +79,8 @@ no_serial f (x ∷ y ∷ r) n task.Script a = a
 no_serial f (x ∷ y ∷ r) n (task.File name) a = a
 no_serial f (x ∷ y ∷ r) n (task.Serial name) a = n name.now a.1
 no_serial f (x ∷ y ∷ r) n (task.Drive d) a = a
+no_serial f (x ∷ y ∷ r) n (task.Audit name first) a = a
+no_serial f (x ∷ y ∷ r) n (task.Load d kinds flat) a = a
 
 pub drives : {X : Type 0} (f : X → List ℕ) (ws : List X) (b : X) (d : DriveNumbers) → 2 ≤ length ws → b ≡ get_or ws 1 b
     → f b ≡ codes "drive" → AreInRange d
@@ -80,3 +90,106 @@ drives f (x ∷ []) b d h i e ranges words = absurd (omega (arith, h))
 drives f (x ∷ y ∷ r) b d h i e ranges words =
     let whole : take (length (x ∷ y ∷ r) - 2) r ≡ r = take_all (length (x ∷ y ∷ r) - 2) r (omega arith) in
     (ap f (sym i) ∙ e, ranges, ap (map f) (sym whole) ∙ words)
+
+pub audits : {X : Type 0} (f : X → List ℕ) (ws : List X) (b d : X) (name : Bor (List ℕ)) (first : Option ℕ)
+    → 3 ≤ length ws → b ≡ get_or ws 1 b → f b ≡ codes "audit" → d ≡ get_or ws 2 d → name.now ≡ f d → IsPlain name.now
+    → map f (take (length ws - 3) (drop 3 ws)) ≡ first_words first → IsFirst first
+    → AsksAudit (map f ws) (task.Audit name first)
+audits f [] b d name first h i e j n p words few = absurd (omega (arith, h))
+audits f (x ∷ []) b d name first h i e j n p words few = absurd (omega (arith, h))
+audits f (x ∷ y ∷ []) b d name first h i e j n p words few = absurd (omega (arith, h))
+audits f (x ∷ y ∷ z ∷ r) b d name first h i e j n p words few =
+    let whole : take (length (x ∷ y ∷ z ∷ r) - 3) r ≡ r = take_all (length (x ∷ y ∷ z ∷ r) - 3) r (omega arith) in
+    let named : name.now ≡ f z = n ∙ ap f j in (
+      ap f (sym i) ∙ e,
+      sym named,
+      λ q. p (ap (λ t. slice_index t 0) named ∙ q),
+      sym (ap (map f) whole) ∙ words,
+      few,
+    )
+
+-- LOADS
+
+-- the seven numbers, and what stands behind them
+seven : {X : Type 0} (f : X → List ℕ) (r : List X) (a b c d e g h : List ℕ) (options : List (List ℕ))
+    → map f r ≡ a ∷ b ∷ c ∷ d ∷ e ∷ g ∷ h ∷ options
+    → (map f (take 7 r) ≡ a ∷ b ∷ c ∷ d ∷ e ∷ g ∷ h ∷ []) × (map f (drop 7 r) ≡ options) × (7 ≤ length r)
+seven f [] a b c d e g h options is = cc
+seven f (x1 ∷ []) a b c d e g h options is = cc
+seven f (x1 ∷ x2 ∷ []) a b c d e g h options is = cc
+seven f (x1 ∷ x2 ∷ x3 ∷ []) a b c d e g h options is = cc
+seven f (x1 ∷ x2 ∷ x3 ∷ x4 ∷ []) a b c d e g h options is = cc
+seven f (x1 ∷ x2 ∷ x3 ∷ x4 ∷ x5 ∷ []) a b c d e g h options is = cc
+seven f (x1 ∷ x2 ∷ x3 ∷ x4 ∷ x5 ∷ x6 ∷ []) a b c d e g h options is = cc
+seven f (x1 ∷ x2 ∷ x3 ∷ x4 ∷ x5 ∷ x6 ∷ x7 ∷ r) a b c d e g h options is = (cc, cc, omega arith)
+
+pub load_parts : {X : Type 0} (f : X → List ℕ) (ws : List X) (d : DriveNumbers) (kinds : Kinds) (flat : Bool)
+    → AsksLoad (map f ws) (task.Load d kinds flat)
+    → (9 ≤ length ws) × AreInRange d × (map f (take 7 (drop 2 ws)) ≡ words_of d)
+    × AreLoadOptions (map f (take (length ws - 9) (drop 9 ws))) kinds flat
+load_parts f [] d kinds flat a = absurd a
+load_parts f (x ∷ []) d kinds flat a = absurd a
+load_parts f (x ∷ y ∷ r) d kinds flat a =
+    let is = seven f r (decimal d.scale.warehouses) (decimal d.scale.customers) (decimal d.scale.items)
+    (decimal d.extents) (decimal d.terminals) (decimal d.requests) (decimal d.seed) a.2 a.3 in
+    let long : length (drop 7 r) ≡ length r - 7 = length-drop 7 r in
+    let whole : take (length (x ∷ y ∷ r) - 9) (drop 7 r) ≡ drop 7 r =
+    take_all (length (x ∷ y ∷ r) - 9) (drop 7 r) (omega (arith, long)) in (
+      omega (arith, is.2),
+      a.1,
+      is.0,
+      subst (λ (ts : List (List ℕ)). AreLoadOptions ts kinds flat) (sym (ap (map f) whole ∙ is.1)) a.4,
+    )
+
+pub loads : {X : Type 0} (f : X → List ℕ) (ws : List X) (b : X) (d : DriveNumbers) (kinds : Kinds) (flat : Bool)
+    → 9 ≤ length ws → b ≡ get_or ws 1 b → f b ≡ codes "load" → AreInRange d
+    → map f (take 7 (drop 2 ws)) ≡ words_of d → AreLoadOptions (map f (take (length ws - 9) (drop 9 ws))) kinds flat
+    → AsksLoad (map f ws) (task.Load d kinds flat)
+loads f [] b d kinds flat h i e ranges words options = absurd (omega (arith, h))
+loads f (x ∷ []) b d kinds flat h i e ranges words options = absurd (omega (arith, h))
+loads {X = X} f (x ∷ y ∷ r) b d kinds flat h i e ranges words options =
+    let long : length (drop 7 r) ≡ length r - 7 = length-drop 7 r in
+    let whole : take (length (x ∷ y ∷ r) - 9) (drop 7 r) ≡ drop 7 r =
+    take_all (length (x ∷ y ∷ r) - 9) (drop 7 r) (omega (arith, long)) in (
+      ap f (sym i) ∙ e,
+      ranges,
+      map f (drop 7 r),
+      ap (map f) (sym (take-append-drop 7 r))
+          ∙ (map-append f (take 7 r) (drop 7 r) ∙ ap (λ z. z ++ map f (drop 7 r)) words),
+      subst (λ (ts : List X). AreLoadOptions (map f ts) kinds flat) whole options,
+    )
+
+pub no_load : {X : Type 0} (f : X → List ℕ) (ws : List X)
+    → ((kinds : Kinds) (flat : Bool) → AreLoadOptions (map f (take (length ws - 9) (drop 9 ws))) kinds flat → ⊥)
+    → (t : Task) → AsksLoad (map f ws) t → ⊥
+no_load f [] n t a = a
+no_load f (x ∷ []) n t a = a
+no_load f (x ∷ y ∷ r) n task.Script a = a
+no_load f (x ∷ y ∷ r) n (task.File name) a = a
+no_load f (x ∷ y ∷ r) n (task.Serial name) a = a
+no_load f (x ∷ y ∷ r) n (task.Drive d) a = a
+no_load f (x ∷ y ∷ r) n (task.Audit name first) a = a
+no_load f (x ∷ y ∷ r) n (task.Load d kinds flat) a = n kinds flat (load_parts f (x ∷ y ∷ r) d kinds flat a).3
+
+pub single : {X : Type 0} (f : X → List ℕ) (ws : List X) (b : X) → length ws ≡ 1 → b ≡ get_or ws 0 b
+    → map f ws ≡ f b ∷ []
+single f [] b h i = absurd (omega (arith, h))
+single f (x ∷ []) b h i = ap (λ t. t ∷ []) (ap f (sym i))
+single f (x ∷ y ∷ r) b h i = absurd (omega (arith, h))
+
+pub pair : {X : Type 0} (f : X → List ℕ) (ws : List X) (b d : X) → length ws ≡ 2 → b ≡ get_or ws 0 b
+    → d ≡ get_or ws 1 d → map f ws ≡ f b ∷ f d ∷ []
+pair f [] b d h i j = absurd (omega (arith, h))
+pair f (x ∷ []) b d h i j = absurd (omega (arith, h))
+pair f (x ∷ y ∷ []) b d h i j = ap (λ t. t ∷ f y ∷ []) (ap f (sym i)) ∙ ap (λ t. f b ∷ t ∷ []) (ap f (sym j))
+pair f (x ∷ y ∷ z ∷ r) b d h i j = absurd (omega (arith, h))
+
+pub triple : {X : Type 0} (f : X → List ℕ) (ws : List X) (b d e : X) → length ws ≡ 3 → b ≡ get_or ws 0 b
+    → d ≡ get_or ws 1 d → e ≡ get_or ws 2 e → map f ws ≡ f b ∷ f d ∷ f e ∷ []
+triple f [] b d e h i j k = absurd (omega (arith, h))
+triple f (x ∷ []) b d e h i j k = absurd (omega (arith, h))
+triple f (x ∷ y ∷ []) b d e h i j k = absurd (omega (arith, h))
+triple f (x ∷ y ∷ z ∷ []) b d e h i j k =
+    ap (λ t. t ∷ f y ∷ f z ∷ []) (ap f (sym i)) ∙ ap (λ t. f b ∷ t ∷ f z ∷ []) (ap f (sym j))
+    ∙ ap (λ t. f b ∷ f d ∷ t ∷ []) (ap f (sym k))
+triple f (x ∷ y ∷ z ∷ w ∷ r) b d e h i j k = absurd (omega (arith, h))

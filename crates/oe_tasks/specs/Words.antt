@@ -1,6 +1,10 @@
 -- Which words of a command line ask for which task.
-use Rattle.std.specs.Prelude.{◌≡◌, ◌≢◌, ℕ, List, [], ◌∷◌, ◌⊎◌, slice_index, codes}
+use Rattle.std.specs.Prelude.{◌≡◌, ◌≢◌, ℕ, Bool, true, false, Option, None, Some, List, [], ◌∷◌, ◌++◌, ◌⊎◌, slice_index}
+use Rattle.std.specs.Prelude.{codes, decimal}
+use Rattle.std.specs.Int.{IsInRange}
 use Rattle.oe_numbers.specs.Words.{AreInRange, words_of}
+use Rattle.oe_numbers.specs.Kinds.{Names as NamesKinds, none_named}
+use Rattle.oe_numbers.specs.declared.kinds.Kinds.{Kinds}
 use Rattle.oe_tasks.specs.declared.Task.{Task}
 use Rattle.oe_tasks.specs.declared.Task.TheVariants as task
 
@@ -33,5 +37,47 @@ abbrev pub AsksDrive : List (List ℕ) → Task → Type 0
 AsksDrive (program ∷ verb ∷ rest) (task.Drive d) = (verb ≡ codes "drive") × AreInRange d × (rest ≡ words_of d)
 AsksDrive words task = ⊥
 
+-- the words that say how many findings of each condition are shown, if any
+abbrev pub first_words : Option ℕ → List (List ℕ)
+first_words None = []
+first_words (Some n) = codes "--first" ∷ decimal n ∷ []
+
+-- at least one finding is shown
+abbrev pub IsFirst : Option ℕ → Type 0
+IsFirst None = Unit {0}
+IsFirst (Some n) = IsInRange 1 4_294_967_295 n
+
+-- the program's name, `audit`, a directory that is not taken for an option, and how many findings are shown
+abbrev pub AsksAudit : List (List ℕ) → Task → Type 0
+AsksAudit (program ∷ verb ∷ name ∷ rest) (task.Audit directory first) =
+    (verb ≡ codes "audit") × (name ≡ directory.now) × IsPlain name × (rest ≡ first_words first) × IsFirst first
+AsksAudit words task = ⊥
+
+-- the words that name kinds of transactions, if any, and that say that requests alone are printed
+abbrev pub kinds_words : Option (List ℕ) → List (List ℕ)
+kinds_words None = []
+kinds_words (Some names) = codes "--kinds" ∷ names ∷ []
+
+abbrev pub flat_words : Bool → List (List ℕ)
+flat_words true = codes "--flat" ∷ []
+flat_words false = []
+
+-- these kinds are named, or none
+abbrev pub AreNamed : Option (List ℕ) → Kinds → Type 0
+AreNamed None kinds = kinds ≡ none_named
+AreNamed (Some names) kinds = NamesKinds names kinds
+
+-- the words say both, in either order
+abbrev pub AreLoadOptions : List (List ℕ) → Kinds → Bool → Type 0
+AreLoadOptions words kinds flat = (names : Option (List ℕ)) × AreNamed names kinds
+    × ((words ≡ kinds_words names ++ flat_words flat) ⊎ (words ≡ flat_words flat ++ kinds_words names))
+
+-- the program's name, `load`, its seven numbers in order, each in its range, and the options
+abbrev pub AsksLoad : List (List ℕ) → Task → Type 0
+AsksLoad (program ∷ verb ∷ rest) (task.Load d kinds flat) = (verb ≡ codes "load") × AreInRange d
+    × (options : List (List ℕ)) × (rest ≡ words_of d ++ options) × AreLoadOptions options kinds flat
+AsksLoad words task = ⊥
+
 abbrev pub Asks : List (List ℕ) → Task → Type 0
-Asks words task = AsksScript words task ⊎ AsksSerial words task ⊎ AsksDrive words task
+Asks words task = AsksScript words task ⊎ AsksSerial words task ⊎ AsksDrive words task ⊎ AsksAudit words task
+    ⊎ AsksLoad words task

@@ -1,12 +1,17 @@
 #![tactic(auto)]
 //! The words of the command line.
-ghost use Rattle.std.specs.Prelude.{◌≡◌, ◌↔◌, ◌==◌, ℕ, List, IsFalse, codes, map, slice_index, MatchOption, MatchResult};
-ghost use Rattle.oe_tasks.specs.Words.{Asks, AsksScript, AsksSerial, AsksDrive, NamesFile};
+ghost use Rattle.std.specs.Prelude.{◌≡◌, ◌≢◌, ◌↔◌, ◌==◌, ◌∷◌, [], ℕ, Bool, List, Option};
+ghost use Rattle.std.specs.Prelude.{IsFalse, codes, map, slice_index, MatchOption, MatchResult};
+ghost use Rattle.oe_numbers.specs.Kinds.{Names as NamesKinds};
+ghost use Rattle.oe_numbers.specs.declared.kinds.Kinds.{Kinds};
+ghost use Rattle.oe_tasks.specs.Words.{Asks, AsksScript, AsksSerial, AsksDrive, AsksAudit, AsksLoad};
+ghost use Rattle.oe_tasks.specs.Words.{NamesFile, IsFirst, first_words, AreLoadOptions};
 ghost use Rattle.oe_tasks.specs.declared.Task.{Task};
 
 use clap::error::ErrorKind;
-use clap::{Arg, Command, Error, value_parser};
-use oe_numbers::DriveNumbers;
+use clap::{Arg, ArgAction, Command, Error, value_parser};
+use oe_numbers::{DriveNumbers, Kinds, number_of};
+use oe_values::Number;
 use std::alloc::Global;
 use std::convert::AsStr;
 
@@ -21,6 +26,26 @@ pub enum Task<'a> {
     Serial(&'a str),
     /// To run terminals in threads of their own.
     Drive(DriveNumbers),
+    /// To audit the tables in the files of a directory, and to show the first findings of each
+    /// condition, or all.
+    Audit {
+        directory: &'a str,
+        first: Option<u32>,
+    },
+    /// To print a load, as a script or flat, of these kinds of transactions, or of all where none
+    /// is named.
+    Load {
+        numbers: DriveNumbers,
+        kinds: Kinds,
+        is_flat: bool,
+    },
+}
+
+/// The options of a load.
+#[derive(Clone, Copy)]
+struct LoadOptions {
+    kinds: Kinds,
+    is_flat: bool,
 }
 
 const ABOUT: &str =
@@ -34,10 +59,19 @@ const SERIAL: &str = "Decides whether FILE's replies are those of its transactio
 
 const DRIVE: &str = "Runs terminals in threads of their own, and tells what they left";
 
+const AUDIT: &str = "Audits the tables of any engine, which lie in the files of a directory";
+
+const LOAD: &str = "Prints a load of terminals' requests, as a script or one request a line";
+
+const LOAD_WORDS: &str = "the seven numbers come first, --kinds and --flat behind them; \
+a kind is neworder, payment, status, delivery or level";
+
 const USAGE: &str = "oe_server script < FILE
        oe_server script FILE
        oe_server serial FILE
        oe_server drive W C I E T N SEED
+       oe_server audit DIR [--first N]
+       oe_server load W C I E T N SEED [--kinds KIND,..] [--flat]
        oe_server --help | --version";
 
 const FORMS: &str = "\
@@ -94,6 +128,7 @@ to 64. What stands behind the colon is the answer:
   waits              shows each terminal T that waits, the lock and its holders: T waits NAME
                      MODE for HOLDERS; the terminals that wait for one another: cycle and them,
                      or no cycle; and rows COUNT
+  locks              shows each lock that a transaction holds: T NAME MODE; and rows COUNT
 
 A step that is refused is answered error NUMBER CAUSE. It changes nothing, but that at a
 stage Overflow, NoCustomer and an item that is not valid roll the transaction back;
@@ -111,17 +146,32 @@ the tables with a new population. It writes two lines:
 A file of commits begins with a line open W C I E, as a script. Each other line tells of a
 commit of another engine, in their order: T, the words of the request as behind a script's
 begin T, then \" => \", and the reply as behind commit MOMENT. It writes one line:
-  serial COUNT      each reply is that of its transaction, run alone behind those before it
+  serial COUNT       each reply is that of its transaction, run alone behind those before it
   line N: \"REPLY\", in this order \"REPLY\"
                      the first line whose transaction replies otherwise, or is refused
 or, on standard error, which lines have no form (line N: no request and reply).
 
+An audit reads the files warehouse, district, customer, history, neworder, order, orderline,
+item and stock of DIR: a line for each row, its columns as dump shows them. It tells how many
+rows it read, which rows refer to rows that are not there, and of each condition that it
+holds, or each row at which it fails, with the figures that differ, or the first N such rows
+(1 to 4294967295) and how many more there are:
+  condition N holds, or condition N fails KEY: FIGURES, or condition N fails at COUNT more
+  holds 11 of 11 conditions, or fails COUNT of 11 conditions, and how many rows are set apart
+
+A load has a drive's seven numbers: T terminals ask for N transactions or queries each, which
+SEED makes, by the standard's weights or of the kinds that --kinds names (neworder, payment,
+status, delivery, level). It writes a script in which their stages overlap, and which is
+answered no error but Busy: a cycle of waits ends by a rollback, and purge now makes room.
+With --flat it writes the opening, and for each request a line T REQUEST.
+
 The status is 0 at the end of a script's input, whatever the answers, for a file of commits
-that is serial, and for a drive whose conditions hold and whose population is restored; 1 for
-any other file of commits or drive, after a fault, which standard error names (fault: read,
-fault: write, fault: output closed, fault: no memory, fault: no undo extents), and for a FILE
-that can't be opened; and 2 where the command line is none of these, or a line of a file of
-commits has no form.
+that is serial, for a drive whose conditions hold and whose population is restored, for an
+audit that finds nothing, and for a load that is written whole; 1 for any other file of
+commits, drive, audit or load, after a fault, which standard error names (fault: read, fault:
+write, fault: output closed, fault: no memory, fault: no undo extents), and for a FILE that
+can't be opened; and 2 where the command line is none of these, a line of a file of commits
+has no form, or a file of an audit can't be read.
 docs/SCRIPTS.md is the manual: stages, locks, refusals and columns; examples/ has scripts.";
 
 /// Finds what these words ask for; the first is the program's name.
@@ -148,6 +198,12 @@ fn asked<'a, S: AsStr>(words: &'a [S]) -> Option<Task<'a>>
         return Some(task);
     }
     if let Some(task) = serial_of(words) {
+        return Some(task);
+    }
+    if let Some(task) = audit_of(words) {
+        return Some(task);
+    }
+    if let Some(task) = load_of(words) {
         return Some(task);
     }
     drive_of(words)
@@ -226,6 +282,151 @@ fn drive_of<'a, S: AsStr>(words: &'a [S]) -> Option<Task<'a>>
     }
 }
 
+// Finds the audit that these words ask for.
+fn audit_of<'a, S: AsStr>(words: &'a [S]) -> Option<Task<'a>>
+    ensures { MatchOption result
+        ((task : Task) → AsksAudit (map S.text words.now) task → ⊥)
+        (AsksAudit (map S.text words.now)) }
+{
+    if words.len() < 3 || words[1].as_str() != "audit" {
+        return None;
+    }
+    let directory = words[2].as_str();
+    if is_option(directory) {
+        return None;
+    }
+    match shown_of(&words[3..]) {
+        Some(first) => Some(Task::Audit { directory, first }),
+        None => None,
+    }
+}
+
+// Finds how many findings these words say are shown.
+fn shown_of<S: AsStr>(words: &[S]) -> Option<Option<u32>>
+    ensures { MatchOption result
+        ((first : Option ℕ) → IsFirst first → map S.text words.now ≢ first_words first)
+        (λ first. (map S.text words.now ≡ first_words first) × IsFirst first) }
+{
+    match words.len() {
+        0 => Some(None),
+        2 => match first_of(words[0].as_str(), words[1].as_str()) {
+            Some(first) => Some(Some(first)),
+            None => None,
+        },
+        _ => None,
+    }
+}
+
+// Reads how many findings are shown: `--first`, and a number from 1 on.
+fn first_of(mark: &str, word: &str) -> Option<u32>
+    ensures { MatchOption result
+        ((n : ℕ) → IsFirst (Some n) → mark.now ∷ word.now ∷ [] ≢ first_words (Some n))
+        (λ n. IsFirst (Some n) × (mark.now ∷ word.now ∷ [] ≡ first_words (Some n))) }
+{
+    if mark != "--first" {
+        return None;
+    }
+    let number: Number<1, 4_294_967_295> = number_of(word)?;
+    Some(number.get())
+}
+
+// Finds the load that these words ask for.
+fn load_of<'a, S: AsStr>(words: &'a [S]) -> Option<Task<'a>>
+    ensures { MatchOption result
+        ((task : Task) → AsksLoad (map S.text words.now) task → ⊥)
+        (AsksLoad (map S.text words.now)) }
+{
+    if words.len() < 2 || words[1].as_str() != "load" {
+        return None;
+    }
+    if words.len() < 9 {
+        return None;
+    }
+    let Some(numbers) = DriveNumbers::read(&words[2..9]) else {
+        return None;
+    };
+    match load_options_of(&words[9..]) {
+        Some(options) => Some(Task::Load {
+            numbers,
+            kinds: options.kinds,
+            is_flat: options.is_flat,
+        }),
+        None => None,
+    }
+}
+
+// Finds the options of a load that these words say.
+fn load_options_of<S: AsStr>(words: &[S]) -> Option<LoadOptions>
+    ensures { MatchOption result
+        ((kinds : Kinds) (flat : Bool) → AreLoadOptions (map S.text words.now) kinds flat → ⊥)
+        (λ o. AreLoadOptions (map S.text words.now) o.kinds o.is_flat) }
+{
+    match words.len() {
+        0 => Some(LoadOptions {
+            kinds: Kinds::none(),
+            is_flat: false,
+        }),
+        1 => {
+            if words[0].as_str() != "--flat" {
+                return None;
+            }
+            Some(LoadOptions {
+                kinds: Kinds::none(),
+                is_flat: true,
+            })
+        }
+        2 => match kinds_of(words[0].as_str(), words[1].as_str()) {
+            Some(kinds) => Some(LoadOptions {
+                kinds,
+                is_flat: false,
+            }),
+            None => None,
+        },
+        3 => flat_kinds_of(words[0].as_str(), words[1].as_str(), words[2].as_str()),
+        _ => None,
+    }
+}
+
+// Finds both options in three words.
+fn flat_kinds_of(head: &str, middle: &str, last: &str) -> Option<LoadOptions>
+    ensures { MatchOption result
+        ((kinds : Kinds) (flat : Bool)
+        → AreLoadOptions (head.now ∷ middle.now ∷ last.now ∷ []) kinds flat → ⊥)
+        (λ o. AreLoadOptions (head.now ∷ middle.now ∷ last.now ∷ []) o.kinds o.is_flat) }
+{
+    if head == "--flat" {
+        return match kinds_of(middle, last) {
+            Some(kinds) => Some(LoadOptions {
+                kinds,
+                is_flat: true,
+            }),
+            None => None,
+        };
+    }
+    if last != "--flat" {
+        return None;
+    }
+    match kinds_of(head, middle) {
+        Some(kinds) => Some(LoadOptions {
+            kinds,
+            is_flat: true,
+        }),
+        None => None,
+    }
+}
+
+// Reads the kinds that two words name: `--kinds`, and names with a comma between each two.
+fn kinds_of(mark: &str, names: &str) -> Option<Kinds>
+    ensures { MatchOption result
+        ((kinds : Kinds) → mark.now ≡ codes "--kinds" → NamesKinds names.now kinds → ⊥)
+        (λ kinds. (mark.now ≡ codes "--kinds") × NamesKinds names.now kinds) }
+{
+    if mark != "--kinds" {
+        return None;
+    }
+    Kinds::read(names.as_bytes())
+}
+
 /// Tells whether a word is taken for an option.
 fn is_option(word: &str) -> bool
     ensures { result ≡ (slice_index word.now 0 == 45) }
@@ -262,6 +463,12 @@ fn what_else<S: AsStr>(words: &[S]) -> &'static str {
     if words.len() > 1 && words[1].as_str() == "drive" {
         return "a number is digits alone, and no 0 stands before another digit";
     }
+    if words.len() > 1 && words[1].as_str() == "load" {
+        return LOAD_WORDS;
+    }
+    if words.len() > 1 && words[1].as_str() == "audit" {
+        return "DIR comes first, --first N behind it; N is digits alone, from 1 on";
+    }
     "FILE is missing"
 }
 
@@ -280,7 +487,9 @@ fn grammar<'a>(alloc: Global) -> Result<Command<'a>, Error> {
         .subcommand_required(true)
         .subcommand(script)?
         .subcommand(serial_grammar(alloc)?)?
-        .subcommand(drive_grammar(alloc)?)?;
+        .subcommand(drive_grammar(alloc)?)?
+        .subcommand(audit_grammar(alloc)?)?
+        .subcommand(load_grammar(alloc)?)?;
     Ok(command)
 }
 
@@ -299,7 +508,13 @@ fn drive_grammar<'a>(alloc: Global) -> Result<Command<'a>, Error> {
     let command = Command::new(alloc, "drive")
         .about(DRIVE)
         .override_usage(USAGE)
-        .after_help(FORMS)
+        .after_help(FORMS);
+    with_numbers(alloc, command)
+}
+
+/// Adds the seven numbers of a drive or a load to a grammar.
+fn with_numbers<'a>(alloc: Global, command: Command<'a>) -> Result<Command<'a>, Error> {
+    let command = command
         .arg(number(alloc, "W", 1, 16).help("Warehouses, 1 to 16"))?
         .arg(number(alloc, "C", 1, 3_000).help("Customers in each district, 1 to 3000"))?
         .arg(number(alloc, "I", 1, 100_000).help("Items, 1 to 100000"))?
@@ -307,6 +522,40 @@ fn drive_grammar<'a>(alloc: Global) -> Result<Command<'a>, Error> {
         .arg(number(alloc, "T", 1, 63).help("Terminals, 1 to 63"))?
         .arg(number(alloc, "N", 1, 1_000).help("Requests of each terminal, 1 to 1000"))?
         .arg(number(alloc, "SEED", 0, 4_294_967_295).help("Makes all requests, 0 to 4294967295"))?;
+    Ok(command)
+}
+
+/// Makes the grammar of a load.
+fn load_grammar<'a>(alloc: Global) -> Result<Command<'a>, Error> {
+    let flat = Arg::new(alloc, "flat")
+        .long("flat")
+        .action(ArgAction::SetTrue);
+    let kinds = Arg::new(alloc, "KIND").long("kinds");
+    let command = Command::new(alloc, "load")
+        .about(LOAD)
+        .override_usage(USAGE)
+        .after_help(FORMS);
+    let command = with_numbers(alloc, command)?
+        .arg(kinds.help("Draws these kinds alone: neworder,payment,status,delivery,level"))?
+        .arg(flat.help("Prints one request a line, for another engine"))?;
+    Ok(command)
+}
+
+/// Makes the grammar of an audit.
+fn audit_grammar<'a>(alloc: Global) -> Result<Command<'a>, Error> {
+    let first = Arg::new(alloc, "N")
+        .long("first")
+        .value_parser(value_parser!(u32).range(1..=4_294_967_295));
+    let command = Command::new(alloc, "audit")
+        .about(AUDIT)
+        .override_usage(USAGE)
+        .after_help(FORMS)
+        .arg(
+            Arg::new(alloc, "DIR")
+                .required(true)
+                .help("The directory of the nine files"),
+        )?
+        .arg(first.help("Shows the first N findings of each condition"))?;
     Ok(command)
 }
 
