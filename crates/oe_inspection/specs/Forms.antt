@@ -8,7 +8,7 @@ use Rattle.oe_rowlines.specs.declared.forms.Form.TheVariants as form
 abbrev pub range_text : ℕ → ℕ → List ℕ
 range_text low high = codes "number from " ++ decimal low ++ codes " to " ++ decimal high
 
--- text of <least> to <most> printable bytes, or of so many
+-- text of <least> to <most> printable bytes; where both are the same, text of <most> printable bytes
 abbrev pub bytes_text : ℕ → ℕ → List ℕ
 bytes_text least most =
     codes "text of " ++ (if nat_lt least most then decimal least ++ codes " to " else []) ++ decimal most

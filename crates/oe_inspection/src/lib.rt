@@ -1,6 +1,5 @@
-//! The audit of nine files: they are read as tables, and the report of their rows is written; or
-//! what is wrong with their lines is told, and nothing is reported. Clause numbers are TPC Benchmark
-//! C 5.11's.
+//! The audit of nine files: it reads them as tables and writes the report of their rows, or names
+//! the faults of their lines and reports nothing. Clause numbers are TPC Benchmark C 5.11's.
 #![tactic(auto)]
 
 pub mod audits;

@@ -23,7 +23,7 @@ words_of (asked.Query q) = query_words q
 abbrev pub flat_text : ℕ → Asked → List ℕ
 flat_text t a = joined (decimal t ∷ words_of a) ++ 10 ∷ []
 
--- requests in order, each the next of its terminal, that leave so many served
+-- requests in order, each the next of its terminal; `after` counts what is served then
 abbrev pub InTurn : Plan → (ℕ → ℕ) → List Sent → (ℕ → ℕ) → Type 0
 InTurn p served [] after = after ≡ served
 InTurn p served (x ∷ xs) after =

@@ -20,7 +20,7 @@ use oe_values::{Number, Terminal};
 use oe_words::{query, request};
 use rand_pcg::Lcg64Xsh32;
 
-/// A load has at most so many requests: 63 terminals' 1,000.
+/// How many requests a load has at most: 63 terminals' 1,000.
 const REQUESTS: u32 = 63_000;
 
 /// Appends a terminal and the words of what it asks for.

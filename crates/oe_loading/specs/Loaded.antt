@@ -138,7 +138,7 @@ pub record FilesPut (f : files.Files) (end : Rows) (parted : List apart.Apart) (
   pub deeds : DeedsPut f.ordered.orders.items f.ordered.order_lines.items f.deeds.new_orders.items
       f.deeds.histories.items middle end parted_middle parted told_middle told
 
--- files are read, each behind the faults that are told before
+-- files are read one after another, and each adds its faults to those before
 abbrev pub WarehousesRead : Option Source → Option Source → Told Fault → Told Fault
     → List (Numbered WarehouseKey Warehouse) → Type 0
 WarehousesRead =
@@ -176,7 +176,7 @@ abbrev pub StocksRead : Option Source → Option Source → Told Fault → Told 
     → List (Numbered StockKey Stock) → Type 0
 StocksRead = LotRead stock_cmp (λ k. key.Stock k) (SpellsRow stock_forms stock_values) table.Stock
 
--- the files were read one after another, and gave these rows, and these faults behind those of the start
+-- reading the files one after another gave these rows, and added these faults to the faults at the start
 pub record FilesTold (old new : Nine) (f : files.Files) (start told : Told Fault) : Type 0 where
   pub told_warehouses : Told Fault
   pub told_districts : Told Fault
@@ -246,7 +246,7 @@ IsLoaded old new l = AreLoaded old new (rows l.tables) l.apart.items l.counts
 abbrev pub AreFaultsOfRows : files.Files → Told Fault → Type 0
 AreFaultsOfRows f told = (end : Rows) × (parted : List apart.Apart) × FilesPut f end parted told
 
--- What is told of the files, at least one fault: what is wrong with their lines, and which keys stand twice.
+-- The faults of the files, at least one: of their lines, and of keys that stand twice.
 pub record AreFaults (old new : Nine) (told : Told Fault) : Type 0 where
   pub files : files.Files
   pub read_told : Told Fault

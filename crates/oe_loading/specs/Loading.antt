@@ -16,8 +16,8 @@ use Rattle.oe_loading.specs.declared.loading.Sources.{Sources}
 abbrev pub TellsNone : Told Fault → Told Fault → Type 0
 TellsNone old new = new.count ≡ 0 → old.count ≡ 0
 
--- A file was read to its end. Its rows stand in the order of their keys; what is wrong with its lines is told, in their
--- order, and then which keys stand twice.
+-- A file was read to its end. Its rows stand in the order of their keys; its faults are those of its lines, in their
+-- order, and then one for each key that stands twice.
 pub record LotRead {K X : Type 0} (cmp : K → K → Ordering) (key_of : K → Key) (spells : ℕ → List ℕ → K × X → Type 0)
     (table : Table) (old new : Option Source) (start told : Told Fault) (rows : List (Numbered K X)) : Type 0 where
   pub taken : List (Numbered K X)

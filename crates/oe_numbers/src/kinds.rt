@@ -28,7 +28,9 @@ pub struct Kinds {
 
 // Finds the kind of that name.
 fn kind_of(name: &[u8]) -> Option<Kind>
-    ensures { MatchOption result ((x : Kind) → name.now ≢ kind_name x) (λ x. name.now ≡ kind_name x) }
+    ensures { MatchOption result
+        ((x : Kind) → name.now ≢ kind_name x)
+        (λ x. name.now ≡ kind_name x) }
 {
     if name == b"neworder".as_slice() {
         return Some(Kind::NewOrder);

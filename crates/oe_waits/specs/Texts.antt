@@ -1,4 +1,4 @@
--- What a script is told of the transactions that wait, and of the names that they hold.
+-- The lines of `waits` and of `locks`: which transactions wait, and which names they hold.
 use Rattle.std.specs.Prelude.{ℕ, zero, suc, cond, List, [], ◌∷◌, ◌++◌, codes, decimal, Option, None, Some}
 use Rattle.std.specs.List.{flat_map}
 use Rattle.oe_theory.specs.Machine as theory

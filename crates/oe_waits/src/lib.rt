@@ -1,5 +1,5 @@
-//! Which open transactions wait for which, and what they hold, as a script is told. Nothing here
-//! changes a core or takes memory.
+//! Which open transactions wait for which, and what they hold: the answers to `waits` and `locks`.
+//! Nothing here changes a core or takes memory.
 #![tactic(auto)]
 
 pub mod holdings;
