@@ -1,6 +1,7 @@
 -- What a report comes to.
 use Rattle.std.proofs.Common.{◌≡◌, ◌≢◌, ℕ, Bool, true, false, Option, Result, Ok, Err, refl, if◌then◌else◌}
 use Rattle.oe_ports.specs.Ports.{Sink}
+use Rattle.oe_reading.specs.declared.formats.Format.{Format}
 use Rattle.oe_loading.specs.Loading.{Nine}
 use Rattle.oe_loading.specs.Loaded.{IsLoaded}
 use Rattle.oe_loading.specs.declared.loading.Loaded.{Loaded}
@@ -18,10 +19,11 @@ pub or_one : (b : Bool) (n : ℕ) → n ≡ (if b then 0 else 1) → n ≢ 0 →
 or_one true n e other = absurd (other e)
 or_one false n e other = refl
 
-pub ran : (first : Option ℕ) (before after : Nine) (l : Loaded) (old new : Option Sink) (r : Result Verdict Fault)
-    → IsLoaded before after l → Reports first l old new r → AuditRan first before after old new r
-ran first before after l old new (Ok verdict.Holds) i p = (l, i, p)
-ran first before after l old new (Ok verdict.Fails) i p = (l, i, p)
-ran first before after l old new (Ok (verdict.Unreadable told)) i p = absurd p
-ran first before after l old new (Err (fault.Stopped s)) i p = absurd p
-ran first before after l old new (Err fault.Write) i p = (l, i, p)
+pub ran : (format : Format) (first : Option ℕ) (before after : Nine) (l : Loaded) (old new : Option Sink)
+    (r : Result Verdict Fault)
+    → IsLoaded format before after l → Reports first l old new r → AuditRan format first before after old new r
+ran format first before after l old new (Ok verdict.Holds) i p = (l, i, p)
+ran format first before after l old new (Ok verdict.Fails) i p = (l, i, p)
+ran format first before after l old new (Ok (verdict.Unreadable told)) i p = absurd p
+ran format first before after l old new (Err (fault.Stopped s)) i p = absurd p
+ran format first before after l old new (Err fault.Write) i p = (l, i, p)

@@ -2,6 +2,7 @@
 use Rattle.std.specs.Prelude.{◌≡◌, ℕ, Option, Result, Ok, Err, List, []}
 use Rattle.oe_ports.specs.Ports.{Sink, Sent, Cut}
 use Rattle.oe_store.specs.Places.{rows}
+use Rattle.oe_reading.specs.declared.formats.Format.{Format}
 use Rattle.oe_loading.specs.Loading.{Nine}
 use Rattle.oe_loading.specs.Loaded.{IsLoaded, AreFaults}
 use Rattle.oe_loading.specs.declared.loading.Loaded.{Loaded}
@@ -32,12 +33,13 @@ Reports first l old new (Err fault.Write) = Cut old [] new (text_of first l)
 
 -- What is loaded of nine files is reported; these are the faults of their lines, and nothing was written; a file was
 -- not read to its end, or memory was refused, and nothing was written; or a beginning of the report was.
-abbrev pub AuditRan : Option ℕ → Nine → Nine → Option Sink → Option Sink → Result Verdict Fault → Type 0
-AuditRan first before after old new (Ok verdict.Holds) =
-    (l : Loaded) × IsLoaded before after l × Reports first l old new (Ok verdict.Holds)
-AuditRan first before after old new (Ok verdict.Fails) =
-    (l : Loaded) × IsLoaded before after l × Reports first l old new (Ok verdict.Fails)
-AuditRan first before after old new (Ok (verdict.Unreadable told)) = AreFaults before after told × (new ≡ old)
-AuditRan first before after old new (Err (fault.Stopped s)) = new ≡ old
-AuditRan first before after old new (Err fault.Write) =
-    (l : Loaded) × IsLoaded before after l × Reports first l old new (Err fault.Write)
+abbrev pub AuditRan : Format → Option ℕ → Nine → Nine → Option Sink → Option Sink → Result Verdict Fault → Type 0
+AuditRan format first before after old new (Ok verdict.Holds) =
+    (l : Loaded) × IsLoaded format before after l × Reports first l old new (Ok verdict.Holds)
+AuditRan format first before after old new (Ok verdict.Fails) =
+    (l : Loaded) × IsLoaded format before after l × Reports first l old new (Ok verdict.Fails)
+AuditRan format first before after old new (Ok (verdict.Unreadable told)) =
+    AreFaults format before after told × (new ≡ old)
+AuditRan format first before after old new (Err (fault.Stopped s)) = new ≡ old
+AuditRan format first before after old new (Err fault.Write) =
+    (l : Loaded) × IsLoaded format before after l × Reports first l old new (Err fault.Write)

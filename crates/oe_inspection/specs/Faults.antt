@@ -6,10 +6,10 @@ use Rattle.oe_rows.specs.declared.keys.Table.{Table}
 use Rattle.oe_rowlines.specs.declared.forms.LineFault.{LineFault}
 use Rattle.oe_rowlines.specs.declared.forms.LineFault.TheVariants as line_fault
 use Rattle.oe_texts.specs.Key.{key_texts}
-use Rattle.oe_loading.specs.declared.faults.Fault.{Fault}
-use Rattle.oe_loading.specs.declared.faults.Wrong.{Wrong}
-use Rattle.oe_loading.specs.declared.faults.Wrong.TheVariants as wrong
-use Rattle.oe_loading.specs.Fault.{Told}
+use Rattle.oe_reading.specs.declared.faults.Fault.{Fault}
+use Rattle.oe_reading.specs.declared.faults.Wrong.{Wrong}
+use Rattle.oe_reading.specs.declared.faults.Wrong.TheVariants as wrong
+use Rattle.oe_reading.specs.Fault.{Told}
 use Rattle.oe_inspection.specs.Columns.{column_names, column_name}
 use Rattle.oe_inspection.specs.Forms.{form_text}
 
@@ -26,6 +26,7 @@ miscount_text said line = codes "rows " ++ decimal said ++ codes " behind " ++ d
 -- what is wrong with the line of that number
 abbrev pub wrong_text : Table → ℕ → Wrong → List ℕ
 wrong_text t line (wrong.NoRow fault) = line_fault_text t fault
+wrong_text t line wrong.NoRecord = codes "no record: a quote stands where none may, or a field holds a tab"
 wrong_text t line wrong.TooLong = codes "more than 4096 bytes"
 wrong_text t line wrong.CarriageReturn = codes "ends in a carriage return; end lines in a line feed alone"
 wrong_text t line (wrong.Twice k) = codes "twice the key " ++ join_with_byte 32 (key_texts k)

@@ -4,8 +4,9 @@ ghost use Rattle.oe_loading.specs.Loading.{nine_of};
 ghost use Rattle.oe_inspection.specs.Audits.{status_of, AuditRan, Reports};
 
 use oe_findings::write_report;
-use oe_loading::{Faults, LoadError, Loaded, Sources, Stop, load};
+use oe_loading::{LoadError, Loaded, Sources, load};
 use oe_ports::ports::{Intake, Outlet};
+use oe_reading::{Faults, Format, Stop};
 use std::alloc::Global;
 
 /// What nine files come to.
@@ -58,20 +59,22 @@ fn report<W: Outlet>(loaded: Loaded, first: Option<u32>, writer: &mut W) -> Resu
     }
 }
 
-/// Audits the rows of nine files, and writes the report: the rows that were read, those that are set
-/// apart, each of the `first` rows at which a condition fails, or all, and how many conditions fail.
+/// Audits the rows of nine files of a format, and writes the report: the rows that were read, those
+/// that are set apart, each of the `first` rows at which a condition fails, or all, and how many
+/// conditions fail.
 ///
 /// Where a line can't be read nothing is written, and the faults are part of the verdict.
 pub fn run_audit<S: Intake, W: Outlet>(
     alloc: Global,
+    format: Format,
     sources: &mut Sources<S>,
     first: Option<u32>,
     writer: &mut W,
 ) -> Result<Verdict, Fault>
-    ensures { AuditRan first (nine_of S.source sources.old) (nine_of S.source sources.new)
+    ensures { AuditRan format first (nine_of S.source sources.old) (nine_of S.source sources.new)
         (W.sink writer.old) (W.sink writer.new) result }
 {
-    match load(alloc, sources) {
+    match load(alloc, format, sources) {
         Ok(loaded) => report(loaded, first, writer),
         Err(LoadError::Unreadable(faults)) => Ok(Verdict::Unreadable(faults)),
         Err(LoadError::Stopped(stop)) => Err(Fault::Stopped(stop)),

@@ -9,9 +9,9 @@ ghost use Rattle.oe_inspection.specs.Faults.{line_fault_text, miscount_text, wro
 
 use crate::columns::{column_count, column_name};
 use crate::forms::form;
-use oe_loading::{Fault, Faults, Wrong};
 use oe_ports::output::{flush, make_room};
 use oe_ports::ports::{Failed, Outlet};
+use oe_reading::{Fault, Faults, Wrong};
 use oe_rowlines::LineFault;
 use oe_rows::Table;
 use oe_texts::columns::number;
@@ -74,6 +74,12 @@ fn wrong(out: &mut Pending, fault: &Fault)
 {
     match &fault.wrong {
         Wrong::NoRow(why) => line_fault(out, fault.table, *why),
+        Wrong::NoRecord => {
+            text(
+                out,
+                b"no record: a quote stands where none may, or a field holds a tab",
+            );
+        }
         Wrong::TooLong => text(out, b"more than 4096 bytes"),
         Wrong::CarriageReturn => {
             text(

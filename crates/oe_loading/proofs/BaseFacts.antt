@@ -44,7 +44,7 @@ use Rattle.oe_store.specs.Places.{Places, rows, IsNumbered, IsSound}
 use Rattle.oe_store.proofs.SoundFacts.{by_result}
 use Rattle.oe_loading.specs.Base.{BasePlaces, HasTen, AreHomes, PutsDistrict, PutsTen, PutsHome, IsBase, base_rows}
 use Rattle.oe_loading.specs.Base.{IsRowOf, AreDistricts, ArePut, HomesPut}
-use Rattle.oe_loading.specs.declared.lines.Numbered.{Numbered}
+use Rattle.oe_reading.specs.declared.lines.Numbered.{Numbered}
 
 -- ---- one row more
 

@@ -4,13 +4,13 @@ use Rattle.std.proofs.lemmas.List.{append-nil}
 use Rattle.oe_rows.specs.declared.keys.Key.{Key}
 use Rattle.oe_rows.specs.declared.keys.Table.{Table}
 use Rattle.oe_model.specs.Rows.{Rows}
-use Rattle.oe_loading.specs.declared.faults.Fault.{Fault}
-use Rattle.oe_loading.specs.declared.faults.Wrong.TheVariants as wrong
-use Rattle.oe_loading.specs.declared.lines.Numbered.{Numbered}
+use Rattle.oe_reading.specs.declared.faults.Fault.{Fault}
+use Rattle.oe_reading.specs.declared.faults.Wrong.TheVariants as wrong
+use Rattle.oe_reading.specs.declared.lines.Numbered.{Numbered}
 use Rattle.oe_loading.specs.declared.loading.Apart as apart
 use Rattle.oe_loading.specs.declared.places.Placed.{Placed}
 use Rattle.oe_loading.specs.declared.places.Placed.TheVariants.{Kept, Twice, Apart}
-use Rattle.oe_loading.specs.Fault.{Told, pushed}
+use Rattle.oe_reading.specs.Fault.{Told, pushed}
 use Rattle.oe_loading.specs.Placing.{Places, IsBack, Put, Starts, Keeps, FindsTwice, SetsApart, Puts, TellsOf}
 
 pub put_back : (accepts : Rows → Type 0) (with : Rows → Rows) (old : Rows) (p : Placed) → IsBack p → (accepts old → ⊥)

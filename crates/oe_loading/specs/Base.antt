@@ -16,7 +16,7 @@ use Rattle.oe_rows.specs.declared.items.Item.{Item}
 use Rattle.oe_rows.specs.declared.items.Stock.{Stock}
 use Rattle.oe_model.specs.Keys.{warehouse_of_district, district_of_customer, warehouse_of_stock, item_of_stock}
 use Rattle.oe_table.specs.Table.{rows_of}
-use Rattle.oe_loading.specs.declared.lines.Numbered.{Numbered}
+use Rattle.oe_reading.specs.declared.lines.Numbered.{Numbered}
 
 -- the places of each table
 pub record BasePlaces : Type 0 where

@@ -1,5 +1,5 @@
 -- What is loaded: the rows of nine files, put table after table.
-use Rattle.std.specs.Prelude.{◌≡◌, ◌<◌, ◌⊎◌, List, length, Option, None, IsSome}
+use Rattle.std.specs.Prelude.{◌≡◌, ◌<◌, ◌⊎◌, ℕ, List, length, Option, None, IsSome}
 use Rattle.oe_ports.specs.Ports.{Source}
 use Rattle.oe_rows.specs.Key.{warehouse_cmp, district_cmp, customer_cmp, history_cmp, new_order_cmp, order_cmp}
 use Rattle.oe_rows.specs.Key.{order_line_cmp, item_cmp, stock_cmp}
@@ -28,24 +28,27 @@ use Rattle.oe_model.specs.Keys.{district_of_customer, warehouse_of_stock, item_o
 use Rattle.oe_model.specs.Rows.{Rows}
 use Rattle.oe_model.specs.Changes.{changed, InsertHistory, InsertNewOrder, InsertOrder, InsertOrderLine}
 use Rattle.oe_model.specs.Meets.{Accepts}
-use Rattle.oe_loading.specs.declared.faults.Fault.{Fault}
-use Rattle.oe_loading.specs.declared.lines.Numbered.{Numbered}
+use Rattle.oe_reading.specs.declared.faults.Fault.{Fault}
+use Rattle.oe_reading.specs.declared.lines.Numbered.{Numbered}
 use Rattle.oe_loading.specs.declared.loading.Apart as apart
-use Rattle.oe_loading.specs.declared.loading.Files as files
+use Rattle.oe_loading.specs.declared.loading.Begun as begun
+use Rattle.oe_loading.specs.declared.loading.DeedCounts as counts
 use Rattle.oe_loading.specs.declared.loading.Loaded as loaded
 use Rattle.oe_loading.specs.declared.loading.LoadError.{LoadError}
 use Rattle.oe_loading.specs.declared.loading.LoadError.TheVariants as error
 use Rattle.oe_loading.specs.declared.counts.RowCounts.{RowCounts}
 use Rattle.oe_store.specs.Places.{rows}
-use Rattle.oe_loading.specs.Fault.{Told, no_faults}
-use Rattle.oe_loading.specs.Rows.{SpellsRow, SpellsHistory}
+use Rattle.oe_reading.specs.Fault.{Told, no_faults}
+use Rattle.oe_reading.specs.Rows.{SpellsRow, SpellsHistory}
 use Rattle.oe_loading.specs.Placing.{Puts}
 use Rattle.oe_loading.specs.Base.{HomesPut}
 use Rattle.oe_rows.specs.declared.keys.WarehouseKey.{WarehouseKey}
 use Rattle.oe_rows.specs.declared.keys.DistrictKey.{DistrictKey}
 use Rattle.oe_rows.specs.declared.warehouses.Warehouse.{Warehouse}
 use Rattle.oe_rows.specs.declared.districts.District.{District}
-use Rattle.oe_loading.specs.Loading.{Nine, ReadWell, LotRead}
+use Rattle.oe_loading.specs.Loading.{Nine}
+use Rattle.oe_reading.specs.declared.formats.Format.{Format}
+use Rattle.oe_reading.specs.Tables.{ReadWellAs, TableReadAs}
 
 -- A row is accepted where its key has none and its references find rows; of orders and what refers to them the model
 -- says so (`Accepts`).
@@ -128,56 +131,71 @@ pub record DeedsPut (os : List (Numbered OrderKey Order)) (ls : List (Numbered O
   pub new_orders : PutsNewOrders ns with_lines with_new_orders parted_lines parted_new_orders told_lines told_new_orders
   pub histories : PutsHistories hs with_new_orders end parted_new_orders parted told_new_orders told
 
+-- the rows of nine files, those of each in the order of their keys
+pub record NineRows : Type 0 where
+  pub warehouses : List (Numbered WarehouseKey Warehouse)
+  pub districts : List (Numbered DistrictKey District)
+  pub customers : List (Numbered CustomerKey Customer)
+  pub histories : List (Numbered HistoryKey History)
+  pub new_orders : List (Numbered NewOrderKey NewOrder)
+  pub orders : List (Numbered OrderKey Order)
+  pub order_lines : List (Numbered OrderLineKey OrderLine)
+  pub items : List (Numbered ItemKey Item)
+  pub stocks : List (Numbered StockKey Stock)
+
 -- the rows of these files were put
-pub record FilesPut (f : files.Files) (end : Rows) (parted : List apart.Apart) (told : Told Fault) : Type 0 where
+pub record FilesPut (f : NineRows) (end : Rows) (parted : List apart.Apart) (told : Told Fault) : Type 0 where
   pub middle : Rows
   pub parted_middle : List apart.Apart
   pub told_middle : Told Fault
-  pub base : BasePut f.homes.warehouses.items f.homes.districts.items f.homes.customers.items f.goods.items.items
-      f.goods.stocks.items middle parted_middle told_middle
-  pub deeds : DeedsPut f.ordered.orders.items f.ordered.order_lines.items f.deeds.new_orders.items
-      f.deeds.histories.items middle end parted_middle parted told_middle told
+  pub base : BasePut f.warehouses f.districts f.customers f.items f.stocks middle parted_middle told_middle
+  pub deeds : DeedsPut f.orders f.order_lines f.new_orders f.histories middle end parted_middle parted told_middle told
 
 -- files are read one after another, and each adds its faults to those before
-abbrev pub WarehousesRead : Option Source → Option Source → Told Fault → Told Fault
+abbrev pub WarehousesRead : Format → Option Source → Option Source → Told Fault → Told Fault
     → List (Numbered WarehouseKey Warehouse) → Type 0
-WarehousesRead =
-    LotRead warehouse_cmp (λ k. key.Warehouse k) (SpellsRow warehouse_forms warehouse_values) table.Warehouse
+WarehousesRead format =
+    TableReadAs format warehouse_cmp (λ k. key.Warehouse k) (SpellsRow warehouse_forms warehouse_values) table.Warehouse
 
-abbrev pub DistrictsRead : Option Source → Option Source → Told Fault → Told Fault
+abbrev pub DistrictsRead : Format → Option Source → Option Source → Told Fault → Told Fault
     → List (Numbered DistrictKey District) → Type 0
-DistrictsRead = LotRead district_cmp (λ k. key.District k) (SpellsRow district_forms district_values) table.District
+DistrictsRead format =
+    TableReadAs format district_cmp (λ k. key.District k) (SpellsRow district_forms district_values) table.District
 
-abbrev pub CustomersRead : Option Source → Option Source → Told Fault → Told Fault
+abbrev pub CustomersRead : Format → Option Source → Option Source → Told Fault → Told Fault
     → List (Numbered CustomerKey Customer) → Type 0
-CustomersRead = LotRead customer_cmp (λ k. key.Customer k) (SpellsRow customer_forms customer_values) table.Customer
+CustomersRead format =
+    TableReadAs format customer_cmp (λ k. key.Customer k) (SpellsRow customer_forms customer_values) table.Customer
 
-abbrev pub HistoriesRead : Option Source → Option Source → Told Fault → Told Fault
+abbrev pub HistoriesRead : Format → Option Source → Option Source → Told Fault → Told Fault
     → List (Numbered HistoryKey History) → Type 0
-HistoriesRead = LotRead history_cmp (λ k. key.History k) SpellsHistory table.History
+HistoriesRead format = TableReadAs format history_cmp (λ k. key.History k) SpellsHistory table.History
 
-abbrev pub NewOrdersRead : Option Source → Option Source → Told Fault → Told Fault
+abbrev pub NewOrdersRead : Format → Option Source → Option Source → Told Fault → Told Fault
     → List (Numbered NewOrderKey NewOrder) → Type 0
-NewOrdersRead = LotRead new_order_cmp (λ k. key.NewOrder k) (SpellsRow new_order_forms new_order_values) table.NewOrder
+NewOrdersRead format =
+    TableReadAs format new_order_cmp (λ k. key.NewOrder k) (SpellsRow new_order_forms new_order_values) table.NewOrder
 
-abbrev pub OrdersRead : Option Source → Option Source → Told Fault → Told Fault
+abbrev pub OrdersRead : Format → Option Source → Option Source → Told Fault → Told Fault
     → List (Numbered OrderKey Order) → Type 0
-OrdersRead = LotRead order_cmp (λ k. key.Order k) (SpellsRow order_forms order_values) table.Order
+OrdersRead format = TableReadAs format order_cmp (λ k. key.Order k) (SpellsRow order_forms order_values) table.Order
 
-abbrev pub OrderLinesRead : Option Source → Option Source → Told Fault → Told Fault
+abbrev pub OrderLinesRead : Format → Option Source → Option Source → Told Fault → Told Fault
     → List (Numbered OrderLineKey OrderLine) → Type 0
-OrderLinesRead =
-    LotRead order_line_cmp (λ k. key.OrderLine k) (SpellsRow order_line_forms order_line_values) table.OrderLine
+OrderLinesRead format =
+    TableReadAs format order_line_cmp (λ k. key.OrderLine k) (SpellsRow order_line_forms order_line_values)
+    table.OrderLine
 
-abbrev pub ItemsRead : Option Source → Option Source → Told Fault → Told Fault → List (Numbered ItemKey Item) → Type 0
-ItemsRead = LotRead item_cmp (λ k. key.Item k) (SpellsRow item_forms item_values) table.Item
+abbrev pub ItemsRead : Format → Option Source → Option Source → Told Fault → Told Fault → List (Numbered ItemKey Item)
+    → Type 0
+ItemsRead format = TableReadAs format item_cmp (λ k. key.Item k) (SpellsRow item_forms item_values) table.Item
 
-abbrev pub StocksRead : Option Source → Option Source → Told Fault → Told Fault
+abbrev pub StocksRead : Format → Option Source → Option Source → Told Fault → Told Fault
     → List (Numbered StockKey Stock) → Type 0
-StocksRead = LotRead stock_cmp (λ k. key.Stock k) (SpellsRow stock_forms stock_values) table.Stock
+StocksRead format = TableReadAs format stock_cmp (λ k. key.Stock k) (SpellsRow stock_forms stock_values) table.Stock
 
 -- reading the files one after another gave these rows, and added these faults to the faults at the start
-pub record FilesTold (old new : Nine) (f : files.Files) (start told : Told Fault) : Type 0 where
+pub record FilesTold (format : Format) (old new : Nine) (f : NineRows) (start told : Told Fault) : Type 0 where
   pub told_warehouses : Told Fault
   pub told_districts : Told Fault
   pub told_customers : Told Fault
@@ -186,75 +204,157 @@ pub record FilesTold (old new : Nine) (f : files.Files) (start told : Told Fault
   pub told_orders : Told Fault
   pub told_order_lines : Told Fault
   pub told_new_orders : Told Fault
-  pub warehouses : WarehousesRead old.warehouse new.warehouse start told_warehouses f.homes.warehouses.items
-  pub districts : DistrictsRead old.district new.district told_warehouses told_districts f.homes.districts.items
-  pub customers : CustomersRead old.customer new.customer told_districts told_customers f.homes.customers.items
-  pub items : ItemsRead old.item new.item told_customers told_items f.goods.items.items
-  pub stocks : StocksRead old.stock new.stock told_items told_stocks f.goods.stocks.items
-  pub orders : OrdersRead old.order new.order told_stocks told_orders f.ordered.orders.items
-  pub order_lines : OrderLinesRead old.order_line new.order_line told_orders told_order_lines
-      f.ordered.order_lines.items
-  pub new_orders : NewOrdersRead old.new_order new.new_order told_order_lines told_new_orders f.deeds.new_orders.items
-  pub histories : HistoriesRead old.history new.history told_new_orders told f.deeds.histories.items
+  pub warehouses : WarehousesRead format old.warehouse new.warehouse start told_warehouses f.warehouses
+  pub districts : DistrictsRead format old.district new.district told_warehouses told_districts f.districts
+  pub customers : CustomersRead format old.customer new.customer told_districts told_customers f.customers
+  pub items : ItemsRead format old.item new.item told_customers told_items f.items
+  pub stocks : StocksRead format old.stock new.stock told_items told_stocks f.stocks
+  pub orders : OrdersRead format old.order new.order told_stocks told_orders f.orders
+  pub order_lines : OrderLinesRead format old.order_line new.order_line told_orders told_order_lines
+      f.order_lines
+  pub new_orders : NewOrdersRead format old.new_order new.new_order told_order_lines told_new_orders f.new_orders
+  pub histories : HistoriesRead format old.history new.history told_new_orders told f.histories
 
 -- each file was read to its end, and gave these rows
-pub record FilesRead (old new : Nine) (f : files.Files) : Type 0 where
-  pub warehouses : ReadWell warehouse_cmp (SpellsRow warehouse_forms warehouse_values) table.Warehouse old.warehouse
-      new.warehouse f.homes.warehouses.items
-  pub districts : ReadWell district_cmp (SpellsRow district_forms district_values) table.District old.district
-      new.district f.homes.districts.items
-  pub customers : ReadWell customer_cmp (SpellsRow customer_forms customer_values) table.Customer old.customer
-      new.customer f.homes.customers.items
-  pub histories : ReadWell history_cmp SpellsHistory table.History old.history new.history f.deeds.histories.items
-  pub new_orders : ReadWell new_order_cmp (SpellsRow new_order_forms new_order_values) table.NewOrder old.new_order
-      new.new_order f.deeds.new_orders.items
-  pub orders : ReadWell order_cmp (SpellsRow order_forms order_values) table.Order old.order new.order
-      f.ordered.orders.items
-  pub order_lines : ReadWell order_line_cmp (SpellsRow order_line_forms order_line_values) table.OrderLine
-      old.order_line new.order_line f.ordered.order_lines.items
-  pub items : ReadWell item_cmp (SpellsRow item_forms item_values) table.Item old.item new.item f.goods.items.items
-  pub stocks : ReadWell stock_cmp (SpellsRow stock_forms stock_values) table.Stock old.stock new.stock
-      f.goods.stocks.items
+pub record FilesRead (format : Format) (old new : Nine) (f : NineRows) : Type 0 where
+  pub warehouses : ReadWellAs format warehouse_cmp (SpellsRow warehouse_forms warehouse_values) table.Warehouse
+      old.warehouse
+      new.warehouse f.warehouses
+  pub districts : ReadWellAs format district_cmp (SpellsRow district_forms district_values) table.District old.district
+      new.district f.districts
+  pub customers : ReadWellAs format customer_cmp (SpellsRow customer_forms customer_values) table.Customer old.customer
+      new.customer f.customers
+  pub histories : ReadWellAs format history_cmp SpellsHistory table.History old.history new.history f.histories
+  pub new_orders : ReadWellAs format new_order_cmp (SpellsRow new_order_forms new_order_values) table.NewOrder
+      old.new_order
+      new.new_order f.new_orders
+  pub orders : ReadWellAs format order_cmp (SpellsRow order_forms order_values) table.Order old.order new.order
+      f.orders
+  pub order_lines : ReadWellAs format order_line_cmp (SpellsRow order_line_forms order_line_values) table.OrderLine
+      old.order_line new.order_line f.order_lines
+  pub items : ReadWellAs format item_cmp (SpellsRow item_forms item_values) table.Item old.item new.item f.items
+  pub stocks : ReadWellAs format stock_cmp (SpellsRow stock_forms stock_values) table.Stock old.stock new.stock
+      f.stocks
 
 -- how many rows each file has
-abbrev pub counts_of : files.Files → RowCounts
+abbrev pub counts_of : NineRows → RowCounts
 counts_of f = record {
-  warehouses = length f.homes.warehouses.items;
-  districts = length f.homes.districts.items;
-  customers = length f.homes.customers.items;
-  histories = length f.deeds.histories.items;
-  new_orders = length f.deeds.new_orders.items;
-  orders = length f.ordered.orders.items;
-  order_lines = length f.ordered.order_lines.items;
-  items = length f.goods.items.items;
-  stocks = length f.goods.stocks.items;
+  warehouses = length f.warehouses;
+  districts = length f.districts;
+  customers = length f.customers;
+  histories = length f.histories;
+  new_orders = length f.new_orders;
+  orders = length f.orders;
+  order_lines = length f.order_lines;
+  items = length f.items;
+  stocks = length f.stocks;
 }
 
+-- ---- a file at a time
+
+-- A table's file was read, and its rows were put and counted; where a fault was told by then, none is put.
+pub record TableLoaded {K X : Type 0}
+    (reads : Option Source → Option Source → Told Fault → Told Fault → List (Numbered K X) → Type 0)
+    (puts : List (Numbered K X) → Rows → Rows → List apart.Apart → List apart.Apart → Told Fault → Told Fault → Type 0)
+    (old new : Option Source) (start told : Told Fault) (r s : Rows) (parted parted' : List apart.Apart)
+    (twice twice' : Told Fault) (count : ℕ) : Type 0 where
+  pub lot : List (Numbered K X)
+  pub read : reads old new start told lot
+  pub put : told.count ≡ 0 → puts lot r s parted parted' twice twice'
+  pub left : 0 < told.count → (s ≡ r) × (parted' ≡ parted) × (twice' ≡ twice)
+  pub counted : count ≡ length lot
+
+-- the files of warehouses and districts were read, and their rows kept where no line is a fault
+pub record HomesLoaded (format : Format) (warehouse warehouse' district district' : Option Source)
+    (start told : Told Fault) (end : Rows)
+    (warehouse_count district_count : ℕ) : Type 0 where
+  pub warehouses : List (Numbered WarehouseKey Warehouse)
+  pub districts : List (Numbered DistrictKey District)
+  pub middle : Told Fault
+  pub read_warehouses : WarehousesRead format warehouse warehouse' start middle warehouses
+  pub read_districts : DistrictsRead format district district' middle told districts
+  pub put : told.count ≡ 0 → HomesPut warehouses districts end
+  pub counted : (warehouse_count ≡ length warehouses) × (district_count ≡ length districts)
+
+-- the files of what orders refer to were read, and their rows put where no line is a fault
+pub record BaseLoaded (format : Format) (old new : Nine) (start told : Told Fault) (end : Rows)
+    (parted : List apart.Apart)
+    (twice : Told Fault) (b : begun.Begun) : Type 0 where
+  pub warehouses : List (Numbered WarehouseKey Warehouse)
+  pub districts : List (Numbered DistrictKey District)
+  pub customers : List (Numbered CustomerKey Customer)
+  pub items : List (Numbered ItemKey Item)
+  pub stocks : List (Numbered StockKey Stock)
+  pub told_warehouses : Told Fault
+  pub told_districts : Told Fault
+  pub told_customers : Told Fault
+  pub told_items : Told Fault
+  pub read_warehouses : WarehousesRead format old.warehouse new.warehouse start told_warehouses warehouses
+  pub read_districts : DistrictsRead format old.district new.district told_warehouses told_districts districts
+  pub read_customers : CustomersRead format old.customer new.customer told_districts told_customers customers
+  pub read_items : ItemsRead format old.item new.item told_customers told_items items
+  pub read_stocks : StocksRead format old.stock new.stock told_items told stocks
+  pub put : told.count ≡ 0 → BasePut warehouses districts customers items stocks end parted twice
+  pub counted : (b.warehouses ≡ length warehouses) × (b.districts ≡ length districts)
+      × (b.customers ≡ length customers) × (b.items ≡ length items) × (b.stocks ≡ length stocks)
+
+-- the files of orders and of what refers to them were read, and their rows put where no line is a fault
+pub record DeedsLoaded (format : Format) (old new : Nine) (start told : Told Fault) (r end : Rows)
+    (parted parted' : List apart.Apart)
+    (twice twice' : Told Fault) (d : counts.DeedCounts) : Type 0 where
+  pub orders : List (Numbered OrderKey Order)
+  pub order_lines : List (Numbered OrderLineKey OrderLine)
+  pub new_orders : List (Numbered NewOrderKey NewOrder)
+  pub histories : List (Numbered HistoryKey History)
+  pub told_orders : Told Fault
+  pub told_order_lines : Told Fault
+  pub told_new_orders : Told Fault
+  pub read_orders : OrdersRead format old.order new.order start told_orders orders
+  pub read_order_lines : OrderLinesRead format old.order_line new.order_line told_orders told_order_lines order_lines
+  pub read_new_orders : NewOrdersRead format old.new_order new.new_order told_order_lines told_new_orders new_orders
+  pub read_histories : HistoriesRead format old.history new.history told_new_orders told histories
+  pub put : told.count ≡ 0
+      → DeedsPut orders order_lines new_orders histories r end parted parted' twice twice'
+  pub counted : (d.orders ≡ length orders) × (d.order_lines ≡ length order_lines)
+      × (d.new_orders ≡ length new_orders) × (d.histories ≡ length histories)
+
+-- all files were read, and their rows put where no line is a fault
+pub record FilesLoaded (format : Format) (old new : Nine) (start told : Told Fault) (end : Rows)
+    (parted : List apart.Apart)
+    (twice : Told Fault) (counts : RowCounts) : Type 0 where
+  pub files : NineRows
+  pub read : FilesTold format old new files start told
+  pub put : told.count ≡ 0 → FilesPut files end parted twice
+  pub counted : counts ≡ counts_of files
+
+-- ---- what is answered
+
 -- the files were read, their rows were put and counted, and nothing was a fault
-pub record AreLoaded (old new : Nine) (end : Rows) (parted : List apart.Apart) (counts : RowCounts) : Type 0 where
-  pub files : files.Files
+pub record AreLoaded (format : Format) (old new : Nine) (end : Rows) (parted : List apart.Apart) (counts : RowCounts)
+    : Type 0 where
+  pub files : NineRows
   pub told : Told Fault
-  pub read : FilesRead old new files
+  pub read : FilesRead format old new files
   pub put : FilesPut files end parted told
   pub no_fault : told.count ≡ 0
   pub counted : counts ≡ counts_of files
 
-abbrev pub IsLoaded : Nine → Nine → loaded.Loaded → Type 0
-IsLoaded old new l = AreLoaded old new (rows l.tables) l.apart.items l.counts
+abbrev pub IsLoaded : Format → Nine → Nine → loaded.Loaded → Type 0
+IsLoaded format old new l = AreLoaded format old new (rows l.tables) l.apart.items l.counts
 
 -- a key stood twice among the rows that were put, although each file alone was right
-abbrev pub AreFaultsOfRows : files.Files → Told Fault → Type 0
+abbrev pub AreFaultsOfRows : NineRows → Told Fault → Type 0
 AreFaultsOfRows f told = (end : Rows) × (parted : List apart.Apart) × FilesPut f end parted told
 
 -- The faults of the files, at least one: of their lines, and of keys that stand twice.
-pub record AreFaults (old new : Nine) (told : Told Fault) : Type 0 where
-  pub files : files.Files
+pub record AreFaults (format : Format) (old new : Nine) (told : Told Fault) : Type 0 where
+  pub files : NineRows
   pub read_told : Told Fault
-  pub read : FilesTold old new files no_faults read_told
+  pub read : FilesTold format old new files no_faults read_told
   pub some : 0 < told.count
   pub told_are : (told ≡ read_told) ⊎ ((read_told.count ≡ 0) × AreFaultsOfRows files told)
 
 -- nothing is loaded: some line can't be read, or the files were not read to their ends
-abbrev pub IsNotLoaded : Nine → Nine → LoadError → Type 0
-IsNotLoaded old new (error.Unreadable told) = AreFaults old new told
-IsNotLoaded old new (error.Stopped stop) = Unit {0}
+abbrev pub IsNotLoaded : Format → Nine → Nine → LoadError → Type 0
+IsNotLoaded format old new (error.Unreadable told) = AreFaults format old new told
+IsNotLoaded format old new (error.Stopped stop) = Unit {0}

@@ -2,11 +2,11 @@
 use Rattle.std.specs.Prelude.{◌≡◌, ℕ, List, [], ◌∷◌, ◌++◌, Result, Ok, Err}
 use Rattle.oe_rows.specs.declared.keys.Key.{Key}
 use Rattle.oe_rows.specs.declared.keys.Table.{Table}
-use Rattle.oe_loading.specs.declared.faults.Fault.{Fault}
-use Rattle.oe_loading.specs.declared.faults.Wrong.TheVariants as wrong
-use Rattle.oe_loading.specs.declared.lines.Numbered.{Numbered}
+use Rattle.oe_reading.specs.declared.faults.Fault.{Fault}
+use Rattle.oe_reading.specs.declared.faults.Wrong.TheVariants as wrong
+use Rattle.oe_reading.specs.declared.lines.Numbered.{Numbered}
 use Rattle.oe_loading.specs.declared.loading.Apart as apart
-use Rattle.oe_loading.specs.Fault.{Told, pushed, all_pushed}
+use Rattle.oe_reading.specs.Fault.{Told, pushed, all_pushed}
 use Rattle.oe_values.specs.declared.memory.NoMemory.{NoMemory}
 use Rattle.oe_model.specs.Rows.{Rows}
 use Rattle.oe_loading.specs.declared.places.Placed.{Placed}

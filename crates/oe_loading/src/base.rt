@@ -53,6 +53,11 @@ impl Model for Base {
 }
 
 impl Base {
+    /// Makes tables without a row.
+    pub(crate) fn new(alloc: Global) -> Self {
+        Base::of(alloc, Shelves::new(alloc), Shelves::new(alloc))
+    }
+
     /// Makes tables with these warehouses and districts, and no other row.
     pub(crate) fn of(
         alloc: Global,

@@ -5,15 +5,10 @@
 
 mod base;
 pub mod counts;
-pub mod faults;
 mod homes;
-pub mod lines;
 pub mod loading;
 pub mod places;
-pub mod rows;
+mod putting;
 
 pub use counts::RowCounts;
-pub use faults::{Fault, Faults, Wrong};
-pub use lines::{LINE, Numbered, PIECE, Stop, read_file};
 pub use loading::{Apart, LoadError, Loaded, Sources, load};
-pub use rows::RowLine;

@@ -1,6 +1,6 @@
 use Rattle.oe_rows.specs.Key.{warehouse_cmp, district_cmp}
 use Rattle.oe_table.specs.Table.{rows_of}
-use Rattle.oe_loading.proofs.BaseFacts.{homes_more, home_put, home_left}
+use Rattle.oe_loading.proofs.BaseFacts.{homes_more, home_put}
 use Rattle.oe_loading.proofs.homes.put_home.Goals as goal
 
 pub returns-in-Ok-clause-homes : goal.returns-in-Ok-clause-homes

@@ -1,0 +1,235 @@
+-- Tables that are loaded one after another.
+use Rattle.std.proofs.Common.{◌≡◌, ◌<◌, List, inr, sym, subst}
+use Rattle.std.specs.Prelude.{Option}
+use Rattle.oe_ports.specs.Ports.{Source}
+use Rattle.oe_rows.proofs.KeyFacts.{customer_total, history_total, new_order_total, order_total, order_line_total}
+use Rattle.oe_rows.proofs.KeyFacts.{item_total, stock_total}
+use Rattle.oe_model.specs.Rows.{Rows}
+use Rattle.oe_store.specs.Places.{rows}
+use Rattle.oe_reading.specs.declared.faults.Fault.{Fault}
+use Rattle.oe_reading.specs.declared.formats.Format.{Format}
+use Rattle.oe_reading.specs.Fault.{Told, no_faults}
+use Rattle.oe_reading.proofs.ReadFacts.{table_read_as}
+use Rattle.oe_loading.specs.declared.counts.RowCounts.{RowCounts}
+use Rattle.oe_loading.specs.declared.loading.Apart as apart
+use Rattle.oe_loading.specs.declared.loading.Begun as begun
+use Rattle.oe_loading.specs.declared.loading.DeedCounts as counts
+use Rattle.oe_loading.specs.Loading.{Nine, KeepsBase, KeepsDeeds}
+use Rattle.oe_loading.specs.Loaded.{PutsCustomers, PutsItems, PutsStocks, PutsOrders, PutsLines, PutsNewOrders}
+use Rattle.oe_loading.specs.Loaded.{PutsHistories, WarehousesRead, DistrictsRead, CustomersRead, ItemsRead, StocksRead}
+use Rattle.oe_loading.specs.Loaded.{OrdersRead, OrderLinesRead, NewOrdersRead, HistoriesRead, TableLoaded, HomesLoaded}
+use Rattle.oe_loading.specs.Loaded.{BaseLoaded, DeedsLoaded, FilesLoaded, FilesTold, AreFaults, AreLoaded}
+use Rattle.oe_loading.proofs.FileFacts.{files_read}
+
+pub base_loaded : (format : Format) (old new : Nine) (start told_1 told_2 told_3 told : Told Fault)
+    (homes r s t end : Rows)
+    (a b c d : List apart.Apart) (u v w x : Told Fault) (n : begun.Begun)
+    → HomesLoaded format old.warehouse new.warehouse old.district new.district start told_1 homes n.warehouses
+    n.districts
+    → TableLoaded (CustomersRead format) PutsCustomers old.customer new.customer told_1 told_2 homes r a b u v
+    n.customers
+    → TableLoaded (ItemsRead format) PutsItems old.item new.item told_2 told_3 r s b c v w n.items
+    → TableLoaded (StocksRead format) PutsStocks old.stock new.stock told_3 told s t c d w x n.stocks
+    → end ≡ t → BaseLoaded format old new start told end d x n
+base_loaded format old new start told_1 told_2 told_3 told homes r s t end a b c d u v w x n h k i o e = record {
+  warehouses = h.warehouses;
+  districts = h.districts;
+  customers = k.lot;
+  items = i.lot;
+  stocks = o.lot;
+  told_warehouses = h.middle;
+  told_districts = told_1;
+  told_customers = told_2;
+  told_items = told_3;
+  read_warehouses = h.read_warehouses;
+  read_districts = h.read_districts;
+  read_customers = k.read;
+  read_items = i.read;
+  read_stocks = o.read;
+  put = λ z.
+      let none_3 = (table_read_as _ _ stock_total _ _ _ _ _ _ _ _ o.read z).1 in
+      let none_2 = (table_read_as _ _ item_total _ _ _ _ _ _ _ _ i.read none_3).1 in
+      let none_1 = (table_read_as _ _ customer_total _ _ _ _ _ _ _ _ k.read none_2).1 in
+      record {
+        homes = homes;
+        homes_put = h.put none_1;
+        with_customers = r;
+        with_items = s;
+        parted_homes = a;
+        parted_customers = b;
+        parted_items = c;
+        told_homes = u;
+        told_customers = v;
+        told_items = w;
+        customers = k.put none_2;
+        items = i.put none_3;
+        stocks = subst (λ (end : Rows). PutsStocks o.lot s end c d w x) (sym e) (o.put z);
+      };
+  counted = (h.counted.0, h.counted.1, k.counted, i.counted, o.counted);
+}
+
+pub deeds_loaded : (format : Format) (old new : Nine) (start told_1 told_2 told_3 told : Told Fault)
+    (q r s t end : Rows)
+    (a b c d e : List apart.Apart) (u v w x y : Told Fault) (n : counts.DeedCounts)
+    → TableLoaded (OrdersRead format) PutsOrders old.order new.order start told_1 q r a b u v n.orders
+    → TableLoaded (OrderLinesRead format) PutsLines old.order_line new.order_line told_1 told_2 r s b c v w
+    n.order_lines
+    → TableLoaded (NewOrdersRead format) PutsNewOrders old.new_order new.new_order told_2 told_3 s t c d w x
+    n.new_orders
+    → TableLoaded (HistoriesRead format) PutsHistories old.history new.history told_3 told t end d e x y n.histories
+    → DeedsLoaded format old new start told q end a e u y n
+deeds_loaded format old new start told_1 told_2 told_3 told q r s t end a b c d e u v w x y n o l k h = record {
+  orders = o.lot;
+  order_lines = l.lot;
+  new_orders = k.lot;
+  histories = h.lot;
+  told_orders = told_1;
+  told_order_lines = told_2;
+  told_new_orders = told_3;
+  read_orders = o.read;
+  read_order_lines = l.read;
+  read_new_orders = k.read;
+  read_histories = h.read;
+  put = λ z.
+      let none_3 = (table_read_as _ _ history_total _ _ _ _ _ _ _ _ h.read z).1 in
+      let none_2 = (table_read_as _ _ new_order_total _ _ _ _ _ _ _ _ k.read none_3).1 in
+      let none_1 = (table_read_as _ _ order_line_total _ _ _ _ _ _ _ _ l.read none_2).1 in
+      record {
+        with_orders = r;
+        with_lines = s;
+        with_new_orders = t;
+        parted_orders = b;
+        parted_lines = c;
+        parted_new_orders = d;
+        told_orders = v;
+        told_lines = w;
+        told_new_orders = x;
+        orders = o.put none_1;
+        lines = l.put none_2;
+        new_orders = k.put none_3;
+        histories = h.put z;
+      };
+  counted = (o.counted, l.counted, k.counted, h.counted);
+}
+
+-- the counts of all files
+abbrev pub all_counts : begun.Begun → counts.DeedCounts → RowCounts
+all_counts n m = record {
+  warehouses = n.warehouses;
+  districts = n.districts;
+  customers = n.customers;
+  histories = m.histories;
+  new_orders = m.new_orders;
+  orders = m.orders;
+  order_lines = m.order_lines;
+  items = n.items;
+  stocks = n.stocks;
+}
+
+pub files_loaded : (format : Format) (old mid new : Nine) (start middle told : Told Fault) (end : Rows)
+    (a b : List apart.Apart)
+    (t u : Told Fault) (n : begun.Begun) (m : counts.DeedCounts) → KeepsDeeds old mid → KeepsBase mid new
+    → BaseLoaded format old mid start middle (rows n.tables) a t n
+    → DeedsLoaded format mid new middle told (rows n.tables) end a b t u m
+    → FilesLoaded format old new start told end b u (all_counts n m)
+files_loaded format old mid new start middle told end a b t u n m deeds base f g = record {
+  files = record {
+    warehouses = f.warehouses;
+    districts = f.districts;
+    customers = f.customers;
+    histories = g.histories;
+    new_orders = g.new_orders;
+    orders = g.orders;
+    order_lines = g.order_lines;
+    items = f.items;
+    stocks = f.stocks;
+  };
+  read = record {
+    told_warehouses = f.told_warehouses;
+    told_districts = f.told_districts;
+    told_customers = f.told_customers;
+    told_items = f.told_items;
+    told_stocks = middle;
+    told_orders = g.told_orders;
+    told_order_lines = g.told_order_lines;
+    told_new_orders = g.told_new_orders;
+    warehouses =
+        subst (λ (s : Option Source). WarehousesRead format old.warehouse s start f.told_warehouses f.warehouses)
+        (sym base.warehouses) f.read_warehouses;
+    districts =
+        subst (λ (s : Option Source). DistrictsRead format old.district s f.told_warehouses f.told_districts
+        f.districts)
+        (sym base.districts) f.read_districts;
+    customers =
+        subst (λ (s : Option Source). CustomersRead format old.customer s f.told_districts f.told_customers f.customers)
+        (sym base.customers) f.read_customers;
+    items =
+        subst (λ (s : Option Source). ItemsRead format old.item s f.told_customers f.told_items f.items)
+        (sym base.items)
+        f.read_items;
+    stocks =
+        subst (λ (s : Option Source). StocksRead format old.stock s f.told_items middle f.stocks) (sym base.stocks)
+        f.read_stocks;
+    orders =
+        subst (λ (s : Option Source). OrdersRead format s new.order middle g.told_orders g.orders) deeds.orders
+        g.read_orders;
+    order_lines =
+        subst
+        (λ (s : Option Source). OrderLinesRead format s new.order_line g.told_orders g.told_order_lines g.order_lines)
+        deeds.order_lines g.read_order_lines;
+    new_orders =
+        subst
+        (λ (s : Option Source). NewOrdersRead format s new.new_order g.told_order_lines g.told_new_orders g.new_orders)
+        deeds.new_orders g.read_new_orders;
+    histories =
+        subst (λ (s : Option Source). HistoriesRead format s new.history g.told_new_orders told g.histories)
+        deeds.histories
+        g.read_histories;
+  };
+  put = λ z.
+      let none_3 = (table_read_as _ _ history_total _ _ _ _ _ _ _ _ g.read_histories z).1 in
+      let none_2 = (table_read_as _ _ new_order_total _ _ _ _ _ _ _ _ g.read_new_orders none_3).1 in
+      let none_1 = (table_read_as _ _ order_line_total _ _ _ _ _ _ _ _ g.read_order_lines none_2).1 in
+      let none = (table_read_as _ _ order_total _ _ _ _ _ _ _ _ g.read_orders none_1).1 in
+      record {
+        middle = rows n.tables;
+        parted_middle = a;
+        told_middle = t;
+        base = f.put none;
+        deeds = g.put z;
+      };
+  counted = λ i. record {
+    warehouses = f.counted.0 i;
+    districts = f.counted.1 i;
+    customers = f.counted.2 i;
+    histories = g.counted.3 i;
+    new_orders = g.counted.2 i;
+    orders = g.counted.0 i;
+    order_lines = g.counted.1 i;
+    items = f.counted.3 i;
+    stocks = f.counted.4 i;
+  };
+}
+
+-- ---- what is answered
+
+module _ (format : Format) (old new : Nine) (start told : Told Fault) (end : Rows) (parted : List apart.Apart)
+    (twice : Told Fault) (counts : RowCounts) (l : FilesLoaded format old new start told end parted twice counts) where
+  pub faults_of_rows : start ≡ no_faults → told.count ≡ 0 → 0 < twice.count → AreFaults format old new twice
+  faults_of_rows none zero some = record {
+    files = l.files;
+    read_told = told;
+    read = subst (λ (t : Told Fault). FilesTold format old new l.files t told) none l.read;
+    some = some;
+    told_are = inr (zero, (end, parted, l.put zero));
+  }
+
+  pub are_loaded : told.count ≡ 0 → twice.count ≡ 0 → AreLoaded format old new end parted counts
+  are_loaded zero zero_twice = record {
+    files = l.files;
+    told = twice;
+    read = files_read format old new l.files start told l.read zero;
+    put = l.put zero;
+    no_fault = zero_twice;
+    counted = l.counted;
+  }

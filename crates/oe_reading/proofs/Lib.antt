@@ -1,0 +1,4 @@
+pub mod HistoryFacts
+pub mod ReadFacts
+pub mod RecordFacts
+pub mod TwiceFacts
