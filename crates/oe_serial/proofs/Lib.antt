@@ -6,4 +6,4 @@ mod AloneFacts
 mod WorkFacts
 mod AnswerFacts
 mod VerdictFacts
-mod SentFacts
+pub mod SentFacts

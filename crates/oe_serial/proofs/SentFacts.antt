@@ -1,7 +1,7 @@
 -- What is written of a verdict.
-use Rattle.std.proofs.Common.{◌≡◌, ℕ, List, [], ◌++◌, Option, Some, None, sym, ap, ◌∙◌}
+use Rattle.std.proofs.Common.{◌≡◌, ℕ, List, [], ◌++◌, Option, Some, None, Result, Ok, Err, sym, ap, ◌∙◌}
 use Rattle.std.proofs.lemmas.List.{append-nil}
-use Rattle.oe_ports.specs.Ports.{Sink, Sent, Cut}
+use Rattle.oe_ports.specs.Ports.{Sink, Sent, Cut, Streams}
 use Rattle.oe_serial.specs.Verdicts.{IsShort, IsDecided}
 use Rattle.oe_serial.specs.declared.verdicts.Verdict.{Verdict}
 use Rattle.oe_serial.specs.declared.verdicts.Verdict.TheVariants as verdict
@@ -25,10 +25,15 @@ front_sent None new waited text same s = tt
 front_sent (Some a) None waited text same s = s
 front_sent (Some a) (Some b) waited text same s = ((s.0.0, s.0.1 ∙ as_text a.contents waited text same), s.1)
 
+pub streamed : {T E : Type 0} (old new : Option Sink) (waited waits text : List ℕ) (r : Result T E) → waits ≡ []
+    → waited ≡ text → Streams old waited new waits [] r → Streams old [] new [] text r
+streamed old new waited waits text (Ok x) none same s = all_sent old new waited waits text none same s
+streamed old new waited waits text (Err e) none same s = front_sent old new waited text same s
+
 -- the text that a line tells
 pub is_short : (input ours : List ℕ) (v : Verdict) → IsDecided input v ours → IsShort v
 is_short input ours (verdict.Serial n) d = tt
 is_short input ours (verdict.Differs number theirs) d =
-    let tells = d.is_verdict.differs.2 in
-    (words_short d.is_verdict.line tells.words theirs.now 1_024 tells.parts tells.short).1
+    let tells = d.1.is_verdict.differs.2 in
+    (words_short d.1.is_verdict.line tells.words theirs.now 1_024 tells.parts tells.short).1
 is_short input ours (verdict.Unreadable bad) d = tt

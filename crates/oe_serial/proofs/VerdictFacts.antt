@@ -1,7 +1,8 @@
 -- Lines that agree one after another, and the first that does not.
-use Rattle.std.proofs.Common.{◌≡◌, ℕ, List, [], ◌∷◌, ◌++◌, Option, Some, None, Result, Ok, Err, IfOk, sym, subst, ◌∙◌}
+use Rattle.std.proofs.Common.{◌≡◌, ℕ, List, [], ◌∷◌, ◌++◌, Option, Some, None, sym, subst, ◌∙◌}
 use Rattle.std.proofs.Common.{refl}
 use Rattle.std.specs.Prelude.{All, MatchOption}
+use Rattle.std.specs.FinMap.{empty}
 use Rattle.oe_theory.specs.World.{World}
 use Rattle.oe_requests.specs.declared.requests.Request.{Request}
 use Rattle.oe_rows.specs.declared.scales.Scale.{Scale}
@@ -13,7 +14,8 @@ use Rattle.oe_serial.specs.Worlds.{IsAnswered}
 use Rattle.oe_serial.specs.declared.alone.Outcome.{Outcome}
 use Rattle.oe_serial.specs.declared.alone.Outcome.TheVariants as outcome
 use Rattle.oe_serial.specs.Files.{IsTold, Opens, lines_of, last_of}
-use Rattle.oe_serial.specs.Verdicts.{Agrees, AreSerial, IsVerdict, IsDecided}
+use Rattle.oe_serial.specs.Verdicts.{Agrees, AreSerial, IsVerdict, EndsSo, IsDecided, verdict_of, Leaves, IsDecision}
+use Rattle.oe_serial.specs.declared.verdicts.Decision.{Decision}
 use Rattle.oe_serial.specs.declared.verdicts.Verdict.{Verdict}
 use Rattle.oe_serial.specs.declared.verdicts.Verdict.TheVariants as verdict
 
@@ -40,36 +42,63 @@ no_head ls m ns e f =
     cc
 
 -- a verdict on the lines of a file
-pub decided : {E : Type 0} (input opening ours : List ℕ) (lines : List (List ℕ)) (s : Scale) (base : Rows)
-    (b : Between system) → lines_of input ≡ opening ∷ lines → last_of input ≡ [] → Opens opening s → All IsTold lines
-    → IsPopulated s base → b ≡ at_first system base → (r : Result Verdict E)
-    → IfOk r (λ v. IsVerdict b lines v ours) → IfOk r (λ v. IsDecided input v ours)
-decided input opening ours lines s base b are end opens told p first (Ok (verdict.Serial n)) v = record {
+pub decided : (input opening ours : List ℕ) (lines : List (List ℕ)) (s : Scale) (base : Rows) (b end : Between system)
+    → lines_of input ≡ opening ∷ lines → last_of input ≡ [] → Opens opening s → All IsTold lines
+    → IsPopulated s base → b ≡ at_first system base → (v : Verdict) → IsVerdict b lines v ours end
+    → EndsSo input v ours end
+decided input opening ours lines s base b end are ended opens told p first (verdict.Serial n) v = record {
   opening = opening;
   lines = lines;
   scale = s;
   base = base;
   lines_are = are;
-  ended = end;
+  ended = ended;
   opens = opens;
   told = told;
   populated = p;
-  is_verdict = subst (λ (z : Between system). IsVerdict z lines (verdict.Serial n) ours) first v;
+  is_verdict = subst (λ (z : Between system). IsVerdict z lines (verdict.Serial n) ours end) first v;
 }
-decided input opening ours lines s base b are end opens told p first (Ok (verdict.Differs number theirs)) v = record {
+decided input opening ours lines s base b end are ended opens told p first (verdict.Differs number theirs) v = record {
   opening = opening;
   lines = lines;
   scale = s;
   base = base;
   lines_are = are;
-  ended = end;
+  ended = ended;
   opens = opens;
   told = told;
   populated = p;
-  is_verdict = subst (λ (z : Between system). IsVerdict z lines (verdict.Differs number theirs) ours) first v;
+  is_verdict = subst (λ (z : Between system). IsVerdict z lines (verdict.Differs number theirs) ours end) first v;
 }
-decided input opening ours lines s base b are end opens told p first (Ok (verdict.Unreadable bad)) v = absurd v
-decided input opening ours lines s base b are end opens told p first (Err e) v = v
+decided input opening ours lines s base b end are ended opens told p first (verdict.Unreadable bad) v = absurd v
+
+-- where nothing was run
+pub no_tables : Between system
+no_tables = record {
+  rows = record {
+    warehouses = empty;
+    districts = empty;
+    customers = empty;
+    histories = empty;
+    new_orders = empty;
+    orders = empty;
+    order_lines = empty;
+    items = empty;
+    stocks = empty;
+  };
+  counts = λ t. 0;
+}
+
+-- the same of a decision, whose verdict it is
+pub decision_so : (input ours : List ℕ) (d : Decision) (v : Verdict) (end : Between system) → verdict_of d ≡ v
+    → EndsSo input v ours end → Leaves d end → IsDecision input d ours
+decision_so input ours d v end same ends leaves =
+    (end, subst (λ (z : Verdict). EndsSo input z ours end) (sym same) ends, leaves)
+
+pub verdict_so : (input ours : List ℕ) (d : Decision) (v : Verdict) → v ≡ verdict_of d → IsDecision input d ours
+    → IsDecided input v ours
+verdict_so input ours d v same made =
+    (made.0, subst (λ (z : Verdict). EndsSo input z ours made.0) (sym same) made.1)
 
 -- what is told of an outcome
 pub committed_so : (b : Between system) (t : ℕ) (q : Request) (o : Outcome) (text : List ℕ) (w : World system)

@@ -11,10 +11,13 @@ use Rattle.oe_model.specs.Rows.{Rows}
 use Rattle.oe_model.specs.Population.{IsPopulated}
 use Rattle.oe_model.specs.System.{system}
 use Rattle.oe_ports.specs.Ports.{Sink, Sent, Cut}
+use Rattle.oe_store.specs.Places.{rows}
 use Rattle.oe_serial.specs.InOrder.{Between, at_first, Commits, Refuses}
 use Rattle.oe_serial.specs.Files.{Tells, IsTold, Opens, lines_of, last_of, AreBad, Shows}
 use Rattle.oe_serial.specs.declared.verdicts.Verdict.{Verdict}
 use Rattle.oe_serial.specs.declared.verdicts.Verdict.TheVariants as verdict
+use Rattle.oe_serial.specs.declared.verdicts.Decision.{Decision}
+use Rattle.oe_serial.specs.declared.verdicts.Decision.TheVariants as decision
 use Rattle.oe_serial.specs.declared.reports.Fault.{Fault}
 use Rattle.oe_serial.specs.declared.reports.Fault.TheVariants as fault
 
@@ -48,15 +51,15 @@ pub record IsFirstOther (b : Between system) (lines : List (List ℕ)) (number :
   pub agree : AreSerial b before mid
   pub differs : Differs mid line theirs ours
 
--- all lines agree, and are so many; or one is the first that does not
-abbrev pub IsVerdict : Between system → List (List ℕ) → Verdict → List ℕ → Type 0
-IsVerdict b lines (verdict.Serial n) ours = (b' : Between system) × AreSerial b lines b' × (n ≡ length lines)
-IsVerdict b lines (verdict.Differs number theirs) ours = IsFirstOther b lines number theirs.now ours
-IsVerdict b lines (verdict.Unreadable bad) ours = ⊥
+-- all lines agree, are so many, and end there; or one is the first that does not agree
+abbrev pub IsVerdict : Between system → List (List ℕ) → Verdict → List ℕ → Between system → Type 0
+IsVerdict b lines (verdict.Serial n) ours end = AreSerial b lines end × (n ≡ length lines)
+IsVerdict b lines (verdict.Differs number theirs) ours end = IsFirstOther b lines number theirs.now ours
+IsVerdict b lines (verdict.Unreadable bad) ours end = ⊥
 
 -- the file opens a scale, each of its other lines tells of a commit, and this is the verdict on them from that scale's
 -- population
-pub record IsOfFile (input : List ℕ) (v : Verdict) (ours : List ℕ) : Type 0 where
+pub record IsOfFile (input : List ℕ) (v : Verdict) (ours : List ℕ) (end : Between system) : Type 0 where
   pub opening : List ℕ
   pub lines : List (List ℕ)
   pub scale : Scale
@@ -66,13 +69,30 @@ pub record IsOfFile (input : List ℕ) (v : Verdict) (ours : List ℕ) : Type 0 
   pub opens : Opens opening scale
   pub told : All IsTold lines
   pub populated : IsPopulated scale base
-  pub is_verdict : IsVerdict (at_first system base) lines v ours
+  pub is_verdict : IsVerdict (at_first system base) lines v ours end
 
 -- that; or the numbers of lines that have no form
+abbrev pub EndsSo : List ℕ → Verdict → List ℕ → Between system → Type 0
+EndsSo input (verdict.Serial n) ours end = IsOfFile input (verdict.Serial n) ours end
+EndsSo input (verdict.Differs number theirs) ours end = IsOfFile input (verdict.Differs number theirs) ours end
+EndsSo input (verdict.Unreadable shown) ours end = (bad : List ℕ) × AreBad input bad × (bad ≢ []) × Shows shown bad
+
 abbrev pub IsDecided : List ℕ → Verdict → List ℕ → Type 0
-IsDecided input (verdict.Serial n) ours = IsOfFile input (verdict.Serial n) ours
-IsDecided input (verdict.Differs number theirs) ours = IsOfFile input (verdict.Differs number theirs) ours
-IsDecided input (verdict.Unreadable shown) ours = (bad : List ℕ) × AreBad input bad × (bad ≢ []) × Shows shown bad
+IsDecided input v ours = (end : Between system) × EndsSo input v ours end
+
+-- a decision is a verdict, with the tables at the end where that is serial
+abbrev pub verdict_of : Decision → Verdict
+verdict_of (decision.Serial n tables) = verdict.Serial n
+verdict_of (decision.Differs number theirs) = verdict.Differs number theirs
+verdict_of (decision.Unreadable bad) = verdict.Unreadable bad
+
+abbrev pub Leaves : Decision → Between system → Type 0
+Leaves (decision.Serial n tables) end = rows tables ≡ end.rows
+Leaves (decision.Differs number theirs) end = Unit {0}
+Leaves (decision.Unreadable bad) end = Unit {0}
+
+abbrev pub IsDecision : List ℕ → Decision → List ℕ → Type 0
+IsDecision input d ours = (end : Between system) × EndsSo input (verdict_of d) ours end × Leaves d end
 
 -- WHAT IS WRITTEN
 

@@ -1,12 +1,13 @@
 //! What is told of a file: a line on the output where it is decided, and an exit status.
 ghost use Rattle.std.specs.Prelude.{◌≡◌, ◌≤◌, ◌++◌, [], length};
+ghost use Rattle.oe_ports.specs.Ports.{Streams};
 ghost use Rattle.oe_serial.specs.Verdicts.{verdict_text, status_of, IsShort, SerialRan};
 
 use crate::texts::{differs_line, serial_line};
 use crate::verdicts::{Shortage, Verdict, decide};
 use arrayvec::ArrayVec;
 use oe_ports::output::flush;
-use oe_ports::ports::Outlet;
+use oe_ports::ports::{Failed, Outlet};
 use oe_texts::{LONGEST, Pending};
 use std::alloc::Global;
 
@@ -45,6 +46,24 @@ fn tell(out: &mut Pending, verdict: &Verdict, ours: &[u8])
     }
 }
 
+/// Writes the line of a verdict; nothing where lines have no form.
+///
+/// `Failed` where a write fails: a beginning of the line is written then.
+pub fn write_verdict<W: Outlet>(
+    verdict: &Verdict,
+    ours: &[u8],
+    writer: &mut W,
+) -> Result<(), Failed>
+    requires short { IsShort verdict.now }
+    requires ours { length ours.now ≤ LONGEST }
+    ensures { Streams (W.sink writer.old) [] (W.sink writer.new) []
+        (verdict_text verdict.now ours.now) result }
+{
+    let mut out = Pending::new();
+    tell(&mut out, verdict, ours);
+    flush(&mut out, writer)
+}
+
 /// Decides whether a file's lines tell of commits as their transactions make them, run one at a
 /// time in this order, and writes the verdict. Nothing is written where lines have no form: they
 /// are part of the verdict then.
@@ -57,12 +76,10 @@ pub fn run_serial<'a, W: Outlet>(
 {
     let mut ours: ArrayVec<u8, LONGEST> = ArrayVec::new();
     let verdict = match decide(alloc, input, &mut ours) {
-        Ok(verdict) => verdict,
+        Ok(decision) => decision.verdict(),
         Err(shortage) => return Err(Fault::Short(shortage)),
     };
-    let mut out = Pending::new();
-    tell(&mut out, &verdict, ours.as_slice());
-    match flush(&mut out, writer) {
+    match write_verdict(&verdict, ours.as_slice(), writer) {
         Ok(()) => Ok(verdict),
         Err(_) => Err(Fault::Write),
     }

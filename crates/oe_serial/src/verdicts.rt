@@ -9,7 +9,7 @@ ghost use Rattle.oe_model.specs.System.{system};
 ghost use Rattle.oe_serial.specs.InOrder.{at_first, between};
 ghost use Rattle.oe_serial.specs.Files.{IsTold, lines_of};
 ghost use Rattle.oe_serial.specs.Worlds.{IsFree};
-ghost use Rattle.oe_serial.specs.Verdicts.{Agrees, Differs, IsVerdict, IsDecided};
+ghost use Rattle.oe_serial.specs.Verdicts.{Agrees, Differs, IsVerdict, verdict_of, Leaves, IsDecision};
 
 use crate::alone::{Outcome, answered};
 use crate::answers::AnswerText;
@@ -17,6 +17,7 @@ use crate::lines::{BadLines, bad_lines, opening, parted_at, read_request, told};
 use oe_core::Core;
 use oe_population::populate;
 use oe_rows::Scale;
+use oe_store::Tables;
 use oe_values::{NoMemory, Number};
 use std::alloc::Global;
 
@@ -25,6 +26,17 @@ use std::alloc::Global;
 pub enum Verdict<'a> {
     /// So many transactions agree, and there is no other.
     Serial(u128),
+    /// The line of that number is the first that disagrees, and tells that text.
+    Differs(u128, &'a [u8]),
+    /// Lines have no form, and nothing is decided.
+    Unreadable(BadLines),
+}
+
+/// A verdict, with the tables that a serial file's transactions leave.
+#[derive(Drop)]
+pub enum Decision<'a> {
+    /// So many transactions agree, there is no other, and they leave these tables.
+    Serial(u128, Tables),
     /// The line of that number is the first that disagrees, and tells that text.
     Differs(u128, &'a [u8]),
     /// Lines have no form, and nothing is decided.
@@ -84,7 +96,8 @@ fn compared<'a>(
     requires told { All IsTold (lines_of lines.now) }
     requires free { IsFree (world_of core.old) }
     ensures { IfOk result (λ v.
-        IsVerdict (between system (world_of core.old)) (lines_of lines.now) v ours.new.items) }
+        IsVerdict (between system (world_of core.old)) (lines_of lines.now) v ours.new.items
+        (between system (world_of core.new))) }
 {
     let mut left = lines;
     let mut count = 0u128;
@@ -112,9 +125,44 @@ fn opened(alloc: Global, scale: Scale) -> Result<Core, NoMemory>
     }
 }
 
+// Ends a core, and gives a verdict with its tables where that is serial.
+fn closed<'a>(core: Core, verdict: Verdict<'a>) -> Decision<'a>
+    ensures verdict { verdict_of result ≡ verdict.entry }
+    ensures tables { Leaves result (between system (world_of core)) }
+{
+    match verdict {
+        Verdict::Serial(count) => Decision::Serial(count, core.close()),
+        Verdict::Differs(number, theirs) => {
+            core.discard();
+            Decision::Differs(number, theirs)
+        }
+        Verdict::Unreadable(bad) => {
+            core.discard();
+            Decision::Unreadable(bad)
+        }
+    }
+}
+
+impl<'a> Decision<'a> {
+    /// Gives the verdict, and lets go of the tables.
+    pub fn verdict(self) -> Verdict<'a>
+        ensures { result ≡ verdict_of self.entry }
+    {
+        match self {
+            Decision::Serial(count, tables) => {
+                tables.discard();
+                Verdict::Serial(count)
+            }
+            Decision::Differs(number, theirs) => Verdict::Differs(number, theirs),
+            Decision::Unreadable(bad) => Verdict::Unreadable(bad),
+        }
+    }
+}
+
 /// Decides whether a file's lines tell of commits as their transactions make them, run one at a
-/// time in this order from the population of its scale. Where they don't, `ours` is the text that
-/// this order gives in place of the first line's that disagrees.
+/// time in this order from the population of its scale. Where they do, the tables that these
+/// transactions leave are part of the decision. Where they don't, `ours` is the text that this
+/// order gives in place of the first line's that disagrees.
 ///
 /// A `Shortage` is a want of memory or of undo extents: nothing is decided then.
 #[tactic(none)]
@@ -122,12 +170,12 @@ pub fn decide<'a>(
     alloc: Global,
     input: &'a [u8],
     ours: &mut AnswerText,
-) -> Result<Verdict<'a>, Shortage>
-    ensures { IfOk result (λ v. IsDecided input.now v ours.new.items) }
+) -> Result<Decision<'a>, Shortage>
+    ensures { IfOk result (λ d. IsDecision input.now d ours.new.items) }
 {
     let bad = bad_lines(input);
     if bad.count > 0 {
-        return Ok(Verdict::Unreadable(bad));
+        return Ok(Decision::Unreadable(bad));
     }
     let Some((first, lines)) = parted_at(input, b'\n') else {
         unreachable!()
@@ -138,7 +186,11 @@ pub fn decide<'a>(
     let Ok(mut core) = opened(alloc, scale) else {
         return Err(Shortage::NoMemory);
     };
-    let verdict = compared(&mut core, lines, ours);
-    core.discard();
-    verdict
+    match compared(&mut core, lines, ours) {
+        Ok(verdict) => Ok(closed(core, verdict)),
+        Err(shortage) => {
+            core.discard();
+            Err(shortage)
+        }
+    }
 }

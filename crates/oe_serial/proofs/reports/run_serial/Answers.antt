@@ -1,23 +1,35 @@
-use Rattle.std.proofs.Common.{ap, ◌∙◌}
+use Rattle.std.proofs.Common.{[], ap}
+use Rattle.oe_ports.proofs.Streaming.{sent_as, cut_as}
 use Rattle.oe_serial.specs.Verdicts.{verdict_text}
-use Rattle.oe_serial.proofs.SentFacts.{all_sent, front_sent, is_short}
+use Rattle.oe_serial.proofs.SentFacts.{is_short}
+use Rattle.oe_serial.proofs.VerdictFacts.{verdict_so}
 use Rattle.oe_serial.proofs.reports.run_serial.Goals as goal
 
-pub tell-requires-clause-short : goal.tell-requires-clause-short
-tell-requires-clause-short g c = is_short c.args.input.now c.decide.new.ours.items c.in-Ok.verdict
-    c.in-Ok.ensures
+pub write_verdict-requires-clause-short : goal.write_verdict-requires-clause-short
+write_verdict-requires-clause-short g c =
+    let v = c.verdict-verdict.result in
+    is_short c.args.input.now c.decide.new.ours.items v
+    (verdict_so c.args.input.now c.decide.new.ours.items c.in-Ok.decision v c.verdict-verdict.ensures c.in-Ok.ensures)
 
-pub returns-in-Err-flush : goal.returns-in-Err-flush
-returns-in-Err-flush g c =
-    let v = c.in-Ok.verdict in
-    let waited = c.tell.ensures ∙ ap (verdict_text v) c.as_slice.ensures.value in
-    (v, c.decide.new.ours.items, c.in-Ok.ensures, front_sent _ _ _ _ waited c.in-Err-flush.ensures.stream)
-
-pub returns-in-Ok-flush : goal.returns-in-Ok-flush
-returns-in-Ok-flush g c =
-    let v = c.in-Ok.verdict in
-    let waited = c.tell.ensures ∙ ap (verdict_text v) c.as_slice.ensures.value in (
+pub returns-in-Err-write_verdict : goal.returns-in-Err-write_verdict
+returns-in-Err-write_verdict g c =
+    let v = c.verdict-verdict.result in
+    let made = verdict_so c.args.input.now c.decide.new.ours.items c.in-Ok.decision v c.verdict-verdict.ensures
+    c.in-Ok.ensures in (
+      v,
       c.decide.new.ours.items,
-      c.in-Ok.ensures,
-      all_sent _ _ _ _ _ c.flush.ensures.empty waited c.in-Ok-flush.ensures.stream,
+      made,
+      cut_as _ _ [] (verdict_text v c.as_slice.result.now) _ (ap (verdict_text v) c.as_slice.ensures.value)
+          c.in-Err-write_verdict.ensures,
+    )
+
+pub returns-in-Ok-write_verdict : goal.returns-in-Ok-write_verdict
+returns-in-Ok-write_verdict g c =
+    let v = c.verdict-verdict.result in
+    let made = verdict_so c.args.input.now c.decide.new.ours.items c.in-Ok.decision v c.verdict-verdict.ensures
+    c.in-Ok.ensures in (
+      c.decide.new.ours.items,
+      made,
+      sent_as _ _ [] [] (verdict_text v c.as_slice.result.now) _ (ap (verdict_text v) c.as_slice.ensures.value)
+          c.in-Ok-write_verdict.ensures,
     )

@@ -98,7 +98,6 @@ returns c =
     let none = no_line c.loop-line.left.now c.in_default.ensures in
     let all : lines_of c.args.lines.now ≡ d.0 =
     d.1 ∙ (ap (λ (ls : List (List ℕ)). d.0 ++ ls) none.0 ∙ append-nil d.0) in (
-      between system (world_of c.loop-line.core),
       subst (λ (ls : List (List ℕ)). AreSerial (between system (world_of c.args.core.now)) ls
           (between system (world_of c.loop-line.core))) (sym all) d.2,
       d.3 ∙ ap length (sym all),

@@ -6,7 +6,7 @@ use Rattle.oe_serial.specs.Files.{IsTold, Opens, lines_of}
 use Rattle.oe_serial.specs.InOrder.{between}
 use Rattle.oe_serial.proofs.LineFacts.{next_line, no_line}
 use Rattle.oe_serial.proofs.BadFacts.{is_formed}
-use Rattle.oe_serial.proofs.VerdictFacts.{heads, no_head, decided}
+use Rattle.oe_serial.proofs.VerdictFacts.{heads, no_head, decided, decision_so, no_tables}
 use Rattle.oe_serial.proofs.verdicts.decide.Goals as goal
 
 pub returns-then-bad-gt0 : goal.returns-then-bad-gt0
@@ -14,7 +14,7 @@ returns-then-bad-gt0 c =
     let b = c.bad_lines-bad.ensures in
     let some = c.if-bad-gt0.true in
     let count = b.2.count in
-    (b.0, b.1, λ none. let zero = ap length none in omega (arith, some, count, zero), b.2)
+    (no_tables, (b.0, b.1, λ none. let zero = ap length none in omega (arith, some, count, zero), b.2), tt)
 
 pub unreachable-requires : goal.unreachable-requires
 unreachable-requires c =
@@ -49,8 +49,8 @@ unreachable-unreachable-in_default-opening c =
 pub opened-requires : goal.opened-requires
 opened-requires c = c.in-Some-opening.ensures.says.form.0
 
-pub compared-verdict-requires-clause-told : goal.compared-verdict-requires-clause-told
-compared-verdict-requires-clause-told c =
+pub compared-requires-clause-told : goal.compared-requires-clause-told
+compared-requires-clause-told c =
     let b = c.bad_lines-bad.ensures in
     let f = is_formed c.args.input.now b.0 c.bad_lines-bad.result.count b.1 b.2.count c.if-bad-gt0.false in
     let next = next_line c.args.input.now c.in-Some.first.now c.in-Some.lines.now c.in-Some.ensures in
@@ -58,11 +58,11 @@ compared-verdict-requires-clause-told c =
     next.0 f.are in
     subst (λ (ls : List (List ℕ)). All IsTold ls) (sym same.1) f.told
 
-pub compared-verdict-requires-clause-free : goal.compared-verdict-requires-clause-free
-compared-verdict-requires-clause-free c = c.in-Ok.ensures.0
+pub compared-requires-clause-free : goal.compared-requires-clause-free
+compared-requires-clause-free c = c.in-Ok.ensures.0
 
-pub returns : goal.returns
-returns c =
+pub returns-in-Ok-compared : goal.returns-in-Ok-compared
+returns-in-Ok-compared c =
     let b = c.bad_lines-bad.ensures in
     let f = is_formed c.args.input.now b.0 c.bad_lines-bad.result.count b.1 b.2.count c.if-bad-gt0.false in
     let next = next_line c.args.input.now c.in-Some.first.now c.in-Some.lines.now c.in-Some.ensures in
@@ -70,6 +70,10 @@ returns c =
     next.0 f.are in
     let told = subst (λ (ls : List (List ℕ)). All IsTold ls) (sym same.1) f.told in
     let o = c.in-Ok.ensures.1 in
-    decided c.args.input.now c.in-Some.first.now c.compared-verdict.new.ours.items (lines_of c.in-Some.lines.now)
-    c.in-Some-opening.scale o.0 (between system (world_of c.in-Ok.core)) next.0 f.ended c.in-Some-opening.ensures told
-    o.1 o.2 c.compared-verdict.result c.compared-verdict.ensures
+    let v = c.in-Ok-compared.verdict in
+    let end = between system (world_of c.compared.new.core) in
+    decision_so c.args.input.now c.compared.new.ours.items c.closed.result v end c.closed.ensures.verdict
+    (decided c.args.input.now c.in-Some.first.now c.compared.new.ours.items (lines_of c.in-Some.lines.now)
+    c.in-Some-opening.scale o.0 (between system (world_of c.in-Ok.core)) end next.0 f.ended c.in-Some-opening.ensures
+    told o.1 o.2 v c.in-Ok-compared.ensures)
+    c.closed.ensures.tables

@@ -1,0 +1,42 @@
+use Rattle.std.proofs.Common.{refl}
+use Rattle.oe_texts.specs.Dump.{warehouse_columns, district_columns, customer_columns, history_columns}
+use Rattle.oe_texts.specs.Dump.{new_order_columns, order_columns, order_line_columns, item_columns, stock_columns}
+use Rattle.oe_rowlines.specs.Rows.{warehouse_forms, warehouse_values, district_forms, district_values, customer_forms}
+use Rattle.oe_rowlines.specs.Rows.{customer_values, history_forms, history_values, new_order_forms, new_order_values}
+use Rattle.oe_rowlines.specs.Rows.{order_forms, order_values, order_line_forms, order_line_values, item_forms}
+use Rattle.oe_rowlines.specs.Rows.{item_values, stock_forms, stock_values}
+use Rattle.oe_rowlines.proofs.DumpFacts.{read_back, orders_shown, order_lines_shown, stocks_shown}
+use Rattle.oe_rowlines.proofs.RowFacts.{warehouses_same, districts_same, customers_same, histories_same}
+use Rattle.oe_rowlines.proofs.RowFacts.{new_orders_same, orders_same, order_lines_same, items_same, stocks_same}
+use Rattle.oe_comparison.proofs.LawFacts.{told_apart}
+use Rattle.oe_comparison.proofs.laws.rows_are_told_apart.Goals as goal
+
+pub returns : goal.returns
+returns c = record {
+  warehouses = told_apart warehouse_forms warehouse_values (λ r. warehouse_columns r.0 r.1) refl
+      (read_back warehouse_forms warehouse_values (λ r. warehouse_columns r.0 r.1) refl (λ r. refl)
+      (λ r. (_, _, refl))) warehouses_same;
+  districts = told_apart district_forms district_values (λ r. district_columns r.0 r.1) refl
+      (read_back district_forms district_values (λ r. district_columns r.0 r.1) refl (λ r. refl)
+      (λ r. (_, _, refl))) districts_same;
+  customers = told_apart customer_forms customer_values (λ r. customer_columns r.0 r.1) refl
+      (read_back customer_forms customer_values (λ r. customer_columns r.0 r.1) refl (λ r. refl)
+      (λ r. (_, _, refl))) customers_same;
+  histories = told_apart history_forms history_values (λ r. history_columns r.0 r.1) refl
+      (read_back history_forms history_values (λ r. history_columns r.0 r.1) refl (λ r. refl)
+      (λ r. (_, _, refl))) histories_same;
+  new_orders = told_apart new_order_forms new_order_values (λ r. new_order_columns r.0) refl
+      (read_back new_order_forms new_order_values (λ r. new_order_columns r.0) refl (λ r. refl)
+      (λ r. (_, _, refl))) new_orders_same;
+  orders = told_apart order_forms order_values (λ r. order_columns r.0 r.1) refl
+      (read_back order_forms order_values (λ r. order_columns r.0 r.1) refl orders_shown (λ r. (_, _, refl)))
+      orders_same;
+  order_lines = told_apart order_line_forms order_line_values (λ r. order_line_columns r.0 r.1) refl
+      (read_back order_line_forms order_line_values (λ r. order_line_columns r.0 r.1) refl order_lines_shown
+      (λ r. (_, _, refl))) order_lines_same;
+  items = told_apart item_forms item_values (λ r. item_columns r.0 r.1) refl
+      (read_back item_forms item_values (λ r. item_columns r.0 r.1) refl (λ r. refl) (λ r. (_, _, refl))) items_same;
+  stocks = told_apart stock_forms stock_values (λ r. stock_columns r.0 r.1) refl
+      (read_back stock_forms stock_values (λ r. stock_columns r.0 r.1) refl stocks_shown (λ r. (_, _, refl)))
+      stocks_same;
+}

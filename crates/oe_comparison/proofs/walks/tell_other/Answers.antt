@@ -1,0 +1,19 @@
+use Rattle.std.proofs.Common.{◌≡◌, ℕ, List, Option, None, false, ap, sym, ◌∙◌, rules}
+use Rattle.std.specs.Prelude.{is_some}
+use Rattle.oe_comparison.specs.Columns.{Other, shown, first_other}
+use Rattle.oe_comparison.specs.Walks.{with_column}
+use Rattle.oe_comparison.proofs.ColumnFacts.{none_itself}
+use Rattle.oe_comparison.proofs.walks.tell_other.Goals as goal
+
+pub returns-then-equals : goal.returns-then-equals
+returns-then-equals g c =
+    let columns = g.R.DumpedRow.columns in
+    let ours = shown (columns c.args.key.now c.args.ours.now) in
+    let rows : c.args.theirs.now ≡ c.args.ours.now = search rules in
+    let same : shown (columns c.args.their_key.now c.args.theirs.now) ≡ ours =
+    λ i. shown (columns (c.requires i) (rows i)) in
+    let none : first_other 0 (shown (columns c.args.their_key.now c.args.theirs.now)) ours ≡ None =
+    ap (λ ts. first_other 0 ts ours) same ∙ none_itself 0 ours in (
+      ap is_some (sym none),
+      ap (λ (o : Option Other). with_column g.R.RowLine.key_of c.args.key.now o c.args.report.now) (sym none),
+    )

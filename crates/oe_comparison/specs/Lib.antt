@@ -1,0 +1,9 @@
+-- What the clauses of this crate cite.
+pub mod Columns
+pub mod Differences
+pub mod Histories
+pub mod Texts
+pub mod Walks
+pub mod Tables
+pub mod Runs
+pub mod Laws

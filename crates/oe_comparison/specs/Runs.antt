@@ -1,0 +1,89 @@
+-- What a file of commits and nine files of tables come to.
+use Rattle.std.specs.Prelude.{◌≡◌, ◌≢◌, ℕ, ◌<◌, ◌⊎◌, Option, Result, Ok, Err, List, []}
+use Rattle.oe_model.specs.Rows.{Rows}
+use Rattle.oe_model.specs.System.{system}
+use Rattle.oe_ports.specs.Ports.{Sink, Sent, Cut}
+use Rattle.oe_serial.specs.InOrder.{Between}
+use Rattle.oe_serial.specs.Verdicts as serial
+use Rattle.oe_serial.specs.Verdicts.{IsOfFile, IsDecided, verdict_text}
+use Rattle.oe_serial.specs.declared.verdicts.Verdict as replies
+use Rattle.oe_serial.specs.declared.verdicts.Verdict.TheVariants as reply
+use Rattle.oe_reading.specs.declared.faults.Fault as line
+use Rattle.oe_reading.specs.Fault as fault
+use Rattle.oe_loading.specs.Loading.{Nine}
+use Rattle.oe_comparison.specs.Tables.{TablesCompared}
+use Rattle.oe_comparison.specs.Texts.{Told, comparison_text}
+use Rattle.oe_comparison.specs.declared.runs.Verdict.{Verdict}
+use Rattle.oe_comparison.specs.declared.runs.Verdict.TheVariants as verdict
+use Rattle.oe_comparison.specs.declared.runs.Fault.{Fault}
+use Rattle.oe_comparison.specs.declared.runs.Fault.TheVariants as stop
+
+abbrev pub status_of : Verdict → ℕ
+status_of (verdict.Replies v) = serial.status_of v
+status_of verdict.Same = 0
+status_of (verdict.Differs count) = 1
+status_of (verdict.Unreadable faults) = 2
+
+-- n transactions are serial, and leave these rows
+abbrev pub LeavesRows : List ℕ → ℕ → Rows → Type 0
+LeavesRows input n r =
+    (ours : List ℕ) × (end : Between system) × IsOfFile input (reply.Serial n) ours end × (r ≡ end.rows)
+
+-- replies that are not serial, or lines of no form
+abbrev pub IsOther : replies.Verdict → Type 0
+IsOther (reply.Serial n) = ⊥
+IsOther (reply.Differs number theirs) = Unit {0}
+IsOther (reply.Unreadable bad) = Unit {0}
+
+-- the verdict on replies that are not serial was written, or a beginning of it
+abbrev pub TellsOther : replies.Verdict → List ℕ → Option Sink → Option Sink → Result Verdict Fault → Type 0
+TellsOther v ours old new (Ok (verdict.Replies w)) = (w ≡ v) × Sent old [] new [] (verdict_text v ours)
+TellsOther v ours old new (Ok w) = ⊥
+TellsOther v ours old new (Err stop.Write) = Cut old [] new (verdict_text v ours)
+TellsOther v ours old new (Err f) = ⊥
+
+-- what is told was written, or a beginning of it
+abbrev pub Tells : ℕ → Told → Option Sink → Option Sink → Result Verdict Fault → Type 0
+Tells n told old new (Ok verdict.Same) = (told.count ≡ 0) × Sent old [] new [] (comparison_text n told)
+Tells n told old new (Ok (verdict.Differs count)) =
+    (told.count ≡ count) × (count ≢ 0) × Sent old [] new [] (comparison_text n told)
+Tells n told old new (Ok v) = ⊥
+Tells n told old new (Err stop.Write) = Cut old [] new (comparison_text n told)
+Tells n told old new (Err f) = ⊥
+
+-- the nine files have these lines and no fault
+abbrev pub AreTold : Nine → Nine → Rows → Told → Type 0
+AreTold before after r told =
+    (faults : fault.Told line.Fault) × TablesCompared before after r faults told × (faults.count ≡ 0)
+
+-- The lines of tables that differ were written behind the verdict on n replies; lines of the files can't be read, and
+-- nothing was written; the files were not read to their ends, and nothing was written; or a beginning was written.
+abbrev pub Compares : ℕ → Rows → Nine → Nine → Option Sink → Option Sink → Result Verdict Fault → Type 0
+Compares n r before after old new (Ok (verdict.Replies v)) = ⊥
+Compares n r before after old new (Ok verdict.Same) =
+    (told : Told) × AreTold before after r told × (told.count ≡ 0) × Sent old [] new [] (comparison_text n told)
+Compares n r before after old new (Ok (verdict.Differs count)) =
+    (told : Told) × AreTold before after r told × (told.count ≡ count) × (count ≢ 0)
+    × Sent old [] new [] (comparison_text n told)
+Compares n r before after old new (Ok (verdict.Unreadable faults)) =
+    (told : Told) × TablesCompared before after r faults told × (0 < faults.count) × (new ≡ old)
+Compares n r before after old new (Err (stop.Short s)) = ⊥
+Compares n r before after old new (Err (stop.Stopped s)) = new ≡ old
+Compares n r before after old new (Err stop.Write) =
+    (told : Told) × AreTold before after r told × Cut old [] new (comparison_text n told)
+
+-- the verdict on replies that are not serial was written, or a beginning of it
+abbrev pub TellsReplies : List ℕ → Option Sink → Option Sink → Result Verdict Fault → Type 0
+TellsReplies input old new (Ok (verdict.Replies v)) =
+    (ours : List ℕ) × IsDecided input v ours × IsOther v × Sent old [] new [] (verdict_text v ours)
+TellsReplies input old new (Ok v) = ⊥
+TellsReplies input old new (Err stop.Write) =
+    (v : replies.Verdict) × (ours : List ℕ) × IsDecided input v ours × IsOther v × Cut old [] new (verdict_text v ours)
+TellsReplies input old new (Err (stop.Short s)) = new ≡ old
+TellsReplies input old new (Err (stop.Stopped s)) = ⊥
+
+-- The replies are not serial, or nothing was decided; or they are, and the tables at the end were compared.
+abbrev pub ComparisonRan : List ℕ → Nine → Nine → Option Sink → Option Sink → Result Verdict Fault → Type 0
+ComparisonRan input before after old new result =
+    TellsReplies input old new result
+    ⊎ ((n : ℕ) × (r : Rows) × LeavesRows input n r × Compares n r before after old new result)

@@ -1,0 +1,16 @@
+//! Whether the tables that a serial file's transactions leave are those in nine files. Each file's
+//! rows are walked beside the table's, in the order of their keys, and the first row that differs
+//! is told. Clause numbers are TPC Benchmark C 5.11's.
+#![tactic(auto)]
+
+mod columns;
+mod histories;
+pub mod laws;
+pub mod reports;
+pub mod rows;
+pub mod runs;
+mod tables;
+mod walks;
+
+pub use laws::{differences_are_first, rows_are_told_apart};
+pub use runs::{Fault, Verdict, run_comparison, status};
