@@ -12,6 +12,7 @@ use oe_ports::dumps::dump;
 use oe_ports::output::flush;
 use oe_ports::ports::{Failed, Outlet};
 use oe_rows::Table;
+use oe_script::listeners::Quiet;
 use oe_script::session::Session;
 use oe_store::Tables;
 use oe_texts::Pending;
@@ -127,7 +128,10 @@ pub(crate) fn is_answered(
     session.count = 0;
     session.out.clear();
     let mut nowhere = Nowhere {};
-    if session.feed(alloc, lines, &mut nowhere).is_err() {
+    if session
+        .feed(alloc, lines, &mut nowhere, &mut Quiet {})
+        .is_err()
+    {
         return false;
     }
     session.out.as_slice() == answers

@@ -40,7 +40,8 @@ use Rattle.oe_script.specs.Script.{Holds, shown_text, RunsIn}
 use Rattle.oe_admission.specs.Programs.{IsLive}
 use Rattle.oe_core.proofs.LiveFacts.{live_step}
 use Rattle.oe_ports.specs.Ports.{Sink, Sent, Cut, Streams}
-use Rattle.oe_script.specs.Outcome.{IsAnswer, Replies}
+use Rattle.oe_script.specs.Hearing.{Takes}
+use Rattle.oe_script.specs.Outcome.{IsAnswer, Replies, Sorts}
 use Rattle.oe_ports.proofs.Streaming.{sent_waits, sent_then, sent_cut, cut_more}
 use Rattle.oe_script.proofs.AnswerFacts.{IsTold, told_advance, told_save, told_back, told_rollback, told_begin}
 use Rattle.oe_script.proofs.AnswerFacts.{told_audit, told_read, told_purge, told_rewind, told_run}
@@ -264,19 +265,19 @@ pub told_here : (w w' : World system) (n : ℕ) (line : List ℕ) (asked c : Com
     (old new text : List ℕ)
     → length line ≤ 1_024 → Says line asked → asked ≡ c → IsAllowed (Some w) c → Answers (Some w) c text (Some w')
     → new ≡ old ++ text
-    → (x : List ℕ) × LineAnswer (Some w) n line x (Some w') × Sent sink old sink new x
-told_here w w' n line asked c sink old new text short says e a answers same =
-    (text, taken w n line asked c text (Some w') short says e a answers, sent_waits sink old new text same)
+    → ((x : List ℕ) × LineAnswer (Some w) n line x (Some w') × Sent sink old sink new x) × Takes true (Some w) line
+told_here w w' n line asked c sink old new text short says e a answers same = (
+  (text, taken w n line asked c text (Some w') short says e a answers, sent_waits sink old new text same),
+  (c, record { short = short; says = subst (Says line) e says; allowed = a }),
+)
 
-pub shown_here : {T E : Type 0} (w : World system) (n : ℕ) (line : List ℕ) (asked : Command) (t : Display)
-    (old new : Option Sink) (waited waits text : List ℕ) (r : Result T E)
+pub shown_cut : {E : Type 0} (w : World system) (n : ℕ) (line : List ℕ) (asked : Command) (t : Display)
+    (old new : Option Sink) (waited waits text : List ℕ) (x : E)
     → length line ≤ 1_024 → Says line asked → asked ≡ command.Show t → text ≡ shown_text t w
-    → Streams old waited new waits text r
-    → Replies (Some w) n line (Some w) old waited new waits r
-shown_here w n line asked t old new waited waits text (Ok x) short says e is h =
-    (text, taken w n line asked (command.Show t) text (Some w) short says e tt (is, refl), h)
-shown_here w n line asked t old new waited waits text (Err x) short says e is h =
-    (refl, text, Some w, taken w n line asked (command.Show t) text (Some w) short says e tt (is, refl), h)
+    → Cut old waited new text
+    → Sorts (Some w) n line (Some w) old waited new waits (Err x)
+shown_cut w n line asked t old new waited waits text x short says e is h =
+    ((refl, text, Some w, taken w n line asked (command.Show t) text (Some w) short says e tt (is, refl), h), tt)
 
 -- once something is open it can't be opened again
 pub not_opened : (w : World system) (line : List ℕ) (asked : Command) (scale : Scale) (extents : ℕ) → Says line asked

@@ -1,5 +1,6 @@
 -- Opening a core on a population, and what its line is answered.
 use Rattle.std.proofs.Common.{◌≡◌, ℕ, ◌≤◌, List, length, None, Some, Result, Ok, Err, IfOk, codes, refl, subst, inl}
+use Rattle.std.proofs.Common.{true}
 use Rattle.oe_theory.specs.World.{World}
 use Rattle.oe_theory.specs.Theorems.{opened}
 use Rattle.oe_rows.specs.declared.scales.Scale.{Scale}
@@ -10,6 +11,7 @@ use Rattle.oe_lines.specs.declared.commands.Command.{Command}
 use Rattle.oe_lines.specs.declared.commands.Command.TheVariants as command
 use Rattle.oe_lines.specs.Grammar.{Says}
 use Rattle.oe_script.specs.Script.{State, LineAnswer}
+use Rattle.oe_script.specs.Hearing.{Takes}
 
 -- a core that was opened on these rows is one that was opened on rows of the scale
 pub on_population : {A E : Type 0} (w : A → World system) (scale : Scale) (x : Rows) (n : ℕ) → IsPopulated scale x
@@ -29,3 +31,9 @@ opened_line scale extents w asked s (y, p, e) is same n line short says =
       record { short = short; says = subst (λ z. Says line z) is says; allowed = tt },
       inl (y, p, refl, subst (λ z. s ≡ Some z) e same),
     )
+
+-- and it is a command there
+pub opening_taken : (scale : Scale) (extents : ℕ) (asked : Command) → asked ≡ command.Open scale extents
+    → (line : List ℕ) → length line ≤ 1_024 → Says line asked → Takes true None line
+opening_taken scale extents asked is line short says =
+    (command.Open scale extents, record { short = short; says = subst (λ z. Says line z) is says; allowed = tt })

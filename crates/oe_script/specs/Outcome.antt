@@ -1,5 +1,5 @@
 -- What a line comes to: the text that goes out for it, and the state that it leaves.
-use Rattle.std.specs.Prelude.{◌≡◌, ℕ, ◌++◌, List, Option, Some, Result, MatchResult}
+use Rattle.std.specs.Prelude.{◌≡◌, ℕ, ◌++◌, Bool, List, Option, Some, Result, MatchResult, IfOk}
 use Rattle.oe_theory.specs.World.{World}
 use Rattle.oe_theory.specs.Next.{Next}
 use Rattle.oe_requests.specs.declared.replies.Reply.{Reply}
@@ -13,6 +13,7 @@ use Rattle.oe_core.specs.declared.advances.Advanced.{Advanced}
 use Rattle.oe_core.specs.declared.advances.Advanced.TheVariants as advanced
 use Rattle.oe_ports.specs.Ports.{Sink, Sent, Cut}
 use Rattle.oe_script.specs.Script.{State, told, RunsIn, LineAnswer}
+use Rattle.oe_script.specs.Hearing.{Takes}
 
 -- the answer of an Advance that ended so and left its terminal this last reply
 abbrev pub IsAnswer : Option Reply → Advanced → Answer → Type 0
@@ -35,3 +36,9 @@ abbrev pub Replies : {T E : Type 0} → State → ℕ → List ℕ → State →
 Replies s n line s' old waited new waits r = MatchResult r
     (λ _. (text : List ℕ) × LineAnswer s n line text s' × Sent old waited new waits text)
     (λ _. (s' ≡ s) × (text : List ℕ) × (t : State) × LineAnswer s n line text t × Cut old waited new text)
+
+-- and where it is answered, it is told whether it was a command
+abbrev pub Sorts : {E : Type 0} → State → ℕ → List ℕ → State → Option Sink → List ℕ → Option Sink → List ℕ
+    → Result Bool E → Type 0
+Sorts s n line s' old waited new waits r =
+    Replies s n line s' old waited new waits r × IfOk r (λ is_command. Takes is_command s line)

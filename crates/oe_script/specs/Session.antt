@@ -1,36 +1,46 @@
 -- A session between two bytes of its input, and how a script ends.
-use Rattle.std.specs.Prelude.{◌≡◌, ℕ, ◌+◌, ◌^◌, ◌<◌, ◌≤◌, ◌⊎◌, Bool, List, [], ◌++◌, length, ⊤, Option, Some, None}
+use Rattle.std.specs.Prelude.{◌≡◌, ℕ, ◌+◌, ◌^◌, ◌≤◌, ◌⊎◌, Bool, List, [], ◌++◌, length, ⊤, Option, Some, None}
 use Rattle.std.specs.Prelude.{Result, Ok, Err, MatchResult}
 use Rattle.oe_core.specs.Core.{CoreState, world_of}
 use Rattle.oe_script.specs.declared.session.Fault.{Fault}
 use Rattle.oe_script.specs.declared.session.Fault.TheVariants.{Read, Write}
 use Rattle.oe_ports.specs.Ports.{Source, Sink, Sent, Cut}
 use Rattle.oe_script.specs.Script.{State, Output, Holds, Reached}
+use Rattle.oe_script.specs.Hearing.{Heard, HearsAll, HearsEach, HearsReached, HeardFront}
 
 -- the state that a session's core stands for
 abbrev pub state_of : Option CoreState → State
 state_of None = None
 state_of (Some c) = Some (world_of c)
 
--- The session stands behind this input: what it has written or holds back is the output so far.
-abbrev pub Standing : Option Sink → List ℕ → Option Sink → List ℕ → State → ℕ → List ℕ → Bool → Type 0
-Standing start input now waits state count held over =
-    (line : List ℕ) × (out : List ℕ) × Reached input out state count line × Holds held over line
+-- The session stands behind this input: what it has written or holds back is the output so far, and the listener heard
+-- of its lines.
+abbrev pub Standing : {L : Type 0} → (L → Heard → L → Type 0) → L → L → Option Sink → List ℕ → Option Sink → List ℕ
+    → State → ℕ → List ℕ → Bool → Type 0
+Standing hears first last start input now waits state count held over =
+    (line : List ℕ) × (out : List ℕ) × (r : Reached input out state count line) × Holds held over line
     × Sent start [] now waits out
+    × (told : List Heard) × HearsReached input out state count line r told × HearsEach hears first told last
 
 -- A call of the writer failed: what was written is a beginning of an output of the input, whatever more of it there is.
 abbrev pub Broken : Option Sink → List ℕ → Option Sink → Type 0
 Broken start input now = (more : List ℕ) → (out : List ℕ) × Output (input ++ more) out × Cut start [] now out
 
-abbrev pub Fed : {T E : Type 0} → Option Sink → List ℕ → Option Sink → List ℕ → State → ℕ → List ℕ → Bool → Result T E
-    → Type 0
-Fed start input now waits state count held over r =
-    MatchResult r (λ _. Standing start input now waits state count held over) (λ _. Broken start input now)
+abbrev pub Fed : {L T E : Type 0} → (L → Heard → L → Type 0) → L → L → Option Sink → List ℕ → Option Sink → List ℕ
+    → State → ℕ → List ℕ → Bool → Result T E → Type 0
+Fed hears first last start input now waits state count held over r =
+    MatchResult r (λ _. Standing hears first last start input now waits state count held over)
+    (λ _. Broken start input now × HeardFront input (λ told. HearsEach hears first told last))
 
--- The input is answered whole, and all of it is written.
-abbrev pub Ended : {T E : Type 0} → Option Sink → List ℕ → Option Sink → Result T E → Type 0
-Ended start input now r = MatchResult r (λ _. (out : List ℕ) × Output input out × Sent start [] now [] out)
-    (λ _. (out : List ℕ) × Output input out × Cut start [] now out)
+-- The input is answered whole, all of it is written, and the listener heard of it.
+abbrev pub Ended : {L T E : Type 0} → (L → Heard → L → Type 0) → L → L → Option Sink → List ℕ → Option Sink
+    → Result T E → Type 0
+Ended hears first last start input now r =
+    MatchResult r
+    (λ _. (out : List ℕ) × (o : Output input out) × Sent start [] now [] out
+    × (told : List Heard) × HearsAll input out o told × HearsEach hears first told last)
+    (λ _. (out : List ℕ) × Output input out × Cut start [] now out
+    × HeardFront input (λ told. HearsEach hears first told last))
 
 -- calls gave these bytes, no more calls than bytes, and none failed
 abbrev pub ReadSoFar : Option Source → Option Source → List ℕ → ℕ → Type 0
@@ -78,3 +88,21 @@ ScriptRan (Some a) (Some b) (Some c) None r = ⊥
 ScriptRan (Some a) None (Some c) d r = ⊥
 ScriptRan (Some a) b None d r = ⊤
 ScriptRan None b c d r = ⊤
+
+-- So a script ends, and this is known of what is heard of it: of the whole input without a fault, of the whole lines
+-- that were read after a fault of the reader, and of some first lines after one of the writer.
+abbrev pub ScriptHeard : (List Heard → Type 0) → Option Source → Option Source → Option Sink → Option Sink
+    → Result (Unit {0}) Fault → Type 0
+ScriptHeard IsKnown (Some a) (Some b) (Some c) (Some d) (Ok x) =
+    (b.failures ≡ a.failures) × (d.failures ≡ c.failures) × (b.remaining ≡ [])
+    × (out : List ℕ) × (o : Output a.remaining out) × (d.contents ≡ c.contents ++ out)
+    × (told : List Heard) × HearsAll a.remaining out o told × IsKnown told
+ScriptHeard IsKnown (Some a) (Some b) (Some c) (Some d) (Err Read) =
+    ReadFailed a b × (d.failures ≡ c.failures) × (r : Answered a b c d)
+    × (told : List Heard) × HearsReached r.read r.answers r.state r.count r.line r.reached told × IsKnown told
+ScriptHeard IsKnown (Some a) (Some b) (Some c) (Some d) (Err Write) =
+    (b.failures ≡ a.failures) × (d.failures ≡ c.failures + 1) × (r : Began a b c d) × HeardFront r.read IsKnown
+ScriptHeard IsKnown (Some a) (Some b) (Some c) None r = ⊥
+ScriptHeard IsKnown (Some a) None (Some c) d r = ⊥
+ScriptHeard IsKnown (Some a) b None d r = ⊤
+ScriptHeard IsKnown None b c d r = ⊤

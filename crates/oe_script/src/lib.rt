@@ -6,12 +6,15 @@
 //! let mut session = Session::new();
 //! let lines =
 //!     b"open 2 10 20 64\nbegin 5 payment 2 7 1 3 9 250.00 2001-01-01T00:00:00\nnext 5\nrollback 5\n";
-//! let is_written = session.feed(alloc, lines, &mut Nowhere {}).is_ok();
+//! let is_written = session
+//!     .feed(alloc, lines, &mut Nowhere {}, &mut Quiet {})
+//!     .is_ok();
 //! let are_answers = session.out.as_slice() == b"opened\nbegun\nmore\nrolled back\n".as_slice();
 //! session.close();
 //! is_written && are_answers
 //! ```
 
+pub mod listeners;
 pub mod outcome;
 pub mod script;
 pub mod session;

@@ -18,7 +18,8 @@ ghost use Rattle.oe_ports.specs.Ports.{Streams};
 ghost use Rattle.oe_script.specs.Script.{LineAnswer, RunsIn, moment_in, shown_text};
 ghost use Rattle.oe_script.specs.Session.{state_of};
 ghost use Rattle.oe_admission.specs.Programs.{IsLive};
-ghost use Rattle.oe_script.specs.Outcome.{IsAnswer, Tells, TellsRun, Replies};
+ghost use Rattle.oe_script.specs.Hearing.{Takes};
+ghost use Rattle.oe_script.specs.Outcome.{IsAnswer, Tells, TellsRun, Sorts};
 
 use oe_core::{Advanced, Core};
 use oe_lines::{Command, Display, MomentChoice, command, payment_to_begin, terminal_to_run};
@@ -33,8 +34,9 @@ use oe_values::{ExtentCount, Moment, NoMemory, Terminal};
 use oe_waits::{show_locks, show_waits};
 use std::alloc::Global;
 
-/// Answers a line, which stands without its end and has this number. What waits is written first
-/// where the longest line has no room behind it; where that failed, no step was taken.
+/// Answers a line, which stands without its end and has this number, and tells whether it is a
+/// command here; where it is none, it is answered `BadLine`. What waits is written first where the
+/// longest line has no room behind it; where that failed, no step was taken.
 pub fn answer_line<W: Outlet>(
     core: &mut Option<Core>,
     alloc: Global,
@@ -42,10 +44,10 @@ pub fn answer_line<W: Outlet>(
     number: u128,
     out: &mut Pending,
     to: &mut W,
-) -> Result<(), Failed>
+) -> Result<bool, Failed>
     requires short { length line.now ≤ 1_024 }
     requires live { IsLive (state_of core.old) }
-    ensures { Replies (state_of core.old) number line.now (state_of core.new)
+    ensures { Sorts (state_of core.old) number line.now (state_of core.new)
         (W.sink to.old) out.old.items (W.sink to.new) out.new.items result }
 {
     if let Err(e) = make_room(out, to) {
@@ -63,34 +65,40 @@ fn take_line<W: Outlet>(
     number: u128,
     out: &mut Pending,
     to: &mut W,
-) -> Result<(), Failed>
+) -> Result<bool, Failed>
     requires room { array_vec_len out.old + LONGEST ≤ SIZE }
     requires short { length line.now ≤ 1_024 }
     requires live { IsLive (state_of core.old) }
-    ensures { Replies (state_of core.old) number line.now (state_of core.new)
+    ensures { Sorts (state_of core.old) number line.now (state_of core.new)
         (W.sink to.old) out.old.items (W.sink to.new) out.new.items result }
 {
     match core {
-        None => {
-            first_line(core, alloc, line, number, out);
-            Ok(())
-        }
+        None => Ok(first_line(core, alloc, line, number, out)),
         Some(core) => run_or_later(core, line, number, out, to),
     }
 }
 
 /// Answers a line before something is open.
 #[inline(never)]
-fn first_line(core: &mut Option<Core>, alloc: Global, line: &[u8], number: u128, out: &mut Pending)
+fn first_line(
+    core: &mut Option<Core>,
+    alloc: Global,
+    line: &[u8],
+    number: u128,
+    out: &mut Pending,
+) -> bool
     requires room { array_vec_len out.old + LONGEST ≤ SIZE }
     requires short { length line.now ≤ 1_024 }
     requires none { core.old ≡ None }
     ensures { (text : List ℕ) × LineAnswer None number line.now text (state_of core.new)
-        × (out.new.items ≡ out.old.items ++ text) }
+        × (out.new.items ≡ out.old.items ++ text) × Takes result None line.now }
 {
     match command(line) {
         Some(asked) => first(core, alloc, &asked, number, out),
-        None => bad(out, number),
+        None => {
+            bad(out, number);
+            false
+        }
     }
 }
 
@@ -101,16 +109,16 @@ fn run_or_later<W: Outlet>(
     number: u128,
     out: &mut Pending,
     to: &mut W,
-) -> Result<(), Failed>
+) -> Result<bool, Failed>
     requires room { array_vec_len out.old + LONGEST ≤ SIZE }
     requires short { length line.now ≤ 1_024 }
     requires live { IsLive (Some (world_of core.old)) }
-    ensures { Replies (Some (world_of core.old)) number line.now (Some (world_of core.new))
+    ensures { Sorts (Some (world_of core.old)) number line.now (Some (world_of core.new))
         (W.sink to.old) out.old.items (W.sink to.new) out.new.items result }
 {
     if let Some(terminal) = terminal_to_run(line) {
         tell_run(core, terminal, out);
-        return Ok(());
+        return Ok(true);
     }
     begin_or_later(core, line, number, out, to)
 }
@@ -122,16 +130,16 @@ fn begin_or_later<W: Outlet>(
     number: u128,
     out: &mut Pending,
     to: &mut W,
-) -> Result<(), Failed>
+) -> Result<bool, Failed>
     requires room { array_vec_len out.old + LONGEST ≤ SIZE }
     requires short { length line.now ≤ 1_024 }
     requires live { IsLive (Some (world_of core.old)) }
-    ensures { Replies (Some (world_of core.old)) number line.now (Some (world_of core.new))
+    ensures { Sorts (Some (world_of core.old)) number line.now (Some (world_of core.new))
         (W.sink to.old) out.old.items (W.sink to.new) out.new.items result }
 {
     if let Some(asked) = payment_to_begin(line) {
         tell_begin(core, asked.0, &Request::Payment(asked.1), out);
-        return Ok(());
+        return Ok(true);
     }
     later_line(core, line, number, out, to)
 }
@@ -144,28 +152,34 @@ fn later_line<W: Outlet>(
     number: u128,
     out: &mut Pending,
     to: &mut W,
-) -> Result<(), Failed>
+) -> Result<bool, Failed>
     requires room { array_vec_len out.old + LONGEST ≤ SIZE }
     requires short { length line.now ≤ 1_024 }
     requires live { IsLive (Some (world_of core.old)) }
-    ensures { Replies (Some (world_of core.old)) number line.now (Some (world_of core.new))
+    ensures { Sorts (Some (world_of core.old)) number line.now (Some (world_of core.new))
         (W.sink to.old) out.old.items (W.sink to.new) out.new.items result }
 {
     let Some(asked) = command(line) else {
         bad(out, number);
-        return Ok(());
+        return Ok(false);
     };
     later(core, &asked, number, out, to)
 }
 
 /// Answers what a line asks for.
-fn first(core: &mut Option<Core>, alloc: Global, asked: &Command, number: u128, out: &mut Pending)
+fn first(
+    core: &mut Option<Core>,
+    alloc: Global,
+    asked: &Command,
+    number: u128,
+    out: &mut Pending,
+) -> bool
     requires room { array_vec_len out.old + LONGEST ≤ SIZE }
     requires none { core.old ≡ None }
     requires form { HasForm asked.now }
     ensures { (line : List ℕ) → length line ≤ 1_024 → Says line asked.now →
         (text : List ℕ) × LineAnswer None number line text (state_of core.new)
-        × (out.new.items ≡ out.old.items ++ text) }
+        × (out.new.items ≡ out.old.items ++ text) × Takes result None line }
 {
     match asked {
         Command::Open(scale, extents) => match populated(alloc, *scale, *extents) {
@@ -173,10 +187,17 @@ fn first(core: &mut Option<Core>, alloc: Global, asked: &Command, number: u128, 
                 let old = core.replace(made);
                 let None = old else { unreachable!() };
                 opened(out);
+                true
             }
-            Err(_) => refused(out, &Refusal::NoMemory),
+            Err(_) => {
+                refused(out, &Refusal::NoMemory);
+                true
+            }
         },
-        _ => bad(out, number),
+        _ => {
+            bad(out, number);
+            false
+        }
     }
 }
 
@@ -199,59 +220,62 @@ fn later<W: Outlet>(
     number: u128,
     out: &mut Pending,
     to: &mut W,
-) -> Result<(), Failed>
+) -> Result<bool, Failed>
     requires room { array_vec_len out.old + LONGEST ≤ SIZE }
     requires form { HasForm asked.now }
     requires live { IsLive (Some (world_of core.old)) }
     ensures { (line : List ℕ) → length line ≤ 1_024 → Says line asked.now →
-        Replies (Some (world_of core.old)) number line (Some (world_of core.new))
+        Sorts (Some (world_of core.old)) number line (Some (world_of core.new))
         (W.sink to.old) out.old.items (W.sink to.new) out.new.items result }
 {
     match asked {
-        Command::Show(shown) => show(core, *shown, out, to),
+        Command::Show(shown) => match show(core, *shown, out, to) {
+            Ok(()) => Ok(true),
+            Err(e) => Err(e),
+        },
         Command::Open(_, _) => {
             bad(out, number);
-            Ok(())
+            Ok(false)
         }
         Command::Begin(terminal, request) => {
             tell_begin(core, *terminal, request, out);
-            Ok(())
+            Ok(true)
         }
         Command::Next(terminal) => {
             tell_next(core, *terminal, out);
-            Ok(())
+            Ok(true)
         }
         Command::Run(terminal) => {
             tell_run(core, *terminal, out);
-            Ok(())
+            Ok(true)
         }
         Command::Save(terminal) => {
             tell(core, Step::Save(*terminal), out);
-            Ok(())
+            Ok(true)
         }
         Command::Back(terminal) => {
             tell(core, Step::Back(*terminal), out);
-            Ok(())
+            Ok(true)
         }
         Command::Rollback(terminal) => {
             tell(core, Step::Rollback(*terminal), out);
-            Ok(())
+            Ok(true)
         }
         Command::Audit(condition, moment) => {
             tell_audit(core, *condition, *moment, out);
-            Ok(())
+            Ok(true)
         }
         Command::Read(moment, query) => {
             tell_read(core, *moment, query, out);
-            Ok(())
+            Ok(true)
         }
         Command::Purge(moment) => {
             tell_purge(core, *moment, out);
-            Ok(())
+            Ok(true)
         }
         Command::Rewind(moment) => {
             tell_rewind(core, *moment, out);
-            Ok(())
+            Ok(true)
         }
     }
 }

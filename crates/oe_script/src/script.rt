@@ -1,7 +1,9 @@
 //! A script's run from its first byte to its last: lines are found in what the reader gives,
 //! answered in turn, and written at the latest before the next read.
-ghost use Rattle.oe_script.specs.Session.{ScriptRan};
+ghost use Rattle.oe_script.specs.Hearing.{HearsEach};
+ghost use Rattle.oe_script.specs.Session.{ScriptHeard, ScriptRan};
 
+use crate::listeners::{Listener, Quiet};
 use crate::session::{Fault, Session};
 use oe_ports::ports::{Intake, Outlet};
 use std::alloc::Global;
@@ -21,8 +23,30 @@ pub fn run_script<R: Intake, W: Outlet>(
     ensures { ScriptRan (R.source reader.old) (R.source reader.new)
         (W.sink writer.old) (W.sink writer.new) result }
 {
+    let mut quiet = Quiet {};
+    hear_script(alloc, reader, writer, &mut quiet)
+}
+
+/// Answers a script as `run_script` does, whatever the listener does, and lets the listener hear of
+/// each line that is answered `BadLine`, in order, each once.
+///
+/// The listener hears of a line when its answer is given, and of a last line without its end when
+/// all answers are written. After a fault of the reader it has heard of the whole lines that were
+/// read; after one of the writer of those before a line whose answer could not be written.
+pub fn hear_script<R: Intake, W: Outlet, H: Listener>(
+    alloc: Global,
+    reader: &mut R,
+    writer: &mut W,
+    listener: &mut H,
+) -> Result<(), Fault>
+    ensures ran { ScriptRan (R.source reader.old) (R.source reader.new)
+        (W.sink writer.old) (W.sink writer.new) result }
+    ensures heard { ScriptHeard (λ told. HearsEach H.hears listener.old told listener.new)
+        (R.source reader.old) (R.source reader.new)
+        (W.sink writer.old) (W.sink writer.new) result }
+{
     let mut session = Session::new();
-    let ran = session.run(alloc, reader, writer);
+    let ran = session.run(alloc, reader, writer, listener);
     session.close();
     ran
 }

@@ -1,11 +1,13 @@
 //! One script's run: what is open, the line that is read, and the output that waits.
-ghost use Rattle.std.specs.Prelude.{◌≡◌, ◌<◌, ◌≤◌, ◌+◌, ◌++◌, ◌∷◌, ◌^◌, ℕ, List, [], length, Option, None, true, false, OnOk};
+ghost use Rattle.std.specs.Prelude.{◌≡◌, ◌<◌, ◌≤◌, ◌+◌, ◌++◌, ◌∷◌, ◌^◌, ◌⊎◌, ℕ, List, [], length, Option, None, true, false, OnOk};
 ghost use Rattle.oe_ports.specs.Ports.{Sink, Streams};
+ghost use Rattle.oe_script.specs.Hearing.{place_of, Attends, HearsEach};
 ghost use Rattle.oe_script.specs.Script.{Holds, last_text};
-ghost use Rattle.oe_script.specs.Session.{state_of, Fed, Standing, Ended, ScriptRan};
+ghost use Rattle.oe_script.specs.Session.{state_of, Fed, Standing, Ended, ScriptHeard};
 ghost use Rattle.oe_admission.specs.Programs.{IsLive};
 ghost use Rattle.oe_script.specs.Outcome.{Replies};
 
+use crate::listeners::{Listener, Place};
 use crate::outcome::answer_line;
 use arrayvec::ArrayVec;
 use memchr::memchr;
@@ -75,19 +77,22 @@ impl Session {
         }
     }
 
-    /// Reads the input to its end and answers it.
-    pub fn run<R: Intake, W: Outlet>(
+    /// Reads the input to its end and answers it. The listener hears of each line that is answered
+    /// `BadLine`.
+    pub fn run<R: Intake, W: Outlet, H: Listener>(
         &mut self,
         alloc: Global,
         reader: &mut R,
         writer: &mut W,
+        listener: &mut H,
     ) -> Result<(), Fault>
         requires core { self.old.core ≡ None }
         requires line { self.old.line.items ≡ [] }
         requires over { self.old.over ≡ false }
         requires count { self.old.count ≡ 0 }
         requires out { self.old.out.items ≡ [] }
-        ensures { ScriptRan (R.source reader.old) (R.source reader.new)
+        ensures { ScriptHeard (λ told. HearsEach H.hears listener.old told listener.new)
+            (R.source reader.old) (R.source reader.new)
             (W.sink writer.old) (W.sink writer.new) result }
     {
         let mut buf = [0u8; PIECE];
@@ -96,13 +101,13 @@ impl Session {
             match reader.read(&mut buf) {
                 Err(_) => return Err(Fault::Read),
                 Ok(0) => {
-                    return match self.finish(writer) {
+                    return match self.finish(writer, listener) {
                         Ok(()) => Ok(()),
                         Err(_) => Err(Fault::Write),
                     };
                 }
                 Ok(n) => {
-                    if let Err(_) = self.answer(alloc, &buf[..n], writer) {
+                    if let Err(_) = self.answer(alloc, &buf[..n], writer, listener) {
                         return Err(Fault::Write);
                     }
                 }
@@ -112,39 +117,53 @@ impl Session {
     }
 
     /// Takes the next bytes of the input, and writes what waits.
-    fn answer<W: Outlet>(&mut self, alloc: Global, piece: &[u8], to: &mut W) -> Result<(), Failed>
+    fn answer<W: Outlet, H: Listener>(
+        &mut self,
+        alloc: Global,
+        piece: &[u8],
+        to: &mut W,
+        listener: &mut H,
+    ) -> Result<(), Failed>
         requires count { self.old.count + length piece.now < 2 ^ 128 }
         requires live { IsLive (state_of self.old.core) }
-        ensures fed { (start : Option Sink) (input : List ℕ) →
-            Standing start input (W.sink to.old) self.old.out.items (state_of self.old.core)
-            self.old.count self.old.line.items self.old.over →
-            Fed start (input ++ piece.now) (W.sink to.new) self.new.out.items
-            (state_of self.new.core) self.new.count self.new.line.items self.new.over result }
+        ensures fed { (first : H) (start : Option Sink) (input : List ℕ) →
+            Standing H.hears first listener.old start input (W.sink to.old) self.old.out.items
+            (state_of self.old.core) self.old.count self.old.line.items self.old.over →
+            Fed H.hears first listener.new start (input ++ piece.now) (W.sink to.new)
+            self.new.out.items (state_of self.new.core) self.new.count self.new.line.items
+            self.new.over result }
         ensures written { OnOk result (self.new.out.items ≡ []) }
         ensures count { self.new.count ≤ self.old.count + length piece.now }
         ensures live { IsLive (state_of self.new.core) }
     {
-        if let Err(e) = self.feed(alloc, piece, to) {
+        if let Err(e) = self.feed(alloc, piece, to, listener) {
             return Err(e);
         }
         flush(&mut self.out, to)
     }
 
     /// Takes the next bytes of the input.
-    pub fn feed<W: Outlet>(&mut self, alloc: Global, piece: &[u8], to: &mut W) -> Result<(), Failed>
+    pub fn feed<W: Outlet, H: Listener>(
+        &mut self,
+        alloc: Global,
+        piece: &[u8],
+        to: &mut W,
+        listener: &mut H,
+    ) -> Result<(), Failed>
         requires count { self.old.count + length piece.now < 2 ^ 128 }
         requires live { IsLive (state_of self.old.core) }
-        ensures fed { (start : Option Sink) (input : List ℕ) →
-            Standing start input (W.sink to.old) self.old.out.items (state_of self.old.core)
-            self.old.count self.old.line.items self.old.over →
-            Fed start (input ++ piece.now) (W.sink to.new) self.new.out.items
-            (state_of self.new.core) self.new.count self.new.line.items self.new.over result }
+        ensures fed { (first : H) (start : Option Sink) (input : List ℕ) →
+            Standing H.hears first listener.old start input (W.sink to.old) self.old.out.items
+            (state_of self.old.core) self.old.count self.old.line.items self.old.over →
+            Fed H.hears first listener.new start (input ++ piece.now) (W.sink to.new)
+            self.new.out.items (state_of self.new.core) self.new.count self.new.line.items
+            self.new.over result }
         ensures count { self.new.count ≤ self.old.count + length piece.now }
         ensures live { IsLive (state_of self.new.core) }
     {
         let mut rest = piece;
         while let Some(n) = memchr(b'\n', rest) {
-            if let Err(e) = self.end_line(alloc, &rest[..n], to) {
+            if let Err(e) = self.end_line(alloc, &rest[..n], to, listener) {
                 return Err(e);
             }
             rest = &rest[n + 1..];
@@ -153,18 +172,27 @@ impl Session {
         Ok(())
     }
 
-    /// Answers what is left at the end of the input, and writes what waits.
-    fn finish<W: Outlet>(&mut self, to: &mut W) -> Result<(), Failed>
+    /// Answers what is left at the end of the input, and writes what waits. Then the listener hears
+    /// of a last line that has no end.
+    fn finish<W: Outlet, H: Listener>(&mut self, to: &mut W, listener: &mut H) -> Result<(), Failed>
         requires { self.old.count + 1 < 2 ^ 128 }
-        ensures { (start : Option Sink) (input : List ℕ) →
-            Standing start input (W.sink to.old) self.old.out.items (state_of self.old.core)
-            self.old.count self.old.line.items self.old.over →
-            Ended start input (W.sink to.new) result }
+        ensures { (first : H) (start : Option Sink) (input : List ℕ) →
+            Standing H.hears first listener.old start input (W.sink to.old) self.old.out.items
+            (state_of self.old.core) self.old.count self.old.line.items self.old.over →
+            Ended H.hears first listener.new start input (W.sink to.new) result }
     {
+        let is_begun = self.is_begun();
+        let number = self.count + 1;
         if let Err(e) = self.end_last(to) {
             return Err(e);
         }
-        flush(&mut self.out, to)
+        if let Err(e) = flush(&mut self.out, to) {
+            return Err(e);
+        }
+        if is_begun {
+            listener.hear(number, &[], Place::Unended);
+        }
+        Ok(())
     }
 
     /// Answers a last line that has no end.
@@ -200,13 +228,22 @@ impl Session {
     }
 
     /// Ends a line with these last bytes, and answers it.
-    fn end_line<W: Outlet>(&mut self, alloc: Global, last: &[u8], to: &mut W) -> Result<(), Failed>
+    fn end_line<W: Outlet, H: Listener>(
+        &mut self,
+        alloc: Global,
+        last: &[u8],
+        to: &mut W,
+        listener: &mut H,
+    ) -> Result<(), Failed>
         requires count { self.old.count + 1 < 2 ^ 128 }
         requires live { IsLive (state_of self.old.core) }
         ensures answer { (line : List ℕ) → Holds self.old.line.items self.old.over line →
             Replies (state_of self.old.core) (self.old.count + 1) (line ++ last.now)
             (state_of self.new.core) (W.sink to.old) self.old.out.items
             (W.sink to.new) self.new.out.items result }
+        ensures heard { (line : List ℕ) → Holds self.old.line.items self.old.over line →
+            Attends H.hears (state_of self.old.core) (self.old.count + 1) (line ++ last.now)
+            listener.old listener.new result }
         ensures line { self.new.line.items ≡ [] }
         ensures over { self.new.over ≡ false }
         ensures count { self.new.count ≡ self.old.count + 1 }
@@ -215,25 +252,42 @@ impl Session {
         self.count += 1;
         if self.is_begun() || LINE < last.len() {
             self.keep(last);
-            return self.end_kept(alloc, to);
+            return self.end_kept(alloc, to, listener);
         }
-        answer_line(&mut self.core, alloc, last, self.count, &mut self.out, to)
+        answer_whole(
+            &mut self.core,
+            alloc,
+            last,
+            self.count,
+            &mut self.out,
+            to,
+            listener,
+        )
     }
 
     /// Tells whether a line was begun whose end was not read yet.
     fn is_begun(&self) -> bool
-        ensures { result ≡ false → (self.now.over ≡ false) × (self.now.line.items ≡ []) }
+        ensures fresh { result ≡ false → (self.now.over ≡ false) × (self.now.line.items ≡ []) }
+        ensures begun { result ≡ true → (self.now.over ≡ true) ⊎ (0 < length self.now.line.items) }
     {
         self.over || !self.line.is_empty()
     }
 
     /// Ends a line of this number that was kept, and answers it.
     #[inline(never)]
-    fn end_kept<W: Outlet>(&mut self, alloc: Global, to: &mut W) -> Result<(), Failed>
+    fn end_kept<W: Outlet, H: Listener>(
+        &mut self,
+        alloc: Global,
+        to: &mut W,
+        listener: &mut H,
+    ) -> Result<(), Failed>
         requires live { IsLive (state_of self.old.core) }
         ensures answer { (line : List ℕ) → Holds self.old.line.items self.old.over line →
             Replies (state_of self.old.core) self.old.count line (state_of self.new.core)
             (W.sink to.old) self.old.out.items (W.sink to.new) self.new.out.items result }
+        ensures heard { (line : List ℕ) → Holds self.old.line.items self.old.over line →
+            Attends H.hears (state_of self.old.core) self.old.count line
+            listener.old listener.new result }
         ensures line { self.new.line.items ≡ [] }
         ensures over { self.new.over ≡ false }
         ensures count { self.new.count ≡ self.old.count }
@@ -243,17 +297,61 @@ impl Session {
         self.over = false;
         if over {
             self.line.clear();
-            return put_bad(&mut self.out, to, self.count);
+            if let Err(e) = put_bad(&mut self.out, to, self.count) {
+                return Err(e);
+            }
+            listener.hear(self.count, &[], Place::Long);
+            return Ok(());
         }
-        let answered = answer_line(
+        let number = self.count;
+        let answered = answer_whole(
             &mut self.core,
             alloc,
             self.line.as_slice(),
-            self.count,
+            number,
             &mut self.out,
             to,
+            listener,
         );
         self.line.clear();
         answered
+    }
+}
+
+/// Tells where a whole line stands.
+fn place_in(core: &Option<Core>) -> Place
+    ensures { result ≡ place_of (state_of core.now) }
+{
+    match core {
+        None => Place::Closed,
+        Some(_) => Place::Open,
+    }
+}
+
+/// Answers a line of at most 1,024 bytes. The listener hears of it where it is no command.
+#[inline(always)]
+fn answer_whole<W: Outlet, H: Listener>(
+    core: &mut Option<Core>,
+    alloc: Global,
+    line: &[u8],
+    number: u128,
+    out: &mut Pending,
+    to: &mut W,
+    listener: &mut H,
+) -> Result<(), Failed>
+    requires short { length line.now ≤ 1_024 }
+    requires live { IsLive (state_of core.old) }
+    ensures answer { Replies (state_of core.old) number line.now (state_of core.new)
+        (W.sink to.old) out.old.items (W.sink to.new) out.new.items result }
+    ensures heard { Attends H.hears (state_of core.old) number line.now
+        listener.old listener.new result }
+{
+    match answer_line(core, alloc, line, number, out, to) {
+        Ok(true) => Ok(()),
+        Ok(false) => {
+            listener.hear(number, line, place_in(core));
+            Ok(())
+        }
+        Err(e) => Err(e),
     }
 }

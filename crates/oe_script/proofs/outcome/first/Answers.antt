@@ -1,7 +1,7 @@
 use Rattle.std.proofs.Common.{ap, codes}
 use Rattle.oe_core.specs.Core.{world_of}
 use Rattle.oe_script.specs.Session.{state_of}
-use Rattle.oe_script.proofs.OpenFacts.{opened_line}
+use Rattle.oe_script.proofs.OpenFacts.{opened_line, opening_taken}
 use Rattle.oe_script.proofs.outcome.first.Goals as goal
 
 pub returns-in-None : goal.returns-in-None
@@ -11,4 +11,5 @@ returns-in-None c = λ line short says. (
       (state_of c.replace-old.new.self)
       c.in-Ok.ensures c.in-Open.is (ap state_of c.replace-old.ensures.after) c.args.number line short says,
   c.opened.ensures.items,
+  opening_taken c.in-Open.scale c.in-Open.extents c.args.asked.now c.in-Open.is line short says,
 )

@@ -17,4 +17,6 @@ returns-in-None c = (
       (λ d asks. let said : ◌≡◌ {A = Option Command} None (Some d) = sym c.in-None.is
       ∙ c.command.ensures.only d asks.says in let no : ⊥ = cc in no)),
   c.bad.ensures,
+  λ d asks. let said : ◌≡◌ {A = Option Command} None (Some d) = sym c.in-None.is ∙ c.command.ensures.only d asks.says in
+      let no : ⊥ = cc in no,
 )

@@ -1,27 +1,29 @@
-use Rattle.std.proofs.Common.{Some, refl, ap}
+use Rattle.std.proofs.Common.{Some, refl}
 use Rattle.oe_lines.specs.declared.commands.Command.TheVariants as command
 use Rattle.oe_core.specs.Core.{world_of}
 use Rattle.oe_ports.specs.Lines.{bad_line}
 use Rattle.oe_ports.proofs.Streaming.{sent_waits}
-use Rattle.oe_script.proofs.LineFacts.{told_here, shown_here, refused, not_opened}
+use Rattle.oe_script.proofs.LineFacts.{told_here, shown_cut, refused, not_opened}
 use Rattle.oe_script.proofs.outcome.later.Goals as goal
 
-pub returns-in-Show : goal.returns-in-Show
-returns-in-Show g c = λ line short says.
-    shown_here (world_of c.args.core.now) c.args.number line c.args.asked.now c.in-Show.shown
+pub returns-in-Err : goal.returns-in-Err
+returns-in-Err g c = λ line short says.
+    shown_cut (world_of c.args.core.now) c.args.number line c.args.asked.now c.in-Show.shown
     (g.W.Outlet.sink c.args.to.now) (g.W.Outlet.sink c.show.new.to) c.args.out.now.items c.show.new.out.items _
-    c.show.result
-    short says c.in-Show.is refl c.show.ensures
+    c.in-Err.e short says c.in-Show.is refl c.in-Err.ensures
 
 pub returns-in-Open : goal.returns-in-Open
-returns-in-Open g c = λ line short says. (
-  bad_line c.args.number,
-  refused (Some (world_of c.args.core.now)) c.args.number line
-      (not_opened (world_of c.args.core.now) line c.args.asked.now c.in-Open.field-0 c.in-Open.field-1 says
-      c.in-Open.is),
-  sent_waits (g.W.Outlet.sink c.args.to.now) c.args.out.now.items c.bad.new.out.items (bad_line c.args.number)
-      c.bad.ensures,
-)
+returns-in-Open g c = λ line short says.
+    let none = not_opened (world_of c.args.core.now) line c.args.asked.now c.in-Open.field-0 c.in-Open.field-1 says
+    c.in-Open.is in (
+      (
+        bad_line c.args.number,
+        refused (Some (world_of c.args.core.now)) c.args.number line none,
+        sent_waits (g.W.Outlet.sink c.args.to.now) c.args.out.now.items c.bad.new.out.items (bad_line c.args.number)
+            c.bad.ensures,
+      ),
+      none,
+    )
 
 pub returns-in-Begin : goal.returns-in-Begin
 returns-in-Begin g c = λ line short says.

@@ -1,17 +1,43 @@
+use Rattle.std.proofs.Common.{◌+◌}
 use Rattle.oe_script.specs.Session.{state_of}
-use Rattle.oe_script.proofs.Reaching.{end_cut, end_sent}
+use Rattle.oe_script.proofs.HearingFacts.{heard_last, heard_none}
+use Rattle.oe_script.proofs.Reaching.{end_cut, end_flush, end_sent}
 use Rattle.oe_script.proofs.session.Session.finish.Goals as goal
 
 pub returns-in-Err : goal.returns-in-Err
-returns-in-Err g c = λ start input s.
+returns-in-Err g c = λ first start input s.
     let was = c.args.self.now in
-    end_cut start (g.W.Outlet.sink c.args.to.now) (g.W.Outlet.sink c.end_last.new.to) input was.out.items
+    end_cut g.H.Listener.hears first c.args.listener.now start (g.W.Outlet.sink c.args.to.now)
+    (g.W.Outlet.sink c.end_last.new.to) input was.out.items
     (state_of was.core) was.count was.line.items was.over c.in-Err.ensures s
 
-pub returns : goal.returns
-returns g c = λ start input s.
+pub returns-in-Err-flush : goal.returns-in-Err-flush
+returns-in-Err-flush g c = λ first start input s.
     let was = c.args.self.now in
-    end_sent start (g.W.Outlet.sink c.args.to.now) (g.W.Outlet.sink c.end_last.new.to) (g.W.Outlet.sink c.flush.new.to)
+    end_flush g.H.Listener.hears first c.args.listener.now start (g.W.Outlet.sink c.args.to.now)
+    (g.W.Outlet.sink c.end_last.new.to) (g.W.Outlet.sink c.flush.new.to)
+    input was.out.items c.end_last.new.self.out.items (state_of was.core) was.count was.line.items was.over
+    c.in_default.ensures c.in-Err-flush.ensures.stream s
+
+pub returns-then-is_begun : goal.returns-then-is_begun
+returns-then-is_begun g c = λ first start input s.
+    let was = c.args.self.now in
+    end_sent g.H.Listener.hears first c.args.listener.now c.hear.new.self start (g.W.Outlet.sink c.args.to.now)
+    (g.W.Outlet.sink c.end_last.new.to) (g.W.Outlet.sink c.flush.new.to)
     input was.out.items c.end_last.new.self.out.items
-    c.flush.new.out.items (state_of was.core) was.count was.line.items was.over c.flush.result c.flush.ensures.empty
-    c.in_default.ensures c.flush.ensures.stream s
+    c.flush.new.out.items (state_of was.core) was.count was.line.items was.over c.flush.ensures.empty
+    c.in_default.ensures c.in_default-flush.ensures.stream
+    (λ line holds. heard_last g.H.Listener.hears (was.count + 1) line was.line.items was.over c.args.listener.now
+    c.hear.new.self (c.is_begun-is_begun.ensures.begun c.if-is_begun.true) holds c.hear.ensures) s
+
+pub returns-else-is_begun : goal.returns-else-is_begun
+returns-else-is_begun g c = λ first start input s.
+    let was = c.args.self.now in
+    let fresh = c.is_begun-is_begun.ensures.fresh c.if-is_begun.false in
+    end_sent g.H.Listener.hears first c.args.listener.now c.args.listener.now start (g.W.Outlet.sink c.args.to.now)
+    (g.W.Outlet.sink c.end_last.new.to) (g.W.Outlet.sink c.flush.new.to)
+    input was.out.items c.end_last.new.self.out.items
+    c.flush.new.out.items (state_of was.core) was.count was.line.items was.over c.flush.ensures.empty
+    c.in_default.ensures c.in_default-flush.ensures.stream
+    (λ line holds. heard_none g.H.Listener.hears (was.count + 1) line was.line.items was.over c.args.listener.now
+    fresh.0 fresh.1 holds) s

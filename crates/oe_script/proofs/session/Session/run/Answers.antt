@@ -1,5 +1,6 @@
 use Rattle.std.proofs.Common.{◌+◌, ◌++◌, [], take, ◌∙◌, ap, arith, refl, subst, sym}
 use Rattle.std.proofs.lemmas.List.{length-take}
+use Rattle.oe_script.specs.Hearing.{HearsEach}
 use Rattle.oe_script.specs.Session.{state_of}
 use Rattle.oe_admission.specs.Programs.{IsLive}
 use Rattle.oe_script.proofs.Ending.{standing_start, read_none, read_more, read_end, ran_unread, ran_long, ran_cut}
@@ -18,8 +19,8 @@ loop-init g c =
       read = (
         [],
         read_none (g.R.Intake.source c.args.reader.now),
-        standing_start (g.W.Outlet.sink c.args.writer.now) was.out.items (state_of was.core) was.count was.line.items
-            was.over (ap state_of r.core) r.line r.over r.count r.out,
+        standing_start g.H.Listener.hears c.args.listener.now (g.W.Outlet.sink c.args.writer.now) was.out.items
+            (state_of was.core) was.count was.line.items was.over (ap state_of r.core) r.line r.over r.count r.out,
       );
     }
 
@@ -27,7 +28,8 @@ pub returns-in-Err : goal.returns-in-Err
 returns-in-Err g c =
     let i = c.loop.invariant.read in
     let s = c.loop.self in
-    ran_unread (g.R.Intake.source c.args.reader.now) (g.R.Intake.source c.loop.reader)
+    ran_unread g.H.Listener.hears c.args.listener.now c.loop.listener (g.R.Intake.source c.args.reader.now)
+    (g.R.Intake.source c.loop.reader)
     (g.R.Intake.source c.read.new.self) (g.W.Outlet.sink c.args.writer.now) (g.W.Outlet.sink c.loop.writer)
     i.0 c.read.new.buf s.out.items c.loop.counter (state_of s.core) s.count s.line.items s.over c.in-Err.field-0 i.1
     c.in-Err.ensures.bytes c.loop.invariant.written i.2
@@ -35,35 +37,39 @@ returns-in-Err g c =
 pub returns-in-Ok-finish : goal.returns-in-Ok-finish
 returns-in-Ok-finish g c =
     let i = c.loop.invariant.read in
-    ran_whole (g.R.Intake.source c.args.reader.now) (g.R.Intake.source c.loop.reader)
+    ran_whole (λ told. HearsEach g.H.Listener.hears c.args.listener.now told c.finish.new.listener)
+    (g.R.Intake.source c.args.reader.now) (g.R.Intake.source c.loop.reader)
     (g.R.Intake.source c.read.new.self) (g.W.Outlet.sink c.args.writer.now) (g.W.Outlet.sink c.finish.new.to)
     i.0 c.read.new.buf c.loop.counter i.1 (rw c.in-Ok-eq0.field-0-test at c.in-Ok-eq0.ensures.bytes)
     (omega (arith, c.read.auto.buf, c.loop.invariant.room))
-    (c.in-Ok-finish.ensures (g.W.Outlet.sink c.args.writer.now) i.0 i.2)
+    (c.in-Ok-finish.ensures c.args.listener.now (g.W.Outlet.sink c.args.writer.now) i.0 i.2)
 
 pub returns-in-Err-finish : goal.returns-in-Err-finish
 returns-in-Err-finish g c =
     let i = c.loop.invariant.read in
-    ran_cut (g.R.Intake.source c.args.reader.now) (g.R.Intake.source c.read.new.self)
+    ran_cut (λ told. HearsEach g.H.Listener.hears c.args.listener.now told c.finish.new.listener)
+    (g.R.Intake.source c.args.reader.now) (g.R.Intake.source c.read.new.self)
     (g.W.Outlet.sink c.args.writer.now) (g.W.Outlet.sink c.finish.new.to)
     i.0 c.loop.counter
     (read_end (g.R.Intake.source c.args.reader.now) (g.R.Intake.source c.loop.reader)
     (g.R.Intake.source c.read.new.self) i.0 c.read.new.buf c.loop.counter i.1
     (rw c.in-Ok-eq0.field-0-test at c.in-Ok-eq0.ensures.bytes))
-    (c.in-Err-finish.ensures (g.W.Outlet.sink c.args.writer.now) i.0 i.2)
+    (c.in-Err-finish.ensures c.args.listener.now (g.W.Outlet.sink c.args.writer.now) i.0 i.2)
 
 pub returns-in-Err-answer : goal.returns-in-Err-answer
 returns-in-Err-answer g c =
     let i = c.loop.invariant.read in
-    ran_cut (g.R.Intake.source c.args.reader.now) (g.R.Intake.source c.read.new.self)
+    ran_cut (λ told. HearsEach g.H.Listener.hears c.args.listener.now told c.answer.new.listener)
+    (g.R.Intake.source c.args.reader.now) (g.R.Intake.source c.read.new.self)
     (g.W.Outlet.sink c.args.writer.now) (g.W.Outlet.sink c.answer.new.to)
     (i.0 ++ take c.in-Ok.n c.read.new.buf) (c.loop.counter + 1)
     (read_more (g.R.Intake.source c.args.reader.now) (g.R.Intake.source c.loop.reader)
     (g.R.Intake.source c.read.new.self) i.0 c.read.new.buf c.loop.counter c.in-Ok.n i.1
     c.in-Ok.ensures.bytes c.in-Ok.ensures.bound (omega (arith, c.in-Ok.n-test)))
-    (broken_here (g.W.Outlet.sink c.args.writer.now) (g.W.Outlet.sink c.answer.new.to)
+    (broken_here (λ told. HearsEach g.H.Listener.hears c.args.listener.now told c.answer.new.listener)
+    (g.W.Outlet.sink c.args.writer.now) (g.W.Outlet.sink c.answer.new.to)
     (i.0 ++ take c.in-Ok.n c.read.new.buf)
-    (c.in-Err-answer.ensures.fed (g.W.Outlet.sink c.args.writer.now) i.0 i.2))
+    (c.in-Err-answer.ensures.fed c.args.listener.now (g.W.Outlet.sink c.args.writer.now) i.0 i.2))
 
 pub loop-preserved : goal.loop-preserved
 loop-preserved g c =
@@ -86,7 +92,7 @@ loop-preserved g c =
         read_more (g.R.Intake.source c.args.reader.now) (g.R.Intake.source c.loop.reader)
             (g.R.Intake.source c.read.new.self) i.0 c.read.new.buf c.loop.counter c.in-Ok.n i.1
             c.in-Ok.ensures.bytes c.in-Ok.ensures.bound (omega (arith, c.in-Ok.n-test)),
-        c.in_default.ensures.fed (g.W.Outlet.sink c.args.writer.now) i.0 i.2,
+        c.in_default.ensures.fed c.args.listener.now (g.W.Outlet.sink c.args.writer.now) i.0 i.2,
       );
     }
 
@@ -94,7 +100,8 @@ pub returns : goal.returns
 returns g c =
     let i = c.loop.invariant.read in
     let s = c.loop.self in
-    ran_long (g.R.Intake.source c.args.reader.now) (g.R.Intake.source c.loop.reader) (g.W.Outlet.sink c.args.writer.now)
+    ran_long g.H.Listener.hears c.args.listener.now c.loop.listener (g.R.Intake.source c.args.reader.now)
+    (g.R.Intake.source c.loop.reader) (g.W.Outlet.sink c.args.writer.now)
     (g.W.Outlet.sink c.loop.writer)
     i.0 s.out.items c.loop.counter (state_of s.core) s.count s.line.items s.over (omega arith) i.1
     c.loop.invariant.written i.2

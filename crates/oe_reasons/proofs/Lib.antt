@@ -1,0 +1,4 @@
+mod JoinFacts
+mod PlaceFacts
+mod RangeFacts
+mod FitFacts

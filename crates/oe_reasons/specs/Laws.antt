@@ -1,0 +1,106 @@
+-- The table's ranges are the grammar's: a line's form asks for exactly these numbers.
+use Rattle.std.specs.Prelude.{◌≡◌, ℕ, ◌+◌, ◌≤◌, ◌↔◌, List, [], ◌∷◌, length, Option, None, Some, IfSome}
+use Rattle.std.specs.List.{All}
+use Rattle.oe_rows.specs.declared.scales.Scale.{Scale}
+use Rattle.oe_rows.specs.declared.keys.DistrictKey.{DistrictKey}
+use Rattle.oe_requests.specs.declared.requests.CustomerChoice.TheVariants as choice
+use Rattle.oe_requests.specs.declared.requests.PaymentRequest.{PaymentRequest}
+use Rattle.oe_requests.specs.declared.requests.RequestLine.{RequestLine}
+use Rattle.oe_requests.specs.declared.requests.NewOrderRequest.{NewOrderRequest}
+use Rattle.oe_requests.specs.declared.requests.DeliveryRequest.{DeliveryRequest}
+use Rattle.oe_requests.specs.declared.requests.DeliveriesRequest.{DeliveriesRequest}
+use Rattle.oe_requests.specs.declared.requests.Request.{Request}
+use Rattle.oe_requests.specs.declared.requests.Request.TheVariants as request
+use Rattle.oe_requests.specs.declared.requests.LevelQuery.{LevelQuery}
+use Rattle.oe_requests.specs.declared.requests.Query.{Query}
+use Rattle.oe_requests.specs.declared.requests.Query.TheVariants as query
+use Rattle.oe_model.specs.Requests as model
+use Rattle.oe_lines.specs.declared.commands.Command.{Command}
+use Rattle.oe_lines.specs.declared.commands.Command.TheVariants as command
+use Rattle.oe_lines.specs.declared.commands.Display.{Display}
+use Rattle.oe_lines.specs.declared.commands.Display.TheVariants as display
+use Rattle.oe_lines.specs.declared.commands.MomentChoice.TheVariants as moment
+use Rattle.oe_lines.specs.Grammar.{HasForm, IsMoment, IsQuery, IsRequest, words_of}
+use Rattle.oe_reasons.specs.declared.forms.Column.{Column}
+use Rattle.oe_reasons.specs.declared.forms.Column.TheVariants as column
+use Rattle.oe_reasons.specs.declared.forms.Form.{Form}
+use Rattle.oe_reasons.specs.declared.forms.Form.TheVariants as form
+use Rattle.oe_reasons.specs.Columns.{columns_of, fault_of, greatest, least, least_words, most_words}
+
+abbrev pub InColumn : Column → ℕ → Type 0
+InColumn c n = (least c ≤ n) × (n ≤ greatest c)
+
+abbrev pub InDistrict : DistrictKey → Type 0
+InDistrict d = InColumn column.Warehouse d.warehouse × InColumn column.District d.district
+
+abbrev pub InLine : RequestLine → Type 0
+InLine l = InColumn column.Supply l.supply × InColumn column.Item l.item × InColumn column.Quantity l.quantity
+
+pub record Ranges_are_the_grammars : Type 0 where
+  pub opening : (s : Scale) (extents : ℕ) → HasForm (command.Open s extents)
+      ↔ (InColumn column.Warehouses s.warehouses × InColumn column.Customers s.customers
+      × InColumn column.Items s.items × InColumn column.Extents extents)
+  pub terminal : (t : ℕ) → HasForm (command.Next t) ↔ InColumn column.Terminal t
+  pub payment : (q : PaymentRequest) → IsRequest (request.Payment q)
+      ↔ (InDistrict q.district × InDistrict q.customer_district × model.IsChoice q.customer
+      × InColumn column.Amount q.amount × model.IsStamp q.stamp)
+  pub customer : (n : ℕ) → model.IsChoice (choice.Number n) ↔ InColumn column.Customer n
+  pub order : (q : NewOrderRequest) → IsRequest (request.NewOrder q)
+      ↔ (InDistrict q.district × InColumn column.Customer q.customer × model.IsStamp q.stamp
+      × (least_words form.NewOrder ≤ 7 + length q.lines) × (7 + length q.lines ≤ most_words form.NewOrder)
+      × All InLine q.lines)
+  pub delivery : (q : DeliveryRequest) → IsRequest (request.Delivery q)
+      ↔ (InDistrict q.district × InColumn column.Carrier q.carrier × model.IsStamp q.stamp)
+  pub deliveries : (q : DeliveriesRequest) → IsRequest (request.Deliveries q)
+      ↔ (InColumn column.Warehouse q.warehouse.warehouse × InColumn column.Carrier q.carrier × model.IsStamp q.stamp)
+  pub level : (q : LevelQuery) → IsQuery (query.Level q)
+      ↔ (InDistrict q.district × InColumn column.Threshold q.threshold)
+  pub at_moment : (m : ℕ) → IsMoment (moment.At m) ↔ InColumn column.Moment m
+
+-- THE WORDS OF EACH COMMAND
+
+-- none of the words is wrong where the columns stand
+abbrev pub Fits : List Column → List (List ℕ) → Type 0
+Fits columns [] = Unit {0}
+Fits [] (w ∷ ws) = ⊥
+Fits (c ∷ cs) (w ∷ ws) = (fault_of c w ≡ None) × Fits cs ws
+
+-- the form that a command's line has
+abbrev pub request_form : Request → Option Form
+request_form (request.Payment q) = Some form.Payment
+request_form (request.NewOrder q) = Some form.NewOrder
+request_form (request.Delivery q) = Some form.Delivery
+request_form (request.Deliveries q) = Some form.Deliveries
+request_form (request.Rename q) = None
+
+abbrev pub query_form : Query → Form
+query_form (query.Status q) = form.Status
+query_form (query.Level q) = form.Level
+
+abbrev pub display_form : Display → Form
+display_form (display.Rows t) = form.Dump
+display_form display.Waits = form.Waits
+display_form display.Locks = form.Locks
+
+abbrev pub command_form : Command → Option Form
+command_form (command.Open s e) = Some form.Opening
+command_form (command.Begin t q) = request_form q
+command_form (command.Next t) = Some form.Next
+command_form (command.Run t) = Some form.Run
+command_form (command.Save t) = Some form.Save
+command_form (command.Back t) = Some form.Back
+command_form (command.Rollback t) = Some form.Rollback
+command_form (command.Show d) = Some (display_form d)
+command_form (command.Audit c m) = Some form.Audit
+command_form (command.Read m q) = Some (query_form q)
+command_form (command.Purge m) = Some form.Purge
+command_form (command.Rewind m) = Some form.Rewind
+
+-- the grammar's words are right: none of them is wrong in its form, and they are neither too few nor too many
+pub record IsRight (f : Form) (ws : List (List ℕ)) : Type 0 where
+  pub fit : Fits (columns_of f) ws
+  pub enough : least_words f ≤ length ws
+  pub few : length ws ≤ most_words f
+
+abbrev pub Words_are_right : Type 0
+Words_are_right = (c : Command) → HasForm c → IfSome (command_form c) (λ f. IsRight f (words_of c))

@@ -1,0 +1,6 @@
+-- What the clauses of this crate cite.
+pub mod Verbs
+pub mod Columns
+pub mod Reasons
+pub mod Texts
+pub mod Laws

@@ -1,0 +1,9 @@
+use Rattle.oe_script.specs.Hearing.{HearsEach}
+use Rattle.oe_script.proofs.Ending.{heard_ran}
+use Rattle.oe_script.proofs.script.hear_script.Goals as goal
+
+pub returns-clause-ran : goal.returns-clause-ran
+returns-clause-ran g c =
+    heard_ran (λ told. HearsEach g.H.Listener.hears c.args.listener.now told c.run-ran.new.listener)
+    (g.R.Intake.source c.args.reader.now) (g.R.Intake.source c.run-ran.new.reader)
+    (g.W.Outlet.sink c.args.writer.now) (g.W.Outlet.sink c.run-ran.new.writer) c.run-ran.result c.run-ran.ensures
