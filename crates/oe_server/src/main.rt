@@ -2,23 +2,27 @@
 //! An order-entry server that answers scripts and makes them, decides on files of commits, audits
 //! files of tables and runs drives. Clause numbers are TPC Benchmark C 5.11's.
 //!
-//! This file is trusted: it has no contract, and hands the script's bytes to `run_script`, whose
-//! contract tells all that is answered, those of a file of commits to `run_serial`, whose contract
-//! tells the verdict, those of nine tables to `run_audit`, whose contract tells the report, the
-//! numbers of a load to `run_load`, whose contract tells its script, or those of a drive to
-//! `run_drive`, whose contract tells the two lines. What a drive or an audit says on standard error
-//! besides is for a person.
+//! This file is trusted: it has no contract. It hands the script's bytes to `run_script` or
+//! `explain_script`, whose contracts tell all that is answered; those of a file of commits to
+//! `run_serial`, whose contract tells the verdict, or with those of nine tables to
+//! `run_comparison`, whose contract tells what differs too; those of nine tables alone to
+//! `run_audit`, whose contract tells the report; the numbers of a load to `run_load`, whose
+//! contract tells its script; and those of a drive to `run_drive`, whose contract tells the two
+//! lines. What a drive or an audit says on standard error besides is for a person.
 ghost use Rattle.std.specs.Prelude.{None};
 
 use clap::Error;
 use clap::error::ErrorKind;
+use oe_comparison::{Fault as ComparisonFault, Verdict as ComparisonVerdict, run_comparison};
 use oe_drive::{Fault as DriveFault, Gate, Ran, run_drive};
+use oe_explain::{Explainer, explain_script};
 use oe_inspection::{Fault as AuditFault, Verdict as AuditVerdict, run_audit, write_faults};
 use oe_load::{Fault as LoadFault, Shortage as LoadShortage, run_load};
-use oe_loading::{Sources, Stop};
+use oe_loading::Sources;
 use oe_numbers::{DriveNumbers, Kinds};
 use oe_ports::ports::{Failed, Intake};
 use oe_ports::standard::{Printed, Standard};
+use oe_reading::{Format, Stop};
 use oe_rows::Table;
 use oe_script::script::run_script;
 use oe_script::session::Fault;
@@ -44,10 +48,19 @@ fn main(rt: HostRuntime) -> io::Result<ExitCode> {
     match job(rt.alloc(), words.as_slice()) {
         Ok(Task::Script) => answer(&rt, rt.reader()),
         Ok(Task::File(name)) => answer_file(&rt, name),
-        Ok(Task::Serial(name)) => answer_serial(&rt, name),
-        Ok(Task::Audit { directory, first }) => {
-            answer_audit(&rt, &rt.stderr(), directory, first)
-        }
+        Ok(Task::Explain(None)) => explain(&rt, &rt.stderr(), rt.reader()),
+        Ok(Task::Explain(Some(name))) => explain_file(&rt, &rt.stderr(), name),
+        Ok(Task::Serial { file, tables }) => match tables {
+            Some(folder) => answer_comparison(&rt, &rt.stderr(), file, folder),
+            None => answer_serial(&rt, file),
+        },
+        Ok(
+            Task::Audit {
+                directory,
+                first,
+                is_csv,
+            },
+        ) => answer_audit(&rt, &rt.stderr(), directory, first, format_of(is_csv)),
         Ok(
             Task::Load {
                 numbers,
@@ -128,18 +141,70 @@ fn answer<R: Print + Eprint + AllocGlobal, T: Read + Drop>(
     }
 }
 
+/// Answers a file on standard output, and says on standard error why lines are bad.
+fn explain_file<R: Files + Print + Eprint + AllocGlobal>(
+    rt: &R,
+    errors: &Stderr,
+    name: &str,
+) -> io::Result<ExitCode> {
+    match fs::open(rt, name) {
+        Ok(file) => explain(rt, errors, file),
+        Err(error) => {
+            eprintln!(rt; "error: {name} can't be opened: {error}")?;
+            Ok(ExitCode::FAILURE)
+        }
+    }
+}
+
+/// Answers what is read on standard output, and says on standard error why lines are bad.
+fn explain<R: Print + Eprint + AllocGlobal, T: Read + Drop>(
+    rt: &R,
+    errors: &Stderr,
+    input: T,
+) -> io::Result<ExitCode> {
+    let mut reader = Standard(input);
+    let mut writer = Printed::new(rt);
+    let mut explainer = Explainer::new(Printed::new(errors));
+    match explain_script(rt.alloc(), &mut reader, &mut writer, &mut explainer) {
+        Ok(()) => Ok(ExitCode::SUCCESS),
+        Err(Fault::Read) => fail(rt, "read"),
+        Err(Fault::Write) => fail(rt, write_fault(writer.is_closed())),
+    }
+}
+
+/// Reads a file of commits, or says why it can't be read and gives the status.
+fn read_commits<R: Files + Eprint + AllocGlobal>(
+    rt: &R,
+    name: &str,
+) -> io::Result<Result<Vec<u8>, ExitCode>> {
+    match fs::read(rt, name) {
+        Ok(input) => Ok(Ok(input)),
+        Err(error) if error.kind() == io::ErrorKind::OutOfMemory => {
+            Ok(Err(fail(rt, "no memory")?))
+        }
+        Err(error) => {
+            eprintln!(rt; "error: {name} can't be read: {error}")?;
+            Ok(Err(ExitCode::FAILURE))
+        }
+    }
+}
+
+/// Names what was wanting for a file of commits.
+fn shortage_name(shortage: Shortage) -> &'static str {
+    match shortage {
+        Shortage::NoMemory => "no memory",
+        Shortage::UndoFull => "no undo extents",
+    }
+}
+
 /// Tells whether the commits in a file are serial, on standard output.
 fn answer_serial<R: Files + Print + Eprint + AllocGlobal>(
     rt: &R,
     name: &str,
 ) -> io::Result<ExitCode> {
-    let input = match fs::read(rt, name) {
+    let input = match read_commits(rt, name)? {
         Ok(input) => input,
-        Err(error) if error.kind() == io::ErrorKind::OutOfMemory => return fail(rt, "no memory"),
-        Err(error) => {
-            eprintln!(rt; "error: {name} can't be read: {error}")?;
-            return Ok(ExitCode::FAILURE);
-        }
+        Err(status) => return Ok(status),
     };
     let mut writer = Printed::new(rt);
     match run_serial(rt.alloc(), input.as_slice(), &mut writer) {
@@ -149,8 +214,7 @@ fn answer_serial<R: Files + Print + Eprint + AllocGlobal>(
             }
             Ok(ExitCode::from(status(&verdict)))
         }
-        Err(SerialFault::Short(Shortage::NoMemory)) => fail(rt, "no memory"),
-        Err(SerialFault::Short(Shortage::UndoFull)) => fail(rt, "no undo extents"),
+        Err(SerialFault::Short(shortage)) => fail(rt, shortage_name(shortage)),
         Err(SerialFault::Write) => fail(rt, write_fault(writer.is_closed())),
     }
 }
@@ -328,12 +392,86 @@ fn file_of<S>(sources: &Sources<S>, table: Table) -> &S {
     }
 }
 
+/// Says why the files of tables were not read to their ends.
+fn tell_stop<R: Clock + Eprint, F: Read>(
+    rt: &R,
+    sources: &Sources<TableFile<'_, '_, R, F>>,
+    stop: Stop,
+) -> io::Result<ExitCode> {
+    let Stop::Read(table) = stop else {
+        return fail(rt, "no memory");
+    };
+    match &file_of(sources, table).failure {
+        Some(error) => tell_file(rt, table, error)?,
+        None => eprintln!(rt; "{}: can't be read", table.name())?,
+    }
+    Ok(ExitCode::from(2))
+}
+
+/// Tells which lines can't be read, of a file of commits or of tables.
+fn tell_unread<R: Eprint>(
+    rt: &R,
+    errors: &Stderr,
+    verdict: &ComparisonVerdict<'_>,
+) -> io::Result<()> {
+    match verdict {
+        ComparisonVerdict::Replies(Verdict::Unreadable(bad)) => tell_bad_lines(rt, bad)?,
+        ComparisonVerdict::Unreadable(faults) => {
+            let _told = write_faults(faults, &mut Printed::new(errors));
+        }
+        _ => {}
+    }
+    Ok(())
+}
+
+/// Tells whether the commits in a file are serial, and what differs between the tables that they
+/// leave and the nine files of a folder, on standard output.
+fn answer_comparison<R: Files + Clock + Print + Eprint + AllocGlobal>(
+    rt: &R,
+    errors: &Stderr,
+    name: &str,
+    folder: &str,
+) -> io::Result<ExitCode> {
+    let input = match read_commits(rt, name)? {
+        Ok(input) => input,
+        Err(status) => return Ok(status),
+    };
+    let pace = Pace {
+        rt,
+        begun: Instant::now(rt)?,
+        is_shown: errors.is_terminal(),
+        second_told: AtomicU64::new(0),
+    };
+    let mut sources = match open_tables(rt, folder, &pace) {
+        Ok(Some(sources)) => sources,
+        Ok(None) => return Ok(ExitCode::from(2)),
+        Err(error) if error.kind() == IoKind::OutOfMemory => return fail(rt, "no memory"),
+        Err(error) => return Err(error),
+    };
+    let mut writer = Printed::new(rt);
+    match run_comparison(rt.alloc(), input.as_slice(), &mut sources, &mut writer) {
+        Ok(verdict) => {
+            tell_unread(rt, errors, &verdict)?;
+            Ok(ExitCode::from(oe_comparison::status(&verdict)))
+        }
+        Err(ComparisonFault::Short(shortage)) => fail(rt, shortage_name(shortage)),
+        Err(ComparisonFault::Stopped(stop)) => tell_stop(rt, &sources, stop),
+        Err(ComparisonFault::Write) => fail(rt, write_fault(writer.is_closed())),
+    }
+}
+
+/// Gives the format of an audit's files.
+fn format_of(is_csv: bool) -> Format {
+    if is_csv { Format::Csv } else { Format::Dump }
+}
+
 /// Audits the nine files of a folder, and writes the report on standard output.
 fn answer_audit<R: Files + Clock + Print + Eprint + AllocGlobal>(
     rt: &R,
     errors: &Stderr,
     folder: &str,
     first: Option<u32>,
+    format: Format,
 ) -> io::Result<ExitCode> {
     let pace = Pace {
         rt,
@@ -348,21 +486,14 @@ fn answer_audit<R: Files + Clock + Print + Eprint + AllocGlobal>(
         Err(error) => return Err(error),
     };
     let mut writer = Printed::new(rt);
-    match run_audit(rt.alloc(), &mut sources, first, &mut writer) {
+    match run_audit(rt.alloc(), format, &mut sources, first, &mut writer) {
         Ok(verdict) => {
             if let AuditVerdict::Unreadable(faults) = &verdict {
                 let _told = write_faults(faults, &mut Printed::new(errors));
             }
             Ok(ExitCode::from(oe_inspection::status(&verdict)))
         }
-        Err(AuditFault::Stopped(Stop::NoMemory)) => fail(rt, "no memory"),
-        Err(AuditFault::Stopped(Stop::Read(table))) => {
-            match &file_of(&sources, table).failure {
-                Some(error) => tell_file(rt, table, error)?,
-                None => eprintln!(rt; "{}: can't be read", table.name())?,
-            }
-            Ok(ExitCode::from(2))
-        }
+        Err(AuditFault::Stopped(stop)) => tell_stop(rt, &sources, stop),
         Err(AuditFault::Write) => fail(rt, write_fault(writer.is_closed())),
     }
 }

@@ -1,15 +1,15 @@
 -- Words in their order.
 use Rattle.std.proofs.Common.{◌≡◌, ◌==◌, ℕ, ◌-◌, ◌≤◌, false, List, [], ◌∷◌, length, take, drop, map, get_or}
 use Rattle.std.proofs.Common.{slice_index, codes, Bor, refl, sym, ap, subst, ◌∙◌, inl, inr, arith}
-use Rattle.std.proofs.Common.{Bool, Option}
+use Rattle.std.proofs.Common.{Bool, Option, None, Some}
 use Rattle.std.proofs.lemmas.Bool.{eq-eqb, both_ways}
 use Rattle.std.proofs.lemmas.List.{take_all}
 use Rattle.std.proofs.Common.{◌++◌}
 use Rattle.std.proofs.lemmas.List.{length-drop, take-append-drop, map-append}
 use Rattle.std.specs.Fmt.{decimal}
 use Rattle.oe_numbers.specs.declared.kinds.Kinds.{Kinds}
-use Rattle.oe_tasks.specs.Words.{AsksScript, AsksSerial, AsksDrive, AsksAudit, NamesFile, IsPlain, IsFirst, first_words}
-use Rattle.oe_tasks.specs.Words.{AsksLoad, AreLoadOptions}
+use Rattle.oe_tasks.specs.Words.{AsksScript, AsksExplain, AsksSerial, AsksDrive, AsksAudit, NamesFile, NamesTables}
+use Rattle.oe_tasks.specs.Words.{IsPlain, AreAuditOptions, AsksLoad, AreLoadOptions}
 use Rattle.oe_tasks.specs.declared.Task.{Task}
 use Rattle.oe_numbers.specs.declared.drives.DriveNumbers.{DriveNumbers}
 use Rattle.oe_numbers.specs.Words.{AreInRange, words_of}
@@ -53,10 +53,36 @@ named f (x ∷ y ∷ r) b name h i e n = (ap f (sym i) ∙ e, n)
 
 pub serial : {X : Type 0} (f : X → List ℕ) (ws : List X) (b : X) (name : Bor (List ℕ)) → 2 ≤ length ws
     → b ≡ get_or ws 1 b → f b ≡ codes "serial" → NamesFile (map f ws) name.now
-    → AsksSerial (map f ws) (task.Serial name)
+    → AsksSerial (map f ws) (task.Serial name None)
 serial f [] b name h i e n = absurd (omega (arith, h))
 serial f (x ∷ []) b name h i e n = absurd (omega (arith, h))
 serial f (x ∷ y ∷ r) b name h i e n = (ap f (sym i) ∙ e, n)
+
+-- with a directory of tables
+pub with_tables : {X : Type 0} (f : X → List ℕ) (ws : List X) (b : X) (file directory : Bor (List ℕ)) → 2 ≤ length ws
+    → b ≡ get_or ws 1 b → f b ≡ codes "serial" → NamesTables (map f ws) file.now directory.now
+    → AsksSerial (map f ws) (task.Serial file (Some directory))
+with_tables f [] b file directory h i e n = absurd (omega (arith, h))
+with_tables f (x ∷ []) b file directory h i e n = absurd (omega (arith, h))
+with_tables f (x ∷ y ∷ r) b file directory h i e n = (ap f (sym i) ∙ e, n)
+
+pub five : {X : Type 0} (f : X → List ℕ) (ws : List X) (b c d : X) (file directory : Bor (List ℕ)) → length ws ≡ 5
+    → b ≡ get_or ws 2 b → file.now ≡ f b → c ≡ get_or ws 3 c → f c ≡ codes "--tables" → d ≡ get_or ws 4 d
+    → directory.now ≡ f d → IsPlain file.now → IsPlain directory.now
+    → NamesTables (map f ws) file.now directory.now
+five f [] b c d file directory h i n j m k o p q = absurd (omega (arith, h))
+five f (x ∷ []) b c d file directory h i n j m k o p q = absurd (omega (arith, h))
+five f (x ∷ y ∷ []) b c d file directory h i n j m k o p q = absurd (omega (arith, h))
+five f (x ∷ y ∷ z ∷ []) b c d file directory h i n j m k o p q = absurd (omega (arith, h))
+five f (x ∷ y ∷ z ∷ w ∷ []) b c d file directory h i n j m k o p q = absurd (omega (arith, h))
+five f (x ∷ y ∷ z ∷ w ∷ v ∷ []) b c d file directory h i n j m k o p q = (
+  ap (λ t. t ∷ f w ∷ f v ∷ []) (ap f (sym i) ∙ sym n)
+      ∙ (ap (λ t. file.now ∷ t ∷ f v ∷ []) (ap f (sym j) ∙ m)
+      ∙ ap (λ t. file.now ∷ codes "--tables" ∷ t ∷ []) (ap f (sym k) ∙ sym o)),
+  p,
+  q,
+)
+five f (x ∷ y ∷ z ∷ w ∷ v ∷ u ∷ r) b c d file directory h i n j m k o p q = absurd (omega (arith, h))
 
 -- and no name behind it
 pub no_script : {X : Type 0} (f : X → List ℕ) (ws : List X) → (length ws ≡ 2 → ⊥)
@@ -66,21 +92,70 @@ no_script f (x ∷ []) h n t a = a
 no_script f (x ∷ y ∷ []) h n task.Script a = h refl
 no_script f (x ∷ y ∷ z ∷ r) h n task.Script a = cc
 no_script f (x ∷ y ∷ r) h n (task.File name) a = n name.now a.1
-no_script f (x ∷ y ∷ r) h n (task.Serial name) a = a
+no_script f (x ∷ y ∷ r) h n (task.Explain name) a = a
+no_script f (x ∷ y ∷ r) h n (task.Serial name tables) a = a
 no_script f (x ∷ y ∷ r) h n (task.Drive d) a = a
-no_script f (x ∷ y ∷ r) h n (task.Audit name first) a = a
+no_script f (x ∷ y ∷ r) h n (task.Audit name first csv) a = a
 no_script f (x ∷ y ∷ r) h n (task.Load d kinds flat) a = a
 
 pub no_serial : {X : Type 0} (f : X → List ℕ) (ws : List X) → ((file : List ℕ) → NamesFile (map f ws) file → ⊥)
+    → ((file directory : List ℕ) → NamesTables (map f ws) file directory → ⊥)
     → (t : Task) → AsksSerial (map f ws) t → ⊥
-no_serial f [] n t a = a
-no_serial f (x ∷ []) n t a = a
-no_serial f (x ∷ y ∷ r) n task.Script a = a
-no_serial f (x ∷ y ∷ r) n (task.File name) a = a
-no_serial f (x ∷ y ∷ r) n (task.Serial name) a = n name.now a.1
-no_serial f (x ∷ y ∷ r) n (task.Drive d) a = a
-no_serial f (x ∷ y ∷ r) n (task.Audit name first) a = a
-no_serial f (x ∷ y ∷ r) n (task.Load d kinds flat) a = a
+no_serial f [] n m t a = a
+no_serial f (x ∷ []) n m t a = a
+no_serial f (x ∷ y ∷ r) n m task.Script a = a
+no_serial f (x ∷ y ∷ r) n m (task.File name) a = a
+no_serial f (x ∷ y ∷ r) n m (task.Explain name) a = a
+no_serial f (x ∷ y ∷ r) n m (task.Serial name None) a = n name.now a.1
+no_serial f (x ∷ y ∷ r) n m (task.Serial name (Some directory)) a = m name.now directory.now a.1
+no_serial f (x ∷ y ∷ r) n m (task.Drive d) a = a
+no_serial f (x ∷ y ∷ r) n m (task.Audit name first csv) a = a
+no_serial f (x ∷ y ∷ r) n m (task.Load d kinds flat) a = a
+
+-- the mark behind the verb, and a file's name behind it or none
+pub explains : {X : Type 0} (f : X → List ℕ) (ws : List X) (b d : X) → length ws ≡ 3 → b ≡ get_or ws 1 b
+    → f b ≡ codes "script" → d ≡ get_or ws 2 d → f d ≡ codes "--explain" → AsksExplain (map f ws) (task.Explain None)
+explains f [] b d h i e j k = absurd (omega (arith, h))
+explains f (x ∷ []) b d h i e j k = absurd (omega (arith, h))
+explains f (x ∷ y ∷ []) b d h i e j k = absurd (omega (arith, h))
+explains f (x ∷ y ∷ z ∷ []) b d h i e j k = (ap f (sym i) ∙ e, ap f (sym j) ∙ k, refl)
+explains f (x ∷ y ∷ z ∷ w ∷ r) b d h i e j k = absurd (omega (arith, h))
+
+-- the words from the verb on
+from_verb : {X : Type 0} (ws : List X) → 1 ≤ length ws → take (length ws - 1) (drop 1 ws) ≡ drop 1 ws
+from_verb [] h = absurd (omega (arith, h))
+from_verb (x ∷ r) h = take_all (length (x ∷ r) - 1) r (omega arith)
+
+pub explains_file : {X : Type 0} (f : X → List ℕ) (ws : List X) (b d : X) (name : Bor (List ℕ)) → 3 ≤ length ws
+    → b ≡ get_or ws 1 b → f b ≡ codes "script" → d ≡ get_or ws 2 d → f d ≡ codes "--explain"
+    → NamesFile (map f (take (length ws - 1) (drop 1 ws))) name.now
+    → AsksExplain (map f ws) (task.Explain (Some name))
+explains_file f [] b d name h i e j k n = absurd (omega (arith, h))
+explains_file f (x ∷ []) b d name h i e j k n = absurd (omega (arith, h))
+explains_file f (x ∷ y ∷ []) b d name h i e j k n = absurd (omega (arith, h))
+explains_file {X = X} f (x ∷ y ∷ z ∷ r) b d name h i e j k n = (
+  ap f (sym i) ∙ e,
+  ap f (sym j) ∙ k,
+  subst (λ (ts : List X). NamesFile (map f ts) name.now) (from_verb (x ∷ y ∷ z ∷ r) (omega arith)) n,
+)
+
+pub no_explain : {X : Type 0} (f : X → List ℕ) (ws : List X) → (length ws ≡ 3 → ⊥)
+    → ((file : List ℕ) → NamesFile (map f (take (length ws - 1) (drop 1 ws))) file → ⊥) → (t : Task)
+    → AsksExplain (map f ws) t → ⊥
+no_explain f [] h n t a = a
+no_explain f (x ∷ []) h n t a = a
+no_explain f (x ∷ y ∷ []) h n t a = a
+no_explain f (x ∷ y ∷ z ∷ []) h n (task.Explain None) a = h refl
+no_explain f (x ∷ y ∷ z ∷ w ∷ r) h n (task.Explain None) a = let words = a.2 in cc
+no_explain {X = X} f (x ∷ y ∷ z ∷ r) h n (task.Explain (Some name)) a =
+    n name.now (subst (λ (ts : List X). NamesFile (map f ts) name.now)
+    (sym (from_verb (x ∷ y ∷ z ∷ r) (omega arith))) a.2)
+no_explain f (x ∷ y ∷ z ∷ r) h n task.Script a = a
+no_explain f (x ∷ y ∷ z ∷ r) h n (task.File name) a = a
+no_explain f (x ∷ y ∷ z ∷ r) h n (task.Serial name tables) a = a
+no_explain f (x ∷ y ∷ z ∷ r) h n (task.Drive d) a = a
+no_explain f (x ∷ y ∷ z ∷ r) h n (task.Audit name first csv) a = a
+no_explain f (x ∷ y ∷ z ∷ r) h n (task.Load d kinds flat) a = a
 
 pub drives : {X : Type 0} (f : X → List ℕ) (ws : List X) (b : X) (d : DriveNumbers) → 2 ≤ length ws → b ≡ get_or ws 1 b
     → f b ≡ codes "drive" → AreInRange d
@@ -91,22 +166,37 @@ drives f (x ∷ y ∷ r) b d h i e ranges words =
     let whole : take (length (x ∷ y ∷ r) - 2) r ≡ r = take_all (length (x ∷ y ∷ r) - 2) r (omega arith) in
     (ap f (sym i) ∙ e, ranges, ap (map f) (sym whole) ∙ words)
 
-pub audits : {X : Type 0} (f : X → List ℕ) (ws : List X) (b d : X) (name : Bor (List ℕ)) (first : Option ℕ)
+pub audits : {X : Type 0} (f : X → List ℕ) (ws : List X) (b d : X) (name : Bor (List ℕ)) (first : Option ℕ) (csv : Bool)
     → 3 ≤ length ws → b ≡ get_or ws 1 b → f b ≡ codes "audit" → d ≡ get_or ws 2 d → name.now ≡ f d → IsPlain name.now
-    → map f (take (length ws - 3) (drop 3 ws)) ≡ first_words first → IsFirst first
-    → AsksAudit (map f ws) (task.Audit name first)
-audits f [] b d name first h i e j n p words few = absurd (omega (arith, h))
-audits f (x ∷ []) b d name first h i e j n p words few = absurd (omega (arith, h))
-audits f (x ∷ y ∷ []) b d name first h i e j n p words few = absurd (omega (arith, h))
-audits f (x ∷ y ∷ z ∷ r) b d name first h i e j n p words few =
+    → AreAuditOptions (map f (take (length ws - 3) (drop 3 ws))) first csv
+    → AsksAudit (map f ws) (task.Audit name first csv)
+audits f [] b d name first csv h i e j n p options = absurd (omega (arith, h))
+audits f (x ∷ []) b d name first csv h i e j n p options = absurd (omega (arith, h))
+audits f (x ∷ y ∷ []) b d name first csv h i e j n p options = absurd (omega (arith, h))
+audits {X = X} f (x ∷ y ∷ z ∷ r) b d name first csv h i e j n p options =
     let whole : take (length (x ∷ y ∷ z ∷ r) - 3) r ≡ r = take_all (length (x ∷ y ∷ z ∷ r) - 3) r (omega arith) in
     let named : name.now ≡ f z = n ∙ ap f j in (
       ap f (sym i) ∙ e,
       sym named,
       λ q. p (ap (λ t. slice_index t 0) named ∙ q),
-      sym (ap (map f) whole) ∙ words,
-      few,
+      subst (λ (ts : List X). AreAuditOptions (map f ts) first csv) whole options,
     )
+
+pub no_audit : {X : Type 0} (f : X → List ℕ) (ws : List X)
+    → ((first : Option ℕ) (csv : Bool) → AreAuditOptions (map f (take (length ws - 3) (drop 3 ws))) first csv → ⊥)
+    → (t : Task) → AsksAudit (map f ws) t → ⊥
+no_audit f [] n t a = a
+no_audit f (x ∷ []) n t a = a
+no_audit f (x ∷ y ∷ []) n t a = a
+no_audit f (x ∷ y ∷ z ∷ r) n task.Script a = a
+no_audit f (x ∷ y ∷ z ∷ r) n (task.File name) a = a
+no_audit f (x ∷ y ∷ z ∷ r) n (task.Explain name) a = a
+no_audit f (x ∷ y ∷ z ∷ r) n (task.Serial name tables) a = a
+no_audit f (x ∷ y ∷ z ∷ r) n (task.Drive d) a = a
+no_audit {X = X} f (x ∷ y ∷ z ∷ r) n (task.Audit name first csv) a =
+    let whole : take (length (x ∷ y ∷ z ∷ r) - 3) r ≡ r = take_all (length (x ∷ y ∷ z ∷ r) - 3) r (omega arith) in
+    n first csv (subst (λ (ts : List X). AreAuditOptions (map f ts) first csv) (sym whole) a.3)
+no_audit f (x ∷ y ∷ z ∷ r) n (task.Load d kinds flat) a = a
 
 -- LOADS
 
@@ -166,9 +256,10 @@ no_load f [] n t a = a
 no_load f (x ∷ []) n t a = a
 no_load f (x ∷ y ∷ r) n task.Script a = a
 no_load f (x ∷ y ∷ r) n (task.File name) a = a
-no_load f (x ∷ y ∷ r) n (task.Serial name) a = a
+no_load f (x ∷ y ∷ r) n (task.Explain name) a = a
+no_load f (x ∷ y ∷ r) n (task.Serial name tables) a = a
 no_load f (x ∷ y ∷ r) n (task.Drive d) a = a
-no_load f (x ∷ y ∷ r) n (task.Audit name first) a = a
+no_load f (x ∷ y ∷ r) n (task.Audit name first csv) a = a
 no_load f (x ∷ y ∷ r) n (task.Load d kinds flat) a = n kinds flat (load_parts f (x ∷ y ∷ r) d kinds flat a).3
 
 pub single : {X : Type 0} (f : X → List ℕ) (ws : List X) (b : X) → length ws ≡ 1 → b ≡ get_or ws 0 b

@@ -27,9 +27,25 @@ AsksScript (program ∷ verb ∷ rest) task.Script = (verb ≡ codes "script") �
 AsksScript (program ∷ verb ∷ rest) (task.File file) = (verb ≡ codes "script") × Names rest file.now
 AsksScript words task = ⊥
 
--- the program's name, `serial`, and a file
+-- the program's name, `script`, `--explain`, and no more for standard input, or a file
+abbrev pub AsksExplain : List (List ℕ) → Task → Type 0
+AsksExplain (program ∷ verb ∷ mark ∷ rest) (task.Explain None) =
+    (verb ≡ codes "script") × (mark ≡ codes "--explain") × (rest ≡ [])
+AsksExplain (program ∷ verb ∷ mark ∷ rest) (task.Explain (Some file)) =
+    (verb ≡ codes "script") × (mark ≡ codes "--explain") × Names rest file.now
+AsksExplain words task = ⊥
+
+-- the words behind a verb name a file, and behind `--tables` a directory
+abbrev pub NamesTables : List (List ℕ) → List ℕ → List ℕ → Type 0
+NamesTables (program ∷ verb ∷ rest) file directory =
+    (rest ≡ file ∷ codes "--tables" ∷ directory ∷ []) × IsPlain file × IsPlain directory
+NamesTables words file directory = ⊥
+
+-- the program's name, `serial`, and a file, or a file and a directory of tables
 abbrev pub AsksSerial : List (List ℕ) → Task → Type 0
-AsksSerial (program ∷ verb ∷ rest) (task.Serial file) = (verb ≡ codes "serial") × Names rest file.now
+AsksSerial (program ∷ verb ∷ rest) (task.Serial file None) = (verb ≡ codes "serial") × Names rest file.now
+AsksSerial (program ∷ verb ∷ rest) (task.Serial file (Some directory)) =
+    (verb ≡ codes "serial") × NamesTables (program ∷ verb ∷ rest) file.now directory.now
 AsksSerial words task = ⊥
 
 -- the program's name, `drive`, and its seven numbers in order, each in its range
@@ -47,10 +63,20 @@ abbrev pub IsFirst : Option ℕ → Type 0
 IsFirst None = Unit {0}
 IsFirst (Some n) = IsInRange 1 4_294_967_295 n
 
--- the program's name, `audit`, a directory that is not taken for an option, and how many findings are shown
+-- the word that says that files are comma-separated values, if they are
+abbrev pub csv_words : Bool → List (List ℕ)
+csv_words true = codes "--csv" ∷ []
+csv_words false = []
+
+-- the words say both, in either order
+abbrev pub AreAuditOptions : List (List ℕ) → Option ℕ → Bool → Type 0
+AreAuditOptions words first csv = IsFirst first
+    × ((words ≡ csv_words csv ++ first_words first) ⊎ (words ≡ first_words first ++ csv_words csv))
+
+-- the program's name, `audit`, a directory that is not taken for an option, and the options
 abbrev pub AsksAudit : List (List ℕ) → Task → Type 0
-AsksAudit (program ∷ verb ∷ name ∷ rest) (task.Audit directory first) =
-    (verb ≡ codes "audit") × (name ≡ directory.now) × IsPlain name × (rest ≡ first_words first) × IsFirst first
+AsksAudit (program ∷ verb ∷ name ∷ rest) (task.Audit directory first csv) =
+    (verb ≡ codes "audit") × (name ≡ directory.now) × IsPlain name × AreAuditOptions rest first csv
 AsksAudit words task = ⊥
 
 -- the words that name kinds of transactions, if any, and that say that requests alone are printed
@@ -80,4 +106,4 @@ AsksLoad words task = ⊥
 
 abbrev pub Asks : List (List ℕ) → Task → Type 0
 Asks words task = AsksScript words task ⊎ AsksSerial words task ⊎ AsksDrive words task ⊎ AsksAudit words task
-    ⊎ AsksLoad words task
+    ⊎ AsksLoad words task ⊎ AsksExplain words task

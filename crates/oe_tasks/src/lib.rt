@@ -5,7 +5,8 @@ ghost use Rattle.std.specs.Prelude.{IsFalse, codes, map, slice_index, MatchOptio
 ghost use Rattle.oe_numbers.specs.Kinds.{Names as NamesKinds};
 ghost use Rattle.oe_numbers.specs.declared.kinds.Kinds.{Kinds};
 ghost use Rattle.oe_tasks.specs.Words.{Asks, AsksScript, AsksSerial, AsksDrive, AsksAudit, AsksLoad};
-ghost use Rattle.oe_tasks.specs.Words.{NamesFile, IsFirst, first_words, AreLoadOptions};
+ghost use Rattle.oe_tasks.specs.Words.{AsksExplain, NamesFile, NamesTables, IsFirst, first_words};
+ghost use Rattle.oe_tasks.specs.Words.{AreAuditOptions, AreLoadOptions};
 ghost use Rattle.oe_tasks.specs.declared.Task.{Task};
 
 use clap::error::ErrorKind;
@@ -22,15 +23,23 @@ pub enum Task<'a> {
     Script,
     /// To answer the script in the file of that name.
     File(&'a str),
-    /// To decide whether the commits in the file of that name are serial.
-    Serial(&'a str),
+    /// To answer the script in the file of that name, or on standard input, and to say why lines
+    /// are answered `BadLine`.
+    Explain(Option<&'a str>),
+    /// To decide whether the commits in a file are serial, and to compare the tables that they
+    /// leave with the files of a directory, where one is named.
+    Serial {
+        file: &'a str,
+        tables: Option<&'a str>,
+    },
     /// To run terminals in threads of their own.
     Drive(DriveNumbers),
-    /// To audit the tables in the files of a directory, and to show the first findings of each
-    /// condition, or all.
+    /// To audit the tables in the files of a directory, which are dumps or comma-separated values, and
+    /// to show the first findings of each condition, or all.
     Audit {
         directory: &'a str,
         first: Option<u32>,
+        is_csv: bool,
     },
     /// To print a load, as a script or flat, of these kinds of transactions, or of all where none
     /// is named.
@@ -39,6 +48,13 @@ pub enum Task<'a> {
         kinds: Kinds,
         is_flat: bool,
     },
+}
+
+/// The options of an audit.
+#[derive(Clone, Copy)]
+struct AuditOptions {
+    first: Option<u32>,
+    is_csv: bool,
 }
 
 /// The options of a load.
@@ -66,11 +82,11 @@ const LOAD: &str = "Prints a load of terminals' requests, as a script or one req
 const LOAD_WORDS: &str = "the seven numbers come first, --kinds and --flat behind them; \
 a kind is neworder, payment, status, delivery or level";
 
-const USAGE: &str = "oe_server script < FILE
-       oe_server script FILE
-       oe_server serial FILE
+const USAGE: &str = "oe_server script [--explain] < FILE
+       oe_server script [--explain] FILE
+       oe_server serial FILE [--tables DIR]
        oe_server drive W C I E T N SEED
-       oe_server audit DIR [--first N]
+       oe_server audit DIR [--csv] [--first N]
        oe_server load W C I E T N SEED [--kinds KIND,..] [--flat]
        oe_server --help | --version";
 
@@ -133,7 +149,7 @@ to 64. What stands behind the colon is the answer:
 A step that is refused is answered error NUMBER CAUSE. It changes nothing, but that at a
 stage Overflow, NoCustomer and an item that is not valid roll the transaction back;
 the next line is answered as ever. Any other line is answered error 1 BadLine and its
-number from 1.
+number from 1. With --explain a line on standard error says why: line NUMBER: REASON.
 
 A drive has W warehouses, C customers in each district, I items and E undo extents, as a
 script's open; T terminals (1 to 63) send N requests each (1 to 1000), which SEED
@@ -150,12 +166,20 @@ begin T, then \" => \", and the reply as behind commit MOMENT. It writes one lin
   line N: \"REPLY\", in this order \"REPLY\"
                      the first line whose transaction replies otherwise, or is refused
 or, on standard error, which lines have no form (line N: no request and reply).
+Where they are serial and --tables names a directory, it reads the nine files of DIR as an
+audit does, and compares their rows with the tables that these transactions leave. It writes a
+line for each table that differs, of the first row that does, and how many tables differ:
+  KEY: no such row in the file, or KEY: no such row in this order
+  KEY: COLUMN VALUE, in this order VALUE
+  history COLUMNS: more often in the file, or more often in this order
+  same 9 of 9 tables, or differs in COUNT of 9 tables
 
 An audit reads the files warehouse, district, customer, history, neworder, order, orderline,
-item and stock of DIR: a line for each row, its columns as dump shows them. It tells how many
-rows it read, which rows refer to rows that are not there, and of each condition that it
-holds, or each row at which it fails, with the figures that differ, or the first N such rows
-(1 to 4294967295) and how many more there are:
+item and stock of DIR: a line for each row, its columns as dump shows them. With --csv these are
+comma-separated values: a field may stand in quotes, an empty field of a column that may be null
+is null, and the first line may be a heading. It tells how many rows it read, which rows refer to
+rows that are not there, and of each condition that it holds, or each row at which it fails, with
+the figures that differ, or the first N such rows (1 to 4294967295) and how many more there are:
   condition N holds, or condition N fails KEY: FIGURES, or condition N fails at COUNT more
   holds 11 of 11 conditions, or fails COUNT of 11 conditions, and how many rows are set apart
 
@@ -166,12 +190,12 @@ answered no error but Busy: a cycle of waits ends by a rollback, and purge now m
 With --flat it writes the opening, and for each request a line T REQUEST.
 
 The status is 0 at the end of a script's input, whatever the answers, for a file of commits
-that is serial, for a drive whose conditions hold and whose population is restored, for an
-audit that finds nothing, and for a load that is written whole; 1 for any other file of
-commits, drive, audit or load, after a fault, which standard error names (fault: read, fault:
-write, fault: output closed, fault: no memory, fault: no undo extents), and for a FILE that
-can't be opened; and 2 where the command line is none of these, a line of a file of commits
-has no form, or a file of an audit can't be read.
+that is serial and whose tables are the same, for a drive whose conditions hold and whose
+population is restored, for an audit that finds nothing, and for a load that is written whole;
+1 for any other file of commits, drive, audit or load, after a fault, which standard error
+names (fault: read, fault: write, fault: output closed, fault: no memory, fault: no undo
+extents), and for a FILE that can't be opened; and 2 where the command line is none of these,
+a line of a file of commits has no form, or a file of tables can't be read.
 docs/SCRIPTS.md is the manual: stages, locks, refusals and columns; examples/ has scripts.";
 
 /// Finds what these words ask for; the first is the program's name.
@@ -195,6 +219,9 @@ fn asked<'a, S: AsStr>(words: &'a [S]) -> Option<Task<'a>>
         (Asks (map S.text words.now)) }
 {
     if let Some(task) = script_of(words) {
+        return Some(task);
+    }
+    if let Some(task) = explain_of(words) {
         return Some(task);
     }
     if let Some(task) = serial_of(words) {
@@ -227,7 +254,25 @@ fn script_of<'a, S: AsStr>(words: &'a [S]) -> Option<Task<'a>>
     }
 }
 
-// Finds the file of commits that these words ask for.
+// Finds the script that these words ask for, where they ask why lines are bad.
+fn explain_of<'a, S: AsStr>(words: &'a [S]) -> Option<Task<'a>>
+    ensures { MatchOption result
+        ((task : Task) → AsksExplain (map S.text words.now) task → ⊥)
+        (AsksExplain (map S.text words.now)) }
+{
+    if words.len() < 3 || words[1].as_str() != "script" || words[2].as_str() != "--explain" {
+        return None;
+    }
+    if words.len() == 3 {
+        return Some(Task::Explain(None));
+    }
+    match file_of(&words[1..]) {
+        Some(name) => Some(Task::Explain(Some(name))),
+        None => None,
+    }
+}
+
+// Finds the file of commits that these words ask for, with the directory of tables, if any.
 fn serial_of<'a, S: AsStr>(words: &'a [S]) -> Option<Task<'a>>
     ensures { MatchOption result
         ((task : Task) → AsksSerial (map S.text words.now) task → ⊥)
@@ -236,10 +281,36 @@ fn serial_of<'a, S: AsStr>(words: &'a [S]) -> Option<Task<'a>>
     if words.len() < 2 || words[1].as_str() != "serial" {
         return None;
     }
-    match file_of(words) {
-        Some(name) => Some(Task::Serial(name)),
+    if let Some(file) = file_of(words) {
+        return Some(Task::Serial { file, tables: None });
+    }
+    match tables_of(words) {
+        Some((file, directory)) => Some(Task::Serial {
+            file,
+            tables: Some(directory),
+        }),
         None => None,
     }
+}
+
+// Finds the file and the directory of tables that the words behind a verb name.
+fn tables_of<'a, S: AsStr>(words: &'a [S]) -> Option<(&'a str, &'a str)>
+    ensures { MatchOption result
+        ((file directory : List ℕ) → NamesTables (map S.text words.now) file directory → ⊥)
+        (λ p. NamesTables (map S.text words.now) p.0.now p.1.now) }
+{
+    if words.len() != 5 || words[3].as_str() != "--tables" {
+        return None;
+    }
+    let file = words[2].as_str();
+    if is_option(file) {
+        return None;
+    }
+    let directory = words[4].as_str();
+    if is_option(directory) {
+        return None;
+    }
+    Some((file, directory))
 }
 
 // Finds the file that the words behind a verb name.
@@ -295,25 +366,73 @@ fn audit_of<'a, S: AsStr>(words: &'a [S]) -> Option<Task<'a>>
     if is_option(directory) {
         return None;
     }
-    match shown_of(&words[3..]) {
-        Some(first) => Some(Task::Audit { directory, first }),
+    match audit_options_of(&words[3..]) {
+        Some(options) => Some(Task::Audit {
+            directory,
+            first: options.first,
+            is_csv: options.is_csv,
+        }),
         None => None,
     }
 }
 
-// Finds how many findings these words say are shown.
-fn shown_of<S: AsStr>(words: &[S]) -> Option<Option<u32>>
+// Finds the options of an audit that these words say.
+fn audit_options_of<S: AsStr>(words: &[S]) -> Option<AuditOptions>
     ensures { MatchOption result
-        ((first : Option ℕ) → IsFirst first → map S.text words.now ≢ first_words first)
-        (λ first. (map S.text words.now ≡ first_words first) × IsFirst first) }
+        ((first : Option ℕ) (csv : Bool) → AreAuditOptions (map S.text words.now) first csv → ⊥)
+        (λ o. AreAuditOptions (map S.text words.now) o.first o.is_csv) }
 {
     match words.len() {
-        0 => Some(None),
+        0 => Some(AuditOptions {
+            first: None,
+            is_csv: false,
+        }),
+        1 => {
+            if words[0].as_str() != "--csv" {
+                return None;
+            }
+            Some(AuditOptions {
+                first: None,
+                is_csv: true,
+            })
+        }
         2 => match first_of(words[0].as_str(), words[1].as_str()) {
-            Some(first) => Some(Some(first)),
+            Some(first) => Some(AuditOptions {
+                first: Some(first),
+                is_csv: false,
+            }),
             None => None,
         },
+        3 => csv_first_of(words[0].as_str(), words[1].as_str(), words[2].as_str()),
         _ => None,
+    }
+}
+
+// Finds both options of an audit in three words.
+fn csv_first_of(head: &str, middle: &str, last: &str) -> Option<AuditOptions>
+    ensures { MatchOption result
+        ((first : Option ℕ) (csv : Bool)
+        → AreAuditOptions (head.now ∷ middle.now ∷ last.now ∷ []) first csv → ⊥)
+        (λ o. AreAuditOptions (head.now ∷ middle.now ∷ last.now ∷ []) o.first o.is_csv) }
+{
+    if head == "--csv" {
+        return match first_of(middle, last) {
+            Some(first) => Some(AuditOptions {
+                first: Some(first),
+                is_csv: true,
+            }),
+            None => None,
+        };
+    }
+    if last != "--csv" {
+        return None;
+    }
+    match first_of(head, middle) {
+        Some(first) => Some(AuditOptions {
+            first: Some(first),
+            is_csv: true,
+        }),
+        None => None,
     }
 }
 
@@ -466,30 +585,45 @@ fn what_else<S: AsStr>(words: &[S]) -> &'static str {
     if words.len() > 1 && words[1].as_str() == "load" {
         return LOAD_WORDS;
     }
+    if words.len() > 3 && words[1].as_str() == "script" {
+        return "--explain comes right behind script, and then FILE";
+    }
     if words.len() > 1 && words[1].as_str() == "audit" {
-        return "DIR comes first, --first N behind it; N is digits alone, from 1 on";
+        return "DIR comes first, --csv and --first N behind it; N is digits alone, from 1 on";
+    }
+    if words.len() > 3 && words[1].as_str() == "serial" {
+        return "FILE comes first, --tables DIR behind it";
     }
     "FILE is missing"
 }
 
 /// Makes the command line's grammar.
 fn grammar<'a>(alloc: Global) -> Result<Command<'a>, Error> {
-    let script = Command::new(alloc, "script")
-        .about(SCRIPT)
-        .override_usage(USAGE)
-        .after_help(FORMS)
-        .arg(Arg::new(alloc, "FILE").help("The script; standard input where it is left out"))?;
     let command = Command::new(alloc, "oe_server")
         .about(ABOUT)
         .version(VERSION)
         .override_usage(USAGE)
         .after_help(FORMS)
         .subcommand_required(true)
-        .subcommand(script)?
+        .subcommand(script_grammar(alloc)?)?
         .subcommand(serial_grammar(alloc)?)?
         .subcommand(drive_grammar(alloc)?)?
         .subcommand(audit_grammar(alloc)?)?
         .subcommand(load_grammar(alloc)?)?;
+    Ok(command)
+}
+
+/// Makes the grammar of a script.
+fn script_grammar<'a>(alloc: Global) -> Result<Command<'a>, Error> {
+    let explain = Arg::new(alloc, "explain")
+        .long("explain")
+        .action(ArgAction::SetTrue);
+    let command = Command::new(alloc, "script")
+        .about(SCRIPT)
+        .override_usage(USAGE)
+        .after_help(FORMS)
+        .arg(explain.help("Says on standard error why lines are answered BadLine"))?
+        .arg(Arg::new(alloc, "FILE").help("The script; standard input where it is left out"))?;
     Ok(command)
 }
 
@@ -499,7 +633,12 @@ fn serial_grammar<'a>(alloc: Global) -> Result<Command<'a>, Error> {
         .about(SERIAL)
         .override_usage(USAGE)
         .after_help(FORMS)
-        .arg(Arg::new(alloc, "FILE").help("An opening, and a line for each commit"))?;
+        .arg(Arg::new(alloc, "FILE").help("An opening, and a line for each commit"))?
+        .arg(
+            Arg::new(alloc, "DIR")
+                .long("tables")
+                .help("Compares the tables with the nine files of a directory"),
+        )?;
     Ok(command)
 }
 
@@ -546,6 +685,9 @@ fn audit_grammar<'a>(alloc: Global) -> Result<Command<'a>, Error> {
     let first = Arg::new(alloc, "N")
         .long("first")
         .value_parser(value_parser!(u32).range(1..=4_294_967_295));
+    let csv = Arg::new(alloc, "csv")
+        .long("csv")
+        .action(ArgAction::SetTrue);
     let command = Command::new(alloc, "audit")
         .about(AUDIT)
         .override_usage(USAGE)
@@ -555,6 +697,7 @@ fn audit_grammar<'a>(alloc: Global) -> Result<Command<'a>, Error> {
                 .required(true)
                 .help("The directory of the nine files"),
         )?
+        .arg(csv.help("Reads comma-separated values"))?
         .arg(first.help("Shows the first N findings of each condition"))?;
     Ok(command)
 }
