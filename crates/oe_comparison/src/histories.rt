@@ -7,7 +7,7 @@ ghost use Rattle.oe_comparison.specs.Tables.{AreHistoriesTold};
 ghost use Rattle.oe_comparison.specs.Texts.{with_history};
 
 use crate::reports::Report;
-use oe_reading::Numbered;
+use oe_reading::Batches;
 use oe_rows::{History, HistoryKey};
 use oe_table::shelf_walks::Rows;
 use oe_values::NoMemory;
@@ -40,21 +40,16 @@ fn append(rows: &mut Vec<History>, row: History) -> Result<(), NoMemory>
     }
 }
 
-// Gives a file's rows without their keys.
+// Copies a file's rows without their keys.
 fn without_keys(
     alloc: Global,
-    numbered: Vec<Numbered<HistoryKey, History>>,
+    numbered: &Batches<HistoryKey, History>,
 ) -> Result<Vec<History>, NoMemory>
-    ensures { IfOk result (λ rows. rows.items ≡ map (λ n. n.row) numbered.items) }
+    ensures { IfOk result (λ rows. rows.items ≡ map (λ n. n.row) numbered.now) }
 {
     let mut rows = Vec::new(alloc);
-    for each in numbered {
-        let Numbered {
-            line: _,
-            key: _,
-            row,
-        } = each;
-        if let Err(refusal) = append(&mut rows, row) {
+    for each in numbered.iter() {
+        if let Err(refusal) = append(&mut rows, each.row.copied()) {
             return Err(refusal);
         }
     }
@@ -112,11 +107,11 @@ fn compare_sorted(theirs: &[History], ours: &[History], report: &mut Report) -> 
 /// or in this order. Keys are not compared.
 pub(crate) fn compare_histories(
     alloc: Global,
-    theirs: Vec<Numbered<HistoryKey, History>>,
+    theirs: &Batches<HistoryKey, History>,
     ours: Rows<'_, HistoryKey, History>,
     report: &mut Report,
 ) -> Result<(), NoMemory>
-    ensures { OnOk result (AreHistoriesTold theirs.items ours.entry report.old report.new) }
+    ensures { OnOk result (AreHistoriesTold theirs.now ours.entry report.old report.new) }
 {
     let mut file = match without_keys(alloc, theirs) {
         Ok(rows) => rows,

@@ -41,7 +41,7 @@ fn compare_table<K: TableKey + Drop, R: RowLine<K> + DumpedRow<K> + ComparedRow 
         Ok(theirs) => theirs,
         Err(stop) => return Err(stop),
     };
-    match compare_rows(theirs.as_slice(), ours, report) {
+    match compare_rows(&theirs, ours, report) {
         Ok(()) => Ok(()),
         Err(_) => Err(Stop::NoMemory),
     }
@@ -63,7 +63,7 @@ fn compare_history<S: Intake>(
         Ok(theirs) => theirs,
         Err(stop) => return Err(stop),
     };
-    match compare_histories(alloc, theirs, ours, report) {
+    match compare_histories(alloc, &theirs, ours, report) {
         Ok(()) => Ok(()),
         Err(_) => Err(Stop::NoMemory),
     }

@@ -9,7 +9,7 @@ use crate::columns::{first_other, write_row};
 use crate::reports::Report;
 use crate::rows::ComparedRow;
 use oe_ports::dumps::DumpedRow;
-use oe_reading::{Numbered, RowLine};
+use oe_reading::{Batches, RowLine};
 use oe_table::shelf_walks::Rows;
 use oe_texts::Pending;
 use oe_values::{NoMemory, TableKey};
@@ -61,7 +61,7 @@ fn tell_other<K, R: RowLine<K> + DumpedRow<K> + ComparedRow>(
 
 /// Tells of the first row at which a file and a table differ.
 pub(crate) fn compare_rows<K: TableKey, R: RowLine<K> + DumpedRow<K> + ComparedRow>(
-    theirs: &[Numbered<K, R>],
+    theirs: &Batches<K, R>,
     ours: Rows<'_, K, R>,
     report: &mut Report,
 ) -> Result<(), NoMemory>

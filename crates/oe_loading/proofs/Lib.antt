@@ -1,4 +1,5 @@
 pub mod BaseFacts
 pub mod PlaceFacts
+pub mod HomeFacts
 pub mod FileFacts
 pub mod LoadedFacts

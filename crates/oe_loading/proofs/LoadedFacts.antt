@@ -1,13 +1,30 @@
 -- Tables that are loaded one after another.
-use Rattle.std.proofs.Common.{◌≡◌, ◌<◌, List, inr, sym, subst}
+use Rattle.std.proofs.Common.{◌≡◌, ℕ, zero, suc, ◌<◌, List, [], ◌∷◌, ap, sym, subst, refl, arith}
 use Rattle.std.specs.Prelude.{Option}
 use Rattle.oe_ports.specs.Ports.{Source}
 use Rattle.oe_rows.proofs.KeyFacts.{customer_total, history_total, new_order_total, order_total, order_line_total}
 use Rattle.oe_rows.proofs.KeyFacts.{item_total, stock_total}
+use Rattle.oe_rows.specs.declared.keys.Key.{Key}
+use Rattle.oe_rows.specs.declared.keys.Key.TheVariants as key
+use Rattle.oe_rows.specs.declared.keys.CustomerKey.{CustomerKey}
+use Rattle.oe_rows.specs.declared.keys.ItemKey.{ItemKey}
+use Rattle.oe_rows.specs.declared.keys.NewOrderKey.{NewOrderKey}
+use Rattle.oe_rows.specs.declared.keys.OrderKey.{OrderKey}
+use Rattle.oe_rows.specs.declared.keys.OrderLineKey.{OrderLineKey}
+use Rattle.oe_rows.specs.declared.customers.Customer.{Customer}
+use Rattle.oe_rows.specs.declared.items.Item.{Item}
+use Rattle.oe_rows.specs.declared.orders.NewOrder.{NewOrder}
+use Rattle.oe_rows.specs.declared.orders.Order.{Order}
+use Rattle.oe_rows.specs.declared.orders.OrderLine.{OrderLine}
+use Rattle.oe_model.specs.Changes.{changed, InsertNewOrder, InsertOrder, InsertOrderLine}
+use Rattle.oe_model.specs.Keys.{district_of_customer, order_of_new_order, customer_of_order, order_of_line}
+use Rattle.oe_model.specs.Keys.{supply_of_line}
+use Rattle.std.specs.FinMap.{insert}
 use Rattle.oe_model.specs.Rows.{Rows}
 use Rattle.oe_store.specs.Places.{rows}
 use Rattle.oe_reading.specs.declared.faults.Fault.{Fault}
 use Rattle.oe_reading.specs.declared.formats.Format.{Format}
+use Rattle.oe_reading.specs.declared.lines.Numbered.{Numbered}
 use Rattle.oe_reading.specs.Fault.{Told, no_faults}
 use Rattle.oe_reading.proofs.ReadFacts.{table_read_as}
 use Rattle.oe_loading.specs.declared.counts.RowCounts.{RowCounts}
@@ -18,20 +35,73 @@ use Rattle.oe_loading.specs.Loading.{Nine, KeepsBase, KeepsDeeds}
 use Rattle.oe_loading.specs.Loaded.{PutsCustomers, PutsItems, PutsStocks, PutsOrders, PutsLines, PutsNewOrders}
 use Rattle.oe_loading.specs.Loaded.{PutsHistories, WarehousesRead, DistrictsRead, CustomersRead, ItemsRead, StocksRead}
 use Rattle.oe_loading.specs.Loaded.{OrdersRead, OrderLinesRead, NewOrdersRead, HistoriesRead, TableLoaded, HomesLoaded}
-use Rattle.oe_loading.specs.Loaded.{BaseLoaded, DeedsLoaded, FilesLoaded, FilesTold, AreFaults, AreLoaded}
+use Rattle.oe_loading.specs.Loaded.{BasePut, BaseLoaded, DeedsLoaded, FilesLoaded, FilesTold, AreFaults, AreLoaded}
+use Rattle.oe_loading.specs.Placing.{Puts}
 use Rattle.oe_loading.proofs.FileFacts.{files_read}
+use Rattle.oe_loading.proofs.PlaceFacts.{put_keeps}
+
+-- what no row of a table changes stays as the table is loaded
+pub table_keeps : {K X Z : Type 0}
+    {reads : Option Source → Option Source → Told Fault → Told Fault → List (Numbered K X) → Type 0}
+    (key_of : K → Key) (refers : K → X → List Key) (with : K → X → Rows → Rows) (f : Rows → Z)
+    → ((k : K) (x : X) (r : Rows) → f (with k x r) ≡ f r)
+    → (old new : Option Source) (start told : Told Fault) (r s : Rows) (a b : List apart.Apart) (count : ℕ)
+    → TableLoaded reads (Puts key_of refers with) old new start told r s a b count → f s ≡ f r
+table_keeps {K} {X} {Z} key_of refers with f still old new start told r s a b count l = by told.count refl
+  where
+    by : (n : ℕ) → told.count ≡ n → f s ≡ f r
+    by zero e = let puts = l.put e in put_keeps key_of refers with f still l.lot r s puts.0 puts.1
+    by (suc n) e = ap f (l.left (omega (arith, e))).0
+
+pub customers_keep : {Z : Type 0} {format : Format} (f : Rows → Z) → ((k : CustomerKey) (x : Customer) (r : Rows)
+    → f (record r { customers = insert r.customers k x }) ≡ f r)
+    → (old new : Option Source) (start told : Told Fault) (r s : Rows) (a b : List apart.Apart) (count : ℕ)
+    → TableLoaded (CustomersRead format) PutsCustomers old new start told r s a b count → f s ≡ f r
+customers_keep f still old new start told r s a b count l =
+    table_keeps (λ k. key.Customer k) (λ k x. key.District (district_of_customer k) ∷ [])
+    (λ k x r. record r { customers = insert r.customers k x }) f still old new start told r s a b count l
+
+pub items_keep : {Z : Type 0} {format : Format} (f : Rows → Z) → ((k : ItemKey) (x : Item) (r : Rows) → f
+    (record r { items = insert r.items k x }) ≡ f r)
+    → (old new : Option Source) (start told : Told Fault) (r s : Rows) (a b : List apart.Apart) (count : ℕ)
+    → TableLoaded (ItemsRead format) PutsItems old new start told r s a b count → f s ≡ f r
+items_keep f still old new start told r s a b count l =
+    table_keeps (λ k. key.Item k) (λ k x. [])
+    (λ k x r. record r { items = insert r.items k x }) f still old new start told r s a b count l
+
+pub orders_keep : {Z : Type 0} {format : Format} (f : Rows → Z) → ((k : OrderKey) (x : Order) (r : Rows) → f
+    (changed (InsertOrder k x) r) ≡ f r)
+    → (old new : Option Source) (start told : Told Fault) (r s : Rows) (a b : List apart.Apart) (count : ℕ)
+    → TableLoaded (OrdersRead format) PutsOrders old new start told r s a b count → f s ≡ f r
+orders_keep f still old new start told r s a b count l =
+    table_keeps (λ k. key.Order k) (λ k x. key.Customer (customer_of_order k x) ∷ []) (λ k x r. changed
+    (InsertOrder k x) r) f still old new start told r s a b count l
+
+pub lines_keep : {Z : Type 0} {format : Format} (f : Rows → Z)
+    → ((k : OrderLineKey) (x : OrderLine) (r : Rows) → f (changed (InsertOrderLine k x) r) ≡ f r)
+    → (old new : Option Source) (start told : Told Fault) (r s : Rows) (a b : List apart.Apart) (count : ℕ)
+    → TableLoaded (OrderLinesRead format) PutsLines old new start told r s a b count → f s ≡ f r
+lines_keep f still old new start told r s a b count l =
+    table_keeps (λ k. key.OrderLine k) (λ k x. key.Order (order_of_line k) ∷ key.Stock (supply_of_line x) ∷ [])
+    (λ k x r. changed (InsertOrderLine k x) r) f still old new start told r s a b count l
+
+pub new_orders_keep : {Z : Type 0} {format : Format} (f : Rows → Z) → ((k : NewOrderKey) (x : NewOrder)
+    (r : Rows) → f (changed (InsertNewOrder k x) r) ≡ f r)
+    → (old new : Option Source) (start told : Told Fault) (r s : Rows) (a b : List apart.Apart) (count : ℕ)
+    → TableLoaded (NewOrdersRead format) PutsNewOrders old new start told r s a b count → f s ≡ f r
+new_orders_keep f still old new start told r s a b count l =
+    table_keeps (λ k. key.NewOrder k) (λ k x. key.Order (order_of_new_order k) ∷ []) (λ k x r. changed
+    (InsertNewOrder k x) r) f still old new start told r s a b count l
 
 pub base_loaded : (format : Format) (old new : Nine) (start told_1 told_2 told_3 told : Told Fault)
-    (homes r s t end : Rows)
-    (a b c d : List apart.Apart) (u v w x : Told Fault) (n : begun.Begun)
-    → HomesLoaded format old.warehouse new.warehouse old.district new.district start told_1 homes n.warehouses
+    (homes r s t end : Rows) (z a b c d : List apart.Apart) (n : begun.Begun)
+    → HomesLoaded format old.warehouse new.warehouse old.district new.district start told_1 homes z a n.warehouses
     n.districts
-    → TableLoaded (CustomersRead format) PutsCustomers old.customer new.customer told_1 told_2 homes r a b u v
-    n.customers
-    → TableLoaded (ItemsRead format) PutsItems old.item new.item told_2 told_3 r s b c v w n.items
-    → TableLoaded (StocksRead format) PutsStocks old.stock new.stock told_3 told s t c d w x n.stocks
-    → end ≡ t → BaseLoaded format old new start told end d x n
-base_loaded format old new start told_1 told_2 told_3 told homes r s t end a b c d u v w x n h k i o e = record {
+    → TableLoaded (CustomersRead format) PutsCustomers old.customer new.customer told_1 told_2 homes r a b n.customers
+    → TableLoaded (ItemsRead format) PutsItems old.item new.item told_2 told_3 r s b c n.items
+    → TableLoaded (StocksRead format) PutsStocks old.stock new.stock told_3 told s t c d n.stocks
+    → end ≡ t → BaseLoaded format old new start told end z d n
+base_loaded format old new start told_1 told_2 told_3 told homes r s t end z a b c d n h k i o e = record {
   warehouses = h.warehouses;
   districts = h.districts;
   customers = k.lot;
@@ -46,39 +116,33 @@ base_loaded format old new start told_1 told_2 told_3 told homes r s t end a b c
   read_customers = k.read;
   read_items = i.read;
   read_stocks = o.read;
-  put = λ z.
-      let none_3 = (table_read_as _ _ stock_total _ _ _ _ _ _ _ _ o.read z).1 in
+  put = λ none.
+      let none_3 = (table_read_as _ _ stock_total _ _ _ _ _ _ _ _ o.read none).1 in
       let none_2 = (table_read_as _ _ item_total _ _ _ _ _ _ _ _ i.read none_3).1 in
       let none_1 = (table_read_as _ _ customer_total _ _ _ _ _ _ _ _ k.read none_2).1 in
       record {
         homes = homes;
-        homes_put = h.put none_1;
         with_customers = r;
         with_items = s;
         parted_homes = a;
         parted_customers = b;
         parted_items = c;
-        told_homes = u;
-        told_customers = v;
-        told_items = w;
+        homes_put = h.put none_1;
         customers = k.put none_2;
         items = i.put none_3;
-        stocks = subst (λ (end : Rows). PutsStocks o.lot s end c d w x) (sym e) (o.put z);
+        stocks = subst (λ (end : Rows). PutsStocks o.lot s end c d) (sym e) (o.put none);
       };
   counted = (h.counted.0, h.counted.1, k.counted, i.counted, o.counted);
 }
 
 pub deeds_loaded : (format : Format) (old new : Nine) (start told_1 told_2 told_3 told : Told Fault)
-    (q r s t end : Rows)
-    (a b c d e : List apart.Apart) (u v w x y : Told Fault) (n : counts.DeedCounts)
-    → TableLoaded (OrdersRead format) PutsOrders old.order new.order start told_1 q r a b u v n.orders
-    → TableLoaded (OrderLinesRead format) PutsLines old.order_line new.order_line told_1 told_2 r s b c v w
-    n.order_lines
-    → TableLoaded (NewOrdersRead format) PutsNewOrders old.new_order new.new_order told_2 told_3 s t c d w x
-    n.new_orders
-    → TableLoaded (HistoriesRead format) PutsHistories old.history new.history told_3 told t end d e x y n.histories
-    → DeedsLoaded format old new start told q end a e u y n
-deeds_loaded format old new start told_1 told_2 told_3 told q r s t end a b c d e u v w x y n o l k h = record {
+    (q r s t end : Rows) (a b c d e : List apart.Apart) (n : counts.DeedCounts)
+    → TableLoaded (OrdersRead format) PutsOrders old.order new.order start told_1 q r a b n.orders
+    → TableLoaded (OrderLinesRead format) PutsLines old.order_line new.order_line told_1 told_2 r s b c n.order_lines
+    → TableLoaded (NewOrdersRead format) PutsNewOrders old.new_order new.new_order told_2 told_3 s t c d n.new_orders
+    → TableLoaded (HistoriesRead format) PutsHistories old.history new.history told_3 told t end d e n.histories
+    → DeedsLoaded format old new start told q end a e n
+deeds_loaded format old new start told_1 told_2 told_3 told q r s t end a b c d e n o l k h = record {
   orders = o.lot;
   order_lines = l.lot;
   new_orders = k.lot;
@@ -90,8 +154,8 @@ deeds_loaded format old new start told_1 told_2 told_3 told q r s t end a b c d 
   read_order_lines = l.read;
   read_new_orders = k.read;
   read_histories = h.read;
-  put = λ z.
-      let none_3 = (table_read_as _ _ history_total _ _ _ _ _ _ _ _ h.read z).1 in
+  put = λ none.
+      let none_3 = (table_read_as _ _ history_total _ _ _ _ _ _ _ _ h.read none).1 in
       let none_2 = (table_read_as _ _ new_order_total _ _ _ _ _ _ _ _ k.read none_3).1 in
       let none_1 = (table_read_as _ _ order_line_total _ _ _ _ _ _ _ _ l.read none_2).1 in
       record {
@@ -101,13 +165,10 @@ deeds_loaded format old new start told_1 told_2 told_3 told q r s t end a b c d 
         parted_orders = b;
         parted_lines = c;
         parted_new_orders = d;
-        told_orders = v;
-        told_lines = w;
-        told_new_orders = x;
         orders = o.put none_1;
         lines = l.put none_2;
         new_orders = k.put none_3;
-        histories = h.put z;
+        histories = h.put none;
       };
   counted = (o.counted, l.counted, k.counted, h.counted);
 }
@@ -127,12 +188,11 @@ all_counts n m = record {
 }
 
 pub files_loaded : (format : Format) (old mid new : Nine) (start middle told : Told Fault) (end : Rows)
-    (a b : List apart.Apart)
-    (t u : Told Fault) (n : begun.Begun) (m : counts.DeedCounts) → KeepsDeeds old mid → KeepsBase mid new
-    → BaseLoaded format old mid start middle (rows n.tables) a t n
-    → DeedsLoaded format mid new middle told (rows n.tables) end a b t u m
-    → FilesLoaded format old new start told end b u (all_counts n m)
-files_loaded format old mid new start middle told end a b t u n m deeds base f g = record {
+    (z a b : List apart.Apart) (n : begun.Begun) (m : counts.DeedCounts) → z ≡ [] → KeepsDeeds old mid
+    → KeepsBase mid new → BaseLoaded format old mid start middle (rows n.tables) z a n
+    → DeedsLoaded format mid new middle told (rows n.tables) end a b m
+    → FilesLoaded format old new start told end b (all_counts n m)
+files_loaded format old mid new start middle told end z a b n m none_apart deeds base f g = record {
   files = record {
     warehouses = f.warehouses;
     districts = f.districts;
@@ -186,17 +246,18 @@ files_loaded format old mid new start middle told end a b t u n m deeds base f g
         deeds.histories
         g.read_histories;
   };
-  put = λ z.
-      let none_3 = (table_read_as _ _ history_total _ _ _ _ _ _ _ _ g.read_histories z).1 in
+  put = λ none.
+      let none_3 = (table_read_as _ _ history_total _ _ _ _ _ _ _ _ g.read_histories none).1 in
       let none_2 = (table_read_as _ _ new_order_total _ _ _ _ _ _ _ _ g.read_new_orders none_3).1 in
       let none_1 = (table_read_as _ _ order_line_total _ _ _ _ _ _ _ _ g.read_order_lines none_2).1 in
-      let none = (table_read_as _ _ order_total _ _ _ _ _ _ _ _ g.read_orders none_1).1 in
+      let none_0 = (table_read_as _ _ order_total _ _ _ _ _ _ _ _ g.read_orders none_1).1 in
       record {
         middle = rows n.tables;
         parted_middle = a;
-        told_middle = t;
-        base = f.put none;
-        deeds = g.put z;
+        base =
+            subst (λ z. BasePut f.warehouses f.districts f.customers f.items f.stocks (rows n.tables) z a) none_apart
+            (f.put none_0);
+        deeds = g.put none;
       };
   counted = λ i. record {
     warehouses = f.counted.0 i;
@@ -214,22 +275,18 @@ files_loaded format old mid new start middle told end a b t u n m deeds base f g
 -- ---- what is answered
 
 module _ (format : Format) (old new : Nine) (start told : Told Fault) (end : Rows) (parted : List apart.Apart)
-    (twice : Told Fault) (counts : RowCounts) (l : FilesLoaded format old new start told end parted twice counts) where
-  pub faults_of_rows : start ≡ no_faults → told.count ≡ 0 → 0 < twice.count → AreFaults format old new twice
-  faults_of_rows none zero some = record {
+    (counts : RowCounts) (l : FilesLoaded format old new start told end parted counts) where
+  pub are_faults : start ≡ no_faults → 0 < told.count → AreFaults format old new told
+  are_faults none some = record {
     files = l.files;
-    read_told = told;
     read = subst (λ (t : Told Fault). FilesTold format old new l.files t told) none l.read;
     some = some;
-    told_are = inr (zero, (end, parted, l.put zero));
   }
 
-  pub are_loaded : told.count ≡ 0 → twice.count ≡ 0 → AreLoaded format old new end parted counts
-  are_loaded zero zero_twice = record {
+  pub are_loaded : told.count ≡ 0 → AreLoaded format old new end parted counts
+  are_loaded none = record {
     files = l.files;
-    told = twice;
-    read = files_read format old new l.files start told l.read zero;
-    put = l.put zero;
-    no_fault = zero_twice;
+    read = files_read format old new l.files start told l.read none;
+    put = l.put none;
     counted = l.counted;
   }

@@ -1,9 +1,9 @@
 -- What is loaded: the rows of nine files, put table after table.
-use Rattle.std.specs.Prelude.{◌≡◌, ◌<◌, ◌⊎◌, ℕ, List, length, Option, None, IsSome}
+use Rattle.std.specs.Prelude.{◌≡◌, ◌<◌, ℕ, List, [], ◌∷◌, length, Option}
 use Rattle.oe_ports.specs.Ports.{Source}
 use Rattle.oe_rows.specs.Key.{warehouse_cmp, district_cmp, customer_cmp, history_cmp, new_order_cmp, order_cmp}
 use Rattle.oe_rows.specs.Key.{order_line_cmp, item_cmp, stock_cmp}
-use Rattle.std.specs.FinMap.{get, insert}
+use Rattle.std.specs.FinMap.{FinMap, insert}
 use Rattle.oe_rows.specs.declared.keys.CustomerKey.{CustomerKey}
 use Rattle.oe_rows.specs.declared.keys.HistoryKey.{HistoryKey}
 use Rattle.oe_rows.specs.declared.keys.ItemKey.{ItemKey}
@@ -24,10 +24,10 @@ use Rattle.oe_rowlines.specs.Rows.{warehouse_forms, warehouse_values, district_f
 use Rattle.oe_rowlines.specs.Rows.{customer_values, new_order_forms, new_order_values, order_forms, order_values}
 use Rattle.oe_rowlines.specs.Rows.{order_line_forms, order_line_values, item_forms, item_values, stock_forms}
 use Rattle.oe_rowlines.specs.Rows.{stock_values}
-use Rattle.oe_model.specs.Keys.{district_of_customer, warehouse_of_stock, item_of_stock}
+use Rattle.oe_model.specs.Keys.{warehouse_of_district, district_of_customer, order_of_new_order, customer_of_order}
+use Rattle.oe_model.specs.Keys.{order_of_line, supply_of_line, warehouse_of_stock, item_of_stock}
 use Rattle.oe_model.specs.Rows.{Rows}
 use Rattle.oe_model.specs.Changes.{changed, InsertHistory, InsertNewOrder, InsertOrder, InsertOrderLine}
-use Rattle.oe_model.specs.Meets.{Accepts}
 use Rattle.oe_reading.specs.declared.faults.Fault.{Fault}
 use Rattle.oe_reading.specs.declared.lines.Numbered.{Numbered}
 use Rattle.oe_loading.specs.declared.loading.Apart as apart
@@ -37,11 +37,11 @@ use Rattle.oe_loading.specs.declared.loading.Loaded as loaded
 use Rattle.oe_loading.specs.declared.loading.LoadError.{LoadError}
 use Rattle.oe_loading.specs.declared.loading.LoadError.TheVariants as error
 use Rattle.oe_loading.specs.declared.counts.RowCounts.{RowCounts}
-use Rattle.oe_store.specs.Places.{rows}
+use Rattle.oe_store.specs.Places.{rows, no_rows}
 use Rattle.oe_reading.specs.Fault.{Told, no_faults}
 use Rattle.oe_reading.specs.Rows.{SpellsRow, SpellsHistory}
 use Rattle.oe_loading.specs.Placing.{Puts}
-use Rattle.oe_loading.specs.Base.{HomesPut}
+use Rattle.oe_loading.specs.Homes.{AreDistricts, districts_from}
 use Rattle.oe_rows.specs.declared.keys.WarehouseKey.{WarehouseKey}
 use Rattle.oe_rows.specs.declared.keys.DistrictKey.{DistrictKey}
 use Rattle.oe_rows.specs.declared.warehouses.Warehouse.{Warehouse}
@@ -50,86 +50,95 @@ use Rattle.oe_loading.specs.Loading.{Nine}
 use Rattle.oe_reading.specs.declared.formats.Format.{Format}
 use Rattle.oe_reading.specs.Tables.{ReadWellAs, TableReadAs}
 
--- A row is accepted where its key has none and its references find rows; of orders and what refers to them the model
--- says so (`Accepts`).
+-- How a table's rows are put: which rows each refers to, and where it is put.
+abbrev pub PutsWarehouses : List (Numbered WarehouseKey Warehouse) → Rows → Rows → List apart.Apart → List apart.Apart
+    → Type 0
+PutsWarehouses =
+    Puts (λ k. key.Warehouse k) (λ k x. districts_from k 1 10)
+    (λ k x r. record r { warehouses = insert r.warehouses k x })
+
+abbrev pub PutsDistricts : List (Numbered DistrictKey District) → Rows → Rows → List apart.Apart → List apart.Apart
+    → Type 0
+PutsDistricts =
+    Puts (λ k. key.District k) (λ k x. key.Warehouse (warehouse_of_district k) ∷ [])
+    (λ k x r. record r { districts = insert r.districts k x })
+
 abbrev pub PutsCustomers : List (Numbered CustomerKey Customer) → Rows → Rows → List apart.Apart → List apart.Apart
-    → Told Fault → Told Fault → Type 0
+    → Type 0
 PutsCustomers =
-    Puts table.Customer (λ k. key.Customer k)
-    (λ k x r. (get r.customers k ≡ None) × IsSome (get r.districts (district_of_customer k)))
+    Puts (λ k. key.Customer k) (λ k x. key.District (district_of_customer k) ∷ [])
     (λ k x r. record r { customers = insert r.customers k x })
 
-abbrev pub PutsItems : List (Numbered ItemKey Item) → Rows → Rows → List apart.Apart → List apart.Apart → Told Fault
-    → Told Fault → Type 0
-PutsItems =
-    Puts table.Item (λ k. key.Item k) (λ k x r. get r.items k ≡ None) (λ k x r. record r { items = insert r.items k x })
+abbrev pub PutsItems : List (Numbered ItemKey Item) → Rows → Rows → List apart.Apart → List apart.Apart → Type 0
+PutsItems = Puts (λ k. key.Item k) (λ k x. []) (λ k x r. record r { items = insert r.items k x })
 
-abbrev pub PutsStocks : List (Numbered StockKey Stock) → Rows → Rows → List apart.Apart → List apart.Apart → Told Fault
-    → Told Fault → Type 0
+abbrev pub PutsStocks : List (Numbered StockKey Stock) → Rows → Rows → List apart.Apart → List apart.Apart → Type 0
 PutsStocks =
-    Puts table.Stock (λ k. key.Stock k)
-    (λ k x r. (get r.stocks k ≡ None) × IsSome (get r.warehouses (warehouse_of_stock k))
-    × IsSome (get r.items (item_of_stock k)))
+    Puts (λ k. key.Stock k) (λ k x. key.Warehouse (warehouse_of_stock k) ∷ key.Item (item_of_stock k) ∷ [])
     (λ k x r. record r { stocks = insert r.stocks k x })
 
-abbrev pub PutsOrders : List (Numbered OrderKey Order) → Rows → Rows → List apart.Apart → List apart.Apart → Told Fault
-    → Told Fault → Type 0
+abbrev pub PutsOrders : List (Numbered OrderKey Order) → Rows → Rows → List apart.Apart → List apart.Apart → Type 0
 PutsOrders =
-    Puts table.Order (λ k. key.Order k) (λ k x r. Accepts (InsertOrder k x) r) (λ k x r. changed (InsertOrder k x) r)
+    Puts (λ k. key.Order k) (λ k x. key.Customer (customer_of_order k x) ∷ []) (λ k x r. changed (InsertOrder k x) r)
 
 abbrev pub PutsLines : List (Numbered OrderLineKey OrderLine) → Rows → Rows → List apart.Apart → List apart.Apart
-    → Told Fault → Told Fault → Type 0
+    → Type 0
 PutsLines =
-    Puts table.OrderLine (λ k. key.OrderLine k) (λ k x r. Accepts (InsertOrderLine k x) r)
+    Puts (λ k. key.OrderLine k) (λ k x. key.Order (order_of_line k) ∷ key.Stock (supply_of_line x) ∷ [])
     (λ k x r. changed (InsertOrderLine k x) r)
 
 abbrev pub PutsNewOrders : List (Numbered NewOrderKey NewOrder) → Rows → Rows → List apart.Apart → List apart.Apart
-    → Told Fault → Told Fault → Type 0
+    → Type 0
 PutsNewOrders =
-    Puts table.NewOrder (λ k. key.NewOrder k) (λ k x r. Accepts (InsertNewOrder k x) r)
+    Puts (λ k. key.NewOrder k) (λ k x. key.Order (order_of_new_order k) ∷ [])
     (λ k x r. changed (InsertNewOrder k x) r)
 
 abbrev pub PutsHistories : List (Numbered HistoryKey History) → Rows → Rows → List apart.Apart → List apart.Apart
-    → Told Fault → Told Fault → Type 0
+    → Type 0
 PutsHistories =
-    Puts table.History (λ k. key.History k) (λ k x r. Accepts (InsertHistory k x) r)
+    Puts (λ k. key.History k) (λ k x. key.Customer x.customer ∷ key.District x.district ∷ [])
     (λ k x r. changed (InsertHistory k x) r)
+
+-- Warehouses were put where their ten districts stand in the file, and districts where their warehouse was put.
+pub record HomesPut (ws : List (Numbered WarehouseKey Warehouse)) (ds : List (Numbered DistrictKey District))
+    (end : Rows) (parted_start parted : List apart.Apart) : Type 0 where
+  pub all : FinMap district_cmp District
+  pub are_all : AreDistricts ds all
+  pub with_warehouses : Rows
+  pub parted_warehouses : List apart.Apart
+  pub warehouses : PutsWarehouses ws (record no_rows { districts = all }) with_warehouses parted_start parted_warehouses
+  pub districts : PutsDistricts ds (record no_rows { warehouses = with_warehouses.warehouses }) end parted_warehouses
+      parted
 
 -- warehouses and districts were put, and customers, items and stocks behind them
 pub record BasePut (ws : List (Numbered WarehouseKey Warehouse)) (ds : List (Numbered DistrictKey District))
     (cs : List (Numbered CustomerKey Customer)) (is : List (Numbered ItemKey Item))
-    (ss : List (Numbered StockKey Stock)) (end : Rows) (parted : List apart.Apart) (told : Told Fault) : Type 0 where
+    (ss : List (Numbered StockKey Stock)) (end : Rows) (parted_start parted : List apart.Apart) : Type 0 where
   pub homes : Rows
-  pub homes_put : HomesPut ws ds homes
   pub with_customers : Rows
   pub with_items : Rows
   pub parted_homes : List apart.Apart
   pub parted_customers : List apart.Apart
   pub parted_items : List apart.Apart
-  pub told_homes : Told Fault
-  pub told_customers : Told Fault
-  pub told_items : Told Fault
-  pub customers : PutsCustomers cs homes with_customers parted_homes parted_customers told_homes told_customers
-  pub items : PutsItems is with_customers with_items parted_customers parted_items told_customers told_items
-  pub stocks : PutsStocks ss with_items end parted_items parted told_items told
+  pub homes_put : HomesPut ws ds homes parted_start parted_homes
+  pub customers : PutsCustomers cs homes with_customers parted_homes parted_customers
+  pub items : PutsItems is with_customers with_items parted_customers parted_items
+  pub stocks : PutsStocks ss with_items end parted_items parted
 
 -- orders, their lines, orders not yet delivered and histories were put behind them
 pub record DeedsPut (os : List (Numbered OrderKey Order)) (ls : List (Numbered OrderLineKey OrderLine))
     (ns : List (Numbered NewOrderKey NewOrder)) (hs : List (Numbered HistoryKey History)) (start end : Rows)
-    (parted_start parted : List apart.Apart) (told_start told : Told Fault) : Type 0 where
+    (parted_start parted : List apart.Apart) : Type 0 where
   pub with_orders : Rows
   pub with_lines : Rows
   pub with_new_orders : Rows
   pub parted_orders : List apart.Apart
   pub parted_lines : List apart.Apart
   pub parted_new_orders : List apart.Apart
-  pub told_orders : Told Fault
-  pub told_lines : Told Fault
-  pub told_new_orders : Told Fault
-  pub orders : PutsOrders os start with_orders parted_start parted_orders told_start told_orders
-  pub lines : PutsLines ls with_orders with_lines parted_orders parted_lines told_orders told_lines
-  pub new_orders : PutsNewOrders ns with_lines with_new_orders parted_lines parted_new_orders told_lines told_new_orders
-  pub histories : PutsHistories hs with_new_orders end parted_new_orders parted told_new_orders told
+  pub orders : PutsOrders os start with_orders parted_start parted_orders
+  pub lines : PutsLines ls with_orders with_lines parted_orders parted_lines
+  pub new_orders : PutsNewOrders ns with_lines with_new_orders parted_lines parted_new_orders
+  pub histories : PutsHistories hs with_new_orders end parted_new_orders parted
 
 -- the rows of nine files, those of each in the order of their keys
 pub record NineRows : Type 0 where
@@ -144,12 +153,11 @@ pub record NineRows : Type 0 where
   pub stocks : List (Numbered StockKey Stock)
 
 -- the rows of these files were put
-pub record FilesPut (f : NineRows) (end : Rows) (parted : List apart.Apart) (told : Told Fault) : Type 0 where
+pub record FilesPut (f : NineRows) (end : Rows) (parted : List apart.Apart) : Type 0 where
   pub middle : Rows
   pub parted_middle : List apart.Apart
-  pub told_middle : Told Fault
-  pub base : BasePut f.warehouses f.districts f.customers f.items f.stocks middle parted_middle told_middle
-  pub deeds : DeedsPut f.orders f.order_lines f.new_orders f.histories middle end parted_middle parted told_middle told
+  pub base : BasePut f.warehouses f.districts f.customers f.items f.stocks middle [] parted_middle
+  pub deeds : DeedsPut f.orders f.order_lines f.new_orders f.histories middle end parted_middle parted
 
 -- files are read one after another, and each adds its faults to those before
 abbrev pub WarehousesRead : Format → Option Source → Option Source → Told Fault → Told Fault
@@ -255,31 +263,30 @@ counts_of f = record {
 -- A table's file was read, and its rows were put and counted; where a fault was told by then, none is put.
 pub record TableLoaded {K X : Type 0}
     (reads : Option Source → Option Source → Told Fault → Told Fault → List (Numbered K X) → Type 0)
-    (puts : List (Numbered K X) → Rows → Rows → List apart.Apart → List apart.Apart → Told Fault → Told Fault → Type 0)
-    (old new : Option Source) (start told : Told Fault) (r s : Rows) (parted parted' : List apart.Apart)
-    (twice twice' : Told Fault) (count : ℕ) : Type 0 where
+    (puts : List (Numbered K X) → Rows → Rows → List apart.Apart → List apart.Apart → Type 0)
+    (old new : Option Source) (start told : Told Fault) (r s : Rows) (parted parted' : List apart.Apart) (count : ℕ)
+    : Type 0 where
   pub lot : List (Numbered K X)
   pub read : reads old new start told lot
-  pub put : told.count ≡ 0 → puts lot r s parted parted' twice twice'
-  pub left : 0 < told.count → (s ≡ r) × (parted' ≡ parted) × (twice' ≡ twice)
+  pub put : told.count ≡ 0 → puts lot r s parted parted'
+  pub left : 0 < told.count → (s ≡ r) × (parted' ≡ parted)
   pub counted : count ≡ length lot
 
 -- the files of warehouses and districts were read, and their rows kept where no line is a fault
 pub record HomesLoaded (format : Format) (warehouse warehouse' district district' : Option Source)
-    (start told : Told Fault) (end : Rows)
+    (start told : Told Fault) (end : Rows) (parted parted' : List apart.Apart)
     (warehouse_count district_count : ℕ) : Type 0 where
   pub warehouses : List (Numbered WarehouseKey Warehouse)
   pub districts : List (Numbered DistrictKey District)
   pub middle : Told Fault
   pub read_warehouses : WarehousesRead format warehouse warehouse' start middle warehouses
   pub read_districts : DistrictsRead format district district' middle told districts
-  pub put : told.count ≡ 0 → HomesPut warehouses districts end
+  pub put : told.count ≡ 0 → HomesPut warehouses districts end parted parted'
   pub counted : (warehouse_count ≡ length warehouses) × (district_count ≡ length districts)
 
 -- the files of what orders refer to were read, and their rows put where no line is a fault
 pub record BaseLoaded (format : Format) (old new : Nine) (start told : Told Fault) (end : Rows)
-    (parted : List apart.Apart)
-    (twice : Told Fault) (b : begun.Begun) : Type 0 where
+    (parted parted' : List apart.Apart) (b : begun.Begun) : Type 0 where
   pub warehouses : List (Numbered WarehouseKey Warehouse)
   pub districts : List (Numbered DistrictKey District)
   pub customers : List (Numbered CustomerKey Customer)
@@ -294,14 +301,13 @@ pub record BaseLoaded (format : Format) (old new : Nine) (start told : Told Faul
   pub read_customers : CustomersRead format old.customer new.customer told_districts told_customers customers
   pub read_items : ItemsRead format old.item new.item told_customers told_items items
   pub read_stocks : StocksRead format old.stock new.stock told_items told stocks
-  pub put : told.count ≡ 0 → BasePut warehouses districts customers items stocks end parted twice
+  pub put : told.count ≡ 0 → BasePut warehouses districts customers items stocks end parted parted'
   pub counted : (b.warehouses ≡ length warehouses) × (b.districts ≡ length districts)
       × (b.customers ≡ length customers) × (b.items ≡ length items) × (b.stocks ≡ length stocks)
 
 -- the files of orders and of what refers to them were read, and their rows put where no line is a fault
 pub record DeedsLoaded (format : Format) (old new : Nine) (start told : Told Fault) (r end : Rows)
-    (parted parted' : List apart.Apart)
-    (twice twice' : Told Fault) (d : counts.DeedCounts) : Type 0 where
+    (parted parted' : List apart.Apart) (d : counts.DeedCounts) : Type 0 where
   pub orders : List (Numbered OrderKey Order)
   pub order_lines : List (Numbered OrderLineKey OrderLine)
   pub new_orders : List (Numbered NewOrderKey NewOrder)
@@ -313,46 +319,36 @@ pub record DeedsLoaded (format : Format) (old new : Nine) (start told : Told Fau
   pub read_order_lines : OrderLinesRead format old.order_line new.order_line told_orders told_order_lines order_lines
   pub read_new_orders : NewOrdersRead format old.new_order new.new_order told_order_lines told_new_orders new_orders
   pub read_histories : HistoriesRead format old.history new.history told_new_orders told histories
-  pub put : told.count ≡ 0
-      → DeedsPut orders order_lines new_orders histories r end parted parted' twice twice'
+  pub put : told.count ≡ 0 → DeedsPut orders order_lines new_orders histories r end parted parted'
   pub counted : (d.orders ≡ length orders) × (d.order_lines ≡ length order_lines)
       × (d.new_orders ≡ length new_orders) × (d.histories ≡ length histories)
 
 -- all files were read, and their rows put where no line is a fault
 pub record FilesLoaded (format : Format) (old new : Nine) (start told : Told Fault) (end : Rows)
-    (parted : List apart.Apart)
-    (twice : Told Fault) (counts : RowCounts) : Type 0 where
+    (parted : List apart.Apart) (counts : RowCounts) : Type 0 where
   pub files : NineRows
   pub read : FilesTold format old new files start told
-  pub put : told.count ≡ 0 → FilesPut files end parted twice
+  pub put : told.count ≡ 0 → FilesPut files end parted
   pub counted : counts ≡ counts_of files
 
 -- ---- what is answered
 
--- the files were read, their rows were put and counted, and nothing was a fault
+-- the files were read, none has a fault, and their rows were put and counted
 pub record AreLoaded (format : Format) (old new : Nine) (end : Rows) (parted : List apart.Apart) (counts : RowCounts)
     : Type 0 where
   pub files : NineRows
-  pub told : Told Fault
   pub read : FilesRead format old new files
-  pub put : FilesPut files end parted told
-  pub no_fault : told.count ≡ 0
+  pub put : FilesPut files end parted
   pub counted : counts ≡ counts_of files
 
 abbrev pub IsLoaded : Format → Nine → Nine → loaded.Loaded → Type 0
 IsLoaded format old new l = AreLoaded format old new (rows l.tables) l.apart.items l.counts
 
--- a key stood twice among the rows that were put, although each file alone was right
-abbrev pub AreFaultsOfRows : NineRows → Told Fault → Type 0
-AreFaultsOfRows f told = (end : Rows) × (parted : List apart.Apart) × FilesPut f end parted told
-
--- The faults of the files, at least one: of their lines, and of keys that stand twice.
+-- the faults of the files, at least one
 pub record AreFaults (format : Format) (old new : Nine) (told : Told Fault) : Type 0 where
   pub files : NineRows
-  pub read_told : Told Fault
-  pub read : FilesTold format old new files no_faults read_told
+  pub read : FilesTold format old new files no_faults told
   pub some : 0 < told.count
-  pub told_are : (told ≡ read_told) ⊎ ((read_told.count ≡ 0) × AreFaultsOfRows files told)
 
 -- nothing is loaded: some line can't be read, or the files were not read to their ends
 abbrev pub IsNotLoaded : Format → Nine → Nine → LoadError → Type 0

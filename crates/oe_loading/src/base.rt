@@ -1,14 +1,15 @@
 //! The tables that orders refer to. By the invariant each warehouse has its ten districts, and each
 //! reference of a row finds its row (clauses 1.3 and 1.4).
-ghost use Rattle.std.specs.Prelude.{◌≡◌, IsSome, None};
-ghost use Rattle.std.specs.FinMap.{get, insert};
-ghost use Rattle.oe_rows.specs.Key.{warehouse_cmp, district_cmp, customer_cmp, item_cmp, stock_cmp};
+ghost use Rattle.std.specs.Prelude.{◌≡◌, ◌∷◌, []};
+ghost use Rattle.std.specs.FinMap.{insert};
+ghost use Rattle.oe_rows.specs.declared.keys.Key.TheVariants as kind;
 ghost use Rattle.oe_model.specs.Keys.{district_of_customer, warehouse_of_stock, item_of_stock};
-ghost use Rattle.oe_table.specs.Table.{rows_of};
 ghost use Rattle.oe_store.specs.Places.{rows};
-ghost use Rattle.oe_loading.specs.Base.{AreHomes, base_rows};
+ghost use Rattle.oe_loading.specs.Base.{OnlyHomes, base_rows};
+ghost use Rattle.oe_loading.specs.Homes.{AreHomes, home_rows};
 
-use crate::places::{Placed, Placing};
+use crate::homes::Homes;
+use crate::places::Placing;
 use oe_index::{Customers, Orders};
 use oe_rows::{
     Customer, CustomerKey, District, DistrictKey, Item, ItemKey, Key, Stock, StockKey, Warehouse,
@@ -54,32 +55,28 @@ impl Model for Base {
 
 impl Base {
     /// Makes tables without a row.
-    pub(crate) fn new(alloc: Global) -> Self {
-        Base::of(alloc, Shelves::new(alloc), Shelves::new(alloc))
+    pub(crate) fn new(alloc: Global) -> Self
+        ensures { OnlyHomes (base_rows result) }
+    {
+        let homes = Homes {
+            warehouses: Shelves::new(alloc),
+            districts: Shelves::new(alloc),
+        };
+        Base::of(alloc, homes)
     }
 
     /// Makes tables with these warehouses and districts, and no other row.
-    pub(crate) fn of(
-        alloc: Global,
-        warehouses: Shelves<WarehouseKey, Warehouse>,
-        districts: Shelves<DistrictKey, District>,
-    ) -> Self
-        requires { AreHomes (rows_of warehouse_cmp warehouses) (rows_of district_cmp districts) }
-        ensures warehouses { result.warehouses ≡ warehouses }
-        ensures districts { result.districts ≡ districts }
+    pub(crate) fn of(alloc: Global, homes: Homes) -> Self
+        requires { AreHomes (home_rows homes).warehouses (home_rows homes).districts }
+        ensures { base_rows result ≡ home_rows homes }
     {
         Base {
-            warehouses,
-            districts,
+            warehouses: homes.warehouses,
+            districts: homes.districts,
             customers: Customers::new(alloc),
             items: Shelves::new(alloc),
             stocks: Shelves::new(alloc),
         }
-    }
-
-    /// Tells whether a warehouse has a row.
-    pub(crate) fn has_warehouse(&self, key: &WarehouseKey) -> bool {
-        self.warehouses.get(key).is_some()
     }
 
     /// Makes the nine tables of them, of which the other four have no row.
@@ -103,69 +100,64 @@ impl Base {
 impl Placing<CustomerKey, Customer> for Base {
     ghost rows_in = { base_rows };
 
-    ghost accepts = { λ k x r. (get r.customers k ≡ None)
-        × IsSome (get r.districts (district_of_customer k)) };
+    ghost refers = { λ k x. kind.District (district_of_customer k) ∷ [] };
 
     ghost with_row = { λ k x r. record r { customers = insert r.customers k x } };
 
-    fn place(&mut self, key: CustomerKey, row: Customer) -> Result<Placed, NoMemory> {
-        if self.customers.get(&key).is_some() {
-            return Ok(Placed::Twice);
-        }
+    fn missing(&self, key: &CustomerKey, row: &Customer) -> Option<Key> {
+        let _any_row = row;
         let district = key.district_key();
         if self.districts.get(&district).is_none() {
-            return Ok(Placed::Apart(Key::District(district)));
+            return Some(Key::District(district));
         }
+        None
+    }
+
+    fn put(&mut self, key: CustomerKey, row: Customer) -> Result<(), NoMemory> {
         let _number = key.customer.get();
-        match self.customers.put_new(key, row) {
-            Ok(()) => Ok(Placed::Kept),
-            Err(refusal) => Err(refusal),
-        }
+        self.customers.put_new(key, row)
     }
 }
 
 impl Placing<ItemKey, Item> for Base {
     ghost rows_in = { base_rows };
 
-    ghost accepts = { λ k x r. get r.items k ≡ None };
+    ghost refers = { λ k x. [] };
 
     ghost with_row = { λ k x r. record r { items = insert r.items k x } };
 
-    fn place(&mut self, key: ItemKey, row: Item) -> Result<Placed, NoMemory> {
-        if self.items.get(&key).is_some() {
-            return Ok(Placed::Twice);
-        }
-        match self.items.put_new(key, row) {
-            Ok(()) => Ok(Placed::Kept),
-            Err(refusal) => Err(refusal),
-        }
+    fn missing(&self, key: &ItemKey, row: &Item) -> Option<Key> {
+        let _any_key = key;
+        let _any_row = row;
+        None
+    }
+
+    fn put(&mut self, key: ItemKey, row: Item) -> Result<(), NoMemory> {
+        self.items.put_new(key, row)
     }
 }
 
 impl Placing<StockKey, Stock> for Base {
     ghost rows_in = { base_rows };
 
-    ghost accepts = { λ k x r. (get r.stocks k ≡ None)
-        × IsSome (get r.warehouses (warehouse_of_stock k))
-        × IsSome (get r.items (item_of_stock k)) };
+    ghost refers = { λ k x. kind.Warehouse (warehouse_of_stock k) ∷ kind.Item (item_of_stock k) ∷ [] };
 
     ghost with_row = { λ k x r. record r { stocks = insert r.stocks k x } };
 
-    fn place(&mut self, key: StockKey, row: Stock) -> Result<Placed, NoMemory> {
-        if self.stocks.get(&key).is_some() {
-            return Ok(Placed::Twice);
-        }
+    fn missing(&self, key: &StockKey, row: &Stock) -> Option<Key> {
+        let _any_row = row;
         let warehouse = key.warehouse_key();
         if self.warehouses.get(&warehouse).is_none() {
-            return Ok(Placed::Apart(Key::Warehouse(warehouse)));
+            return Some(Key::Warehouse(warehouse));
         }
         let item = key.item_key();
         if self.items.get(&item).is_none() {
-            return Ok(Placed::Apart(Key::Item(item)));
+            return Some(Key::Item(item));
         }
-        match self.stocks.put_new(key, row) {
-            Ok(()) => Ok(Placed::Kept),
-            Err(refusal) => Err(refusal),
-        }
+        None
+    }
+
+    fn put(&mut self, key: StockKey, row: Stock) -> Result<(), NoMemory> {
+        self.stocks.put_new(key, row)
     }
 }

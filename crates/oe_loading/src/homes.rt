@@ -1,19 +1,44 @@
-//! Warehouses that have ten districts, and these.
-ghost use Rattle.std.specs.Prelude.{◌≡◌, ◌≤◌, ◌↔◌, IsSome, IsNone, OnOk};
-ghost use Rattle.std.specs.FinMap.{get};
+//! Warehouses that have ten districts, and these (clauses 1.2.1 and 1.3).
+ghost use Rattle.std.specs.Prelude.{◌≡◌, ◌∷◌, [], OnOk};
+ghost use Rattle.std.specs.FinMap.{insert};
 ghost use Rattle.oe_rows.specs.Key.{warehouse_cmp, district_cmp};
+ghost use Rattle.oe_rows.specs.declared.keys.Key.TheVariants as kind;
 ghost use Rattle.oe_table.specs.Table.{rows_of};
 ghost use Rattle.oe_model.specs.Keys.{warehouse_of_district};
-ghost use Rattle.oe_loading.specs.Base.{HasTen, AreHomes, PutsDistrict, PutsTen, PutsHome};
+ghost use Rattle.oe_loading.specs.Homes.{home_rows, districts_from, PutsDistrict};
+ghost use Rattle.oe_loading.specs.Placing.{missing_of};
 
-use crate::places::Placed;
+use crate::places::Placing;
 use oe_rows::{District, DistrictKey, Key, Warehouse, WarehouseKey};
 use oe_table::shelves::Shelves;
 use oe_values::{DistrictNumber, NoMemory};
 
-/// Gives the first district of a warehouse that has no row.
-fn lacking(districts: &Shelves<DistrictKey, District>, key: WarehouseKey) -> Option<DistrictKey>
-    ensures { IsNone result ↔ HasTen key (rows_of district_cmp districts.now) }
+/// Warehouses and districts.
+#[derive(Drop)]
+pub(crate) struct Homes {
+    pub(crate) warehouses: Shelves<WarehouseKey, Warehouse>,
+    pub(crate) districts: Shelves<DistrictKey, District>,
+}
+
+/// Puts a district, where its key has no row.
+pub(crate) fn put_district(
+    districts: &mut Shelves<DistrictKey, District>,
+    key: DistrictKey,
+    row: District,
+) -> Result<(), NoMemory>
+    ensures { OnOk result (PutsDistrict (rows_of district_cmp districts.old)
+        (rows_of district_cmp districts.new) key row) }
+{
+    let _number = key.district.get();
+    if districts.get(&key).is_some() {
+        return Ok(());
+    }
+    districts.put_new(key, row)
+}
+
+/// Gives the first of a warehouse's ten districts that has no row.
+fn first_lacking(homes: &Homes, key: WarehouseKey) -> Option<Key>
+    ensures { result ≡ missing_of (districts_from key 1 10) (home_rows homes.now) }
 {
     for number in 1..11u32 {
         let Some(district) = DistrictNumber::new(number) else {
@@ -23,81 +48,47 @@ fn lacking(districts: &Shelves<DistrictKey, District>, key: WarehouseKey) -> Opt
             warehouse: key.warehouse,
             district,
         };
-        if districts.get(&own).is_none() {
-            return Some(own);
+        if homes.districts.get(&own).is_none() {
+            return Some(Key::District(own));
         }
     }
     None
 }
 
-/// Puts a district of a warehouse, where its key has no row.
-pub(crate) fn put_district(
-    homes: &mut Shelves<DistrictKey, District>,
-    key: DistrictKey,
-    row: District,
-) -> Result<(), NoMemory>
-    ensures { OnOk result (PutsDistrict (rows_of district_cmp homes.old)
-        (rows_of district_cmp homes.new) key row) }
-{
-    let _number = key.district.get();
-    if homes.get(&key).is_some() {
-        return Ok(());
+impl Placing<WarehouseKey, Warehouse> for Homes {
+    ghost rows_in = { home_rows };
+
+    ghost refers = { λ k x. districts_from k 1 10 };
+
+    ghost with_row = { λ k x r. record r { warehouses = insert r.warehouses k x } };
+
+    fn missing(&self, key: &WarehouseKey, row: &Warehouse) -> Option<Key> {
+        let _any_row = row;
+        first_lacking(self, *key)
     }
-    homes.put_new(key, row)
+
+    fn put(&mut self, key: WarehouseKey, row: Warehouse) -> Result<(), NoMemory> {
+        self.warehouses.put_new(key, row)
+    }
 }
 
-/// Puts the ten districts of a warehouse.
-fn put_ten(
-    homes: &mut Shelves<DistrictKey, District>,
-    districts: &Shelves<DistrictKey, District>,
-    key: WarehouseKey,
-) -> Result<(), NoMemory>
-    requires { HasTen key (rows_of district_cmp districts.now) }
-    ensures { OnOk result (PutsTen (rows_of district_cmp districts.now)
-        (rows_of district_cmp homes.old) (rows_of district_cmp homes.new) key) }
-{
-    for number in 1..11u32 {
-        let Some(district) = DistrictNumber::new(number) else {
-            unreachable!();
-        };
-        let own = DistrictKey {
-            warehouse: key.warehouse,
-            district,
-        };
-        let row = districts.get(&own).unwrap().copied();
-        if let Err(refusal) = put_district(homes, own, row) {
-            return Err(refusal);
+impl Placing<DistrictKey, District> for Homes {
+    ghost rows_in = { home_rows };
+
+    ghost refers = { λ k x. kind.Warehouse (warehouse_of_district k) ∷ [] };
+
+    ghost with_row = { λ k x r. record r { districts = insert r.districts k x } };
+
+    fn missing(&self, key: &DistrictKey, row: &District) -> Option<Key> {
+        let _any_row = row;
+        let warehouse = key.warehouse_key();
+        if self.warehouses.get(&warehouse).is_none() {
+            return Some(Key::Warehouse(warehouse));
         }
+        None
     }
-    Ok(())
-}
 
-/// Puts a warehouse that has ten districts, and these.
-pub(crate) fn put_home(
-    warehouses: &mut Shelves<WarehouseKey, Warehouse>,
-    homes: &mut Shelves<DistrictKey, District>,
-    districts: &Shelves<DistrictKey, District>,
-    key: WarehouseKey,
-    row: Warehouse,
-) -> Result<Placed, NoMemory>
-    requires { AreHomes (rows_of warehouse_cmp warehouses.old) (rows_of district_cmp homes.old) }
-    ensures homes { OnOk result
-        (AreHomes (rows_of warehouse_cmp warehouses.new) (rows_of district_cmp homes.new)) }
-    ensures put { OnOk result (PutsHome (rows_of district_cmp districts.now)
-        (rows_of warehouse_cmp warehouses.old) (rows_of warehouse_cmp warehouses.new)
-        (rows_of district_cmp homes.old) (rows_of district_cmp homes.new) key row) }
-{
-    if warehouses.get(&key).is_some() {
-        return Ok(Placed::Twice);
-    }
-    if let Some(district) = lacking(districts, key) {
-        return Ok(Placed::Apart(Key::District(district)));
-    }
-    if let Err(refusal) = put_ten(homes, districts, key) {
-        return Err(refusal);
-    }
-    match warehouses.put_new(key, row) {
-        Ok(()) => Ok(Placed::Kept),
-        Err(refusal) => Err(refusal),
+    fn put(&mut self, key: DistrictKey, row: District) -> Result<(), NoMemory> {
+        self.districts.put_new(key, row)
     }
 }

@@ -2,12 +2,11 @@
 //! rows that they refer to. Once a line can't be read no more rows are put, and the files that are
 //! left are read for their faults.
 ghost use Rattle.std.specs.Prelude.{◌≡◌, IfOk, MatchResult};
-ghost use Rattle.oe_reading.specs.Fault.{no_faults};
 ghost use Rattle.oe_reading.specs.Tables.{TableReadAs};
 ghost use Rattle.oe_store.specs.Places.{rows};
-ghost use Rattle.oe_loading.specs.Base.{base_rows};
+ghost use Rattle.oe_loading.specs.Base.{OnlyBase, OnlyHomes, base_rows};
 ghost use Rattle.oe_loading.specs.Loading.{nine_of, KeepsBase, KeepsDeeds};
-ghost use Rattle.oe_loading.specs.Placing.{Puts};
+ghost use Rattle.oe_loading.specs.Placing.{HasRow, Puts};
 ghost use Rattle.oe_loading.specs.Loaded.{TableLoaded, HomesLoaded, BaseLoaded, DeedsLoaded};
 ghost use Rattle.oe_loading.specs.Loaded.{FilesLoaded, IsLoaded, IsNotLoaded};
 
@@ -16,7 +15,7 @@ use crate::counts::RowCounts;
 use crate::places::Placing;
 use crate::putting::{keep_homes, put_rows};
 use oe_ports::ports::Intake;
-use oe_reading::{Faults, Format, Numbered, RowLine, Stop, read_table_as};
+use oe_reading::{Batches, Faults, Format, RowLine, Stop, read_table_as};
 use oe_rows::{
     Customer, CustomerKey, District, DistrictKey, History, HistoryKey, Item, ItemKey, Key,
     NewOrder, NewOrderKey, Order, OrderKey, OrderLine, OrderLineKey, Stock, StockKey, Warehouse,
@@ -47,9 +46,6 @@ pub struct Apart {
     pub missing: Key,
 }
 
-/// The rows of a file.
-pub(crate) type FileRows<K, R> = Vec<Numbered<K, R>>;
-
 /// Why files are not loaded.
 #[derive(Drop)]
 pub enum LoadError {
@@ -69,7 +65,7 @@ pub struct Loaded {
 
 // Warehouses with their districts, and how many rows the two files have.
 #[derive(Drop)]
-struct Homes {
+struct Housed {
     base: Base,
     warehouses: u64,
     districts: u64,
@@ -103,22 +99,21 @@ fn load_table<K: TableKey + Copy + Drop, R: RowLine<K> + Drop, S: Intake, T: Pla
     into: &mut T,
     faults: &mut Faults,
     apart: &mut Vec<Apart>,
-    twice: &mut Faults,
 ) -> Result<u64, Stop>
+    requires { (k : K) → HasRow (T.rows_in into.old) (R.key_of k) → ⊥ }
     ensures { IfOk result (λ n. TableLoaded (TableReadAs format K.cmp R.key_of R.spells R.own_table)
-        (Puts R.own_table R.key_of T.accepts T.with_row) (S.source source.old)
-        (S.source source.new) faults.old faults.new (T.rows_in into.old) (T.rows_in into.new)
-        apart.old.items apart.new.items twice.old twice.new n) }
+        (Puts R.key_of T.refers T.with_row) (S.source source.old) (S.source source.new) faults.old
+        faults.new (T.rows_in into.old) (T.rows_in into.new) apart.old.items apart.new.items n) }
 {
-    let file_rows: FileRows<K, R> = match read_table_as(alloc, format, source, faults) {
+    let file_rows: Batches<K, R> = match read_table_as(alloc, format, source, faults) {
         Ok(file_rows) => file_rows,
         Err(stop) => return Err(stop),
     };
-    let count = file_rows.len() as u64;
+    let count = file_rows.len();
     if faults.count() > 0 {
         return Ok(count);
     }
-    match put_rows(file_rows, into, apart, twice) {
+    match put_rows(file_rows, into, apart) {
         Ok(()) => Ok(count),
         Err(_) => Err(Stop::NoMemory),
     }
@@ -132,11 +127,11 @@ fn load_homes<S: Intake>(
     district: &mut S,
     faults: &mut Faults,
     apart: &mut Vec<Apart>,
-    twice: &mut Faults,
-) -> Result<Homes, Stop>
-    ensures { IfOk result (λ h. HomesLoaded format (S.source warehouse.old) (S.source warehouse.new)
-        (S.source district.old) (S.source district.new) faults.old faults.new (base_rows h.base)
-        h.warehouses h.districts) }
+) -> Result<Housed, Stop>
+    ensures loaded { IfOk result (λ h. HomesLoaded format (S.source warehouse.old)
+        (S.source warehouse.new) (S.source district.old) (S.source district.new) faults.old
+        faults.new (base_rows h.base) apart.old.items apart.new.items h.warehouses h.districts) }
+    ensures only { IfOk result (λ h. OnlyHomes (base_rows h.base)) }
 {
     let warehouse_rows = match read_table_as(alloc, format, warehouse, faults) {
         Ok(file_rows) => file_rows,
@@ -146,17 +141,17 @@ fn load_homes<S: Intake>(
         Ok(file_rows) => file_rows,
         Err(stop) => return Err(stop),
     };
-    let warehouses = warehouse_rows.len() as u64;
-    let districts = district_rows.len() as u64;
+    let warehouses = warehouse_rows.len();
+    let districts = district_rows.len();
     if faults.count() > 0 {
-        return Ok(Homes {
+        return Ok(Housed {
             base: Base::new(alloc),
             warehouses,
             districts,
         });
     }
-    match keep_homes(alloc, warehouse_rows, district_rows, apart, twice) {
-        Ok(base) => Ok(Homes {
+    match keep_homes(alloc, warehouse_rows, district_rows, apart) {
+        Ok(base) => Ok(Housed {
             base,
             warehouses,
             districts,
@@ -172,12 +167,12 @@ fn load_base<S: Intake>(
     sources: &mut Sources<S>,
     faults: &mut Faults,
     apart: &mut Vec<Apart>,
-    twice: &mut Faults,
 ) -> Result<Begun, Stop>
     ensures others { KeepsDeeds (nine_of S.source sources.old) (nine_of S.source sources.new) }
     ensures loaded { IfOk result (λ b. BaseLoaded format (nine_of S.source sources.old)
-        (nine_of S.source sources.new) faults.old faults.new (rows b.tables) apart.new.items
-        twice.new b) }
+        (nine_of S.source sources.new) faults.old faults.new (rows b.tables) apart.old.items
+        apart.new.items b) }
+    ensures only { IfOk result (λ b. OnlyBase (rows b.tables)) }
 {
     let homes = load_homes(
         alloc,
@@ -186,9 +181,8 @@ fn load_base<S: Intake>(
         &mut sources.district,
         faults,
         apart,
-        twice,
     )?;
-    let Homes {
+    let Housed {
         mut base,
         warehouses,
         districts,
@@ -200,7 +194,6 @@ fn load_base<S: Intake>(
         &mut base,
         faults,
         apart,
-        twice,
     )?;
     let items = load_table::<ItemKey, Item, _, _>(
         alloc,
@@ -209,7 +202,6 @@ fn load_base<S: Intake>(
         &mut base,
         faults,
         apart,
-        twice,
     )?;
     let stocks = load_table::<StockKey, Stock, _, _>(
         alloc,
@@ -218,7 +210,6 @@ fn load_base<S: Intake>(
         &mut base,
         faults,
         apart,
-        twice,
     )?;
     Ok(Begun {
         tables: base.into_tables(alloc),
@@ -238,12 +229,12 @@ fn load_deeds<S: Intake>(
     sources: &mut Sources<S>,
     faults: &mut Faults,
     apart: &mut Vec<Apart>,
-    twice: &mut Faults,
 ) -> Result<DeedCounts, Stop>
+    requires { OnlyBase (rows tables.old) }
     ensures others { KeepsBase (nine_of S.source sources.old) (nine_of S.source sources.new) }
     ensures loaded { IfOk result (λ d. DeedsLoaded format (nine_of S.source sources.old)
         (nine_of S.source sources.new) faults.old faults.new (rows tables.old) (rows tables.new)
-        apart.old.items apart.new.items twice.old twice.new d) }
+        apart.old.items apart.new.items d) }
 {
     let orders = load_table::<OrderKey, Order, _, _>(
         alloc,
@@ -252,7 +243,6 @@ fn load_deeds<S: Intake>(
         tables,
         faults,
         apart,
-        twice,
     )?;
     let order_lines = load_table::<OrderLineKey, OrderLine, _, _>(
         alloc,
@@ -261,7 +251,6 @@ fn load_deeds<S: Intake>(
         tables,
         faults,
         apart,
-        twice,
     )?;
     let new_orders = load_table::<NewOrderKey, NewOrder, _, _>(
         alloc,
@@ -270,7 +259,6 @@ fn load_deeds<S: Intake>(
         tables,
         faults,
         apart,
-        twice,
     )?;
     let histories = load_table::<HistoryKey, History, _, _>(
         alloc,
@@ -279,7 +267,6 @@ fn load_deeds<S: Intake>(
         tables,
         faults,
         apart,
-        twice,
     )?;
     Ok(DeedCounts {
         orders,
@@ -295,14 +282,13 @@ fn load_all<S: Intake>(
     format: Format,
     sources: &mut Sources<S>,
     faults: &mut Faults,
-    twice: &mut Faults,
 ) -> Result<Loaded, Stop>
     ensures { IfOk result (λ l. FilesLoaded format (nine_of S.source sources.old)
         (nine_of S.source sources.new) faults.old faults.new (rows l.tables) l.apart.items
-        twice.new l.counts) }
+        l.counts) }
 {
     let mut apart = Vec::new(alloc);
-    let begun = match load_base(alloc, format, sources, faults, &mut apart, twice) {
+    let begun = match load_base(alloc, format, sources, faults, &mut apart) {
         Ok(begun) => begun,
         Err(stop) => return Err(stop),
     };
@@ -314,15 +300,7 @@ fn load_all<S: Intake>(
         items,
         stocks,
     } = begun;
-    match load_deeds(
-        alloc,
-        format,
-        &mut tables,
-        sources,
-        faults,
-        &mut apart,
-        twice,
-    ) {
+    match load_deeds(alloc, format, &mut tables, sources, faults, &mut apart) {
         Ok(deeds) => Ok(Loaded {
             tables,
             apart,
@@ -367,18 +345,11 @@ pub fn load<S: Intake>(
     let Ok(mut faults) = Faults::new(alloc) else {
         return Err(LoadError::Stopped(Stop::NoMemory));
     };
-    let Ok(mut twice) = Faults::new(alloc) else {
-        return Err(LoadError::Stopped(Stop::NoMemory));
-    };
-    match load_all(alloc, format, sources, &mut faults, &mut twice) {
+    match load_all(alloc, format, sources, &mut faults) {
         Ok(loaded) => {
             if faults.count() > 0 {
                 loaded.tables.discard();
                 return Err(LoadError::Unreadable(faults));
-            }
-            if twice.count() > 0 {
-                loaded.tables.discard();
-                return Err(LoadError::Unreadable(twice));
             }
             Ok(loaded)
         }

@@ -1,14 +1,17 @@
 //! Where rows are put, each after the rows that it refers to (clauses 1.3 and 1.4).
 //!
-//! A row whose reference finds no row is not put, and the reference is told. Only a row that is put
-//! takes memory; where that is refused, the tables are as before.
-ghost use Rattle.std.specs.Prelude.{◌≡◌, ◌↔◌, ◌≢◌, Ok, IsNone, IfSome};
-ghost use Rattle.oe_model.specs.Rows.{Rows};
-ghost use Rattle.oe_loading.specs.Placing.{Places, IsBack};
+//! A row is put only where all that it refers to are there; where memory is refused, the tables are
+//! as before.
+ghost use Rattle.std.specs.Prelude.{◌≡◌, ◌∷◌, [], List, Option, None, OnErr, OnOk, is_some};
+ghost use Rattle.oe_rows.specs.declared.keys.Key.{Key};
+ghost use Rattle.oe_rows.specs.declared.keys.Key.TheVariants as kind;
 ghost use Rattle.oe_model.specs.Changes.{changed, InsertHistory, InsertNewOrder, InsertOrder, InsertOrderLine};
-ghost use Rattle.oe_model.specs.Meets.{Accepts};
+ghost use Rattle.oe_model.specs.Keys.{customer_of_order, order_of_line, order_of_new_order, supply_of_line};
+ghost use Rattle.oe_model.specs.Rows.{Rows, row_at};
 ghost use Rattle.oe_store.specs.Places.{rows};
+ghost use Rattle.oe_loading.specs.Placing.{missing_of, HasRow, OnlyAdds};
 
+use oe_reading::RowLine;
 use oe_rows::{
     History, HistoryKey, Key, NewOrder, NewOrderKey, Order, OrderKey, OrderLine, OrderLineKey,
     StockKey,
@@ -16,50 +19,50 @@ use oe_rows::{
 use oe_store::Tables;
 use oe_values::NoMemory;
 
-/// What became of a row.
-#[derive(Clone, Copy)]
-pub enum Placed {
-    /// It was put.
-    Kept,
-    /// Its key has a row.
-    Twice,
-    /// It refers to this key, which has no row.
-    Apart(Key),
-}
-
 /// Tables that rows of one kind are put in.
-pub trait Placing<K, R> {
+pub trait Placing<K, R: RowLine<K>> {
     /// The rows of the tables.
     ghost rows_in: { Self → Rows };
 
-    /// The key has no row, and the rows that this one refers to are there.
-    ghost accepts: { K → R → Rows → Type 0 };
+    /// The keys of the rows that a row refers to.
+    ghost refers: { K → R → List Key };
 
     /// The rows with this one more.
     ghost with_row: { K → R → Rows → Rows };
 
-    /// Puts a row at its key, where the key has none and the rows that it refers to are there.
-    fn place(&mut self, key: K, row: R) -> Result<Placed, NoMemory>
-        ensures { Places (accepts key row) (with_row key row) (rows_in self.old)
-            (rows_in self.new) result };
+    /// Gives the first key that a row refers to and that has no row.
+    fn missing(&self, key: &K, row: &R) -> Option<Key>
+        ensures { result ≡ missing_of (refers key.now row.now) (rows_in self.now) };
+
+    /// Puts a row.
+    fn put(&mut self, key: K, row: R) -> Result<(), NoMemory>
+        requires new { HasRow (rows_in self.old) (R.key_of key) → ⊥ }
+        requires met { missing_of (refers key row) (rows_in self.old) ≡ None }
+        ensures put { OnOk result (rows_in self.new ≡ with_row key row (rows_in self.old)) }
+        ensures only { OnOk result (OnlyAdds R.key_of key (rows_in self.old) (rows_in self.new)) }
+        ensures err { OnErr result (rows_in self.new ≡ rows_in self.old) };
 }
 
-/// Tells why an ORDER row can't be put, if it can't.
-fn order_hindered(tables: &Tables, key: &OrderKey, row: &Order) -> Option<Placed>
-    ensures accepted { IsNone result ↔ Accepts (InsertOrder key.now row.now) (rows tables.now) }
-    ensures back { IfSome result IsBack }
-{
-    if tables.order(*key).is_some() {
-        return Some(Placed::Twice);
+impl Placing<OrderKey, Order> for Tables {
+    ghost rows_in = { rows };
+
+    ghost refers = { λ k x. kind.Customer (customer_of_order k x) ∷ [] };
+
+    ghost with_row = { λ k x r. changed (InsertOrder k x) r };
+
+    fn missing(&self, key: &OrderKey, row: &Order) -> Option<Key> {
+        let found = self.customer(key.district_key().customer(row.customer));
+        if found.is_none() {
+            let customer = key.district_key().customer(row.customer);
+            return Some(Key::Customer(customer));
+        }
+        None
     }
-    if tables
-        .customer(key.district_key().customer(row.customer))
-        .is_none()
-    {
-        let customer = key.district_key().customer(row.customer);
-        return Some(Placed::Apart(Key::Customer(customer)));
+
+    fn put(&mut self, key: OrderKey, row: Order) -> Result<(), NoMemory> {
+        let _carrier = row.carrier;
+        self.insert_order(key, row)
     }
-    None
 }
 
 /// Gives the stock that a line was supplied from.
@@ -72,124 +75,67 @@ fn supply(row: &OrderLine) -> StockKey
     }
 }
 
-/// Tells why an ORDER-LINE row can't be put, if it can't.
-fn order_line_hindered(tables: &Tables, key: &OrderLineKey, row: &OrderLine) -> Option<Placed>
-    ensures accepted { IsNone result ↔ Accepts (InsertOrderLine key.now row.now) (rows tables.now) }
-    ensures back { IfSome result IsBack }
-{
-    if tables.order_line(*key).is_some() {
-        return Some(Placed::Twice);
-    }
-    if tables.order(key.order_key()).is_none() {
-        return Some(Placed::Apart(Key::Order(key.order_key())));
-    }
-    if tables.stock(supply(row)).is_none() {
-        return Some(Placed::Apart(Key::Stock(supply(row))));
-    }
-    None
-}
-
-/// Tells why a NEW-ORDER row can't be put, if it can't.
-fn new_order_hindered(tables: &Tables, key: &NewOrderKey, row: &NewOrder) -> Option<Placed>
-    ensures accepted { IsNone result ↔ Accepts (InsertNewOrder key.now row.now) (rows tables.now) }
-    ensures back { IfSome result IsBack }
-{
-    let _no_columns = row;
-    if tables.new_order(*key).is_some() {
-        return Some(Placed::Twice);
-    }
-    if tables.order(key.order_key()).is_none() {
-        return Some(Placed::Apart(Key::Order(key.order_key())));
-    }
-    None
-}
-
-/// Tells why a HISTORY row can't be put, if it can't.
-fn history_hindered(tables: &Tables, key: &HistoryKey, row: &History) -> Option<Placed>
-    ensures accepted { IsNone result ↔ Accepts (InsertHistory key.now row.now) (rows tables.now) }
-    ensures back { IfSome result IsBack }
-{
-    if tables.history(*key).is_some() {
-        return Some(Placed::Twice);
-    }
-    if tables.customer(row.customer).is_none() {
-        return Some(Placed::Apart(Key::Customer(row.customer)));
-    }
-    if tables.district(row.district).is_none() {
-        return Some(Placed::Apart(Key::District(row.district)));
-    }
-    None
-}
-
-impl Placing<OrderKey, Order> for Tables {
-    ghost rows_in = { rows };
-
-    ghost accepts = { λ k x r. Accepts (InsertOrder k x) r };
-
-    ghost with_row = { λ k x r. changed (InsertOrder k x) r };
-
-    fn place(&mut self, key: OrderKey, row: Order) -> Result<Placed, NoMemory> {
-        if let Some(placed) = order_hindered(self, &key, &row) {
-            return Ok(placed);
-        }
-        let _carrier = row.carrier;
-        match self.insert_order(key, row) {
-            Ok(()) => Ok(Placed::Kept),
-            Err(refusal) => Err(refusal),
-        }
-    }
-}
-
 impl Placing<OrderLineKey, OrderLine> for Tables {
     ghost rows_in = { rows };
 
-    ghost accepts = { λ k x r. Accepts (InsertOrderLine k x) r };
+    ghost refers = { λ k x. kind.Order (order_of_line k) ∷ kind.Stock (supply_of_line x) ∷ [] };
 
     ghost with_row = { λ k x r. changed (InsertOrderLine k x) r };
 
-    fn place(&mut self, key: OrderLineKey, row: OrderLine) -> Result<Placed, NoMemory> {
-        if let Some(placed) = order_line_hindered(self, &key, &row) {
-            return Ok(placed);
+    fn missing(&self, key: &OrderLineKey, row: &OrderLine) -> Option<Key> {
+        if self.order(key.order_key()).is_none() {
+            return Some(Key::Order(key.order_key()));
         }
-        match self.insert_order_line(key, row) {
-            Ok(()) => Ok(Placed::Kept),
-            Err(refusal) => Err(refusal),
+        if self.stock(supply(row)).is_none() {
+            return Some(Key::Stock(supply(row)));
         }
+        None
+    }
+
+    fn put(&mut self, key: OrderLineKey, row: OrderLine) -> Result<(), NoMemory> {
+        self.insert_order_line(key, row)
     }
 }
 
 impl Placing<NewOrderKey, NewOrder> for Tables {
     ghost rows_in = { rows };
 
-    ghost accepts = { λ k x r. Accepts (InsertNewOrder k x) r };
+    ghost refers = { λ k x. kind.Order (order_of_new_order k) ∷ [] };
 
     ghost with_row = { λ k x r. changed (InsertNewOrder k x) r };
 
-    fn place(&mut self, key: NewOrderKey, row: NewOrder) -> Result<Placed, NoMemory> {
-        if let Some(placed) = new_order_hindered(self, &key, &row) {
-            return Ok(placed);
+    fn missing(&self, key: &NewOrderKey, row: &NewOrder) -> Option<Key> {
+        let _no_columns = row;
+        if self.order(key.order_key()).is_none() {
+            return Some(Key::Order(key.order_key()));
         }
-        match self.insert_new_order(key, row) {
-            Ok(()) => Ok(Placed::Kept),
-            Err(refusal) => Err(refusal),
-        }
+        None
+    }
+
+    fn put(&mut self, key: NewOrderKey, row: NewOrder) -> Result<(), NoMemory> {
+        self.insert_new_order(key, row)
     }
 }
 
 impl Placing<HistoryKey, History> for Tables {
     ghost rows_in = { rows };
 
-    ghost accepts = { λ k x r. Accepts (InsertHistory k x) r };
+    ghost refers = { λ k x. kind.Customer x.customer ∷ kind.District x.district ∷ [] };
 
     ghost with_row = { λ k x r. changed (InsertHistory k x) r };
 
-    fn place(&mut self, key: HistoryKey, row: History) -> Result<Placed, NoMemory> {
-        if let Some(placed) = history_hindered(self, &key, &row) {
-            return Ok(placed);
+    fn missing(&self, key: &HistoryKey, row: &History) -> Option<Key> {
+        let _any_key = key;
+        if self.customer(row.customer).is_none() {
+            return Some(Key::Customer(row.customer));
         }
-        match self.insert_history(key, row) {
-            Ok(()) => Ok(Placed::Kept),
-            Err(refusal) => Err(refusal),
+        if self.district(row.district).is_none() {
+            return Some(Key::District(row.district));
         }
+        None
+    }
+
+    fn put(&mut self, key: HistoryKey, row: History) -> Result<(), NoMemory> {
+        self.insert_history(key, row)
     }
 }

@@ -1,3 +1,4 @@
+pub mod BatchFacts
 pub mod HistoryFacts
 pub mod ReadFacts
 pub mod RecordFacts

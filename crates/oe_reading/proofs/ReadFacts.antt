@@ -182,7 +182,7 @@ all_none : {A : Type 0} (P : A → Type 0) → All P []
 all_none P k d h = absurd (omega (arith, h))
 
 module _ {K X : Type 0} (format : Format) (spells : ℕ → List ℕ → K × X → Type 0) (table : Table) where
-  pub standing_start : (start : Told Fault) (r : reading.Reading K X) → r.lot.rows.items ≡ [] → r.lot.count ≡ 0
+  pub standing_start : (start : Told Fault) (r : reading.Reading K X) → r.lot.rows ≡ [] → r.lot.count ≡ 0
       → r.lot.is_counted ≡ false → r.lot.is_headed ≡ false → r.line.items ≡ [] → r.over ≡ false
       → Standing format spells table start [] r start
   standing_start start r e f g k h o = record {
@@ -206,7 +206,7 @@ module _ {K X : Type 0} (format : Format) (spells : ℕ → List ℕ → K × X 
     each = s.each;
     tail = All-append (λ b. b ≢ 10) s.line more s.tail free;
     stands =
-        subst (λ l. Stands format spells table start s.lines l.is_counted l.is_headed l.count l.rows.items told)
+        subst (λ l. Stands format spells table start s.lines l.is_counted l.is_headed l.count l.rows told)
         (sym same) s.stands;
     holds = keeps s.line s.holds;
   }
@@ -214,9 +214,9 @@ module _ {K X : Type 0} (format : Format) (spells : ℕ → List ℕ → K × X 
   pub standing_line : (start : Told Fault) (input last : List ℕ) (r r' : reading.Reading K X) (told told' : Told Fault)
       → IsInLine last
       → ((line : List ℕ) → Holds r.line.items r.over line → (start : Told Fault) (ls : List (List ℕ))
-      → Stands format spells table start ls r.lot.is_counted r.lot.is_headed r.lot.count r.lot.rows.items told
+      → Stands format spells table start ls r.lot.is_counted r.lot.is_headed r.lot.count r.lot.rows told
       → Stands format spells table start (ls ++ (line ++ last) ∷ []) r'.lot.is_counted r'.lot.is_headed r'.lot.count
-      r'.lot.rows.items told')
+      r'.lot.rows told')
       → r'.line.items ≡ [] → r'.over ≡ false
       → Standing format spells table start input r told
       → Standing format spells table start ((input ++ last) ++ 10 ∷ []) r' told'
@@ -266,9 +266,9 @@ module _ {K X : Type 0} (format : Format) (spells : ℕ → List ℕ → K × X 
   pub finished_line : (start : Told Fault) (input : List ℕ) (r r' : reading.Reading K X) (told told' : Told Fault)
       → (r.over ≡ false → 0 < length r.line.items)
       → ((line : List ℕ) → Holds r.line.items r.over line → (start : Told Fault) (ls : List (List ℕ))
-      → Stands format spells table start ls r.lot.is_counted r.lot.is_headed r.lot.count r.lot.rows.items told
+      → Stands format spells table start ls r.lot.is_counted r.lot.is_headed r.lot.count r.lot.rows told
       → Stands format spells table start (ls ++ line ∷ []) r'.lot.is_counted r'.lot.is_headed r'.lot.count
-      r'.lot.rows.items told')
+      r'.lot.rows told')
       → Standing format spells table start input r told → Finished format spells table start input r' told'
   finished_line start input r r' told told' begun takes s = by_line s.line refl
     where

@@ -8,8 +8,7 @@ use Rattle.std.specs.List.Sorted.{IsSortedByKey, IsSortedByClosure, IsStrictlySo
 use Rattle.std.specs.declared.cmp.Ordering.{Ordering}
 use Rattle.std.specs.declared.cmp.Ordering.TheVariants.{Less, Equal, Greater}
 use Rattle.std.specs.Fn.{Mut}
-use Rattle.std.specs.Fn.{Called, ComputesOnPairs}
-use Rattle.std.specs.List.{IsAllAdjacentAnswer}
+use Rattle.std.specs.Fn.{Called}
 use Rattle.std.proofs.lemmas.Fn.{always_returns_same}
 use Rattle.std.proofs.lemmas.List.MinMax.{ranks_by}
 use Rattle.std.proofs.lemmas.Map.Keys.{sorted_from_all_adjacent}
@@ -125,23 +124,6 @@ module _ {K X : Type 0} (cmp : K → K → Ordering) (total : IsTotalOrder cmp) 
       sorts (λ x y. is_lt (cmp x.key y.key)) (ranks_by total key)
       (always_returns_same g (λ a r. is_lt r ≡ is_lt (cmp a.0.now.key a.1.0.now.key)) f
       (λ a r f' k. (ap is_lt (calls a r f' k).0, (calls a r f' k).1)))
-
-  -- where each was found to be below the next
-  pub was_sorted : {g : Mut F (Bor (Numbered K X) × (Bor (Numbered K X) × Unit {0})) Bool} {f : F}
-      (ns : List (Numbered K X)) (b : Bool)
-      → ((e : Numbered K X → Numbered K X → Bool) → ComputesOnPairs g e f
-      → IsAllAdjacentAnswer (λ x y r. r ≡ e x y) ns b)
-      → b ≡ true
-      → ((a : Bor (Numbered K X) × (Bor (Numbered K X) × Unit {0})) (r : Bool) (f' : F) → Called g f a r f'
-      → (r ≡ is_lt (cmp a.0.now.key a.1.0.now.key)) × (f' ≡ f))
-      → IsSortedByKey (λ n. n.key) cmp ns
-  was_sorted {g = g} {f = f} ns b cases found calls =
-      let key : Numbered K X → K = λ n. n.key in
-      let below : Numbered K X → Numbered K X → Bool = λ x y. is_lt (cmp x.key y.key) in
-      let each = subst (λ (r : Bool). IsAllAdjacentAnswer (λ x y s. s ≡ below x y) ns r) found
-      (cases below (always_returns_same g (λ a r. r ≡ is_lt (cmp a.0.now.key a.1.0.now.key)) f calls)) in
-      λ k d low within.
-      (ranks_by total key).one_way (get_or ns k d) (get_or ns (k + 1) d) (sym (each k d within))
 
 less_by : (r s : Ordering) → r ≡ ordering_reverse s → is_lt s ≡ false → is_eq r ≡ false → r ≡ Less
 less_by Less s e l q = refl

@@ -6,4 +6,5 @@ pub mod Lines
 pub mod Reading
 pub mod Rows
 pub mod Twice
+pub mod Batches
 pub mod Tables

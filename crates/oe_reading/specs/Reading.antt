@@ -48,10 +48,10 @@ module _ {K X : Type 0} (format : Format) (spells : ℕ → List ℕ → K × X 
     pub whole : input ≡ flat_map ended lines ++ line
     pub each : All IsInLine lines
     pub tail : IsInLine line
-    pub stands : Stands format spells table start lines r.lot.is_counted r.lot.is_headed r.lot.count r.lot.rows.items
+    pub stands : Stands format spells table start lines r.lot.is_counted r.lot.is_headed r.lot.count r.lot.rows
         told
     pub holds : Holds r.line.items r.over line
 
   -- all lines of this input were taken
   abbrev pub Finished : Told Fault → List ℕ → reading.Reading K X → Told Fault → Type 0
-  Finished start input r told = IsRead format spells table input start r.lot.rows.items told
+  Finished start input r told = IsRead format spells table input start r.lot.rows told

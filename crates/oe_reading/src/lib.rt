@@ -3,6 +3,7 @@
 //! read is a fault. Clause numbers are TPC Benchmark C 5.11's.
 #![tactic(auto)]
 
+pub mod batches;
 pub mod faults;
 pub mod formats;
 pub mod lines;
@@ -10,6 +11,7 @@ mod records;
 pub mod rows;
 pub mod tables;
 
+pub use batches::{Batches, Walk};
 pub use faults::{Fault, Faults, Wrong};
 pub use formats::Format;
 pub use lines::{LINE, Numbered, PIECE, Stop};

@@ -11,6 +11,7 @@ ghost use Rattle.oe_reading.specs.Reading.{TakesOne, TakesRead, CountsOne, Stand
 ghost use Rattle.oe_reading.specs.declared.formats.Format.{Format};
 ghost use Rattle.oe_reading.specs.declared.formats.Format.TheVariants as written;
 
+use crate::batches::Gathered;
 use crate::faults::{Fault, Faults, Wrong};
 use crate::formats::{Format, ends_in_return, heads, null_place, text_in};
 use crate::records::{Record, Unread};
@@ -20,6 +21,7 @@ use memchr::memchr;
 use oe_ports::ports::Intake;
 use oe_rowlines::LineFault;
 use oe_rows::Table;
+use oe_values::TableKey;
 use oe_values::fronts::{after, decimal};
 use std::alloc::Global;
 
@@ -48,8 +50,8 @@ pub struct Numbered<K, R> {
 
 // The rows that lines have spelled so far.
 #[derive(Drop)]
-struct Lot<K, R> {
-    rows: Vec<Numbered<K, R>>,
+struct Lot<K: TableKey, R> {
+    rows: Gathered<K, R>,
     // How many lines came before.
     count: u64,
     // The line came that says how many rows there are.
@@ -62,22 +64,12 @@ struct Lot<K, R> {
 
 // The rows so far, and the line that is read.
 #[derive(Drop)]
-struct Reading<K, R> {
+struct Reading<K: TableKey, R> {
     lot: Lot<K, R>,
     // The beginning of a line whose end was not read yet.
     line: ArrayVec<u8, LINE>,
     // The line is too long, and its bytes are not kept.
     over: bool,
-}
-
-/// Appends a value.
-fn put_last<T: Drop>(values: &mut Vec<T>, value: T) -> Result<(), Stop>
-    ensures { OnOk result (values.new.items ≡ values.old.items ++ value ∷ []) }
-{
-    match values.push(value) {
-        Ok(()) => Ok(()),
-        Err(_) => Err(Stop::NoMemory),
-    }
 }
 
 /// Reads `rows N`, which may be a file's last line.
@@ -99,7 +91,7 @@ fn beside_rows(is_headed: bool) -> u64
     if is_headed { 2 } else { 1 }
 }
 
-impl<K: Drop, R: RowLine<K> + Drop> Lot<K, R> {
+impl<K: TableKey + Drop, R: RowLine<K> + Drop> Lot<K, R> {
     // Tells what is wrong with the line.
     fn tell(&self, wrong: Wrong, faults: &mut Faults)
         ensures { faults.new
@@ -116,7 +108,7 @@ impl<K: Drop, R: RowLine<K> + Drop> Lot<K, R> {
     // Takes the next line, which says how many rows there are.
     fn take_count(&mut self, said: u64, faults: &mut Faults)
         requires { said < 10 ^ 15 }
-        ensures rows { self.new.rows.items ≡ self.old.rows.items }
+        ensures rows { self.new.rows ≡ self.old.rows }
         ensures count { self.new.count ≡ self.old.count }
         ensures counted { self.new.is_counted ≡ true }
         ensures headed { self.new.is_headed ≡ self.old.is_headed }
@@ -135,7 +127,7 @@ impl<K: Drop, R: RowLine<K> + Drop> Lot<K, R> {
         ensures counted { self.new.is_counted ≡ self.old.is_counted }
         ensures headed { self.new.is_headed ≡ self.old.is_headed }
         ensures taken { OnOk result (TakesOne written.Dump R.spells R.own_table self.old.count
-            text.now self.old.rows.items faults.old self.new.rows.items faults.new) }
+            text.now self.old.rows faults.old self.new.rows faults.new) }
     {
         let read = R::read(text, self.count);
         self.take_read(read, faults)
@@ -151,7 +143,7 @@ impl<K: Drop, R: RowLine<K> + Drop> Lot<K, R> {
         ensures counted { self.new.is_counted ≡ self.old.is_counted }
         ensures headed { self.new.is_headed ≡ self.old.is_headed }
         ensures taken { OnOk result (TakesRead R.own_table self.old.count read
-            self.old.rows.items faults.old self.new.rows.items faults.new) }
+            self.old.rows faults.old self.new.rows faults.new) }
     {
         match read {
             Ok((key, row)) => {
@@ -160,7 +152,7 @@ impl<K: Drop, R: RowLine<K> + Drop> Lot<K, R> {
                     key,
                     row,
                 };
-                put_last(&mut self.rows, numbered)
+                self.rows.push(numbered)
             }
             Err(fault) => {
                 self.tell(Wrong::NoRow(fault), faults);
@@ -175,7 +167,7 @@ impl<K: Drop, R: RowLine<K> + Drop> Lot<K, R> {
         ensures counted { self.new.is_counted ≡ self.old.is_counted }
         ensures headed { self.new.is_headed ≡ self.old.is_headed }
         ensures taken { OnOk result (TakesOne written.Csv R.spells R.own_table self.old.count
-            text.now self.old.rows.items faults.old self.new.rows.items faults.new) }
+            text.now self.old.rows faults.old self.new.rows faults.new) }
     {
         match self.values.read(text, null_place(R::table())) {
             Ok(()) => {
@@ -196,7 +188,7 @@ impl<K: Drop, R: RowLine<K> + Drop> Lot<K, R> {
         ensures counted { self.new.is_counted ≡ self.old.is_counted }
         ensures headed { self.new.is_headed ≡ self.old.is_headed }
         ensures taken { OnOk result (TakesOne format R.spells R.own_table self.old.count
-            text.now self.old.rows.items faults.old self.new.rows.items faults.new) }
+            text.now self.old.rows faults.old self.new.rows faults.new) }
     {
         match format {
             Format::Dump => self.take_row(text, faults),
@@ -208,9 +200,9 @@ impl<K: Drop, R: RowLine<K> + Drop> Lot<K, R> {
     fn take_line(&mut self, format: Format, line: &[u8], faults: &mut Faults) -> Result<(), Stop>
         ensures { OnOk result ((start : Told Fault) (ls : List (List ℕ)) →
             Stands format R.spells R.own_table start ls self.old.is_counted self.old.is_headed
-            self.old.count self.old.rows.items faults.old →
+            self.old.count self.old.rows faults.old →
             Stands format R.spells R.own_table start (ls ++ line.now ∷ []) self.new.is_counted
-            self.new.is_headed self.new.count self.new.rows.items faults.new) }
+            self.new.is_headed self.new.count self.new.rows faults.new) }
     {
         self.count = self.count.saturating_add(1);
         if self.is_counted {
@@ -238,16 +230,16 @@ impl<K: Drop, R: RowLine<K> + Drop> Lot<K, R> {
         ensures { (format : Format) (start : Told Fault) (ls : List (List ℕ)) (line : List ℕ) →
             4_096 < length line →
             Stands format R.spells R.own_table start ls self.old.is_counted self.old.is_headed
-            self.old.count self.old.rows.items faults.old →
+            self.old.count self.old.rows faults.old →
             Stands format R.spells R.own_table start (ls ++ line ∷ []) self.new.is_counted
-            self.new.is_headed self.new.count self.new.rows.items faults.new }
+            self.new.is_headed self.new.count self.new.rows faults.new }
     {
         self.count = self.count.saturating_add(1);
         self.tell(Wrong::TooLong, faults);
     }
 }
 
-impl<K: Drop, R: RowLine<K> + Drop> Reading<K, R> {
+impl<K: TableKey + Drop, R: RowLine<K> + Drop> Reading<K, R> {
     // Nothing is read.
     fn new(alloc: Global) -> Self
         ensures { (format : Format) (start : Told Fault) →
@@ -255,7 +247,7 @@ impl<K: Drop, R: RowLine<K> + Drop> Reading<K, R> {
     {
         Reading {
             lot: Lot {
-                rows: Vec::new(alloc),
+                rows: Gathered::new(alloc),
                 count: 0,
                 is_counted: false,
                 is_headed: false,
@@ -287,9 +279,9 @@ impl<K: Drop, R: RowLine<K> + Drop> Reading<K, R> {
             Holds self.old.line.items self.old.over line →
             (start : Told Fault) (ls : List (List ℕ)) →
             Stands format R.spells R.own_table start ls self.old.lot.is_counted
-            self.old.lot.is_headed self.old.lot.count self.old.lot.rows.items faults.old →
+            self.old.lot.is_headed self.old.lot.count self.old.lot.rows faults.old →
             Stands format R.spells R.own_table start (ls ++ line ∷ []) self.new.lot.is_counted
-            self.new.lot.is_headed self.new.lot.count self.new.lot.rows.items faults.new) }
+            self.new.lot.is_headed self.new.lot.count self.new.lot.rows faults.new) }
         ensures line { self.new.line.items ≡ [] }
         ensures over { self.new.over ≡ false }
     {
@@ -311,10 +303,10 @@ impl<K: Drop, R: RowLine<K> + Drop> Reading<K, R> {
             Holds self.old.line.items self.old.over line →
             (start : Told Fault) (ls : List (List ℕ)) →
             Stands format R.spells R.own_table start ls self.old.lot.is_counted
-            self.old.lot.is_headed self.old.lot.count self.old.lot.rows.items faults.old →
+            self.old.lot.is_headed self.old.lot.count self.old.lot.rows faults.old →
             Stands format R.spells R.own_table start (ls ++ (line ++ last.now) ∷ [])
             self.new.lot.is_counted self.new.lot.is_headed self.new.lot.count
-            self.new.lot.rows.items faults.new) }
+            self.new.lot.rows faults.new) }
         ensures line { self.new.line.items ≡ [] }
         ensures over { self.new.over ≡ false }
     {
@@ -372,7 +364,7 @@ impl<K: Drop, R: RowLine<K> + Drop> Reading<K, R> {
         requires { (start : Told Fault) →
             Standing format R.spells R.own_table start [] self.old start }
         ensures { OnOk result (FileRead format R.spells R.own_table (S.source source.old)
-            (S.source source.new) faults.old self.new.lot.rows.items faults.new) }
+            (S.source source.new) faults.old self.new.lot.rows faults.new) }
     {
         let mut buf = [0u8; PIECE];
         for _ in 0..u64::MAX {
@@ -395,14 +387,14 @@ impl<K: Drop, R: RowLine<K> + Drop> Reading<K, R> {
 /// Each line is taken in turn: it spells a row, or says as the last one how many rows there are, or
 /// it is a fault, which is added to `faults`. Lines end in byte 10; the last may lack its end. What
 /// was read is lost where a read fails or there is no memory; the faults stay.
-pub(crate) fn read_file<K: Drop, R: RowLine<K> + Drop, S: Intake>(
+pub(crate) fn read_file<K: TableKey + Drop, R: RowLine<K> + Drop, S: Intake>(
     alloc: Global,
     format: Format,
     source: &mut S,
     faults: &mut Faults,
-) -> Result<Vec<Numbered<K, R>>, Stop>
+) -> Result<Gathered<K, R>, Stop>
     ensures { IfOk result (λ rows. FileRead format R.spells R.own_table (S.source source.old)
-        (S.source source.new) faults.old rows.items faults.new) }
+        (S.source source.new) faults.old rows faults.new) }
 {
     let mut reading = Reading::new(alloc);
     match reading.run(format, source, faults) {

@@ -1,10 +1,12 @@
 //! A table's file to its rows, in the order of their keys.
 ghost use Rattle.std.specs.Prelude.{◌≡◌, IfOk, OnOk};
 ghost use Rattle.std.specs.List.Sorted.{IsPermutation, IsSortedByKey};
+ghost use Rattle.oe_reading.specs.Batches.{AreOrdered};
 ghost use Rattle.oe_reading.specs.Fault.{each_pushed};
 ghost use Rattle.oe_reading.specs.Twice.{twice_at, twice_in};
 ghost use Rattle.oe_reading.specs.Tables.{TableReadAs, TableRead};
 
+use crate::batches::{Batches, Gathered};
 use crate::faults::{Fault, Faults, Wrong};
 use crate::formats::Format;
 use crate::lines::{Numbered, Stop, read_file};
@@ -18,9 +20,6 @@ fn sort<K: TableKey, R>(rows: &mut Vec<Numbered<K, R>>) -> Result<(), NoMemory>
     ensures moved { IsPermutation rows.old.items rows.new.items }
     ensures sorted { OnOk result (IsSortedByKey (λ n. n.key) K.cmp rows.new.items) }
 {
-    if rows.is_sorted_by(|a, b| a.key.cmp(&b.key).is_lt()) {
-        return Ok(());
-    }
     match rows.sort_by(|a, b| a.key.cmp(&b.key)) {
         Ok(()) => Ok(()),
         Err(_) => Err(NoMemory),
@@ -55,6 +54,49 @@ fn tell_twice<K: TableKey, R: RowLine<K>>(rows: &[Numbered<K, R>], faults: &mut 
     }
 }
 
+/// Sorts rows by their keys, and tells of each whose key an earlier one has.
+fn order<K: TableKey + Drop, R: RowLine<K> + Drop>(
+    alloc: Global,
+    rows: Batches<K, R>,
+    faults: &mut Faults,
+) -> Result<Batches<K, R>, Stop>
+    ensures { IfOk result (λ ordered. AreOrdered K.cmp R.own_table R.key_of rows ordered faults.old
+        faults.new) }
+{
+    let mut joined = match rows.join(alloc) {
+        Ok(joined) => joined,
+        Err(stop) => return Err(stop),
+    };
+    match sort(&mut joined) {
+        Ok(()) => {
+            tell_twice(&joined, faults);
+            Batches::of(alloc, joined)
+        }
+        Err(_) => Err(Stop::NoMemory),
+    }
+}
+
+/// Gives rows in the order of their keys, and tells of each whose key an earlier one has. Rows that
+/// ascend are given as they are.
+fn in_order<K: TableKey + Drop, R: RowLine<K> + Drop>(
+    alloc: Global,
+    gathered: Gathered<K, R>,
+    faults: &mut Faults,
+) -> Result<Batches<K, R>, Stop>
+    ensures { IfOk result (λ ordered. AreOrdered K.cmp R.own_table R.key_of gathered ordered
+        faults.old faults.new) }
+{
+    let ascends = gathered.ascends();
+    let rows = match gathered.into_batches() {
+        Ok(rows) => rows,
+        Err(stop) => return Err(stop),
+    };
+    if ascends {
+        return Ok(rows);
+    }
+    order(alloc, rows, faults)
+}
+
 /// Reads the rows of a table's file of this format, and gives them in the order of their keys.
 ///
 /// Each line is a row of the table, or says as the last one how many rows there are; the first of a
@@ -66,20 +108,13 @@ pub fn read_table_as<K: TableKey + Drop, R: RowLine<K> + Drop, S: Intake>(
     format: Format,
     source: &mut S,
     faults: &mut Faults,
-) -> Result<Vec<Numbered<K, R>>, Stop>
+) -> Result<Batches<K, R>, Stop>
     ensures { IfOk result (λ rows. TableReadAs format K.cmp R.key_of R.spells R.own_table
-        (S.source source.old) (S.source source.new) faults.old faults.new rows.items) }
+        (S.source source.old) (S.source source.new) faults.old faults.new rows) }
 {
-    let mut rows = match read_file(alloc, format, source, faults) {
-        Ok(rows) => rows,
-        Err(stop) => return Err(stop),
-    };
-    match sort(&mut rows) {
-        Ok(()) => {
-            tell_twice(&rows, faults);
-            Ok(rows)
-        }
-        Err(_) => Err(Stop::NoMemory),
+    match read_file(alloc, format, source, faults) {
+        Ok(gathered) => in_order(alloc, gathered, faults),
+        Err(stop) => Err(stop),
     }
 }
 
@@ -91,9 +126,9 @@ pub fn read_table<K: TableKey + Drop, R: RowLine<K> + Drop, S: Intake>(
     alloc: Global,
     source: &mut S,
     faults: &mut Faults,
-) -> Result<Vec<Numbered<K, R>>, Stop>
+) -> Result<Batches<K, R>, Stop>
     ensures { IfOk result (λ rows. TableRead K.cmp R.key_of R.spells R.own_table
-        (S.source source.old) (S.source source.new) faults.old faults.new rows.items) }
+        (S.source source.old) (S.source source.new) faults.old faults.new rows) }
 {
     read_table_as(alloc, Format::Dump, source, faults)
 }

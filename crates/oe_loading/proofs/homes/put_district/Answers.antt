@@ -1,7 +1,7 @@
 use Rattle.std.proofs.Common.{rules}
 use Rattle.std.specs.Int.{IsInRange}
 use Rattle.std.proofs.lemmas.Result.{on_ok_weaker}
-use Rattle.oe_loading.proofs.BaseFacts.{put_one_district}
+use Rattle.oe_loading.proofs.HomeFacts.{put_one_district}
 use Rattle.oe_loading.proofs.homes.put_district.Goals as goal
 
 pub returns : goal.returns

@@ -4,10 +4,10 @@ use Rattle.oe_reading.specs.Reading.{TakesRead}
 use Rattle.oe_reading.proofs.lines.Lot.take_read.Goals as goal
 
 pub returns-in-Ok-clause-taken : goal.returns-in-Ok-clause-taken
-returns-in-Ok-clause-taken g c = on_ok_weaker c.put_last.result
+returns-in-Ok-clause-taken g c = on_ok_weaker c.push.result
     (λ e.
     subst
-    (λ r. TakesRead g.R.RowLine.own_table c.args.self.now.count r c.args.self.now.rows.items c.args.faults.now
-    c.put_last.new.values.items c.args.faults.now)
+    (λ r. TakesRead g.R.RowLine.own_table c.args.self.now.count r c.args.self.now.rows c.args.faults.now
+    c.push.new.self c.args.faults.now)
     (sym c.in-Ok.is) (e, refl))
-    c.put_last.ensures
+    c.push.ensures

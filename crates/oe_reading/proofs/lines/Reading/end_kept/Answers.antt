@@ -10,6 +10,6 @@ returns-clause-taken g c = on_ok_weaker c.take_line-taken.result
     subst
     (λ (line : List ℕ). Stands c.args.format g.R.RowLine.spells g.R.RowLine.own_table start (ls ++ line ∷ [])
     c.take_line-taken.new.self.is_counted c.take_line-taken.new.self.is_headed c.take_line-taken.new.self.count
-    c.take_line-taken.new.self.rows.items
+    c.take_line-taken.new.self.rows
     c.take_line-taken.new.faults) (c.as_slice.ensures.value ∙ held.0) (f start ls s))
     c.take_line-taken.ensures

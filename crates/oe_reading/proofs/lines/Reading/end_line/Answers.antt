@@ -12,6 +12,6 @@ returns-clause-taken g c = on_ok_weaker c.take_line.result
     (λ (line : List ℕ). Stands c.args.format g.R.RowLine.spells g.R.RowLine.own_table start
     (ls ++ (line ++ c.args.last.now) ∷ [])
     c.take_line.new.self.is_counted c.take_line.new.self.is_headed c.take_line.new.self.count
-    c.take_line.new.self.rows.items
+    c.take_line.new.self.rows
     c.take_line.new.faults) (sym none.1 ∙ held.0) (f start ls s))
     c.take_line.ensures

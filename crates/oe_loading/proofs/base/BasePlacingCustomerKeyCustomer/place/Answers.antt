@@ -1,9 +1,0 @@
-use Rattle.std.proofs.Common.{rules}
-use Rattle.oe_loading.proofs.BaseFacts.{base_customer}
-use Rattle.oe_loading.proofs.base.BasePlacingCustomerKeyCustomer.place.Goals as goal
-
-pub invariant_of-self : goal.invariant_of-self
-invariant_of-self c =
-    base_customer c.put_new.result _ c.self.invariant c.put_new.new.self c.args.key c.args.row
-    (search rules) (search rules)
-    c.put_new.ensures.rows c.put_new.ensures.err
