@@ -1,7 +1,9 @@
 //! A line on an output of its own for each line of a script that is answered `BadLine`, which says
-//! why.
+//! why; and the forms that lines may have.
 #![tactic(auto)]
 
 pub mod explaining;
+pub mod forms;
 
 pub use explaining::{Explainer, explain_script};
+pub use forms::write_forms;

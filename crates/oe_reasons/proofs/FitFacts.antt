@@ -9,6 +9,9 @@ use Rattle.std.specs.Prelude.{is_some, if◌then◌else◌}
 use Rattle.std.specs.List.{All}
 use Rattle.std.specs.Int.{IsInRange}
 use Rattle.std.proofs.lemmas.List.Elements.{All-head, All-tail}
+use Rattle.oe_rows.specs.declared.keys.Table.{Table}
+use Rattle.oe_rows.specs.declared.keys.Table.TheVariants as table
+use Rattle.oe_rows.specs.Key.{table_name}
 use Rattle.oe_rows.specs.Credit.{money_text}
 use Rattle.oe_values.specs.Stamp.{two_digits}
 use Rattle.oe_values.proofs.FrontFacts.{decimal_only, pair_only}
@@ -33,7 +36,7 @@ use Rattle.oe_lines.proofs.StampFacts.{stamp_only}
 use Rattle.oe_lines.specs.Words.{last_name_of}
 use Rattle.oe_reasons.specs.declared.forms.Column.{Column}
 use Rattle.oe_reasons.specs.declared.forms.Column.TheVariants as column
-use Rattle.oe_reasons.specs.Columns.{Wrong, amount_in, fault_of, greatest, least, line_in}
+use Rattle.oe_reasons.specs.Columns.{Wrong, amount_in, fault_of, greatest, is_table, least, line_in}
 use Rattle.oe_reasons.specs.Columns.{number_fault, number_in, out_of_range}
 use Rattle.oe_reasons.specs.Verbs.{is_word}
 use Rattle.oe_reasons.specs.Laws.{Fits, Words_are_right}
@@ -147,8 +150,26 @@ warehouse_right w h = right column.Warehouse w (omega (arith, h.1)) h.0 h.1
 district_right : (d : ℕ) → IsInRange 1 10 d → fault_of column.District (decimal d) ≡ None
 district_right d h = right column.District d (omega (arith, h.1)) h.0 h.1
 
+customer_warehouse_right : (w : ℕ) → IsInRange 1 16 w → fault_of column.CustomerWarehouse (decimal w) ≡ None
+customer_warehouse_right w h = right column.CustomerWarehouse w (omega (arith, h.1)) h.0 h.1
+
+customer_district_right : (d : ℕ) → IsInRange 1 10 d → fault_of column.CustomerDistrict (decimal d) ≡ None
+customer_district_right d h = right column.CustomerDistrict d (omega (arith, h.1)) h.0 h.1
+
 carrier_right : (n : ℕ) → IsInRange 1 10 n → fault_of column.Carrier (decimal n) ≡ None
 carrier_right n h = right column.Carrier n (omega (arith, h.1)) h.0 h.1
+
+table_right : (t : Table) → fault_of column.Table (table_name t) ≡ None
+unfolding is_table is_word
+table_right table.Warehouse = refl
+table_right table.District = refl
+table_right table.Customer = refl
+table_right table.History = refl
+table_right table.NewOrder = refl
+table_right table.Order = refl
+table_right table.OrderLine = refl
+table_right table.Item = refl
+table_right table.Stock = refl
 
 pub words_are_right : Words_are_right
 unfolding order_lines
@@ -181,9 +202,9 @@ words_are_right (command.Begin t (request.Payment q)) h = record {
           (
             district_right q.district.district h.1.district.1,
             (
-              warehouse_right q.customer_district.warehouse h.1.customer_district.0,
+              customer_warehouse_right q.customer_district.warehouse h.1.customer_district.0,
               (
-                district_right q.customer_district.district h.1.customer_district.1,
+                customer_district_right q.customer_district.district h.1.customer_district.1,
                 (
                   buyer_right q.customer h.1.customer,
                   (amount_right q.amount h.1.amount, (stamp_right q.stamp h.1.stamp, tt)),
@@ -285,7 +306,7 @@ words_are_right (command.Rollback t) h = record {
   few = omega arith;
 }
 words_are_right (command.Show (display.Rows t)) h = record {
-  fit = (refl, (refl, tt));
+  fit = (refl, (table_right t, tt));
   enough = omega arith;
   few = omega arith;
 }

@@ -2,3 +2,4 @@ mod JoinFacts
 mod PlaceFacts
 mod RangeFacts
 mod FitFacts
+mod ListFacts

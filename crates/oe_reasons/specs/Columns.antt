@@ -2,11 +2,17 @@
 use Rattle.std.specs.Prelude.{◌≡◌, ℕ, zero, suc, ◌+◌, ◌*◌, ◌<◌, ◌==◌, Bool, nat_lt, List, [], ◌∷◌, take, drop}
 use Rattle.std.specs.Prelude.{length, position, count_by, Option, Some, None, is_some, codes, slice_get, ◌⊎◌}
 use Rattle.std.specs.Prelude.{if◌then◌else◌}
-use Rattle.std.specs.Option.{option_map}
+use Rattle.std.specs.Option.{option_map, option_or}
+use Rattle.std.specs.List.{flat_map, list_any}
 use Rattle.oe_values.specs.Front.{◌>>=◌, after_of, pair_of, decimal_of, alone}
+use Rattle.oe_rows.specs.declared.keys.Table.{Table}
+use Rattle.oe_rows.specs.declared.keys.Table.TheVariants as table
+use Rattle.oe_rows.specs.Key.{table_name}
 use Rattle.oe_lines.specs.Words.{stamp_of, last_name_of}
 use Rattle.oe_reasons.specs.declared.verbs.Verb.{Verb}
 use Rattle.oe_reasons.specs.declared.verbs.Verb.TheVariants as verb
+use Rattle.oe_reasons.specs.declared.verbs.Kind.{Kind}
+use Rattle.oe_reasons.specs.declared.verbs.Kind.TheVariants as kind
 use Rattle.oe_reasons.specs.declared.forms.Column.{Column}
 use Rattle.oe_reasons.specs.declared.forms.Column.TheVariants as column
 use Rattle.oe_reasons.specs.declared.forms.Form.{Form}
@@ -14,41 +20,66 @@ use Rattle.oe_reasons.specs.declared.forms.Form.TheVariants as form
 use Rattle.oe_reasons.specs.declared.faults.Fault.{Fault}
 use Rattle.oe_reasons.specs.declared.faults.Fault.TheVariants as fault
 use Rattle.oe_reasons.specs.declared.faults.WrongWord.{WrongWord}
-use Rattle.oe_reasons.specs.Verbs.{is_word}
+use Rattle.oe_reasons.specs.Verbs.{is_word, kind_of, verbs}
 
 -- THE TABLE OF FORMS
 
--- the columns of a form, in the order of its words
+-- the forms that begin with a verb, and all forms
+abbrev pub forms_of : Verb → List Form
+forms_of verb.Open = form.Opening ∷ []
+forms_of verb.Begin = form.Payment ∷ form.NewOrder ∷ form.Delivery ∷ form.Deliveries ∷ []
+forms_of verb.Next = form.Next ∷ []
+forms_of verb.Run = form.Run ∷ []
+forms_of verb.Save = form.Save ∷ []
+forms_of verb.Back = form.Back ∷ []
+forms_of verb.Rollback = form.Rollback ∷ []
+forms_of verb.Read = form.Status ∷ form.Level ∷ []
+forms_of verb.Audit = form.Audit ∷ []
+forms_of verb.Purge = form.Purge ∷ []
+forms_of verb.Rewind = form.Rewind ∷ []
+forms_of verb.Dump = form.Dump ∷ []
+forms_of verb.Waits = form.Waits ∷ []
+forms_of verb.Locks = form.Locks ∷ []
+
+abbrev pub forms : List Form
+forms = flat_map forms_of verbs
+
+-- the columns of a form, in the order of its words; its own words stand in it as they are
 abbrev pub columns_of : Form → List Column
-columns_of form.Opening = column.Word ∷ column.Warehouses ∷ column.Customers ∷ column.Items ∷ column.Extents ∷ []
+columns_of form.Opening =
+    column.Verb verb.Open ∷ column.Warehouses ∷ column.Customers ∷ column.Items ∷ column.Extents ∷ []
 columns_of form.Payment =
-    column.Word ∷ column.Terminal ∷ column.Word ∷ column.Warehouse ∷ column.District ∷ column.Warehouse ∷
-    column.District ∷ column.Buyer ∷ column.Amount ∷ column.Stamp ∷ []
+    column.Verb verb.Begin ∷ column.Terminal ∷ column.Kind kind.Payment ∷ column.Warehouse ∷ column.District ∷
+    column.CustomerWarehouse ∷ column.CustomerDistrict ∷ column.Buyer ∷ column.Amount ∷ column.Stamp ∷ []
 columns_of form.NewOrder =
-    column.Word ∷ column.Terminal ∷ column.Word ∷ column.Warehouse ∷ column.District ∷ column.Customer ∷
-    column.Stamp ∷ column.OrderLine ∷ column.OrderLine ∷ column.OrderLine ∷ column.OrderLine ∷ column.OrderLine ∷
-    column.OrderLine ∷ column.OrderLine ∷ column.OrderLine ∷ column.OrderLine ∷ column.OrderLine ∷ column.OrderLine
-    ∷ column.OrderLine ∷ column.OrderLine ∷ column.OrderLine ∷ column.OrderLine ∷ []
+    column.Verb verb.Begin ∷ column.Terminal ∷ column.Kind kind.NewOrder ∷ column.Warehouse ∷ column.District ∷
+    column.Customer ∷ column.Stamp ∷ column.OrderLine ∷ column.OrderLine ∷ column.OrderLine ∷
+    column.OrderLine ∷ column.OrderLine ∷ column.OrderLine ∷ column.OrderLine ∷ column.OrderLine ∷
+    column.OrderLine ∷ column.OrderLine ∷ column.OrderLine ∷ column.OrderLine ∷ column.OrderLine ∷
+    column.OrderLine ∷ column.OrderLine ∷ []
 columns_of form.Delivery =
-    column.Word ∷ column.Terminal ∷ column.Word ∷ column.Warehouse ∷ column.District ∷ column.Carrier ∷ column.Stamp
-    ∷ []
+    column.Verb verb.Begin ∷ column.Terminal ∷ column.Kind kind.Delivery ∷ column.Warehouse ∷ column.District ∷
+    column.Carrier ∷ column.Stamp ∷ []
 columns_of form.Deliveries =
-    column.Word ∷ column.Terminal ∷ column.Word ∷ column.Warehouse ∷ column.Carrier ∷ column.Stamp ∷ []
-columns_of form.Next = column.Word ∷ column.Terminal ∷ []
-columns_of form.Run = column.Word ∷ column.Terminal ∷ []
-columns_of form.Save = column.Word ∷ column.Terminal ∷ []
-columns_of form.Back = column.Word ∷ column.Terminal ∷ []
-columns_of form.Rollback = column.Word ∷ column.Terminal ∷ []
+    column.Verb verb.Begin ∷ column.Terminal ∷ column.Kind kind.Delivery ∷ column.Warehouse ∷ column.Carrier ∷
+    column.Stamp ∷ []
+columns_of form.Next = column.Verb verb.Next ∷ column.Terminal ∷ []
+columns_of form.Run = column.Verb verb.Run ∷ column.Terminal ∷ []
+columns_of form.Save = column.Verb verb.Save ∷ column.Terminal ∷ []
+columns_of form.Back = column.Verb verb.Back ∷ column.Terminal ∷ []
+columns_of form.Rollback = column.Verb verb.Rollback ∷ column.Terminal ∷ []
 columns_of form.Status =
-    column.Word ∷ column.Moment ∷ column.Word ∷ column.Warehouse ∷ column.District ∷ column.Buyer ∷ []
+    column.Verb verb.Read ∷ column.Moment ∷ column.Kind kind.Status ∷ column.Warehouse ∷ column.District ∷
+    column.Buyer ∷ []
 columns_of form.Level =
-    column.Word ∷ column.Moment ∷ column.Word ∷ column.Warehouse ∷ column.District ∷ column.Threshold ∷ []
-columns_of form.Audit = column.Word ∷ column.Condition ∷ column.Moment ∷ []
-columns_of form.Purge = column.Word ∷ column.Moment ∷ []
-columns_of form.Rewind = column.Word ∷ column.Moment ∷ []
-columns_of form.Dump = column.Word ∷ column.Table ∷ []
-columns_of form.Waits = column.Word ∷ []
-columns_of form.Locks = column.Word ∷ []
+    column.Verb verb.Read ∷ column.Moment ∷ column.Kind kind.Level ∷ column.Warehouse ∷ column.District ∷
+    column.Threshold ∷ []
+columns_of form.Audit = column.Verb verb.Audit ∷ column.Condition ∷ column.Moment ∷ []
+columns_of form.Purge = column.Verb verb.Purge ∷ column.Moment ∷ []
+columns_of form.Rewind = column.Verb verb.Rewind ∷ column.Moment ∷ []
+columns_of form.Dump = column.Verb verb.Dump ∷ column.Table ∷ []
+columns_of form.Waits = column.Verb verb.Waits ∷ []
+columns_of form.Locks = column.Verb verb.Locks ∷ []
 
 -- an order has 5 to 15 lines; each other form has as many words as columns
 abbrev pub least_words : Form → ℕ
@@ -67,6 +98,8 @@ least column.Extents = 2
 least column.Terminal = 1
 least column.Warehouse = 1
 least column.District = 1
+least column.CustomerWarehouse = 1
+least column.CustomerDistrict = 1
 least column.Customer = 1
 least column.Supply = 1
 least column.Item = 1
@@ -86,6 +119,8 @@ greatest column.Extents = 4_096
 greatest column.Terminal = 64
 greatest column.Warehouse = 16
 greatest column.District = 10
+greatest column.CustomerWarehouse = 16
+greatest column.CustomerDistrict = 10
 greatest column.Customer = 3_000
 greatest column.Supply = 16
 greatest column.Item = 999_999
@@ -152,17 +187,12 @@ abbrev pub number_fault : Column → Option ℕ → Wrong
 number_fault c None = Some (c, fault.Misspelt)
 number_fault c (Some n) = out_of_range c n
 
--- the first that is wrong
-abbrev pub or_else : Wrong → Wrong → Wrong
-or_else None other = other
-or_else (Some w) other = Some w
-
--- an order's line: its supply warehouse, its item and the quantity
+-- an order's line: the first that is wrong of its supply warehouse, its item and the quantity
 abbrev pub line_fault : Option (ℕ × ℕ × ℕ) → Wrong
 line_fault None = Some (column.OrderLine, fault.Misspelt)
 line_fault (Some l) =
-    or_else (out_of_range column.Supply l.0)
-    (or_else (out_of_range column.Item l.1) (out_of_range column.Quantity l.2))
+    option_or (option_or (out_of_range column.Supply l.0) (out_of_range column.Item l.1))
+    (out_of_range column.Quantity l.2)
 
 unfoldable pub line_in : List ℕ → Option (ℕ × ℕ × ℕ)
 line_in s = do
@@ -173,10 +203,20 @@ line_in s = do
   q ← decimal_of b
   alone (w.0, i.0, q.0) q.1
 
--- a stamp, a last name and a table are what the grammar reads as one
+-- a word is the name of one of the nine tables
+abbrev pub tables : List Table
+tables =
+    table.Warehouse ∷ table.District ∷ table.Customer ∷ table.History ∷ table.NewOrder ∷ table.Order ∷
+    table.OrderLine ∷ table.Item ∷ table.Stock ∷ []
+
+unfoldable pub is_table : List ℕ → Bool
+is_table s = list_any (λ t. is_word s (table_name t)) tables
+
+-- a form's own words are right, since they chose it; a stamp and a last name are what the grammar reads as one
 abbrev pub fault_of : Column → List ℕ → Wrong
-fault_of column.Word s = None
-fault_of column.Table s = None
+fault_of (column.Verb v) s = None
+fault_of (column.Kind k) s = None
+fault_of column.Table s = if is_table s then None else Some (column.Table, fault.Misspelt)
 fault_of column.Stamp s = if is_some (stamp_of s) then None else Some (column.Stamp, fault.Misspelt)
 fault_of column.OrderLine s = line_fault (line_in s)
 fault_of column.Buyer s =
@@ -191,23 +231,27 @@ fault_of c s = number_fault c (number_in s)
 -- THE FORM OF A LINE
 
 -- the form that a line has to be of, by its verb, its third word, and of a delivery by whether it has a seventh
-abbrev pub begun_of : List ℕ → Bool → Option Form
-begun_of word is_long =
-    if is_word word (codes "payment") then Some form.Payment
-    else if is_word word (codes "neworder") then Some form.NewOrder
-    else if is_word word (codes "delivery") then (if is_long then Some form.Delivery else Some form.Deliveries)
-    else None
+abbrev pub begun_of : Kind → Bool → Option Form
+begun_of kind.Payment is_long = Some form.Payment
+begun_of kind.NewOrder is_long = Some form.NewOrder
+begun_of kind.Delivery is_long = if is_long then Some form.Delivery else Some form.Deliveries
+begun_of k is_long = None
 
-abbrev pub query_of : List ℕ → Option Form
-query_of word =
-    if is_word word (codes "status") then Some form.Status
-    else if is_word word (codes "level") then Some form.Level
-    else None
+abbrev pub query_of : Kind → Option Form
+query_of kind.Status = Some form.Status
+query_of kind.Level = Some form.Level
+query_of k = None
 
 abbrev pub form_of : Verb → List ℕ → Option Form
 form_of verb.Open line = Some form.Opening
-form_of verb.Begin line = word_at line 2 >>= (λ w. begun_of w (is_some (word_at line 6)))
-form_of verb.Read line = word_at line 2 >>= query_of
+form_of verb.Begin line = do
+  w ← word_at line 2
+  k ← kind_of w
+  begun_of k (is_some (word_at line 6))
+form_of verb.Read line = do
+  w ← word_at line 2
+  k ← kind_of w
+  query_of k
 form_of verb.Next line = Some form.Next
 form_of verb.Run line = Some form.Run
 form_of verb.Save line = Some form.Save

@@ -1,6 +1,6 @@
 -- The table's ranges are the grammar's: a line's form asks for exactly these numbers.
-use Rattle.std.specs.Prelude.{◌≡◌, ℕ, ◌+◌, ◌≤◌, ◌↔◌, List, [], ◌∷◌, length, Option, None, Some, IfSome}
-use Rattle.std.specs.List.{All}
+use Rattle.std.specs.Prelude.{◌≡◌, ℕ, ◌+◌, ◌≤◌, ◌↔◌, List, [], ◌∷◌, length, Option, None, Some, IfSome, slice_get}
+use Rattle.std.specs.List.{All, Contains}
 use Rattle.oe_rows.specs.declared.scales.Scale.{Scale}
 use Rattle.oe_rows.specs.declared.keys.DistrictKey.{DistrictKey}
 use Rattle.oe_requests.specs.declared.requests.CustomerChoice.TheVariants as choice
@@ -25,13 +25,20 @@ use Rattle.oe_reasons.specs.declared.forms.Column.{Column}
 use Rattle.oe_reasons.specs.declared.forms.Column.TheVariants as column
 use Rattle.oe_reasons.specs.declared.forms.Form.{Form}
 use Rattle.oe_reasons.specs.declared.forms.Form.TheVariants as form
-use Rattle.oe_reasons.specs.Columns.{columns_of, fault_of, greatest, least, least_words, most_words}
+use Rattle.oe_reasons.specs.declared.verbs.Verb.{Verb}
+use Rattle.oe_reasons.specs.declared.verbs.Kind.{Kind}
+use Rattle.oe_reasons.specs.Verbs.{kind_of, kind_word, verb_of, verb_word}
+use Rattle.oe_reasons.specs.Columns.{columns_of, fault_of, forms, forms_of, greatest, least, least_words, most_words}
+use Rattle.oe_reasons.specs.Shapes.{ranged}
 
 abbrev pub InColumn : Column → ℕ → Type 0
 InColumn c n = (least c ≤ n) × (n ≤ greatest c)
 
 abbrev pub InDistrict : DistrictKey → Type 0
 InDistrict d = InColumn column.Warehouse d.warehouse × InColumn column.District d.district
+
+abbrev pub InCustomerDistrict : DistrictKey → Type 0
+InCustomerDistrict d = InColumn column.CustomerWarehouse d.warehouse × InColumn column.CustomerDistrict d.district
 
 abbrev pub InLine : RequestLine → Type 0
 InLine l = InColumn column.Supply l.supply × InColumn column.Item l.item × InColumn column.Quantity l.quantity
@@ -42,7 +49,7 @@ pub record Ranges_are_the_grammars : Type 0 where
       × InColumn column.Items s.items × InColumn column.Extents extents)
   pub terminal : (t : ℕ) → HasForm (command.Next t) ↔ InColumn column.Terminal t
   pub payment : (q : PaymentRequest) → IsRequest (request.Payment q)
-      ↔ (InDistrict q.district × InDistrict q.customer_district × model.IsChoice q.customer
+      ↔ (InDistrict q.district × InCustomerDistrict q.customer_district × model.IsChoice q.customer
       × InColumn column.Amount q.amount × model.IsStamp q.stamp)
   pub customer : (n : ℕ) → model.IsChoice (choice.Number n) ↔ InColumn column.Customer n
   pub order : (q : NewOrderRequest) → IsRequest (request.NewOrder q)
@@ -59,11 +66,17 @@ pub record Ranges_are_the_grammars : Type 0 where
 
 -- THE WORDS OF EACH COMMAND
 
--- none of the words is wrong where the columns stand
+-- an own word of the form stands there as it is, and no other word is wrong there
+abbrev pub Suits : Column → List ℕ → Type 0
+Suits (column.Verb v) w = w ≡ verb_word v
+Suits (column.Kind k) w = w ≡ kind_word k
+Suits c w = fault_of c w ≡ None
+
+-- each word suits the column where it stands
 abbrev pub Fits : List Column → List (List ℕ) → Type 0
 Fits columns [] = Unit {0}
 Fits [] (w ∷ ws) = ⊥
-Fits (c ∷ cs) (w ∷ ws) = (fault_of c w ≡ None) × Fits cs ws
+Fits (c ∷ cs) (w ∷ ws) = Suits c w × Fits cs ws
 
 -- the form that a command's line has
 abbrev pub request_form : Request → Option Form
@@ -96,7 +109,7 @@ command_form (command.Read m q) = Some (query_form q)
 command_form (command.Purge m) = Some form.Purge
 command_form (command.Rewind m) = Some form.Rewind
 
--- the grammar's words are right: none of them is wrong in its form, and they are neither too few nor too many
+-- the words are right for a form: each suits its column, and they are neither too few nor too many
 pub record IsRight (f : Form) (ws : List (List ℕ)) : Type 0 where
   pub fit : Fits (columns_of f) ws
   pub enough : least_words f ≤ length ws
@@ -104,3 +117,25 @@ pub record IsRight (f : Form) (ws : List (List ℕ)) : Type 0 where
 
 abbrev pub Words_are_right : Type 0
 Words_are_right = (c : Command) → HasForm c → IfSome (command_form c) (λ f. IsRight f (words_of c))
+
+-- THE LISTS ARE WHOLE
+
+-- each verb and each kind is read as what it is
+pub record Verbs_are_read : Type 0 where
+  pub each_verb : (v : Verb) → verb_of (verb_word v) ≡ Some v
+  pub each_kind : (k : Kind) → kind_of (kind_word k) ≡ Some k
+
+-- the range of a column is told, unless it is an own word of a form
+abbrev pub IsTold : Column → Type 0
+IsTold (column.Verb v) = Unit {0}
+IsTold (column.Kind k) = Unit {0}
+IsTold c = Contains ranged c
+
+abbrev pub BeginsWith : Verb → Form → Type 0
+BeginsWith v f = slice_get (columns_of f) 0 ≡ Some (column.Verb v)
+
+-- each form is listed, as one that begins with its verb; the range of each column is told, but of a form's own words
+pub record Lists_are_whole : Type 0 where
+  pub each_form : (f : Form) → Contains forms f
+  pub verb_first : (v : Verb) → All (BeginsWith v) (forms_of v)
+  pub each_column : (c : Column) → IsTold c

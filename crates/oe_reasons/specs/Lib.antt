@@ -2,5 +2,6 @@
 pub mod Verbs
 pub mod Columns
 pub mod Reasons
+pub mod Shapes
 pub mod Texts
 pub mod Laws

@@ -1,7 +1,6 @@
 -- The texts of reasons.
 use Rattle.std.specs.Prelude.{ℕ, ◌==◌, List, [], ◌++◌, codes, decimal, Option, Some, None, if◌then◌else◌}
 use Rattle.oe_reasons.specs.declared.verbs.Verb.{Verb}
-use Rattle.oe_reasons.specs.declared.verbs.Verb.TheVariants as verb
 use Rattle.oe_reasons.specs.declared.forms.Column.{Column}
 use Rattle.oe_reasons.specs.declared.forms.Column.TheVariants as column
 use Rattle.oe_reasons.specs.declared.forms.Form.{Form}
@@ -11,11 +10,13 @@ use Rattle.oe_reasons.specs.declared.faults.Fault.TheVariants as fault
 use Rattle.oe_reasons.specs.declared.faults.WrongWord.{WrongWord}
 use Rattle.oe_reasons.specs.declared.reasons.Reason.{Reason}
 use Rattle.oe_reasons.specs.declared.reasons.Reason.TheVariants as reason
-use Rattle.oe_reasons.specs.Columns.{first_word, greatest, least, least_words, word_at, words_in}
+use Rattle.oe_reasons.specs.Columns.{first_word, forms_of, least_words, most_words, word_at, words_in}
+use Rattle.oe_reasons.specs.Shapes.{either_text, form_text, greatest_text, least_text, range_text}
 use Rattle.oe_reasons.specs.Verbs.{verb_word}
 
 abbrev pub column_name : Column → List ℕ
-column_name column.Word = codes "word"
+column_name (column.Verb v) = codes "word"
+column_name (column.Kind k) = codes "word"
 column_name column.Warehouses = codes "warehouses"
 column_name column.Customers = codes "customers"
 column_name column.Items = codes "items"
@@ -23,6 +24,8 @@ column_name column.Extents = codes "extents"
 column_name column.Terminal = codes "terminal"
 column_name column.Warehouse = codes "warehouse"
 column_name column.District = codes "district"
+column_name column.CustomerWarehouse = codes "customer warehouse"
+column_name column.CustomerDistrict = codes "customer district"
 column_name column.Customer = codes "customer"
 column_name column.Supply = codes "the supply warehouse in"
 column_name column.Item = codes "the item in"
@@ -37,62 +40,15 @@ column_name column.Stamp = codes "stamp"
 column_name column.OrderLine = codes "order line"
 column_name column.Table = codes "table"
 
--- the least and the greatest number of a column as lines spell them
-abbrev pub least_text : Column → List ℕ
-least_text column.Amount = codes "1.00"
-least_text c = decimal (least c)
-
-abbrev pub greatest_text : Column → List ℕ
-greatest_text column.Amount = codes "5000.00"
-greatest_text c = decimal (greatest c)
-
 -- what a word of a column is not
 abbrev pub misspelt_text : Column → List ℕ
 misspelt_text column.Amount = codes " is no amount of digits, a point and two decimals"
 misspelt_text column.Moment = codes " is neither now nor a number of at most 15 digits without a leading 0"
 misspelt_text column.Buyer = codes " is neither a number without a leading 0 nor a last name of 1 to 16 letters A to Z"
-misspelt_text column.Stamp = codes " is no YYYY-MM-DDTHH:MM:SS of the years 1900 to 2100"
+misspelt_text column.Stamp = codes " is no " ++ range_text column.Stamp
 misspelt_text column.OrderLine = codes " is not of the form supply:item:quantity"
+misspelt_text column.Table = codes " is none of " ++ range_text column.Table
 misspelt_text c = codes " is no number of at most 15 digits without a leading 0"
-
--- a form as the manual has it
-abbrev pub form_text : Form → List ℕ
-form_text form.Opening = codes "open W C I E"
-form_text form.Payment = codes "begin T payment w d cw cd customer amount stamp"
-form_text form.NewOrder = codes "begin T neworder w d c stamp, and 5 to 15 of supply:item:quantity"
-form_text form.Delivery = codes "begin T delivery w d carrier stamp"
-form_text form.Deliveries = codes "begin T delivery w carrier stamp"
-form_text form.Next = codes "next T"
-form_text form.Run = codes "run T"
-form_text form.Save = codes "save T"
-form_text form.Back = codes "back T"
-form_text form.Rollback = codes "rollback T"
-form_text form.Status = codes "read M status w d customer"
-form_text form.Level = codes "read M level w d threshold"
-form_text form.Audit = codes "audit N M"
-form_text form.Purge = codes "purge M"
-form_text form.Rewind = codes "rewind M"
-form_text form.Dump = codes "dump TABLE"
-form_text form.Waits = codes "waits"
-form_text form.Locks = codes "locks"
-
--- the forms that begin with a verb
-abbrev pub forms_text : Verb → List ℕ
-forms_text verb.Open = codes "open W C I E"
-forms_text verb.Begin = codes "begin T payment .., begin T neworder .. or begin T delivery .."
-forms_text verb.Next = codes "next T"
-forms_text verb.Run = codes "run T"
-forms_text verb.Save = codes "save T"
-forms_text verb.Back = codes "back T"
-forms_text verb.Rollback = codes "rollback T"
-forms_text verb.Read = codes "read M status w d customer or read M level w d threshold"
-forms_text verb.Audit = codes "audit N M"
-forms_text verb.Purge = codes "purge M"
-forms_text verb.Rewind = codes "rewind M"
-forms_text verb.Dump =
-    codes "dump TABLE: warehouse, district, customer, history, neworder, order, orderline, item or stock"
-forms_text verb.Waits = codes "waits"
-forms_text verb.Locks = codes "locks"
 
 abbrev pub guess_text : Option Verb → List ℕ
 guess_text None = []
@@ -112,17 +68,17 @@ abbrev pub wrong_text : List ℕ → WrongWord → List ℕ
 wrong_text line w =
     column_name w.column ++ codes " " ++ word_text (word_at line w.place) ++ fault_text w.column w.fault
 
--- `it has 9 words, not 10: begin T payment w d cw cd customer amount stamp`
+-- `it has 3 words, not 2: next TERMINAL`
 abbrev pub counted_text : ℕ → List ℕ
 counted_text n = decimal n ++ (if n == 1 then codes " word" else codes " words")
 
 abbrev pub count_text : Form → List ℕ
-count_text form.NewOrder = codes "12 to 22"
+count_text form.NewOrder = decimal (least_words form.NewOrder) ++ codes " to " ++ decimal (most_words form.NewOrder)
 count_text f = decimal (least_words f)
 
 abbrev pub miscounted_text : List ℕ → Form → List ℕ
 miscounted_text line f =
-    codes "it has " ++ counted_text (words_in line) ++ codes ", not " ++ count_text f ++ codes ": " ++ form_text f
+    codes "it has " ++ counted_text (words_in line) ++ codes ", not " ++ count_text f ++ codes ":" ++ form_text f
 
 -- the reason why a line is not taken
 abbrev pub reason_text : List ℕ → Reason → List ℕ
@@ -139,4 +95,4 @@ reason_text line (reason.NoVerb near) =
     codes "no form begins with \"" ++ first_word line ++ codes "\"" ++ guess_text near
 reason_text line (reason.Miscounted f) = miscounted_text line f
 reason_text line (reason.Wrong w) = wrong_text line w
-reason_text line (reason.NotSo v) = codes "it is not of the form " ++ forms_text v
+reason_text line (reason.NotSo v) = codes "it is not of the form" ++ either_text (forms_of v)

@@ -1,9 +1,12 @@
--- The words with which forms begin.
-use Rattle.std.specs.Prelude.{ℕ, Bool, false, ◌||◌, is_some, List, [], ◌∷◌, Option, Some, None, codes, if◌then◌else◌}
+-- The words with which forms begin, and those that tell which form is meant.
+use Rattle.std.specs.Prelude.{ℕ, Bool, false, ◌||◌, is_some, List, [], ◌∷◌, Option, codes}
+use Rattle.std.specs.List.{find}
 use Rattle.std.specs.Str.{bytes_eq}
 use Rattle.oe_values.specs.Front.{after_of}
 use Rattle.oe_reasons.specs.declared.verbs.Verb.{Verb}
 use Rattle.oe_reasons.specs.declared.verbs.Verb.TheVariants as verb
+use Rattle.oe_reasons.specs.declared.verbs.Kind.{Kind}
+use Rattle.oe_reasons.specs.declared.verbs.Kind.TheVariants as kind
 
 abbrev pub verb_word : Verb → List ℕ
 verb_word verb.Open = codes "open"
@@ -21,6 +24,22 @@ verb_word verb.Dump = codes "dump"
 verb_word verb.Waits = codes "waits"
 verb_word verb.Locks = codes "locks"
 
+-- all verbs, in the order in which one is guessed
+abbrev pub verbs : List Verb
+verbs =
+    verb.Open ∷ verb.Begin ∷ verb.Next ∷ verb.Run ∷ verb.Save ∷ verb.Back ∷ verb.Rollback ∷ verb.Read ∷
+    verb.Audit ∷ verb.Purge ∷ verb.Rewind ∷ verb.Dump ∷ verb.Waits ∷ verb.Locks ∷ []
+
+abbrev pub kind_word : Kind → List ℕ
+kind_word kind.Payment = codes "payment"
+kind_word kind.NewOrder = codes "neworder"
+kind_word kind.Delivery = codes "delivery"
+kind_word kind.Status = codes "status"
+kind_word kind.Level = codes "level"
+
+abbrev pub kinds : List Kind
+kinds = kind.Payment ∷ kind.NewOrder ∷ kind.Delivery ∷ kind.Status ∷ kind.Level ∷ []
+
 -- two texts are one; it stays closed in the dispatch on a word
 unfoldable pub is_word : List ℕ → List ℕ → Bool
 is_word a b = bytes_eq a b
@@ -30,40 +49,13 @@ unfoldable pub is_near : List ℕ → List ℕ → Bool
 is_near [] verb = false
 is_near (b ∷ bs) verb = is_some (after_of (b ∷ bs) verb) || is_some (after_of verb (b ∷ bs))
 
--- the verb that a word is
+-- the verb that a word is, and the first that is near it
 unfoldable pub verb_of : List ℕ → Option Verb
-verb_of word =
-    if is_word word (codes "open") then Some verb.Open
-    else if is_word word (codes "begin") then Some verb.Begin
-    else if is_word word (codes "next") then Some verb.Next
-    else if is_word word (codes "run") then Some verb.Run
-    else if is_word word (codes "save") then Some verb.Save
-    else if is_word word (codes "back") then Some verb.Back
-    else if is_word word (codes "rollback") then Some verb.Rollback
-    else if is_word word (codes "read") then Some verb.Read
-    else if is_word word (codes "audit") then Some verb.Audit
-    else if is_word word (codes "purge") then Some verb.Purge
-    else if is_word word (codes "rewind") then Some verb.Rewind
-    else if is_word word (codes "dump") then Some verb.Dump
-    else if is_word word (codes "waits") then Some verb.Waits
-    else if is_word word (codes "locks") then Some verb.Locks
-    else None
+verb_of word = find (λ v. is_word word (verb_word v)) verbs
 
--- the first verb that is near a word
 unfoldable pub near_of : List ℕ → Option Verb
-near_of word =
-    if is_near word (codes "open") then Some verb.Open
-    else if is_near word (codes "begin") then Some verb.Begin
-    else if is_near word (codes "next") then Some verb.Next
-    else if is_near word (codes "run") then Some verb.Run
-    else if is_near word (codes "save") then Some verb.Save
-    else if is_near word (codes "back") then Some verb.Back
-    else if is_near word (codes "rollback") then Some verb.Rollback
-    else if is_near word (codes "read") then Some verb.Read
-    else if is_near word (codes "audit") then Some verb.Audit
-    else if is_near word (codes "purge") then Some verb.Purge
-    else if is_near word (codes "rewind") then Some verb.Rewind
-    else if is_near word (codes "dump") then Some verb.Dump
-    else if is_near word (codes "waits") then Some verb.Waits
-    else if is_near word (codes "locks") then Some verb.Locks
-    else None
+near_of word = find (λ v. is_near word (verb_word v)) verbs
+
+-- the kind that a word is
+unfoldable pub kind_of : List ℕ → Option Kind
+kind_of word = find (λ k. is_word word (kind_word k)) kinds

@@ -1,13 +1,16 @@
 //! What is wrong with a word, and which form a line has to be of.
-ghost use Rattle.std.specs.Prelude.{◌≡◌, ℕ, IfSome, is_some, true, Some};
+ghost use Rattle.std.specs.Prelude.{◌≡◌, ℕ, IfSome, is_some, true, Some, slice_get};
 ghost use Rattle.oe_lines.specs.Words.{stamp_of, last_name_of};
-ghost use Rattle.oe_reasons.specs.Columns.{amount_in, begun_of, fault_of, form_of, line_fault, line_in, number_fault, number_in, out_of_range, query_of, IsMiscounted, IsWrong};
+ghost use Rattle.oe_reasons.specs.Columns.{amount_in, begun_of, columns_of, fault_of, form_of, is_table};
+ghost use Rattle.oe_reasons.specs.Columns.{line_fault, line_in, number_fault, number_in, out_of_range, query_of};
+ghost use Rattle.oe_reasons.specs.Columns.{IsMiscounted, IsWrong};
 ghost use Rattle.oe_reasons.specs.declared.forms.Column.TheVariants as column;
 ghost use Rattle.oe_reasons.specs.declared.forms.Form.{Form};
 
 use crate::forms::{Column, Form};
-use crate::verbs::{Verb, is_word};
+use crate::verbs::{Kind, Verb, is_word, read_kind};
 use crate::words::{word_at, words_in};
+use oe_rows::Table;
 use oe_values::fronts::{after, decimal, pair};
 use oe_values::texts::LastName;
 use oe_values::{Stamp, Text};
@@ -30,6 +33,19 @@ pub struct WrongWord {
     pub column: Column,
     pub fault: Fault,
 }
+
+/// The nine tables.
+const TABLES: [Table; 9] = [
+    Table::Warehouse,
+    Table::District,
+    Table::Customer,
+    Table::History,
+    Table::NewOrder,
+    Table::Order,
+    Table::OrderLine,
+    Table::Item,
+    Table::Stock,
+];
 
 /// Gives the number of at most 15 digits that a word is.
 #[tactic(auto, unfolding(crate::specs::Columns::number_in))]
@@ -103,6 +119,16 @@ fn is_last_name(word: &[u8]) -> bool
     last_name(word).is_some()
 }
 
+/// Tells whether a word is a table's name.
+#[tactic(auto, unfolding(crate::specs::Columns::is_table))]
+fn is_table(word: &[u8]) -> bool
+    ensures { result ≡ is_table word.now }
+{
+    TABLES
+        .iter()
+        .any(|table| is_word(word, table.name().as_bytes()))
+}
+
 /// Gives what is wrong with a number of a column.
 fn out_of_range(column: Column, number: u64) -> Option<(Column, Fault)>
     ensures { result ≡ out_of_range column number }
@@ -133,13 +159,9 @@ fn line_fault(line: Option<(u64, u64, u64)>) -> Option<(Column, Fault)>
     let Some((supply, item, quantity)) = line else {
         return Some((Column::OrderLine, Fault::Misspelt));
     };
-    if let Some(wrong) = out_of_range(Column::Supply, supply) {
-        return Some(wrong);
-    }
-    if let Some(wrong) = out_of_range(Column::Item, item) {
-        return Some(wrong);
-    }
-    out_of_range(Column::Quantity, quantity)
+    out_of_range(Column::Supply, supply)
+        .or(out_of_range(Column::Item, item))
+        .or(out_of_range(Column::Quantity, quantity))
 }
 
 /// Gives what is wrong with a stamp.
@@ -179,12 +201,24 @@ fn moment_fault(word: &[u8]) -> Option<(Column, Fault)>
     }
 }
 
+/// Gives what is wrong with a table's name.
+fn table_fault(word: &[u8]) -> Option<(Column, Fault)>
+    ensures { result ≡ fault_of column.Table word.now }
+{
+    if is_table(word) {
+        None
+    } else {
+        Some((Column::Table, Fault::Misspelt))
+    }
+}
+
 /// Gives what is wrong with a word where a column stands, and with which part of it.
 fn fault_in(column: Column, word: &[u8]) -> Option<(Column, Fault)>
     ensures { result ≡ fault_of column word.now }
 {
     match column {
-        Column::Word | Column::Table => None,
+        Column::Verb(_) | Column::Kind(_) => None,
+        Column::Table => table_fault(word),
         Column::Stamp => stamp_fault(word),
         Column::OrderLine => line_fault(line(word)),
         Column::Buyer => buyer_fault(word),
@@ -194,11 +228,18 @@ fn fault_in(column: Column, word: &[u8]) -> Option<(Column, Fault)>
     }
 }
 
+/// Gives the column at a place of a form.
+fn column_at(form: Form, place: usize) -> Option<Column>
+    ensures { result ≡ slice_get (columns_of form) place }
+{
+    form.columns().get(place).copied()
+}
+
 /// Gives the word at a place of a form, where it is wrong.
 fn wrong_at(line: &[u8], form: Form, place: usize) -> Option<WrongWord>
     ensures { IfSome result (IsWrong line.now form) }
 {
-    let column = form.columns().get(place).copied()?;
+    let column = column_at(form, place)?;
     let word = word_at(line, place)?;
     let (column, fault) = fault_in(column, word)?;
     Some(WrongWord {
@@ -234,8 +275,8 @@ pub fn read_form(line: &[u8], verb: Verb) -> Option<Form>
 {
     match verb {
         Verb::Open => Some(Form::Opening),
-        Verb::Begin => begun(word_at(line, 2)?, word_at(line, 6).is_some()),
-        Verb::Read => query(word_at(line, 2)?),
+        Verb::Begin => begun(read_kind(word_at(line, 2)?)?, word_at(line, 6).is_some()),
+        Verb::Read => query(read_kind(word_at(line, 2)?)?),
         Verb::Next => Some(Form::Next),
         Verb::Run => Some(Form::Run),
         Verb::Save => Some(Form::Save),
@@ -250,34 +291,31 @@ pub fn read_form(line: &[u8], verb: Verb) -> Option<Form>
     }
 }
 
-/// Gives the form of a request by its word, and by whether a seventh word stands in the line.
-fn begun(word: &[u8], is_long: bool) -> Option<Form>
-    ensures { result ≡ begun_of word.now is_long }
+/// Gives the form of a transaction of a kind, by whether a seventh word stands in the line.
+fn begun(kind: Kind, is_long: bool) -> Option<Form>
+    ensures { result ≡ begun_of kind is_long }
 {
-    if is_word(word, b"payment") {
-        Some(Form::Payment)
-    } else if is_word(word, b"neworder") {
-        Some(Form::NewOrder)
-    } else if is_word(word, b"delivery") {
-        if is_long {
-            Some(Form::Delivery)
-        } else {
-            Some(Form::Deliveries)
+    match kind {
+        Kind::Payment => Some(Form::Payment),
+        Kind::NewOrder => Some(Form::NewOrder),
+        Kind::Delivery => {
+            if is_long {
+                Some(Form::Delivery)
+            } else {
+                Some(Form::Deliveries)
+            }
         }
-    } else {
-        None
+        Kind::Status | Kind::Level => None,
     }
 }
 
-/// Gives the form of a query by its word.
-fn query(word: &[u8]) -> Option<Form>
-    ensures { result ≡ query_of word.now }
+/// Gives the form of a query of a kind.
+fn query(kind: Kind) -> Option<Form>
+    ensures { result ≡ query_of kind }
 {
-    if is_word(word, b"status") {
-        Some(Form::Status)
-    } else if is_word(word, b"level") {
-        Some(Form::Level)
-    } else {
-        None
+    match kind {
+        Kind::Status => Some(Form::Status),
+        Kind::Level => Some(Form::Level),
+        Kind::Payment | Kind::NewOrder | Kind::Delivery => None,
     }
 }

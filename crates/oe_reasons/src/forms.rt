@@ -1,12 +1,18 @@
-//! The table of forms: what each word of a form has to be, and the range of each number.
-ghost use Rattle.std.specs.Prelude.{◌≡◌, ◌≤◌, length};
-ghost use Rattle.oe_reasons.specs.Columns.{columns_of, greatest, least, least_words, most_words};
+//! The table of forms: each form's own words, what its other words have to be, and the range of
+//! each number.
+ghost use Rattle.std.specs.Prelude.{◌≡◌, ◌≤◌, ◌<◌, length};
+ghost use Rattle.oe_reasons.specs.Columns.{columns_of, forms_of, greatest, least, least_words};
+ghost use Rattle.oe_reasons.specs.Columns.{most_words};
+
+use crate::verbs::{Kind, Verb};
 
 /// What a word of a form says.
 #[derive(Clone, Copy)]
 pub enum Column {
-    /// One of the form's own words.
-    Word,
+    /// The word with which the form begins.
+    Verb(Verb),
+    /// The word that tells which transaction or query it is.
+    Kind(Kind),
     /// How many warehouses are opened.
     Warehouses,
     /// How many customers each district has.
@@ -21,6 +27,10 @@ pub enum Column {
     Warehouse,
     /// A district.
     District,
+    /// The warehouse of a customer who pays.
+    CustomerWarehouse,
+    /// The district of a customer who pays.
+    CustomerDistrict,
     /// A customer by number.
     Customer,
     /// The warehouse that supplies an item.
@@ -72,6 +82,56 @@ pub enum Form {
     Locks,
 }
 
+/// All forms, in the order of their verbs.
+pub(crate) const FORMS: [Form; 18] = [
+    Form::Opening,
+    Form::Payment,
+    Form::NewOrder,
+    Form::Delivery,
+    Form::Deliveries,
+    Form::Next,
+    Form::Run,
+    Form::Save,
+    Form::Back,
+    Form::Rollback,
+    Form::Status,
+    Form::Level,
+    Form::Audit,
+    Form::Purge,
+    Form::Rewind,
+    Form::Dump,
+    Form::Waits,
+    Form::Locks,
+];
+
+/// Gives the forms that begin with a verb.
+pub(crate) fn forms_of(verb: Verb) -> &'static [Form]
+    ensures value { result.now ≡ forms_of verb }
+    ensures few { length result.now ≤ 4 }
+{
+    match verb {
+        Verb::Open => &[Form::Opening],
+        Verb::Begin => &[
+            Form::Payment,
+            Form::NewOrder,
+            Form::Delivery,
+            Form::Deliveries,
+        ],
+        Verb::Next => &[Form::Next],
+        Verb::Run => &[Form::Run],
+        Verb::Save => &[Form::Save],
+        Verb::Back => &[Form::Back],
+        Verb::Rollback => &[Form::Rollback],
+        Verb::Read => &[Form::Status, Form::Level],
+        Verb::Audit => &[Form::Audit],
+        Verb::Purge => &[Form::Purge],
+        Verb::Rewind => &[Form::Rewind],
+        Verb::Dump => &[Form::Dump],
+        Verb::Waits => &[Form::Waits],
+        Verb::Locks => &[Form::Locks],
+    }
+}
+
 impl Column {
     /// Gives the least number, of an amount in cents; 0 where it is no number.
     pub fn least(self) -> u64
@@ -84,6 +144,8 @@ impl Column {
             | Column::Terminal
             | Column::Warehouse
             | Column::District
+            | Column::CustomerWarehouse
+            | Column::CustomerDistrict
             | Column::Customer
             | Column::Supply
             | Column::Item
@@ -102,12 +164,13 @@ impl Column {
         ensures { result ≡ greatest self }
     {
         match self {
-            Column::Warehouses | Column::Warehouse | Column::Supply => 16,
+            Column::Warehouses | Column::Warehouse | Column::CustomerWarehouse | Column::Supply =>
+                16,
             Column::Customers | Column::Customer => 3_000,
             Column::Items => 100_000,
             Column::Extents => 4_096,
             Column::Terminal => 64,
-            Column::District | Column::Quantity | Column::Carrier => 10,
+            Column::District | Column::CustomerDistrict | Column::Quantity | Column::Carrier => 10,
             Column::Item => 999_999,
             Column::Amount => 500_000,
             Column::Threshold => 20,
@@ -125,28 +188,28 @@ impl Form {
     {
         match self {
             Form::Opening => &[
-                Column::Word,
+                Column::Verb(Verb::Open),
                 Column::Warehouses,
                 Column::Customers,
                 Column::Items,
                 Column::Extents,
             ],
             Form::Payment => &[
-                Column::Word,
+                Column::Verb(Verb::Begin),
                 Column::Terminal,
-                Column::Word,
+                Column::Kind(Kind::Payment),
                 Column::Warehouse,
                 Column::District,
-                Column::Warehouse,
-                Column::District,
+                Column::CustomerWarehouse,
+                Column::CustomerDistrict,
                 Column::Buyer,
                 Column::Amount,
                 Column::Stamp,
             ],
             Form::NewOrder => &[
-                Column::Word,
+                Column::Verb(Verb::Begin),
                 Column::Terminal,
-                Column::Word,
+                Column::Kind(Kind::NewOrder),
                 Column::Warehouse,
                 Column::District,
                 Column::Customer,
@@ -168,49 +231,49 @@ impl Form {
                 Column::OrderLine,
             ],
             Form::Delivery => &[
-                Column::Word,
+                Column::Verb(Verb::Begin),
                 Column::Terminal,
-                Column::Word,
+                Column::Kind(Kind::Delivery),
                 Column::Warehouse,
                 Column::District,
                 Column::Carrier,
                 Column::Stamp,
             ],
             Form::Deliveries => &[
-                Column::Word,
+                Column::Verb(Verb::Begin),
                 Column::Terminal,
-                Column::Word,
+                Column::Kind(Kind::Delivery),
                 Column::Warehouse,
                 Column::Carrier,
                 Column::Stamp,
             ],
-            Form::Next => &[Column::Word, Column::Terminal],
-            Form::Run => &[Column::Word, Column::Terminal],
-            Form::Save => &[Column::Word, Column::Terminal],
-            Form::Back => &[Column::Word, Column::Terminal],
-            Form::Rollback => &[Column::Word, Column::Terminal],
+            Form::Next => &[Column::Verb(Verb::Next), Column::Terminal],
+            Form::Run => &[Column::Verb(Verb::Run), Column::Terminal],
+            Form::Save => &[Column::Verb(Verb::Save), Column::Terminal],
+            Form::Back => &[Column::Verb(Verb::Back), Column::Terminal],
+            Form::Rollback => &[Column::Verb(Verb::Rollback), Column::Terminal],
             Form::Status => &[
-                Column::Word,
+                Column::Verb(Verb::Read),
                 Column::Moment,
-                Column::Word,
+                Column::Kind(Kind::Status),
                 Column::Warehouse,
                 Column::District,
                 Column::Buyer,
             ],
             Form::Level => &[
-                Column::Word,
+                Column::Verb(Verb::Read),
                 Column::Moment,
-                Column::Word,
+                Column::Kind(Kind::Level),
                 Column::Warehouse,
                 Column::District,
                 Column::Threshold,
             ],
-            Form::Audit => &[Column::Word, Column::Condition, Column::Moment],
-            Form::Purge => &[Column::Word, Column::Moment],
-            Form::Rewind => &[Column::Word, Column::Moment],
-            Form::Dump => &[Column::Word, Column::Table],
-            Form::Waits => &[Column::Word],
-            Form::Locks => &[Column::Word],
+            Form::Audit => &[Column::Verb(Verb::Audit), Column::Condition, Column::Moment],
+            Form::Purge => &[Column::Verb(Verb::Purge), Column::Moment],
+            Form::Rewind => &[Column::Verb(Verb::Rewind), Column::Moment],
+            Form::Dump => &[Column::Verb(Verb::Dump), Column::Table],
+            Form::Waits => &[Column::Verb(Verb::Waits)],
+            Form::Locks => &[Column::Verb(Verb::Locks)],
         }
     }
 

@@ -2,11 +2,13 @@
 ghost use Rattle.std.specs.Prelude.{◌≡◌, ◌≤◌, ◌+◌, ◌++◌, length, codes, decimal};
 ghost use Rattle.arrayvec.specs.ArrayVec.{array_vec_len};
 ghost use Rattle.oe_reasons.specs.Columns.{word_at};
-ghost use Rattle.oe_reasons.specs.Texts.{column_name, count_text, counted_text, fault_text, form_text, forms_text, greatest_text, guess_text, least_text, miscounted_text, misspelt_text, reason_text, word_text, wrong_text};
+ghost use Rattle.oe_reasons.specs.Texts.{column_name, count_text, counted_text, fault_text, guess_text};
+ghost use Rattle.oe_reasons.specs.Texts.{miscounted_text, misspelt_text, reason_text, word_text, wrong_text};
 
 use crate::faults::{Fault, WrongWord};
-use crate::forms::{Column, Form};
+use crate::forms::{Column, Form, forms_of};
 use crate::reasons::Reason;
+use crate::shapes::{either, greatest, least, shape};
 use crate::verbs::Verb;
 use crate::words::{first_word, word_at, words_in};
 use oe_texts::columns::number;
@@ -18,7 +20,7 @@ fn column_name(column: Column) -> &'static [u8]
     ensures short { length result.now ≤ 30 }
 {
     match column {
-        Column::Word => b"word",
+        Column::Verb(_) | Column::Kind(_) => b"word",
         Column::Warehouses => b"warehouses",
         Column::Customers => b"customers",
         Column::Items => b"items",
@@ -26,6 +28,8 @@ fn column_name(column: Column) -> &'static [u8]
         Column::Terminal => b"terminal",
         Column::Warehouse => b"warehouse",
         Column::District => b"district",
+        Column::CustomerWarehouse => b"customer warehouse",
+        Column::CustomerDistrict => b"customer district",
         Column::Customer => b"customer",
         Column::Supply => b"the supply warehouse in",
         Column::Item => b"the item in",
@@ -54,58 +58,10 @@ fn misspelt(column: Column) -> &'static [u8]
             b" is neither a number without a leading 0 nor a last name of 1 to 16 letters A to Z",
         Column::Stamp => b" is no YYYY-MM-DDTHH:MM:SS of the years 1900 to 2100",
         Column::OrderLine => b" is not of the form supply:item:quantity",
+        Column::Table =>
+            b" is none of warehouse, district, customer, history, neworder, order, orderline, item \
+or stock",
         _ => b" is no number of at most 15 digits without a leading 0",
-    }
-}
-
-/// Gives a form as the manual has it.
-fn form_text(form: Form) -> &'static [u8]
-    ensures value { result.now ≡ form_text form }
-    ensures short { length result.now ≤ 100 }
-{
-    match form {
-        Form::Opening => b"open W C I E",
-        Form::Payment => b"begin T payment w d cw cd customer amount stamp",
-        Form::NewOrder => b"begin T neworder w d c stamp, and 5 to 15 of supply:item:quantity",
-        Form::Delivery => b"begin T delivery w d carrier stamp",
-        Form::Deliveries => b"begin T delivery w carrier stamp",
-        Form::Next => b"next T",
-        Form::Run => b"run T",
-        Form::Save => b"save T",
-        Form::Back => b"back T",
-        Form::Rollback => b"rollback T",
-        Form::Status => b"read M status w d customer",
-        Form::Level => b"read M level w d threshold",
-        Form::Audit => b"audit N M",
-        Form::Purge => b"purge M",
-        Form::Rewind => b"rewind M",
-        Form::Dump => b"dump TABLE",
-        Form::Waits => b"waits",
-        Form::Locks => b"locks",
-    }
-}
-
-/// Gives the forms that begin with a verb.
-fn forms(verb: Verb) -> &'static [u8]
-    ensures value { result.now ≡ forms_text verb }
-    ensures short { length result.now ≤ 170 }
-{
-    match verb {
-        Verb::Open => b"open W C I E",
-        Verb::Begin => b"begin T payment .., begin T neworder .. or begin T delivery ..",
-        Verb::Next => b"next T",
-        Verb::Run => b"run T",
-        Verb::Save => b"save T",
-        Verb::Back => b"back T",
-        Verb::Rollback => b"rollback T",
-        Verb::Read => b"read M status w d customer or read M level w d threshold",
-        Verb::Audit => b"audit N M",
-        Verb::Purge => b"purge M",
-        Verb::Rewind => b"rewind M",
-        Verb::Dump =>
-            b"dump TABLE: warehouse, district, customer, history, neworder, order, orderline, item or stock",
-        Verb::Waits => b"waits",
-        Verb::Locks => b"locks",
     }
 }
 
@@ -137,35 +93,11 @@ fn word(out: &mut Pending, line: &[u8], place: usize)
     }
 }
 
-/// Appends the least number of a column.
-fn least(out: &mut Pending, column: Column)
-    requires { array_vec_len out.old + 20 ≤ SIZE }
-    ensures items { out.new.items ≡ out.old.items ++ least_text column }
-    ensures len { array_vec_len out.new ≤ array_vec_len out.old + 20 }
-{
-    match column {
-        Column::Amount => text(out, b"1.00"),
-        _ => number(out, column.least()),
-    }
-}
-
-/// Appends the greatest number of a column.
-fn greatest(out: &mut Pending, column: Column)
-    requires { array_vec_len out.old + 20 ≤ SIZE }
-    ensures items { out.new.items ≡ out.old.items ++ greatest_text column }
-    ensures len { array_vec_len out.new ≤ array_vec_len out.old + 20 }
-{
-    match column {
-        Column::Amount => text(out, b"5000.00"),
-        _ => number(out, column.greatest()),
-    }
-}
-
 /// Appends what is wrong with a word of a column.
 fn tell_fault(out: &mut Pending, column: Column, fault: Fault)
-    requires { array_vec_len out.old + 100 ≤ SIZE }
+    requires { array_vec_len out.old + 110 ≤ SIZE }
     ensures items { out.new.items ≡ out.old.items ++ fault_text column fault }
-    ensures len { array_vec_len out.new ≤ array_vec_len out.old + 100 }
+    ensures len { array_vec_len out.new ≤ array_vec_len out.old + 110 }
 {
     match fault {
         Fault::Misspelt => text(out, misspelt(column)),
@@ -182,9 +114,9 @@ fn tell_fault(out: &mut Pending, column: Column, fault: Fault)
 
 /// Appends that a word is wrong.
 fn wrong(out: &mut Pending, line: &[u8], wrong: &WrongWord)
-    requires { array_vec_len out.old + length line.now + 140 ≤ SIZE }
+    requires { array_vec_len out.old + length line.now + 150 ≤ SIZE }
     ensures items { out.new.items ≡ out.old.items ++ wrong_text line.now wrong.now }
-    ensures len { array_vec_len out.new ≤ array_vec_len out.old + length line.now + 140 }
+    ensures len { array_vec_len out.new ≤ array_vec_len out.old + length line.now + 150 }
 {
     text(out, column_name(wrong.column));
     text(out, b" ");
@@ -208,28 +140,32 @@ fn counted(out: &mut Pending, words: usize)
 
 /// Appends how many words a form has.
 fn count(out: &mut Pending, form: Form)
-    requires { array_vec_len out.old + 20 ≤ SIZE }
+    requires { array_vec_len out.old + 44 ≤ SIZE }
     ensures items { out.new.items ≡ out.old.items ++ count_text form }
-    ensures len { array_vec_len out.new ≤ array_vec_len out.old + 20 }
+    ensures len { array_vec_len out.new ≤ array_vec_len out.old + 44 }
 {
     match form {
-        Form::NewOrder => text(out, b"12 to 22"),
+        Form::NewOrder => {
+            number(out, Form::NewOrder.least_words() as u64);
+            text(out, b" to ");
+            number(out, Form::NewOrder.most_words() as u64);
+        }
         _ => number(out, form.least_words() as u64),
     }
 }
 
 /// Appends that a line has too few words, or too many.
 fn miscounted(out: &mut Pending, line: &[u8], form: Form)
-    requires { array_vec_len out.old + 200 ≤ SIZE }
+    requires { array_vec_len out.old + 310 ≤ SIZE }
     ensures items { out.new.items ≡ out.old.items ++ miscounted_text line.now form }
-    ensures len { array_vec_len out.new ≤ array_vec_len out.old + 200 }
+    ensures len { array_vec_len out.new ≤ array_vec_len out.old + 310 }
 {
     text(out, b"it has ");
     counted(out, words_in(line));
     text(out, b", not ");
     count(out, form);
-    text(out, b": ");
-    text(out, form_text(form));
+    text(out, b":");
+    shape(out, form);
 }
 
 /// Appends which byte, counted from 1, is no printable one.
@@ -247,9 +183,9 @@ fn unprintable(out: &mut Pending, place: usize)
 /// Appends the text of the reason why a line is not taken. A word of the line that it names stands
 /// there as it is; the line's bytes are then printable.
 pub fn tell(out: &mut Pending, line: &[u8], reason: &Reason)
-    requires room { array_vec_len out.old + length line.now + 200 ≤ SIZE }
+    requires room { array_vec_len out.old + length line.now + 900 ≤ SIZE }
     ensures items { out.new.items ≡ out.old.items ++ reason_text line.now reason.now }
-    ensures len { array_vec_len out.new ≤ array_vec_len out.old + length line.now + 200 }
+    ensures len { array_vec_len out.new ≤ array_vec_len out.old + length line.now + 900 }
 {
     match reason {
         Reason::Long => text(out, b"it has more than 1024 bytes"),
@@ -269,8 +205,8 @@ pub fn tell(out: &mut Pending, line: &[u8], reason: &Reason)
         Reason::Miscounted(form) => miscounted(out, line, *form),
         Reason::Wrong(word) => wrong(out, line, word),
         Reason::NotSo(verb) => {
-            text(out, b"it is not of the form ");
-            text(out, forms(*verb));
+            text(out, b"it is not of the form");
+            either(out, forms_of(*verb));
         }
     }
 }

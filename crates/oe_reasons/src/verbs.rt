@@ -1,7 +1,8 @@
-//! The words with which forms begin.
-ghost use Rattle.std.specs.Prelude.{◌≡◌, ◌||◌, is_some};
+//! The words with which forms begin, and those that tell which form is meant.
+ghost use Rattle.std.specs.Prelude.{◌≡◌, ◌≤◌, ◌||◌, is_some, length};
 ghost use Rattle.oe_values.specs.Front.{after_of};
-ghost use Rattle.oe_reasons.specs.Verbs.{is_near, is_word, near_of, verb_of, verb_word};
+ghost use Rattle.oe_reasons.specs.Verbs.{is_near, is_word, kind_of, kind_word, near_of, verb_of};
+ghost use Rattle.oe_reasons.specs.Verbs.{verb_word};
 
 use oe_values::fronts::after;
 
@@ -24,50 +25,49 @@ pub enum Verb {
     Locks,
 }
 
+/// The third word of a form that begins or reads: which transaction, or which query.
+#[derive(Clone, Copy)]
+pub enum Kind {
+    Payment,
+    NewOrder,
+    Delivery,
+    Status,
+    Level,
+}
+
+/// The verbs, in the order in which one is guessed.
+const VERBS: [Verb; 14] = [
+    Verb::Open,
+    Verb::Begin,
+    Verb::Next,
+    Verb::Run,
+    Verb::Save,
+    Verb::Back,
+    Verb::Rollback,
+    Verb::Read,
+    Verb::Audit,
+    Verb::Purge,
+    Verb::Rewind,
+    Verb::Dump,
+    Verb::Waits,
+    Verb::Locks,
+];
+
+/// The kinds of transactions and queries.
+const KINDS: [Kind; 5] = [
+    Kind::Payment,
+    Kind::NewOrder,
+    Kind::Delivery,
+    Kind::Status,
+    Kind::Level,
+];
+
 /// Tells whether two texts are one.
 #[tactic(auto, unfolding(crate::specs::Verbs::is_word))]
 pub(crate) fn is_word(text: &[u8], word: &[u8]) -> bool
     ensures { result ≡ is_word text.now word.now }
 {
     text == word
-}
-
-/// Gives the verb that a word is.
-#[tactic(auto, unfolding(crate::specs::Verbs::verb_of))]
-pub fn read_verb(word: &[u8]) -> Option<Verb>
-    ensures { result ≡ verb_of word.now }
-{
-    if is_word(word, b"open") {
-        Some(Verb::Open)
-    } else if is_word(word, b"begin") {
-        Some(Verb::Begin)
-    } else if is_word(word, b"next") {
-        Some(Verb::Next)
-    } else if is_word(word, b"run") {
-        Some(Verb::Run)
-    } else if is_word(word, b"save") {
-        Some(Verb::Save)
-    } else if is_word(word, b"back") {
-        Some(Verb::Back)
-    } else if is_word(word, b"rollback") {
-        Some(Verb::Rollback)
-    } else if is_word(word, b"read") {
-        Some(Verb::Read)
-    } else if is_word(word, b"audit") {
-        Some(Verb::Audit)
-    } else if is_word(word, b"purge") {
-        Some(Verb::Purge)
-    } else if is_word(word, b"rewind") {
-        Some(Verb::Rewind)
-    } else if is_word(word, b"dump") {
-        Some(Verb::Dump)
-    } else if is_word(word, b"waits") {
-        Some(Verb::Waits)
-    } else if is_word(word, b"locks") {
-        Some(Verb::Locks)
-    } else {
-        None
-    }
 }
 
 /// Tells whether one of two words begins with the other, which has a letter at least.
@@ -81,48 +81,44 @@ fn is_near(word: &[u8], verb: &[u8]) -> bool
     after(verb, word).is_some() || after(word, verb).is_some()
 }
 
+/// Gives the verb that a word is.
+#[tactic(auto, unfolding(crate::specs::Verbs::verb_of))]
+pub fn read_verb(word: &[u8]) -> Option<Verb>
+    ensures { result ≡ verb_of word.now }
+{
+    VERBS
+        .iter()
+        .copied()
+        .find(|verb| is_word(word, verb.word()))
+}
+
 /// Gives the first verb that begins with a word, or with which the word begins.
 #[tactic(auto, unfolding(crate::specs::Verbs::near_of))]
 pub fn near(word: &[u8]) -> Option<Verb>
     ensures { result ≡ near_of word.now }
 {
-    if is_near(word, b"open") {
-        Some(Verb::Open)
-    } else if is_near(word, b"begin") {
-        Some(Verb::Begin)
-    } else if is_near(word, b"next") {
-        Some(Verb::Next)
-    } else if is_near(word, b"run") {
-        Some(Verb::Run)
-    } else if is_near(word, b"save") {
-        Some(Verb::Save)
-    } else if is_near(word, b"back") {
-        Some(Verb::Back)
-    } else if is_near(word, b"rollback") {
-        Some(Verb::Rollback)
-    } else if is_near(word, b"read") {
-        Some(Verb::Read)
-    } else if is_near(word, b"audit") {
-        Some(Verb::Audit)
-    } else if is_near(word, b"purge") {
-        Some(Verb::Purge)
-    } else if is_near(word, b"rewind") {
-        Some(Verb::Rewind)
-    } else if is_near(word, b"dump") {
-        Some(Verb::Dump)
-    } else if is_near(word, b"waits") {
-        Some(Verb::Waits)
-    } else if is_near(word, b"locks") {
-        Some(Verb::Locks)
-    } else {
-        None
-    }
+    VERBS
+        .iter()
+        .copied()
+        .find(|verb| is_near(word, verb.word()))
+}
+
+/// Gives the kind that a word is.
+#[tactic(auto, unfolding(crate::specs::Verbs::kind_of))]
+pub fn read_kind(word: &[u8]) -> Option<Kind>
+    ensures { result ≡ kind_of word.now }
+{
+    KINDS
+        .iter()
+        .copied()
+        .find(|kind| is_word(word, kind.word()))
 }
 
 impl Verb {
     /// Gives the verb's word.
     pub fn word(self) -> &'static [u8]
-        ensures { result.now ≡ verb_word self }
+        ensures value { result.now ≡ verb_word self }
+        ensures short { length result.now ≤ 8 }
     {
         match self {
             Verb::Open => b"open",
@@ -139,6 +135,22 @@ impl Verb {
             Verb::Dump => b"dump",
             Verb::Waits => b"waits",
             Verb::Locks => b"locks",
+        }
+    }
+}
+
+impl Kind {
+    /// Gives the kind's word.
+    pub fn word(self) -> &'static [u8]
+        ensures value { result.now ≡ kind_word self }
+        ensures short { length result.now ≤ 8 }
+    {
+        match self {
+            Kind::Payment => b"payment",
+            Kind::NewOrder => b"neworder",
+            Kind::Delivery => b"delivery",
+            Kind::Status => b"status",
+            Kind::Level => b"level",
         }
     }
 }

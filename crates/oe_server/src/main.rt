@@ -8,22 +8,20 @@
 //! `run_comparison`, whose contract tells what differs too; those of nine tables alone to
 //! `run_audit`, whose contract tells the report; the numbers of a load to `run_load`, whose
 //! contract tells its script; and those of a drive to `run_drive`, whose contract tells the two
-//! lines. What a drive or an audit says on standard error besides is for a person.
-ghost use Rattle.std.specs.Prelude.{None};
-
+//! lines. `oe_files` opens the files of tables and hands their bytes on. What a drive or an audit
+//! says on standard error besides is for a person.
 use clap::Error;
 use clap::error::ErrorKind;
 use oe_comparison::{Fault as ComparisonFault, Verdict as ComparisonVerdict, run_comparison};
 use oe_drive::{Fault as DriveFault, Gate, Ran, run_drive};
-use oe_explain::{Explainer, explain_script};
+use oe_explain::{Explainer, explain_script, write_forms};
+use oe_files::{Pace, TableFile, open_tables, tell_closed, tell_unread};
 use oe_inspection::{Fault as AuditFault, Verdict as AuditVerdict, run_audit, write_faults};
 use oe_load::{Fault as LoadFault, Shortage as LoadShortage, run_load};
 use oe_loading::Sources;
 use oe_numbers::{DriveNumbers, Kinds};
-use oe_ports::ports::{Failed, Intake};
 use oe_ports::standard::{Printed, Standard};
 use oe_reading::{Format, Stop};
-use oe_rows::Table;
 use oe_script::script::run_script;
 use oe_script::session::Fault;
 use oe_serial::{BadLines, Fault as SerialFault, Shortage, Verdict, run_serial, status};
@@ -31,7 +29,6 @@ use oe_tasks::{Task, job};
 use oe_values::Terminal;
 use std::env::Env;
 use std::io::{ErrorKind as IoKind, IsTerminal, Read, Stderr};
-use std::path::Path;
 use std::process::ExitCode;
 use std::rt::Files;
 use std::sync::Wait;
@@ -93,7 +90,8 @@ fn refuse<R: Eprint>(rt: &R, error: io::Error) -> io::Result<ExitCode> {
     Ok(ExitCode::from(2))
 }
 
-/// Says why a command line is refused, or gives the help or the version that it asks for.
+/// Says why a command line is refused, or gives the help or the version that it asks for, and
+/// behind the help the forms of lines.
 fn tell<R: Print + Eprint>(rt: &R, error: Error) -> io::Result<ExitCode> {
     if matches!(error.kind(), ErrorKind::OutOfMemory) {
         return fail(rt, "no memory");
@@ -103,14 +101,30 @@ fn tell<R: Print + Eprint>(rt: &R, error: Error) -> io::Result<ExitCode> {
         return Ok(ExitCode::from(2));
     }
     match printed {
+        Ok(()) if matches!(error.kind(), ErrorKind::DisplayHelp) => tell_forms(rt),
         Ok(()) => Ok(ExitCode::SUCCESS),
         Err(error) => fail(rt, write_fault(error.kind() == io::ErrorKind::BrokenPipe)),
+    }
+}
+
+/// Tells which forms the lines of a script have.
+fn tell_forms<R: Print + Eprint>(rt: &R) -> io::Result<ExitCode> {
+    let mut writer = Printed::new(rt);
+    match write_forms(&mut writer) {
+        Ok(()) => Ok(ExitCode::SUCCESS),
+        Err(_) => fail(rt, write_fault(writer.is_closed())),
     }
 }
 
 /// Gives the name of a fault at a write.
 fn write_fault(closed: bool) -> &'static str {
     if closed { "output closed" } else { "write" }
+}
+
+/// Says why a script's file can't be opened.
+fn tell_unopened<R: Eprint>(rt: &R, name: &str, error: &io::Error) -> io::Result<ExitCode> {
+    eprintln!(rt; "error: {name} can't be opened: {error}")?;
+    Ok(ExitCode::FAILURE)
 }
 
 /// Answers a file on standard output.
@@ -120,10 +134,7 @@ fn answer_file<R: Files + Print + Eprint + AllocGlobal>(
 ) -> io::Result<ExitCode> {
     match fs::open(rt, name) {
         Ok(file) => answer(rt, file),
-        Err(error) => {
-            eprintln!(rt; "error: {name} can't be opened: {error}")?;
-            Ok(ExitCode::FAILURE)
-        }
+        Err(error) => tell_unopened(rt, name, &error),
     }
 }
 
@@ -149,10 +160,7 @@ fn explain_file<R: Files + Print + Eprint + AllocGlobal>(
 ) -> io::Result<ExitCode> {
     match fs::open(rt, name) {
         Ok(file) => explain(rt, errors, file),
-        Err(error) => {
-            eprintln!(rt; "error: {name} can't be opened: {error}")?;
-            Ok(ExitCode::FAILURE)
-        }
+        Err(error) => tell_unopened(rt, name, &error),
     }
 }
 
@@ -172,21 +180,13 @@ fn explain<R: Print + Eprint + AllocGlobal, T: Read + Drop>(
     }
 }
 
-/// Reads a file of commits, or says why it can't be read and gives the status.
-fn read_commits<R: Files + Eprint + AllocGlobal>(
-    rt: &R,
-    name: &str,
-) -> io::Result<Result<Vec<u8>, ExitCode>> {
-    match fs::read(rt, name) {
-        Ok(input) => Ok(Ok(input)),
-        Err(error) if error.kind() == io::ErrorKind::OutOfMemory => {
-            Ok(Err(fail(rt, "no memory")?))
-        }
-        Err(error) => {
-            eprintln!(rt; "error: {name} can't be read: {error}")?;
-            Ok(Err(ExitCode::FAILURE))
-        }
+/// Says why a file of commits can't be read.
+fn tell_no_commits<R: Eprint>(rt: &R, name: &str, error: &io::Error) -> io::Result<ExitCode> {
+    if error.kind() == IoKind::OutOfMemory {
+        return fail(rt, "no memory");
     }
+    eprintln!(rt; "error: {name} can't be read: {error}")?;
+    Ok(ExitCode::FAILURE)
 }
 
 /// Names what was wanting for a file of commits.
@@ -197,25 +197,32 @@ fn shortage_name(shortage: Shortage) -> &'static str {
     }
 }
 
+/// Tells whether commits are serial, on standard output.
+fn decide<R: Print + Eprint + AllocGlobal>(rt: &R, input: &[u8]) -> io::Result<ExitCode> {
+    let mut writer = Printed::new(rt);
+    match run_serial(rt.alloc(), input, &mut writer) {
+        Ok(verdict) => tell_replies(rt, &verdict),
+        Err(SerialFault::Short(shortage)) => fail(rt, shortage_name(shortage)),
+        Err(SerialFault::Write) => fail(rt, write_fault(writer.is_closed())),
+    }
+}
+
+/// Tells which lines of a file of commits have no form, and gives the status of a verdict.
+fn tell_replies<R: Eprint>(rt: &R, verdict: &Verdict<'_>) -> io::Result<ExitCode> {
+    if let Verdict::Unreadable(bad) = verdict {
+        tell_bad_lines(rt, bad)?;
+    }
+    Ok(ExitCode::from(status(verdict)))
+}
+
 /// Tells whether the commits in a file are serial, on standard output.
 fn answer_serial<R: Files + Print + Eprint + AllocGlobal>(
     rt: &R,
     name: &str,
 ) -> io::Result<ExitCode> {
-    let input = match read_commits(rt, name)? {
-        Ok(input) => input,
-        Err(status) => return Ok(status),
-    };
-    let mut writer = Printed::new(rt);
-    match run_serial(rt.alloc(), input.as_slice(), &mut writer) {
-        Ok(verdict) => {
-            if let Verdict::Unreadable(bad) = &verdict {
-                tell_bad_lines(rt, bad)?;
-            }
-            Ok(ExitCode::from(status(&verdict)))
-        }
-        Err(SerialFault::Short(shortage)) => fail(rt, shortage_name(shortage)),
-        Err(SerialFault::Write) => fail(rt, write_fault(writer.is_closed())),
+    match fs::read(rt, name) {
+        Ok(input) => decide(rt, input.as_slice()),
+        Err(error) => tell_no_commits(rt, name, &error),
     }
 }
 
@@ -237,14 +244,18 @@ fn answer_load<R: Print + Eprint + AllocGlobal>(
     }
 }
 
+/// Tells that a line of a file of commits has no form.
+fn tell_bad_line<R: Eprint>(rt: &R, number: u128) -> io::Result<()> {
+    if number == 1 {
+        return eprintln!(rt; "line 1: no opening");
+    }
+    eprintln!(rt; "line {number}: no request and reply")
+}
+
 /// Tells which lines of a file of commits have no form.
 fn tell_bad_lines<R: Eprint>(rt: &R, bad: &BadLines) -> io::Result<()> {
     for number in bad.first.as_slice() {
-        if *number == 1 {
-            eprintln!(rt; "line 1: no opening")?;
-        } else {
-            eprintln!(rt; "line {number}: no request and reply")?;
-        }
+        tell_bad_line(rt, *number)?;
     }
     let more = bad.count.saturating_sub(20);
     if more > 0 {
@@ -253,175 +264,79 @@ fn tell_bad_lines<R: Eprint>(rt: &R, bad: &BadLines) -> io::Result<()> {
     Ok(())
 }
 
-/// Tells a person how far the files are read, once a second from the second second on.
-#[derive(Drop)]
-struct Pace<'r, R> {
-    rt: &'r R,
-    begun: Instant,
-    is_shown: bool,
-    second_told: AtomicU64,
-}
-
-/// A table's file, which keeps the cause of a read that failed.
-#[derive(Drop)]
-struct TableFile<'p, 'r, R, F> {
-    table: Table,
-    file: F,
-    bytes: u64,
-    failure: Option<io::Error>,
-    pace: &'p Pace<'r, R>,
-}
-
-impl<R: Clock + Eprint> Pace<'_, R> {
-    /// Tells how many bytes of a table's file are read, where a second has begun.
-    fn tell(&self, table: Table, bytes: u64) {
-        if !self.is_shown {
-            return;
-        }
-        let Ok(took) = self.begun.elapsed(self.rt) else {
-            return;
-        };
-        let second = took.as_secs();
-        if second < 1 || self.second_told.fetch_max(second, Ordering::SeqCst) >= second {
-            return;
-        }
-        let _told = eprintln!(self.rt; "{}: {} MB read", table.name(), bytes / 1_000_000);
-    }
-}
-
-impl<R: Clock + Eprint, F: Read> Intake for TableFile<'_, '_, R, F> {
-    ghost source = { λ _. None };
-
-    fn read(&mut self, buf: &mut [u8]) -> Result<usize, Failed> {
-        match self.file.read(buf) {
-            Ok(count) => {
-                self.bytes = self.bytes.saturating_add(count as u64);
-                self.pace.tell(self.table, self.bytes);
-                Ok(count)
-            }
-            Err(error) => {
-                self.failure = Some(error);
-                Err(Failed)
-            }
-        }
-    }
-}
-
-/// Says why the file of a table can't be had.
-fn tell_file<R: Eprint>(rt: &R, table: Table, error: &io::Error) -> io::Result<()> {
-    match error.kind() {
-        IoKind::NotFound => eprintln!(rt; "{}: no such file", table.name()),
-        IoKind::IsADirectory => eprintln!(rt; "{}: a folder, and no file", table.name()),
-        _ => eprintln!(rt; "{}: can't be read: {error}", table.name()),
-    }
-}
-
-/// Opens the file of a table, or says why it can't be opened.
-fn open_table<'p, 'r, R: Files + Eprint + AllocGlobal>(
+/// Says which of nine files can't be opened, and gives the status then.
+fn tell_files<R: Eprint, F>(
     rt: &R,
-    folder: &str,
-    table: Table,
-    pace: &'p Pace<'r, R>,
-) -> io::Result<Option<TableFile<'p, 'r, R, R::File>>> {
-    let path = Path::new(folder).join(rt.alloc(), table.name())?;
-    match fs::open(rt, path.as_path()) {
-        Ok(file) => Ok(Some(TableFile {
-            table,
-            file,
-            bytes: 0,
-            failure: None,
-            pace,
-        })),
-        Err(error) if error.kind() == IoKind::OutOfMemory => Err(error),
-        Err(error) => {
-            tell_file(rt, table, &error)?;
-            Ok(None)
-        }
-    }
-}
-
-/// Opens the nine files of a folder, or says which can't be opened.
-fn open_tables<'p, 'r, R: Files + Eprint + AllocGlobal>(
-    rt: &R,
-    folder: &str,
-    pace: &'p Pace<'r, R>,
-) -> io::Result<Option<Sources<TableFile<'p, 'r, R, R::File>>>> {
-    let warehouse = open_table(rt, folder, Table::Warehouse, pace)?;
-    let district = open_table(rt, folder, Table::District, pace)?;
-    let customer = open_table(rt, folder, Table::Customer, pace)?;
-    let history = open_table(rt, folder, Table::History, pace)?;
-    let new_order = open_table(rt, folder, Table::NewOrder, pace)?;
-    let order = open_table(rt, folder, Table::Order, pace)?;
-    let order_line = open_table(rt, folder, Table::OrderLine, pace)?;
-    let item = open_table(rt, folder, Table::Item, pace)?;
-    let stock = open_table(rt, folder, Table::Stock, pace)?;
-    let (Some(warehouse), Some(district), Some(customer)) = (warehouse, district, customer) else {
-        return Ok(None);
-    };
-    let (Some(history), Some(new_order), Some(order)) = (history, new_order, order) else {
-        return Ok(None);
-    };
-    let (Some(order_line), Some(item), Some(stock)) = (order_line, item, stock) else {
-        return Ok(None);
-    };
-    Ok(Some(Sources {
-        warehouse,
-        district,
-        customer,
-        history,
-        new_order,
-        order,
-        order_line,
-        item,
-        stock,
-    }))
-}
-
-/// Gives the file of a table.
-fn file_of<S>(sources: &Sources<S>, table: Table) -> &S {
-    match table {
-        Table::Warehouse => &sources.warehouse,
-        Table::District => &sources.district,
-        Table::Customer => &sources.customer,
-        Table::History => &sources.history,
-        Table::NewOrder => &sources.new_order,
-        Table::Order => &sources.order,
-        Table::OrderLine => &sources.order_line,
-        Table::Item => &sources.item,
-        Table::Stock => &sources.stock,
+    sources: &Sources<TableFile<'_, '_, R, F>>,
+) -> io::Result<Option<ExitCode>> {
+    match tell_closed(rt, sources) {
+        Ok(true) => Ok(None),
+        Ok(false) => Ok(Some(ExitCode::from(2))),
+        Err(error) if error.kind() == IoKind::OutOfMemory => Ok(Some(fail(rt, "no memory")?)),
+        Err(error) => Err(error),
     }
 }
 
 /// Says why the files of tables were not read to their ends.
-fn tell_stop<R: Clock + Eprint, F: Read>(
+fn tell_stop<R: Eprint, F>(
     rt: &R,
     sources: &Sources<TableFile<'_, '_, R, F>>,
     stop: Stop,
 ) -> io::Result<ExitCode> {
-    let Stop::Read(table) = stop else {
-        return fail(rt, "no memory");
-    };
-    match &file_of(sources, table).failure {
-        Some(error) => tell_file(rt, table, error)?,
-        None => eprintln!(rt; "{}: can't be read", table.name())?,
+    match stop {
+        Stop::NoMemory => fail(rt, "no memory"),
+        Stop::Read(table) => {
+            tell_unread(rt, sources, table)?;
+            Ok(ExitCode::from(2))
+        }
     }
-    Ok(ExitCode::from(2))
 }
 
-/// Tells which lines can't be read, of a file of commits or of tables.
-fn tell_unread<R: Eprint>(
+/// Tells which lines can't be read, of a file of commits or of tables, and gives the status.
+fn tell_comparison<R: Eprint>(
     rt: &R,
     errors: &Stderr,
     verdict: &ComparisonVerdict<'_>,
-) -> io::Result<()> {
-    match verdict {
-        ComparisonVerdict::Replies(Verdict::Unreadable(bad)) => tell_bad_lines(rt, bad)?,
-        ComparisonVerdict::Unreadable(faults) => {
-            let _told = write_faults(faults, &mut Printed::new(errors));
-        }
-        _ => {}
+) -> io::Result<ExitCode> {
+    if let ComparisonVerdict::Replies(replies) = verdict {
+        return tell_replies(rt, replies);
     }
-    Ok(())
+    if let ComparisonVerdict::Unreadable(faults) = verdict {
+        let _told = write_faults(faults, &mut Printed::new(errors));
+    }
+    Ok(ExitCode::from(oe_comparison::status(verdict)))
+}
+
+/// Compares the tables that commits leave with nine files that are open.
+fn compare<R: Clock + Print + Eprint + AllocGlobal, F: Read + Drop>(
+    rt: &R,
+    errors: &Stderr,
+    input: &[u8],
+    sources: &mut Sources<TableFile<'_, '_, R, F>>,
+) -> io::Result<ExitCode> {
+    let mut writer = Printed::new(rt);
+    match run_comparison(rt.alloc(), input, sources, &mut writer) {
+        Ok(verdict) => tell_comparison(rt, errors, &verdict),
+        Err(ComparisonFault::Short(shortage)) => fail(rt, shortage_name(shortage)),
+        Err(ComparisonFault::Stopped(stop)) => tell_stop(rt, sources, stop),
+        Err(ComparisonFault::Write) => fail(rt, write_fault(writer.is_closed())),
+    }
+}
+
+/// Opens the nine files of a folder, and compares the tables that commits leave with them.
+fn compare_folder<R: Files + Clock + Print + Eprint + AllocGlobal>(
+    rt: &R,
+    errors: &Stderr,
+    input: &[u8],
+    folder: &str,
+) -> io::Result<ExitCode> {
+    let pace = Pace::begin(rt, errors.is_terminal())?;
+    let mut sources = open_tables(rt, folder, &pace);
+    match tell_files(rt, &sources) {
+        Ok(None) => compare(rt, errors, input, &mut sources),
+        Ok(Some(status)) => Ok(status),
+        Err(error) => Err(error),
+    }
 }
 
 /// Tells whether the commits in a file are serial, and what differs between the tables that they
@@ -432,31 +347,9 @@ fn answer_comparison<R: Files + Clock + Print + Eprint + AllocGlobal>(
     name: &str,
     folder: &str,
 ) -> io::Result<ExitCode> {
-    let input = match read_commits(rt, name)? {
-        Ok(input) => input,
-        Err(status) => return Ok(status),
-    };
-    let pace = Pace {
-        rt,
-        begun: Instant::now(rt)?,
-        is_shown: errors.is_terminal(),
-        second_told: AtomicU64::new(0),
-    };
-    let mut sources = match open_tables(rt, folder, &pace) {
-        Ok(Some(sources)) => sources,
-        Ok(None) => return Ok(ExitCode::from(2)),
-        Err(error) if error.kind() == IoKind::OutOfMemory => return fail(rt, "no memory"),
-        Err(error) => return Err(error),
-    };
-    let mut writer = Printed::new(rt);
-    match run_comparison(rt.alloc(), input.as_slice(), &mut sources, &mut writer) {
-        Ok(verdict) => {
-            tell_unread(rt, errors, &verdict)?;
-            Ok(ExitCode::from(oe_comparison::status(&verdict)))
-        }
-        Err(ComparisonFault::Short(shortage)) => fail(rt, shortage_name(shortage)),
-        Err(ComparisonFault::Stopped(stop)) => tell_stop(rt, &sources, stop),
-        Err(ComparisonFault::Write) => fail(rt, write_fault(writer.is_closed())),
+    match fs::read(rt, name) {
+        Ok(input) => compare_folder(rt, errors, input.as_slice(), folder),
+        Err(error) => tell_no_commits(rt, name, &error),
     }
 }
 
@@ -465,7 +358,28 @@ fn format_of(is_csv: bool) -> Format {
     if is_csv { Format::Csv } else { Format::Dump }
 }
 
-/// Audits the nine files of a folder, and writes the report on standard output.
+/// Audits nine files that are open, and writes the report on standard output.
+fn audit<R: Clock + Print + Eprint + AllocGlobal, F: Read + Drop>(
+    rt: &R,
+    errors: &Stderr,
+    sources: &mut Sources<TableFile<'_, '_, R, F>>,
+    first: Option<u32>,
+    format: Format,
+) -> io::Result<ExitCode> {
+    let mut writer = Printed::new(rt);
+    match run_audit(rt.alloc(), format, sources, first, &mut writer) {
+        Ok(verdict) => {
+            if let AuditVerdict::Unreadable(faults) = &verdict {
+                let _told = write_faults(faults, &mut Printed::new(errors));
+            }
+            Ok(ExitCode::from(oe_inspection::status(&verdict)))
+        }
+        Err(AuditFault::Stopped(stop)) => tell_stop(rt, sources, stop),
+        Err(AuditFault::Write) => fail(rt, write_fault(writer.is_closed())),
+    }
+}
+
+/// Audits the nine files of a folder.
 fn answer_audit<R: Files + Clock + Print + Eprint + AllocGlobal>(
     rt: &R,
     errors: &Stderr,
@@ -473,28 +387,12 @@ fn answer_audit<R: Files + Clock + Print + Eprint + AllocGlobal>(
     first: Option<u32>,
     format: Format,
 ) -> io::Result<ExitCode> {
-    let pace = Pace {
-        rt,
-        begun: Instant::now(rt)?,
-        is_shown: errors.is_terminal(),
-        second_told: AtomicU64::new(0),
-    };
-    let mut sources = match open_tables(rt, folder, &pace) {
-        Ok(Some(sources)) => sources,
-        Ok(None) => return Ok(ExitCode::from(2)),
-        Err(error) if error.kind() == IoKind::OutOfMemory => return fail(rt, "no memory"),
-        Err(error) => return Err(error),
-    };
-    let mut writer = Printed::new(rt);
-    match run_audit(rt.alloc(), format, &mut sources, first, &mut writer) {
-        Ok(verdict) => {
-            if let AuditVerdict::Unreadable(faults) = &verdict {
-                let _told = write_faults(faults, &mut Printed::new(errors));
-            }
-            Ok(ExitCode::from(oe_inspection::status(&verdict)))
-        }
-        Err(AuditFault::Stopped(stop)) => tell_stop(rt, &sources, stop),
-        Err(AuditFault::Write) => fail(rt, write_fault(writer.is_closed())),
+    let pace = Pace::begin(rt, errors.is_terminal())?;
+    let mut sources = open_tables(rt, folder, &pace);
+    match tell_files(rt, &sources) {
+        Ok(None) => audit(rt, errors, &mut sources, first, format),
+        Ok(Some(status)) => Ok(status),
+        Err(error) => Err(error),
     }
 }
 

@@ -92,27 +92,20 @@ const USAGE: &str = "oe_server script [--explain] < FILE
 
 const FORMS: &str = "\
 A script is lines; each is answered on standard output before the program waits for more.
-A line is words parted by one space, at most 1024 bytes, and a newline. Terminals T are 1
-to 64. What stands behind the colon is the answer:
+A line is words parted by one space, at most 1024 bytes, and a newline. The forms of lines, and
+what stands in their columns, come last. What a line does, and behind the colon its answer:
 
-  open W C I E       comes first, and once: W warehouses (1 to 16) with 10 districts each,
-                     C customers in each district (1 to 3000), I items (1 to 100000) and
-                     E undo extents (2 to 4096): opened
-  begin T payment WAREHOUSE DISTRICT CUSTOMER_WAREHOUSE CUSTOMER_DISTRICT CUSTOMER AMOUNT STAMP
-                     terminal T begins a payment: warehouses are 1 to 16, districts 1 to
-                     10, customers 1 to 3000 or a last name of 1 to 16 letters A to Z,
-                     amounts 1.00 to 5000.00, stamps YYYY-MM-DDTHH:MM:SS of the years 1900
-                     to 2100: begun
-  begin T neworder WAREHOUSE DISTRICT CUSTOMER STAMP SUPPLY_WAREHOUSE:ITEM:QUANTITY ..
-                     terminal T begins an order of 5 to 15 items: items are 1 to 999999,
-                     and valid up to I, quantities 1 to 10: begun
-  begin T delivery WAREHOUSE DISTRICT CARRIER STAMP
-                     terminal T begins the delivery of the oldest order of the district that
-                     is not delivered: carriers are 1 to 10: begun
-  begin T delivery WAREHOUSE CARRIER STAMP
-                     the same in each of the warehouse's ten districts, as one transaction,
-                     whose mark moves before each district: begun
-  next T             carries out the next stage of T's transaction: more, or, at its end,
+  open               comes first, and once: it makes warehouses with 10 districts each, the
+                     customers of each district, items and undo extents: opened
+  begin .. payment   the terminal begins a payment: a customer of any district pays an amount
+                     at a district: begun
+  begin .. neworder  the terminal begins an order; an item that open did not make is not valid:
+                     begun
+  begin .. delivery  the terminal begins the delivery of the oldest order of the district that
+                     is not delivered; without a district the same in each of the warehouse's
+                     ten districts, as one transaction, whose mark moves before each: begun
+  next               carries out the next stage of the terminal's transaction: more, or, at its
+                     end,
                      commit MOMENT payment CUSTOMER LAST_NAME CREDIT BALANCE, or
                      commit MOMENT neworder ORDER LAST_NAME CREDIT TOTAL and for each item
                      B:STOCK:AMOUNT (B where item and stock are both original) or
@@ -121,26 +114,25 @@ to 64. What stands behind the colon is the answer:
                      commit MOMENT delivery skipped, where no order waits, or
                      commit MOMENT deliveries and for each district
                      DISTRICT:ORDER:CUSTOMER:SUM or DISTRICT:skipped
-  run T              carries out its stages up to the first that is not answered more: that
+  run                carries out its stages up to the first that is not answered more: that
                      stage's answer alone
-  save T             marks where T's transaction stands: saved
-  back T             undoes its stages since the mark: back
-  rollback T         undoes all its stages, and ends it: rolled back
-  audit N M          audits condition N (1 to 10, or 12) at moment M: now, which is the number of
-                     commits, or a lesser number; what is open is not seen: condition N holds,
-                     or condition N fails at, and the key of the first row at which it does
-  read M status WAREHOUSE DISTRICT CUSTOMER
-                     the balance and the newest order of a customer at moment M, as above:
+  save               marks where the terminal's transaction stands: saved
+  back               undoes its stages since the mark: back
+  rollback           undoes all its stages, and ends it: rolled back
+  read .. status     the balance and the newest order of a customer at a moment: now, which is
+                     the number of commits, or a lesser number; what is open is not seen:
                      status CUSTOMER BALANCE ORDER STAMP CARRIER, and for each line
-                     SUPPLY_WAREHOUSE:ITEM:QUANTITY:AMOUNT:STAMP of the delivery (- for a carrier
-                     or a delivery that is not there), or status CUSTOMER BALANCE no order
-  read M level WAREHOUSE DISTRICT THRESHOLD
-                     how many items of the district's last 20 orders its warehouse had less
-                     of than the threshold (10 to 20) at moment M: level COUNT
-  purge M            moment M becomes the oldest that can be read; the tables stay: purged M
-  rewind M           takes the commits after moment M back, while nothing is open: rewound M
-  dump TABLE         shows warehouse, district, customer, history, neworder, order,
-                     orderline, item or stock: a line for each row, and rows COUNT
+                     SUPPLY:ITEM:QUANTITY:AMOUNT:STAMP of the delivery (- for a carrier or a
+                     delivery that is not there), or status CUSTOMER BALANCE no order
+  read .. level      how many items of the district's last 20 orders its warehouse had less
+                     of than the threshold at a moment: level COUNT
+  audit              audits a condition at a moment: condition N holds, or condition N fails
+                     at, and the key of the first row at which it does
+  purge              the moment becomes the oldest that can be read; the tables stay: purged
+                     MOMENT
+  rewind             takes the commits after the moment back, while nothing is open: rewound
+                     MOMENT
+  dump               shows a table: a line for each row, and rows COUNT
   waits              shows each terminal T that waits, the lock and its holders: T waits NAME
                      MODE for HOLDERS; the terminals that wait for one another: cycle and them,
                      or no cycle; and rows COUNT

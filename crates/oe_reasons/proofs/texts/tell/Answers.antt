@@ -1,7 +1,8 @@
 use Rattle.std.proofs.Common.{◌++◌, codes, sym, ap, ◌∙◌}
-use Rattle.oe_reasons.specs.Columns.{first_word}
+use Rattle.oe_reasons.specs.Columns.{first_word, forms_of}
+use Rattle.oe_reasons.specs.Shapes.{either_text}
 use Rattle.oe_reasons.specs.Texts.{guess_text, reason_text}
-use Rattle.oe_reasons.proofs.JoinFacts.{four}
+use Rattle.oe_reasons.proofs.JoinFacts.{two, four}
 use Rattle.oe_reasons.proofs.texts.tell.Goals as goal
 
 pub returns-in-NoVerb-clause-items : goal.returns-in-NoVerb-clause-items
@@ -12,3 +13,11 @@ returns-in-NoVerb-clause-items c =
     (c.text-in-NoVerb-2.ensures.items ∙ ap (λ t. c.text-in-NoVerb.new.out.items ++ t) c.first_word.ensures.value)
     c.text-in-NoVerb-3.ensures.items c.guess.ensures.items
     ∙ ap (λ r. c.args.out.now.items ++ reason_text c.args.line.now r) (sym c.in-NoVerb.is)
+
+pub returns-in-NotSo-clause-items : goal.returns-in-NotSo-clause-items
+returns-in-NotSo-clause-items c =
+    two c.args.out.now.items (codes "it is not of the form") (either_text (forms_of c.in-NotSo.verb)) _ _
+    c.text-in-NotSo.ensures.items
+    (c.either.ensures.items
+    ∙ ap (λ fs. c.text-in-NotSo.new.out.items ++ either_text fs) c.forms_of.ensures.value)
+    ∙ ap (λ r. c.args.out.now.items ++ reason_text c.args.line.now r) (sym c.in-NotSo.is)
