@@ -35,7 +35,7 @@ module _ {K : Type 0} (cmp : K → K → Ordering) where
       → cmp t.0 o.0 ≡ Equal → first_other 0 t.1 o.1 ≡ None → difference cmp ts os ≡ difference cmp ts' os'
   same ts ts' os os' t o e f c is = rw (e, f, c, is) refl
 
--- what is told of the first row that differs
+-- the difference at the first row that differs
 pub told : {K : Type 0} (key_of : K → Key) (d e : Option (Difference K)) (old now new : Told) → d ≡ e → now ≡ old
     → new ≡ with_difference key_of e now → new ≡ with_difference key_of d old
 told key_of d e old now new same kept is = rw (same, ← kept) is

@@ -1,4 +1,4 @@
--- Rows that are told apart by their columns, and the first row that differs.
+-- Columns tell rows apart; and the first row that differs.
 use Rattle.std.proofs.Common.{◌≡◌, ◌↔◌, ℕ, ◌+◌, ◌-◌, Bool, true, false, List, [], ◌∷◌, ◌++◌, length, take, Option, None}
 use Rattle.std.proofs.Common.{if◌then◌else◌, Some, refl, sym, ap, subst, ◌∙◌, arith, append_assoc}
 use Rattle.std.specs.List.{list_all}
@@ -56,7 +56,7 @@ some_is x y e = cc
 no_none : {A : Type 0} (x : A) → None ≡ Some x → ⊥
 no_none x e = cc
 
--- ---- rows of which no column differs
+-- ---- rows without a column that differs
 
 abbrev chosen : ℕ → List ℕ → List ℕ → List (List ℕ) → List (List ℕ) → Bool → Option Other
 chosen n x y xs ys c =

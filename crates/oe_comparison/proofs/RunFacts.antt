@@ -31,7 +31,7 @@ decided input ours d e is made =
     let so = subst (λ (z : Decision). IsDecision input z ours) is made in
     (so.0, so.1)
 
--- what is told of tables, where they were compared
+-- the report on tables, where they were compared
 pub compares : (n : ℕ) (r : Rows) (before after : Nine) (old new : Option Sink) (told : Told)
     (result : Result Verdict Fault)
     → AreTold before after r told → Tells n told old new result → Compares n r before after old new result

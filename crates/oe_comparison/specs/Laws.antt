@@ -15,7 +15,7 @@ use Rattle.oe_rowlines.specs.Rows.{item_values, stock_forms, stock_values}
 use Rattle.oe_comparison.specs.Columns.{shown, first_other}
 use Rattle.oe_comparison.specs.Differences.{Difference, Extra, Missing, Column, difference}
 
--- Two rows whose columns are in their ranges, and of which none differs, are the same row.
+-- Two rows are the same where their columns are in their ranges and no column differs.
 abbrev pub AreToldApart : {R : Type 0} → List (List Form) → (R → List Value) → (R → List (List ℕ)) → Type 0
 AreToldApart {R} forms values columns =
     (a b : R) → AreOf (joined forms) (values a) → AreOf (joined forms) (values b)
@@ -68,7 +68,7 @@ pub record IsFirst {K : Type 0} (cmp : K → K → Ordering) (theirs ours : List
   pub same : AreSame their_front our_front
   pub begins : BeginsSo cmp their_rest our_rest d
 
--- Nothing is told exactly where all rows are the same, and what is told is the first that differs.
+-- There is no difference exactly where all rows are the same; else the difference is at the first that differs.
 pub record Differences_are_first {K : Type 0} (cmp : K → K → Ordering) : Type 0 where
   pub none : (theirs ours : List (K × List (List ℕ))) → (difference cmp theirs ours ≡ None) ↔ AreSame theirs ours
   pub some : (theirs ours : List (K × List (List ℕ))) (d : Difference K) → difference cmp theirs ours ≡ Some d

@@ -42,7 +42,7 @@ TellsOther v ours old new (Ok w) = ⊥
 TellsOther v ours old new (Err stop.Write) = Cut old [] new (verdict_text v ours)
 TellsOther v ours old new (Err f) = ⊥
 
--- what is told was written, or a beginning of it
+-- the report was written, or a beginning of it
 abbrev pub Tells : ℕ → Told → Option Sink → Option Sink → Result Verdict Fault → Type 0
 Tells n told old new (Ok verdict.Same) = (told.count ≡ 0) × Sent old [] new [] (comparison_text n told)
 Tells n told old new (Ok (verdict.Differs count)) =

@@ -1,4 +1,4 @@
--- What is told of tables that are compared: a line for each that differs, and how many do.
+-- The report on tables that are compared: a line for each that differs, and how many do.
 use Rattle.std.specs.Prelude.{ℕ, ◌+◌, ◌==◌, List, ◌++◌, Option, None, Some, codes, decimal, if◌then◌else◌}
 use Rattle.oe_rows.specs.Key.{table_of}
 use Rattle.oe_rows.specs.declared.histories.History.{History}
@@ -65,6 +65,6 @@ last_line count =
     if count == 0 then codes "same 9 of 9 tables\n"
     else codes "differs in " ++ decimal count ++ codes " of 9 tables\n"
 
--- serial <count>, and what is told of the tables
+-- serial <count>, and the report on the tables
 abbrev pub comparison_text : ℕ → Told → List ℕ
 comparison_text n t = serial_line n ++ t.text ++ last_line t.count

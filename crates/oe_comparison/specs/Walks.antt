@@ -1,4 +1,4 @@
--- What is told of two rows of a key.
+-- How two rows of a key differ.
 use Rattle.std.specs.Prelude.{◌≡◌, Bool, Option, None, Some, Result, Ok, Err, is_some}
 use Rattle.oe_rows.specs.declared.keys.Key.{Key}
 use Rattle.oe_comparison.specs.Columns.{Other}

@@ -1,4 +1,4 @@
-//! What is told of tables: a line for each that differs, and how many do. Lines are kept until all
+//! The report on tables: a line for each that differs, and how many do. Lines are kept until all
 //! files are read. A want of memory leaves a report that is of no use any more.
 ghost use Rattle.std.specs.Prelude.{◌≡◌, ◌≤◌, ◌<◌, ◌+◌, ◌++◌, ◌∷◌, [], length, decimal, OnOk};
 ghost use Rattle.arrayvec.specs.ArrayVec.{array_vec_len};

@@ -28,7 +28,7 @@ pub enum Verdict<'a> {
     Replies(Replies<'a>),
     /// The replies are serial, and all tables are the same.
     Same,
-    /// The replies are serial, and so many tables differ.
+    /// The replies are serial, and this number of tables differ.
     Differs(u64),
     /// The replies are serial, and lines of the tables' files can't be read. Nothing was written.
     Unreadable(Faults),
@@ -41,7 +41,7 @@ pub enum Fault {
     Short(Shortage),
     /// A file was not read to its end, or memory was refused. Nothing was written.
     Stopped(Stop),
-    /// A write failed. A beginning of what is told was written.
+    /// A write failed. A beginning of the report was written.
     Write,
 }
 
@@ -75,7 +75,7 @@ fn tell_replies<'a, W: Outlet>(
     }
 }
 
-// Writes the verdict on serial replies, and what is told of the tables.
+// Writes the verdict on serial replies, and the report on the tables.
 fn write_report<W: Outlet>(count: u128, report: &Report, writer: &mut W) -> Result<(), Failed>
     ensures { Streams (W.sink writer.old) [] (W.sink writer.new) []
         (comparison_text count report.now) result }
@@ -91,7 +91,7 @@ fn write_report<W: Outlet>(count: u128, report: &Report, writer: &mut W) -> Resu
     flush(&mut out, writer)
 }
 
-// Writes what is told of tables that were compared, and gives the verdict.
+// Writes the report on tables that were compared, and gives the verdict.
 fn tell<'a, W: Outlet>(count: u128, report: &Report, writer: &mut W) -> Result<Verdict<'a>, Fault>
     ensures { Tells count report.now (W.sink writer.old) (W.sink writer.new) result }
 {

@@ -21,7 +21,7 @@ pub struct TableFile<'p, 'r, R, F> {
 }
 
 impl<'p, 'r, R, F> TableFile<'p, 'r, R, F> {
-    /// Makes the file of a table, of which nothing is read.
+    /// Makes the file of a table, before its first read.
     pub(crate) fn new(table: Table, file: io::Result<F>, pace: &'p Pace<'r, R>) -> Self
         ensures table { result.table ≡ table }
         ensures file { result.file ≡ file }

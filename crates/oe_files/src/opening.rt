@@ -1,5 +1,5 @@
 //! Nine files are opened in a folder, each under its table's name. Those that can't be opened are
-//! closed from the beginning, and a person is told why.
+//! closed from the beginning, and a line says why.
 ghost use Rattle.std.specs.Prelude.{◌≡◌, IfOk, is_ok, is_none};
 ghost use Rattle.std.specs.List.{list_all};
 ghost use Rattle.std.specs.Path.{path_join, path_buf_bytes};

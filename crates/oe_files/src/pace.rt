@@ -15,7 +15,7 @@ pub struct Pace<'r, R> {
 }
 
 impl<'r, R: Clock + Eprint> Pace<'r, R> {
-    /// Begins to count seconds. Nothing is told where nobody is shown it.
+    /// Begins to count seconds. It says nothing where it is not shown.
     pub fn begin(rt: &'r R, is_shown: bool) -> io::Result<Self> {
         Ok(Pace {
             rt,

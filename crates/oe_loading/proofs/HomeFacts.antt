@@ -28,7 +28,7 @@ use Rattle.oe_loading.specs.Placing.{HasRow, missing_of, IsRowOf, Put}
 use Rattle.oe_loading.proofs.BaseFacts.{grown, own_row, only_row, only_value, no_row, no_such, present}
 use Rattle.oe_loading.proofs.PlaceFacts.{none_missing, met_next, met_first, lacks_first}
 use Rattle.oe_loading.proofs.PlaceFacts.{row_before, row_last, row_cases, put_keeps}
-use Rattle.oe_loading.proofs.PlaceFacts.{put_kept, put_met}
+use Rattle.oe_loading.proofs.PlaceFacts.{put_kept, put_met, only_put}
 
 -- ---- one district more
 
@@ -148,24 +148,12 @@ row_d r k h = some-map row.District (get r.districts k) ∙ h
 or_there_w : (r : Rows) (k : WarehouseKey) (x : Warehouse) (q : WarehouseKey)
     → HasRow (record r { warehouses = insert r.warehouses k x }) (key.Warehouse q)
     → (q ≡ k) ⊎ HasRow r (key.Warehouse q)
-or_there_w r k x q h =
-    by (only_row warehouse_total exact_warehouse r.warehouses k x q
-    (there_w (record r { warehouses = insert r.warehouses k x }) q h))
-  where
-    by : (q ≡ k) ⊎ IsSome (get r.warehouses q) → (q ≡ k) ⊎ HasRow r (key.Warehouse q)
-    by (inl is) = inl is
-    by (inr h) = inr (row_w r q h)
+or_there_w r k x = only_put warehouse_total exact_warehouse row.Warehouse r.warehouses _ k x refl
 
 or_there_d : (r : Rows) (k : DistrictKey) (x : District) (q : DistrictKey)
     → HasRow (record r { districts = insert r.districts k x }) (key.District q)
     → (q ≡ k) ⊎ HasRow r (key.District q)
-or_there_d r k x q h =
-    by (only_row district_total exact_district r.districts k x q
-    (there_d (record r { districts = insert r.districts k x }) q h))
-  where
-    by : (q ≡ k) ⊎ IsSome (get r.districts q) → (q ≡ k) ⊎ HasRow r (key.District q)
-    by (inl is) = inl is
-    by (inr h) = inr (row_d r q h)
+or_there_d r k x = only_put district_total exact_district row.District r.districts _ k x refl
 
 pub same_by_warehouses : (d : DistrictKey) (r s : Rows) → s.warehouses ≡ r.warehouses
     → missing_of (key.Warehouse (warehouse_of_district d) ∷ []) s

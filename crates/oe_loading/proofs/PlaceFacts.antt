@@ -15,6 +15,7 @@ use Rattle.std.proofs.lemmas.Map.Keys.{Less-from_sorted}
 use Rattle.oe_rows.specs.declared.keys.Key.{Key}
 use Rattle.oe_rows.specs.declared.rows.Row.{Row}
 use Rattle.oe_model.specs.Rows.{Rows, row_at}
+use Rattle.oe_model.proofs.PresenceFacts.{some-map}
 use Rattle.oe_reading.specs.declared.lines.Numbered.{Numbered}
 use Rattle.oe_table.proofs.TableFacts.{tied}
 use Rattle.oe_loading.proofs.BaseFacts.{only_row}
@@ -66,30 +67,22 @@ pub absent : {X : Type 0} (c : X → Row) (o : Option X) → (IsSome (option_map
 absent c None never = refl
 absent c (Some x) never = absurd (never refl)
 
-mapped_there : {X : Type 0} (c : X → Row) (o : Option X) → IsSome (option_map c o) → IsSome o
-mapped_there c None h = h
-mapped_there c (Some x) h = refl
-
 -- a row that nothing refers to in vain is there
 pub met_there : {X : Type 0} (c : X → Row) (g : Option X) (k : Key) (ks : List Key) (r : Rows)
     → row_at r k ≡ option_map c g → missing_of (k ∷ ks) r ≡ None → IsSome g × (missing_of ks r ≡ None)
 met_there c g k ks r at met =
-    let both = met_first k ks r met in (mapped_there c g (subst IsSome at both.0), both.1)
-
-there_mapped : {X : Type 0} (c : X → Row) (o : Option X) → IsSome o → IsSome (option_map c o)
-there_mapped c None h = h
-there_mapped c (Some x) h = refl
+    let both = met_first k ks r met in (sym (some-map c g) ∙ subst IsSome at both.0, both.1)
 
 -- whatever key has a row behind a row that was put had one before, or is its key
 pub only_put : {K X : Type 0} {R : K → K → Ordering} → IsTotalOrder R → IsAntisymmetric R → (c : X → Row)
     (old new : FinMap R X) (key : K) (x : X) → new ≡ insert old key x → (k : K) → IsSome (option_map c (get new k))
     → (k ≡ key) ⊎ IsSome (option_map c (get old k))
 only_put total exact c old new key x e k h =
-    by (only_row total exact old key x k (subst (λ m. IsSome (get m k)) e (mapped_there c (get new k) h)))
+    by (only_row total exact old key x k (subst (λ m. IsSome (get m k)) e (sym (some-map c (get new k)) ∙ h)))
   where
     by : (k ≡ key) ⊎ IsSome (get old k) → (k ≡ key) ⊎ IsSome (option_map c (get old k))
     by (inl is) = inl is
-    by (inr h) = inr (there_mapped c (get old k) h)
+    by (inr h) = inr (some-map c (get old k) ∙ h)
 
 -- ---- rows of lines
 
@@ -147,7 +140,7 @@ module _ {K X : Type 0} where
       by : (j : ℕ) → (get_or ns j d).key ≡ k → (get_or (m ∷ ns) (j + 1) d).key ≡ k
       by j e = let next : suc j ≡ j + 1 = omega arith in subst (λ (z : ℕ). (get_or (m ∷ ns) z d).key ≡ k) next e
 
--- no key of the first rows is that of the next, where keys ascend
+-- the next key differs from all before it, where keys ascend
 not_less : {K : Type 0} {R : K → K → Ordering} → IsTotalOrder R → (k : K) → R k k ≡ Less → ⊥
 not_less {R = R} total k e = let same = tied (R k k) ((eq_by_cmp_equiv total).refl k) in let no = sym e ∙ same in cc
 

@@ -17,7 +17,7 @@ use Rattle.oe_reading.specs.declared.lines.Numbered.{Numbered}
 use Rattle.oe_loading.specs.Placing.{IsRowOf}
 use Rattle.oe_loading.specs.declared.homes.Homes.{Homes}
 
--- so many districts of that warehouse, from the n-th on
+-- the keys of `count` districts of a warehouse, from number n on
 unfoldable pub districts_from : WarehouseKey → (n count : ℕ) → List Key
 districts_from w n zero = []
 districts_from w n (suc count) =

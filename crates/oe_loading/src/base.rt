@@ -79,7 +79,7 @@ impl Base {
         }
     }
 
-    /// Makes the nine tables of them, of which the other four have no row.
+    /// Makes nine tables: these five, and four without a row.
     pub(crate) fn into_tables(self, alloc: Global) -> Tables
         ensures { rows result ≡ base_rows self }
     {

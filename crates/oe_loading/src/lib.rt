@@ -1,6 +1,6 @@
 //! Nine files, read as the nine tables. A file's lines spell rows; the rows whose references find
 //! their rows are kept as tables, and the others are set apart. Where a line can't be read nothing
-//! is kept, and the faults are told. Clause numbers are TPC Benchmark C 5.11's.
+//! is kept, and the answer has the faults. Clause numbers are TPC Benchmark C 5.11's.
 #![tactic(auto)]
 
 mod base;

@@ -62,7 +62,7 @@ module _ {K X : Type 0} (cmp : K → K → Ordering) (table : Table) (key_of : K
   twice_more [] i d e h = absurd (omega (arith, h))
   twice_more (n ∷ ns) i d e h = behind_more n ns i d e (omega (arith, h))
 
-  -- the row behind the first i ones is told
+  -- the faults with the row behind the first i ones
   told_more : (ns : List (Numbered K X)) (i : ℕ) (p n : Numbered K X) (start now : Told Fault) → suc i < length ns
       → p ≡ get_or ns i p → n ≡ get_or ns (suc i) n
       → now ≡ each_pushed (twice_in cmp table key_of (take (suc i) ns)) start

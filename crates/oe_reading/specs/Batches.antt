@@ -27,7 +27,7 @@ module _ {K X : Type 0} (cmp : K → K → Ordering) where
     pub counted : count ≡ length rows
     pub ascend : is_ascending ≡ true → Ascend rows
 
-  -- The rows stand in the order of their keys, and a fault is told of each whose key the row before it has.
+  -- The rows stand in the order of their keys; each whose key the row before it has makes a fault.
   pub record AreOrdered (table : Table) (key_of : K → Key) (rows ordered : List (Numbered K X))
       (old new : Told Fault) : Type 0 where
     pub moved : IsPermutation rows ordered

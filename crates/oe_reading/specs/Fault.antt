@@ -1,4 +1,4 @@
--- The faults that are told: the first twenty, and how many there are.
+-- Faults: the first twenty, and how many there are.
 use Rattle.std.specs.Prelude.{ℕ, ◌+◌, ◌-◌, ◌^◌, min, List, [], ◌∷◌, ◌++◌, length, nat_lt, if◌then◌else◌}
 use Rattle.oe_reading.specs.declared.faults.TheConstants.{KEPT}
 

@@ -25,7 +25,7 @@ pub enum Wrong {
     CarriageReturn,
     /// An earlier line has the same key.
     Twice(Key),
-    /// It says that there are so many rows, and there are not.
+    /// It says that there are this number of rows, and there are not.
     Miscount(u64),
     /// It stands behind the line that says how many rows there are.
     PastCount,

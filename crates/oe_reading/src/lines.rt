@@ -225,7 +225,7 @@ impl<K: TableKey + Drop, R: RowLine<K> + Drop> Lot<K, R> {
         self.take_text(format, text, faults)
     }
 
-    // Takes the next line, of which too many bytes came.
+    // Takes the next line, which has too many bytes.
     fn take_long(&mut self, faults: &mut Faults)
         ensures { (format : Format) (start : Told Fault) (ls : List (List ℕ)) (line : List ℕ) →
             4_096 < length line →

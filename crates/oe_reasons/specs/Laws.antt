@@ -125,7 +125,7 @@ pub record Verbs_are_read : Type 0 where
   pub each_verb : (v : Verb) → verb_of (verb_word v) ≡ Some v
   pub each_kind : (k : Kind) → kind_of (kind_word k) ≡ Some k
 
--- the range of a column is told, unless it is an own word of a form
+-- the list has the column's range, unless the column is a form's own word
 abbrev pub IsTold : Column → Type 0
 IsTold (column.Verb v) = Unit {0}
 IsTold (column.Kind k) = Unit {0}
@@ -134,7 +134,7 @@ IsTold c = Contains ranged c
 abbrev pub BeginsWith : Verb → Form → Type 0
 BeginsWith v f = slice_get (columns_of f) 0 ≡ Some (column.Verb v)
 
--- each form is listed, as one that begins with its verb; the range of each column is told, but of a form's own words
+-- the list has each form, as one that begins with its verb, and each column's range but of a form's own words
 pub record Lists_are_whole : Type 0 where
   pub each_form : (f : Form) → Contains forms f
   pub verb_first : (v : Verb) → All (BeginsWith v) (forms_of v)

@@ -92,7 +92,7 @@ range_text c = bounds_text c
 
 -- THE LIST OF BOTH
 
--- the columns whose ranges are told
+-- the columns whose ranges the list has
 abbrev pub ranged : List Column
 ranged =
     column.Warehouses ∷ column.Customers ∷ column.Items ∷ column.Extents ∷ column.Terminal ∷ column.Warehouse ∷

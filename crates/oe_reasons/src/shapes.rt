@@ -10,7 +10,7 @@ use crate::forms::{Column, FORMS, Form};
 use oe_texts::columns::{money, number};
 use oe_texts::{Pending, SIZE, text};
 
-/// The columns whose ranges are told.
+/// The columns whose ranges the list has.
 const RANGED: [Column; 22] = [
     Column::Warehouses,
     Column::Customers,
@@ -72,7 +72,7 @@ fn shown_word(column: Column) -> &'static [u8]
     }
 }
 
-/// Gives the columns that are shown of a form, of which the last may come again.
+/// Gives the columns that the list shows of a form; the last may come again.
 fn shown_columns(form: Form) -> &'static [Column]
     ensures value { result.now ≡ shown_columns form }
     ensures few { length result.now ≤ 10 }

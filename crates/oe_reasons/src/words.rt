@@ -57,7 +57,7 @@ pub(crate) fn word_at(line: &[u8], place: usize) -> Option<&[u8]>
     }
 }
 
-/// Counts the words of a line, of which an empty line has one.
+/// Counts the words of a line; an empty line has one.
 pub(crate) fn words_in(line: &[u8]) -> usize
     ensures { result ≡ words_in line.now }
 {

@@ -4,7 +4,7 @@ use Rattle.oe_comparison.specs.Differences.{difference, keyless}
 use Rattle.oe_comparison.specs.Histories.{history_order}
 use Rattle.oe_comparison.proofs.histories.compare_sorted.Given as goal
 
--- what is left differs as the whole does, and nothing is told yet
+-- the rest differs as the whole does, and no difference was found yet
 abbrev pub invariant-loop-our : goal.invariant-loop-our
 invariant-loop-our l = record {
   same : difference history_order (keyless (iter_rest l.theirs)) (keyless (drop l.our-index l.ours))

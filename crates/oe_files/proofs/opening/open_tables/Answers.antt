@@ -6,7 +6,7 @@ use Rattle.oe_files.specs.Files.{AreTheirs}
 use Rattle.oe_files.specs.declared.files.TableFile.{TableFile}
 use Rattle.oe_files.proofs.opening.open_tables.Goals as goal
 
--- nine readers of which each is its table's
+-- nine readers, each its table's
 theirs :
     {S : Type 0} (of : S → Table) (s : Sources S) → of s.warehouse ≡ table.Warehouse → of s.district ≡ table.District
     → of s.customer ≡ table.Customer → of s.history ≡ table.History → of s.new_order ≡ table.NewOrder

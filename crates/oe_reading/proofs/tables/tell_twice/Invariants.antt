@@ -3,7 +3,7 @@ use Rattle.oe_reading.specs.Fault.{each_pushed}
 use Rattle.oe_reading.specs.Twice.{twice_in}
 use Rattle.oe_reading.proofs.tables.tell_twice.Given as goal
 
--- what the rows so far come to is told
+-- the faults have those of the rows so far
 abbrev pub invariant-loop-at : goal.invariant-loop-at
 invariant-loop-at g l = record {
   begun : 1 ≤ l.at;
