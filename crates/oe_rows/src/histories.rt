@@ -11,10 +11,11 @@ use oe_values::texts::Text;
 /// A HISTORY row without its key (clause 1.3.1): the customer who paid, and the district where.
 #[derive(Drop)]
 pub struct History {
-    pub customer: CustomerKey,
-    pub district: DistrictKey,
+    // Before the keys, so that no room is lost between them.
     pub date: Stamp,
     pub amount: LineAmount,
+    pub customer: CustomerKey,
+    pub district: DistrictKey,
     pub data: Text<0, 24>,
 }
 

@@ -30,8 +30,9 @@ pub struct OrderLine {
     pub item: ItemNumber,
     pub supply: WarehouseNumber,
     pub delivery: Option<Stamp>,
-    pub quantity: LineQuantity,
+    // Before the quantity, so that no room is lost between them.
     pub amount: LineAmount,
+    pub quantity: LineQuantity,
     pub dist_info: Text<24, 24>,
 }
 

@@ -1,3 +1,4 @@
 pub mod FrontFacts
+pub mod HeldFacts
 pub mod StampFacts
 pub mod TextFacts

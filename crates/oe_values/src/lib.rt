@@ -4,6 +4,7 @@
 #![tactic(auto)]
 
 pub mod fronts;
+mod held;
 pub mod lines;
 pub mod memory;
 pub mod numbers;

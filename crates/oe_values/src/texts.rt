@@ -9,22 +9,22 @@ ghost use Rattle.std.specs.Cmp.{partial_equiv_from_equiv};
 ghost use Rattle.std.specs.Cmp.Lexicographic.{pointwise, nat_list_eq_equiv};
 ghost use Rattle.oe_values.specs.Text.{IsText, IsPrintable, IsCapital, IsCapitalOrDigit, IsLastName, IsFirstName};
 
-use arrayvec::ArrayString;
+use crate::held::{Held, join};
 use std::marker::Model;
 use std::str;
 
 /// A text of `LEAST` to `MOST` printable ASCII bytes, which lie in the value itself.
 #[derive(Drop)]
 pub struct Text<const LEAST: usize, const MOST: usize> {
-    held: ArrayString<MOST>,
+    held: Held<MOST>,
 }
 
 impl<const LEAST: usize, const MOST: usize> Model for Text<LEAST, MOST> {
     ghost Value = { List ℕ };
 
-    ghost view = { λ t. t.held.bytes };
+    ghost view = { λ t. t.held };
 
-    ghost invariant = { λ t. IsText LEAST MOST t.held.bytes };
+    ghost invariant = { λ t. IsText LEAST MOST t.held };
 }
 
 /// Tells whether every byte is printable ASCII.
@@ -41,18 +41,6 @@ fn ascii(bytes: &[u8]) -> &str
     ensures { result.now ≡ bytes.now }
 {
     unsafe { str::from_utf8_unchecked(bytes) }
-}
-
-/// Gives at most `most` bytes of the front of a printable text.
-fn front(text: &str, most: usize) -> &str
-    requires { All IsPrintable text.now }
-    ensures { result.now ≡ take most text.now }
-{
-    if text.len() <= most {
-        text
-    } else {
-        &text[..most]
-    }
 }
 
 impl<const LEAST: usize, const MOST: usize> Text<LEAST, MOST> {
@@ -82,18 +70,22 @@ impl<const LEAST: usize, const MOST: usize> Text<LEAST, MOST> {
         requires { IsText LEAST MOST bytes.now }
         ensures { result ≡ bytes.now }
     {
-        let mut held = ArrayString::new();
-        held.push_str(ascii(bytes));
-        Text { held }
+        Text {
+            held: Held::of(bytes),
+        }
     }
 
     /// Gives the text.
-    #[inline]
+    #[inline(always)]
     pub fn as_str(&self) -> &str
         ensures value { result.now ≡ self.now }
         ensures fits { IsText LEAST MOST self.now }
     {
-        self.held.as_str()
+        // So that the compiler knows how long a fixed text is.
+        if LEAST == MOST {
+            return ascii(self.held.whole());
+        }
+        ascii(self.held.as_slice())
     }
 
     /// Puts this text before `rest`, and discards what passes `MOST` bytes.
@@ -101,18 +93,18 @@ impl<const LEAST: usize, const MOST: usize> Text<LEAST, MOST> {
         requires { MOST ≤ REST }
         ensures { result ≡ take REST (self.now ++ rest.now) }
     {
-        let mut held = ArrayString::new();
-        held.push_str(self.as_str());
-        let room = held.remaining_capacity();
-        held.push_str(front(rest.as_str(), room));
-        Text { held }
+        let mut whole = [0; REST];
+        let end = join(&mut whole, self.held.as_slice(), rest.held.as_slice());
+        Text::of_printable(&whole[..end])
     }
 
     /// Copies the value, and takes no memory.
     pub fn copied(&self) -> Self
         ensures { result ≡ self.now }
     {
-        Text { held: self.held }
+        Text {
+            held: self.held.copied(),
+        }
     }
 }
 
@@ -135,7 +127,7 @@ impl<const LEAST: usize, const MOST: usize> Text<LEAST, MOST> {
     pub fn of_any_length(&self) -> Text<0, MOST>
         ensures { result ≡ self.now }
     {
-        let held = self.held;
+        let held = self.held.copied();
         Text { held }
     }
 }
