@@ -38,7 +38,7 @@ use Rattle.oe_rowlines.proofs.WordFacts.{is_small}
 
 -- ---- no column has a tab
 
-abbrev IsFree : List ℕ → Type 0
+abbrev pub IsFree : List ℕ → Type 0
 IsFree [] = Unit {0}
 IsFree (b ∷ s) = (eqb b 9 ≡ false) × IsFree s
 
@@ -55,12 +55,12 @@ other b h = grind (arith, nat_tests)
 two_free : (n : ℕ) → IsFree (two_digits n)
 two_free n = (digit (n / 10), (digit (n % 10), tt))
 
-decimal_free : (n : ℕ) → n < 2 ^ 64 → IsFree (decimal n)
+pub decimal_free : (n : ℕ) → n < 2 ^ 64 → IsFree (decimal n)
 decimal_free n h =
     decimal_by_steps (λ n ds. IsFree ds) (λ n l. (digit n, tt))
     (λ n ds l front. free_append ds ((48 + n % 10) ∷ []) front (digit (n % 10), tt)) n h
 
-money_free : (n : ℕ) → n < 10 ^ 17 → IsFree (money_text n)
+pub money_free : (n : ℕ) → n < 10 ^ 17 → IsFree (money_text n)
 money_free n h = free_append (decimal (n / 100)) (46 ∷ two_digits (n % 100)) (decimal_free (n / 100) (omega arith))
     (refl, two_free (n % 100))
 
@@ -166,11 +166,11 @@ all_shown (f ∷ fs) [] small h = absurd h
 
 -- ---- the fields of a line of columns
 
-alone : (s : List ℕ) → IsFree s → fields_of s ≡ s ∷ []
+pub alone : (s : List ℕ) → IsFree s → fields_of s ≡ s ∷ []
 alone [] h = refl
 alone (b ∷ s) h = rw (h.0, alone s h.1) refl
 
-before_tab : (s t : List ℕ) → IsFree s → fields_of (s ++ 9 ∷ t) ≡ s ∷ fields_of t
+pub before_tab : (s t : List ℕ) → IsFree s → fields_of (s ++ 9 ∷ t) ≡ s ∷ fields_of t
 before_tab [] t h = refl
 before_tab (b ∷ s) t h = rw (h.0, before_tab s t h.1) refl
 

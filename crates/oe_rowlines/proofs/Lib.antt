@@ -1,5 +1,6 @@
-pub mod WordFacts
+pub mod DumpFacts
 pub mod FieldFacts
 pub mod LineFacts
 pub mod RowFacts
-pub mod DumpFacts
+pub mod StartFacts
+pub mod WordFacts

@@ -62,7 +62,7 @@ number_found s n e =
     let end = alone_found p.0.0 n p.0.1 p.2 in
     f.0 ∙ ap (λ z. decimal p.0.0 ++ z) end.0 ∙ append-nil (decimal p.0.0) ∙ ap decimal end.1
 
-number_only : (n : ℕ) → n < 10 ^ 15 → number_of (decimal n) ≡ Some n
+pub number_only : (n : ℕ) → n < 10 ^ 15 → number_of (decimal n) ≡ Some n
 unfolding number_of
 number_only n h = rw (← append-nil (decimal n), decimal_only n [] h refl) refl
 
@@ -98,7 +98,7 @@ cents_found s n e =
     whole.0 ∙ ap (λ z. decimal w.0.0 ++ z) point ∙ ap (λ x. decimal x ++ (46 ∷ two_digits d.0.0)) parts.0
     ∙ ap (λ y. decimal (n / 100) ++ (46 ∷ two_digits y)) parts.1
 
-cents_only : (n : ℕ) → n < 10 ^ 17 → cents_of (money_text n) ≡ Some n
+pub cents_only : (n : ℕ) → n < 10 ^ 17 → cents_of (money_text n) ≡ Some n
 unfolding cents_of
 cents_only n h =
     let value : n / 100 * 100 + n % 100 ≡ n = omega arith in

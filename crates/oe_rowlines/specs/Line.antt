@@ -74,6 +74,18 @@ abbrev pub ◌>>=◌ : {A B : Type 0} → Result A LineFault → (A → Result B
 (Ok x) >>= f = f x
 (Err e) >>= f = Err e
 
+-- the end of a field, and what is left behind it: the end of the line, or a tab and more
+abbrev pub ended_by : Option (List ℕ) → List ℕ
+ended_by None = []
+ended_by (Some s) = 9 ∷ s
+
+-- these bytes begin with a field that spells the value, and this is left behind it
+pub record BeginsWith (f : Form) (v : Value) (s : List ℕ) (left : Option (List ℕ)) : Type 0 where
+  pub field : List ℕ
+  pub whole : s ≡ field ++ ended_by left
+  pub parted : fields_of s ≡ field ∷ left_of left
+  pub spelled : value_of f field ≡ Some v
+
 -- what was read, as a value or values of columns, and what is left then
 abbrev pub read_as : {A B : Type 0} → (A → B) → Left → Result A LineFault → Result (B × Left) LineFault
 read_as f l (Ok x) = Ok (f x, l)

@@ -1,14 +1,16 @@
 //! What is read of a column: each type of value knows its form, and reads the texts that spell it.
-ghost use Rattle.std.specs.Prelude.{◌≡◌, ℕ, List, Option};
-ghost use Rattle.std.specs.Option.{option_map};
+ghost use Rattle.std.specs.Prelude.{◌≡◌, ℕ, List, Option, IfSome};
+ghost use Rattle.std.specs.Option.{option_copied, option_map};
 ghost use Rattle.oe_rowlines.specs.declared.forms.Form.{Form};
 ghost use Rattle.oe_rowlines.specs.declared.forms.Form.TheVariants as form;
+ghost use Rattle.oe_rowlines.specs.Line.{BeginsWith};
 ghost use Rattle.oe_rowlines.specs.Value.{Value};
 ghost use Rattle.oe_rowlines.specs.Value as says;
 ghost use Rattle.oe_rowlines.specs.Rows.{number_or_null, stamp_or_null};
 ghost use Rattle.oe_rowlines.specs.Word.{value_of};
 
 use crate::forms::Form;
+use crate::fronts::{money_front, number_front};
 use crate::words::{balance, credit, flag, is_null, money, number, rate, stamp, text};
 use oe_rows::Credit;
 use oe_values::{Amount, Balance, Number, Rate, Stamp, Text};
@@ -28,6 +30,17 @@ pub trait ColumnValue {
     /// Reads the value that the text spells, where it spells one.
     fn read(field: &[u8]) -> Option<Self>
         ensures { option_map value result ≡ value_of column_form field.now };
+
+    /// Reads the value of the field at the front, and what is left behind the field, without a
+    /// search for its end. `None` tells nothing of the field.
+    #[inline]
+    fn read_front(rest: &[u8]) -> Option<(Self, Option<&[u8]>)>
+        ensures { IfSome result (λ p. BeginsWith column_form (value p.0) rest.now
+            (option_copied p.1)) }
+    {
+        let _rest = rest;
+        None
+    }
 }
 
 impl<const LOW: u32, const HIGH: u32> ColumnValue for Number<LOW, HIGH> {
@@ -42,6 +55,11 @@ impl<const LOW: u32, const HIGH: u32> ColumnValue for Number<LOW, HIGH> {
     #[tactic(auto, unfolding(crate::specs::Word::value_of))]
     fn read(field: &[u8]) -> Option<Self> {
         number(field)
+    }
+
+    #[inline]
+    fn read_front(rest: &[u8]) -> Option<(Self, Option<&[u8]>)> {
+        number_front(rest)
     }
 }
 
@@ -93,6 +111,11 @@ impl<const MOST: u64> ColumnValue for Amount<MOST> {
     #[tactic(auto, unfolding(crate::specs::Word::value_of))]
     fn read(field: &[u8]) -> Option<Self> {
         money(field)
+    }
+
+    #[inline]
+    fn read_front(rest: &[u8]) -> Option<(Self, Option<&[u8]>)> {
+        money_front(rest)
     }
 }
 

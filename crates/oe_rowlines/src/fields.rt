@@ -3,7 +3,7 @@
 //! What is left is seen as the list of its fields, and the place of the first of them among the
 //! columns of the line. By the invariant columns are no more than bytes, so that they can be counted.
 //! After an error the field that has no value is passed.
-ghost use Rattle.std.specs.Prelude.{◌≡◌, ◌+◌, ◌<◌, ◌≤◌, ◌^◌, ℕ, List, Option, length};
+ghost use Rattle.std.specs.Prelude.{◌≡◌, ◌+◌, ◌<◌, ◌≤◌, ◌^◌, ℕ, List, Option, Ok, length, IfNone};
 ghost use Rattle.std.specs.Option.{option_copied, IfSome};
 ghost use Rattle.oe_rowlines.specs.Line.{Left, left_of, fields_of, first_field, past_first, read_as, column, ended, ends};
 
@@ -63,12 +63,31 @@ impl<'a> Fields<'a> {
         }
     }
 
+    /// Takes the next column, where its value is read at the front of what is left.
+    #[inline]
+    fn take_front<T: ColumnValue>(&mut self) -> Option<T>
+        ensures taken { IfSome result (λ v. column T.column_form self.old
+            ≡ Ok (T.value v, self.new)) }
+        ensures left { IfNone result (self.new ≡ self.old) }
+    {
+        let rest = self.rest?;
+        let Some((value, left)) = T::read_front(rest) else {
+            return None;
+        };
+        self.rest = left;
+        self.column += 1;
+        Some(value)
+    }
+
     /// Reads the next column.
     #[inline]
     #[tactic(auto, unfolding(crate::specs::Line::column))]
     pub(crate) fn column<T: ColumnValue>(&mut self) -> Result<T, LineFault>
         ensures { read_as T.value self.new result ≡ column T.column_form self.old }
     {
+        if let Some(value) = self.take_front() {
+            return Ok(value);
+        }
         let place = self.column;
         let Some(field) = self.next() else {
             return Err(LineFault::MissingColumn(place));

@@ -8,6 +8,7 @@ pub mod columns;
 pub mod customers;
 pub mod fields;
 pub mod forms;
+mod fronts;
 pub mod histories;
 pub mod items;
 pub mod laws;

@@ -2,7 +2,7 @@
 ghost use Rattle.std.specs.Prelude.{◌≡◌, ◌==◌, ◌<◌, ◌*◌, ◌+◌, ◌^◌, IfSome, length};
 ghost use Rattle.std.specs.List.{list_all};
 ghost use Rattle.oe_fronts.specs.ColumnFronts.{checked};
-ghost use Rattle.oe_lines.specs.Words.{stamp_of};
+ghost use Rattle.oe_lines.specs.Words.{stamp_of, within};
 ghost use Rattle.oe_rowlines.specs.Word.{is_word, number_of, number_within, cents_of, money_of, owed, owned, balance_of, rate_of, credit_of, flag_of, is_no_fraction, parted_of, stamp_at, is_null};
 
 use oe_rows::Credit;
@@ -27,13 +27,21 @@ fn digits(field: &[u8]) -> Option<u64>
     if rest.is_empty() { Some(n) } else { None }
 }
 
+/// Makes a number of the range of its type.
+#[inline]
+pub(crate) fn ranged<const LOW: u32, const HIGH: u32>(n: u64) -> Option<Number<LOW, HIGH>>
+    ensures { result ≡ within LOW HIGH n }
+{
+    Number::new(u32::try_from(n).ok()?)
+}
+
 /// Reads a number without a leading zero, in the range of its type.
 #[inline]
 pub(crate) fn number<const LOW: u32, const HIGH: u32>(field: &[u8]) -> Option<Number<LOW, HIGH>>
     ensures { result ≡ number_within LOW HIGH field.now }
 {
     let n = digits(field)?;
-    Number::new(u32::try_from(n).ok()?)
+    ranged(n)
 }
 
 /// Reads money in two decimals, as cents.
