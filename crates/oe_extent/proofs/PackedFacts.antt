@@ -103,20 +103,23 @@ newest_of (suc k) p a h =
       };
     }
 
--- after one string more, which was written behind the others
-pub IsPacked-push : (count fill : ℕ) (bytes s new : List ℕ) (end : ℕ) → IsPacked count fill bytes → IsFramed s
-    → length (joined (cut count (take fill bytes))) + length s ≤ 4096
-    → Writes bytes fill s new end → IsPacked (suc count) end new
-    × (cut (suc count) (take end new) ≡ s ∷ cut count (take fill bytes))
-IsPacked-push count fill bytes s new end h framed room w =
-    let filled : length (take fill bytes) ≡ fill = omega (arith, length-take fill bytes, h.small, h.size) in (
+-- after one string more, which was written behind the others, where bytes may have been appended
+pub IsPacked-push : (count fill : ℕ) (bytes longer s new : List ℕ) (end : ℕ) → IsPacked count fill bytes
+    → take (length bytes) longer ≡ bytes → length longer ≤ 4096 → IsFramed s → Writes longer fill s new end
+    → IsPacked (suc count) end new × (cut (suc count) (take end new) ≡ s ∷ cut count (take fill bytes))
+IsPacked-push count fill bytes longer s new end h kept small framed w =
+    let same : take fill longer ≡ take fill bytes = sym (take-take fill (length bytes) longer h.small)
+    ∙ ap (take fill) kept in
+    let front : take end new ≡ take fill bytes ++ s = w.front ∙ ap (λ (l : List ℕ). l ++ s) same in
+    let filled : length (take fill bytes) ≡ fill = omega (arith, length-take fill bytes, h.small) in (
       record {
-        small = omega (arith, ap length h.strings.whole, filled, w.end_is);
-        size = w.same_length ∙ h.size;
-        strings = subst (λ (l : List ℕ). AreStrings (suc count) l) (sym w.front)
+        small =
+            omega (arith, ap length front, length-append (take fill bytes) s, filled, w.end_is, length-take end new);
+        size = omega (arith, w.same_length, small);
+        strings = subst (λ (l : List ℕ). AreStrings (suc count) l) (sym front)
             (AreStrings-push count (take fill bytes) s framed h.strings);
       },
-      ap (cut (suc count)) w.front ∙ cut-push count (take fill bytes) s framed,
+      ap (cut (suc count)) front ∙ cut-push count (take fill bytes) s framed,
     )
 
 -- after the newest string was taken off
@@ -233,12 +236,10 @@ amid count fill bytes newer s older offset h e at =
     }
 
 pub size_amid : (bytes s : List ℕ) (offset size : ℕ) → Amid bytes s offset
-    → size ≡ big_number 2 (take (4096 - offset) (drop offset bytes))
-    → length bytes ≡ 4096 → size ≡ length s
-size_amid bytes s offset size a e long =
-    let all : take (4096 - offset) (drop offset bytes) ≡ drop offset bytes =
-    ap (λ (n : ℕ). take (n - offset) (drop offset bytes)) (sym long) ∙ take_rest bytes offset in
-    e ∙ ap (big_number 2) all ∙ ap (big_number 2) a.parts ∙ big_from-append 2 s a.rest (omega (arith, a.framed.long))
+    → size ≡ big_number 2 (take (length bytes - offset) (drop offset bytes)) → size ≡ length s
+size_amid bytes s offset size a e =
+    e ∙ ap (big_number 2) (take_rest bytes offset) ∙ ap (big_number 2) a.parts
+    ∙ big_from-append 2 s a.rest (omega (arith, a.framed.long))
     ∙ a.framed.first
 
 pub string_amid : (bytes s : List ℕ) (offset size : ℕ) → Amid bytes s offset → size ≡ length s

@@ -136,15 +136,16 @@ impl Ring {
         ensures extent { IfOk result (λ a. a.extent < self.old.extents) }
         ensures offset { IfOk result (λ a. a.offset < EXTENT_BYTES) }
     {
-        if string.size() <= self.active[slot].rest() {
+        let size = string.size();
+        if size <= self.active[slot].rest() {
             let address = self.active[slot].end();
-            self.active[slot].push(string);
+            self.active[slot].push(string, size);
             return Ok(address);
         }
         let Some((number, extent)) = self.pool.take() else {
             return Err(Full);
         };
-        self.active[slot].push_new(number, extent, string);
+        self.active[slot].push_new(number, extent, string, size);
         Ok(Address {
             extent: number,
             offset: 0,

@@ -4,4 +4,5 @@ use Rattle.oe_extent.proofs.PackedFacts.{length-cut}
 use Rattle.oe_extent.proofs.packing.PackedStrings.len.Goals as goal
 
 pub returns : goal.returns
-returns c = rw (← c.self.view_is) (sym (length-cut c.self.inside.count (take c.self.inside.fill c.self.inside.bytes)))
+returns c =
+    rw (← c.self.view_is) (sym (length-cut c.self.inside.count (take c.self.inside.fill c.self.inside.bytes.items)))

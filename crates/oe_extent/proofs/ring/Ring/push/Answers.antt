@@ -12,10 +12,10 @@ invariant_of-self g c =
     let now = push_here c.self.inside.pool c.self.inside.active.items c.self.inside.committed.items
     (deque_capacity c.self.inside.committed - deque_len c.self.inside.committed) c.args.slot c.self.invariant slot
     c.index.result.now c.index-then-size-rest.result.now c.index_mut.result.now c.push.new.self _ c.end-address.result
-    c.size.result c.rest.result
+    c.size-size.result c.rest.result
     c.index.ensures c.index-then-size-rest.ensures c.index_mut.ensures.value c.rest.ensures
     (omega (arith, c.if-size-rest.true))
-    c.size.ensures c.requires.framed.long c.end-address.ensures c.push.ensures in
+    c.size-size.ensures c.requires.framed.long c.end-address.ensures c.push.ensures in
     now.ring
 
 pub returns-then-size-rest-clause-pushed : goal.returns-then-size-rest-clause-pushed
@@ -24,10 +24,10 @@ returns-then-size-rest-clause-pushed g c =
     let now = push_here c.self.inside.pool c.self.inside.active.items c.self.inside.committed.items
     (deque_capacity c.self.inside.committed - deque_len c.self.inside.committed) c.args.slot c.self.invariant slot
     c.index.result.now c.index-then-size-rest.result.now c.index_mut.result.now c.push.new.self _ c.end-address.result
-    c.size.result c.rest.result
+    c.size-size.result c.rest.result
     c.index.ensures c.index-then-size-rest.ensures c.index_mut.ensures.value c.rest.ensures
     (omega (arith, c.if-size-rest.true))
-    c.size.ensures c.requires.framed.long c.end-address.ensures c.push.ensures in
+    c.size-size.ensures c.requires.framed.long c.end-address.ensures c.push.ensures in
     rw (← c.self.view_is) now.view
 
 pub returns-then-size-rest-clause-full : goal.returns-then-size-rest-clause-full
@@ -35,27 +35,27 @@ returns-then-size-rest-clause-full g c =
     let slot = subst (λ (v : RingStrings). c.args.slot < length v.active) (sym c.self.view_is) c.requires.slot in
     let fits = fits_here c.self.inside.pool c.self.inside.active.items c.self.inside.committed.items
     (deque_capacity c.self.inside.committed - deque_len c.self.inside.committed) c.args.slot c.self.invariant slot
-    c.index.result.now c.size.result c.rest.result c.index.ensures c.rest.ensures
+    c.index.result.now c.size-size.result c.rest.result c.index.ensures c.rest.ensures
     (omega (arith, c.if-size-rest.true)) in
-    rw (← c.self.view_is, ← c.size.ensures) (λ e. absurd cc, λ f. absurd (fits f))
+    rw (← c.self.view_is, ← c.size-size.ensures) (λ e. absurd cc, λ f. absurd (fits f))
 
 pub returns-in_default-clause-full : goal.returns-in_default-clause-full
 returns-in_default-clause-full g c =
     let slot = subst (λ (v : RingStrings). c.args.slot < length v.active) (sym c.self.view_is) c.requires.slot in
     let full = is_full c.self.inside.pool c.self.inside.active.items c.self.inside.committed.items
     (deque_capacity c.self.inside.committed - deque_len c.self.inside.committed) c.args.slot c.self.invariant slot
-    c.index.result.now c.size.result c.rest.result c.index.ensures c.rest.ensures (omega (arith, c.if-size-rest.false))
-    c.in_default.ensures.none in
-    rw (← c.self.view_is, ← c.size.ensures) (λ e. full, λ f. refl)
+    c.index.result.now c.size-size.result c.rest.result c.index.ensures c.rest.ensures
+    (omega (arith, c.if-size-rest.false)) c.in_default.ensures.none in
+    rw (← c.self.view_is, ← c.size-size.ensures) (λ e. full, λ f. refl)
 
 pub invariant_of-self-2 : goal.invariant_of-self-2
 invariant_of-self-2 g c =
     let slot = subst (λ (v : RingStrings). c.args.slot < length v.active) (sym c.self.view_is) c.requires.slot in
     let now = push_other c.self.inside.pool c.self.inside.active.items c.self.inside.committed.items
     (deque_capacity c.self.inside.committed - deque_len c.self.inside.committed) c.args.slot c.self.invariant slot
-    c.index.result.now c.index_mut-2.result.now c.push_new.new.self _ c.size.result c.rest.result c.in-Some.number
+    c.index.result.now c.index_mut-2.result.now c.push_new.new.self _ c.size-size.result c.rest.result c.in-Some.number
     c.take.new.self
-    c.index.ensures c.index_mut-2.ensures.value c.rest.ensures (omega (arith, c.if-size-rest.false)) c.size.ensures
+    c.index.ensures c.index_mut-2.ensures.value c.rest.ensures (omega (arith, c.if-size-rest.false)) c.size-size.ensures
     c.requires.small
     c.in-Some.ensures.next.is_free c.in-Some.ensures.taken c.push_new.ensures in
     now.ring
@@ -65,9 +65,9 @@ returns-clause-pushed g c =
     let slot = subst (λ (v : RingStrings). c.args.slot < length v.active) (sym c.self.view_is) c.requires.slot in
     let now = push_other c.self.inside.pool c.self.inside.active.items c.self.inside.committed.items
     (deque_capacity c.self.inside.committed - deque_len c.self.inside.committed) c.args.slot c.self.invariant slot
-    c.index.result.now c.index_mut-2.result.now c.push_new.new.self _ c.size.result c.rest.result c.in-Some.number
+    c.index.result.now c.index_mut-2.result.now c.push_new.new.self _ c.size-size.result c.rest.result c.in-Some.number
     c.take.new.self
-    c.index.ensures c.index_mut-2.ensures.value c.rest.ensures (omega (arith, c.if-size-rest.false)) c.size.ensures
+    c.index.ensures c.index_mut-2.ensures.value c.rest.ensures (omega (arith, c.if-size-rest.false)) c.size-size.ensures
     c.requires.small
     c.in-Some.ensures.next.is_free c.in-Some.ensures.taken c.push_new.ensures in
     rw (← c.self.view_is) now.view
@@ -84,9 +84,9 @@ returns-then-size-rest-clause-fresh g c =
     let slot = subst (λ (v : RingStrings). c.args.slot < length v.active) (sym c.self.view_is) c.requires.slot in
     let now = fresh_here c.self.inside.pool c.self.inside.active.items c.self.inside.committed.items
     (deque_capacity c.self.inside.committed - deque_len c.self.inside.committed) c.args.slot c.self.invariant slot
-    c.index.result.now c.index-then-size-rest.result.now c.end-address.result c.size.result c.rest.result
+    c.index.result.now c.index-then-size-rest.result.now c.end-address.result c.size-size.result c.rest.result
     c.index.ensures c.index-then-size-rest.ensures c.rest.ensures (omega (arith, c.if-size-rest.true))
-    (omega (arith, c.size.ensures, c.requires.framed.long)) c.end-address.ensures in
+    (omega (arith, c.size-size.ensures, c.requires.framed.long)) c.end-address.ensures in
     rw (← c.self.view_is) now.fresh
 
 pub returns-then-size-rest-clause-extent : goal.returns-then-size-rest-clause-extent
@@ -94,9 +94,9 @@ returns-then-size-rest-clause-extent g c =
     let slot = subst (λ (v : RingStrings). c.args.slot < length v.active) (sym c.self.view_is) c.requires.slot in
     let now = fresh_here c.self.inside.pool c.self.inside.active.items c.self.inside.committed.items
     (deque_capacity c.self.inside.committed - deque_len c.self.inside.committed) c.args.slot c.self.invariant slot
-    c.index.result.now c.index-then-size-rest.result.now c.end-address.result c.size.result c.rest.result
+    c.index.result.now c.index-then-size-rest.result.now c.end-address.result c.size-size.result c.rest.result
     c.index.ensures c.index-then-size-rest.ensures c.rest.ensures (omega (arith, c.if-size-rest.true))
-    (omega (arith, c.size.ensures, c.requires.framed.long)) c.end-address.ensures in
+    (omega (arith, c.size-size.ensures, c.requires.framed.long)) c.end-address.ensures in
     rw (← c.self.view_is) now.extent
 
 pub returns-then-size-rest-clause-offset : goal.returns-then-size-rest-clause-offset
@@ -104,9 +104,9 @@ returns-then-size-rest-clause-offset g c =
     let slot = subst (λ (v : RingStrings). c.args.slot < length v.active) (sym c.self.view_is) c.requires.slot in
     let now = fresh_here c.self.inside.pool c.self.inside.active.items c.self.inside.committed.items
     (deque_capacity c.self.inside.committed - deque_len c.self.inside.committed) c.args.slot c.self.invariant slot
-    c.index.result.now c.index-then-size-rest.result.now c.end-address.result c.size.result c.rest.result
+    c.index.result.now c.index-then-size-rest.result.now c.end-address.result c.size-size.result c.rest.result
     c.index.ensures c.index-then-size-rest.ensures c.rest.ensures (omega (arith, c.if-size-rest.true))
-    (omega (arith, c.size.ensures, c.requires.framed.long)) c.end-address.ensures in
+    (omega (arith, c.size-size.ensures, c.requires.framed.long)) c.end-address.ensures in
     now.offset
 
 pub returns-clause-fresh : goal.returns-clause-fresh
@@ -128,8 +128,9 @@ returns-then-size-rest-clause-next g c =
     let slot = subst (λ (v : RingStrings). c.args.slot < length v.active) (sym c.self.view_is) c.requires.slot in
     let now = next_here c.self.inside.pool c.self.inside.active.items c.self.inside.committed.items
     (deque_capacity c.self.inside.committed - deque_len c.self.inside.committed) c.args.slot c.self.invariant slot
-    c.index.result.now c.index-then-size-rest.result.now c.end-address.result c.size.result c.rest.result _
-    c.index.ensures c.index-then-size-rest.ensures c.rest.ensures (omega (arith, c.if-size-rest.true)) c.size.ensures
+    c.index.result.now c.index-then-size-rest.result.now c.end-address.result c.size-size.result c.rest.result _
+    c.index.ensures c.index-then-size-rest.ensures c.rest.ensures (omega (arith, c.if-size-rest.true))
+    c.size-size.ensures
     c.end-address.ensures in
     rw (← c.self.view_is) now
 
@@ -138,6 +139,7 @@ returns-clause-next g c =
     let slot = subst (λ (v : RingStrings). c.args.slot < length v.active) (sym c.self.view_is) c.requires.slot in
     let now = next_other c.self.inside.pool c.self.inside.active.items c.self.inside.committed.items
     (deque_capacity c.self.inside.committed - deque_len c.self.inside.committed) c.args.slot c.self.invariant slot
-    c.index.result.now (record { extent = c.in-Some.number; offset = 0 }) c.size.result c.rest.result _
-    c.index.ensures c.rest.ensures (omega (arith, c.if-size-rest.false)) c.size.ensures c.in-Some.ensures.next refl in
+    c.index.result.now (record { extent = c.in-Some.number; offset = 0 }) c.size-size.result c.rest.result _
+    c.index.ensures c.rest.ensures (omega (arith, c.if-size-rest.false)) c.size-size.ensures
+    c.in-Some.ensures.next refl in
     rw (← c.self.view_is) now
