@@ -1,5 +1,5 @@
 -- The numbers of lists: of the customers of a district and last name, and of a customer's orders.
-use Rattle.std.specs.Prelude.{ℕ, ◌+◌, ◌*◌, ◌%◌, List, [], ◌∷◌}
+use Rattle.std.specs.Prelude.{ℕ, ◌+◌, ◌-◌, ◌*◌, ◌%◌, List, [], ◌∷◌}
 use Rattle.oe_rows.specs.declared.keys.DistrictKey.{DistrictKey}
 use Rattle.oe_rows.specs.declared.keys.CustomerKey.{CustomerKey}
 use Rattle.oe_rows.specs.declared.keys.OrderKey.{OrderKey}
@@ -15,9 +15,9 @@ name_number_from n (b ∷ bs) = name_number_from ((n * 31 + b) % 1_009) bs
 abbrev pub name_number : List ℕ → ℕ
 name_number last = name_number_from 0 last
 
--- 1,009 numbers for each district
+-- 1,009 numbers for each of the 10 districts of a warehouse, without a gap
 abbrev pub number_in : DistrictKey → ℕ → ℕ
-number_in h n = (h.warehouse * 16 + h.district) * 1_009 + n
+number_in h n = ((h.warehouse - 1) * 10 + (h.district - 1)) * 1_009 + n
 
 -- the number of the list of a last name's customers
 abbrev pub list_number : DistrictKey → List ℕ → ℕ

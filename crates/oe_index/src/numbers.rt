@@ -25,7 +25,7 @@ fn number_in(district: &DistrictKey, own: u32) -> usize
     ensures few { result < 1_000_000 }
 {
     let (warehouse, number) = district.columns();
-    let before = warehouse * 16 + number;
+    let before = (warehouse - 1) * 10 + (number - 1);
     (before * 1_009 + own) as usize
 }
 
