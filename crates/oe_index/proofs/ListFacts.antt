@@ -28,6 +28,16 @@ module _ {K : Type 0} (cmp : K → K → Ordering) where
   lists-none [] e = tt
   lists-none (l ∷ ls) e = cc
 
+  pub none-ascends : (s : Keys K) → s ≡ [] → IsAscending cmp s
+  unfolding IsStrictlySortedBy
+  none-ascends [] e = tt
+  none-ascends (x ∷ s) e = cc
+
+  pub alone-ascends : (s t : Keys K) (k : K) → s ≡ [] → t ≡ put_at cmp s k (Some tt) → IsAscending cmp t
+  unfolding IsStrictlySortedBy
+  alone-ascends [] t k e is = subst (λ (l : Keys K). IsAscending cmp l) (sym is) (tt, tt)
+  alone-ascends (x ∷ s) t k e is = cc
+
   lists-more : (ls : List (Keys K)) (n : ℕ) → AreLists cmp ls → AreLists cmp (ls ++ replicate n [])
   unfolding IsStrictlySortedBy
   lists-more [] zero h = tt
@@ -106,6 +116,14 @@ module _ {K : Type 0} (cmp : K → K → Ordering) where
 
 none-there : {P : Type 0} → false ≡ true → P
 none-there h = absurd (let no : ⊥ = cc in no)
+
+-- a key that has no place in the list under i was not listed there
+pub not-listed : {K A E : Type 0} (cmp : K → K → Ordering) (r : Result A E) (old ls : List (Keys K)) (s : Keys K)
+    (i : ℕ) (key : K) → ((d : Keys K) → s ≡ get_or ls i d) → OnErr r (place cmp s key ≡ None)
+    → (IsListed cmp old i key → IsListed cmp ls i key) → OnErr r (IsListed cmp old i key → ⊥)
+not-listed cmp (Ok x) old ls s i key there e more = e
+not-listed cmp (Err x) old ls s i key there e more = λ h.
+    none-there (subst IsSome e (subst (λ (l : Keys _). IsSome (place cmp l key)) (sym (there [])) (more h)))
 
 -- the list under i, where s is what stood there, loses the key
 module _ {K : Type 0} {cmp : K → K → Ordering} (total : IsTotalOrder cmp) (exact : IsAntisymmetric cmp) (i : ℕ)

@@ -13,6 +13,20 @@ use Rattle.oe_rows.specs.declared.customers.Customer.{Customer}
 abbrev pub Keys : Type 0 → Type 0
 Keys K = List (K × Option (Unit {0}))
 
+-- a list of one key
+abbrev pub alone : {K : Type 0} → K → Keys K
+alone k = (k, Some tt) ∷ []
+
+-- a single key, or else the other list
+abbrev pub single_or : {K : Type 0} → Option K → Keys K → Keys K
+single_or None ks = ks
+single_or (Some k) ks = alone k
+
+-- a single key, if there is one, before others
+abbrev pub single_before : {K : Type 0} → Option K → Keys K → Keys K
+single_before None ks = ks
+single_before (Some k) ks = (k, Some tt) ∷ ks
+
 -- a key and its row, if it has one, before others
 abbrev pub with_row : {K X : Type 0} → K → Option X → List (K × X) → List (K × X)
 with_row k None es = es

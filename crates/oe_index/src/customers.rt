@@ -215,7 +215,7 @@ impl Customers {
         let number = list_number(district, last);
         Found {
             rows: &self.rows,
-            listed: self.lists.under(number).iter(),
+            listed: self.lists.under(number),
             others,
             is_listed: self.is_listed,
         }

@@ -4,6 +4,7 @@
 
 pub mod customers;
 mod flags;
+mod key_lists;
 mod lists;
 mod numbers;
 pub mod orders;

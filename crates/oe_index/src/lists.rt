@@ -3,12 +3,11 @@
 //! By the invariant the keys of each list ascend. A key is listed once under a number, until it is
 //! taken off. Only `add` takes memory, for a key that is not listed; where that is refused each key
 //! is listed as before.
-ghost use Rattle.std.specs.Prelude.{◌≡◌, ◌<◌, [], OnOk, OnErr, slice_index_or};
+ghost use Rattle.std.specs.Prelude.{◌≡◌, ◌<◌, ◌≤◌, ℕ, [], ◌++◌, replicate, vec_len, OnOk, OnErr, slice_index_or};
 ghost use Rattle.oe_table.specs.Shelf.{IsAscending};
 ghost use Rattle.oe_index.specs.Listed.{IsListed, ListsMore, Unlists};
 
-use oe_table::shelf::{Shelf, Slot};
-use oe_table::shelves::reach;
+use crate::key_lists::{KeyList, KeyWalk};
 use oe_values::{NoMemory, ShelvedKey};
 use std::alloc::Global;
 use std::marker::Model;
@@ -16,7 +15,7 @@ use std::marker::Model;
 /// Keys under numbers. A few words are kept for each number up to the last that has a list.
 #[derive(Drop)]
 pub(crate) struct Lists<K: ShelvedKey> {
-    lists: Vec<Shelf<K, ()>>,
+    lists: Vec<KeyList<K>>,
     alloc: Global,
 }
 
@@ -31,6 +30,22 @@ impl<K: ShelvedKey> Model for Lists<K> {
     ghost invariant = { λ l. AreLists K.cmp l.lists.items };
 }
 
+/// Puts empty lists after the others, until there is one of a number below 1,000,000.
+fn reach<K: Drop>(lists: &mut Vec<KeyList<K>>, alloc: Global, number: usize) -> Result<(), NoMemory>
+    requires { number < 1_000_000 }
+    ensures padded { (n : ℕ) × (lists.new.items ≡ lists.old.items ++ replicate n []) }
+    ensures reached { OnOk result (number < vec_len lists.new) }
+    ensures short { OnErr result (vec_len lists.old ≤ number) }
+{
+    while lists.len() <= number {
+        let list = KeyList::empty(alloc);
+        if let Err(_refused) = lists.push(list) {
+            return Err(NoMemory);
+        }
+    }
+    Ok(())
+}
+
 impl<K: ShelvedKey> Lists<K> {
     /// Makes a value without lists, and takes no memory.
     pub(crate) fn new(alloc: Global) -> Self
@@ -42,21 +57,21 @@ impl<K: ShelvedKey> Lists<K> {
         }
     }
 
-    /// Gives the keys under a number, in their order.
-    pub(crate) fn under(&self, number: usize) -> &[Slot<K, ()>]
-        ensures listed { result.now ≡ slice_index_or self.now number [] }
-        ensures ordered { IsAscending K.cmp result.now }
+    /// Gives a walk over the keys under a number, in their order.
+    pub(crate) fn under(&self, number: usize) -> KeyWalk<'_, K>
+        ensures listed { result ≡ slice_index_or self.now number [] }
+        ensures ordered { IsAscending K.cmp result }
     {
-        match self.lists.get(number) {
-            Some(list) => list.slots(),
-            None => &[],
-        }
+        let Some(list) = self.lists.get(number) else {
+            return KeyWalk::none();
+        };
+        list.keys()
     }
 
     /// Lists a key under a number. `NoMemory` comes only for a key that is not listed there.
     pub(crate) fn add(&mut self, number: usize, key: K) -> Result<(), NoMemory>
     where
-        K: Drop,
+        K: Copy + Drop,
         requires { number < 1_000_000 }
         ensures kept { ListsMore K.cmp self.old self.new }
         ensures listed { OnOk result (IsListed K.cmp self.new number key) }
@@ -65,18 +80,18 @@ impl<K: ShelvedKey> Lists<K> {
         if let Err(refusal) = reach(&mut self.lists, self.alloc, number) {
             return Err(refusal);
         }
-        self.lists[number].put(key, ())
+        self.lists[number].put(self.alloc, key)
     }
 
     /// Takes a key off the list under a number. Where it is not listed there, nothing changes.
     pub(crate) fn remove(&mut self, number: usize, key: &K)
     where
-        K: Drop,
+        K: Copy + Drop,
         ensures { Unlists K.cmp self.old self.new number key.now }
     {
         let Some(list) = self.lists.get_mut(number) else {
             return;
         };
-        list.take_out(key);
+        list.take_out(self.alloc, key);
     }
 }

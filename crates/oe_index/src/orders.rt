@@ -245,7 +245,7 @@ impl Orders {
         let number = owner_number(customer);
         Found {
             rows: &self.rows,
-            listed: self.lists.under(number).iter(),
+            listed: self.lists.under(number),
             others,
             is_listed: self.is_listed,
         }

@@ -4,23 +4,21 @@
 //! It is seen as the list of what is left of it. Nothing can fail.
 ghost use Rattle.std.specs.Prelude.{List, cond};
 ghost use Rattle.std.specs.Iterator.{YieldsFirstBy, item_count};
-ghost use Rattle.std.specs.Slice.Iter.{iter_rest};
 ghost use Rattle.oe_table.specs.Table.{rows_of};
 ghost use Rattle.oe_index.specs.Listed.{found};
 
-use oe_table::shelf::Slot;
+use crate::key_lists::KeyWalk;
 use oe_table::shelf_walks::Rows;
 use oe_table::shelves::Shelves;
 use oe_values::ShelvedKey;
 use std::marker::Model;
-use std::slice::Iter;
 
 /// Rows with their keys, in the keys' order: a list's rows, or where lists were given up the rows
 /// of another walk.
 #[derive(Drop)]
 pub struct Found<'a, K: ShelvedKey, R> {
     pub(crate) rows: &'a Shelves<K, R>,
-    pub(crate) listed: Iter<'a, Slot<K, ()>>,
+    pub(crate) listed: KeyWalk<'a, K>,
     pub(crate) others: Rows<'a, K, R>,
     pub(crate) is_listed: bool,
 }
@@ -29,7 +27,7 @@ impl<'a, K: ShelvedKey, R> Model for Found<'a, K, R> {
     ghost Value = { List (K × R) };
 
     ghost view = { λ w. cond w.is_listed
-        (found K.cmp (rows_of K.cmp w.rows.now) (iter_rest w.listed)) w.others };
+        (found K.cmp (rows_of K.cmp w.rows.now) w.listed) w.others };
 }
 
 impl<'a, K: ShelvedKey, R> Iterator for Found<'a, K, R> {
@@ -43,8 +41,7 @@ impl<'a, K: ShelvedKey, R> Iterator for Found<'a, K, R> {
         if !self.is_listed {
             return self.others.next();
         }
-        while let Some(slot) = self.listed.next() {
-            let (key, _) = slot.parts();
+        while let Some(key) = self.listed.next() {
             if let Some(row) = self.rows.get(key) {
                 return Some((key, row));
             }

@@ -1,5 +1,4 @@
 use Rattle.std.proofs.Common.{[], ap, ◌∙◌, get_or}
-use Rattle.std.specs.Slice.Iter.{iter_rest}
 use Rattle.oe_index.specs.Own.{named_of}
 use Rattle.oe_index.proofs.FoundFacts.{by-flag}
 use Rattle.oe_index.proofs.NameFacts.{all-met}
@@ -8,8 +7,8 @@ use Rattle.oe_index.proofs.customers.Customers.namesakes.Goals as goal
 pub returns : goal.returns
 returns c =
     rw (← c.self.view_is) (by-flag (named_of c.args.district.now c.args.last.now) c.self.inside.is_listed _ _ _
-    (λ e. all-met c.args.district.now c.args.last.now _ c.self.inside.lists (iter_rest c.iter.result)
+    (λ e. all-met c.args.district.now c.args.last.now _ c.self.inside.lists c.under.result
     (λ t k x at. c.self.invariant e k x at)
-    (c.iter.ensures.rest ∙ c.under.ensures.listed ∙ ap (λ n. get_or c.self.inside.lists n [])
-    c.list_number-number.ensures.value) (rw c.iter.ensures.rest c.under.ensures.ordered))
+    (c.under.ensures.listed ∙ ap (λ n. get_or c.self.inside.lists n [])
+    c.list_number-number.ensures.value) c.under.ensures.ordered)
     (rw c.self.view_is c.requires))

@@ -1,5 +1,4 @@
 use Rattle.std.proofs.Common.{[], ap, ◌∙◌, get_or}
-use Rattle.std.specs.Slice.Iter.{iter_rest}
 use Rattle.oe_index.specs.Own.{own_of}
 use Rattle.oe_index.proofs.FoundFacts.{by-flag}
 use Rattle.oe_index.proofs.OwnerFacts.{all-own}
@@ -8,8 +7,8 @@ use Rattle.oe_index.proofs.orders.Orders.of_customer.Goals as goal
 pub returns : goal.returns
 returns c =
     rw (← c.self.view_is) (by-flag (own_of c.args.customer.now) c.self.inside.is_listed _ _ _
-    (λ e. all-own c.args.customer.now _ c.self.inside.lists (iter_rest c.iter.result)
+    (λ e. all-own c.args.customer.now _ c.self.inside.lists c.under.result
     (λ t k x at. c.self.invariant e k x at)
-    (c.iter.ensures.rest ∙ c.under.ensures.listed ∙ ap (λ n. get_or c.self.inside.lists n [])
-    c.owner_number-number.ensures.value) (rw c.iter.ensures.rest c.under.ensures.ordered))
+    (c.under.ensures.listed ∙ ap (λ n. get_or c.self.inside.lists n [])
+    c.owner_number-number.ensures.value) c.under.ensures.ordered)
     (rw c.self.view_is c.requires))
