@@ -80,7 +80,7 @@ impl Customers {
     {
         Customers {
             rows: Shelves::new(alloc),
-            lists: Lists::new(alloc),
+            lists: Lists::new(alloc, true),
             is_listed: true,
         }
     }

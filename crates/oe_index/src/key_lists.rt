@@ -1,7 +1,6 @@
-//! Keys in their order, of which a single one takes no memory of its own.
+//! Keys in their order, of which a single one may take no memory of its own.
 //!
-//! Most lists have one key, or none. Only `put` takes memory, for a key beside another; where that
-//! is refused the list is as before.
+//! Only `put` takes memory; where that is refused the list is as before.
 ghost use Rattle.std.specs.Prelude.{◌≡◌, Some, None, Option, [], ◌∷◌, OnOk, OnErr, IfOk, IfSome, IfNone};
 ghost use Rattle.oe_table.specs.Table.{place};
 ghost use Rattle.oe_table.specs.Shelf.{IsAscending, put_at, without};
@@ -16,7 +15,7 @@ use std::slice::Iter;
 /// Keys in their order.
 #[derive(Drop)]
 pub(crate) struct KeyList<K> {
-    // The only key, where there never were two.
+    // The only key, where it takes no memory of its own.
     single: Option<K>,
     // All keys, where there is no such key.
     several: Shelf<K, ()>,
@@ -77,8 +76,9 @@ impl<K> KeyList<K> {
 }
 
 impl<K: ShelvedKey + Copy + Drop> KeyList<K> {
-    /// Lists a key. Where it is listed already, nothing changes, and no memory is asked for.
-    pub(crate) fn put(&mut self, alloc: Global, key: K) -> Result<(), NoMemory>
+    /// Lists a key. Where it is listed already, nothing changes, and no memory is asked for. A
+    /// first key takes memory, with room for more, unless single keys are kept in their lists.
+    pub(crate) fn put(&mut self, alloc: Global, keeps_single: bool, key: K) -> Result<(), NoMemory>
         requires { IsAscending K.cmp self.old }
         ensures ok { OnOk result (self.new ≡ put_at K.cmp self.old key (Some tt)) }
         ensures err { OnErr result (self.new ≡ self.old) }
@@ -97,7 +97,7 @@ impl<K: ShelvedKey + Copy + Drop> KeyList<K> {
                 Err(refusal) => return Err(refusal),
             }
         }
-        if self.several.slots().is_empty() {
+        if keeps_single && self.several.slots().is_empty() {
             self.single = Some(key);
             return Ok(());
         }

@@ -17,6 +17,8 @@ use std::marker::Model;
 pub(crate) struct Lists<K: ShelvedKey> {
     lists: Vec<KeyList<K>>,
     alloc: Global,
+    // Whether a key that is alone takes no memory of its own. It pays where few lists get another.
+    keeps_singles: bool,
 }
 
 impl<K: ShelvedKey> Model for Lists<K> {
@@ -47,13 +49,14 @@ fn reach<K: Drop>(lists: &mut Vec<KeyList<K>>, alloc: Global, number: usize) -> 
 }
 
 impl<K: ShelvedKey> Lists<K> {
-    /// Makes a value without lists, and takes no memory.
-    pub(crate) fn new(alloc: Global) -> Self
+    /// Makes a value without lists, and takes no memory. It keeps a single key in its list or not.
+    pub(crate) fn new(alloc: Global, keeps_singles: bool) -> Self
         ensures { result ≡ [] }
     {
         Lists {
             lists: Vec::new(alloc),
             alloc,
+            keeps_singles,
         }
     }
 
@@ -80,7 +83,7 @@ impl<K: ShelvedKey> Lists<K> {
         if let Err(refusal) = reach(&mut self.lists, self.alloc, number) {
             return Err(refusal);
         }
-        self.lists[number].put(self.alloc, key)
+        self.lists[number].put(self.alloc, self.keeps_singles, key)
     }
 
     /// Takes a key off the list under a number. Where it is not listed there, nothing changes.

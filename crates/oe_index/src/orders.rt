@@ -106,7 +106,8 @@ impl Orders {
     {
         Orders {
             rows: Shelves::new(alloc),
-            lists: Lists::new(alloc),
+            // A customer orders again.
+            lists: Lists::new(alloc, false),
             is_listed: true,
         }
     }

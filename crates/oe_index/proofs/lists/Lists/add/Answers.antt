@@ -1,7 +1,8 @@
 use Rattle.std.proofs.Common.{[], ◌≡◌, ◌<◌, get_or, length, arith}
 use Rattle.std.proofs.lemmas.List.{get_or_read}
 use Rattle.oe_index.specs.Listed.{Keys, AreLists}
-use Rattle.oe_index.proofs.ListFacts.{lists-padded, listed-padded, list-ascends, lists-put, listed-put, listed-own, not-listed}
+use Rattle.oe_index.proofs.ListFacts.{lists-padded, listed-padded, list-ascends, lists-put, listed-put, listed-own}
+use Rattle.oe_index.proofs.ListFacts.{not-listed}
 use Rattle.oe_index.proofs.lists.Lists.add.Goals as goal
 
 pub invariant_of-self : goal.invariant_of-self
