@@ -2,25 +2,27 @@
 use Rattle.std.proofs.Common.{◌≡◌, ℕ, suc, zero, ◌+◌, ◌-◌, ◌<◌, ◌≤◌, Bool, true, false, cond, Option, None, Some, List}
 use Rattle.std.proofs.Common.{[], ◌∷◌, take, length, refl, sym, ap, ◌∙◌, subst, arith}
 use Rattle.std.proofs.lemmas.List.{length-map}
-use Rattle.std.specs.Prelude.{◌≢◌}
+use Rattle.std.proofs.lemmas.List.Sums.{sum_by-cons}
+use Rattle.std.specs.Prelude.{◌≢◌, get_or, is_some, ◌==◌}
+use Rattle.std.specs.List.{sum_by}
 use Rattle.oe_rows.specs.declared.keys.Key.{Key}
 use Rattle.oe_rows.specs.declared.rows.Row.{Row}
 use Rattle.oe_theory.specs.World.{set}
-use Rattle.oe_theory.specs.Undo.{restored, restored_open, restored_commits}
-use Rattle.oe_theory.specs.Store.{all_below, newest_version}
+use Rattle.oe_theory.specs.Undo.{restored, restored_open, restored_commits, unwind, unwind_open, unwind_commits}
+use Rattle.oe_theory.specs.Store.{all_below, newest_version, version_of}
 use Rattle.oe_theory.proofs.Sets.{set_other}
 use Rattle.oe_theory.proofs.Records.{at_restored_open, at_restored_commits}
-use Rattle.oe_model.specs.Rows.{is_key, row_at}
+use Rattle.oe_model.specs.Rows.{Rows, is_key, row_at}
 use Rattle.oe_model.specs.Changes.{Record, record_key, row_before}
 use Rattle.oe_model.specs.System.{system, terminal_limit}
 use Rattle.oe_model.proofs.SystemLaws.{laws}
-use Rattle.oe_log.specs.Stands.{undo_of, seals_of, seal_of}
-use Rattle.oe_log.specs.Log.{SegmentLog, total_count}
+use Rattle.oe_log.specs.Stands.{undo_of, seals_of, seal_of, model_records}
+use Rattle.oe_log.specs.Log.{Open, TerminalState, SegmentLog, idle, open_total, records_in, total_count}
 use Rattle.oe_log.proofs.StandsFacts.{totals}
 use Rattle.oe_undo.specs.Held.{horizon}
 use Rattle.oe_undo.specs.Oldest.{oldest_in, oldest_open, oldest_of_commits, oldest_after}
 use Rattle.oe_log.specs.Moments.{newest, IsKeptMoment}
-use Rattle.oe_versions.specs.Versions.{without_slots}
+use Rattle.oe_versions.specs.Versions.{without_slots, IsVersion}
 use Rattle.oe_versions.specs.Found.{row_found, HasRow}
 
 -- putting back the records of a key, one after another, leaves the row of the last
@@ -92,3 +94,52 @@ module _ (u : SegmentLog) (m : ℕ) (all : length u.terminals ≡ 65) (readable 
       let made : m ≤ total_count u = is_made in
       let after : total_count u - m + m ≡ newest u = omega (arith, made, totals u all) in
       subst (HasRow u m k) (sym is) (found_is u (total_count u - m) m k after)
+
+-- WHERE NOTHING IS PUT BACK
+
+none_open : (v : Option Open) (n : ℕ) → cond (is_some v) 1 0 + n ≡ 0 → (v ≡ None) × (n ≡ 0)
+none_open None n e = (refl, omega (arith, e))
+none_open (Some o) n e = absurd (omega (arith, e))
+
+-- none of these terminals has a segment open
+shut : (ss : List TerminalState) → sum_by (λ (s : TerminalState). cond (is_some s.active) 1 0) ss ≡ 0 → (t : ℕ)
+    → (get_or ss t idle).active ≡ None
+shut [] e zero = refl
+shut [] e (suc t) = refl
+shut (s ∷ ss) e zero =
+    (none_open s.active (sum_by (λ (s : TerminalState). cond (is_some s.active) 1 0) ss)
+    (sym (sum_by-cons (λ (s : TerminalState). cond (is_some s.active) 1 0) s ss) ∙ e)).0
+shut (s ∷ ss) e (suc t) =
+    shut ss (none_open s.active (sum_by (λ (s : TerminalState). cond (is_some s.active) 1 0) ss)
+    (sym (sum_by-cons (λ (s : TerminalState). cond (is_some s.active) 1 0) s ss) ∙ e)).1 t
+
+none_put_back : (f : ℕ → List Record) → ((t : ℕ) → f t ≡ []) → (ts : List ℕ) (r : Rows) → unwind_open system f ts r ≡ r
+none_put_back f none [] r = refl
+none_put_back f none (t ∷ ts) r =
+    (λ i. unwind_open system (set t [] f) ts (unwind system (none t i) r))
+    ∙ none_put_back (set t [] f) (λ u. still u (u == t)) ts r
+  where
+    still : (u : ℕ) (b : Bool) → cond b [] (f u) ≡ []
+    still u true = refl
+    still u false = none u
+
+none_taken : {A : Type 0} (xs : List A) → take 0 xs ≡ []
+none_taken [] = refl
+none_taken (x ∷ xs) = refl
+
+rows_stand : (u : SegmentLog) (m : ℕ) (r : Rows) → newest u ≡ m → open_total u ≡ 0
+    → version_of system (without_slots r u) m ≡ r
+rows_stand u m r last quiet =
+    let none : newest u - m ≡ 0 = omega (arith, last) in
+    ap (λ k. unwind_commits system (take k (undo_of u).history)
+    (unwind_open system (undo_of u).active (all_below system terminal_limit) r)) none
+    ∙ ap (λ ss. unwind_commits system ss
+    (unwind_open system (undo_of u).active (all_below system terminal_limit) r)) (none_taken (undo_of u).history)
+    ∙ none_put_back (undo_of u).active (λ t. ap (λ o. model_records (records_in o)) (shut u.terminals quiet t))
+    (all_below system terminal_limit) r
+
+-- so no key has a record that is put back
+pub none_found : (u : SegmentLog) (m : ℕ) (settled : Bool) (k : Key) (o : Option Record) → IsVersion u m settled
+    → settled ≡ true → o ≡ None → HasRow u m k o
+none_found u m settled k o v is none =
+    subst (HasRow u m k) (sym none) (λ r. ap (λ z. row_at z k) (rows_stand u m r (v.commits is) (v.quiet is)))

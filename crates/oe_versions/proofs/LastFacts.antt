@@ -16,12 +16,13 @@ use Rattle.oe_rows.proofs.KeyFacts.{district_total, exact_district, customer_tot
 use Rattle.oe_rows.proofs.KeyFacts.{exact_order}
 use Rattle.oe_rows.specs.declared.orders.Order.{Order}
 use Rattle.oe_rows.specs.declared.rows.Row.TheVariants as row
-use Rattle.oe_model.specs.Keys.{district_of_customer, district_of_order, customer_of_order, customer_in}
+use Rattle.oe_model.specs.Keys.{district_of_customer, district_of_order, customer_of_order, customer_in, order_in}
 use Rattle.oe_model.specs.Queries.{orders_of, last_order}
 use Rattle.oe_model.proofs.MapFacts.{is_same, is_self}
 use Rattle.oe_model.proofs.EntryFacts.{EachOf, each_of, kept_at, entries_at}
 use Rattle.oe_model.proofs.ListFacts.{not_above}
-use Rattle.oe_model.proofs.PresenceFacts.{some-map}
+use Rattle.oe_model.proofs.PresenceFacts.{some-map, mapped_absent}
+use Rattle.oe_theory.proofs.Sets.{some_inj}
 use Rattle.oe_store.specs.Places.{rows}
 use Rattle.oe_store.specs.Places as tables
 use Rattle.oe_log.specs.Log.{SegmentLog}
@@ -191,6 +192,33 @@ module _ (c : CustomerKey) where
       each_refl [] = tt
       each_refl (x ∷ xs) = (refl, each_refl xs)
 
+  pub last_has : (P : Entry → Type 0) (before : Option Entry) (es : List Entry) (e : Entry)
+      → ((f : Entry) → before ≡ Some f → P f) → EachOf P es → final before es ≡ Some e → P e
+  last_has P before [] e first each is = first e is
+  last_has P before (f ∷ es) e first each is =
+      last_has P (Some f) es e (λ g h. subst P (some_inj f g h) each.0) each.1 is
+
+  owned : (es : List Entry) → EachOf (λ e. is_own e ≡ true) (filter is_own es)
+  owned [] = tt
+  owned (e ∷ es) = go (is_own e) refl (owned es)
+    where
+      go : (b : Bool) → is_own e ≡ b → EachOf (λ e. is_own e ≡ true) (filter is_own es)
+          → EachOf (λ e. is_own e ≡ true) (cond b (e ∷ filter is_own es) (filter is_own es))
+      go true t rest = (t, rest)
+      go false t rest = rest
+
+  -- the key of the last order, by its number
+  pub last_key : (m : FinMap order_cmp Order) (e : Entry) → last_order c m ≡ Some e
+      → e.0 ≡ order_in (district_of_customer c) e.0.order
+  last_key m e is =
+      let own : is_own e ≡ true =
+      last_has (λ f. is_own f ≡ true) None (orders_of c m) e (λ f h. let no : ⊥ = cc in absurd no)
+      (owned (entries m)) (sym (last_is m) ∙ is)
+      in
+      let same : customer_of_order e.0 e.1 ≡ c =
+      is_same customer_total exact_customer (customer_of_order e.0 e.1) c own in
+      ap (λ (k : CustomerKey). order_in (district_of_customer k) e.0.order) same
+
 -- the rows that stood at a list's keys
 module _ (ts : tables.Places) (u : SegmentLog) (m : ℕ) (c : CustomerKey) where
   abbrev past : FinMap order_cmp Order
@@ -275,3 +303,60 @@ module _ (ts : tables.Places) (u : SegmentLog) (m : ℕ) (c : CustomerKey) where
         rest = sym (ap
             (λ b. final last (rows_at past (cond b (e ∷ filter (is_own c) es) (filter (is_own c) es)))) other) ∙ w.rest;
       }
+
+  some_ends : (x : Entry) (es : List Entry) → final (Some x) es ≡ None → ⊥
+  some_ends x [] e = cc
+  some_ends x (y ∷ es) e = some_ends y es e
+
+  none_before : (es : List Entry) → final None es ≡ None → final None (rows_at past es) ≡ None
+  none_before [] e = refl
+  none_before (x ∷ es) e = absurd (some_ends x es e)
+
+  -- what was the last one stays it, where it was there at the moment
+  stays_last : (before before' : Option Entry) (es : List Entry) (e : Entry) (y : Order) → get past e.0 ≡ Some y
+      → (before ≡ Some e → before' ≡ Some (e.0, y)) → final before es ≡ Some e
+      → final before' (rows_at past es) ≡ Some (e.0, y)
+  stays_last before before' [] e y at same is = same is
+  stays_last before before' (f ∷ es) e y at same is =
+      go (get past f.0) refl (λ b s. stays_last (Some f) b es e y at s is)
+    where
+      go : (v : Option Order) → get past f.0 ≡ v
+          → ((b : Option Entry) → (Some f ≡ Some e → b ≡ Some (e.0, y)) → final b (rows_at past es) ≡ Some (e.0, y))
+          → final before' (cons_option (option_map (λ x. (f.0, x)) v) (rows_at past es)) ≡ Some (e.0, y)
+      go None none rest =
+          rest before' (λ h.
+          let there : ◌≡◌ {A = Option Order} None (Some y) =
+          sym none ∙ ap (λ (g : Entry). get past g.0) (some_inj f e h) ∙ at in
+          let no : ⊥ = cc in absurd no)
+      go (Some x) some rest =
+          rest (Some (f.0, x)) (λ h.
+          let k : f ≡ e = some_inj f e h in
+          let z : x ≡ y = some_inj x y (sym some ∙ ap (λ (g : Entry). get past g.0) k ∙ at) in
+          λ i. Some ((k i).0, z i))
+
+  all_read : Stand ts u → final None (rows_at past (orders_of c now)) ≡ last_order c past
+  all_read h = (begins h (entries now) refl).rest
+
+  -- a customer who has no order had none
+  pub never_ordered : (n : Option ℕ) → Stand ts u → n ≡ option_map (λ (e : Entry). e.0.order) (last_order c now)
+      → n ≡ None → None ≡ last_order c past
+  never_ordered n h is none =
+      let no_last : last_order c now ≡ None =
+      mapped_absent (λ (e : Entry). e.0.order) (last_order c now) (sym is ∙ none) in
+      sym (none_before (orders_of c now) (sym (last_is c now) ∙ no_last)) ∙ all_read h
+
+  -- the last order that stands was the last, where it was there
+  pub stood_last : (n : ℕ) (k : OrderKey) (y : Order) → Stand ts u
+      → Some n ≡ option_map (λ (e : Entry). e.0.order) (last_order c now) → k ≡ order_in (district_of_customer c) n
+      → get past k ≡ Some y → Some (k, y) ≡ last_order c past
+  stood_last n k y h is at there = go (last_order c now) refl is
+    where
+      go : (v : Option Entry) → last_order c now ≡ v → Some n ≡ option_map (λ (e : Entry). e.0.order) v
+          → Some (k, y) ≡ last_order c past
+      go None none e = let no : ⊥ = cc in absurd no
+      go (Some e) last number =
+          let own : e.0 ≡ k = last_key c now e last
+          ∙ ap (order_in (district_of_customer c)) (sym (some_inj n e.0.order number)) ∙ sym at in
+          sym (ap (λ z. Some (z, y)) own)
+          ∙ sym (stays_last None None (orders_of c now) e y (ap (get past) own ∙ there)
+          (λ h. let no : ⊥ = cc in absurd no) (sym (last_is c now) ∙ last)) ∙ all_read h

@@ -1,7 +1,7 @@
 -- The lines of an order, in their keys' order, have rising numbers; and those of a version are those of the tables'
 -- keys.
 use Rattle.std.proofs.lemmas.List.{append-nil}
-use Rattle.std.proofs.Common.{◌≡◌, ℕ, ◌-◌, ◌<◌, ◌≤◌, Bool, true, false, None, Some, List, [], ◌∷◌, ◌++◌, map, length}
+use Rattle.std.proofs.Common.{◌≡◌, ℕ, ◌-◌, ◌<◌, ◌≤◌, Bool, true, false, Option, None, Some, List, [], ◌∷◌, ◌++◌, map, length}
 use Rattle.std.proofs.Common.{append_assoc, length-append, refl, sym, ap, ◌∙◌, subst, arith}
 use Rattle.std.specs.Prelude.{T, ◌&&◌, option_map}
 use Rattle.std.specs.List.{cons_option}
@@ -24,7 +24,8 @@ use Rattle.oe_model.specs.Delivery.{lines_of}
 use Rattle.oe_model.specs.Queries.{status_line}
 use Rattle.oe_model.proofs.MapFacts.{is_same}
 use Rattle.oe_model.proofs.EntryFacts.{EachOf, each_of, kept_at}
-use Rattle.oe_model.proofs.PresenceFacts.{some-map}
+use Rattle.oe_model.proofs.PresenceFacts.{some-map, mapped_absent}
+use Rattle.oe_theory.proofs.Sets.{some_inj}
 use Rattle.oe_store.specs.Places.{rows}
 use Rattle.oe_store.specs.Places as tables
 use Rattle.oe_log.specs.Log.{SegmentLog}
@@ -109,6 +110,14 @@ lines_are ts u m k h =
     ∙ rows_last (store_with (rows ts) u h.0) m (key.OrderLine q) h.1
     (some-map row.OrderLine (get (version ts u m).order_lines q) ∙ there)))
 
+-- each line of an order stands at its key
+pub lines_stand : (ts : tables.Places) (k : OrderKey)
+    → EachOf (λ e. get (rows ts).order_lines e.0 ≡ Some e.1) (lines_of k (rows ts).order_lines)
+lines_stand ts k =
+    each_of (λ e. (own k e.0 ≡ true) × (get (rows ts).order_lines e.0 ≡ Some e.1))
+    (λ e. get (rows ts).order_lines e.0 ≡ Some e.1) (λ e t. t.1) (lines_of k (rows ts).order_lines)
+    (kept_at order_line_total exact_order_line (rows ts).order_lines (own k))
+
 -- what is told of lines with their keys
 abbrev told : List (OrderLineKey × OrderLine) → List StatusLine
 told es = map (λ e. status_line e.1) es
@@ -120,6 +129,7 @@ module _ (ts : tables.Places) (u : SegmentLog) (m : ℕ) (k : OrderKey) where
   -- what is left of a walk over the lines that stand leads from those told so far to all, and their numbers leave room
   pub record Fills (lines : List StatusLine) (es : List (OrderLineKey × OrderLine)) : Type 0 where
     pub rest : lines ++ told (rows_at past es) ≡ told (lines_of k past)
+    pub stand : EachOf (λ e. get (rows ts).order_lines e.0 ≡ Some e.1) es
     pub bound : ℕ
     pub few : length lines ≤ bound
     pub climb : Climb bound es
@@ -127,6 +137,7 @@ module _ (ts : tables.Places) (u : SegmentLog) (m : ℕ) (k : OrderKey) where
   pub starts : Stand ts u → Fills [] (lines_of k (rows ts).order_lines)
   starts h = record {
     rest = ap told (lines_are ts u m k h);
+    stand = lines_stand ts k;
     bound = 0;
     few = omega arith;
     climb = lines_climb k (rows ts).order_lines;
@@ -141,27 +152,41 @@ module _ (ts : tables.Places) (u : SegmentLog) (m : ℕ) (k : OrderKey) where
       let next : f.bound ≤ e.0.number - 1 = f.climb.0 in
       omega (arith, few, next, low, high)
 
+  -- the row that a walk lends stands at its key
+  pub stands_at : (lines : List StatusLine) (e : OrderLineKey × OrderLine) (es : List (OrderLineKey × OrderLine))
+      → Fills lines (e ∷ es) → get (rows ts).order_lines e.0 ≡ Some e.1
+  stands_at lines e es f = f.stand.0
+
   pub skips : (lines : List StatusLine) (e : OrderLineKey × OrderLine) (es : List (OrderLineKey × OrderLine))
-      → Fills lines (e ∷ es) → get past e.0 ≡ None
+      → Fills lines (e ∷ es) → option_map status_line (get past e.0) ≡ None
       → Fills lines es
-  skips lines e es f none = record {
-    rest = sym (ap (λ v. lines ++ told (cons_option (option_map (λ x. (e.0, x)) v) (rows_at past es))) none) ∙ f.rest;
+  skips lines e es f absent = record {
+    rest = sym (ap (λ v. lines ++ told (cons_option (option_map (λ x. (e.0, x)) v) (rows_at past es)))
+        (mapped_absent status_line (get past e.0) absent)) ∙ f.rest;
+    stand = f.stand.1;
     bound = e.0.number;
     few = (let few : length lines ≤ f.bound = f.few in let next : f.bound ≤ e.0.number - 1 = f.climb.0 in
         omega (arith, few, next));
     climb = f.climb.1;
   }
 
+  one_more : (lines : List StatusLine) (k : OrderLineKey) (rest : List (OrderLineKey × OrderLine)) (l : StatusLine)
+      (v : Option OrderLine) → option_map status_line v ≡ Some l
+      → (lines ++ l ∷ []) ++ told rest ≡ lines ++ told (cons_option (option_map (λ x. (k, x)) v) rest)
+  one_more lines k rest l None e = let no : ⊥ = cc in absurd no
+  one_more lines k rest l (Some x) e =
+      let same : status_line x ≡ l = some_inj (status_line x) l e in
+      append_assoc lines (l ∷ []) (told rest) ∙ ap (λ z. lines ++ z ∷ told rest) (sym same)
+
   pub takes : (lines : List StatusLine) (e : OrderLineKey × OrderLine) (es : List (OrderLineKey × OrderLine))
-      (x : OrderLine) → Fills lines (e ∷ es) → get past e.0 ≡ Some x
-      → 1 ≤ e.0.number → Fills (lines ++ status_line x ∷ []) es
-  takes lines e es x f at low = record {
-    rest =
-        append_assoc lines (status_line x ∷ []) (told (rows_at past es))
-        ∙ sym (ap (λ v. lines ++ told (cons_option (option_map (λ x. (e.0, x)) v) (rows_at past es))) at) ∙ f.rest;
+      (l : StatusLine) → Fills lines (e ∷ es) → option_map status_line (get past e.0) ≡ Some l
+      → 1 ≤ e.0.number → Fills (lines ++ l ∷ []) es
+  takes lines e es l f at low = record {
+    rest = one_more lines e.0 (rows_at past es) l (get past e.0) at ∙ f.rest;
+    stand = f.stand.1;
     bound = e.0.number;
     few = (let few : length lines ≤ f.bound = f.few in let next : f.bound ≤ e.0.number - 1 = f.climb.0 in
-        omega (arith, few, next, low, length-append lines (status_line x ∷ [])));
+        omega (arith, few, next, low, length-append lines (l ∷ [])));
     climb = f.climb.1;
   }
 

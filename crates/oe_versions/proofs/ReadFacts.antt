@@ -10,6 +10,7 @@ use Rattle.oe_rows.specs.declared.keys.OrderKey.{OrderKey}
 use Rattle.oe_rows.specs.declared.keys.OrderLineKey.{OrderLineKey}
 use Rattle.oe_rows.specs.declared.keys.StockKey.{StockKey}
 use Rattle.oe_rows.specs.declared.keys.Key.TheVariants as key
+use Rattle.oe_rows.specs.declared.orders.OrderLine.{OrderLine}
 use Rattle.oe_rows.specs.declared.rows.Row.{Row}
 use Rattle.oe_rows.specs.declared.rows.Row.TheVariants as row
 use Rattle.oe_model.specs.Rows.{row_at, as_warehouse, as_district, as_customer, as_new_order, as_order, as_order_line}
@@ -59,6 +60,13 @@ module _ (ts : tables.Places) (u : SegmentLog) (m : ℕ) (o : Option Record) whe
       (row_found o (row_at (rows ts) (key.OrderLine k)))
   order_line_is k h = sym (came row.OrderLine as_order_line (λ x. refl) (get (version ts u m).order_lines k))
       ∙ ap (option_and_then as_order_line) (h (rows ts))
+
+  -- a line that stands is found without a look at its table
+  pub standing_line_is : (k : OrderLineKey) (x : OrderLine) → HasRow u m (key.OrderLine k) o
+      → get (rows ts).order_lines k ≡ Some x
+      → get (version ts u m).order_lines k ≡ option_and_then as_order_line (row_found o (Some (row.OrderLine x)))
+  standing_line_is k x h stands =
+      order_line_is k h ∙ ap (λ v. option_and_then as_order_line (row_found o (option_map row.OrderLine v))) stands
 
   pub stock_is : (k : StockKey) → HasRow u m (key.Stock k) o
       → get (version ts u m).stocks k ≡ option_and_then as_stock (row_found o (row_at (rows ts) (key.Stock k)))

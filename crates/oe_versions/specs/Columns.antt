@@ -5,6 +5,7 @@ use Rattle.oe_rows.specs.declared.districts.District.{District}
 use Rattle.oe_rows.specs.declared.customers.Account.{Account}
 use Rattle.oe_rows.specs.declared.customers.Customer.{Customer}
 use Rattle.oe_rows.specs.declared.items.Stock.{Stock}
+use Rattle.oe_rows.specs.declared.orders.OrderLine.{OrderLine}
 
 -- W_YTD
 abbrev pub ytd_of_warehouse : Option Warehouse → Option ℕ
@@ -29,3 +30,7 @@ account_of row = option_map (λ x. x.account) row
 -- S_QUANTITY
 abbrev pub quantity_of : Option Stock → Option ℕ
 quantity_of row = option_map (λ x. x.quantity) row
+
+-- OL_I_ID
+abbrev pub item_of : Option OrderLine → Option ℕ
+item_of row = option_map (λ x. x.item) row

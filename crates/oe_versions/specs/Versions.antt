@@ -1,13 +1,13 @@
 -- Tables and an undo log as a store of the theory of transactions, and the version of a moment.
-use Rattle.std.specs.Prelude.{ℕ, Option, None}
+use Rattle.std.specs.Prelude.{◌≡◌, ℕ, Bool, IsTrue, Option, None}
 use Rattle.oe_theory.specs.Store.{Slot, Store, version_of}
 use Rattle.oe_theory.specs.StoreTheorems.{IsStanding}
 use Rattle.oe_model.specs.Rows.{Rows}
 use Rattle.oe_model.specs.System.{system}
 use Rattle.oe_store.specs.Places.{rows}
 use Rattle.oe_store.specs.Places as tables
-use Rattle.oe_log.specs.Log.{SegmentLog}
-use Rattle.oe_log.specs.Moments.{store_with}
+use Rattle.oe_log.specs.Log.{SegmentLog, open_total}
+use Rattle.oe_log.specs.Moments.{newest, store_with, IsKeptMoment}
 
 -- rows as they stand and a log, without the slots of open transactions, at which no version looks
 abbrev pub without_slots : Rows → SegmentLog → Store system
@@ -30,3 +30,9 @@ pub record VersionState : Type 0 where
 -- the tables of its moment
 abbrev pub rows_of : VersionState → Rows
 rows_of s = version s.tables s.log s.moment
+
+-- what a version knows of its moment: that it is kept; and where it says so, that there is nothing to put back
+pub record IsVersion (u : SegmentLog) (m : ℕ) (settled : Bool) : Type 0 where
+  pub kept : IsKeptMoment u m
+  pub commits : IsTrue settled → newest u ≡ m
+  pub quiet : IsTrue settled → open_total u ≡ 0

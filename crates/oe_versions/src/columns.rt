@@ -3,6 +3,7 @@ ghost use Rattle.std.specs.Prelude.{◌≡◌, option_and_then};
 ghost use Rattle.std.specs.FinMap.{get};
 ghost use Rattle.oe_rows.specs.declared.keys.Key.TheVariants as keys;
 ghost use Rattle.oe_model.specs.Rows.{row_at, as_warehouse, as_district, as_customer, as_stock};
+ghost use Rattle.oe_model.specs.Changes.{row_before};
 ghost use Rattle.oe_store.specs.Places.{rows};
 ghost use Rattle.oe_versions.specs.Versions.{rows_of};
 ghost use Rattle.oe_versions.specs.Found.{row_found};
@@ -14,6 +15,18 @@ use oe_rows::{Account, CustomerKey, DistrictKey, Key, StockKey, WarehouseKey};
 use oe_store::Tables;
 use oe_values::{Balance, Count, OrderNumber, YearToDate};
 
+/// Gives W_YTD of the row that a record has, if it has one of that table.
+// Apart from the read of what stands, which would clear the room of a record.
+#[inline(never)]
+fn warehouse_ytd_before(before: &StoredRecord<'_>) -> Option<YearToDate>
+    ensures { result ≡ ytd_of_warehouse (option_and_then as_warehouse (row_before before.now)) }
+{
+    match before.read() {
+        OwnRecord::UpdatedWarehouse(_, row) => Some(row.ytd),
+        _ => None,
+    }
+}
+
 /// Gives W_YTD of the row that a record has, or of the one that stands where there is no record.
 fn ytd_of_warehouse(
     tables: &Tables,
@@ -24,11 +37,20 @@ fn ytd_of_warehouse(
         (row_found found.entry (row_at (rows tables.now) (keys.Warehouse key.now)))) }
 {
     match found {
-        Some(before) => match before.read() {
-            OwnRecord::UpdatedWarehouse(_, row) => Some(row.ytd),
-            _ => None,
-        },
+        Some(before) => warehouse_ytd_before(&before),
         None => Some(tables.warehouse(*key)?.ytd),
+    }
+}
+
+/// Gives D_YTD of the row that a record has, if it has one of that table.
+// Apart from the read of what stands, which would clear the room of a record.
+#[inline(never)]
+fn district_ytd_before(before: &StoredRecord<'_>) -> Option<YearToDate>
+    ensures { result ≡ ytd_of_district (option_and_then as_district (row_before before.now)) }
+{
+    match before.read() {
+        OwnRecord::UpdatedDistrict(_, row) => Some(row.ytd),
+        _ => None,
     }
 }
 
@@ -42,11 +64,20 @@ fn ytd_of_district(
         (row_found found.entry (row_at (rows tables.now) (keys.District key.now)))) }
 {
     match found {
-        Some(before) => match before.read() {
-            OwnRecord::UpdatedDistrict(_, row) => Some(row.ytd),
-            _ => None,
-        },
+        Some(before) => district_ytd_before(&before),
         None => Some(tables.district(*key)?.ytd),
+    }
+}
+
+/// Gives D_NEXT_O_ID of the row that a record has, if it has one of that table.
+// Apart from the read of what stands, which would clear the room of a record.
+#[inline(never)]
+fn next_order_before(before: &StoredRecord<'_>) -> Option<OrderNumber>
+    ensures { result ≡ next_order_of (option_and_then as_district (row_before before.now)) }
+{
+    match before.read() {
+        OwnRecord::UpdatedDistrict(_, row) => Some(row.next_order),
+        _ => None,
     }
 }
 
@@ -61,11 +92,20 @@ fn next_order_of(
         (row_found found.entry (row_at (rows tables.now) (keys.District key.now)))) }
 {
     match found {
-        Some(before) => match before.read() {
-            OwnRecord::UpdatedDistrict(_, row) => Some(row.next_order),
-            _ => None,
-        },
+        Some(before) => next_order_before(&before),
         None => Some(tables.district(*key)?.next_order),
+    }
+}
+
+/// Gives C_BALANCE of the row that a record has, if it has one of that table.
+// Apart from the read of what stands, which would clear the room of a record.
+#[inline(never)]
+fn balance_before(before: &StoredRecord<'_>) -> Option<Balance>
+    ensures { result ≡ balance_of (option_and_then as_customer (row_before before.now)) }
+{
+    match before.read() {
+        OwnRecord::UpdatedCustomer(_, row) => Some(row.account.balance),
+        _ => None,
     }
 }
 
@@ -80,11 +120,20 @@ fn balance_of(
         (row_found found.entry (row_at (rows tables.now) (keys.Customer key.now)))) }
 {
     match found {
-        Some(before) => match before.read() {
-            OwnRecord::UpdatedCustomer(_, row) => Some(row.account.balance),
-            _ => None,
-        },
+        Some(before) => balance_before(&before),
         None => Some(tables.customer(*key)?.account.balance),
+    }
+}
+
+/// Gives the money and counts of the row that a record has, if it has one of that table.
+// Apart from the read of what stands, which would clear the room of a record.
+#[inline(never)]
+fn account_before(before: &StoredRecord<'_>) -> Option<Account>
+    ensures { result ≡ account_of (option_and_then as_customer (row_before before.now)) }
+{
+    match before.read() {
+        OwnRecord::UpdatedCustomer(_, row) => Some(row.account),
+        _ => None,
     }
 }
 
@@ -99,11 +148,20 @@ fn account_of(
         (row_found found.entry (row_at (rows tables.now) (keys.Customer key.now)))) }
 {
     match found {
-        Some(before) => match before.read() {
-            OwnRecord::UpdatedCustomer(_, row) => Some(row.account),
-            _ => None,
-        },
+        Some(before) => account_before(&before),
         None => Some(tables.customer(*key)?.account),
+    }
+}
+
+/// Gives S_QUANTITY of the row that a record has, if it has one of that table.
+// Apart from the read of what stands, which would clear the room of a record.
+#[inline(never)]
+fn quantity_before(before: &StoredRecord<'_>) -> Option<Count>
+    ensures { result ≡ quantity_of (option_and_then as_stock (row_before before.now)) }
+{
+    match before.read() {
+        OwnRecord::UpdatedStock(_, row) => Some(row.quantity),
+        _ => None,
     }
 }
 
@@ -114,10 +172,7 @@ fn quantity_of(tables: &Tables, key: &StockKey, found: Option<StoredRecord<'_>>)
         (row_found found.entry (row_at (rows tables.now) (keys.Stock key.now)))) }
 {
     match found {
-        Some(before) => match before.read() {
-            OwnRecord::UpdatedStock(_, row) => Some(row.quantity),
-            _ => None,
-        },
+        Some(before) => quantity_before(&before),
         None => Some(tables.stock(*key)?.quantity),
     }
 }

@@ -1,5 +1,5 @@
-//! The last order of a customer as it stood at a moment, found by a walk over the orders listed for
-//! the customer.
+//! The last order of a customer as it stood at a moment: the last of the orders listed for the
+//! customer, or where that came later, the last of them that stood.
 ghost use Rattle.std.specs.Prelude.{◌≡◌};
 ghost use Rattle.std.specs.Ordering.{eq_by_cmp};
 ghost use Rattle.oe_rows.specs.Key.{customer_cmp};
@@ -21,9 +21,10 @@ fn is_own(key: &OrderKey, order: &Order, customer: &CustomerKey) -> bool
 }
 
 impl<'a> Version<'a> {
-    /// Gives the order with the largest O_ID that a customer had, with its key, if there was any
-    /// (clause 2.6.2.2).
-    pub fn last_order(&self, customer: CustomerKey) -> Option<(OrderKey, Order)>
+    /// Gives the order with the largest O_ID that a customer had, with its key, if there was any,
+    /// by reading each of the customer's orders.
+    #[inline(never)]
+    fn last_read(&self, customer: CustomerKey) -> Option<(OrderKey, Order)>
         requires { Stand self.now.tables self.now.log }
         ensures { result ≡ last_order customer (rows_of self.now).orders }
     {
@@ -37,5 +38,25 @@ impl<'a> Version<'a> {
             }
         }
         last
+    }
+
+    /// Gives the order with the largest O_ID that a customer had, with its key, if there was any
+    /// (clause 2.6.2.2).
+    ///
+    /// Orders stay, so it is mostly the customer's last one that stands; where that came after the
+    /// moment, each of the customer's orders is read.
+    #[tactic(auto, using(crate::proofs::LastFacts::never_ordered, crate::proofs::LastFacts::stood_last))]
+    pub fn last_order(&self, customer: CustomerKey) -> Option<(OrderKey, Order)>
+        requires { Stand self.now.tables self.now.log }
+        ensures { result ≡ last_order customer (rows_of self.now).orders }
+    {
+        let Some(number) = self.tables().last_order(&customer) else {
+            return None;
+        };
+        let key = customer.district_key().order(number);
+        match self.order(&key) {
+            Some(order) => Some((key, order)),
+            None => self.last_read(customer),
+        }
     }
 }

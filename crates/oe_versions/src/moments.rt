@@ -3,8 +3,9 @@
 //! A version lends the tables and the undo log, and copies no row. By its invariant the moment is
 //! from the horizon to the newest, so that no read of it can be refused. Only its making can be:
 //! the moment is checked there, once.
-ghost use Rattle.std.specs.Prelude.{◌≡◌, IfOk, IfErr, OnOk};
-ghost use Rattle.oe_log.specs.Moments.{IsKeptMoment, IsUnkept};
+ghost use Rattle.std.specs.Prelude.{◌≡◌, IsTrue, IfOk, IfErr, OnOk};
+ghost use Rattle.oe_log.specs.Log.{open_total};
+ghost use Rattle.oe_log.specs.Moments.{newest, IsKeptMoment, IsUnkept};
 
 use oe_requests::Refusal;
 use oe_store::Tables;
@@ -17,17 +18,19 @@ use std::marker::Model;
 ///
 /// It borrows the tables as they stand and the undo log. Neither its making nor a read takes
 /// memory: from the key's newest record on a read goes along the key's own records that are open or
-/// of commits after the moment, and reads the row of one of them.
+/// of commits after the moment, and reads the row of one of them. Where nothing is open and no
+/// commit is later, it reads the row that stands.
 #[derive(Drop)]
 pub struct Version<'a> {
     tables: &'a Tables,
     pub(crate) undo: &'a Undo,
     pub(crate) moment: Moment,
+    // Each row stands as it was: nothing is open, and no commit is later.
+    pub(crate) is_settled: bool,
 }
 
 impl<'a> Model for Version<'a> {
-    ghost use Rattle.oe_log.specs.Moments.{IsKeptMoment};
-    ghost use Rattle.oe_versions.specs.Versions.{VersionState};
+    ghost use Rattle.oe_versions.specs.Versions.{VersionState, IsVersion};
 
     ghost Value = { VersionState };
 
@@ -37,7 +40,16 @@ impl<'a> Model for Version<'a> {
       moment = v.moment;
     } };
 
-    ghost invariant = { λ v. IsKeptMoment v.undo.now.log v.moment };
+    ghost invariant = { λ v. IsVersion v.undo.now.log v.moment v.is_settled };
+}
+
+/// Tells whether there is nothing to put back: no commit is later than the moment, and no
+/// transaction is open.
+fn is_settled(undo: &Undo, moment: Moment) -> bool
+    ensures commits { IsTrue result → newest undo.now.log ≡ moment }
+    ensures open { IsTrue result → open_total undo.now.log ≡ 0 }
+{
+    undo.segments().newest().get() == moment.get() && undo.segments().open_count() == 0
 }
 
 impl<'a> Version<'a> {
@@ -54,6 +66,7 @@ impl<'a> Version<'a> {
                 tables,
                 undo,
                 moment,
+                is_settled: is_settled(undo, moment),
             }),
             Err(refusal) => Err(refusal),
         }

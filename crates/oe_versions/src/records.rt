@@ -43,9 +43,13 @@ impl<'a> Version<'a> {
     }
 
     /// Gives the record that `found_counted` finds.
+    #[tactic(auto, using(crate::proofs::FoundFacts::none_found))]
     pub(crate) fn found(&self, key: &Key) -> Option<StoredRecord<'a>>
         ensures { HasRow self.now.log self.now.moment key.now result }
     {
+        if self.is_settled {
+            return None;
+        }
         let mut ticks = Ticks::new();
         self.found_counted(key, &mut ticks)
     }

@@ -80,17 +80,38 @@ fn is_new_order(tables: &Tables, key: &NewOrderKey, found: Option<StoredRecord<'
     }
 }
 
+/// Gives the ORDER row that a record has, if it has one.
+// Apart from the read of what stands, which would clear the room of a record.
+#[inline(never)]
+pub(crate) fn order_before(before: &StoredRecord<'_>) -> Option<Order>
+    ensures { result ≡ option_and_then as_order (row_before before.now) }
+{
+    match before.read() {
+        OwnRecord::UpdatedOrder(_, row) => Some(row),
+        _ => None,
+    }
+}
+
 /// Gives the ORDER row that a record has, or the one that stands where there is no record.
 fn order_row(tables: &Tables, key: &OrderKey, found: Option<StoredRecord<'_>>) -> Option<Order>
     ensures { result ≡ option_and_then as_order
         (row_found found.entry (row_at (rows tables.now) (keys.Order key.now))) }
 {
     match found {
-        Some(before) => match before.read() {
-            OwnRecord::UpdatedOrder(_, row) => Some(row),
-            _ => None,
-        },
+        Some(before) => order_before(&before),
         None => Some(*tables.order(*key)?),
+    }
+}
+
+/// Gives the ORDER-LINE row that a record has, if it has one.
+// Apart from the read of what stands, which would clear the room of a record.
+#[inline(never)]
+pub(crate) fn order_line_before(before: &StoredRecord<'_>) -> Option<OrderLine>
+    ensures { result ≡ option_and_then as_order_line (row_before before.now) }
+{
+    match before.read() {
+        OwnRecord::UpdatedOrderLine(_, row) => Some(row),
+        _ => None,
     }
 }
 
@@ -104,10 +125,7 @@ fn order_line_row(
         (row_found found.entry (row_at (rows tables.now) (keys.OrderLine key.now))) }
 {
     match found {
-        Some(before) => match before.read() {
-            OwnRecord::UpdatedOrderLine(_, row) => Some(row),
-            _ => None,
-        },
+        Some(before) => order_line_before(&before),
         None => Some(tables.order_line(*key)?.copied()),
     }
 }

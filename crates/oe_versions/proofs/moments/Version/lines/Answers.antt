@@ -1,9 +1,7 @@
-use Rattle.std.proofs.Common.{◌≡◌, ◌≤◌, sym, ap, ◌∙◌, subst, Some, [], ◌∷◌, ◌++◌, arith}
-use Rattle.std.specs.FinMap.{get}
+use Rattle.std.proofs.Common.{◌≤◌, sym, ap, ◌∙◌, subst, [], arith}
 use Rattle.oe_model.specs.Delivery.{lines_of}
 use Rattle.oe_store.specs.Places.{rows}
-use Rattle.oe_versions.specs.Versions.{rows_of}
-use Rattle.oe_versions.proofs.LineFacts.{Fills, starts, has_room, takes, ends}
+use Rattle.oe_versions.proofs.LineFacts.{Fills, starts, has_room, stands_at, takes, ends}
 use Rattle.oe_versions.proofs.moments.Version.lines.Goals as goal
 
 pub loop-key-init : goal.loop-key-init
@@ -26,19 +24,23 @@ push-requires c = (
       (subst (λ n. n ≤ 15) c.get-number.ensures.value c.get-number.ensures.high),
 )
 
+pub told_at-found-requires : goal.told_at-found-requires
+told_at-found-requires c =
+    stands_at c.args.self.now.tables c.args.self.now.log c.args.self.now.moment c.args.order c.loop-key.lines _
+    c.next.new.self
+    (subst (λ es. Fills c.args.self.now.tables c.args.self.now.log c.args.self.now.moment c.args.order c.loop-key.lines
+    es) c.in-Some.ensures.steps c.loop-key.invariant)
+
 pub loop-key-preserved-in-Some-found : goal.loop-key-preserved-in-Some-found
 loop-key-preserved-in-Some-found c =
-    let there : get (rows_of c.args.self.now).order_lines c.in-Some.key.now ≡ Some c.in-Some-found.line =
-    sym c.order_line-found.ensures ∙ c.in-Some-found.is
-    in
     subst (λ ls. Fills c.args.self.now.tables c.args.self.now.log c.args.self.now.moment c.args.order ls
-    c.next.new.self)
-    (sym (c.push.ensures ∙ ap (λ x. c.loop-key.lines ++ x ∷ []) c.told.ensures))
+    c.next.new.self) (sym c.push.ensures)
     (takes c.args.self.now.tables c.args.self.now.log c.args.self.now.moment c.args.order c.loop-key.lines _
     c.next.new.self c.in-Some-found.line
     (subst (λ es. Fills c.args.self.now.tables c.args.self.now.log c.args.self.now.moment c.args.order c.loop-key.lines
     es) c.in-Some.ensures.steps c.loop-key.invariant)
-    there (subst (λ n. 1 ≤ n) c.get-number.ensures.value c.get-number.ensures.low))
+    (sym c.told_at-found.ensures ∙ c.in-Some-found.is)
+    (subst (λ n. 1 ≤ n) c.get-number.ensures.value c.get-number.ensures.low))
 
 pub returns : goal.returns
 returns c = ends c.args.self.now.tables c.args.self.now.log c.args.self.now.moment c.args.order c.loop-key.lines

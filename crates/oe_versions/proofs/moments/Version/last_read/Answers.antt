@@ -2,7 +2,7 @@ use Rattle.std.proofs.Common.{sym, subst, ap, None, ◌∙◌}
 use Rattle.oe_model.specs.Queries.{orders_of}
 use Rattle.oe_store.specs.Places.{rows}
 use Rattle.oe_versions.proofs.LastFacts.{Walks, begins}
-use Rattle.oe_versions.proofs.moments.Version.last_order.Goals as goal
+use Rattle.oe_versions.proofs.moments.Version.last_read.Goals as goal
 
 pub loop-key-init : goal.loop-key-init
 loop-key-init c =
