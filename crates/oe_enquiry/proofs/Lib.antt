@@ -4,3 +4,5 @@ pub mod ShortFacts
 pub mod LastFacts
 pub mod AnswerFacts
 pub mod FewFacts
+pub mod OrderFacts
+pub mod MarkFacts

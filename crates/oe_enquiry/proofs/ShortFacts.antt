@@ -1,40 +1,14 @@
--- What is left to be listed, line by line and order by order.
+-- What is left to be listed, order by order.
 use Rattle.std.proofs.Common.{◌≡◌, ℕ, zero, suc, ◌+◌, ◌*◌, ◌-◌, ◌≤◌, ◌<◌, refl, sym, ap, ◌∙◌, subst, Bool, true, false}
-use Rattle.std.proofs.Common.{cond, List, [], ◌∷◌, ◌++◌, map, length, take, get_or, length-append, arith}
+use Rattle.std.proofs.Common.{cond, List, [], ◌∷◌, ◌++◌, length, length-append, arith}
 use Rattle.std.specs.Prelude.{not, ◌&&◌}
 use Rattle.std.specs.FinMap.{FinMap}
-use Rattle.std.proofs.lemmas.List.{map-append}
 use Rattle.oe_rows.specs.Key.{order_line_cmp}
 use Rattle.oe_rows.specs.declared.keys.DistrictKey.{DistrictKey}
-use Rattle.oe_rows.specs.declared.keys.OrderKey.{OrderKey}
-use Rattle.oe_rows.specs.declared.keys.OrderLineKey.{OrderLineKey}
 use Rattle.oe_rows.specs.declared.orders.OrderLine.{OrderLine}
-use Rattle.oe_requests.specs.declared.replies.StatusLine.{StatusLine}
 use Rattle.oe_model.specs.Keys.{order_in}
-use Rattle.oe_model.specs.Delivery.{lines_of}
-use Rattle.oe_model.specs.Queries.{status_line}
 use Rattle.oe_enquiry.specs.Level.{is_listed, listed, items_of, sold}
 use Rattle.oe_enquiry.proofs.ListedFacts.{listed_append}
-
-items_told : (es : List (OrderLineKey × OrderLine))
-    → map (λ (l : StatusLine). l.item) (map (λ e. status_line e.1) es) ≡ map (λ e. e.1.item) es
-items_told [] = refl
-items_told (e ∷ es) = ap (λ is. e.1.item ∷ is) (items_told es)
-
--- the items of the lines that are told of an order
-pub told_items : (k : OrderKey) (lines : FinMap order_line_cmp OrderLine) (ls : List StatusLine)
-    → ls ≡ map (λ e. status_line e.1) (lines_of k lines)
-    → map (λ (l : StatusLine). l.item) ls ≡ items_of k lines
-told_items k lines ls e = ap (map (λ (l : StatusLine). l.item)) e ∙ items_told (lines_of k lines)
-
-pub order_listed : (p : ℕ → Bool) (h : DistrictKey) (n : ℕ) (lines : FinMap order_line_cmp OrderLine) (k : OrderKey)
-    (ls told : List StatusLine) (old items : List ℕ)
-    → k ≡ order_in h n → ls ≡ map (λ e. status_line e.1) (lines_of k lines) → told ≡ ls
-    → items ≡ listed p old (map (λ l. l.item) told)
-    → items ≡ listed p old (items_of (order_in h n) lines)
-order_listed p h n lines k ls told old items is e t found =
-    found ∙ ap (listed p old) (ap (map (λ (l : StatusLine). l.item)) t ∙ told_items k lines ls e
-    ∙ ap (λ z. items_of z lines) is)
 
 module _ (p : ℕ → Bool) (h : DistrictKey) (next : ℕ) (lines : FinMap order_line_cmp OrderLine) where
   -- orders from this number on are still to be listed, and there is room for 15 items of each
@@ -121,24 +95,3 @@ pub one_more : (items items' : List ℕ) (j : ℕ) → items' ≡ items ++ j ∷
 one_more items items' j is =
     let l : length (items ++ j ∷ []) ≡ length items + length (j ∷ []) = length-append items (j ∷ []) in
     let e : length items' ≡ length (items ++ j ∷ []) = ap length is in omega (arith, l, e)
-
--- LINES
-
-take_one : (xs : List StatusLine) (i : ℕ) (x : StatusLine) → i < length xs → x ≡ get_or xs i x
-    → take (suc i) xs ≡ take i xs ++ x ∷ []
-take_one [] i x h e = absurd (let no : ⊥ = omega (arith, h) in no)
-take_one (y ∷ ys) zero x h e = ap (λ z. z ∷ []) (sym e)
-take_one (y ∷ ys) (suc i) x h e = ap (λ zs. y ∷ zs) (take_one ys i x (let z : i < length ys = omega (arith, h) in z) e)
-
--- one line more than those that were looked at
-pub line_listed : (p : ℕ → Bool) (old : List ℕ) (lines : List StatusLine) (i : ℕ) (x : StatusLine)
-    (items items' : List ℕ) → i < length lines → x ≡ get_or lines i x
-    → items ≡ listed p old (map (λ (l : StatusLine). l.item) (take i lines)) → items' ≡ listed p items (x.item ∷ [])
-    → items' ≡ listed p old (map (λ (l : StatusLine). l.item) (take (i + 1) lines))
-line_listed p old lines i x items items' room at so_far is =
-    let next : i + 1 ≡ suc i = omega arith in
-    let more : take (i + 1) lines ≡ take i lines ++ x ∷ [] = ap (λ n. take n lines) next ∙ take_one lines i x room at in
-    is ∙ ap (λ zs. listed p zs (x.item ∷ [])) so_far
-    ∙ sym (listed_append p old (map (λ (l : StatusLine). l.item) (take i lines)) (x.item ∷ []))
-    ∙ ap (listed p old) (sym (ap (map (λ (l : StatusLine). l.item)) more
-    ∙ map-append (λ (l : StatusLine). l.item) (take i lines) (x ∷ [])))

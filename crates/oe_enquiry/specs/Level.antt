@@ -1,5 +1,5 @@
 -- The items that Stock-Level counts, as they are gathered (clause 2.8.2.2).
-use Rattle.std.specs.Prelude.{ℕ, zero, suc, ◌-◌, ◌==◌, Bool, false, cond, not, ◌&&◌, List, [], ◌∷◌, ◌++◌, map, nat_le}
+use Rattle.std.specs.Prelude.{◌≡◌, ◌%◌, true, get_or, ℕ, zero, suc, ◌-◌, ◌==◌, Bool, false, cond, not, ◌&&◌, List, [], ◌∷◌, ◌++◌, map, nat_le}
 use Rattle.std.specs.Prelude.{None, Some}
 use Rattle.std.specs.List.{list_any}
 use Rattle.std.specs.FinMap.{FinMap, get}
@@ -23,6 +23,10 @@ is_short q r i = elim (get r.stocks (stock_in q.district.warehouse i))
 
 abbrev pub is_listed : List ℕ → ℕ → Bool
 is_listed items i = list_any (λ j. j == i) items
+
+-- each listed item has a mark at its remainder
+abbrev pub AreMarked : List Bool → List ℕ → Type 0
+AreMarked marks items = (i : ℕ) → is_listed items i ≡ true → get_or marks (i % 512) false ≡ true
 
 -- the items that are listed, and behind them those that pass and are not listed yet
 abbrev pub listed : (ℕ → Bool) → List ℕ → List ℕ → List ℕ

@@ -1,6 +1,6 @@
 //! Stock-Level (clause 2.8): how many items of a district's last 20 orders are low in its
 //! warehouse.
-ghost use Rattle.std.specs.Prelude.{◌≡◌, ◌≤◌, ◌<◌, ◌+◌, ℕ, [], ◌∷◌, length, map, IfOk, IfErr};
+ghost use Rattle.std.specs.Prelude.{◌≡◌, ◌≤◌, ◌<◌, ◌+◌, ℕ, [], ◌∷◌, length, IfOk, IfErr};
 ghost use Rattle.oe_theory.specs.Machine.{Here, Missing};
 ghost use Rattle.oe_requests.specs.declared.replies.QueryReply.TheVariants as told;
 ghost use Rattle.oe_model.specs.Keys.{order_in};
@@ -9,8 +9,8 @@ ghost use Rattle.oe_model.specs.Rules.{AreLow};
 ghost use Rattle.oe_versions.specs.Versions.{rows_of, Stand};
 ghost use Rattle.oe_enquiry.specs.Level.{is_short, listed, items_of};
 
-use crate::items::{Items, Listed, is_listed};
-use oe_requests::{LevelQuery, Refusal, StatusLine};
+use crate::items::Items;
+use oe_requests::{LevelQuery, Refusal};
 use oe_rows::{Key, StockKey};
 use oe_values::{ItemNumber, LowStock, OrderNumber};
 use oe_versions::Version;
@@ -37,33 +37,17 @@ fn list_if_short(version: &Version<'_>, query: &LevelQuery, item: ItemNumber, it
         ≡ listed (is_short query.now (rows_of version.now)) items.old (item ∷ []) }
     ensures few { length items.new ≤ length items.old + 1 }
 {
-    if is_listed(items, item) {
+    if items.is_listed(item) {
         return;
     }
     if !is_short(version, query, item) {
         return;
     }
-    items.push(Listed::new(item));
-}
-
-/// Lists the items of these lines that were short and are not listed yet. There must be room for
-/// all.
-#[tactic(auto, using(crate::proofs::ShortFacts::line_listed))]
-fn list_short(version: &Version<'_>, query: &LevelQuery, lines: &[StatusLine], items: &mut Items)
-    requires { length items.old + length lines.now ≤ 300 }
-    ensures items { items.new
-        ≡ listed (is_short query.now (rows_of version.now))
-        items.old (map (λ l. l.item) lines.now) }
-    ensures few { length items.new ≤ length items.old + length lines.now }
-{
-    for line in lines {
-        list_if_short(version, query, line.item, items);
-    }
+    items.push(item);
 }
 
 /// Lists the items of an order's lines that were short and are not listed yet. There must be room
 /// for 15.
-#[tactic(auto, using(crate::proofs::ShortFacts::order_listed))]
 fn list_order(version: &Version<'_>, query: &LevelQuery, number: OrderNumber, items: &mut Items)
     requires stand { Stand version.now.tables version.now.log }
     requires room { length items.old + 15 ≤ 300 }
@@ -72,8 +56,14 @@ fn list_order(version: &Version<'_>, query: &LevelQuery, number: OrderNumber, it
         items.old (items_of (order_in query.now.district number) (rows_of version.now).order_lines) }
     ensures few { length items.new ≤ length items.old + 15 }
 {
-    let lines = version.lines(query.district.order(number));
-    list_short(version, query, lines.as_slice(), items)
+    version.tables().numbers_hold();
+    let order = query.district.order(number);
+    for (key, line) in version.tables().order_lines_of(order) {
+        let found = version.item_at(key, line);
+        if let Some(item) = found {
+            list_if_short(version, query, item, items);
+        }
+    }
 }
 
 /// Gives the least number that one of a district's last 20 orders may have, where the next order
