@@ -43,6 +43,18 @@ impl<'a> Version<'a> {
     }
 
     /// Gives the record that `found_counted` finds.
+    // Apart, so that where nothing is to be put back its callers make no key.
+    #[inline(never)]
+    fn found_later(&self, key: &Key) -> Option<StoredRecord<'a>>
+        ensures { HasRow self.now.log self.now.moment key.now result }
+    {
+        let mut ticks = Ticks::new();
+        self.found_counted(key, &mut ticks)
+    }
+
+    /// Gives the record that has the key's row, or none where that row stands, as each does where
+    /// nothing is open and no commit is later.
+    #[inline(always)]
     #[tactic(auto, using(crate::proofs::FoundFacts::none_found))]
     pub(crate) fn found(&self, key: &Key) -> Option<StoredRecord<'a>>
         ensures { HasRow self.now.log self.now.moment key.now result }
@@ -50,7 +62,6 @@ impl<'a> Version<'a> {
         if self.is_settled {
             return None;
         }
-        let mut ticks = Ticks::new();
-        self.found_counted(key, &mut ticks)
+        self.found_later(key)
     }
 }
