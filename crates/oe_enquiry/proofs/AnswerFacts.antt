@@ -1,12 +1,16 @@
 -- What was found makes an answer, and what was not found a refusal.
 use Rattle.std.proofs.Common.{◌≡◌, ℕ, Option, None, Some, List, length, inl, inr, refl, sym, ap, subst, ◌∙◌}
 use Rattle.std.specs.Prelude.{ℤ, option_map}
-use Rattle.std.specs.FinMap.{get}
+use Rattle.std.specs.FinMap.{FinMap, get}
 use Rattle.oe_theory.specs.Machine.{Outcome, Here, Missing}
+use Rattle.oe_rows.specs.Key.{customer_cmp}
 use Rattle.oe_rows.specs.declared.keys.CustomerKey.{CustomerKey}
+use Rattle.oe_rows.specs.declared.keys.DistrictKey.{DistrictKey}
 use Rattle.oe_rows.specs.declared.keys.Key.TheVariants as key
 use Rattle.oe_rows.specs.declared.customers.Customer.{Customer}
 use Rattle.oe_rows.specs.declared.districts.District.{District}
+use Rattle.oe_requests.specs.declared.requests.CustomerChoice.{CustomerChoice}
+use Rattle.oe_requests.specs.declared.requests.CustomerChoice.TheVariants.{Number, LastName}
 use Rattle.oe_requests.specs.declared.requests.StatusQuery.{StatusQuery}
 use Rattle.oe_requests.specs.declared.requests.LevelQuery.{LevelQuery}
 use Rattle.oe_requests.specs.declared.requests.Query.{Query}
@@ -27,7 +31,7 @@ use Rattle.oe_store.specs.Places as tables
 use Rattle.oe_log.specs.Log.{SegmentLog}
 use Rattle.oe_log.specs.Moments.{IsKeptMoment, IsUnkept}
 use Rattle.oe_versions.specs.Versions.{VersionState, rows_of}
-use Rattle.oe_enquiry.specs.Reply.{IsReply, IsRefused}
+use Rattle.oe_enquiry.specs.Reply.{meant, IsReply, IsRefused}
 use Rattle.oe_enquiry.proofs.LevelFacts.{level_told}
 
 -- go on where there is a value
@@ -48,15 +52,44 @@ row_of f (Some x) y e = (x, refl, (let z : f x ≡ y = cc in z))
 no_row_of : {A B : Type 0} (f : A → B) (o : Option A) → None ≡ option_map f o → None ≡ o
 no_row_of f o e = sym (mapped_absent f o (sym e))
 
+-- a number that nobody has is refused as a customer who is not there
+first_looked_up : (h : DistrictKey) (choice : CustomerChoice) (customers : FinMap customer_cmp Customer)
+    (f : ℕ → Customer → Outcome QueryReply Refusal)
+    → found NoCustomer (chosen h choice customers) (λ c. found NoCustomer (get customers (customer_in h c)) (f c)) ≡ found
+    NoCustomer (meant h choice customers) (λ c. found NoCustomer (get customers (customer_in h c)) (f c))
+first_looked_up h (Number n) customers f = by (get customers (customer_in h n)) refl
+  where
+    by : (v : Option Customer) → get customers (customer_in h n) ≡ v
+        → found NoCustomer (option_map (λ x. n) v)
+        (λ c. found NoCustomer (get customers (customer_in h c)) (f c)) ≡ found NoCustomer
+        (get customers (customer_in h n)) (f n)
+    by None e = sym (ap (λ v. found NoCustomer v (f n)) e)
+    by (Some x) e = refl
+first_looked_up h (LastName last) customers f = refl
+
 module _ (q : StatusQuery) (r : Rows) where
+  as_meant : order_status q r ≡ found NoCustomer (meant q.district q.customer r.customers) (λ c.
+      found NoCustomer (get r.customers (customer_in q.district c)) (λ x.
+      Here (told.Status (record {
+        customer = c;
+        balance = x.account.balance;
+        order = status_of r.order_lines (last_order (customer_in q.district c) r.orders);
+      }))))
+  as_meant = first_looked_up q.district q.customer r.customers (λ c x.
+      Here (told.Status (record {
+        customer = c;
+        balance = x.account.balance;
+        order = status_of r.order_lines (last_order (customer_in q.district c) r.orders);
+      })))
+
   pub status_told : (c : ℕ) (k : CustomerKey) (b : ℤ) (o : Option OrderStatus)
-      → Some c ≡ chosen q.district q.customer r.customers → k ≡ customer_in q.district c
+      → Some c ≡ meant q.district q.customer r.customers → k ≡ customer_in q.district c
       → Some b ≡ option_map (λ (x : Customer). x.account.balance) (get r.customers k)
       → o ≡ status_of r.order_lines (last_order k r.orders)
       → order_status q r ≡ Here (told.Status (record { customer = c; balance = b; order = o }))
   status_told c k b o at is there last =
       let x = row_of (λ (x : Customer). x.account.balance) (get r.customers k) b there in
-      on_some NoCustomer (chosen q.district q.customer r.customers) c _ at
+      as_meant ∙ on_some NoCustomer (meant q.district q.customer r.customers) c _ at
       ∙ on_some NoCustomer (get r.customers (customer_in q.district c)) x.0 _ (x.1 ∙ ap (get r.customers) is)
       ∙ (λ i. let y : Outcome QueryReply Refusal = Here
       (told.Status (record {
@@ -66,15 +99,15 @@ module _ (q : StatusQuery) (r : Rows) where
             (last ∙ ap (λ z. status_of r.order_lines (last_order z r.orders)) is) i;
       })) in y)
 
-  pub nobody : None ≡ chosen q.district q.customer r.customers → order_status q r ≡ Missing NoCustomer
-  nobody h = on_none NoCustomer (chosen q.district q.customer r.customers) _ h
+  pub nobody : None ≡ meant q.district q.customer r.customers → order_status q r ≡ Missing NoCustomer
+  nobody h = as_meant ∙ on_none NoCustomer (meant q.district q.customer r.customers) _ h
 
-  pub no_row : (c : ℕ) (k : CustomerKey) → Some c ≡ chosen q.district q.customer r.customers
+  pub no_row : (c : ℕ) (k : CustomerKey) → Some c ≡ meant q.district q.customer r.customers
       → k ≡ customer_in q.district c
       → None ≡ option_map (λ (x : Customer). x.account.balance) (get r.customers k)
       → order_status q r ≡ Missing NoCustomer
   no_row c k at is none =
-      on_some NoCustomer (chosen q.district q.customer r.customers) c _ at
+      as_meant ∙ on_some NoCustomer (meant q.district q.customer r.customers) c _ at
       ∙ on_none NoCustomer (get r.customers (customer_in q.district c)) _
       (no_row_of (λ (x : Customer). x.account.balance) (get r.customers k) none ∙ ap (get r.customers) is)
 

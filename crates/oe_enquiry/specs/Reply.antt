@@ -1,9 +1,16 @@
 -- What a query of a moment is answered, and why it is refused.
-use Rattle.std.specs.Prelude.{◌≡◌, ◌⊎◌, ℕ, None, Some}
+use Rattle.std.specs.Prelude.{◌≡◌, ◌⊎◌, ℕ, Option, None, Some}
+use Rattle.std.specs.FinMap.{FinMap}
 use Rattle.oe_theory.specs.Machine.{Here, Missing}
+use Rattle.oe_rows.specs.Key.{customer_cmp}
+use Rattle.oe_rows.specs.declared.customers.Customer.{Customer}
+use Rattle.oe_rows.specs.declared.keys.DistrictKey.{DistrictKey}
+use Rattle.oe_requests.specs.declared.requests.CustomerChoice.{CustomerChoice}
+use Rattle.oe_requests.specs.declared.requests.CustomerChoice.TheVariants.{Number, LastName}
 use Rattle.oe_requests.specs.declared.requests.Query.{Query}
 use Rattle.oe_requests.specs.declared.replies.QueryReply.{QueryReply}
 use Rattle.oe_requests.specs.declared.refusals.Refusal.{Refusal}
+use Rattle.oe_model.specs.Choice.{middle, namesakes}
 use Rattle.oe_model.specs.Requests.{query_rejection}
 use Rattle.oe_model.specs.Queries.{answer_of}
 use Rattle.oe_store.specs.Places.{rows}
@@ -11,6 +18,11 @@ use Rattle.oe_store.specs.Places as tables
 use Rattle.oe_log.specs.Log.{SegmentLog}
 use Rattle.oe_log.specs.Moments.{IsKeptMoment, IsUnkept}
 use Rattle.oe_versions.specs.Versions.{version}
+
+-- the C_ID of the customer that is meant; a number may be nobody's
+abbrev pub meant : DistrictKey → CustomerChoice → FinMap customer_cmp Customer → Option ℕ
+meant h (Number c) customers = Some c
+meant h (LastName last) customers = middle (namesakes h last customers)
 
 -- the reply, where its warehouse is there: the answer of the version of that moment, which can be read
 pub record IsReply (q : Query) (ts : tables.Places) (u : SegmentLog) (m : ℕ) (f : QueryReply) : Type 0 where

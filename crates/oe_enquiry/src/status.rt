@@ -2,29 +2,27 @@
 ghost use Rattle.std.specs.Prelude.{◌≡◌, IfOk, IfErr};
 ghost use Rattle.oe_theory.specs.Machine.{Here, Missing};
 ghost use Rattle.oe_requests.specs.declared.replies.QueryReply.TheVariants as told;
-ghost use Rattle.oe_model.specs.Choice.{chosen};
 ghost use Rattle.oe_model.specs.Queries.{status_of, last_order, order_status};
 ghost use Rattle.oe_versions.specs.Versions.{rows_of, Stand};
+ghost use Rattle.oe_enquiry.specs.Reply.{meant};
 
 use oe_requests::{CustomerChoice, OrderStatus, Refusal, StatusQuery, StatusReply};
 use oe_rows::{CustomerKey, DistrictKey};
 use oe_values::CustomerNumber;
 use oe_versions::Version;
 
-/// Gives C_ID of the customer that is meant, where there was one (clause 2.6.2.2).
-fn chosen(
+/// Gives C_ID of the customer that is meant, as far as names tell: a number is not looked up
+/// (clause 2.6.2.2).
+fn meant(
     version: &Version<'_>,
     district: &DistrictKey,
     choice: &CustomerChoice,
 ) -> Option<CustomerNumber>
     requires { Stand version.now.tables version.now.log }
-    ensures { result ≡ chosen district.now choice.now (rows_of version.now).customers }
+    ensures { result ≡ meant district.now choice.now (rows_of version.now).customers }
 {
     match choice {
-        CustomerChoice::Number(number) => match version.balance(&district.customer(*number)) {
-            Some(_) => Some(*number),
-            None => None,
-        },
+        CustomerChoice::Number(number) => Some(*number),
         CustomerChoice::LastName(last) => version.customer_named(district, &last.as_text()),
     }
 }
@@ -61,7 +59,7 @@ pub fn order_status(version: &Version<'_>, query: &StatusQuery) -> Result<Status
     ensures refusal { IfErr result
         (λ e. order_status query.now (rows_of version.now) ≡ Missing e) }
 {
-    let Some(number) = chosen(version, &query.district, &query.customer) else {
+    let Some(number) = meant(version, &query.district, &query.customer) else {
         return Err(Refusal::NoCustomer);
     };
     let key = query.district.customer(number);
