@@ -1,6 +1,7 @@
 -- What was found makes an answer, and what was not found a refusal.
 use Rattle.std.proofs.Common.{◌≡◌, ℕ, Option, None, Some, List, length, inl, inr, refl, sym, ap, subst, ◌∙◌}
-use Rattle.std.specs.Prelude.{ℤ, option_map}
+use Rattle.std.specs.Prelude.{ℤ, option_map, Result, IfOk, IfErr}
+use Rattle.std.proofs.lemmas.Result.{IfOk-weaker, IfErr-weaker}
 use Rattle.std.specs.FinMap.{FinMap, get}
 use Rattle.oe_theory.specs.Machine.{Outcome, Here, Missing}
 use Rattle.oe_rows.specs.Key.{customer_cmp}
@@ -135,6 +136,16 @@ module _ (q : Query) (ts : tables.Places) (u : SegmentLog) (m : ℕ) (s : Versio
   pub is_missing : (r : Refusal) → None ≡ query_rejection q (rows ts) → IsKeptMoment u m → IsAt
       → answer_of q (rows_of s) ≡ Missing r → IsRefused q ts u m r
   is_missing r w i e h = inr (sym w, inr (i, sym (ap (λ v. answer_of q (rows_of v)) e) ∙ h))
+
+  pub all_replies : (r : Result QueryReply Refusal) → None ≡ query_rejection q (rows ts) → IsKeptMoment u m → IsAt
+      → IfOk r (λ f. answer_of q (rows_of s) ≡ Here f) → IfOk r (λ f. IsReply q ts u m f)
+  all_replies r w i e h =
+      IfOk-weaker r (λ f. answer_of q (rows_of s) ≡ Here f) (λ f. IsReply q ts u m f) (λ f. is_reply f w i e) h
+
+  pub all_missing : (r : Result QueryReply Refusal) → None ≡ query_rejection q (rows ts) → IsKeptMoment u m → IsAt
+      → IfErr r (λ x. answer_of q (rows_of s) ≡ Missing x) → IfErr r (λ x. IsRefused q ts u m x)
+  all_missing r w i e h =
+      IfErr-weaker r (λ x. answer_of q (rows_of s) ≡ Missing x) (λ x. IsRefused q ts u m x) (λ x. is_missing x w i e) h
 
 module _ (q : Query) (ts : tables.Places) (u : SegmentLog) (m : ℕ) (e : Refusal) where
   pub is_rejected : Some e ≡ query_rejection q (rows ts) → IsRefused q ts u m e

@@ -51,7 +51,7 @@ fn answer_of(version: &Version<'_>, query: &Query) -> Result<QueryReply, Refusal
 /// `NoSuchRow` with the warehouse where that is absent; otherwise `TooOld` with the horizon and
 /// `Future` with the newest moment, exactly where the moment is not between the two; otherwise as
 /// `order_status` and `stock_level` refuse it.
-#[tactic(auto, using(crate::proofs::AnswerFacts::is_reply, crate::proofs::AnswerFacts::is_rejected, crate::proofs::AnswerFacts::is_outside, crate::proofs::AnswerFacts::is_missing))]
+#[tactic(auto, using(crate::proofs::AnswerFacts::all_replies, crate::proofs::AnswerFacts::is_rejected, crate::proofs::AnswerFacts::is_outside, crate::proofs::AnswerFacts::all_missing))]
 pub fn answer(
     tables: &Tables,
     undo: &Undo,
@@ -66,10 +66,7 @@ pub fn answer(
         return Err(refusal);
     }
     match Version::at(tables, undo, moment) {
-        Ok(version) => match answer_of(&version, query) {
-            Ok(reply) => Ok(reply),
-            Err(refusal) => Err(refusal),
-        },
+        Ok(version) => answer_of(&version, query),
         Err(refusal) => Err(refusal),
     }
 }
