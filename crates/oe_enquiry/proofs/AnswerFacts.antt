@@ -56,8 +56,8 @@ no_row_of f o e = sym (mapped_absent f o (sym e))
 -- a number that nobody has is refused as a customer who is not there
 first_looked_up : (h : DistrictKey) (choice : CustomerChoice) (customers : FinMap customer_cmp Customer)
     (f : ℕ → Customer → Outcome QueryReply Refusal)
-    → found NoCustomer (chosen h choice customers) (λ c. found NoCustomer (get customers (customer_in h c)) (f c)) ≡ found
-    NoCustomer (meant h choice customers) (λ c. found NoCustomer (get customers (customer_in h c)) (f c))
+    → found NoCustomer (chosen h choice customers) (λ c. found NoCustomer (get customers (customer_in h c)) (f c))
+    ≡ found NoCustomer (meant h choice customers) (λ c. found NoCustomer (get customers (customer_in h c)) (f c))
 first_looked_up h (Number n) customers f = by (get customers (customer_in h n)) refl
   where
     by : (v : Option Customer) → get customers (customer_in h n) ≡ v

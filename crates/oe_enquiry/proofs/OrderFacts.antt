@@ -93,7 +93,8 @@ module _ (ts : tables.Places) (u : SegmentLog) (m : ℕ) (p : ℕ → Bool) (k :
     few = (let few : length items + suc (length es) ≤ length old + 15 = l.few in omega (arith, few, more));
   }
 
-  pub all_listed : (items : List ℕ) (es : List Entry) → es ≡ [] → Lists items es → items ≡ listed p old (items_of k past)
+  pub all_listed : (items : List ℕ) (es : List Entry) → es ≡ [] → Lists items es
+      → items ≡ listed p old (items_of k past)
   all_listed items es e l = sym (ap (λ zs. listed p items (items_at zs)) e) ∙ l.rest
 
   pub few_listed : (items : List ℕ) (es : List Entry) → Lists items es → length items ≤ length old + 15

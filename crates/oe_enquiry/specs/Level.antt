@@ -1,6 +1,6 @@
 -- The items that Stock-Level counts, as they are gathered (clause 2.8.2.2).
-use Rattle.std.specs.Prelude.{◌≡◌, ◌%◌, true, get_or, ℕ, zero, suc, ◌-◌, ◌==◌, Bool, false, cond, not, ◌&&◌, List, [], ◌∷◌, ◌++◌, map, nat_le}
-use Rattle.std.specs.Prelude.{None, Some}
+use Rattle.std.specs.Prelude.{ℕ, zero, suc, ◌≡◌, ◌-◌, ◌%◌, ◌==◌, Bool, true, false, cond, not, ◌&&◌, List, [], ◌∷◌}
+use Rattle.std.specs.Prelude.{◌++◌, map, get_or, nat_le, None, Some}
 use Rattle.std.specs.List.{list_any}
 use Rattle.std.specs.FinMap.{FinMap, get}
 use Rattle.oe_rows.specs.Key.{order_line_cmp}

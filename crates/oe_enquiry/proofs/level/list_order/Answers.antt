@@ -10,12 +10,12 @@ use Rattle.oe_enquiry.proofs.level.list_order.Goals as goal
 
 pub loop-key-init : goal.loop-key-init
 loop-key-init c =
-    subst (λ es. Lists c.args.version.now.tables c.args.version.now.log c.args.version.now.moment (is_short c.args.query.now (rows_of c.args.version.now))
-    (order_in c.args.query.now.district c.args.number) c.args.items.now
-    c.args.items.now es)
+    let v = c.args.version.now in
+    let q = c.args.query.now in
+    let order = order_in q.district c.args.number in
+    subst (λ es. Lists v.tables v.log v.moment (is_short q (rows_of v)) order c.args.items.now c.args.items.now es)
     (sym (c.into_iter-key-iterator.ensures.into_iter_gives ∙ c.order_lines_of-key-items.ensures
     ∙ ap (λ ts. lines_of c.order-order.result (rows ts).order_lines) c.tables-2.ensures
-    ∙ ap (λ k. lines_of k (rows c.args.version.now.tables).order_lines) c.order-order.ensures))
-    (lists_all c.args.version.now.tables c.args.version.now.log c.args.version.now.moment (is_short c.args.query.now (rows_of c.args.version.now))
-    (order_in c.args.query.now.district c.args.number) c.args.items.now c.requires.stand
+    ∙ ap (λ k. lines_of k (rows v.tables).order_lines) c.order-order.ensures))
+    (lists_all v.tables v.log v.moment (is_short q (rows_of v)) order c.args.items.now c.requires.stand
     (subst (λ ts. AreNumbered (rows ts)) c.tables.ensures c.numbers_hold.ensures))
