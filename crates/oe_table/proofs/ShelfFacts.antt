@@ -44,7 +44,7 @@ pub found-later : {X : Type 0} (b : Bool) (x : X) (rest : Option X) → cond b (
 found-later true x rest e = cc
 found-later false x rest e = e
 
-lesser : (r : Ordering) → is_lt r ≡ true → r ≡ Less
+pub lesser : (r : Ordering) → is_lt r ≡ true → r ≡ Less
 lesser Less e = refl
 lesser Equal e = cc
 lesser Greater e = cc

@@ -6,7 +6,7 @@
 //! is refused the shelf is as before.
 ghost use Rattle.std.specs.Prelude.{◌≡◌, ◌+◌, ◌<◌, ◌≤◌, ◌↔◌, Some, None, List, Option, [], Err, IsTrue, OnOk, OnErr, is_some, length, take};
 ghost use Rattle.std.specs.List.{insert, list_all, remove};
-ghost use Rattle.std.specs.Option.{option_copied, option_copied_mut, ForSome};
+ghost use Rattle.std.specs.Option.{option_copied, option_copied_mut};
 ghost use Rattle.std.specs.Borrow.{sem};
 ghost use Rattle.oe_table.specs.Table.{place, live, with_rows};
 ghost use Rattle.oe_table.specs.Shelf.{IsAscending, StandsAt, IsFound, put_at, lower, upper, without, without_blanked};
@@ -155,28 +155,43 @@ fn search<K: ShelvedKey, R>(slots: &[Slot<K, R>], key: &K) -> Result<usize, usiz
     )
 }
 
-// Where a key stands, or would stand, if 1,024 slots from one on tell: it is among them, or between
-// two of them.
-fn search_from<K: ShelvedKey, R>(
-    slots: &[Slot<K, R>],
-    from: usize,
-    key: &K,
-) -> Option<Result<usize, usize>>
-    requires ascending { IsAscending K.cmp slots.now }
-    requires within { from ≤ length slots.now }
-    ensures { ForSome result (IsFound K.cmp slots.now key.now) }
+// About where a place stands, if places lie between the first and the last slot as evenly as slots.
+#[inline(always)]
+fn guess<K: ShelvedKey, R>(slots: &[Slot<K, R>], place: usize) -> usize
+    ensures { 0 < length slots.now → result < length slots.now }
 {
-    let (_, rest) = slots.split_at(from);
-    let (window, _) = rest.split_at(rest.len().min(1_024));
-    match search(window, key) {
-        Ok(at) => Some(Ok(at + from)),
-        Err(at) => {
-            if at == 0 || at == window.len() {
-                return None;
-            }
-            Some(Err(at + from))
+    let (Some(first), Some(last)) = (slots.first(), slots.last()) else {
+        return 0;
+    };
+    let first = first.key.place();
+    let span = last.key.place().wrapping_sub(first);
+    let end = slots.len() - 1;
+    let guessed = match place.saturating_sub(first).checked_mul(end) {
+        Some(scaled) => scaled.checked_div(span).unwrap_or(0),
+        None => 0,
+    };
+    guessed.min(end)
+}
+
+// How many slots have a lower place, if places ascend as keys do: a hint, as places are. Two keys
+// stand no further apart than their places, so each slot that is looked at bounds the rest.
+fn lower_places<K: ShelvedKey, R>(slots: &[Slot<K, R>], place: usize) -> usize {
+    let mut from = 0;
+    let mut to = slots.len();
+    let mut at = guess(slots, place);
+    while from < to {
+        let slot = &slots[at];
+        let there = slot.key.place();
+        if there < place {
+            from = at + 1;
+            to = at + (place - there).min(to - at);
+        } else {
+            from = at - (there - place).min(at - from);
+            to = at;
         }
+        at = from + (to - from) / 2;
     }
+    from
 }
 
 impl<K: ShelvedKey, R> Shelf<K, R> {
@@ -221,40 +236,35 @@ impl<K: ShelvedKey, R> Shelf<K, R> {
         requires { IsAscending K.cmp self.now }
         ensures { IsFound K.cmp self.now key.now result }
     {
-        if self.ends_before(key) {
-            return Err(self.slots().len());
+        let near = lower_places(self.slots(), key.place());
+        if self.stands_at(near, key) {
+            return Ok(near);
         }
-        match self.find_near(key) {
-            Some(found) => found,
-            None => search(self.slots(), key),
+        if self.falls_at(near, key) {
+            return Err(near);
         }
+        search(self.slots(), key)
     }
 
-    // About where the key may stand, if keys lie between the first and the last one as evenly as
-    // their numbers.
-    fn guess(&self, key: &K) -> Option<usize> {
-        let slots = self.slots();
-        let (Some(first), Some(last)) = (slots.first(), slots.last()) else {
-            return None;
-        };
-        let first = first.key.place();
-        let ahead = key.place().wrapping_sub(first);
-        let span = last.key.place().wrapping_sub(first);
-        match ahead.checked_mul(slots.len()) {
-            Some(scaled) => scaled.checked_div(span),
-            None => None,
-        }
-    }
-
-    // Where a key stands, or would stand, if the slots about the place that is guessed tell.
-    #[inline(never)]
-    fn find_near(&self, key: &K) -> Option<Result<usize, usize>>
+    // Whether a key would stand at an index: it is greater than the slot before, and less than the
+    // one there.
+    #[inline(always)]
+    fn falls_at(&self, at: usize, key: &K) -> bool
         requires { IsAscending K.cmp self.now }
-        ensures { ForSome result (IsFound K.cmp self.now key.now) }
+        ensures { IsTrue result → IsFound K.cmp self.now key.now (Err at) }
     {
-        let guess = self.guess(key)?;
-        let from = guess.saturating_sub(512).min(self.slots().len());
-        search_from(self.slots(), from, key)
+        let slots = self.slots();
+        let Some(slot) = slots.get(at) else {
+            return at == slots.len() && self.ends_before(key);
+        };
+        if !slot.key.cmp(key).is_gt() {
+            return false;
+        }
+        if at == 0 {
+            return true;
+        }
+        let before = &slots[at - 1];
+        before.key.cmp(key).is_lt()
     }
 
     // Whether the last key is less than this one.
