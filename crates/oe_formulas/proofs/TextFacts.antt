@@ -1,12 +1,12 @@
--- Texts: H_DATA is one of its column, and what occurs in a text.
-use Rattle.std.specs.Prelude.{MatchBool, ◌↔◌, Bool, true, false, None}
-use Rattle.std.specs.Str.Iter.{HasSubslice}
-use Rattle.std.specs.Str.Pattern.{HasMatch, FindsText}
-use Rattle.std.proofs.lemmas.Str.Pattern.{contains_text}
-use Rattle.oe_model.specs.NewOrder.{occurs_in}
+-- Texts: H_DATA is one of its column, and where ORIGINAL stands in a text.
+use Rattle.std.specs.Prelude.{Bool, true, false, ◌==◌, ◌&&◌, ◌||◌}
+use Rattle.std.proofs.lemmas.Bool.{eqb-true}
+use Rattle.oe_model.specs.NewOrder.{begins_with, occurs_in}
 use Rattle.oe_model.proofs.RuleFacts.{text_occurs}
-use Rattle.std.proofs.Common.{refl, sym, subst, ◌≡◌, List, ℕ, ◌++◌, codes, arith, lit≤, length-append}
+use Rattle.std.proofs.Common.{refl, sym, ap, ◌≡◌, List, [], ◌∷◌, ℕ, suc, zero, ◌<◌, ◌++◌, ◌-◌, length, take, drop, get_or, codes}
+use Rattle.std.proofs.Common.{arith, lit≤, length-append}
 use Rattle.std.specs.List.{All}
+use Rattle.std.proofs.lemmas.List.{take_rest}
 use Rattle.std.proofs.lemmas.List.Elements.{All-append, All-from_recursion}
 use Rattle.oe_values.specs.Text.{IsPrintable, IsText}
 use Rattle.oe_model.specs.Payment.{history_data}
@@ -24,16 +24,44 @@ joined_text w d p q = record {
     spaces = All-from_recursion IsPrintable (codes "    ")
         ((lit≤ tt, lit≤ tt), ((lit≤ tt, lit≤ tt), ((lit≤ tt, lit≤ tt), ((lit≤ tt, lit≤ tt), tt))))
 
-same_tests : (a b : Bool) → (a ≡ true → b ≡ true) → (b ≡ true → a ≡ true) → a ≡ b
-same_tests true b f g = sym (f refl)
-same_tests false true f g = g refl
-same_tests false false f g = refl
+-- where it does not begin, it stands further on or nowhere
+later : (b : Bool) (s : List ℕ) (i : ℕ) → i < length s → begins_with (codes "ORIGINAL") (drop i s) ≡ b
+    → occurs_in (codes "ORIGINAL") (drop i s) ≡ (b || occurs_in (codes "ORIGINAL") (drop (suc i) s))
+later b [] i within is = absurd (omega (arith, within))
+later b (y ∷ ys) zero within is = ap (λ t. t || occurs_in (codes "ORIGINAL") ys) is
+later b (y ∷ ys) (suc i) within is = later b ys i (omega (arith, within)) is
 
--- a text that has another in it is one in which the other occurs
-pub contains_occurs : (r : Bool) (n s : List ℕ) → MatchBool r (HasMatch (FindsText n) s) (FindsText n s None)
-    → r ≡ occurs_in n s
-contains_occurs r n s h =
-    let is : (r ≡ true) ↔ HasSubslice s n = contains_text r n s h in
-    same_tests r (occurs_in n s)
-    (λ e. let p = is.0 e in subst (λ (t : List ℕ). occurs_in n t ≡ true) (sym p.2) (text_occurs.there n p.0 p.1))
-    (λ e. let p = text_occurs.found n s e in is.1 (p.0, p.1.0, p.1.1))
+other_first : (s : List ℕ) (i : ℕ) → i < length s → (get_or s i 0 ≡ 79 → ⊥)
+    → begins_with (codes "ORIGINAL") (drop i s) ≡ false
+other_first [] i within other = absurd (omega (arith, within))
+other_first (y ∷ ys) (suc i) within other = other_first ys i (omega (arith, within)) other
+other_first (y ∷ ys) zero within other = by_test (79 == y) refl
+  where
+    by_test : (b : Bool) → (79 == y) ≡ b → (b && begins_with (codes "RIGINAL") ys) ≡ false
+    by_test true e = absurd (other (sym (eqb-true 79 y e)))
+    by_test false e = refl
+
+pub begins_later : (s : List ℕ) (i : ℕ) → i < length s
+    → begins_with (codes "ORIGINAL") (take (length s - i) (drop i s)) ≡ false
+    → occurs_in (codes "ORIGINAL") (drop i s) ≡ occurs_in (codes "ORIGINAL") (drop (suc i) s)
+begins_later s i within none = later false s i within (rw take_rest at none)
+
+pub other_later : (s : List ℕ) (i : ℕ) → i < length s → (get_or s i 0 ≡ 79 → ⊥)
+    → occurs_in (codes "ORIGINAL") (drop i s) ≡ occurs_in (codes "ORIGINAL") (drop (suc i) s)
+other_later s i within other = later false s i within (other_first s i within other)
+
+pub begins_here : (s : List ℕ) (i : ℕ) → i < length s
+    → begins_with (codes "ORIGINAL") (take (length s - i) (drop i s)) ≡ true
+    → occurs_in (codes "ORIGINAL") (drop i s) ≡ true
+begins_here s i within there = later true s i within (rw take_rest at there)
+
+-- and in a shorter text it stands nowhere
+pub too_short : (s : List ℕ) → length s < 8 → occurs_in (codes "ORIGINAL") s ≡ false
+too_short s short = by_test (occurs_in (codes "ORIGINAL") s) refl
+  where
+    by_test : (b : Bool) → occurs_in (codes "ORIGINAL") s ≡ b → occurs_in (codes "ORIGINAL") s ≡ false
+    by_test false e = e
+    by_test true e =
+        let p = text_occurs.found (codes "ORIGINAL") s e in
+        let long = ap (length {A = ℕ}) p.1.1 in
+        absurd (omega (arith, long, length-append p.0 (codes "ORIGINAL" ++ p.1.0), length-append (codes "ORIGINAL") p.1.0))

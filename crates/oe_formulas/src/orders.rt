@@ -6,7 +6,7 @@ ghost use Rattle.oe_requests.specs.declared.replies.Reply.{Reply};
 ghost use Rattle.oe_requests.specs.Reply.{told_reply};
 ghost use Rattle.oe_formulas.specs.Orders.{with_quantity, seen_by};
 ghost use Rattle.oe_formulas.specs.Checks.{checked, row_with, with_next_order};
-ghost use Rattle.oe_model.specs.NewOrder.{supplied, stock_of, stock_out, occurs_in, brand, fill, order_row, with_next, next_out, seen, ordered_reply};
+ghost use Rattle.oe_model.specs.NewOrder.{supplied, stock_of, stock_out, begins_with, occurs_in, brand, fill, order_row, with_next, next_out, seen, ordered_reply};
 
 use oe_requests::{Brand, Column, LineReplies, LineReply, NewOrderRequest, ReplyRef, RequestLine};
 use oe_rows::{
@@ -134,11 +134,25 @@ pub fn counters_after_line(
     })
 }
 
+/// Tells whether a text begins with `ORIGINAL`.
+#[inline(always)]
+fn begins_original(text: &[u8]) -> bool
+    ensures { result ≡ begins_with (codes "ORIGINAL") text.now }
+{
+    matches!(text, [b'O', b'R', b'I', b'G', b'I', b'N', b'A', b'L', ..])
+}
+
 /// Tells whether a text has `ORIGINAL` in it.
 fn is_original(text: &str) -> bool
     ensures { result ≡ occurs_in (codes "ORIGINAL") text.now }
 {
-    text.contains("ORIGINAL")
+    let bytes = text.as_bytes();
+    for start in 0..bytes.len().saturating_sub(7) {
+        if bytes[start] == b'O' && begins_original(&bytes[start..]) {
+            return true;
+        }
+    }
+    false
 }
 
 /// Tells whether an item and its stock are both original.
