@@ -5,7 +5,8 @@ ghost use Rattle.oe_extent.specs.Strings.{IsFramed};
 ghost use Rattle.oe_layout.specs.declared.parts.TheConstants.{OTHER_BYTES, MOST_CONTENTS, MOST_BYTES};
 ghost use Rattle.oe_layout.specs.Kinds.{kind_of};
 ghost use Rattle.oe_model.specs.Changes.{record_key};
-ghost use Rattle.oe_model.specs.Lengths.{record_length};
+ghost use Rattle.oe_image.specs.Rows.{stock};
+ghost use Rattle.oe_model.specs.Lengths.{record_length, stock_length};
 ghost use Rattle.oe_layout.specs.Records.{contents, record_image, record_of_lent};
 
 use crate::kinds::RecordKind;
@@ -97,13 +98,24 @@ impl<'a> LentRecord<'a> {
             LentRecord::UpdatedCustomer(key, row) => key.length() + row.length(),
             LentRecord::UpdatedOrder(key, row) => key.length() + row.length(),
             LentRecord::UpdatedOrderLine(key, row) => key.length() + row.length(),
-            LentRecord::UpdatedStock(key, row) => {
-                let _figures = row.figures();
-                key.length() + row.length()
-            }
+            LentRecord::UpdatedStock(key, row) => key.length() + stock_length(row),
             LentRecord::DeletedNewOrder(key) => key.length(),
         }
     }
+}
+
+/// How many bytes a STOCK row has beside those of S_DATA, as each S_DIST column has 24.
+const OTHER_STOCK_BYTES: usize = 272;
+
+// Tells how many bytes a STOCK row has.
+#[inline(always)]
+fn stock_length(row: &Stock) -> usize
+    ensures sum { result ≡ stock_length row.now }
+    ensures image { result ≡ length (stock row.now) }
+    ensures short { result ≤ 322 }
+{
+    let _figures = row.figures();
+    OTHER_STOCK_BYTES + row.data.as_str().len()
 }
 
 impl<'a> Imaged for LentRecord<'a> {

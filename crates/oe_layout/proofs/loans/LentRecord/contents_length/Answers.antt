@@ -1,8 +1,9 @@
 -- The key's length, and the row's, are sums of widths and of lengths of texts.
+use Rattle.std.proofs.Common.{sym, ◌∙◌}
 use Rattle.oe_rows.specs.declared.keys.Key.TheVariants as key
 use Rattle.oe_rows.specs.declared.rows.Row.TheVariants as row
 use Rattle.oe_layout.proofs.LengthFacts.{key_alone, key_and_row, warehouse_long, district_long, customer_long}
-use Rattle.oe_layout.proofs.LengthFacts.{order_long, order_line_long, stock_long}
+use Rattle.oe_layout.proofs.LengthFacts.{order_long, order_line_long}
 use Rattle.oe_layout.proofs.loans.LentRecord.contents_length.Goals as goal
 
 pub returns-in-InsertedHistory-clause-sum : goal.returns-in-InsertedHistory-clause-sum
@@ -60,8 +61,8 @@ pub returns-in-UpdatedStock-clause-sum : goal.returns-in-UpdatedStock-clause-sum
 returns-in-UpdatedStock-clause-sum c =
     rw c.in-UpdatedStock.is
     (key_and_row (key.Stock c.in-UpdatedStock.key) (row.Stock c.in-UpdatedStock.row.now) _ _
-    (stock_long c.in-UpdatedStock.row.now c.figures-figures.ensures.ranges) c.length-in-UpdatedStock.ensures.value
-    c.length-in-UpdatedStock-2.ensures.value)
+    (record { is = sym c.stock_length.ensures.image ∙ c.stock_length.ensures.sum })
+    c.length-in-UpdatedStock.ensures.value c.stock_length.ensures.image)
 
 pub returns-in-DeletedNewOrder-clause-sum : goal.returns-in-DeletedNewOrder-clause-sum
 returns-in-DeletedNewOrder-clause-sum c = rw c.in-DeletedNewOrder.is
