@@ -157,17 +157,11 @@ fn search<K: ShelvedKey, R>(slots: &[Slot<K, R>], key: &K) -> Result<usize, usiz
 
 // About where a place stands, if places lie between the first and the last slot as evenly as slots.
 #[inline(always)]
-fn guess<K: ShelvedKey, R>(slots: &[Slot<K, R>], place: usize) -> usize
-    ensures { 0 < length slots.now → result < length slots.now }
+fn guess(place: usize, first: usize, last: usize, end: usize) -> usize
+    ensures { result ≤ end }
 {
-    let (Some(first), Some(last)) = (slots.first(), slots.last()) else {
-        return 0;
-    };
-    let first = first.key.place();
-    let span = last.key.place().wrapping_sub(first);
-    let end = slots.len() - 1;
     let guessed = match place.saturating_sub(first).checked_mul(end) {
-        Some(scaled) => scaled.checked_div(span).unwrap_or(0),
+        Some(scaled) => scaled.checked_div(last.wrapping_sub(first)).unwrap_or(0),
         None => 0,
     };
     guessed.min(end)
@@ -176,9 +170,16 @@ fn guess<K: ShelvedKey, R>(slots: &[Slot<K, R>], place: usize) -> usize
 // How many slots have a lower place, if places ascend as keys do: a hint, as places are. Two keys
 // stand no further apart than their places, so each slot that is looked at bounds the rest.
 fn lower_places<K: ShelvedKey, R>(slots: &[Slot<K, R>], place: usize) -> usize {
+    let (Some(first), Some(last)) = (slots.first(), slots.last()) else {
+        return 0;
+    };
+    let last = last.key.place();
+    if last < place {
+        return slots.len();
+    }
     let mut from = 0;
     let mut to = slots.len();
-    let mut at = guess(slots, place);
+    let mut at = guess(place, first.key.place(), last, to - 1);
     while from < to {
         let slot = &slots[at];
         let there = slot.key.place();
