@@ -1,5 +1,6 @@
 -- What two slots of a shelf tell of a key that would stand between them.
-use Rattle.std.proofs.Common.{◌≡◌, refl, sym, ◌∙◌, ap, subst, true, cond, ℕ, suc, zero, ◌<◌, ◌-◌, List, [], ◌∷◌, length, get_or, None, arith}
+use Rattle.std.proofs.Common.{◌≡◌, refl, sym, ◌∙◌, ap, subst, true, cond, ℕ, suc, zero, ◌<◌, ◌-◌, List, [], ◌∷◌}
+use Rattle.std.proofs.Common.{length, get_or, None, arith}
 use Rattle.std.specs.Prelude.{Err}
 use Rattle.std.specs.List.{AllByRecursion, HoldsAt}
 use Rattle.std.specs.List.Sorted.{IsStrictlySortedBy}

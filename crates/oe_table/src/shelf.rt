@@ -156,19 +156,19 @@ fn search<K: ShelvedKey, R>(slots: &[Slot<K, R>], key: &K) -> Result<usize, usiz
 }
 
 // About where a place stands, if places lie between the first and the last slot as evenly as slots.
+// A product that wraps makes the guess a bad one, and no more.
 #[inline(always)]
 fn guess(place: usize, first: usize, last: usize, end: usize) -> usize
     ensures { result ≤ end }
 {
-    let guessed = match place.saturating_sub(first).checked_mul(end) {
-        Some(scaled) => scaled.checked_div(last.wrapping_sub(first)).unwrap_or(0),
-        None => 0,
-    };
+    let ahead = place.saturating_sub(first);
+    let span = last.saturating_sub(first).max(1);
+    let guessed = ahead.wrapping_mul(end) / span;
     guessed.min(end)
 }
 
 // How many slots have a lower place, if places ascend as keys do: a hint, as places are. Two keys
-// stand no further apart than their places, so each slot that is looked at bounds the rest.
+// stand no further apart than their places, so the slot that is guessed bounds the search.
 fn lower_places<K: ShelvedKey, R>(slots: &[Slot<K, R>], place: usize) -> usize {
     let (Some(first), Some(last)) = (slots.first(), slots.last()) else {
         return 0;
@@ -177,20 +177,25 @@ fn lower_places<K: ShelvedKey, R>(slots: &[Slot<K, R>], place: usize) -> usize {
     if last < place {
         return slots.len();
     }
-    let mut from = 0;
-    let mut to = slots.len();
-    let mut at = guess(place, first.key.place(), last, to - 1);
+    let at = guess(place, first.key.place(), last, slots.len() - 1);
+    let slot = &slots[at];
+    let there = slot.key.place();
+    let mut from = at.saturating_sub(there.saturating_sub(place));
+    let mut to = at
+        .saturating_add(place.saturating_sub(there))
+        .min(slots.len());
     while from < to {
-        let slot = &slots[at];
+        let middle = from + (to - from) / 2;
+        let slot = &slots[middle];
         let there = slot.key.place();
-        if there < place {
-            from = at + 1;
-            to = at + (place - there).min(to - at);
-        } else {
-            from = at - (there - place).min(at - from);
-            to = at;
+        if there == place {
+            return middle;
         }
-        at = from + (to - from) / 2;
+        if there < place {
+            from = middle + 1;
+        } else {
+            to = middle;
+        }
     }
     from
 }

@@ -1,8 +1,8 @@
-use Rattle.std.proofs.Common.{◌<◌, ◌≤◌, ◌-◌, length}
+use Rattle.std.proofs.Common.{◌≤◌, ◌-◌, length}
 use Rattle.oe_table.proofs.shelf.lower_places.Given as goal
 
 abbrev pub invariant-loop-from : goal.invariant-loop-from
-invariant-loop-from g l = (l.to ≤ length l.slots) × (l.from < l.to → (l.from ≤ l.at) × (l.at < l.to))
+invariant-loop-from g l = l.to ≤ length l.slots
 
 abbrev pub decreases-loop-from : goal.decreases-loop-from
 decreases-loop-from g l = l.to - l.from
