@@ -1,5 +1,5 @@
 //! The rows after a new order (clause 2.4.2.2), and the columns that it sets.
-ghost use Rattle.std.specs.Prelude.{◌≡◌, ◌==◌, ◌≤◌, ◌+◌, ◌-◌, ◌*◌, cond, nat_le, ◌↔◌, ℕ, length, codes, IsSome, IfSome};
+ghost use Rattle.std.specs.Prelude.{◌≡◌, ◌==◌, ◌≤◌, ◌+◌, ◌-◌, ◌*◌, cond, nat_le, ◌↔◌, ℕ, ◌<◌, length, drop, codes, IsSome, IfSome};
 ghost use Rattle.std.specs.List.{list_all};
 ghost use Rattle.oe_rows.specs.Item.{with_counters};
 ghost use Rattle.oe_requests.specs.declared.replies.Reply.{Reply};
@@ -142,13 +142,22 @@ fn begins_original(text: &[u8]) -> bool
     matches!(text, [b'O', b'R', b'I', b'G', b'I', b'N', b'A', b'L', ..])
 }
 
+/// Tells whether `ORIGINAL` stands at an offset of a text. Most offsets differ in the first letter.
+#[inline(always)]
+fn stands_at(text: &[u8], start: usize) -> bool
+    requires { start < length text.now }
+    ensures { result ≡ begins_with (codes "ORIGINAL") (drop start text.now) }
+{
+    text[start] == b'O' && begins_original(&text[start..])
+}
+
 /// Tells whether a text has `ORIGINAL` in it.
 fn is_original(text: &str) -> bool
     ensures { result ≡ occurs_in (codes "ORIGINAL") text.now }
 {
     let bytes = text.as_bytes();
     for start in 0..bytes.len().saturating_sub(7) {
-        if bytes[start] == b'O' && begins_original(&bytes[start..]) {
+        if stands_at(bytes, start) {
             return true;
         }
     }
