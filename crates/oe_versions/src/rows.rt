@@ -56,6 +56,23 @@ fn row_before(before: OwnRecord) -> Option<Row>
     }
 }
 
+/// Gives the row that a record has, if it has one.
+// Apart from the read of what stands, which would clear the room of a record.
+#[inline(never)]
+fn row_read(before: &StoredRecord<'_>) -> Option<Row>
+    ensures { result ≡ row_before before.now }
+{
+    row_before(before.read())
+}
+
+/// Tells whether a record is of a NEW-ORDER row that was deleted.
+#[inline(never)]
+fn was_new_order(before: &StoredRecord<'_>) -> bool
+    ensures { result ≡ is_some (option_and_then as_new_order (row_before before.now)) }
+{
+    matches!(before.read(), OwnRecord::DeletedNewOrder(_))
+}
+
 /// Tells whether the row that a record has, or the one that stands where there is no record, is one
 /// of HISTORY. No record has one, since such a row is neither changed nor deleted.
 fn is_history(tables: &Tables, key: &HistoryKey, found: Option<StoredRecord<'_>>) -> bool
@@ -63,7 +80,7 @@ fn is_history(tables: &Tables, key: &HistoryKey, found: Option<StoredRecord<'_>>
         (row_found found.entry (row_at (rows tables.now) (keys.History key.now)))) }
 {
     match found {
-        Some(before) => matches!(row_before(before.read()), Some(Row::History(_))),
+        Some(before) => matches!(row_read(&before), Some(Row::History(_))),
         None => tables.history(*key).is_some(),
     }
 }
@@ -75,7 +92,7 @@ fn is_new_order(tables: &Tables, key: &NewOrderKey, found: Option<StoredRecord<'
         (row_found found.entry (row_at (rows tables.now) (keys.NewOrder key.now)))) }
 {
     match found {
-        Some(before) => matches!(before.read(), OwnRecord::DeletedNewOrder(_)),
+        Some(before) => was_new_order(&before),
         None => tables.new_order(*key).is_some(),
     }
 }
@@ -147,7 +164,7 @@ impl<'a> Version<'a> {
             ≡ ticked ticks.old (count_later self.now.moment (of_key key.now (held self.now.log))) }
     {
         match self.found_counted(key, ticks) {
-            Some(before) => row_before(before.read()),
+            Some(before) => row_read(&before),
             None => row_now(self.tables(), key),
         }
     }
