@@ -1,8 +1,8 @@
 //! The fields of a line, which tabs part, taken one after another.
 //!
 //! What is left is seen as the list of its fields, and the place of the first of them among the
-//! columns of the line. By the invariant columns are no more than bytes, so that they can be counted.
-//! After an error the field that has no value is passed.
+//! columns of the line. By the invariant columns are no more than bytes, so that they can be
+//! counted. After an error the field that has no value is passed.
 ghost use Rattle.std.specs.Prelude.{◌≡◌, ◌+◌, ◌<◌, ◌≤◌, ◌^◌, ℕ, List, Option, Ok, length, IfNone};
 ghost use Rattle.std.specs.Option.{option_copied, IfSome};
 ghost use Rattle.oe_rowlines.specs.Line.{Left, left_of, fields_of, first_field, past_first, read_as, column, ended, ends};

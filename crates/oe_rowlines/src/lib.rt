@@ -1,7 +1,7 @@
 //! The rows of the nine tables, read from lines as a dump prints them: columns that tabs part, each
 //! spelled as its values are. Each reading finds exactly the row that a line spells, or the first
-//! column that no value is spelled by. Nothing here takes memory. Clause numbers are TPC Benchmark C
-//! 5.11's.
+//! column that no value is spelled by. Nothing here takes memory. Clause numbers are TPC Benchmark
+//! C 5.11's.
 #![tactic(auto)]
 
 pub mod columns;
